@@ -1,0 +1,249 @@
+-- A core's history and what is read off it: jobs, who runs, the outbox, the gates.
+--
+-- A history is the list of what a core took and did, the newest first, so that every reading is a
+-- fold with a named step. The kernel stores no history: it keeps the readings.
+use Rattle.std.specs.Prelude.{ℕ, suc, ◌==◌, ◌&&◌, nat_lt, ℤ, Bool, true, false, if◌then◌else◌, Option, Some, None, List, [], ◌∷◌, ◌++◌, length, drop, filter, replicate}
+use Rattle.osbase.specs.declared.statuses.Status.{Status}
+use Rattle.osbase.specs.declared.references.CoreId.{CoreId}
+use Rattle.osbase.specs.declared.references.TaskRef.{TaskRef}
+use Rattle.osbase.specs.declared.references.IsrRef.{IsrRef}
+use Rattle.osbase.specs.declared.references.Runner.{Runner}
+use Rattle.osbase.specs.declared.messages.Envelope.{Envelope}
+use Rattle.osbase.specs.declared.messages.Message.{Message}
+use Rattle.osbase.specs.declared.items.CoreSet.{CoreSet}
+use Rattle.osbase.specs.declared.items.Agreement.{Agreement}
+use Rattle.osbase.specs.declared.items.Item.{Item}
+use Rattle.osbase.specs.declared.marks.Mark.{Mark}
+use Rattle.osbase.specs.declared.histories.Job.{Job}
+use Rattle.osbase.specs.declared.histories.OpenCall.{OpenCall}
+use Rattle.osbase.specs.declared.histories.Sent.{Sent}
+use Rattle.osbase.specs.declared.histories.Phase.{Phase}
+
+-- What happens without a printed line. [own]
+pub data Note : Type 0 where
+  -- a service of a job awaits another core's reply
+  Opened : OpenCall → Note
+  -- an envelope for this core joins the outbox
+  Queued : CoreId → Envelope → Note
+  -- an operation of the runner's oldest live job is done, with this status and value
+  Done : Runner → Status → Option ℤ → Note
+
+-- A history's entry: an item that the core took, a mark, which is exactly one line of its trace, or a note. [own]
+pub data Entry : Type 0 where
+  Took : Item → Entry
+  Printed : Mark → Entry
+  Noted : Note → Entry
+
+-- The newest entry first. [own]
+abbrev pub History : Type 0
+History = List Entry
+
+-- Equality of the plain references.
+abbrev pub same_core : CoreId → CoreId → Bool
+same_core a b = a.number == b.number
+
+abbrev pub same_task : TaskRef → TaskRef → Bool
+same_task a b = same_core a.core b.core && (a.index == b.index)
+
+abbrev pub same_isr : IsrRef → IsrRef → Bool
+same_isr a b = same_core a.core b.core && (a.index == b.index)
+
+abbrev pub same_runner : Runner → Runner → Bool
+same_runner (Runner.Task a) (Runner.Task b) = same_task a b
+same_runner (Runner.Isr a) (Runner.Isr b) = same_isr a b
+same_runner (Runner.Task a) (Runner.Isr b) = false
+same_runner (Runner.Isr a) (Runner.Task b) = false
+
+-- The printed lines, in the order of the trace. [own]
+abbrev pub marks_of : History → List Mark
+marks_of [] = []
+marks_of (Printed m ∷ h) = marks_of h ++ m ∷ []
+marks_of (Took i ∷ h) = marks_of h
+marks_of (Noted n ∷ h) = marks_of h
+
+-- The items, in the order in which they were taken. [own]
+abbrev pub items_of : History → List Item
+items_of [] = []
+items_of (Took i ∷ h) = items_of h ++ i ∷ []
+items_of (Printed m ∷ h) = items_of h
+items_of (Noted n ∷ h) = items_of h
+
+-- How many items were taken.
+abbrev pub item_count : History → ℕ
+item_count [] = 0
+item_count (Took i ∷ h) = suc (item_count h)
+item_count (Printed m ∷ h) = item_count h
+item_count (Noted n ∷ h) = item_count h
+
+-- Live jobs, the smallest stamp first. An activation begins a job, whose stamp is its place in the
+-- history; an end ends the oldest live job of its task. [OSEK/VDX OS 2.2.3, section 4.3; the code has
+-- the same list, and no history to count places in.]
+abbrev pub without_oldest : Runner → List Job → List Job
+without_oldest r [] = []
+without_oldest r (j ∷ js) = if same_runner j.runner r then js else j ∷ without_oldest r js
+
+abbrev pub jobs_after : Entry → ℕ → List Job → List Job
+jobs_after (Printed (Mark.Activated t)) stamp jobs = jobs ++ record { runner = Runner.Task t; stamp = stamp } ∷ []
+jobs_after (Printed (Mark.Terminated t)) stamp jobs = without_oldest (Runner.Task t) jobs
+jobs_after e stamp jobs = jobs
+
+abbrev pub live_jobs : History → List Job
+live_jobs [] = []
+live_jobs (e ∷ h) = jobs_after e (length h) (live_jobs h)
+
+-- How many live jobs a runner has, and the oldest of them.
+abbrev pub job_count : Runner → List Job → ℕ
+job_count r [] = 0
+job_count r (j ∷ js) = if same_runner j.runner r then suc (job_count r js) else job_count r js
+
+abbrev pub oldest : Runner → List Job → Option Job
+oldest r [] = None
+oldest r (j ∷ js) = if same_runner j.runner r then Some j else oldest r js
+
+-- The current task: it entered the running state and has not left it since.
+-- [OSEK/VDX OS 2.2.3, section 4.2; the code keeps the job.]
+abbrev pub current_after : Entry → Option TaskRef → Option TaskRef
+current_after (Printed (Mark.PreTaskHook t)) current = Some t
+current_after (Printed (Mark.PostTaskHook t)) None = None
+current_after (Printed (Mark.PostTaskHook t)) (Some u) = if same_task t u then None else Some u
+current_after (Printed (Mark.Terminated t)) None = None
+current_after (Printed (Mark.Terminated t)) (Some u) = if same_task t u then None else Some u
+current_after e current = current
+
+abbrev pub current_task : History → Option TaskRef
+current_task [] = None
+current_task (e ∷ h) = current_after e (current_task h)
+
+-- The current job: the oldest live job of the current task.
+abbrev pub oldest_of : Option TaskRef → List Job → Option Job
+oldest_of None jobs = None
+oldest_of (Some t) jobs = oldest (Runner.Task t) jobs
+
+abbrev pub current_job : History → Option Job
+current_job h = oldest_of (current_task h) (live_jobs h)
+
+-- A job that may run: a live job of a task. None of them can wait yet. [OSEK/VDX OS 2.2.3, section 4.2]
+abbrev pub is_able : Job → Bool
+is_able j = true
+
+-- The running job: the current one, since there are no ISR jobs yet. [OSEK/VDX OS 2.2.3, section 4.2]
+abbrev pub running : History → Option Job
+running h = current_job h
+
+-- Of the jobs of greatest priority the first. In a list by stamps it is the one of smallest stamp.
+abbrev pub better_of : (Job → ℕ) → Job → Option Job → Job
+better_of priority j None = j
+better_of priority j (Some k) = if nat_lt (priority j) (priority k) then k else j
+
+abbrev pub first_greatest : (Job → ℕ) → List Job → Option Job
+first_greatest priority [] = None
+first_greatest priority (j ∷ js) = Some (better_of priority j (first_greatest priority js))
+
+-- The job to run: the able job of greatest current priority, and of these the one of smallest stamp.
+-- [OSEK/VDX OS 2.2.3, section 4.6.5; the code reads the same list through.]
+abbrev pub best : (Job → ℕ) → History → Option Job
+best priority h = first_greatest priority (filter is_able (live_jobs h))
+
+-- The call that awaits a reply: an opened call stays open until the reply is taken.
+-- [own: a service on another core's object is a request and its reply]
+abbrev pub open_after : Entry → Option OpenCall → Option OpenCall
+open_after (Noted (Opened call)) open_call = Some call
+open_after (Took (Item.Received from number (Message.Reply status value))) open_call = None
+open_after e open_call = open_call
+
+abbrev pub open_call : History → Option OpenCall
+open_call [] = None
+open_call (e ∷ h) = open_after e (open_call h)
+
+-- The outbox, its front first: what was queued and not posted. A post takes the front. [own]
+abbrev pub outbox_after : Entry → List Sent → List Sent
+outbox_after (Noted (Queued d e)) outbox = outbox ++ record { to = d; envelope = e } ∷ []
+outbox_after (Took (Item.Posted d)) outbox = drop 1 outbox
+outbox_after e outbox = outbox
+
+abbrev pub outbox : History → List Sent
+outbox [] = []
+outbox (e ∷ h) = outbox_after e (outbox h)
+
+-- How many envelopes were queued for a core, and received from one. [own]
+abbrev pub queued_count : CoreId → History → ℕ
+queued_count d [] = 0
+queued_count d (Noted (Queued e x) ∷ h) = if same_core e d then suc (queued_count d h) else queued_count d h
+queued_count d (e ∷ h) = queued_count d h
+
+abbrev pub received_count : CoreId → History → ℕ
+received_count s [] = 0
+received_count s (Took (Item.Received from number m) ∷ h) = if same_core from s then suc (received_count s h) else received_count s h
+received_count s (e ∷ h) = received_count s h
+
+-- The streams between cores: what this core queued for d, what of it left by posts, and what it
+-- received from s, the oldest first. [own; the code has mailboxes.]
+abbrev pub sent : CoreId → History → List Envelope
+sent d [] = []
+sent d (Noted (Queued e x) ∷ h) = if same_core e d then sent d h ++ x ∷ [] else sent d h
+sent d (e ∷ h) = sent d h
+
+abbrev pub front_envelope : List Sent → List Envelope
+front_envelope [] = []
+front_envelope (s ∷ ss) = s.envelope ∷ []
+
+abbrev pub posted : CoreId → History → List Envelope
+posted d [] = []
+posted d (Took (Item.Posted e) ∷ h) = if same_core e d then posted d h ++ front_envelope (outbox h) else posted d h
+posted d (e ∷ h) = posted d h
+
+abbrev pub received : CoreId → History → List Envelope
+received s [] = []
+received s (Took (Item.Received from number m) ∷ h) = if same_core from s then received s h ++ record { number = number; message = m } ∷ [] else received s h
+received s (e ∷ h) = received s h
+
+-- The phase: the master begins in boot, another core off, and items lead on.
+-- [AUTOSAR SWS OS 4.x, section 7.9.4 and 7.9.5, start and synchronisation of the cores]
+abbrev pub phase_after : Entry → Phase → Phase
+phase_after (Took Item.On) p = Phase.Boot
+phase_after (Took Item.Entered) p = Phase.FirstGate
+phase_after (Took (Item.Pass1 Agreement.Conflict)) p = Phase.Ended
+phase_after (Took (Item.Pass1 (Agreement.Mode m))) p = Phase.BetweenGates
+phase_after (Took (Item.Pass1 Agreement.NoMode)) p = Phase.BetweenGates
+phase_after (Took Item.Readied) p = Phase.SecondGate
+phase_after (Took (Item.Pass2 cores)) p = Phase.Live
+phase_after (Took Item.Drained) p = Phase.Drained
+phase_after (Took Item.PassEnd) p = Phase.Closing
+phase_after (Took (Item.Last shutdown)) p = Phase.Ended
+phase_after e p = p
+
+abbrev pub phase_from : Phase → History → Phase
+phase_from first [] = first
+phase_from first (e ∷ h) = phase_after e (phase_from first h)
+
+abbrev pub phase_of : Bool → History → Phase
+phase_of is_master h = phase_from (if is_master then Phase.Boot else Phase.Off) h
+
+-- A core schedules, serves and posts from the second gate to its end.
+abbrev pub is_scheduling : Phase → Bool
+is_scheduling Phase.Live = true
+is_scheduling Phase.Drained = true
+is_scheduling Phase.Closing = true
+is_scheduling p = false
+
+-- How many entries of the start list are done.
+abbrev pub began_count : History → ℕ
+began_count [] = 0
+began_count (Took (Item.Began k s) ∷ h) = suc (began_count h)
+began_count (e ∷ h) = began_count h
+
+-- The application mode that the started cores came to, once the first gate is passed.
+-- [AUTOSAR SWS OS 4.x, section 7.9.5]
+abbrev pub agreement_of : History → Option Agreement
+agreement_of [] = None
+agreement_of (Took (Item.Pass1 a) ∷ h) = Some a
+agreement_of (e ∷ h) = agreement_of h
+
+-- The cores that were started, once the second gate is passed; none before.
+abbrev pub no_cores : CoreSet
+no_cores = record { members = replicate 16 false }
+
+abbrev pub started_cores : History → CoreSet
+started_cores [] = no_cores
+started_cores (Took (Item.Pass2 cores) ∷ h) = cores
+started_cores (e ∷ h) = started_cores h

@@ -1,0 +1,44 @@
+//! What the definitions over a history share with the kernel that keeps their readings.
+
+use crate::messages::Envelope;
+use crate::references::{CoreId, Runner};
+use crate::statuses::ServiceId;
+
+/// Where a core stands between being started and its end.
+#[derive(Clone, Copy, Debug, PartialEq, Eq)]
+pub enum Phase {
+    Off,
+    Boot,
+    FirstGate,
+    BetweenGates,
+    SecondGate,
+    /// Scheduling, with stimuli left.
+    Live,
+    /// Scheduling, and only serving other cores.
+    Drained,
+    Closing,
+    Ended,
+}
+
+/// A job of a task or an ISR. Its stamp is the place in the history of its activation, or of its
+/// last release from waiting: of two jobs the one with the smaller stamp is the older.
+#[derive(Clone, Copy, Debug, PartialEq, Eq)]
+pub struct Job {
+    pub runner: Runner,
+    pub stamp: u64,
+}
+
+/// A service of a job that awaits the reply of another core.
+#[derive(Clone, Copy, Debug, PartialEq, Eq)]
+pub struct OpenCall {
+    pub runner: Runner,
+    pub service: ServiceId,
+    pub core: CoreId,
+}
+
+/// An envelope of the outbox, and the core that it is for.
+#[derive(Clone, Copy, Debug, PartialEq, Eq)]
+pub struct Sent {
+    pub to: CoreId,
+    pub envelope: Envelope,
+}

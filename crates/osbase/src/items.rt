@@ -1,0 +1,84 @@
+//! Items: the only inputs of a core. A core is a machine that takes one item at a time.
+
+use crate::messages::Message;
+use crate::references::{CoreId, IsrRef, ModeId, SpinlockId};
+use crate::statuses::Status;
+
+/// What a core's environment gives it.
+#[derive(Clone, Copy, Debug, PartialEq, Eq)]
+pub enum Stimulus {
+    /// The running job goes on by one operation.
+    Op,
+    /// Every hardware counter of the core advances by one.
+    Tick,
+    /// An interrupt of this ISR.
+    Irq(IsrRef),
+}
+
+/// A set of cores: a flag for each core number.
+#[derive(Clone, Copy, Debug, PartialEq, Eq)]
+pub struct CoreSet {
+    pub members: [bool; 16],
+}
+
+/// What the started cores' application modes came to at the first synchronisation point of
+/// StartOS (AUTOSAR SWS OS 4.x, section 7.9.5).
+#[derive(Clone, Copy, Debug, PartialEq, Eq)]
+pub enum Agreement {
+    /// Two cores name different modes.
+    Conflict,
+    /// The one mode that is named.
+    Mode(ModeId),
+    /// Every core says DONOTCARE.
+    NoMode,
+}
+
+/// One atomic step of a core's input.
+#[derive(Clone, Copy, Debug, PartialEq, Eq)]
+pub enum Item {
+    /// The core was started by another core.
+    On,
+    /// `StartCore` before StartOS: the next core of the start list, and the answer.
+    Began {
+        core: CoreId,
+        status: Status,
+    },
+    /// The start list is done, and the board knows the core's mode.
+    Entered,
+    /// The first gate is passed.
+    Pass1(Agreement),
+    /// StartupHook has run.
+    Readied,
+    /// The second gate is passed: these cores were started.
+    Pass2(CoreSet),
+    /// A stimulus.
+    Stim(Stimulus),
+    /// The front of the outbox went to this core's mailbox.
+    Posted(CoreId),
+    /// An envelope of another core: `in` in a log.
+    Received {
+        from: CoreId,
+        number: u64,
+        message: Message,
+    },
+    /// An open GetSpinlock got its spinlock.
+    Granted(SpinlockId),
+    /// An open TryToGetSpinlock was answered.
+    Tried {
+        spinlock: SpinlockId,
+        taken: bool,
+    },
+    /// A spinlock was given back.
+    Freed(SpinlockId),
+    /// A shutdown of all cores, with who asked first and with which status.
+    Halt {
+        core: CoreId,
+        status: Status,
+    },
+    /// The core has no stimulus left.
+    Drained,
+    /// Every started core has drained.
+    PassEnd,
+    /// The end, with who asked for a shutdown of all cores, if one was asked for.
+    Last(Option<(CoreId, Status)>),
+}

@@ -1,0 +1,25 @@
+//! The words that every layer speaks: references, statuses, items, marks, envelopes and turns.
+//!
+//! Nothing here takes memory or refuses anything, but the two lists, which grow as a `Vec` does.
+#![tactic(auto)]
+
+pub mod histories;
+pub mod items;
+pub mod lists;
+pub mod marks;
+pub mod messages;
+pub mod references;
+pub mod statuses;
+pub mod turns;
+
+pub use histories::{Job, OpenCall, Phase, Sent};
+pub use items::{Agreement, CoreSet, Item, Stimulus};
+pub use lists::{List, Name};
+pub use marks::Mark;
+pub use messages::{Envelope, Message, RemoteCall};
+pub use references::{
+    AlarmRef, CoreId, CounterRef, IsrRef, ModeId, ResourceRef, Runner, SpinlockId, TableRef,
+    TaskRef, Variable,
+};
+pub use statuses::{ServiceId, Status};
+pub use turns::{CORES, Choice, CoreStimuli, Report, Schedule, Stimuli, Turn, stimuli_for};

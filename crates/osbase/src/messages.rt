@@ -1,0 +1,46 @@
+//! What crosses the border between cores.
+
+use crate::references::{AlarmRef, TaskRef, Variable};
+use crate::statuses::Status;
+
+/// A service that a core asks of another core's object (AUTOSAR SWS OS 4.x, section 7.9.18).
+#[derive(Clone, Copy, Debug, PartialEq, Eq)]
+pub enum RemoteCall {
+    ActivateTask(TaskRef),
+    SetEvent {
+        task: TaskRef,
+        mask: u32,
+    },
+    SetRelAlarm {
+        alarm: AlarmRef,
+        increment: u32,
+        cycle: u32,
+    },
+    SetAbsAlarm {
+        alarm: AlarmRef,
+        start: u32,
+        cycle: u32,
+    },
+    CancelAlarm(AlarmRef),
+    /// The variable is the caller's, and stands in the printed line alone.
+    GetAlarm {
+        alarm: AlarmRef,
+        variable: Variable,
+    },
+}
+
+/// A request is answered by one reply; an action, of an alarm or a schedule table, by none.
+#[derive(Clone, Copy, Debug, PartialEq, Eq)]
+pub enum Message {
+    Request(RemoteCall),
+    Action(RemoteCall),
+    /// `value` is there where GetAlarm answered E_OK.
+    Reply { status: Status, value: Option<i64> },
+}
+
+/// A message with its number: each ordered pair of cores counts its envelopes 0, 1, 2 and so on.
+#[derive(Clone, Copy, Debug, PartialEq, Eq)]
+pub struct Envelope {
+    pub number: u64,
+    pub message: Message,
+}

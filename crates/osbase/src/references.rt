@@ -1,0 +1,75 @@
+//! Names of cores and objects as numbers: an object is known by its core and its place among that
+//! core's objects of its kind, in the order of the configuration.
+
+/// The number of a core, configured or not (AUTOSAR SWS OS 4.x, CoreIdType).
+#[derive(Clone, Copy, Debug, PartialEq, Eq)]
+pub struct CoreId {
+    pub number: u8,
+}
+
+/// A task (OSEK/VDX OS 2.2.3, TaskType).
+#[derive(Clone, Copy, Debug, PartialEq, Eq)]
+pub struct TaskRef {
+    pub core: CoreId,
+    pub index: u8,
+}
+
+/// A category 2 interrupt service routine (AUTOSAR SWS OS 4.x, ISRType).
+#[derive(Clone, Copy, Debug, PartialEq, Eq)]
+pub struct IsrRef {
+    pub core: CoreId,
+    pub index: u8,
+}
+
+/// A resource (OSEK/VDX OS 2.2.3, ResourceType).
+#[derive(Clone, Copy, Debug, PartialEq, Eq)]
+pub struct ResourceRef {
+    pub core: CoreId,
+    pub index: u8,
+}
+
+/// A counter (AUTOSAR SWS OS 4.x, CounterType).
+#[derive(Clone, Copy, Debug, PartialEq, Eq)]
+pub struct CounterRef {
+    pub core: CoreId,
+    pub index: u8,
+}
+
+/// An alarm (OSEK/VDX OS 2.2.3, AlarmType).
+#[derive(Clone, Copy, Debug, PartialEq, Eq)]
+pub struct AlarmRef {
+    pub core: CoreId,
+    pub index: u8,
+}
+
+/// A schedule table (AUTOSAR SWS OS 4.x, ScheduleTableType).
+#[derive(Clone, Copy, Debug, PartialEq, Eq)]
+pub struct TableRef {
+    pub core: CoreId,
+    pub index: u8,
+}
+
+/// A spinlock, which belongs to no core (AUTOSAR SWS OS 4.x, SpinlockIdType).
+#[derive(Clone, Copy, Debug, PartialEq, Eq)]
+pub struct SpinlockId {
+    pub index: u8,
+}
+
+/// An application mode other than DONOTCARE (AUTOSAR SWS OS 4.x, AppModeType).
+#[derive(Clone, Copy, Debug, PartialEq, Eq)]
+pub struct ModeId {
+    pub index: u8,
+}
+
+/// One of the eight variables `v0` to `v7` of a task or an ISR.
+#[derive(Clone, Copy, Debug, PartialEq, Eq)]
+pub struct Variable {
+    pub index: u8,
+}
+
+/// What a job runs: a task or an ISR.
+#[derive(Clone, Copy, Debug, PartialEq, Eq)]
+pub enum Runner {
+    Task(TaskRef),
+    Isr(IsrRef),
+}

@@ -1,0 +1,68 @@
+//! What a listed run is given and gives: stimuli, turns and reports.
+
+ghost use Rattle.std.specs.Prelude.{◌≡◌, find, option_copied};
+ghost use Rattle.osbase.specs.History.{same_core};
+ghost use Rattle.osbase.specs.Runs.{stimuli_of};
+
+use crate::items::{Item, Stimulus};
+use crate::lists::List;
+use crate::marks::Mark;
+use crate::references::CoreId;
+
+/// How many core numbers there are: cores are numbered below this.
+pub const CORES: usize = 16;
+
+/// The stimuli of one core, in order.
+#[derive(Debug, Drop)]
+pub struct CoreStimuli {
+    pub core: CoreId,
+    pub words: List<Stimulus>,
+}
+
+/// The stimuli of a run. A core that is not listed has none.
+pub type Stimuli = List<CoreStimuli>;
+
+/// The stimuli of this core: those of the first entry for it.
+pub fn stimuli_for(stimuli: &[CoreStimuli], core: CoreId) -> &[Stimulus]
+    ensures { result.now ≡ stimuli_of stimuli.now core }
+{
+    match entry_of(stimuli, core) {
+        Some(entry) => entry.words.as_slice(),
+        None => &[],
+    }
+}
+
+fn entry_of(stimuli: &[CoreStimuli], core: CoreId) -> Option<&CoreStimuli>
+    ensures { option_copied result ≡ find (λ entry. same_core entry.core core) stimuli.now }
+{
+    stimuli
+        .iter()
+        .find(|entry| entry.core.number == core.number)
+}
+
+/// What a core does in its turn.
+#[derive(Clone, Copy, Debug, PartialEq, Eq)]
+pub enum Choice {
+    /// Goes on with its own work.
+    Own,
+    /// Takes the oldest envelope of this core.
+    Serve(CoreId),
+    /// Looks at the board.
+    Look,
+}
+
+/// A turn of a core.
+pub type Turn = (CoreId, Choice);
+
+/// Turns in order.
+pub type Schedule = List<Turn>;
+
+/// What a run came to for one core: the items that it took, the lines that it printed, and whether
+/// it came to its end.
+#[derive(Debug, Drop)]
+pub struct Report {
+    pub core: CoreId,
+    pub items: List<Item>,
+    pub marks: List<Mark>,
+    pub ended: bool,
+}

@@ -1,0 +1,120 @@
+//! The parts of a configuration, and the configuration that keeps its limits.
+
+ghost use Rattle.std.specs.Prelude.{◌≡◌, ◌↔◌, IsTrue, Option, option_copied};
+ghost use Rattle.osplan.specs.View.{core_of};
+ghost use Rattle.osplan.specs.Limits.{is_within_limits};
+
+use osbase::{CoreId, List, ModeId, Name};
+use oscript::Script;
+use std::marker::Model;
+
+/// A task (OSEK/VDX OS 2.2.3, section 4).
+#[derive(Debug, Drop)]
+pub struct Task {
+    pub name: Name,
+    /// The static priority, 0 to 31.
+    pub priority: u8,
+    /// The application modes in which the task is started by itself.
+    pub auto: List<ModeId>,
+    /// How many jobs of the task may be live at once.
+    pub activations: u8,
+    pub script: Script,
+}
+
+/// A category 2 ISR. None can be configured yet.
+#[derive(Debug, Drop)]
+pub struct Isr {
+    pub name: Name,
+}
+
+/// An alarm. None can be configured yet.
+#[derive(Debug, Drop)]
+pub struct Alarm {
+    pub name: Name,
+}
+
+/// A schedule table. None can be configured yet.
+#[derive(Debug, Drop)]
+pub struct Table {
+    pub name: Name,
+}
+
+/// The application mode with which a core calls StartOS (AUTOSAR SWS OS 4.x, section 7.9.5).
+#[derive(Clone, Copy, Debug, PartialEq, Eq)]
+pub enum CoreMode {
+    Named(ModeId),
+    DontCare,
+}
+
+/// A core and its objects, each kind in the order of the configuration.
+#[derive(Debug, Drop)]
+pub struct Core {
+    pub id: CoreId,
+    pub mode: CoreMode,
+    /// The cores that it starts before StartOS, configured or not.
+    pub start: List<CoreId>,
+    pub tasks: List<Task>,
+    pub isrs: List<Isr>,
+    pub alarms: List<Alarm>,
+    pub tables: List<Table>,
+}
+
+/// A configuration as data, within the limits or not.
+#[derive(Debug, Drop)]
+pub struct Plan {
+    /// How many envelopes the mailbox of an ordered pair of cores holds.
+    pub cap: u8,
+    /// The core that runs from the beginning.
+    pub master: CoreId,
+    /// The application modes by name.
+    pub modes: List<Name>,
+    pub cores: List<Core>,
+}
+
+/// A configuration within the limits, all of whose references name objects of it.
+#[derive(Debug, Drop)]
+pub struct Config {
+    plan: Plan,
+}
+
+impl Model for Config {
+    ghost use Rattle.std.specs.Prelude.{IsTrue};
+    ghost use Rattle.osplan.specs.declared.plans.Plan.{Plan};
+    ghost use Rattle.osplan.specs.Limits.{is_within_limits};
+
+    ghost Value = { Plan };
+
+    ghost view = { λ c. c.plan };
+
+    ghost invariant = { λ c. IsTrue (is_within_limits c.plan) };
+}
+
+impl Config {
+    /// The configuration of a plan within the limits.
+    pub fn new(plan: Plan) -> Self
+        requires { IsTrue (is_within_limits plan) }
+        ensures { result ≡ plan }
+    {
+        Config { plan }
+    }
+
+    /// The configuration's data.
+    pub fn plan(&self) -> &Plan
+        ensures value { result.now ≡ self.now }
+        ensures limits { IsTrue (is_within_limits self.now) }
+    {
+        &self.plan
+    }
+}
+
+impl Plan {
+    /// The core of this number, if one is configured.
+    pub fn core(&self, id: CoreId) -> Option<&Core>
+        ensures { option_copied result ≡ core_of self.now id }
+    {
+        self.cores
+            .as_slice()
+            .iter()
+            .find(|core| core.id.number == id.number)
+    }
+}
