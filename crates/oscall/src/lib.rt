@@ -1,0 +1,2 @@
+//! The services of a core.
+#![tactic(auto)]

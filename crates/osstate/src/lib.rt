@@ -1,0 +1,2 @@
+//! The whole state of a core.
+#![tactic(auto)]
