@@ -1,0 +1,4 @@
+pub mod Parts
+pub mod Border
+pub mod Limit
+pub mod Refusals

@@ -1,0 +1,74 @@
+-- What the worked examples are made of.
+use Rattle.std.specs.Prelude.{ℕ, true, false, Option, None, List, [], ◌∷◌, codes, replicate}
+use Rattle.std.specs.Option.{option_map}
+use Rattle.osbase.specs.declared.references.CoreId.{CoreId}
+use Rattle.osbase.specs.declared.references.TaskRef.{TaskRef}
+use Rattle.osbase.specs.declared.references.ModeId.{ModeId}
+use Rattle.osbase.specs.declared.items.CoreSet.{CoreSet}
+use Rattle.osbase.specs.declared.items.Agreement.TheVariants as Agreement
+use Rattle.osbase.specs.declared.items.Item.{Item}
+use Rattle.osbase.specs.declared.marks.Mark.{Mark}
+use Rattle.osbase.specs.declared.messages.Message.{Message}
+use Rattle.osbase.specs.declared.messages.RemoteCall.TheVariants as Remote
+use Rattle.osbase.specs.declared.statuses.Status.{Status}
+use Rattle.osbase.specs.History.{marks_of}
+use Rattle.oscript.specs.declared.Op.{Op}
+use Rattle.osplan.specs.declared.plans.Plan.{Plan}
+use Rattle.osplan.specs.declared.plans.Core.{Core}
+use Rattle.osplan.specs.declared.plans.Task.{Task}
+use Rattle.osplan.specs.declared.plans.CoreMode.TheVariants.{Named}
+use Rattle.osplan.specs.View.{view_of}
+use Rattle.oskernel.specs.Step.{solo}
+
+abbrev pub core : ℕ → CoreId
+core n = record { number = n }
+
+-- the one mode, M
+abbrev pub mode : ModeId
+mode = record { index = 0 }
+
+-- a core's first task
+abbrev pub first_task : ℕ → TaskRef
+first_task n = record { core = core n; index = 0 }
+
+-- a task of priority 1 that is started by itself in mode M
+abbrev pub auto_task : List ℕ → List Op → Task
+auto_task name script = record { name = name; priority = 1; auto = mode ∷ []; activations = 1; script = script }
+
+-- a task of priority 1 that is not
+abbrev pub task : List ℕ → List Op → Task
+task name script = record { name = name; priority = 1; auto = []; activations = 1; script = script }
+
+-- a core with one task
+abbrev pub core_with : ℕ → List CoreId → Task → Core
+core_with n start t = record { id = core n; mode = Named mode; start = start; tasks = t ∷ []; isrs = []; alarms = []; tables = [] }
+
+-- a configuration with the defaults
+abbrev pub plan_of : List Core → Plan
+plan_of cores = record { cap = 16; master = core 0; modes = codes "M" ∷ []; cores = cores }
+
+-- core 0 alone, and cores 0 and 1
+abbrev pub alone : CoreSet
+alone = record { members = true ∷ replicate 15 false }
+
+abbrev pub both : CoreSet
+both = record { members = true ∷ true ∷ replicate 14 false }
+
+-- the items that lead through the gates in mode M
+abbrev pub gates : CoreSet → List Item
+gates started = Item.Entered ∷ Item.Pass1 (Agreement.Mode mode) ∷ Item.Readied ∷ Item.Pass2 started ∷ []
+
+-- a request to activate the task, and a reply
+abbrev pub asked : ℕ → ℕ → TaskRef → Item
+asked from number t = Item.Received (core from) number (Message.Request (Remote.ActivateTask t))
+
+abbrev pub replied : ℕ → ℕ → Status → Item
+replied from number status = Item.Received (core from) number (Message.Reply status None)
+
+-- the items after the last stimulus of a core to its end
+abbrev pub end : List Item
+end = Item.PassEnd ∷ Item.Last None ∷ []
+
+-- what a core prints for items, if each may be taken in turn
+abbrev pub marks_alone : Plan → ℕ → List Item → Option (List Mark)
+marks_alone plan n items = option_map marks_of (solo (view_of plan (core n)) items)

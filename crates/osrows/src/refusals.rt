@@ -1,0 +1,18 @@
+//! Refused activations. Core 1 is never started, and prints nothing.
+
+ghost use Rattle.std.specs.Prelude.{◌≡◌, IsTrue, Option, Some, [], ◌∷◌};
+ghost use Rattle.osrows.specs.Parts.{core, marks_alone};
+ghost use Rattle.osrows.specs.Refusals.{plan, stimuli, first_items, first_marks};
+ghost use Rattle.osworld.specs.World.{world, default_turns, is_default};
+
+/// What each core prints for its own items.
+pub fn prints_each_block()
+    ensures first { marks_alone plan 0 first_items ≡ Some first_marks }
+    ensures second { marks_alone plan 1 [] ≡ Some [] }
+{}
+
+/// The items of the default schedule.
+pub fn takes_these_items_by_default()
+    ensures rounds { IsTrue (is_default plan stimuli 8) }
+    ensures items { (world plan stimuli (default_turns plan 8)).items ≡ (core 0, first_items) ∷ (core 1, []) ∷ [] }
+{}

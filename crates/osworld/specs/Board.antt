@@ -1,0 +1,105 @@
+-- One board: the sets of started, entered, ready and drained cores and of named modes. Each call of a core is
+-- answered at once. [own; the code has one plain value]
+use Rattle.std.specs.Prelude.{ℕ, suc, ◌||◌, Bool, true, false, not, if◌then◌else◌, List, [], ◌∷◌, slice_set, replicate}
+use Rattle.std.specs.List.{list_all}
+use Rattle.osbase.specs.declared.statuses.Status.{Status}
+use Rattle.osbase.specs.declared.statuses.Status.TheVariants.{EOk, EOsState}
+use Rattle.osbase.specs.declared.references.CoreId.{CoreId}
+use Rattle.osbase.specs.declared.references.ModeId.{ModeId}
+use Rattle.osbase.specs.declared.items.CoreSet.{CoreSet}
+use Rattle.osbase.specs.declared.items.Agreement.{Agreement}
+use Rattle.osbase.specs.History.{no_cores}
+use Rattle.osplan.specs.declared.plans.CoreMode.{CoreMode}
+use Rattle.osplan.specs.declared.plans.CoreMode.TheVariants.{Named, DontCare}
+use Rattle.osstate.specs.Readings.{has_core, core_ids}
+use Rattle.osworld.specs.declared.boards.BoardView.{BoardView}
+use Rattle.osworld.specs.declared.boards.ModeSet.{ModeSet}
+
+-- What a core asks of the board.
+pub data BoardCall : Type 0 where
+  -- starts this core
+  StartCore : CoreId → BoardCall
+  -- has entered, with this mode
+  Enter : CoreMode → BoardCall
+  -- is ready
+  MakeReady : BoardCall
+  -- has drained
+  Drain : BoardCall
+  -- looks at the sets
+  LookAt : BoardCall
+  -- looks at the halt word
+  LookHalt : BoardCall
+
+-- What the board answers.
+pub data BoardReply : Type 0 where
+  Started : Status → BoardReply
+  Noted : BoardReply
+  Shown : BoardView → BoardReply
+  NoHalt : BoardReply
+
+-- One call with its answer.
+pub record BoardEntry : Type 0 where
+  pub core : CoreId
+  pub call : BoardCall
+  pub reply : BoardReply
+
+abbrev pub with_core : CoreId → CoreSet → CoreSet
+with_core id cores = record { members = slice_set cores.members id.number true }
+
+abbrev pub no_modes : ModeSet
+no_modes = record { members = replicate 8 false }
+
+-- DONOTCARE names no mode.
+abbrev pub with_mode : CoreMode → ModeSet → ModeSet
+with_mode (Named m) modes = record { members = slice_set modes.members m.index true }
+with_mode DontCare modes = modes
+
+-- At first the master alone is started.
+abbrev pub first_board : CoreId → BoardView
+first_board master = record {
+  started = with_core master no_cores;
+  entered = no_cores;
+  ready = no_cores;
+  drained = no_cores;
+  modes = no_modes;
+}
+
+abbrev pub board_after : CoreId → BoardCall → BoardView → BoardView
+board_after core (StartCore k) board = record board { started = with_core k board.started }
+board_after core (Enter mode) board = record board { entered = with_core core board.entered; modes = with_mode mode board.modes }
+board_after core MakeReady board = record board { ready = with_core core board.ready }
+board_after core Drain board = record board { drained = with_core core board.drained }
+board_after core LookAt board = board
+board_after core LookHalt board = board
+
+-- A core that is started already is answered E_OS_STATE. [AUTOSAR SWS OS 4.x, StartCore]
+abbrev pub reply_of : BoardCall → BoardView → BoardReply
+reply_of (StartCore k) board = Started (if has_core board.started k then EOsState else EOk)
+reply_of (Enter mode) board = Noted
+reply_of MakeReady board = Noted
+reply_of Drain board = Noted
+reply_of LookAt board = Shown board
+reply_of LookHalt board = NoHalt
+
+-- The board after calls, the oldest first.
+abbrev pub board_from : BoardView → List BoardEntry → BoardView
+board_from board [] = board
+board_from board (e ∷ es) = board_from (board_after e.core e.call board) es
+
+-- Every started core is in the set.
+abbrev pub have_all : CoreSet → CoreSet → Bool
+have_all started cores = list_all (λ id. not (has_core started id) || has_core cores id) core_ids
+
+-- What the named modes come to: none, the one, or a conflict of several.
+-- [AUTOSAR SWS OS 4.x, section 7.9.5; that all may say DONOTCARE is this project's own]
+abbrev pub mode_ids_from : ℕ → List Bool → List ModeId
+mode_ids_from n [] = []
+mode_ids_from n (b ∷ bs) = if b then record { index = n } ∷ mode_ids_from (suc n) bs else mode_ids_from (suc n) bs
+
+abbrev pub agreement_on : List ModeId → Agreement
+agreement_on [] = Agreement.NoMode
+agreement_on (m ∷ []) = Agreement.Mode m
+agreement_on (m ∷ n ∷ ms) = Agreement.Conflict
+
+abbrev pub agreement_in : ModeSet → Agreement
+agreement_in modes = agreement_on (mode_ids_from 0 modes.members)
