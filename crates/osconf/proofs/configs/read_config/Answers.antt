@@ -1,0 +1,18 @@
+use Rattle.std.proofs.Common.{◌≡◌, ◌∙◌, ap, sym, subst, List}
+use Rattle.std.proofs.lemmas.Result.{err_from_is_err_and}
+use Rattle.osconf.specs.declared.faults.ConfFault.{ConfFault}
+use Rattle.osconf.specs.Fault.{failing}
+use Rattle.osconf.specs.Check.{tests_of}
+use Rattle.osconf.specs.Meaning.{IsLeast, faults_of, faults_of_data, faults_of_shape}
+use Rattle.osconf.proofs.Least.{least-tests_of}
+use Rattle.osconf.proofs.Bounds.{bounds-of}
+use Rattle.osconf.proofs.configs.read_config.Goals as goal
+
+pub returns-in_err-check-clause-fault : goal.returns-in_err-check-clause-fault
+returns-in_err-check-clause-fault c =
+    let faults : faults_of c.args.text.now ≡ failing (tests_of c.in_ok-text.text) = ap faults_of_data c.in_ok-value.ensures ∙ ap faults_of_shape c.in_ok-text.ensures in
+    let p = err_from_is_err_and c.from_residual-in_err-check.result c.from_residual-in_err-check.ensures.1 in
+    rw (p.1, p.2) (λ _. subst (λ (fs : List ConfFault). IsLeast c.in_err-check.field-0.0 fs) (sym faults) (least-tests_of c.in_ok-text.text c.in_err-check.field-0.0 c.in_err-check.ensures))
+
+pub new-requires : goal.new-requires
+new-requires c = rw c.in_ok-plan_of.ensures (bounds-of c.in_ok-text.text c.in_ok-check.ensures)

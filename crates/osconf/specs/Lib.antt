@@ -1,0 +1,8 @@
+pub mod Fault
+pub mod Word
+pub mod Reading
+pub mod Shape
+pub mod Operation
+pub mod Check
+pub mod Meaning
+pub mod Given

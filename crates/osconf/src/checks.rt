@@ -1,0 +1,308 @@
+//! The tests of a configuration's text, one for each fault past its shape, in ascending order.
+
+ghost use Rattle.std.specs.Prelude.{◌≡◌, ◌==◌, not, MatchResult, Some, []};
+ghost use Rattle.std.specs.List.{list_all, list_any, slice_split};
+ghost use Rattle.osconf.specs.declared.shapes.CoreText.{CoreText as Core};
+ghost use Rattle.osconf.specs.declared.shapes.TaskText.{TaskText as Task};
+ghost use Rattle.osconf.specs.Fault.{failing, first_fault};
+ghost use Rattle.osconf.specs.Check.{is_between, is_task_within, is_core_within, is_within, has_name, core_has_name, is_first_named, are_tasks_distinct, same_number, is_apart, is_first_apart, are_cores_distinct, is_each_once, is_task_name, is_operation_known, are_operations_known, is_mode_name, is_task_known, is_core_known, are_known, is_operation, is_task_script, is_core_script, are_operations, mode_name, tests_of};
+
+use crate::faults::ConfFault;
+use crate::scripts::{OpText, form_of};
+use crate::shapes::{ConfigText, CoreText, TaskText, Whole};
+use crate::words::part_count;
+use osbase::Name;
+
+/// The name of the only mode.
+pub const MODE: &str = "M";
+
+/// The most tasks of a core.
+const TASKS: usize = 1;
+
+/// The most cores.
+const CORES: usize = 8;
+
+/// The most operations of a script.
+const OPERATIONS: usize = 256;
+
+fn is_between(low: u64, high: u64, number: Whole) -> bool
+    ensures { result ≡ is_between low high number }
+{
+    match number {
+        Some(number) => low <= number && number <= high,
+        None => false,
+    }
+}
+
+fn is_task_within(task: &TaskText) -> bool
+    ensures { result ≡ is_task_within task.now }
+{
+    is_between(0, 31, task.prio)
+        && is_between(1, 64, task.activations)
+        && part_count(task.script.as_str(), b';') <= OPERATIONS
+}
+
+fn are_starts_within(numbers: &[Whole]) -> bool
+    ensures { result ≡ list_all (is_between 0 255) numbers.now }
+{
+    numbers.iter().all(|number| is_between(0, 255, *number))
+}
+
+fn are_tasks_within(tasks: &[TaskText]) -> bool
+    ensures { result ≡ list_all is_task_within tasks.now }
+{
+    tasks.iter().all(is_task_within)
+}
+
+fn is_core_within(core: &CoreText) -> bool
+    ensures { result ≡ is_core_within core.now }
+{
+    is_between(0, 7, core.id)
+        && are_starts_within(core.start.as_slice())
+        && core.tasks.len() <= TASKS
+        && are_tasks_within(core.tasks.as_slice())
+}
+
+fn are_cores_within(cores: &[CoreText]) -> bool
+    ensures { result ≡ list_all is_core_within cores.now }
+{
+    cores.iter().all(is_core_within)
+}
+
+fn is_within(text: &ConfigText) -> bool
+    ensures { result ≡ is_within text.now }
+{
+    is_between(1, 1, text.version)
+        && is_between(1, 16, text.cap)
+        && 1 <= text.cores.len()
+        && text.cores.len() <= CORES
+        && are_cores_within(text.cores.as_slice())
+}
+
+/// Whether the task has this name.
+pub fn has_name(name: &str, task: &TaskText) -> bool
+    ensures { result ≡ has_name name.now task.now }
+{
+    task.name.as_str() == name
+}
+
+fn is_name_in(name: &str, tasks: &[TaskText]) -> bool
+    ensures { result ≡ list_any (has_name name.now) tasks.now }
+{
+    tasks.iter().any(|task| has_name(name, task))
+}
+
+fn core_has_name(name: &str, core: &CoreText) -> bool
+    ensures { result ≡ core_has_name name.now core.now }
+{
+    is_name_in(name, core.tasks.as_slice())
+}
+
+fn is_first_named(task: &TaskText, later: &[TaskText]) -> bool
+    ensures { result ≡ is_first_named task.now later.now }
+{
+    !is_name_in(task.name.as_str(), later)
+}
+
+fn are_tasks_distinct(tasks: &[TaskText]) -> bool
+    ensures { result ≡ are_tasks_distinct tasks.now }
+{
+    let mut tasks = tasks;
+    while let [task, later @ ..] = tasks {
+        if !is_first_named(task, later) {
+            return false;
+        }
+        tasks = later;
+    }
+    true
+}
+
+fn same_number(number: Whole, other: Whole) -> bool
+    ensures { result ≡ same_number number other }
+{
+    match (number, other) {
+        (Some(number), Some(other)) => number == other,
+        _ => false,
+    }
+}
+
+fn is_none_in(tasks: &[TaskText], later: &CoreText) -> bool
+    ensures { result ≡ list_all (λ (task : Task). not (core_has_name task.name later.now)) tasks.now }
+{
+    tasks
+        .iter()
+        .all(|task| !core_has_name(task.name.as_str(), later))
+}
+
+fn is_apart(core: &CoreText, later: &CoreText) -> bool
+    ensures { result ≡ is_apart core.now later.now }
+{
+    if same_number(core.id, later.id) {
+        return false;
+    }
+    is_none_in(core.tasks.as_slice(), later)
+}
+
+fn is_apart_from_all(core: &CoreText, later: &[CoreText]) -> bool
+    ensures { result ≡ list_all (is_apart core.now) later.now }
+{
+    later.iter().all(|other| is_apart(core, other))
+}
+
+fn are_cores_distinct(cores: &[CoreText]) -> bool
+    ensures { result ≡ are_cores_distinct cores.now }
+{
+    let mut cores = cores;
+    while let [core, later @ ..] = cores {
+        if !is_first_apart(core, later) {
+            return false;
+        }
+        cores = later;
+    }
+    true
+}
+
+fn is_first_apart(core: &CoreText, later: &[CoreText]) -> bool
+    ensures { result ≡ is_first_apart core.now later.now }
+{
+    are_tasks_distinct(core.tasks.as_slice()) && is_apart_from_all(core, later)
+}
+
+fn has_no_mode_name(cores: &[CoreText]) -> bool
+    ensures { result ≡ list_all (λ (core : Core). not (core_has_name mode_name core)) cores.now }
+{
+    cores.iter().all(|core| !core_has_name(MODE, core))
+}
+
+fn is_each_once(text: &ConfigText) -> bool
+    ensures { result ≡ is_each_once text.now }
+{
+    let cores = text.cores.as_slice();
+    are_cores_distinct(cores) && has_no_mode_name(cores)
+}
+
+fn is_task_name(cores: &[CoreText], name: &str) -> bool
+    ensures { result ≡ is_task_name cores.now name.now }
+{
+    cores.iter().any(|core| core_has_name(name, core))
+}
+
+fn is_operation_known(cores: &[CoreText], text: &str) -> bool
+    ensures { result ≡ is_operation_known cores.now text.now }
+{
+    match form_of(text) {
+        Some(OpText::ActivateTask(Some(name))) => is_task_name(cores, name),
+        _ => true,
+    }
+}
+
+fn are_parts_known(cores: &[CoreText], script: &str) -> bool
+    ensures { result ≡ list_all (is_operation_known cores.now) (slice_split (λ b. b == 59) script.now) }
+{
+    script
+        .split(';')
+        .all(|text| is_operation_known(cores, text))
+}
+
+fn are_operations_known(cores: &[CoreText], script: &str) -> bool
+    ensures { result ≡ are_operations_known cores.now script.now }
+{
+    script.is_empty() || are_parts_known(cores, script)
+}
+
+fn is_mode_name(name: &str) -> bool
+    ensures { result ≡ is_mode_name name.now }
+{
+    name == MODE
+}
+
+fn are_mode_names(names: &[Name]) -> bool
+    ensures { result ≡ list_all is_mode_name names.now }
+{
+    names.iter().all(|name| is_mode_name(name.as_str()))
+}
+
+fn is_task_known(cores: &[CoreText], task: &TaskText) -> bool
+    ensures { result ≡ is_task_known cores.now task.now }
+{
+    are_mode_names(task.auto.as_slice()) && are_operations_known(cores, task.script.as_str())
+}
+
+fn is_core_known(cores: &[CoreText], core: &CoreText) -> bool
+    ensures { result ≡ is_core_known cores.now core.now }
+{
+    core.tasks
+        .as_slice()
+        .iter()
+        .all(|task| is_task_known(cores, task))
+}
+
+fn has_core(cores: &[CoreText], number: Whole) -> bool
+    ensures { result ≡ list_any (λ (core : Core). same_number core.id number) cores.now }
+{
+    cores.iter().any(|core| same_number(core.id, number))
+}
+
+fn are_cores_known(all: &[CoreText], cores: &[CoreText]) -> bool
+    ensures { result ≡ list_all (is_core_known all.now) cores.now }
+{
+    cores.iter().all(|core| is_core_known(all, core))
+}
+
+fn are_known(text: &ConfigText) -> bool
+    ensures { result ≡ are_known text.now }
+{
+    let cores = text.cores.as_slice();
+    has_core(cores, text.master) && are_cores_known(cores, cores)
+}
+
+fn is_operation(text: &str) -> bool
+    ensures { result ≡ is_operation text.now }
+{
+    form_of(text).is_some()
+}
+
+fn are_parts_operations(script: &str) -> bool
+    ensures { result ≡ list_all is_operation (slice_split (λ b. b == 59) script.now) }
+{
+    script.split(';').all(is_operation)
+}
+
+fn is_task_script(task: &TaskText) -> bool
+    ensures { result ≡ is_task_script task.now }
+{
+    let script = task.script.as_str();
+    script.is_empty() || are_parts_operations(script)
+}
+
+fn is_core_script(core: &CoreText) -> bool
+    ensures { result ≡ is_core_script core.now }
+{
+    core.tasks.as_slice().iter().all(is_task_script)
+}
+
+fn are_operations(text: &ConfigText) -> bool
+    ensures { result ≡ are_operations text.now }
+{
+    text.cores.as_slice().iter().all(is_core_script)
+}
+
+/// The text has none of the faults past its shape, or the smallest of those that it has.
+pub fn check(text: &ConfigText) -> Result<(), ConfFault>
+    ensures { MatchResult result (λ _. failing (tests_of text.now) ≡ [])
+        (λ fault. first_fault (failing (tests_of text.now)) ≡ Some fault) }
+{
+    if !is_within(text) {
+        return Err(ConfFault::Limit);
+    }
+    if !is_each_once(text) {
+        return Err(ConfFault::DuplicateName);
+    }
+    if !are_known(text) {
+        return Err(ConfFault::UnknownName);
+    }
+    if !are_operations(text) {
+        return Err(ConfFault::BadScript);
+    }
+    Ok(())
+}

@@ -1,0 +1,24 @@
+//! Reading: the configuration, the stimuli and the schedule of JSON texts.
+//!
+//! A text is judged in passes: whether it is JSON, its shape, and then a table of tests in ascending
+//! order of their faults, each defined apart from the others. So the fault that is answered is the one of
+//! smallest number. Want of memory is never taken for a fault of the text.
+#![tactic(auto)]
+
+mod checks;
+mod configs;
+mod faults;
+mod given;
+mod members;
+mod plans;
+mod scripts;
+mod shapes;
+#[cfg(test)]
+mod tests;
+mod words;
+
+pub use configs::read_config;
+pub use faults::ConfFault;
+pub use given::{read_schedule, read_stimuli};
+pub use osbase::{Schedule, Stimuli};
+pub use osplan::Config;

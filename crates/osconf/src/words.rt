@@ -1,0 +1,88 @@
+//! Names, numbers and the parts of a text.
+
+ghost use Rattle.std.specs.Prelude.{◌≡◌, ℕ, ◌==◌, IfOk, map, count_by, length, List};
+ghost use Rattle.std.specs.List.{list_all};
+ghost use Rattle.std.specs.Borrow.{Bor};
+ghost use Rattle.osconf.specs.Word.{parts_of, is_name, is_name_part, digit_of, two_digits, core_number};
+
+use std::alloc::{AllocError, Global};
+
+/// Whether a text has the form of a name: 1 to 128 letters, digits and underscores, a letter first.
+pub fn is_name(text: &str) -> bool
+    ensures { result ≡ is_name text.now }
+{
+    match text.as_bytes() {
+        [] => false,
+        [first, others @ ..] => {
+            first.is_ascii_alphabetic() && others.len() <= 127 && are_name_parts(others)
+        }
+    }
+}
+
+fn are_name_parts(text: &[u8]) -> bool
+    ensures { result ≡ list_all is_name_part text.now }
+{
+    text.iter().all(|c| is_name_part(*c))
+}
+
+fn is_name_part(c: u8) -> bool
+    ensures { result ≡ is_name_part c }
+{
+    c.is_ascii_alphanumeric() || c == b'_'
+}
+
+/// The value of a decimal digit.
+fn digit_of(c: u8) -> Option<u8>
+    ensures { result ≡ digit_of c }
+{
+    if c.is_ascii_digit() {
+        Some(c - b'0')
+    } else {
+        None
+    }
+}
+
+/// A core number in decimal, without a leading zero.
+pub fn core_number(digits: &[u8]) -> Option<u8>
+    ensures { result ≡ core_number digits.now }
+{
+    match digits {
+        [ones] => digit_of(*ones),
+        [b'0', _] => None,
+        [tens, ones] => two_digits(*tens, *ones),
+        _ => None,
+    }
+}
+
+fn two_digits(tens: u8, ones: u8) -> Option<u8>
+    ensures { result ≡ two_digits tens ones }
+{
+    let tens = digit_of(tens)?;
+    Some(10 * tens + digit_of(ones)?)
+}
+
+/// How many parts a text has between separators of one byte of ASCII. The empty text has none.
+pub fn part_count(text: &str, separator: u8) -> usize
+    ensures { result ≡ length (parts_of separator text.now) }
+{
+    if text.is_empty() {
+        return 0;
+    }
+    count_of(text.as_bytes(), separator) + 1
+}
+
+fn count_of(bytes: &[u8], byte: u8) -> usize
+    ensures { result ≡ count_by (λ b. b == byte) bytes.now }
+{
+    bytes.iter().filter(|b| **b == byte).count()
+}
+
+/// The words of a text, which are divided by one space. The empty text has none.
+pub fn words_of<'a>(alloc: Global, text: &'a str) -> Result<Vec<&'a str>, AllocError>
+    ensures { IfOk result (λ v. map (λ (word : Bor (List ℕ)). word.now) v.items ≡ parts_of 32 text.now) }
+{
+    if text.is_empty() {
+        return Ok(Vec::new(alloc));
+    }
+    text.split(' ').collect(alloc)
+}

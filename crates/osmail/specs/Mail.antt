@@ -1,0 +1,53 @@
+-- The mailboxes of all ordered pairs of cores, as contracts see them.
+use Rattle.std.specs.Prelude.{◌≡◌, ℕ, ◌+◌, ◌*◌, ◌<◌, ◌≤◌, nat_lt, Bool, if◌then◌else◌, Option, Result, Ok, Err, List, [], ◌∷◌, ◌++◌, length, drop, replicate, slice_get, slice_index_or, slice_set}
+use Rattle.osbase.specs.declared.references.CoreId.{CoreId}
+use Rattle.osbase.specs.declared.messages.Envelope.{Envelope}
+use Rattle.osbase.specs.declared.turns.TheConstants.{CORES}
+
+-- How many envelopes may stand in a mailbox, and the mailboxes, each with its oldest envelope first: the
+-- mailbox from core k to core d has the place 16 k + d. [own]
+pub record Mail : Type 0 where
+  pub cap : ℕ
+  pub boxes : List (List Envelope)
+
+-- The place of the mailbox of an ordered pair.
+abbrev pub place_of : CoreId → CoreId → ℕ
+place_of from to = from.number * CORES + to.number
+
+-- What stands in the mailbox of an ordered pair, the oldest envelope first.
+abbrev pub box_of : Mail → CoreId → CoreId → List Envelope
+box_of mail from to = slice_index_or mail.boxes (place_of from to) []
+
+-- The mailboxes with this in the one of the pair, and the others as they are.
+abbrev pub with_box : Mail → CoreId → CoreId → List Envelope → Mail
+with_box mail from to envelopes = record mail { boxes = slice_set mail.boxes (place_of from to) envelopes }
+
+-- Nothing stands in any mailbox.
+abbrev pub empty_mail : ℕ → Mail
+empty_mail cap = record { cap = cap; boxes = replicate (CORES * CORES) [] }
+
+-- Fewer than the cap stand in the mailbox.
+abbrev pub has_room : Mail → CoreId → CoreId → Bool
+has_room mail from to = nat_lt (length (box_of mail from to)) mail.cap
+
+-- A send puts the envelope behind the others, or changes nothing where the cap stand there.
+abbrev pub after_send : Mail → CoreId → CoreId → Envelope → Mail
+after_send mail from to envelope = if has_room mail from to then with_box mail from to (box_of mail from to ++ envelope ∷ []) else mail
+
+-- Its answer: the envelope comes back where the cap stand there.
+abbrev pub answer_of : Mail → CoreId → CoreId → Envelope → Result Unit Envelope
+answer_of mail from to envelope = if has_room mail from to then Ok tt else Err envelope
+
+-- A take gives the oldest envelope, if one stands there, and leaves the others.
+abbrev pub oldest_of : Mail → CoreId → CoreId → Option Envelope
+oldest_of mail from to = slice_get (box_of mail from to) 0
+
+abbrev pub after_take : Mail → CoreId → CoreId → Mail
+after_take mail from to = with_box mail from to (drop 1 (box_of mail from to))
+
+-- What holds of all mailboxes at all times: there is one for each pair, and at most the cap stand in each.
+pub record IsWithin (room cap : ℕ) (boxes : List (List Envelope)) : Type 0 where
+  pub some : 1 ≤ cap
+  pub fits : cap ≤ room
+  pub places : length boxes ≡ CORES * CORES
+  pub within : (k : ℕ) → k < CORES * CORES → length (slice_index_or boxes k []) ≤ cap

@@ -1,0 +1,138 @@
+//! The mailboxes of a listed run, in which one thread plays all cores.
+
+ghost use Rattle.std.specs.Prelude.{◌≡◌, ◌<◌, ◌≤◌, ◌==◌, ◌*◌, length, IfOk, OnErr};
+ghost use Rattle.osmail.specs.Mail.{after_send, after_take, answer_of, box_of, empty_mail, has_room, oldest_of, place_of};
+
+use crate::letters::Letters;
+use osbase::{CORES, CoreId, Envelope};
+use std::alloc::{AllocError, Global};
+use std::marker::Model;
+
+/// The mailboxes of every ordered pair of cores, each with place for `CAP` envelopes.
+#[derive(Drop)]
+pub struct ListMail<const CAP: usize> {
+    cap: usize,
+    boxes: Vec<Letters<CAP>>,
+}
+
+impl<const CAP: usize> Model for ListMail<CAP> {
+    ghost use Rattle.osmail.specs.Mail.{Mail, IsWithin};
+
+    ghost Value = { Mail };
+
+    ghost view = { λ m. record { cap = m.cap; boxes = m.boxes.items } };
+
+    ghost invariant = { λ m. IsWithin CAP m.cap m.boxes.items };
+}
+
+impl<const CAP: usize> ListMail<CAP> {
+    /// Empty mailboxes, in each of which at most `cap` envelopes may stand. All the memory that the
+    /// mailboxes ever need is taken here.
+    pub fn new(alloc: Global, cap: usize) -> Result<Self, AllocError>
+        requires some { 1 ≤ cap }
+        requires fits { cap ≤ CAP }
+        ensures { IfOk result (λ mail. mail ≡ empty_mail cap) }
+    {
+        let mut boxes = Vec::with_capacity(alloc, CORES * CORES)?;
+        for _place in 0..CORES * CORES {
+            boxes.push(Letters::new())?;
+        }
+        Ok(ListMail { cap, boxes })
+    }
+
+    /// Whether fewer than the cap stand in the mailbox from `from` to `to`.
+    pub fn room(&self, from: CoreId, to: CoreId) -> bool
+        requires sender { from.number < CORES }
+        requires receiver { to.number < CORES }
+        ensures answer { result ≡ has_room self.now from to }
+        ensures places { length self.now.boxes ≡ CORES * CORES }
+    {
+        let boxes = self.boxes.as_slice();
+        let letters = &boxes[place(from, to)];
+        letters.len() < self.cap
+    }
+
+    /// Puts an envelope behind the others in the mailbox from `from` to `to`, or hands it back and
+    /// changes nothing where the cap stand there.
+    pub fn send(&mut self, from: CoreId, to: CoreId, envelope: Envelope) -> Result<(), Envelope>
+        requires sender { from.number < CORES }
+        requires receiver { to.number < CORES }
+        ensures answer { result ≡ answer_of self.old from to envelope }
+        ensures after { self.new ≡ after_send self.old from to envelope }
+        ensures full { OnErr result (length (box_of self.old from to) ≡ self.old.cap) }
+        ensures places { length self.new.boxes ≡ CORES * CORES }
+    {
+        let cap = self.cap;
+        let letters = &mut self.boxes[place(from, to)];
+        if letters.len() >= cap {
+            return Err(envelope);
+        }
+        letters.push(envelope);
+        Ok(())
+    }
+
+    /// The oldest envelope of the mailbox from `from` to `to`, which stays there.
+    pub fn oldest(&self, to: CoreId, from: CoreId) -> Option<Envelope>
+        requires receiver { to.number < CORES }
+        requires sender { from.number < CORES }
+        ensures value { result ≡ oldest_of self.now from to }
+        ensures places { length self.now.boxes ≡ CORES * CORES }
+    {
+        let boxes = self.boxes.as_slice();
+        boxes[place(from, to)].front()
+    }
+
+    /// Takes the oldest envelope of the mailbox from `from` to `to`, if one stands there.
+    pub fn take(&mut self, to: CoreId, from: CoreId) -> Option<Envelope>
+        requires receiver { to.number < CORES }
+        requires sender { from.number < CORES }
+        ensures oldest { result ≡ oldest_of self.old from to }
+        ensures after { self.new ≡ after_take self.old from to }
+        ensures places { length self.new.boxes ≡ CORES * CORES }
+    {
+        self.boxes[place(from, to)].pop()
+    }
+}
+
+// The place of the mailbox of an ordered pair.
+fn place(from: CoreId, to: CoreId) -> usize
+    requires sender { from.number < CORES }
+    requires receiver { to.number < CORES }
+    ensures value { result ≡ place_of from to }
+    ensures below { result < CORES * CORES }
+{
+    usize::from(from.number) * CORES + usize::from(to.number)
+}
+
+#[cfg(test)]
+mod tests {
+    use super::*;
+    use osbase::{Message, Status};
+    use std::test::Fail;
+
+    fn envelope(number: u64) -> Envelope {
+        let message = Message::Reply {
+            status: Status::EOsLimit,
+            value: Some(-3),
+        };
+        Envelope { number, message }
+    }
+
+    #[test]
+    fn envelopes_leave_in_the_order_in_which_they_came(rt: HostRuntime) -> Result<(), Fail> {
+        let mut mail: ListMail<4> = ListMail::new(rt.alloc(), 2)?;
+        let (first, second) = (CoreId { number: 0 }, CoreId { number: 15 });
+        assert!(rt; mail.room(first, second));
+        assert_eq!(rt; mail.send(first, second, envelope(0)), Ok(()));
+        assert_eq!(rt; mail.send(second, first, envelope(7)), Ok(()));
+        assert_eq!(rt; mail.send(first, second, envelope(1)), Ok(()));
+        assert!(rt; !mail.room(first, second));
+        assert_eq!(rt; mail.send(first, second, envelope(2)), Err(envelope(2)));
+        assert_eq!(rt; mail.take(second, first), Some(envelope(0)));
+        assert_eq!(rt; mail.take(second, first), Some(envelope(1)));
+        assert_eq!(rt; mail.take(second, first), None);
+        assert_eq!(rt; mail.take(first, second), Some(envelope(7)));
+        assert_eq!(rt; mail.take(first, first), None);
+        Ok(())
+    }
+}

@@ -1,0 +1,3 @@
+pub mod Trace
+pub mod Taken
+pub mod Pieces

@@ -1,0 +1,142 @@
+-- The text of a trace: a block for each core, and in it a line for each mark.
+--
+-- A line is words divided by one space. An object is printed by its name in the configuration; an
+-- object that the configuration lacks has the empty name.
+use Rattle.std.specs.Prelude.{ℕ, ℤ, Option, Some, None, List, [], ◌∷◌, ◌++◌, codes, slice_get}
+use Rattle.std.specs.Fmt.{decimal, signed_decimal}
+use Rattle.std.specs.List.{flat_map}
+use Rattle.std.specs.Option.{option_map_or}
+use Rattle.osbase.specs.declared.references.CoreId.{CoreId}
+use Rattle.osbase.specs.declared.references.TaskRef.{TaskRef}
+use Rattle.osbase.specs.declared.references.IsrRef.{IsrRef}
+use Rattle.osbase.specs.declared.references.AlarmRef.{AlarmRef}
+use Rattle.osbase.specs.declared.references.TableRef.{TableRef}
+use Rattle.osbase.specs.declared.references.Variable.{Variable}
+use Rattle.osbase.specs.declared.references.Runner.{Runner}
+use Rattle.osbase.specs.declared.messages.RemoteCall.{RemoteCall}
+use Rattle.osbase.specs.declared.messages.RemoteCall.TheVariants as Call
+use Rattle.osbase.specs.declared.marks.Mark.{Mark}
+use Rattle.osbase.specs.declared.statuses.Status.{Status}
+use Rattle.osbase.specs.declared.statuses.ServiceId.TheVariants as Service
+use Rattle.osbase.specs.declared.turns.Report.{Report}
+use Rattle.osbase.specs.Words.{status_name, service_name}
+use Rattle.osplan.specs.declared.plans.Plan.{Plan}
+use Rattle.osplan.specs.declared.plans.Core.{Core}
+use Rattle.osplan.specs.declared.plans.Task.{Task}
+use Rattle.osplan.specs.declared.plans.Isr.{Isr}
+use Rattle.osplan.specs.declared.plans.Alarm.{Alarm}
+use Rattle.osplan.specs.declared.plans.Table.{Table}
+use Rattle.osplan.specs.View.{core_of}
+
+-- The name of an object: that of its place among its core's objects of its kind. [own]
+abbrev pub object_name : {A : Type 0} → (Core → List A) → (A → List ℕ) → Plan → CoreId → ℕ → List ℕ
+object_name objects name plan core index =
+    option_map_or (λ (c : Core). option_map_or name (slice_get (objects c) index) []) (core_of plan core) []
+
+abbrev pub task_name : Plan → TaskRef → List ℕ
+task_name plan t = object_name (λ (c : Core). c.tasks) (λ (x : Task). x.name) plan t.core t.index
+
+abbrev pub isr_name : Plan → IsrRef → List ℕ
+isr_name plan i = object_name (λ (c : Core). c.isrs) (λ (x : Isr). x.name) plan i.core i.index
+
+abbrev pub alarm_name : Plan → AlarmRef → List ℕ
+alarm_name plan a = object_name (λ (c : Core). c.alarms) (λ (x : Alarm). x.name) plan a.core a.index
+
+abbrev pub table_name : Plan → TableRef → List ℕ
+table_name plan s = object_name (λ (c : Core). c.tables) (λ (x : Table). x.name) plan s.core s.index
+
+abbrev pub runner_name : Plan → Runner → List ℕ
+runner_name plan (Runner.Task t) = task_name plan t
+runner_name plan (Runner.Isr i) = isr_name plan i
+
+-- A variable is `v` and its number. [own]
+abbrev pub variable_name : Variable → List ℕ
+variable_name x = codes "v" ++ decimal x.index
+
+-- The words of a call that goes to another core: the operation as a script has it. [own]
+abbrev pub call_words : Plan → RemoteCall → List (List ℕ)
+call_words plan (Call.ActivateTask t) = service_name Service.ActivateTask ∷ task_name plan t ∷ []
+call_words plan (Call.SetEvent t mask) = service_name Service.SetEvent ∷ task_name plan t ∷ decimal mask ∷ []
+call_words plan (Call.SetRelAlarm a increment cycle) =
+    service_name Service.SetRelAlarm ∷ alarm_name plan a ∷ decimal increment ∷ decimal cycle ∷ []
+call_words plan (Call.SetAbsAlarm a start cycle) =
+    service_name Service.SetAbsAlarm ∷ alarm_name plan a ∷ decimal start ∷ decimal cycle ∷ []
+call_words plan (Call.CancelAlarm a) = service_name Service.CancelAlarm ∷ alarm_name plan a ∷ []
+call_words plan (Call.GetAlarm a x) = service_name Service.GetAlarm ∷ alarm_name plan a ∷ variable_name x ∷ []
+
+-- A value that is there is a word.
+abbrev pub value_words : Option ℤ → List (List ℕ)
+value_words None = []
+value_words (Some n) = signed_decimal n ∷ []
+
+-- A status, and the value that is there.
+abbrev pub answer_words : Status → Option ℤ → List (List ℕ)
+answer_words status value = status_name status ∷ value_words value
+
+-- The words of a mark's line.
+-- [own; hooks and services as OSEK/VDX OS 2.2.3 and AUTOSAR SWS OS 4.x name them]
+abbrev pub words_of : Plan → Mark → List (List ℕ)
+words_of plan (Mark.CoreStarted core status) = codes "start" ∷ decimal core.number ∷ status_name status ∷ []
+words_of plan Mark.ModesConflict = codes "conflict" ∷ []
+words_of plan Mark.StartupHook = codes "hook" ∷ codes "Startup" ∷ []
+words_of plan (Mark.ErrorHook status) = codes "hook" ∷ codes "Error" ∷ status_name status ∷ []
+words_of plan (Mark.ProtectionHook status) = codes "hook" ∷ codes "Protection" ∷ status_name status ∷ []
+words_of plan (Mark.ShutdownHook status) = codes "hook" ∷ codes "Shutdown" ∷ status_name status ∷ []
+words_of plan (Mark.Activated t) = codes "act" ∷ task_name plan t ∷ []
+words_of plan (Mark.Terminated t) = codes "end" ∷ task_name plan t ∷ []
+words_of plan (Mark.PreTaskHook t) = codes "pre" ∷ task_name plan t ∷ []
+words_of plan (Mark.PostTaskHook t) = codes "post" ∷ task_name plan t ∷ []
+words_of plan (Mark.EventSet t mask) = codes "ev" ∷ task_name plan t ∷ decimal mask ∷ []
+words_of plan (Mark.EventCleared t mask) = codes "clr" ∷ task_name plan t ∷ decimal mask ∷ []
+words_of plan (Mark.EventAwaited t mask) = codes "wait" ∷ task_name plan t ∷ decimal mask ∷ []
+words_of plan (Mark.Released t) = codes "free" ∷ task_name plan t ∷ []
+words_of plan (Mark.InterruptAccepted i) = codes "irq" ∷ isr_name plan i ∷ []
+words_of plan (Mark.InterruptLost i) = codes "lost" ∷ isr_name plan i ∷ []
+words_of plan (Mark.IsrEntered i) = codes "enter" ∷ isr_name plan i ∷ []
+words_of plan (Mark.IsrLeft i) = codes "leave" ∷ isr_name plan i ∷ []
+words_of plan Mark.Tick = codes "tick" ∷ []
+words_of plan (Mark.AlarmExpired a) = codes "alarm" ∷ alarm_name plan a ∷ []
+words_of plan (Mark.ExpiryPoint s offset) = codes "point" ∷ table_name plan s ∷ decimal offset ∷ []
+words_of plan (Mark.TableStopped s) = codes "stop" ∷ table_name plan s ∷ []
+words_of plan (Mark.TableBegun s) = codes "begin" ∷ table_name plan s ∷ []
+words_of plan (Mark.CallPosted core call) = codes "out" ∷ decimal core.number ∷ call_words plan call
+words_of plan (Mark.CallServed core call status value) =
+    codes "in" ∷ decimal core.number ∷ (call_words plan call ++ answer_words status value)
+words_of plan (Mark.ServiceReturned runner service status value) =
+    codes "stat" ∷ runner_name plan runner ∷ service_name service ∷ answer_words status value
+words_of plan (Mark.VariableSet runner variable value) =
+    codes "var" ∷ runner_name plan runner ∷ variable_name variable ∷ signed_decimal value ∷ []
+words_of plan (Mark.Halted core status) = codes "halt" ∷ decimal core.number ∷ status_name status ∷ []
+
+-- Words, each after a space.
+abbrev pub led : List (List ℕ) → List ℕ
+led words = flat_map (λ word. codes " " ++ word) words
+
+-- Words divided by one space.
+abbrev pub spaced : List (List ℕ) → List ℕ
+spaced [] = []
+spaced (word ∷ words) = word ++ led words
+
+-- The line of a mark, without its end. [own]
+abbrev pub line_of : Plan → Mark → List ℕ
+line_of plan mark = spaced (words_of plan mark)
+
+-- A line end.
+abbrev pub line_end : List ℕ
+line_end = codes "\n"
+
+-- The line that a block begins with. [own]
+abbrev pub title_of : CoreId → List ℕ
+title_of core = spaced (codes "core" ∷ decimal core.number ∷ [])
+
+-- The lines of marks, each with its end.
+abbrev pub lines_of : Plan → List Mark → List ℕ
+lines_of plan marks = flat_map (λ mark. line_of plan mark ++ line_end) marks
+
+-- A core's block: the line `core K`, and the lines of its marks in order. [own]
+abbrev pub block_of : Plan → Report → List ℕ
+block_of plan report = (title_of report.core ++ line_end) ++ lines_of plan report.marks
+
+-- The text of reports: their blocks in the order of the list. [own]
+abbrev pub text_of : Plan → List Report → List ℕ
+text_of plan reports = flat_map (block_of plan) reports

@@ -1,0 +1,14 @@
+//! The text of a trace, and where it is written to.
+#![tactic(auto)]
+
+mod lines;
+mod names;
+pub mod reports;
+pub mod sinks;
+mod words;
+
+pub use reports::write_reports;
+pub use sinks::{MemorySink, Sink, WriteFailed, WriteSink, write_all};
+
+#[cfg(test)]
+mod tests;

@@ -1,0 +1,319 @@
+//! The lines of a trace.
+
+ghost use Rattle.std.specs.Prelude.{◌≡◌, ◌^◌, ◌<◌, ◌++◌, ◌∷◌, [], codes};
+ghost use Rattle.std.specs.Fmt.{decimal, signed_decimal};
+ghost use Rattle.osbase.specs.Words.{service_name, status_name};
+ghost use Rattle.ostrace.specs.Taken.{Writes};
+ghost use Rattle.ostrace.specs.Trace.{answer_words, call_words, isr_name, led, line_of, spaced, table_name, task_name, variable_name};
+
+use crate::names::{name_of_alarm, name_of_isr, name_of_runner, name_of_table, name_of_task};
+use crate::sinks::{Sink, WriteFailed};
+use crate::words::{Word, write_led, write_words};
+use osbase::{CoreId, IsrRef, Mark, RemoteCall, ServiceId, Status, TableRef, TaskRef, Variable};
+use osplan::Plan;
+
+fn write_word_alone<S: Sink>(out: &mut S, word: &str) -> Result<(), WriteFailed>
+    requires { S.failed out.old < 2 ^ 48 }
+    ensures { Writes S.taken S.failed out.old out.new word.now result }
+{
+    write_words(out, word, &[])
+}
+
+fn write_hook<S: Sink>(out: &mut S, hook: &str, status: Status) -> Result<(), WriteFailed>
+    requires { S.failed out.old < 2 ^ 48 }
+    ensures { Writes S.taken S.failed out.old out.new
+        (spaced (codes "hook" ∷ hook.now ∷ status_name status ∷ [])) result }
+{
+    write_words(out, "hook", &[Word::Text(hook), Word::Text(status.name())])
+}
+
+fn write_core<S: Sink>(
+    out: &mut S,
+    verb: &str,
+    core: CoreId,
+    status: Status,
+) -> Result<(), WriteFailed>
+    requires { S.failed out.old < 2 ^ 48 }
+    ensures { Writes S.taken S.failed out.old out.new
+        (spaced (verb.now ∷ decimal core.number ∷ status_name status ∷ [])) result }
+{
+    let core = Word::Whole(u32::from(core.number));
+    write_words(out, verb, &[core, Word::Text(status.name())])
+}
+
+fn write_name<S: Sink>(out: &mut S, verb: &str, name: &str) -> Result<(), WriteFailed>
+    requires { S.failed out.old < 2 ^ 48 }
+    ensures { Writes S.taken S.failed out.old out.new (spaced (verb.now ∷ name.now ∷ [])) result }
+{
+    write_words(out, verb, &[Word::Text(name)])
+}
+
+fn write_number<S: Sink>(
+    out: &mut S,
+    verb: &str,
+    name: &str,
+    number: u32,
+) -> Result<(), WriteFailed>
+    requires { S.failed out.old < 2 ^ 48 }
+    ensures { Writes S.taken S.failed out.old out.new
+        (spaced (verb.now ∷ name.now ∷ decimal number ∷ [])) result }
+{
+    write_words(out, verb, &[Word::Text(name), Word::Whole(number)])
+}
+
+fn write_task<S: Sink>(
+    plan: &Plan,
+    out: &mut S,
+    verb: &str,
+    task: TaskRef,
+) -> Result<(), WriteFailed>
+    requires { S.failed out.old < 2 ^ 48 }
+    ensures { Writes S.taken S.failed out.old out.new
+        (spaced (verb.now ∷ task_name plan.now task ∷ [])) result }
+{
+    write_name(out, verb, name_of_task(plan, task))
+}
+
+fn write_isr<S: Sink>(plan: &Plan, out: &mut S, verb: &str, isr: IsrRef) -> Result<(), WriteFailed>
+    requires { S.failed out.old < 2 ^ 48 }
+    ensures { Writes S.taken S.failed out.old out.new
+        (spaced (verb.now ∷ isr_name plan.now isr ∷ [])) result }
+{
+    write_name(out, verb, name_of_isr(plan, isr))
+}
+
+fn write_events<S: Sink>(
+    plan: &Plan,
+    out: &mut S,
+    verb: &str,
+    task: TaskRef,
+    mask: u32,
+) -> Result<(), WriteFailed>
+    requires { S.failed out.old < 2 ^ 48 }
+    ensures { Writes S.taken S.failed out.old out.new
+        (spaced (verb.now ∷ task_name plan.now task ∷ decimal mask ∷ [])) result }
+{
+    write_number(out, verb, name_of_task(plan, task), mask)
+}
+
+fn write_point<S: Sink>(
+    plan: &Plan,
+    out: &mut S,
+    table: TableRef,
+    offset: u32,
+) -> Result<(), WriteFailed>
+    requires { S.failed out.old < 2 ^ 48 }
+    ensures { Writes S.taken S.failed out.old out.new
+        (spaced (codes "point" ∷ table_name plan.now table ∷ decimal offset ∷ [])) result }
+{
+    write_number(out, "point", name_of_table(plan, table), offset)
+}
+
+fn write_variable<S: Sink>(
+    out: &mut S,
+    runner: &str,
+    variable: Variable,
+    value: i64,
+) -> Result<(), WriteFailed>
+    requires { S.failed out.old < 2 ^ 48 }
+    ensures { Writes S.taken S.failed out.old out.new
+        (spaced (codes "var" ∷ runner.now ∷ variable_name variable
+        ∷ signed_decimal value ∷ [])) result }
+{
+    let variable = Word::Variable(variable.index);
+    write_words(
+        out,
+        "var",
+        &[Word::Text(runner), variable, Word::Signed(value)],
+    )
+}
+
+// A status, and the value if there is one, each after a space.
+fn write_answer<S: Sink>(out: &mut S, status: Status, value: Option<i64>) -> Result<(), WriteFailed>
+    requires { S.failed out.old < 2 ^ 48 }
+    ensures { Writes S.taken S.failed out.old out.new (led (answer_words status value)) result }
+{
+    let status = Word::Text(status.name());
+    match value {
+        Some(value) => write_led(out, &[status, Word::Signed(value)]),
+        None => write_led(out, &[status]),
+    }
+}
+
+fn write_alarm_call<S: Sink>(
+    out: &mut S,
+    service: ServiceId,
+    alarm: &str,
+    first: u32,
+    cycle: u32,
+) -> Result<(), WriteFailed>
+    requires { S.failed out.old < 2 ^ 48 }
+    ensures { Writes S.taken S.failed out.old out.new
+        (led (service_name service ∷ alarm.now ∷ decimal first ∷ decimal cycle ∷ [])) result }
+{
+    let service = Word::Text(service.name());
+    let (first, cycle) = (Word::Whole(first), Word::Whole(cycle));
+    write_led(out, &[service, Word::Text(alarm), first, cycle])
+}
+
+// The words of a call, each after a space.
+fn write_call<S: Sink>(plan: &Plan, out: &mut S, call: RemoteCall) -> Result<(), WriteFailed>
+    requires { S.failed out.old < 2 ^ 48 }
+    ensures { Writes S.taken S.failed out.old out.new (led (call_words plan.now call)) result }
+{
+    match call {
+        RemoteCall::ActivateTask(task) => {
+            let name = Word::Text(name_of_task(plan, task));
+            write_led(out, &[Word::Text(ServiceId::ActivateTask.name()), name])
+        }
+        RemoteCall::SetEvent { task, mask } => {
+            let name = Word::Text(name_of_task(plan, task));
+            let service = Word::Text(ServiceId::SetEvent.name());
+            write_led(out, &[service, name, Word::Whole(mask)])
+        }
+        RemoteCall::SetRelAlarm {
+            alarm,
+            increment,
+            cycle,
+        } => {
+            let name = name_of_alarm(plan, alarm);
+            write_alarm_call(out, ServiceId::SetRelAlarm, name, increment, cycle)
+        }
+        RemoteCall::SetAbsAlarm {
+            alarm,
+            start,
+            cycle,
+        } => {
+            let name = name_of_alarm(plan, alarm);
+            write_alarm_call(out, ServiceId::SetAbsAlarm, name, start, cycle)
+        }
+        RemoteCall::CancelAlarm(alarm) => {
+            let name = Word::Text(name_of_alarm(plan, alarm));
+            write_led(out, &[Word::Text(ServiceId::CancelAlarm.name()), name])
+        }
+        RemoteCall::GetAlarm { alarm, variable } => {
+            let name = Word::Text(name_of_alarm(plan, alarm));
+            let service = Word::Text(ServiceId::GetAlarm.name());
+            write_led(out, &[service, name, Word::Variable(variable.index)])
+        }
+    }
+}
+
+fn write_verb_and_core<S: Sink>(out: &mut S, verb: &str, core: CoreId) -> Result<(), WriteFailed>
+    requires { S.failed out.old < 2 ^ 48 }
+    ensures { Writes S.taken S.failed out.old out.new
+        (spaced (verb.now ∷ decimal core.number ∷ [])) result }
+{
+    write_words(out, verb, &[Word::Whole(u32::from(core.number))])
+}
+
+fn write_remote<S: Sink>(
+    plan: &Plan,
+    out: &mut S,
+    verb: &str,
+    core: CoreId,
+    call: RemoteCall,
+) -> Result<(), WriteFailed>
+    requires { S.failed out.old < 2 ^ 48 }
+    ensures { Writes S.taken S.failed out.old out.new
+        (spaced (verb.now ∷ decimal core.number ∷ call_words plan.now call)) result }
+{
+    write_verb_and_core(out, verb, core)?;
+    write_call(plan, out, call)
+}
+
+fn write_service<S: Sink>(out: &mut S, runner: &str, service: ServiceId) -> Result<(), WriteFailed>
+    requires { S.failed out.old < 2 ^ 48 }
+    ensures { Writes S.taken S.failed out.old out.new
+        (spaced (codes "stat" ∷ runner.now ∷ service_name service ∷ [])) result }
+{
+    write_words(
+        out,
+        "stat",
+        &[Word::Text(runner), Word::Text(service.name())],
+    )
+}
+
+fn write_served<S: Sink>(
+    plan: &Plan,
+    out: &mut S,
+    core: CoreId,
+    call: RemoteCall,
+    status: Status,
+    value: Option<i64>,
+) -> Result<(), WriteFailed>
+    requires { S.failed out.old < 2 ^ 48 }
+    ensures { Writes S.taken S.failed out.old out.new
+        (spaced (codes "in" ∷ decimal core.number
+        ∷ (call_words plan.now call ++ answer_words status value))) result }
+{
+    write_remote(plan, out, "in", core, call)?;
+    write_answer(out, status, value)
+}
+
+fn write_returned<S: Sink>(
+    out: &mut S,
+    runner: &str,
+    service: ServiceId,
+    status: Status,
+    value: Option<i64>,
+) -> Result<(), WriteFailed>
+    requires { S.failed out.old < 2 ^ 48 }
+    ensures { Writes S.taken S.failed out.old out.new
+        (spaced (codes "stat" ∷ runner.now ∷ service_name service
+        ∷ answer_words status value)) result }
+{
+    write_service(out, runner, service)?;
+    write_answer(out, status, value)
+}
+
+/// Writes the line of a mark, without its end.
+pub fn write_line<S: Sink>(plan: &Plan, out: &mut S, mark: &Mark) -> Result<(), WriteFailed>
+    requires { S.failed out.old < 2 ^ 48 }
+    ensures { Writes S.taken S.failed out.old out.new (line_of plan.now mark.now) result }
+{
+    match *mark {
+        Mark::CoreStarted { core, status } => write_core(out, "start", core, status),
+        Mark::ModesConflict => write_word_alone(out, "conflict"),
+        Mark::StartupHook => write_name(out, "hook", "Startup"),
+        Mark::ErrorHook(status) => write_hook(out, "Error", status),
+        Mark::ProtectionHook(status) => write_hook(out, "Protection", status),
+        Mark::ShutdownHook(status) => write_hook(out, "Shutdown", status),
+        Mark::Activated(task) => write_task(plan, out, "act", task),
+        Mark::Terminated(task) => write_task(plan, out, "end", task),
+        Mark::PreTaskHook(task) => write_task(plan, out, "pre", task),
+        Mark::PostTaskHook(task) => write_task(plan, out, "post", task),
+        Mark::EventSet { task, mask } => write_events(plan, out, "ev", task, mask),
+        Mark::EventCleared { task, mask } => write_events(plan, out, "clr", task, mask),
+        Mark::EventAwaited { task, mask } => write_events(plan, out, "wait", task, mask),
+        Mark::Released(task) => write_task(plan, out, "free", task),
+        Mark::InterruptAccepted(isr) => write_isr(plan, out, "irq", isr),
+        Mark::InterruptLost(isr) => write_isr(plan, out, "lost", isr),
+        Mark::IsrEntered(isr) => write_isr(plan, out, "enter", isr),
+        Mark::IsrLeft(isr) => write_isr(plan, out, "leave", isr),
+        Mark::Tick => write_word_alone(out, "tick"),
+        Mark::AlarmExpired(alarm) => write_name(out, "alarm", name_of_alarm(plan, alarm)),
+        Mark::ExpiryPoint { table, offset } => write_point(plan, out, table, offset),
+        Mark::TableStopped(table) => write_name(out, "stop", name_of_table(plan, table)),
+        Mark::TableBegun(table) => write_name(out, "begin", name_of_table(plan, table)),
+        Mark::CallPosted { core, call } => write_remote(plan, out, "out", core, call),
+        Mark::CallServed {
+            core,
+            call,
+            status,
+            value,
+        } => write_served(plan, out, core, call, status, value),
+        Mark::ServiceReturned {
+            runner,
+            service,
+            status,
+            value,
+        } => write_returned(out, name_of_runner(plan, runner), service, status, value),
+        Mark::VariableSet {
+            runner,
+            variable,
+            value,
+        } => write_variable(out, name_of_runner(plan, runner), variable, value),
+        Mark::Halted { core, status } => write_core(out, "halt", core, status),
+    }
+}

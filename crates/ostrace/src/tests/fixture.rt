@@ -1,0 +1,165 @@
+//! A configuration with an object of each kind, two reports, and a sink that fails.
+
+ghost use Rattle.std.specs.Prelude.{◌≡◌, IfOk, IsTrue, Some};
+
+use crate::sinks::Sink;
+use osbase::{CoreId, List, Mark, ModeId, Name, RemoteCall, Report, Status, TaskRef};
+use osplan::{Alarm, Config, Core, CoreMode, Isr, Plan, Table, Task};
+use std::alloc::{AllocError, Global};
+
+/// Core 0 has the task A, the ISR I1, the alarm L and the table S1; core 1 has the task Blink.
+pub fn plan(alloc: Global) -> Result<Plan, AllocError> {
+    let mut modes = List::new(alloc);
+    modes.push(Name::new(alloc, "M")?)?;
+    let mut cores = List::new(alloc);
+    cores.push(full_core(alloc)?)?;
+    cores.push(core(alloc, 1, task(alloc, "Blink")?)?)?;
+    Ok(Plan {
+        cap: 16,
+        master: CoreId { number: 0 },
+        modes,
+        cores,
+    })
+}
+
+fn task(alloc: Global, name: &str) -> Result<Task, AllocError> {
+    Ok(Task {
+        name: Name::new(alloc, name)?,
+        priority: 1,
+        auto: List::new(alloc),
+        activations: 1,
+        script: List::new(alloc),
+    })
+}
+
+fn core(alloc: Global, number: u8, only: Task) -> Result<Core, AllocError> {
+    let mut tasks = List::new(alloc);
+    tasks.push(only)?;
+    Ok(Core {
+        id: CoreId { number },
+        mode: CoreMode::Named(ModeId { index: 0 }),
+        start: List::new(alloc),
+        tasks,
+        isrs: List::new(alloc),
+        alarms: List::new(alloc),
+        tables: List::new(alloc),
+    })
+}
+
+fn full_core(alloc: Global) -> Result<Core, AllocError> {
+    let mut core = core(alloc, 0, task(alloc, "A")?)?;
+    core.isrs.push(Isr {
+        name: Name::new(alloc, "I1")?,
+    })?;
+    core.alarms.push(Alarm {
+        name: Name::new(alloc, "L")?,
+    })?;
+    core.tables.push(Table {
+        name: Name::new(alloc, "S1")?,
+    })?;
+    Ok(core)
+}
+
+fn report(alloc: Global, number: u8, marks: List<Mark>) -> Report
+    ensures { result.marks ≡ marks }
+{
+    Report {
+        core: CoreId { number },
+        items: List::new(alloc),
+        marks,
+        ended: true,
+    }
+}
+
+/// What core 0 does to activate the task of core 1.
+pub fn reports(alloc: Global) -> Result<Vec<Report>, AllocError> {
+    let (zero, one) = (CoreId { number: 0 }, CoreId { number: 1 });
+    let task = TaskRef {
+        core: zero,
+        index: 0,
+    };
+    let blink = TaskRef {
+        core: one,
+        index: 0,
+    };
+    let call = RemoteCall::ActivateTask(blink);
+    let posted = Mark::CallPosted { core: one, call };
+    let served = Mark::CallServed {
+        core: zero,
+        call,
+        status: Status::EOk,
+        value: None,
+    };
+    let first = vec![in alloc; Mark::StartupHook, Mark::Activated(task), posted]?;
+    let second = vec![in alloc; Mark::Activated(blink), served]?;
+    let mut reports = Vec::new(alloc);
+    reports.push(report(alloc, 0, List::from_vec(first)))?;
+    reports.push(report(alloc, 1, List::from_vec(second)))?;
+    Ok(reports)
+}
+
+/// A configuration within the limits, of one core that has no object.
+pub fn bare_config(alloc: Global) -> Result<Config, AllocError> {
+    let modes = List::from_vec(vec![in alloc; Name::new(alloc, "M")?]?);
+    let core = Core {
+        id: CoreId { number: 0 },
+        mode: CoreMode::Named(ModeId { index: 0 }),
+        start: List::new(alloc),
+        tasks: List::new(alloc),
+        isrs: List::new(alloc),
+        alarms: List::new(alloc),
+        tables: List::new(alloc),
+    };
+    let cores = List::from_vec(vec![in alloc; core]?);
+    Ok(Config::new(Plan {
+        cap: 16,
+        master: CoreId { number: 0 },
+        modes,
+        cores,
+    }))
+}
+
+/// A report that names no object.
+pub fn bare_reports(alloc: Global) -> Result<Vec<Report>, AllocError> {
+    let marks = List::from_vec(vec![in alloc; Mark::StartupHook, Mark::Tick]?);
+    Ok(vec![in alloc; report(alloc, 0, marks)]?)
+}
+
+/// Takes at most three bytes a write, and fails after a number of writes.
+#[derive(Drop)]
+pub struct FailingSink {
+    pub bytes: Vec<u8>,
+    pub left: u64,
+    pub failed: u64,
+}
+
+impl FailingSink {
+    pub fn new(alloc: Global, left: u64) -> Self
+        ensures { result.failed ≡ 0 }
+    {
+        FailingSink {
+            bytes: Vec::new(alloc),
+            left,
+            failed: 0,
+        }
+    }
+}
+
+impl Sink for FailingSink {
+    ghost taken = { λ s. Some s.bytes.items };
+
+    ghost failed = { λ s. s.failed };
+
+    fn write(&mut self, bytes: &[u8]) -> Option<usize> {
+        let count = bytes.len().min(3);
+        if bytes.is_empty() {
+            return Some(0);
+        }
+        if self.left > 0 && self.bytes.extend_from_slice(&bytes[..count]).is_ok() {
+            self.left -= 1;
+            return Some(count);
+        }
+        self.failed += 1;
+        None
+    }
+}

@@ -1,0 +1,197 @@
+//! Marks, and the lines that the trace's format has for them.
+
+use osbase::{
+    AlarmRef, CoreId, IsrRef, Mark, RemoteCall, Runner, ServiceId, Status, TableRef, TaskRef,
+    Variable,
+};
+
+const ZERO: CoreId = CoreId { number: 0 };
+
+const ONE: CoreId = CoreId { number: 1 };
+
+const TASK: TaskRef = TaskRef {
+    core: ZERO,
+    index: 0,
+};
+
+const OTHER: TaskRef = TaskRef {
+    core: ONE,
+    index: 0,
+};
+
+const ISR: IsrRef = IsrRef {
+    core: ZERO,
+    index: 0,
+};
+
+const ALARM: AlarmRef = AlarmRef {
+    core: ZERO,
+    index: 0,
+};
+
+const TABLE: TableRef = TableRef {
+    core: ZERO,
+    index: 0,
+};
+
+fn started(core: CoreId, status: Status) -> Mark {
+    Mark::CoreStarted { core, status }
+}
+
+/// Lines of a core's start, its hooks and its end.
+pub fn hooks() -> [(Mark, &'static str); 8] {
+    let halted = Mark::Halted {
+        core: ONE,
+        status: Status::EOsState,
+    };
+    [
+        (started(ONE, Status::EOk), "start 1 E_OK"),
+        (
+            started(CoreId { number: 255 }, Status::EOsId),
+            "start 255 E_OS_ID",
+        ),
+        (Mark::ModesConflict, "conflict"),
+        (Mark::StartupHook, "hook Startup"),
+        (
+            Mark::ErrorHook(Status::EOsNestingDeadlock),
+            "hook Error E_OS_NESTING_DEADLOCK",
+        ),
+        (
+            Mark::ProtectionHook(Status::EOsProtectionTime),
+            "hook Protection E_OS_PROTECTION_TIME",
+        ),
+        (Mark::ShutdownHook(Status::EOk), "hook Shutdown E_OK"),
+        (halted, "halt 1 E_OS_STATE"),
+    ]
+}
+
+/// Lines of tasks and their events.
+pub fn tasks() -> [(Mark, &'static str); 9] {
+    let set = Mark::EventSet {
+        task: TASK,
+        mask: 4294967295,
+    };
+    let cleared = Mark::EventCleared {
+        task: TASK,
+        mask: 1,
+    };
+    let awaited = Mark::EventAwaited {
+        task: OTHER,
+        mask: 10,
+    };
+    [
+        (Mark::Activated(TASK), "act A"),
+        (Mark::Terminated(OTHER), "end Blink"),
+        (Mark::PreTaskHook(TASK), "pre A"),
+        (Mark::PostTaskHook(TASK), "post A"),
+        (set, "ev A 4294967295"),
+        (cleared, "clr A 1"),
+        (awaited, "wait Blink 10"),
+        (Mark::Released(TASK), "free A"),
+        (Mark::Tick, "tick"),
+    ]
+}
+
+/// Lines of ISRs, alarms and schedule tables.
+pub fn objects() -> [(Mark, &'static str); 8] {
+    let point = Mark::ExpiryPoint {
+        table: TABLE,
+        offset: 0,
+    };
+    [
+        (Mark::InterruptAccepted(ISR), "irq I1"),
+        (Mark::InterruptLost(ISR), "lost I1"),
+        (Mark::IsrEntered(ISR), "enter I1"),
+        (Mark::IsrLeft(ISR), "leave I1"),
+        (Mark::AlarmExpired(ALARM), "alarm L"),
+        (point, "point S1 0"),
+        (Mark::TableStopped(TABLE), "stop S1"),
+        (Mark::TableBegun(TABLE), "begin S1"),
+    ]
+}
+
+fn posted(call: RemoteCall) -> Mark {
+    Mark::CallPosted { core: ONE, call }
+}
+
+fn served(call: RemoteCall, status: Status, value: Option<i64>) -> Mark {
+    Mark::CallServed {
+        core: ZERO,
+        call,
+        status,
+        value,
+    }
+}
+
+/// Lines of calls that go from core to core.
+pub fn calls() -> [(Mark, &'static str); 8] {
+    let set = RemoteCall::SetEvent {
+        task: OTHER,
+        mask: 3,
+    };
+    let relative = RemoteCall::SetRelAlarm {
+        alarm: ALARM,
+        increment: 2,
+        cycle: 0,
+    };
+    let absolute = RemoteCall::SetAbsAlarm {
+        alarm: ALARM,
+        start: 7,
+        cycle: 9,
+    };
+    let get = RemoteCall::GetAlarm {
+        alarm: ALARM,
+        variable: Variable { index: 7 },
+    };
+    let activate = RemoteCall::ActivateTask(OTHER);
+    [
+        (posted(activate), "out 1 ActivateTask Blink"),
+        (posted(set), "out 1 SetEvent Blink 3"),
+        (posted(relative), "out 1 SetRelAlarm L 2 0"),
+        (posted(absolute), "out 1 SetAbsAlarm L 7 9"),
+        (
+            posted(RemoteCall::CancelAlarm(ALARM)),
+            "out 1 CancelAlarm L",
+        ),
+        (posted(get), "out 1 GetAlarm L v7"),
+        (
+            served(activate, Status::EOsLimit, None),
+            "in 0 ActivateTask Blink E_OS_LIMIT",
+        ),
+        (
+            served(get, Status::EOk, Some(12)),
+            "in 0 GetAlarm L v7 E_OK 12",
+        ),
+    ]
+}
+
+fn returned(runner: Runner, service: ServiceId, status: Status, value: Option<i64>) -> Mark {
+    Mark::ServiceReturned {
+        runner,
+        service,
+        status,
+        value,
+    }
+}
+
+fn variable(runner: Runner, value: i64) -> Mark {
+    Mark::VariableSet {
+        runner,
+        variable: Variable { index: 0 },
+        value,
+    }
+}
+
+/// Lines of what a job's services and operations came to.
+pub fn services() -> [(Mark, &'static str); 5] {
+    let (task, isr) = (Runner::Task(TASK), Runner::Isr(ISR));
+    let activated = returned(isr, ServiceId::ActivateTask, Status::EOk, None);
+    let value = returned(task, ServiceId::GetCounterValue, Status::EOk, Some(2));
+    [
+        (activated, "stat I1 ActivateTask E_OK"),
+        (value, "stat A GetCounterValue E_OK 2"),
+        (variable(task, 3), "var A v0 3"),
+        (variable(task, i64::MAX), "var A v0 9223372036854775807"),
+        (variable(isr, i64::MIN), "var I1 v0 -9223372036854775808"),
+    ]
+}
