@@ -3,7 +3,7 @@
 -- A service answers the status of the first check that fails, or E_OK, and then has its effect. An
 -- effect is a function from history to history. The lines of a call are: effects, the status, the
 -- error hook, and then dispatch.
-use Rattle.std.specs.Prelude.{ℕ, ℤ, ◌&&◌, Bool, true, false, not, if◌then◌else◌, Option, Some, None, is_none, List, [], ◌∷◌}
+use Rattle.std.specs.Prelude.{ℤ, ◌&&◌, Bool, true, false, not, if◌then◌else◌, Option, Some, None, is_none, List, [], ◌∷◌}
 use Rattle.std.specs.Option.{option_map_or}
 use Rattle.osbase.specs.declared.statuses.Status.{Status}
 use Rattle.osbase.specs.declared.statuses.Status.TheVariants.{EOk, EOsCallevel, EOsId, EOsLimit, EOsMissingend, EOsCore}
@@ -12,14 +12,10 @@ use Rattle.osbase.specs.declared.statuses.ServiceId.TheVariants as Service
 use Rattle.osbase.specs.declared.references.CoreId.{CoreId}
 use Rattle.osbase.specs.declared.references.TaskRef.{TaskRef}
 use Rattle.osbase.specs.declared.references.Runner.{Runner}
-use Rattle.osbase.specs.declared.references.Runner.TheVariants as Runner
 use Rattle.osbase.specs.declared.messages.RemoteCall.{RemoteCall}
 use Rattle.osbase.specs.declared.messages.RemoteCall.TheVariants as Remote
 use Rattle.osbase.specs.declared.messages.Message.{Message}
-use Rattle.osbase.specs.declared.messages.Message.TheVariants as Message
 use Rattle.osbase.specs.declared.marks.Mark.{Mark}
-use Rattle.osbase.specs.declared.marks.Mark.TheVariants as Mark
-use Rattle.osbase.specs.declared.histories.OpenCall.{OpenCall}
 use Rattle.osbase.specs.History.{History, Printed, Noted, Opened, Queued, Done, queued_count}
 use Rattle.oscript.specs.declared.Op.{Op}
 use Rattle.oscript.specs.declared.Op.TheVariants.{Work, ActivateTask, TerminateTask}

@@ -1,2 +1,5 @@
 pub mod Step
 pub mod Wants
+pub mod Admission
+pub mod Bounded
+pub mod Taking

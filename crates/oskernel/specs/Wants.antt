@@ -3,7 +3,6 @@ use Rattle.std.specs.Prelude.{Option, Some, None, List, [], ◌∷◌}
 use Rattle.osbase.specs.declared.references.CoreId.{CoreId}
 use Rattle.osbase.specs.declared.histories.Sent.{Sent}
 use Rattle.osbase.specs.declared.histories.Phase.{Phase}
-use Rattle.osbase.specs.declared.histories.Phase.TheVariants as Phase
 use Rattle.osbase.specs.History.{History, began_count, outbox}
 use Rattle.osplan.specs.View.{View}
 use Rattle.osstate.specs.Readings.{phase_at, next_start}

@@ -1,6 +1,13 @@
 //! The kernel of one core: a machine that takes one item at a time and prints its marks.
 #![tactic(auto)]
 
+mod admission;
+mod effects;
+pub mod kernel;
 pub mod wants;
 
+pub use kernel::Kernel;
 pub use wants::Want;
+
+#[cfg(test)]
+mod tests;

@@ -1,5 +1,8 @@
 //! What a core's own turn would do.
 
+ghost use Rattle.std.specs.Prelude.{◌≡◌};
+ghost use Rattle.oskernel.specs.Wants.{start_or_enter as next_or_enter};
+
 use osbase::CoreId;
 
 /// What `Own` would do with a core.
@@ -17,4 +20,13 @@ pub enum Want {
     GoOn,
     /// Nothing.
     Nothing,
+}
+
+pub(crate) fn start_or_enter(next: Option<CoreId>) -> Want
+    ensures { result ≡ next_or_enter next }
+{
+    match next {
+        Some(core) => Want::Start(core),
+        None => Want::Enter,
+    }
 }

@@ -1,2 +1,5 @@
 pub mod Readings
 pub mod State
+pub mod Steps
+pub mod Sound
+pub mod Does

@@ -1,11 +1,10 @@
 -- What is read off a core's history with what the core sees of its configuration.
-use Rattle.std.specs.Prelude.{ℕ, nat_le, if◌then◌else◌, Bool, false, Option, Some, None, List, [], ◌∷◌, map, is_some, slice_get}
+use Rattle.std.specs.Prelude.{ℕ, nat_le, if◌then◌else◌, Bool, false, Option, None, List, [], ◌∷◌, map, slice_get}
 use Rattle.std.specs.List.{enumerate_from}
 use Rattle.std.specs.Option.{option_map_or}
 use Rattle.osbase.specs.declared.references.CoreId.{CoreId}
 use Rattle.osbase.specs.declared.references.TaskRef.{TaskRef}
 use Rattle.osbase.specs.declared.references.Runner.{Runner}
-use Rattle.osbase.specs.declared.references.Runner.TheVariants as Runner
 use Rattle.osbase.specs.declared.items.CoreSet.{CoreSet}
 use Rattle.osbase.specs.declared.histories.Job.{Job}
 use Rattle.osbase.specs.History.{History, same_core, live_jobs, job_count, best, started_cores, phase_of}

@@ -1,2 +1,14 @@
-//! The whole state of a core.
+//! The whole state of a core, one function for each kind of entry of its history, and what is read off it.
+//!
+//! No function here takes memory.
 #![tactic(auto)]
+
+pub mod cores;
+pub mod equality;
+mod parts;
+pub mod progress;
+mod slots;
+pub mod state;
+
+pub use progress::Progress;
+pub use state::CoreState;

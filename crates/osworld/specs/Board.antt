@@ -1,18 +1,17 @@
 -- One board: the sets of started, entered, ready and drained cores and of named modes. Each call of a core is
 -- answered at once. [own; the code has one plain value]
-use Rattle.std.specs.Prelude.{ℕ, suc, ◌||◌, Bool, true, false, not, if◌then◌else◌, List, [], ◌∷◌, slice_set, replicate}
-use Rattle.std.specs.List.{list_all}
+use Rattle.std.specs.Prelude.{Option, Some, None, zero, position, count_by, ℕ, suc, ◌||◌, Bool, true, false, not, if◌then◌else◌, List, [], ◌∷◌, slice_set, replicate}
+use Rattle.std.specs.List.{list_all, zip}
 use Rattle.osbase.specs.declared.statuses.Status.{Status}
 use Rattle.osbase.specs.declared.statuses.Status.TheVariants.{EOk, EOsState}
 use Rattle.osbase.specs.declared.references.CoreId.{CoreId}
-use Rattle.osbase.specs.declared.references.ModeId.{ModeId}
 use Rattle.osbase.specs.declared.items.CoreSet.{CoreSet}
 use Rattle.osbase.specs.declared.items.Agreement.{Agreement}
 use Rattle.osbase.specs.History.{no_cores}
 use Rattle.osplan.specs.declared.plans.CoreMode.{CoreMode}
 use Rattle.osplan.specs.declared.plans.CoreMode.TheVariants.{Named, DontCare}
-use Rattle.osstate.specs.Readings.{has_core, core_ids}
-use Rattle.osworld.specs.declared.boards.BoardView.{BoardView}
+use Rattle.osstate.specs.Readings.{has_core}
+use Rattle.osworld.specs.declared.boards.Board.{Board}
 use Rattle.osworld.specs.declared.boards.ModeSet.{ModeSet}
 
 -- What a core asks of the board.
@@ -34,7 +33,7 @@ pub data BoardCall : Type 0 where
 pub data BoardReply : Type 0 where
   Started : Status → BoardReply
   Noted : BoardReply
-  Shown : BoardView → BoardReply
+  Shown : Board → BoardReply
   NoHalt : BoardReply
 
 -- One call with its answer.
@@ -55,7 +54,7 @@ with_mode (Named m) modes = record { members = slice_set modes.members m.index t
 with_mode DontCare modes = modes
 
 -- At first the master alone is started.
-abbrev pub first_board : CoreId → BoardView
+abbrev pub first_board : CoreId → Board
 first_board master = record {
   started = with_core master no_cores;
   entered = no_cores;
@@ -64,7 +63,7 @@ first_board master = record {
   modes = no_modes;
 }
 
-abbrev pub board_after : CoreId → BoardCall → BoardView → BoardView
+abbrev pub board_after : CoreId → BoardCall → Board → Board
 board_after core (StartCore k) board = record board { started = with_core k board.started }
 board_after core (Enter mode) board = record board { entered = with_core core board.entered; modes = with_mode mode board.modes }
 board_after core MakeReady board = record board { ready = with_core core board.ready }
@@ -73,8 +72,11 @@ board_after core LookAt board = board
 board_after core LookHalt board = board
 
 -- A core that is started already is answered E_OS_STATE. [AUTOSAR SWS OS 4.x, StartCore]
-abbrev pub reply_of : BoardCall → BoardView → BoardReply
-reply_of (StartCore k) board = Started (if has_core board.started k then EOsState else EOk)
+abbrev pub start_answer : Board → CoreId → Status
+start_answer board k = if has_core board.started k then EOsState else EOk
+
+abbrev pub reply_of : BoardCall → Board → BoardReply
+reply_of (StartCore k) board = Started (start_answer board k)
 reply_of (Enter mode) board = Noted
 reply_of MakeReady board = Noted
 reply_of Drain board = Noted
@@ -82,24 +84,21 @@ reply_of LookAt board = Shown board
 reply_of LookHalt board = NoHalt
 
 -- The board after calls, the oldest first.
-abbrev pub board_from : BoardView → List BoardEntry → BoardView
+abbrev pub board_from : Board → List BoardEntry → Board
 board_from board [] = board
 board_from board (e ∷ es) = board_from (board_after e.core e.call board) es
 
 -- Every started core is in the set.
 abbrev pub have_all : CoreSet → CoreSet → Bool
-have_all started cores = list_all (λ id. not (has_core started id) || has_core cores id) core_ids
+have_all started cores = list_all (λ (p : Bool × Bool). not p.0 || p.1) (zip started.members cores.members)
 
--- What the named modes come to: none, the one, or a conflict of several.
+-- What the named modes come to, by how many they are: none, the one, or a conflict of several.
 -- [AUTOSAR SWS OS 4.x, section 7.9.5; that all may say DONOTCARE is this project's own]
-abbrev pub mode_ids_from : ℕ → List Bool → List ModeId
-mode_ids_from n [] = []
-mode_ids_from n (b ∷ bs) = if b then record { index = n } ∷ mode_ids_from (suc n) bs else mode_ids_from (suc n) bs
-
-abbrev pub agreement_on : List ModeId → Agreement
-agreement_on [] = Agreement.NoMode
-agreement_on (m ∷ []) = Agreement.Mode m
-agreement_on (m ∷ n ∷ ms) = Agreement.Conflict
+abbrev pub agreement_by : ℕ → Option ℕ → Agreement
+agreement_by zero first = Agreement.NoMode
+agreement_by (suc zero) None = Agreement.NoMode
+agreement_by (suc zero) (Some index) = Agreement.Mode (record { index = index })
+agreement_by (suc (suc n)) first = Agreement.Conflict
 
 abbrev pub agreement_in : ModeSet → Agreement
-agreement_in modes = agreement_on (mode_ids_from 0 modes.members)
+agreement_in modes = agreement_by (count_by (λ b. b) modes.members) (position (λ b. b) modes.members)

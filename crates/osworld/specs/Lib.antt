@@ -1,2 +1,4 @@
+pub mod Borders
 pub mod Board
+pub mod Ends
 pub mod World

@@ -21,10 +21,10 @@ use Rattle.osstate.specs.Readings.{has_core, core_ids, phase_at}
 use Rattle.oskernel.specs.declared.wants.Want.{Want}
 use Rattle.oskernel.specs.Step.{takes, history_from, outbox_size}
 use Rattle.oskernel.specs.Wants.{want_of}
-use Rattle.osworld.specs.declared.boards.BoardView.{BoardView}
+use Rattle.osworld.specs.declared.boards.Board.{Board}
 use Rattle.osworld.specs.Board.{BoardCall, StartCore, Enter, MakeReady, Drain, LookAt, LookHalt, BoardReply, Started, BoardEntry, first_board, reply_of, board_from, have_all, agreement_in}
 
--- The items of each core number, the oldest first, and the calls of the board that became items. [own]
+-- The items of each configured core, the oldest first, and the calls of the board that became items. [own]
 pub record World : Type 0 where
   pub items : List (CoreId × List Item)
   pub calls : List BoardEntry
@@ -43,7 +43,7 @@ items_in w id = option_map_or (λ (p : CoreId × List Item). p.1) (find (λ p. s
 abbrev pub history_in : Plan → World → CoreId → History
 history_in plan w id = history_from (view_of plan id) [] (items_in w id)
 
-abbrev pub board_in : Plan → World → BoardView
+abbrev pub board_in : Plan → World → Board
 board_in plan w = board_from (first_board plan.master) w.calls
 
 -- An item that a turn names, with the board's call that it takes, if it takes one.
@@ -57,12 +57,13 @@ plainly item = Some (record { item = item; call = None })
 abbrev pub by_call : Item → BoardCall → Option Named
 by_call item call = Some (record { item = item; call = Some call })
 
--- StartCore of a core that is not configured is answered without the board.
+-- What the board answered a start.
 abbrev pub start_status : BoardReply → Status
 start_status (Started status) = status
 start_status reply = EOsId
 
-abbrev pub starting : View → BoardView → CoreId → Option Named
+-- StartCore of a core that is not configured is answered without the board.
+abbrev pub starting : View → Board → CoreId → Option Named
 starting v board k =
     if is_configured v k then by_call (Item.Began k (start_status (reply_of (StartCore k) board))) (StartCore k)
     else plainly (Item.Began k EOsId)
@@ -105,13 +106,17 @@ abbrev pub serve_named : Plan → World → CoreId → CoreId → Option Named
 serve_named plan w id from =
     receiving from (slice_get (posted id (history_in plan w from)) (received_count from (history_in plan w id)))
 
+-- The halt that a look at the halt word shows: none so far.
+abbrev pub halt_in : BoardReply → Option (CoreId × Status)
+halt_in reply = None
+
 -- What `Look` names: the gates open where all started cores have come to them.
-abbrev pub look_named : CoreId → BoardView → Phase → Option Named
+abbrev pub look_named : CoreId → Board → Phase → Option Named
 look_named id board Phase.Off = if has_core board.started id then by_call Item.On LookAt else None
 look_named id board Phase.FirstGate = if have_all board.started board.entered then by_call (Item.Pass1 (agreement_in board.modes)) LookAt else None
 look_named id board Phase.SecondGate = if have_all board.started board.ready then by_call (Item.Pass2 board.started) LookAt else None
 look_named id board Phase.Drained = if have_all board.started board.drained then by_call Item.PassEnd LookAt else None
-look_named id board Phase.Closing = by_call (Item.Last None) LookHalt
+look_named id board Phase.Closing = by_call (Item.Last (halt_in (reply_of LookHalt board))) LookHalt
 look_named id board phase = None
 
 abbrev pub named : Plan → List CoreStimuli → World → CoreId → Choice → Option Named
@@ -123,7 +128,7 @@ named plan stimuli w id Look = look_named id (board_in plan w) (phase_at (view_o
 abbrev pub with_item : CoreId → Item → List (CoreId × List Item) → List (CoreId × List Item)
 with_item id item lists = map (λ (p : CoreId × List Item). if same_core p.0 id then (p.0, p.1 ++ item ∷ []) else p) lists
 
-abbrev pub with_call : CoreId → BoardView → Option BoardCall → List BoardEntry → List BoardEntry
+abbrev pub with_call : CoreId → Board → Option BoardCall → List BoardEntry → List BoardEntry
 with_call id board None calls = calls
 with_call id board (Some call) calls = calls ++ record { core = id; call = call; reply = reply_of call board } ∷ []
 
@@ -138,7 +143,7 @@ turn_by plan w id (Some n) =
 
 abbrev pub turn : Plan → List CoreStimuli → World → CoreId × Choice → World
 turn plan stimuli w t =
-    if is_some (core_of plan t.0) then turn_by plan w t.0 (named plan stimuli w t.0 t.1) else w
+    if is_some (find (λ (p : CoreId × List Item). same_core p.0 t.0) w.items) then turn_by plan w t.0 (named plan stimuli w t.0 t.1) else w
 
 -- The world after turns in order.
 abbrev pub world_from : Plan → List CoreStimuli → World → List (CoreId × Choice) → World

@@ -2,5 +2,12 @@
 #![tactic(auto)]
 
 pub mod boards;
+pub mod ends;
+pub mod runs;
+mod seats;
+mod worlds;
 
-pub use boards::{BoardView, ModeSet};
+pub use boards::{Board, MODES, ModeSet};
+pub use ends::have_all_ended;
+pub use osbase::Report;
+pub use runs::{RunFault, default_schedule, run_default, run_world};

@@ -1,0 +1,49 @@
+//! The faults that the program prints.
+
+ghost use Rattle.std.specs.Prelude.{◌≡◌};
+ghost use Rattle.mcos.specs.Faults.{fault_number, fault_name};
+
+use osconf::ConfFault;
+
+/// Why a job was not done. The program prints `fault N Name` and exits with status 1.
+#[derive(Clone, Copy, Debug, PartialEq, Eq)]
+pub enum Fault {
+    /// A text is not what it has to be.
+    Text(ConfFault),
+    /// A growth was refused while reading.
+    NoMemoryToRead,
+    /// A growth was refused in a run.
+    NoMemoryToRun,
+    /// The output was refused.
+    WriteFailed,
+    /// A file could not be read.
+    Unreadable,
+}
+
+impl Fault {
+    /// The number that is printed.
+    pub fn number(self) -> u8
+        ensures { result ≡ fault_number self }
+    {
+        match self {
+            Fault::Text(fault) => fault.number(),
+            Fault::NoMemoryToRead => 11,
+            Fault::NoMemoryToRun => 16,
+            Fault::WriteFailed => 19,
+            Fault::Unreadable => 21,
+        }
+    }
+
+    /// The word that is printed.
+    pub fn name(self) -> &'static str
+        ensures { result.now ≡ fault_name self }
+    {
+        match self {
+            Fault::Text(fault) => fault.name(),
+            Fault::NoMemoryToRead => "NoMemory",
+            Fault::NoMemoryToRun => "NoMemory",
+            Fault::WriteFailed => "WriteFailed",
+            Fault::Unreadable => "Unreadable",
+        }
+    }
+}

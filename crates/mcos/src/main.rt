@@ -1,0 +1,77 @@
+//! `mcos`: a multicore AUTOSAR OS kernel, simulated.
+#![tactic(auto)]
+
+mod faults;
+mod files;
+mod jobs;
+mod performs;
+#[cfg(test)]
+mod tests;
+
+use crate::faults::Fault;
+use crate::files::{Reading, read_file};
+use crate::jobs::{Job, job_of};
+use crate::performs::{FAULT, fault_line, perform};
+use ostrace::WriteSink;
+use std::alloc::AllocError;
+use std::env;
+use std::io::{BufWriter, Write};
+use std::process::ExitCode;
+
+/// How many bytes of output are gathered before they are written.
+const BUFFER: usize = 65536;
+
+fn main(rt: HostRuntime) -> ExitCode {
+    match run(&rt) {
+        Ok(status) => ExitCode::from(status),
+        Err(_) => {
+            let mut err = WriteSink::new(rt.stderr());
+            let _ = fault_line(&mut err, Fault::NoMemoryToRead);
+            ExitCode::from(FAULT)
+        }
+    }
+}
+
+// Does the job of the command line, and answers the exit status. Only memory can be wanting: every
+// other fault is printed, and has its status.
+fn run(rt: &HostRuntime) -> Result<u8, AllocError> {
+    let alloc = rt.alloc();
+    let Ok(args) = env::args(rt) else {
+        return Err(AllocError);
+    };
+    let words: Vec<String> = args.collect(alloc)?;
+    match job_of(alloc, words.as_slice()) {
+        Ok(job) => do_job(rt, &job),
+        Err(error) => {
+            if error.kind() == clap::error::ErrorKind::OutOfMemory {
+                return Err(AllocError);
+            }
+            let _ = error.print(rt);
+            Ok(error.exit_code() as u8)
+        }
+    }
+}
+
+// Reads the job's files, performs it, and sends off what is still gathered.
+fn do_job(rt: &HostRuntime, job: &Job) -> Result<u8, AllocError> {
+    let alloc = rt.alloc();
+    let mut files = Vec::new(alloc);
+    for path in job.paths(alloc)?.as_slice() {
+        match read_file(rt, path)? {
+            Reading::Bytes(bytes) => files.push(Some(bytes))?,
+            Reading::Unreadable => files.push(None)?,
+        }
+    }
+    let mut err = WriteSink::new(rt.stderr());
+    let Ok(writer) = BufWriter::with_capacity(alloc, BUFFER, rt.stdout()) else {
+        return Err(AllocError);
+    };
+    let mut out = WriteSink::new(writer);
+    let status = perform(alloc, job, files.as_slice(), &mut out, &mut err);
+    if status != FAULT && out.writer.flush().is_err() {
+        let mut err = WriteSink::new(rt.stderr());
+        let _ = fault_line(&mut err, Fault::WriteFailed);
+        return Ok(FAULT);
+    }
+    Ok(status)
+}

@@ -1,0 +1,106 @@
+//! How a service returns to its caller.
+
+ghost use Rattle.std.specs.Prelude.{◌≡◌, ◌+◌, ◌<◌, ◌≤◌, ◌^◌, length, vec_len, vec_capacity};
+ghost use Rattle.osstate.specs.Does.{Adds, Does, StaysInItem};
+ghost use Rattle.oscall.specs.Service.{asks, reports, returns};
+
+use osbase::{CoreId, Mark, Message, OpenCall, RemoteCall, Runner, ServiceId, Status};
+use osstate::CoreState;
+
+/// A status other than E_OK calls ErrorHook (OSEK/VDX OS 2.2.3, section 11.1).
+pub fn report<const P: usize, const J: usize, const OUT: usize>(
+    state: &mut CoreState<'_, P, J, OUT>,
+    status: Status,
+    marks: &mut Vec<Mark>,
+)
+    requires count { state.old.entries < 2 ^ 63 }
+    requires room { vec_len marks.old < vec_capacity marks.old }
+    ensures does { Does (λ v h. reports status h) state.old state.new marks.old.items marks.new.items }
+    ensures stays { StaysInItem 1 state.old state.new }
+    ensures adds { Adds 1 marks.old.items marks.new.items }
+    ensures len { vec_len marks.new ≤ vec_len marks.old + 1 }
+    ensures capacity { vec_capacity marks.new ≡ vec_capacity marks.old }
+{
+    if let Status::EOk = status {
+        return;
+    }
+    state.print(Mark::ErrorHook(status), marks);
+}
+
+/// A service returns to the runner's job: its status is printed, then ErrorHook is called, and the job
+/// stands at its next operation.
+pub fn finish<const P: usize, const J: usize, const OUT: usize>(
+    state: &mut CoreState<'_, P, J, OUT>,
+    runner: Runner,
+    service: ServiceId,
+    status: Status,
+    value: Option<i64>,
+    marks: &mut Vec<Mark>,
+)
+    requires count { state.old.entries + 2 < 2 ^ 63 }
+    requires room { vec_len marks.old + 2 ≤ vec_capacity marks.old }
+    ensures does { Does (λ v h. returns runner service status value h) state.old state.new marks.old.items marks.new.items }
+    ensures stays { StaysInItem 3 state.old state.new }
+    ensures adds { Adds 2 marks.old.items marks.new.items }
+    ensures len { vec_len marks.new ≤ vec_len marks.old + 2 }
+    ensures capacity { vec_capacity marks.new ≡ vec_capacity marks.old }
+{
+    let mark = Mark::ServiceReturned {
+        runner,
+        service,
+        status,
+        value,
+    };
+    state.print(mark, marks);
+    report(state, status, marks);
+    state.complete(runner, status, value);
+}
+
+/// A service on another core's object: its request joins the outbox, and the call stays open until the
+/// reply comes (AUTOSAR SWS OS 4.x, section 7.9.18).
+pub fn ask<const P: usize, const J: usize, const OUT: usize>(
+    state: &mut CoreState<'_, P, J, OUT>,
+    runner: Runner,
+    service: ServiceId,
+    core: CoreId,
+    call: RemoteCall,
+    marks: &mut Vec<Mark>,
+)
+    requires receiver { core.number < 16 }
+    requires outbox { length state.old.outbox < OUT }
+    requires count { state.old.entries + 2 < 2 ^ 63 }
+    requires room { vec_len marks.old < vec_capacity marks.old }
+    ensures does { Does (λ v h. asks runner service core call h) state.old state.new marks.old.items marks.new.items }
+    ensures stays { StaysInItem 3 state.old state.new }
+    ensures adds { Adds 1 marks.old.items marks.new.items }
+    ensures len { vec_len marks.new ≤ vec_len marks.old + 1 }
+    ensures capacity { vec_capacity marks.new ≡ vec_capacity marks.old }
+{
+    state.print(Mark::CallPosted { core, call }, marks);
+    state.queue(core, Message::Request(call));
+    state.open_call(OpenCall {
+        runner,
+        service,
+        core,
+    });
+}
+
+/// The reply of another core ends the call that awaits it. The reply's item has ended the call in the
+/// state already, so that the caller hands it in.
+pub fn close<const P: usize, const J: usize, const OUT: usize>(
+    state: &mut CoreState<'_, P, J, OUT>,
+    call: OpenCall,
+    status: Status,
+    value: Option<i64>,
+    marks: &mut Vec<Mark>,
+)
+    requires count { state.old.entries + 2 < 2 ^ 63 }
+    requires room { vec_len marks.old + 2 ≤ vec_capacity marks.old }
+    ensures does { Does (λ v h. returns call.runner call.service status value h) state.old state.new marks.old.items marks.new.items }
+    ensures stays { StaysInItem 3 state.old state.new }
+    ensures adds { Adds 2 marks.old.items marks.new.items }
+    ensures len { vec_len marks.new ≤ vec_len marks.old + 2 }
+    ensures capacity { vec_capacity marks.new ≡ vec_capacity marks.old }
+{
+    finish(state, call.runner, call.service, status, value, marks);
+}

@@ -1,0 +1,134 @@
+//! What a core does for another one.
+
+ghost use Rattle.std.specs.Prelude.{◌≡◌, ◌+◌, ◌<◌, ◌≤◌, ◌^◌, IsTrue, false, length, vec_len, vec_capacity};
+ghost use Rattle.osstate.specs.Does.{Adds, Does, Reads, StaysInItem};
+ghost use Rattle.osstate.specs.Sound.{is_before_live};
+ghost use Rattle.oscall.specs.Service.{served_status, serves, serves_action, serves_request};
+ghost use Rattle.oscall.specs.Started.{serves_own};
+
+use crate::returning::report;
+use osbase::{CoreId, Mark, Message, RemoteCall, Status, TaskRef};
+use osstate::CoreState;
+
+// The remaining checks of a service and its effect, and its line with the status.
+fn serve<const P: usize, const J: usize, const OUT: usize>(
+    state: &mut CoreState<'_, P, J, OUT>,
+    from: CoreId,
+    call: RemoteCall,
+    marks: &mut Vec<Mark>,
+) -> Status
+    requires live { is_before_live state.old.phase ≡ false }
+    requires count { state.old.entries + 1 < 2 ^ 63 }
+    requires room { vec_len marks.old + 2 ≤ vec_capacity marks.old }
+    ensures status { Reads (λ v h. served_status v call h) state.old result }
+    ensures does { Does (λ v h. serves v from call (served_status v call h) h) state.old state.new marks.old.items marks.new.items }
+    ensures outbox { state.new.outbox ≡ state.old.outbox }
+    ensures stays { StaysInItem 2 state.old state.new }
+    ensures adds { Adds 2 marks.old.items marks.new.items }
+    ensures len { vec_len marks.new ≤ vec_len marks.old + 2 }
+    ensures capacity { vec_capacity marks.new ≡ vec_capacity marks.old }
+{
+    let status = act(state, call, marks);
+    let mark = Mark::CallServed {
+        core: from,
+        call,
+        status,
+        value: None,
+    };
+    state.print(mark, marks);
+    status
+}
+
+// The remaining checks and the effect: none but ActivateTask has any yet.
+fn act<const P: usize, const J: usize, const OUT: usize>(
+    state: &mut CoreState<'_, P, J, OUT>,
+    call: RemoteCall,
+    marks: &mut Vec<Mark>,
+) -> Status
+    requires live { is_before_live state.old.phase ≡ false }
+    requires count { state.old.entries < 2 ^ 63 }
+    requires room { vec_len marks.old < vec_capacity marks.old }
+    ensures status { Reads (λ v h. served_status v call h) state.old result }
+    ensures does { Does (λ v h. serves_own v call h) state.old state.new marks.old.items marks.new.items }
+    ensures outbox { state.new.outbox ≡ state.old.outbox }
+    ensures stays { StaysInItem 1 state.old state.new }
+    ensures adds { Adds 1 marks.old.items marks.new.items }
+    ensures len { vec_len marks.new ≤ vec_len marks.old + 1 }
+    ensures capacity { vec_capacity marks.new ≡ vec_capacity marks.old }
+{
+    if let RemoteCall::ActivateTask(task) = call {
+        return activate_for(state, task, marks);
+    }
+    Status::EOk
+}
+
+fn activate_for<const P: usize, const J: usize, const OUT: usize>(
+    state: &mut CoreState<'_, P, J, OUT>,
+    task: TaskRef,
+    marks: &mut Vec<Mark>,
+) -> Status
+    requires live { is_before_live state.old.phase ≡ false }
+    requires count { state.old.entries < 2 ^ 63 }
+    requires room { vec_len marks.old < vec_capacity marks.old }
+    ensures status { Reads (λ v h. served_status v (RemoteCall.ActivateTask task) h) state.old result }
+    ensures does { Does (λ v h. serves_own v (RemoteCall.ActivateTask task) h) state.old state.new marks.old.items marks.new.items }
+    ensures outbox { state.new.outbox ≡ state.old.outbox }
+    ensures stays { StaysInItem 1 state.old state.new }
+    ensures adds { Adds 1 marks.old.items marks.new.items }
+    ensures len { vec_len marks.new ≤ vec_len marks.old + 1 }
+    ensures capacity { vec_capacity marks.new ≡ vec_capacity marks.old }
+{
+    if state.is_at_limit(task) {
+        return Status::EOsLimit;
+    }
+    state.activate(task, marks);
+    Status::EOk
+}
+
+/// A request of another core is served, and answered by a reply.
+pub fn serve_request<const P: usize, const J: usize, const OUT: usize>(
+    state: &mut CoreState<'_, P, J, OUT>,
+    from: CoreId,
+    call: RemoteCall,
+    marks: &mut Vec<Mark>,
+)
+    requires live { is_before_live state.old.phase ≡ false }
+    requires sender { from.number < 16 }
+    requires outbox { length state.old.outbox < OUT }
+    requires count { state.old.entries + 2 < 2 ^ 63 }
+    requires room { vec_len marks.old + 2 ≤ vec_capacity marks.old }
+    ensures does { Does (λ v h. serves_request v from call h) state.old state.new marks.old.items marks.new.items }
+    ensures stays { StaysInItem 3 state.old state.new }
+    ensures adds { Adds 2 marks.old.items marks.new.items }
+    ensures len { vec_len marks.new ≤ vec_len marks.old + 2 }
+    ensures capacity { vec_capacity marks.new ≡ vec_capacity marks.old }
+{
+    let status = serve(state, from, call, marks);
+    state.queue(
+        from,
+        Message::Reply {
+            status,
+            value: None,
+        },
+    );
+}
+
+/// An action of another core is served; it has no reply, and its error calls ErrorHook here.
+pub fn serve_action<const P: usize, const J: usize, const OUT: usize>(
+    state: &mut CoreState<'_, P, J, OUT>,
+    from: CoreId,
+    call: RemoteCall,
+    marks: &mut Vec<Mark>,
+)
+    requires live { is_before_live state.old.phase ≡ false }
+    requires count { state.old.entries + 2 < 2 ^ 63 }
+    requires room { vec_len marks.old + 3 ≤ vec_capacity marks.old }
+    ensures does { Does (λ v h. serves_action v from call h) state.old state.new marks.old.items marks.new.items }
+    ensures stays { StaysInItem 3 state.old state.new }
+    ensures adds { Adds 3 marks.old.items marks.new.items }
+    ensures len { vec_len marks.new ≤ vec_len marks.old + 3 }
+    ensures capacity { vec_capacity marks.new ≡ vec_capacity marks.old }
+{
+    let status = serve(state, from, call, marks);
+    report(state, status, marks);
+}

@@ -1,0 +1,4 @@
+use Rattle.oskernel.proofs.effects.receive.Goals as goal
+
+pub returns-in-Action-clause-does : goal.returns-in-Action-clause-does
+returns-in-Action-clause-does g c v h earlier tracks = rw c.in-Action.is (c.serve_action.ensures.does v h earlier tracks)

@@ -1,0 +1,15 @@
+use Rattle.oskernel.proofs.Phases.{forward}
+use Rattle.oskernel.proofs.Taken.{acting, fresh, filling}
+use Rattle.oskernel.proofs.effects.show_admitted.Goals as goal
+
+pub returns-clause-forward : goal.returns-clause-forward
+returns-clause-forward g c = forward g.row.OUT c.args.state.now c.args.item.now c.requires.admitted
+
+pub returns-clause-live : goal.returns-clause-live
+returns-clause-live g c = acting g.row.OUT c.args.state.now c.args.item.now c.requires.admitted
+
+pub returns-clause-fresh : goal.returns-clause-fresh
+returns-clause-fresh g c = fresh g.row.OUT c.args.state.now c.args.item.now c.requires.admitted
+
+pub returns-clause-filling : goal.returns-clause-filling
+returns-clause-filling g c = filling g.row.OUT c.args.state.now c.args.item.now c.requires.outbox c.requires.admitted

@@ -1,0 +1,8 @@
+-- What holds of every kernel.
+use Rattle.std.specs.Prelude.{ℕ, ◌*◌, ◌≤◌}
+use Rattle.osstate.specs.State.{KernelState}
+
+-- The outbox has places for a reply and a request, and an item adds at most 1024 entries to the history.
+pub record IsBounded (room : ℕ) (s : KernelState) : Type 0 where
+  pub outbox : 8 ≤ room
+  pub entries : s.entries ≤ 1024 * s.items

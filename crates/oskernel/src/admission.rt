@@ -1,0 +1,366 @@
+//! Which item may be taken.
+
+ghost use Rattle.std.specs.Prelude.{◌≡◌, ◌||◌, false, not};
+ghost use Rattle.std.specs.List.{list_all};
+ghost use Rattle.std.specs.Option.{option_map_or};
+ghost use Rattle.osbase.specs.History.{is_scheduling};
+ghost use Rattle.osplan.specs.View.{is_configured};
+ghost use Rattle.oscall.specs.Service.{is_ok_status};
+ghost use Rattle.osstate.specs.Readings.{has_core, next_start};
+ghost use Rattle.oskernel.specs.Step.{answers_value, are_started_cores, is_agreement, is_at_first_gate, is_at_second_gate, is_between_gates, is_booting, is_closing, is_drained, is_empty, is_for, is_front_for, is_live, is_off, is_own_call, is_reply_to, is_start_answer, is_started_or_running, is_stimulus, is_unknown_core};
+ghost use Rattle.oskernel.specs.Admission.{admits, is_awaited_in, is_next_from, is_settled_in};
+
+use osbase::{
+    Agreement, CoreId, CoreSet, Item, Message, ModeId, OpenCall, Phase, RemoteCall, ServiceId,
+    Status, Stimulus,
+};
+use osplan::CoreMode;
+use osstate::CoreState;
+use osstate::cores::is_member;
+use osstate::equality::{both, is_same_core};
+
+// Every core number.
+const CORE_IDS: [CoreId; 16] = [
+    CoreId { number: 0 },
+    CoreId { number: 1 },
+    CoreId { number: 2 },
+    CoreId { number: 3 },
+    CoreId { number: 4 },
+    CoreId { number: 5 },
+    CoreId { number: 6 },
+    CoreId { number: 7 },
+    CoreId { number: 8 },
+    CoreId { number: 9 },
+    CoreId { number: 10 },
+    CoreId { number: 11 },
+    CoreId { number: 12 },
+    CoreId { number: 13 },
+    CoreId { number: 14 },
+    CoreId { number: 15 },
+];
+
+/// Whether an item may be taken, but for how many were taken.
+pub(crate) fn is_admitted<const P: usize, const J: usize, const OUT: usize>(
+    state: &CoreState<'_, P, J, OUT>,
+    item: &Item,
+) -> bool
+    ensures { result ≡ admits OUT state.now item.now }
+{
+    let phase = state.phase();
+    match item {
+        Item::On => is_phase_off(phase),
+        Item::Began { core, status } => {
+            let is_next = is_next_start(state, *core);
+            both(
+                both(is_phase_boot(phase), is_next),
+                is_answer(state, *core, *status),
+            )
+        }
+        Item::Entered => both(is_phase_boot(phase), state.next_start().is_none()),
+        Item::Pass1(agreement) => both(is_phase_first_gate(phase), is_agreed(state, *agreement)),
+        Item::Readied => is_phase_between(phase),
+        Item::Pass2(cores) => both(is_phase_second_gate(phase), are_started(state, cores)),
+        Item::Stim(stimulus) => {
+            let is_due = both(is_phase_live(phase), is_known_stimulus(*stimulus));
+            both(is_due, is_settled(state))
+        }
+        Item::Posted(core) => both(is_phase_scheduling(phase), is_front(state, *core)),
+        Item::Received {
+            from,
+            number,
+            message,
+        } => both(
+            is_phase_scheduling(phase),
+            is_next_envelope(state, *from, *number, message),
+        ),
+        Item::Granted(_) => false,
+        Item::Tried {
+            spinlock: _,
+            taken: _,
+        } => false,
+        Item::Freed(_) => false,
+        Item::Halt { core: _, status: _ } => false,
+        Item::Drained => both(is_phase_live(phase), is_settled(state)),
+        Item::PassEnd => is_phase_drained(phase),
+        Item::Last(shutdown) => both(is_phase_closing(phase), shutdown.is_none()),
+    }
+}
+
+// So far only the running job's next operation.
+fn is_known_stimulus(stimulus: Stimulus) -> bool
+    ensures { result ≡ is_stimulus stimulus }
+{
+    match stimulus {
+        Stimulus::Op => true,
+        Stimulus::Tick => false,
+        Stimulus::Irq(_) => false,
+    }
+}
+
+// No call is open, and nothing waits in the outbox.
+fn is_settled<const P: usize, const J: usize, const OUT: usize>(
+    state: &CoreState<'_, P, J, OUT>,
+) -> bool
+    ensures { result ≡ is_settled_in state.now }
+{
+    both(state.awaited_call().is_none(), state.is_outbox_empty())
+}
+
+fn is_front<const P: usize, const J: usize, const OUT: usize>(
+    state: &CoreState<'_, P, J, OUT>,
+    core: CoreId,
+) -> bool
+    ensures { result ≡ is_front_for core state.now.outbox }
+{
+    match state.front() {
+        Some(sent) => is_same_core(sent.to, core),
+        None => false,
+    }
+}
+
+// The core is the next of the start list.
+fn is_next_start<const P: usize, const J: usize, const OUT: usize>(
+    state: &CoreState<'_, P, J, OUT>,
+    core: CoreId,
+) -> bool
+    ensures { result ≡ is_for core (next_start state.now.view state.now.began) }
+{
+    match state.next_start() {
+        Some(next) => is_same_core(core, next),
+        None => false,
+    }
+}
+
+fn is_answer<const P: usize, const J: usize, const OUT: usize>(
+    state: &CoreState<'_, P, J, OUT>,
+    core: CoreId,
+    status: Status,
+) -> bool
+    ensures { result ≡ is_start_answer state.now.view core status }
+{
+    if state.is_configured(core) {
+        return is_started_now(status);
+    }
+    is_no_core(status)
+}
+
+fn is_started_now(status: Status) -> bool
+    ensures { result ≡ is_started_or_running status }
+{
+    matches!(status, Status::EOk | Status::EOsState)
+}
+
+fn is_no_core(status: Status) -> bool
+    ensures { result ≡ is_unknown_core status }
+{
+    matches!(status, Status::EOsId)
+}
+
+// What the first gate may come to for a core of this mode.
+fn is_agreed<const P: usize, const J: usize, const OUT: usize>(
+    state: &CoreState<'_, P, J, OUT>,
+    agreement: Agreement,
+) -> bool
+    ensures { result ≡ is_agreement state.now.view state.now.view.mode agreement }
+{
+    match agreement {
+        Agreement::Conflict => true,
+        Agreement::Mode(mode) => is_agreed_mode(state, mode),
+        Agreement::NoMode => match state.mode() {
+            CoreMode::Named(_) => false,
+            CoreMode::DontCare => true,
+        },
+    }
+}
+
+fn is_agreed_mode<const P: usize, const J: usize, const OUT: usize>(
+    state: &CoreState<'_, P, J, OUT>,
+    mode: ModeId,
+) -> bool
+    ensures { result ≡ is_agreement state.now.view state.now.view.mode (Agreement.Mode mode) }
+{
+    match state.mode() {
+        CoreMode::Named(own) => own.index == mode.index,
+        CoreMode::DontCare => usize::from(mode.index) < state.mode_count(),
+    }
+}
+
+// The set has configured cores only, and the own one.
+fn are_started<const P: usize, const J: usize, const OUT: usize>(
+    state: &CoreState<'_, P, J, OUT>,
+    cores: &CoreSet,
+) -> bool
+    ensures { result ≡ are_started_cores state.now.view cores.now }
+{
+    let has_own = is_member(cores, state.id());
+    both(has_own, are_configured(state, cores, &CORE_IDS))
+}
+
+// Each of these cores that is in the set is configured.
+fn are_configured<const P: usize, const J: usize, const OUT: usize>(
+    state: &CoreState<'_, P, J, OUT>,
+    cores: &CoreSet,
+    ids: &[CoreId],
+) -> bool
+    ensures { result ≡ list_all (λ id. not (has_core cores.now id) || is_configured state.now.view id) ids.now }
+{
+    for id in ids {
+        if !is_absent_or_configured(state, cores, *id) {
+            return false;
+        }
+    }
+    true
+}
+
+fn is_absent_or_configured<const P: usize, const J: usize, const OUT: usize>(
+    state: &CoreState<'_, P, J, OUT>,
+    cores: &CoreSet,
+    id: CoreId,
+) -> bool
+    ensures { result ≡ (not (has_core cores.now id) || is_configured state.now.view id) }
+{
+    if is_member(cores, id) {
+        return state.is_configured(id);
+    }
+    true
+}
+
+// An envelope may be taken: its sender was started and is another core, its number is the next from there,
+// and it is one that this core awaits or serves.
+fn is_next_envelope<const P: usize, const J: usize, const OUT: usize>(
+    state: &CoreState<'_, P, J, OUT>,
+    from: CoreId,
+    number: u64,
+    message: &Message,
+) -> bool
+    ensures { result ≡ is_next_from OUT state.now from number message.now }
+{
+    if !state.is_started(from) {
+        return false;
+    }
+    let is_foreign = !state.is_own(from);
+    let is_in_order = number == state.received_from(from);
+    both(
+        both(is_foreign, is_in_order),
+        is_awaited(state, from, message),
+    )
+}
+
+fn is_awaited<const P: usize, const J: usize, const OUT: usize>(
+    state: &CoreState<'_, P, J, OUT>,
+    from: CoreId,
+    message: &Message,
+) -> bool
+    ensures { result ≡ is_awaited_in OUT state.now from message.now }
+{
+    match message {
+        Message::Request(call) => both(is_own_target(state, *call), state.has_room()),
+        Message::Action(call) => is_own_target(state, *call),
+        Message::Reply { status, value } => {
+            is_awaited_reply(state, from, *status, value.is_some())
+        }
+    }
+}
+
+// The call is one that goes across cores, to an object of this core.
+fn is_own_target<const P: usize, const J: usize, const OUT: usize>(
+    state: &CoreState<'_, P, J, OUT>,
+    call: RemoteCall,
+) -> bool
+    ensures { result ≡ is_own_call state.now.view call }
+{
+    if let RemoteCall::ActivateTask(task) = call {
+        return state.own_task(task).is_some();
+    }
+    false
+}
+
+fn is_awaited_reply<const P: usize, const J: usize, const OUT: usize>(
+    state: &CoreState<'_, P, J, OUT>,
+    from: CoreId,
+    status: Status,
+    has_value: bool,
+) -> bool
+    ensures { result ≡ option_map_or (is_reply_to from status has_value) state.now.open_call false }
+{
+    match state.awaited_call() {
+        Some(call) => is_reply(from, status, has_value, call),
+        None => false,
+    }
+}
+
+// A reply of the core that was asked, with a value exactly for GetAlarm and E_OK.
+fn is_reply(from: CoreId, status: Status, has_value: bool, call: OpenCall) -> bool
+    ensures { result ≡ is_reply_to from status has_value call }
+{
+    let wants_value = both(gives_value(call.service), is_ok(status));
+    let is_wanted = if wants_value { has_value } else { !has_value };
+    both(is_same_core(call.core, from), is_wanted)
+}
+
+fn gives_value(service: ServiceId) -> bool
+    ensures { result ≡ answers_value service }
+{
+    matches!(service, ServiceId::GetAlarm)
+}
+
+fn is_ok(status: Status) -> bool
+    ensures { result ≡ is_ok_status status }
+{
+    matches!(status, Status::EOk)
+}
+
+fn is_phase_off(phase: Phase) -> bool
+    ensures { result ≡ is_off phase }
+{
+    matches!(phase, Phase::Off)
+}
+
+fn is_phase_boot(phase: Phase) -> bool
+    ensures { result ≡ is_booting phase }
+{
+    matches!(phase, Phase::Boot)
+}
+
+fn is_phase_first_gate(phase: Phase) -> bool
+    ensures { result ≡ is_at_first_gate phase }
+{
+    matches!(phase, Phase::FirstGate)
+}
+
+fn is_phase_between(phase: Phase) -> bool
+    ensures { result ≡ is_between_gates phase }
+{
+    matches!(phase, Phase::BetweenGates)
+}
+
+fn is_phase_second_gate(phase: Phase) -> bool
+    ensures { result ≡ is_at_second_gate phase }
+{
+    matches!(phase, Phase::SecondGate)
+}
+
+fn is_phase_live(phase: Phase) -> bool
+    ensures { result ≡ is_live phase }
+{
+    matches!(phase, Phase::Live)
+}
+
+fn is_phase_drained(phase: Phase) -> bool
+    ensures { result ≡ is_drained phase }
+{
+    matches!(phase, Phase::Drained)
+}
+
+fn is_phase_closing(phase: Phase) -> bool
+    ensures { result ≡ is_closing phase }
+{
+    matches!(phase, Phase::Closing)
+}
+
+/// Whether a core schedules, serves and posts: from the second gate to its end.
+pub(crate) fn is_phase_scheduling(phase: Phase) -> bool
+    ensures { result ≡ is_scheduling phase }
+{
+    matches!(phase, Phase::Live | Phase::Drained | Phase::Closing)
+}

@@ -1,0 +1,420 @@
+//! What follows from an item.
+
+ghost use Rattle.std.specs.Prelude.{◌≡◌, ◌==◌, ◌+◌, ◌<◌, ◌≤◌, ◌^◌, ◌∷◌, ◌++◌, [], if◌then◌else◌, Some, IsTrue, false, length, vec_len, vec_capacity};
+ghost use Rattle.std.specs.List.{list_any};
+ghost use Rattle.std.specs.Option.{option_map_or};
+ghost use Rattle.osbase.specs.History.{Took, agreement_of, job_count, outbox_after, phase_after, running};
+ghost use Rattle.oscript.specs.Frames.{action_at};
+ghost use Rattle.osstate.specs.Readings.{frame_at, script_of, task_refs};
+ghost use Rattle.osstate.specs.Does.{Adds, Does, Reads, StaysInItem};
+ghost use Rattle.osstate.specs.Sound.{activation_limit, is_before_live, is_own_runner, is_plain, is_sender_known};
+ghost use Rattle.oscall.specs.Service.{activates};
+ghost use Rattle.oskernel.specs.Step.{autostarts, closes, dispatches, effect, enters, goes_on, goes_to, names_mode, performs, same_job};
+ghost use Rattle.oskernel.specs.Admission.{admits};
+ghost use Rattle.oskernel.specs.Taking.{TakesItem, answers_to, follows, gate_mark, is_acting, is_filling, is_request, is_second_gate, stimulates};
+
+use crate::admission::is_phase_scheduling;
+use osbase::{
+    Agreement, CoreId, Item, Job, Mark, Message, ModeId, OpenCall, Runner, Status, Stimulus,
+    TaskRef,
+};
+use oscript::Action;
+use osplan::Task;
+use osstate::CoreState;
+
+/// Takes an item that may be taken, and does what follows from it.
+
+pub(crate) fn take<const P: usize, const J: usize, const OUT: usize>(
+    state: &mut CoreState<'_, P, J, OUT>,
+    item: &Item,
+    marks: &mut Vec<Mark>,
+)
+    requires admitted { IsTrue (admits OUT state.old item.now) }
+    requires outbox { 1 ≤ OUT }
+    requires count { state.old.entries < 2 ^ 62 }
+    requires room { vec_len marks.old + 32 ≤ vec_capacity marks.old }
+    ensures does { Does (λ v h. effect v h item.now (Took item.now ∷ h)) state.old state.new marks.old.items marks.new.items }
+    ensures takes { TakesItem 40 state.old state.new }
+    ensures adds { Adds 32 marks.old.items marks.new.items }
+    ensures len { vec_len marks.new ≤ vec_len marks.old + 32 }
+    ensures capacity { vec_capacity marks.new ≡ vec_capacity marks.old }
+{
+    let awaited = state.awaited_call();
+    show_admitted(state, item);
+    state.take_item(item);
+    follow(state, item, awaited, marks);
+}
+
+// What an admitted item says of the state: it runs no test, but shows what taking the item asks for.
+fn show_admitted<const P: usize, const J: usize, const OUT: usize>(
+    state: &CoreState<'_, P, J, OUT>,
+    item: &Item,
+)
+    requires admitted { IsTrue (admits OUT state.now item.now) }
+    requires outbox { 1 ≤ OUT }
+    ensures sender { IsTrue (is_sender_known item.now) }
+    ensures forward { IsTrue (is_before_live (phase_after (Took item.now) state.now.phase)) → IsTrue (is_before_live state.now.phase) }
+    ensures live { IsTrue (is_acting item.now) → is_before_live (phase_after (Took item.now) state.now.phase) ≡ false }
+    ensures fresh { IsTrue (is_second_gate item.now) → IsTrue (is_before_live state.now.phase) }
+    ensures filling { IsTrue (is_filling item.now) → length (outbox_after (Took item.now) state.now.outbox) < OUT }
+{
+    show_sender(state, item);
+}
+
+// The sender of an admitted envelope was started, so that it has one of the 16 core numbers.
+fn show_sender<const P: usize, const J: usize, const OUT: usize>(
+    state: &CoreState<'_, P, J, OUT>,
+    item: &Item,
+)
+    requires { IsTrue (admits OUT state.now item.now) }
+    ensures { IsTrue (is_sender_known item.now) }
+{
+    if let Item::Received {
+        from,
+        number: _,
+        message: _,
+    } = item
+    {
+        prove!(state.is_started(*from));
+    }
+}
+
+// What follows from an item that was taken; `awaited` is the call that was open before.
+fn follow<const P: usize, const J: usize, const OUT: usize>(
+    state: &mut CoreState<'_, P, J, OUT>,
+    item: &Item,
+    awaited: Option<OpenCall>,
+    marks: &mut Vec<Mark>,
+)
+    requires sender { IsTrue (is_sender_known item.now) }
+    requires live { IsTrue (is_acting item.now) → is_before_live state.old.phase ≡ false }
+    requires fresh { IsTrue (is_second_gate item.now) → state.old.jobs ≡ [] }
+    requires outbox { IsTrue (is_filling item.now) → length state.old.outbox < OUT }
+    requires count { state.old.entries < 2 ^ 62 + 40 }
+    requires room { vec_len marks.old + 32 ≤ vec_capacity marks.old }
+    ensures does { Does (λ v h. follows v awaited item.now h) state.old state.new marks.old.items marks.new.items }
+    ensures stays { StaysInItem 32 state.old state.new }
+    ensures adds { Adds 32 marks.old.items marks.new.items }
+    ensures len { vec_len marks.new ≤ vec_len marks.old + 32 }
+    ensures capacity { vec_capacity marks.new ≡ vec_capacity marks.old }
+{
+    match item {
+        Item::Began { core, status } => {
+            let mark = Mark::CoreStarted {
+                core: *core,
+                status: *status,
+            };
+            state.print(mark, marks);
+        }
+        Item::Pass1(agreement) => state.print(first_gate_mark(*agreement), marks),
+        Item::Pass2(_) => start(state, marks),
+        Item::Stim(stimulus) => go_on(state, *stimulus, marks),
+        Item::Received {
+            from,
+            number: _,
+            message,
+        } => receive(state, *from, message, awaited, marks),
+        Item::On => {}
+        Item::Entered => {}
+        Item::Readied => {}
+        Item::Posted(_) => {}
+        Item::Granted(_) => {}
+        Item::Tried {
+            spinlock: _,
+            taken: _,
+        } => {}
+        Item::Freed(_) => {}
+        Item::Halt { core: _, status: _ } => {}
+        Item::Drained => {}
+        Item::PassEnd => {}
+        Item::Last(_) => {}
+    }
+}
+
+fn first_gate_mark(agreement: Agreement) -> Mark
+    ensures value { result ≡ gate_mark agreement }
+    ensures plain { IsTrue (is_plain result) }
+{
+    match agreement {
+        Agreement::Conflict => Mark::ModesConflict,
+        Agreement::Mode(_) => Mark::StartupHook,
+        Agreement::NoMode => Mark::StartupHook,
+    }
+}
+
+// The second gate is passed: the tasks of the agreed mode start by themselves, in index order.
+fn start<const P: usize, const J: usize, const OUT: usize>(
+    state: &mut CoreState<'_, P, J, OUT>,
+    marks: &mut Vec<Mark>,
+)
+    requires live { is_before_live state.old.phase ≡ false }
+    requires fresh { state.old.jobs ≡ [] }
+    requires count { state.old.entries < 2 ^ 62 + 40 }
+    requires room { vec_len marks.old + 32 ≤ vec_capacity marks.old }
+    ensures does { Does (λ v h. autostarts (agreement_of h) (task_refs v) h) state.old state.new marks.old.items marks.new.items }
+    ensures stays { StaysInItem 32 state.old state.new }
+    ensures adds { Adds 32 marks.old.items marks.new.items }
+    ensures len { vec_len marks.new ≤ vec_len marks.old + 32 }
+    ensures capacity { vec_capacity marks.new ≡ vec_capacity marks.old }
+{
+    let agreement = state.agreement();
+    let core = state.id();
+    let tasks = state.tasks();
+    let mut index: u8 = 0;
+    for task in tasks {
+        let reference = TaskRef { core, index };
+        autostart(state, agreement, task, reference, marks);
+        index += 1;
+    }
+}
+
+fn autostart<const P: usize, const J: usize, const OUT: usize>(
+    state: &mut CoreState<'_, P, J, OUT>,
+    agreement: Option<Agreement>,
+    task: &Task,
+    reference: TaskRef,
+    marks: &mut Vec<Mark>,
+)
+    requires live { is_before_live state.old.phase ≡ false }
+    requires limit { job_count (Runner.Task reference) state.old.jobs < activation_limit state.old.view (Runner.Task reference) }
+    requires count { state.old.entries < 2 ^ 63 }
+    requires room { vec_len marks.old + 1 ≤ vec_capacity marks.old }
+    ensures does { Does (λ v h. (if names_mode agreement task.now then activates reference h else h)) state.old state.new marks.old.items marks.new.items }
+    ensures stays { StaysInItem 1 state.old state.new }
+    ensures adds { Adds 1 marks.old.items marks.new.items }
+    ensures len { vec_len marks.new ≤ vec_len marks.old + 1 }
+    ensures capacity { vec_capacity marks.new ≡ vec_capacity marks.old }
+    ensures jobs { state.new.jobs ≡ (if names_mode agreement task.now then state.old.jobs ++ record { runner = Runner.Task reference; stamp = state.old.entries } ∷ [] else state.old.jobs) }
+{
+    if is_started_in(agreement, task) {
+        state.activate(reference, marks);
+    }
+}
+
+// Whether the task's list names the mode; nothing starts by itself where there is no mode.
+fn is_started_in(agreement: Option<Agreement>, task: &Task) -> bool
+    ensures { result ≡ names_mode agreement task.now }
+{
+    match agreement {
+        Some(agreed) => is_mode_named(agreed, task),
+        None => false,
+    }
+}
+
+fn is_mode_named(agreement: Agreement, task: &Task) -> bool
+    ensures { result ≡ names_mode (Some agreement) task.now }
+{
+    match agreement {
+        Agreement::Conflict => false,
+        Agreement::Mode(mode) => is_listed(task.auto.as_slice(), mode),
+        Agreement::NoMode => false,
+    }
+}
+
+fn is_listed(modes: &[ModeId], mode: ModeId) -> bool
+    ensures { result ≡ list_any (λ named. named.index == mode.index) modes.now }
+{
+    modes.iter().any(|named| named.index == mode.index)
+}
+
+// The stimulus `op`: one operation of the running job, or its end; with nothing running it does nothing.
+fn go_on<const P: usize, const J: usize, const OUT: usize>(
+    state: &mut CoreState<'_, P, J, OUT>,
+    stimulus: Stimulus,
+    marks: &mut Vec<Mark>,
+)
+    requires live { is_before_live state.old.phase ≡ false }
+    requires outbox { length state.old.outbox < OUT }
+    requires count { state.old.entries < 2 ^ 62 + 40 }
+    requires room { vec_len marks.old + 3 ≤ vec_capacity marks.old }
+    ensures does { Does (λ v h. stimulates v stimulus h) state.old state.new marks.old.items marks.new.items }
+    ensures stays { StaysInItem 4 state.old state.new }
+    ensures adds { Adds 3 marks.old.items marks.new.items }
+    ensures len { vec_len marks.new ≤ vec_len marks.old + 3 }
+    ensures capacity { vec_capacity marks.new ≡ vec_capacity marks.old }
+{
+    match stimulus {
+        Stimulus::Op => go_on_by_one(state, marks),
+        Stimulus::Tick => {}
+        Stimulus::Irq(_) => {}
+    }
+}
+
+fn go_on_by_one<const P: usize, const J: usize, const OUT: usize>(
+    state: &mut CoreState<'_, P, J, OUT>,
+    marks: &mut Vec<Mark>,
+)
+    requires live { is_before_live state.old.phase ≡ false }
+    requires outbox { length state.old.outbox < OUT }
+    requires count { state.old.entries < 2 ^ 62 + 40 }
+    requires room { vec_len marks.old + 3 ≤ vec_capacity marks.old }
+    ensures does { Does (λ v h. goes_on v (running h) h) state.old state.new marks.old.items marks.new.items }
+    ensures stays { StaysInItem 4 state.old state.new }
+    ensures adds { Adds 3 marks.old.items marks.new.items }
+    ensures len { vec_len marks.new ≤ vec_len marks.old + 3 }
+    ensures capacity { vec_capacity marks.new ≡ vec_capacity marks.old }
+{
+    if let Some(job) = state.current_job() {
+        perform(state, job.runner, marks);
+    }
+}
+
+fn perform<const P: usize, const J: usize, const OUT: usize>(
+    state: &mut CoreState<'_, P, J, OUT>,
+    runner: Runner,
+    marks: &mut Vec<Mark>,
+)
+    requires own { IsTrue (is_own_runner state.old.view runner) }
+    requires live { is_before_live state.old.phase ≡ false }
+    requires outbox { length state.old.outbox < OUT }
+    requires count { state.old.entries < 2 ^ 62 + 40 }
+    requires room { vec_len marks.old + 3 ≤ vec_capacity marks.old }
+    ensures does { Does (λ v h. performs v runner (action_at (script_of v runner) (frame_at v runner h)) h) state.old state.new marks.old.items marks.new.items }
+    ensures stays { StaysInItem 4 state.old state.new }
+    ensures adds { Adds 3 marks.old.items marks.new.items }
+    ensures len { vec_len marks.new ≤ vec_len marks.old + 3 }
+    ensures capacity { vec_capacity marks.new ≡ vec_capacity marks.old }
+{
+    match state.next_action(runner) {
+        Action::Perform(op) => oscall::operate(state, runner, op, marks),
+        Action::End => oscall::end_unasked(state, runner, marks),
+    }
+}
+
+fn receive<const P: usize, const J: usize, const OUT: usize>(
+    state: &mut CoreState<'_, P, J, OUT>,
+    from: CoreId,
+    message: &Message,
+    awaited: Option<OpenCall>,
+    marks: &mut Vec<Mark>,
+)
+    requires live { is_before_live state.old.phase ≡ false }
+    requires sender { from.number < 16 }
+    requires outbox { IsTrue (is_request message.now) → length state.old.outbox < OUT }
+    requires count { state.old.entries < 2 ^ 62 + 40 }
+    requires room { vec_len marks.old + 3 ≤ vec_capacity marks.old }
+    ensures does { Does (λ v h. answers_to v awaited from message.now h) state.old state.new marks.old.items marks.new.items }
+    ensures stays { StaysInItem 3 state.old state.new }
+    ensures adds { Adds 3 marks.old.items marks.new.items }
+    ensures len { vec_len marks.new ≤ vec_len marks.old + 3 }
+    ensures capacity { vec_capacity marks.new ≡ vec_capacity marks.old }
+{
+    match message {
+        Message::Request(call) => oscall::serve_request(state, from, *call, marks),
+        Message::Action(call) => oscall::serve_action(state, from, *call, marks),
+        Message::Reply { status, value } => close(state, awaited, *status, *value, marks),
+    }
+}
+
+// The reply ends the open call.
+fn close<const P: usize, const J: usize, const OUT: usize>(
+    state: &mut CoreState<'_, P, J, OUT>,
+    awaited: Option<OpenCall>,
+    status: Status,
+    value: Option<i64>,
+    marks: &mut Vec<Mark>,
+)
+    requires count { state.old.entries < 2 ^ 62 + 40 }
+    requires room { vec_len marks.old + 3 ≤ vec_capacity marks.old }
+    ensures does { Does (λ v h. closes awaited status value h) state.old state.new marks.old.items marks.new.items }
+    ensures stays { StaysInItem 3 state.old state.new }
+    ensures adds { Adds 2 marks.old.items marks.new.items }
+    ensures len { vec_len marks.new ≤ vec_len marks.old + 2 }
+    ensures capacity { vec_capacity marks.new ≡ vec_capacity marks.old }
+{
+    if let Some(call) = awaited {
+        oscall::close(state, call, status, value, marks);
+    }
+}
+
+/// Dispatch, where the core schedules and no call is open.
+pub(crate) fn dispatch<const P: usize, const J: usize, const OUT: usize>(
+    state: &mut CoreState<'_, P, J, OUT>,
+    marks: &mut Vec<Mark>,
+)
+    requires count { state.old.entries < 2 ^ 62 + 40 }
+    requires room { vec_len marks.old + 2 ≤ vec_capacity marks.old }
+    ensures does { Does (λ v h. dispatches v h) state.old state.new marks.old.items marks.new.items }
+    ensures stays { StaysInItem 2 state.old state.new }
+    ensures adds { Adds 2 marks.old.items marks.new.items }
+    ensures len { vec_len marks.new ≤ vec_len marks.old + 2 }
+    ensures capacity { vec_capacity marks.new ≡ vec_capacity marks.old }
+{
+    if is_phase_scheduling(state.phase()) && state.awaited_call().is_none() {
+        let best = state.best_job();
+        go_to(state, best, marks);
+    }
+}
+
+// Going to the best job: nothing if it is the running one.
+fn go_to<const P: usize, const J: usize, const OUT: usize>(
+    state: &mut CoreState<'_, P, J, OUT>,
+    best: Option<Job>,
+    marks: &mut Vec<Mark>,
+)
+    requires count { state.old.entries < 2 ^ 62 + 40 }
+    requires room { vec_len marks.old + 2 ≤ vec_capacity marks.old }
+    ensures does { Does (λ v h. goes_to best h) state.old state.new marks.old.items marks.new.items }
+    ensures stays { StaysInItem 2 state.old state.new }
+    ensures adds { Adds 2 marks.old.items marks.new.items }
+    ensures len { vec_len marks.new ≤ vec_len marks.old + 2 }
+    ensures capacity { vec_capacity marks.new ≡ vec_capacity marks.old }
+{
+    if let Some(job) = best {
+        if !is_running(state, job) {
+            enter(state, job.runner, marks);
+        }
+    }
+}
+
+fn is_running<const P: usize, const J: usize, const OUT: usize>(
+    state: &CoreState<'_, P, J, OUT>,
+    job: Job,
+) -> bool
+    ensures { Reads (λ v h. option_map_or (same_job job) (running h) false) state.now result }
+{
+    match state.current_job() {
+        Some(running) => job.stamp == running.stamp,
+        None => false,
+    }
+}
+
+// PostTaskHook of the current task, if there is one, and PreTaskHook of the runner's
+// (OSEK/VDX OS 2.2.3, section 11.1).
+fn enter<const P: usize, const J: usize, const OUT: usize>(
+    state: &mut CoreState<'_, P, J, OUT>,
+    runner: Runner,
+    marks: &mut Vec<Mark>,
+)
+    requires count { state.old.entries < 2 ^ 62 + 40 }
+    requires room { vec_len marks.old + 2 ≤ vec_capacity marks.old }
+    ensures does { Does (λ v h. enters runner h) state.old state.new marks.old.items marks.new.items }
+    ensures stays { StaysInItem 2 state.old state.new }
+    ensures adds { Adds 2 marks.old.items marks.new.items }
+    ensures len { vec_len marks.new ≤ vec_len marks.old + 2 }
+    ensures capacity { vec_capacity marks.new ≡ vec_capacity marks.old }
+{
+    match runner {
+        Runner::Task(task) => enter_task(state, task, marks),
+        Runner::Isr(isr) => state.print(Mark::IsrEntered(isr), marks),
+    }
+}
+
+fn enter_task<const P: usize, const J: usize, const OUT: usize>(
+    state: &mut CoreState<'_, P, J, OUT>,
+    task: TaskRef,
+    marks: &mut Vec<Mark>,
+)
+    requires count { state.old.entries < 2 ^ 62 + 40 }
+    requires room { vec_len marks.old + 2 ≤ vec_capacity marks.old }
+    ensures does { Does (λ v h. enters (Runner.Task task) h) state.old state.new marks.old.items marks.new.items }
+    ensures stays { StaysInItem 2 state.old state.new }
+    ensures adds { Adds 2 marks.old.items marks.new.items }
+    ensures len { vec_len marks.new ≤ vec_len marks.old + 2 }
+    ensures capacity { vec_capacity marks.new ≡ vec_capacity marks.old }
+{
+    if let Some(current) = state.current() {
+        state.leave(current, marks);
+    }
+    state.enter(task, marks);
+}

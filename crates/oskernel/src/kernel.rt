@@ -1,0 +1,127 @@
+//! The kernel.
+
+ghost use Rattle.std.specs.Prelude.{◌≡◌, ◌+◌, ◌≤◌, [], nat_lt, IsTrue, IsSome, vec_len, vec_capacity, sum_by};
+ghost use Rattle.std.specs.List.{list_all};
+ghost use Rattle.osplan.specs.declared.plans.Task.{Task as TaskValue};
+ghost use Rattle.osplan.specs.View.{core_of, view_of};
+ghost use Rattle.osbase.specs.History.{outbox};
+ghost use Rattle.osstate.specs.Readings.{next_start};
+ghost use Rattle.osstate.specs.Readings.{phase_at};
+ghost use Rattle.osstate.specs.State.{state_of};
+ghost use Rattle.osstate.specs.Does.{Adds, Does, Reads};
+ghost use Rattle.oskernel.specs.Step.{after};
+ghost use Rattle.oskernel.specs.Wants.{want_in, want_of, post_or as front_or};
+ghost use Rattle.oskernel.specs.Admission.{front_in, may_take_of};
+
+use crate::admission::is_admitted;
+use crate::effects;
+use crate::wants::{Want, start_or_enter};
+use osbase::{CoreId, Envelope, Item, Mark, Phase};
+use osplan::Config;
+use osstate::CoreState;
+use std::marker::Model;
+
+// A core takes fewer items than this.
+const MOST_ITEMS: u64 = 1 << 48;
+
+/// The kernel of one core, with room for `J` live jobs and `OUT` envelopes; priorities are below `P`.
+#[derive(Drop)]
+pub struct Kernel<'a, const P: usize, const J: usize, const OUT: usize> {
+    state: CoreState<'a, P, J, OUT>,
+}
+
+impl<'a, const P: usize, const J: usize, const OUT: usize> Model for Kernel<'a, P, J, OUT> {
+    ghost use Rattle.osstate.specs.State.{KernelState};
+    ghost use Rattle.oskernel.specs.Bounded.{IsBounded};
+
+    ghost Value = { KernelState };
+
+    ghost view = { λ k. k.state };
+
+    ghost invariant = { λ k. IsBounded OUT k.state };
+}
+
+impl<'a, const P: usize, const J: usize, const OUT: usize> Kernel<'a, P, J, OUT> {
+    /// The kernel of a configured core that took no item. `OUT` is what the actions of its alarms and
+    /// schedule tables may fill at once, and 8 more.
+    pub fn new(config: &'a Config, core: CoreId) -> Self
+        requires configured { IsSome (core_of config.now core) }
+        requires priorities { IsTrue (list_all (λ (t : TaskValue). nat_lt t.priority P) (view_of config.now core).tasks) }
+        requires activations { sum_by (λ (t : TaskValue). t.activations) (view_of config.now core).tasks ≤ J }
+        requires outbox { 8 ≤ OUT }
+        ensures { result ≡ state_of (view_of config.now core) [] }
+    {
+        Kernel {
+            state: CoreState::new(config, core),
+        }
+    }
+
+    /// Where the core stands between off and ended.
+    pub fn phase(&self) -> Phase
+        ensures state { result ≡ self.now.phase }
+        ensures reads { Reads (λ v h. phase_at v h) self.now result }
+    {
+        self.state.phase()
+    }
+
+    /// What the core's own turn would do.
+    pub fn want(&self) -> Want
+        ensures state { result ≡ want_in self.now.phase (next_start self.now.view self.now.began) self.now.outbox }
+        ensures reads { Reads (λ v h. want_of v h) self.now result }
+    {
+        match self.state.phase() {
+            Phase::Boot => start_or_enter(self.state.next_start()),
+            Phase::BetweenGates => Want::Ready,
+            Phase::Live => self.post_or(Want::GoOn),
+            Phase::Drained => self.post_or(Want::Nothing),
+            Phase::Closing => self.post_or(Want::Nothing),
+            Phase::Off => Want::Nothing,
+            Phase::FirstGate => Want::Nothing,
+            Phase::SecondGate => Want::Nothing,
+            Phase::Ended => Want::Nothing,
+        }
+    }
+
+    // The front of the outbox goes before anything else.
+    fn post_or(&self, want: Want) -> Want
+        ensures { result ≡ front_or want self.now.outbox }
+    {
+        match self.state.front() {
+            Some(sent) => Want::Post(sent.to),
+            None => want,
+        }
+    }
+
+    /// The front of the outbox, with the core that it is for.
+    pub fn front(&self) -> Option<(CoreId, Envelope)>
+        ensures state { result ≡ front_in self.now.outbox }
+        ensures reads { Reads (λ v h. front_in (outbox h)) self.now result }
+    {
+        let sent = self.state.front()?;
+        Some((sent.to, sent.envelope))
+    }
+
+    /// Whether the item may be taken now.
+    pub fn may_take(&self, item: &Item) -> bool
+        ensures { result ≡ may_take_of OUT self.now item.now }
+    {
+        if self.state.items() < MOST_ITEMS {
+            return is_admitted(&self.state, item);
+        }
+        false
+    }
+
+    /// Takes an item that may be taken, and prints its marks.
+    pub fn step(&mut self, item: Item, marks: &mut Vec<Mark>)
+        requires taken { IsTrue (may_take_of OUT self.old item) }
+        requires room { vec_len marks.old + 512 ≤ vec_capacity marks.old }
+        ensures adds { Adds 512 marks.old.items marks.new.items }
+        ensures len { vec_len marks.new ≤ vec_len marks.old + 512 }
+        ensures capacity { vec_capacity marks.new ≡ vec_capacity marks.old }
+        ensures items { self.new.items ≡ self.old.items + 1 }
+        ensures does { Does (λ v h. after v h item) self.old self.new marks.old.items marks.new.items }
+    {
+        effects::take(&mut self.state, &item, marks);
+        effects::dispatch(&mut self.state, marks);
+    }
+}

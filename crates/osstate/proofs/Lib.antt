@@ -1,0 +1,7 @@
+pub mod Same
+pub mod JobLists
+pub mod Room
+pub mod Histories
+pub mod Sounds
+pub mod Begun
+pub mod ReadLemmas

@@ -1,0 +1,61 @@
+-- What holds of the state of every kernel: that nothing runs out of its room.
+use Rattle.std.specs.Prelude.{◌≡◌, ℕ, ◌≤◌, nat_le, nat_lt, Bool, true, false, IsTrue, is_some, [], length, slice_index, sum_by}
+use Rattle.std.specs.List.{list_all}
+use Rattle.std.specs.Option.{option_map_or}
+use Rattle.osbase.specs.declared.references.Runner.{Runner}
+use Rattle.osbase.specs.declared.items.Item.{Item}
+use Rattle.osbase.specs.declared.marks.Mark.{Mark}
+use Rattle.osbase.specs.declared.histories.Phase.{Phase}
+use Rattle.osbase.specs.History.{job_count}
+use Rattle.osplan.specs.declared.plans.Task.{Task}
+use Rattle.osplan.specs.View.{View}
+use Rattle.osstate.specs.Readings.{own_task}
+use Rattle.osstate.specs.State.{KernelState}
+
+-- The core does not schedule yet.
+abbrev pub is_before_live : Phase → Bool
+is_before_live Phase.Off = true
+is_before_live Phase.Boot = true
+is_before_live Phase.FirstGate = true
+is_before_live Phase.BetweenGates = true
+is_before_live Phase.SecondGate = true
+is_before_live p = false
+
+-- The runner is one of the core's own tasks.
+abbrev pub is_own_runner : View → Runner → Bool
+is_own_runner v (Runner.Task t) = is_some (own_task v t)
+is_own_runner v (Runner.Isr i) = false
+
+-- How many jobs of a runner may be live at once; none of what is not the core's own.
+abbrev pub activation_limit : View → Runner → ℕ
+activation_limit v (Runner.Task t) = option_map_or (λ (task : Task). task.activations) (own_task v t) 0
+activation_limit v (Runner.Isr i) = 0
+
+-- A mark that changes nothing but the length of the history.
+abbrev pub is_plain : Mark → Bool
+is_plain (Mark.Activated t) = false
+is_plain (Mark.Terminated t) = false
+is_plain (Mark.PreTaskHook t) = false
+is_plain (Mark.PostTaskHook t) = false
+is_plain m = true
+
+-- An envelope's sender has one of the 16 core numbers.
+abbrev pub is_sender_known : Item → Bool
+is_sender_known (Item.Received from number m) = nat_lt from.number 16
+is_sender_known item = true
+
+-- What holds of every kernel's state; `room` is how many jobs it has places for.
+pub record IsSound (room : ℕ) (s : KernelState) : Type 0 where
+  -- at most 32 tasks, each with a frame, whose activation limits are at least 1 and sum to at most the places for jobs
+  pub tasks : length s.view.tasks ≤ 32
+  pub frames : length s.frames ≡ length s.view.tasks
+  pub limits : sum_by (λ (t : Task). t.activations) s.view.tasks ≤ room
+  pub some : IsTrue (list_all (λ (t : Task). nat_le 1 t.activations) s.view.tasks)
+  -- no runner has more live jobs than it may have, and none before the core schedules
+  pub jobs : (r : Runner) → job_count r s.jobs ≤ activation_limit s.view r
+  pub idle : IsTrue (is_before_live s.phase) → s.jobs ≡ []
+  -- nothing is counted more often than the history has entries
+  pub began : s.began ≤ s.entries
+  pub items : s.items ≤ s.entries
+  pub queued : (k : ℕ) → slice_index s.queued k ≤ s.entries
+  pub received : (k : ℕ) → slice_index s.received k ≤ s.entries

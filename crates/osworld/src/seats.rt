@@ -1,0 +1,116 @@
+//! One core of a run.
+
+ghost use Rattle.std.specs.Prelude.{◌++◌, ◌∷◌, [], IsTrue, IsSome, ◌≡◌, ◌+◌, ◌<◌, ◌≤◌, IfOk, OnOk, vec_len, vec_capacity};
+ghost use Rattle.osbase.specs.declared.turns.TheConstants.{CORES};
+ghost use Rattle.osplan.specs.View.{core_of, view_of};
+ghost use Rattle.osplan.specs.Limits.{is_within_limits};
+ghost use Rattle.osstate.specs.Does.{Does};
+ghost use Rattle.osstate.specs.State.{state_of};
+ghost use Rattle.oskernel.specs.Admission.{may_take_of};
+ghost use Rattle.oskernel.specs.Step.{after};
+ghost use Rattle.osworld.specs.declared.seats.TheConstants.{MARKS};
+
+use osbase::{
+    CORES, CoreId, CoreStimuli, Envelope, Item, List, Mark, Phase, Report, Stimulus, stimuli_for,
+};
+use oskernel::{Kernel, Want};
+use osplan::{Config, Core, CoreMode};
+use std::alloc::{AllocError, Global};
+
+/// A kernel of the sizes that every configuration within the limits fits: 32 priorities, 64 jobs, an
+/// outbox of 64 envelopes.
+pub type CoreKernel<'a> = Kernel<'a, 32, 64, 64>;
+
+/// How many lines one item prints at most.
+pub const MARKS: usize = 512;
+
+/// A core of a run: its kernel, the stimuli that are left, and what it took and printed so far.
+#[derive(Drop)]
+pub struct Seat<'a> {
+    pub id: CoreId,
+    pub mode: CoreMode,
+    pub kernel: CoreKernel<'a>,
+    pub stimuli: &'a [Stimulus],
+    pub items: Vec<Item>,
+    pub marks: Vec<Mark>,
+    ghost known: { id.number < CORES },
+}
+
+impl<'a> Seat<'a> {
+    /// The core at the beginning of a run. It takes no memory yet.
+    pub fn new(
+        alloc: Global,
+        config: &'a Config,
+        id: CoreId,
+        mode: CoreMode,
+        stimuli: &'a [CoreStimuli],
+    ) -> Self
+        requires number { id.number < CORES }
+        requires configured { IsSome (core_of config.now id) }
+        requires limits { IsTrue (is_within_limits config.now) }
+        ensures kernel { result.kernel ≡ state_of (view_of config.now id) [] }
+        ensures empty { vec_len result.items ≡ 0 }
+    {
+        Seat {
+            id,
+            mode,
+            kernel: Kernel::new(config, id),
+            stimuli: stimuli_for(stimuli, id),
+            items: Vec::new(alloc),
+            marks: Vec::new(alloc),
+        }
+    }
+
+    /// Makes room for one more item and all lines that it may print. Without memory nothing changes.
+    pub fn make_room(&mut self) -> Result<(), AllocError>
+        ensures items { OnOk result (vec_len self.new.items < vec_capacity self.new.items) }
+        ensures marks { OnOk result (vec_len self.new.marks + MARKS ≤ vec_capacity self.new.marks) }
+        ensures kernel { self.new.kernel ≡ self.old.kernel }
+        ensures id { self.new.id ≡ self.old.id }
+        ensures taken { self.new.items.items ≡ self.old.items.items }
+        ensures printed { self.new.marks.items ≡ self.old.marks.items }
+    {
+        self.items.reserve(1)?;
+        self.marks.reserve(MARKS)
+    }
+
+    /// Takes an item: the kernel steps, and a stimulus is used up.
+    pub fn take(&mut self, item: Item)
+        requires items { vec_len self.old.items < vec_capacity self.old.items }
+        requires marks { vec_len self.old.marks + MARKS ≤ vec_capacity self.old.marks }
+        requires taken { IsTrue (may_take_of 64 self.old.kernel item) }
+        ensures id { self.new.id ≡ self.old.id }
+        ensures taken { self.new.items.items ≡ self.old.items.items ++ item ∷ [] }
+        ensures does { Does (λ v h. after v h item) self.old.kernel self.new.kernel self.old.marks.items self.new.marks.items }
+    {
+        if let Item::Stim(_) = item {
+            if let Some((_, rest)) = self.stimuli.split_first() {
+                self.stimuli = rest;
+            }
+        }
+        self.items.push_reserved(item);
+        self.kernel.step(item, &mut self.marks);
+    }
+
+    /// Whether the core has come to its end.
+    pub fn has_ended(&self) -> bool {
+        matches!(self.kernel.phase(), Phase::Ended)
+    }
+
+    /// What the run came to for this core.
+    pub fn report(self) -> Report {
+        let ended = self.has_ended();
+        let Seat {
+            id,
+            items,
+            marks,
+            ..
+        } = self;
+        Report {
+            core: id,
+            items: List::from_vec(items),
+            marks: List::from_vec(marks),
+            ended,
+        }
+    }
+}
