@@ -30,9 +30,9 @@ const LIMIT_TRACE: &str =
 const REFUSALS_TRACE: &str =
     "core 0\nhook Startup\nact A\npre A\nstat A ActivateTask E_OS_CORE\nhook Error E_OS_CORE\nstat A ActivateTask E_OS_ID\nhook Error E_OS_ID\nstat A ActivateTask E_OS_LIMIT\nhook Error E_OS_LIMIT\npost A\nend A\ncore 1\nended\n";
 
-/// A schedule that ends the first example's run, with useless turns and without a drop of work more.
+/// A schedule that ends the first example's run, with a useless turn among the others.
 const BORDER_SCHEDULE: &str =
-    r#""0o 1l 1o 0o 0l 1l 0o 1o 0l 1l 0o 0o 1s0 1o 0s1 1l 0o 1o 0o 1o 0l 1l 0l 1l""#;
+    r#""0o 1l 1o 0o 0l 1l 0o 1o 0l 1l 0o 0o 1s0 1o 0s1 1l 0o 1o 0o 1o 1o 0l 1l 0l 1l""#;
 
 /// The texts of an example, and what they come to.
 struct Example {
