@@ -1,6 +1,7 @@
 -- The printed numbers and words of faults. [own]
-use Rattle.std.specs.Prelude.{ℕ, List, codes}
-use Rattle.osconf.specs.Fault.{fault_number as conf_fault_number, fault_name as conf_fault_name}
+use Rattle.std.specs.Prelude.{ℕ, List, ◌++◌, codes}
+use Rattle.std.specs.Fmt.{decimal}
+use Rattle.osplan.specs.Fault.{fault_number as conf_fault_number, fault_name as conf_fault_name}
 use Rattle.mcos.specs.declared.faults.Fault.{Fault}
 use Rattle.mcos.specs.declared.faults.Fault.TheVariants.{Text, NoMemoryToRead, NoMemoryToRun, WriteFailed, Unreadable}
 
@@ -17,3 +18,7 @@ fault_name NoMemoryToRead = codes "NoMemory"
 fault_name NoMemoryToRun = codes "NoMemory"
 fault_name WriteFailed = codes "WriteFailed"
 fault_name Unreadable = codes "Unreadable"
+
+-- The line of a fault, with its end. [own]
+abbrev pub fault_text : Fault → List ℕ
+fault_text fault = codes "fault " ++ (decimal (fault_number fault) ++ (codes " " ++ (fault_name fault ++ codes "\n")))

@@ -2,15 +2,19 @@
 
 ghost use Rattle.std.specs.Prelude.{◌≡◌};
 ghost use Rattle.mcos.specs.Faults.{fault_number, fault_name};
+ghost use Rattle.mcos.specs.declared.faults.Fault.TheVariants.{NoMemoryToRun, Text, WriteFailed};
 
 use osconf::ConfFault;
+use ostrace::WriteFailed;
+use osworld::RunFault;
 
 /// Why a job was not done. The program prints `fault N Name` and exits with status 1.
 #[derive(Clone, Copy, Debug, PartialEq, Eq)]
 pub enum Fault {
     /// A text is not what it has to be.
     Text(ConfFault),
-    /// A growth was refused while reading.
+    /// A growth was refused before the texts were read: of the words, of a file's bytes or of the output's
+    /// buffer.
     NoMemoryToRead,
     /// A growth was refused in a run.
     NoMemoryToRun,
@@ -45,5 +49,29 @@ impl Fault {
             Fault::WriteFailed => "WriteFailed",
             Fault::Unreadable => "Unreadable",
         }
+    }
+}
+
+impl From<ConfFault> for Fault {
+    ghost from_gives = { λ text fault. fault ≡ Text text };
+
+    fn from(fault: ConfFault) -> Fault {
+        Fault::Text(fault)
+    }
+}
+
+impl From<RunFault> for Fault {
+    ghost from_gives = { λ _ fault. fault ≡ NoMemoryToRun };
+
+    fn from(_refused: RunFault) -> Fault {
+        Fault::NoMemoryToRun
+    }
+}
+
+impl From<WriteFailed> for Fault {
+    ghost from_gives = { λ _ fault. fault ≡ WriteFailed };
+
+    fn from(_failed: WriteFailed) -> Fault {
+        Fault::WriteFailed
     }
 }

@@ -1,5 +1,9 @@
 //! Files as bytes.
 
+ghost use Rattle.std.specs.Prelude.{◌+◌, IfOk};
+ghost use Rattle.mcos.specs.declared.files.TheConstants.{LARGEST, PIECE};
+ghost use Rattle.mcos.specs.Files.{HasFewerThan};
+
 use std::alloc::{AllocError, Global};
 use std::fs::File;
 use std::io::Read;
@@ -18,9 +22,11 @@ pub enum Reading {
     Unreadable,
 }
 
-/// Reads a whole file. One larger than `LARGEST` is answered as want of memory, so that a stream without
-/// an end ends.
-pub fn read_file<R: Files + AllocGlobal>(rt: &R, path: &str) -> Result<Reading, AllocError> {
+/// Reads a whole file. Where more follows after `LARGEST` bytes, that is answered as want of memory, so
+/// that a stream without an end ends.
+pub fn read_file<R: Files + AllocGlobal>(rt: &R, path: &str) -> Result<Reading, AllocError>
+    ensures { IfOk result (HasFewerThan (LARGEST + PIECE)) }
+{
     let Ok(mut file) = File::open(rt, path) else {
         return Ok(Reading::Unreadable);
     };

@@ -1,5 +1,11 @@
 //! What the program is asked to do.
 
+ghost use Rattle.std.specs.Prelude.{◌≡◌, IfErr, IfOk, map};
+ghost use Rattle.clap.specs.Words.{FailsBy, app_of, fault_of, found_of, kind_of, rows_of};
+ghost use Rattle.clap.specs.declared.error.ErrorKind.TheVariants.{OutOfMemory};
+ghost use Rattle.mcos.specs.CommandLine.{AsksFor, HasEntries, command_line};
+ghost use Rattle.mcos.specs.Jobs.{paths_of};
+
 use clap::{Arg, ArgAction, ArgMatches, Command, Error};
 use std::alloc::{AllocError, Global};
 use std::convert::AsStr;
@@ -17,7 +23,9 @@ pub enum Job<'a> {
 
 impl<'a> Job<'a> {
     /// The paths of its files, in the order in which they are read and judged.
-    pub fn paths(&self, alloc: Global) -> Result<Vec<&'a str>, AllocError> {
+    pub fn paths(&self, alloc: Global) -> Result<Vec<&'a str>, AllocError>
+        ensures { IfOk result (λ paths. map (λ path. path.now) paths.items ≡ paths_of self.now) }
+    {
         let Job::Run {
             config,
             stimuli,
@@ -35,7 +43,10 @@ impl<'a> Job<'a> {
 
 /// The job that the words ask for, the program's name first. Usage and help are `clap`'s errors; want
 /// of memory is its `OutOfMemory`.
-pub fn job_of<'a, S: AsStr>(alloc: Global, words: &'a [S]) -> Result<Job<'a>, Error> {
+pub fn job_of<'a, S: AsStr>(alloc: Global, words: &'a [S]) -> Result<Job<'a>, Error>
+    ensures job { IfOk result (AsksFor (map S.text words.entry.now)) }
+    ensures fault { FailsBy (fault_of command_line (map S.text words.entry.now)) result }
+{
     let matches = command(alloc)?.try_get_matches_from(words)?;
     match matches.subcommand_matches("run") {
         Some(run) => run_job(run),
@@ -44,7 +55,10 @@ pub fn job_of<'a, S: AsStr>(alloc: Global, words: &'a [S]) -> Result<Job<'a>, Er
 }
 
 // The entries of `run`, which its required arguments have.
-fn run_job<'a>(run: &ArgMatches<'a>) -> Result<Job<'a>, Error> {
+fn run_job<'a>(run: &ArgMatches<'a>) -> Result<Job<'a>, Error>
+    ensures job { IfOk result (HasEntries (rows_of (found_of run.now))) }
+    ensures memory { IfErr result (λ error. kind_of error ≡ OutOfMemory) }
+{
     let (Some(config), Some(stimuli)) = (run.get_str("CFG"), run.get_str("STIM")) else {
         return Err(Error::from(AllocError));
     };
@@ -56,7 +70,9 @@ fn run_job<'a>(run: &ArgMatches<'a>) -> Result<Job<'a>, Error> {
 }
 
 // The program's command line.
-fn command<'a>(alloc: Global) -> Result<Command<'a>, AllocError> {
+fn command<'a>(alloc: Global) -> Result<Command<'a>, AllocError>
+    ensures { IfOk result (λ command. app_of command ≡ command_line) }
+{
     let config = Arg::new(alloc, "CFG")
         .required(true)
         .help("the configuration, a JSON file");

@@ -12,14 +12,17 @@ use crate::faults::Fault;
 use crate::files::{Reading, read_file};
 use crate::jobs::{Job, job_of};
 use crate::performs::{FAULT, fault_line, perform};
-use ostrace::WriteSink;
+use ostrace::{WriteSink, write_all};
 use std::alloc::AllocError;
 use std::env;
-use std::io::{BufWriter, Write};
+use std::io::{BufWriter, ErrorKind, Write};
 use std::process::ExitCode;
 
 /// How many bytes of output are gathered before they are written.
 const BUFFER: usize = 65536;
+
+/// The exit status of words that are no job, as `clap` has it.
+const USAGE: u8 = 2;
 
 fn main(rt: HostRuntime) -> ExitCode {
     match run(&rt) {
@@ -36,8 +39,10 @@ fn main(rt: HostRuntime) -> ExitCode {
 // other fault is printed, and has its status.
 fn run(rt: &HostRuntime) -> Result<u8, AllocError> {
     let alloc = rt.alloc();
-    let Ok(args) = env::args(rt) else {
-        return Err(AllocError);
+    let args = match env::args(rt) {
+        Ok(args) => args,
+        Err(error) if error.kind() == ErrorKind::OutOfMemory => return Err(AllocError),
+        Err(_) => return Ok(refuse_words(rt)),
     };
     let words: Vec<String> = args.collect(alloc)?;
     match job_of(alloc, words.as_slice()) {
@@ -50,6 +55,13 @@ fn run(rt: &HostRuntime) -> Result<u8, AllocError> {
             Ok(error.exit_code() as u8)
         }
     }
+}
+
+// A word that is not UTF-8 is wrong usage.
+fn refuse_words(rt: &HostRuntime) -> u8 {
+    let mut err = WriteSink::new(rt.stderr());
+    let _ = write_all(&mut err, b"error: a word of the command line is not UTF-8\n");
+    USAGE
 }
 
 // Reads the job's files, performs it, and sends off what is still gathered.

@@ -23,7 +23,7 @@ use Rattle.osbase.specs.declared.histories.Phase.{Phase}
 pub data Note : Type 0 where
   -- a service of a job awaits another core's reply
   Opened : OpenCall → Note
-  -- an envelope for this core joins the outbox
+  -- an envelope for the core that is named joins the outbox
   Queued : CoreId → Envelope → Note
   -- an operation of the runner's oldest live job is done, with this status and value
   Done : Runner → Status → Option ℤ → Note
@@ -101,7 +101,7 @@ oldest r [] = None
 oldest r (j ∷ js) = if same_runner j.runner r then Some j else oldest r js
 
 -- The current task: it entered the running state and has not left it since.
--- [OSEK/VDX OS 2.2.3, section 4.2; the code keeps the job.]
+-- [OSEK/VDX OS 2.2.3, section 4.2; the code keeps the same task.]
 abbrev pub current_after : Entry → Option TaskRef → Option TaskRef
 current_after (Printed (Mark.PreTaskHook t)) current = Some t
 current_after (Printed (Mark.PostTaskHook t)) None = None
@@ -122,7 +122,8 @@ oldest_of (Some t) jobs = oldest (Runner.Task t) jobs
 abbrev pub current_job : History → Option Job
 current_job h = oldest_of (current_task h) (live_jobs h)
 
--- A job that may run: a live job of a task. None of them can wait yet. [OSEK/VDX OS 2.2.3, section 4.2]
+-- A live job that may run: each of them, since only tasks have jobs and none of them can wait yet.
+-- [OSEK/VDX OS 2.2.3, section 4.2]
 abbrev pub is_able : Job → Bool
 is_able j = true
 
@@ -140,7 +141,7 @@ first_greatest priority [] = None
 first_greatest priority (j ∷ js) = Some (better_of priority j (first_greatest priority js))
 
 -- The job to run: the able job of greatest current priority, and of these the one of smallest stamp.
--- [OSEK/VDX OS 2.2.3, section 4.6.5; the code reads the same list through.]
+-- [OSEK/VDX OS 2.2.3, section 4.4 and 4.5; the code reads the same list through.]
 abbrev pub best : (Job → ℕ) → History → Option Job
 best priority h = first_greatest priority (filter is_able (live_jobs h))
 
@@ -198,7 +199,7 @@ received s (Took (Item.Received from number m) ∷ h) = if same_core from s then
 received s (e ∷ h) = received s h
 
 -- The phase: the master begins in boot, another core off, and items lead on.
--- [AUTOSAR SWS OS 4.x, section 7.9.4 and 7.9.5, start and synchronisation of the cores]
+-- [AUTOSAR SWS OS 4.x, SWS_Os_00579 and SWS_Os_00580, the two synchronisation points of StartOS]
 abbrev pub phase_after : Entry → Phase → Phase
 phase_after (Took Item.On) p = Phase.Boot
 phase_after (Took Item.Entered) p = Phase.FirstGate
@@ -233,7 +234,7 @@ began_count (Took (Item.Began k s) ∷ h) = suc (began_count h)
 began_count (e ∷ h) = began_count h
 
 -- The application mode that the started cores came to, once the first gate is passed.
--- [AUTOSAR SWS OS 4.x, section 7.9.5]
+-- [AUTOSAR SWS OS 4.x, SWS_Os_00608 to SWS_Os_00610]
 abbrev pub agreement_of : History → Option Agreement
 agreement_of [] = None
 agreement_of (Took (Item.Pass1 a) ∷ h) = Some a

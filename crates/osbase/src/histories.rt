@@ -12,7 +12,7 @@ pub enum Phase {
     FirstGate,
     BetweenGates,
     SecondGate,
-    /// Scheduling, with stimuli left.
+    /// Scheduling, and taking stimuli.
     Live,
     /// Scheduling, and only serving other cores.
     Drained,

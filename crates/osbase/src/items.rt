@@ -22,7 +22,7 @@ pub struct CoreSet {
 }
 
 /// What the started cores' application modes came to at the first synchronisation point of
-/// StartOS (AUTOSAR SWS OS 4.x, section 7.9.5).
+/// StartOS (AUTOSAR SWS OS 4.x, SWS_Os_00608 to SWS_Os_00610).
 #[derive(Clone, Copy, Debug, PartialEq, Eq)]
 pub enum Agreement {
     /// Two cores name different modes.

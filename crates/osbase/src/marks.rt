@@ -8,7 +8,7 @@ use crate::statuses::{ServiceId, Status};
 #[derive(Clone, Copy, Debug, PartialEq, Eq)]
 pub enum Mark {
     /// `start K S`: StartCore before StartOS.
-    CoreStarted {
+    StartCoreReturned {
         core: CoreId,
         status: Status,
     },
@@ -69,7 +69,7 @@ pub enum Mark {
     /// `begin S`: the next schedule table begins at the end of a period.
     TableBegun(TableRef),
     /// `out K op`: a request or an action goes to the outbox.
-    CallPosted {
+    CallQueued {
         core: CoreId,
         call: RemoteCall,
     },
@@ -93,7 +93,7 @@ pub enum Mark {
         variable: Variable,
         value: i64,
     },
-    /// `halt K S`: the shutdown of all cores that this core asked for is taken.
+    /// `halt K S`: the shutdown of all cores is taken that core K asked for first.
     Halted {
         core: CoreId,
         status: Status,

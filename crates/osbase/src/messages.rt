@@ -3,7 +3,7 @@
 use crate::references::{AlarmRef, TaskRef, Variable};
 use crate::statuses::Status;
 
-/// A service that a core asks of another core's object (AUTOSAR SWS OS 4.x, section 7.9.18).
+/// A service that a core asks of another core's object (AUTOSAR SWS OS 4.x, SWS_Os_00596 and SWS_Os_00602).
 #[derive(Clone, Copy, Debug, PartialEq, Eq)]
 pub enum RemoteCall {
     ActivateTask(TaskRef),
@@ -22,7 +22,7 @@ pub enum RemoteCall {
         cycle: u32,
     },
     CancelAlarm(AlarmRef),
-    /// The variable is the caller's, and stands in the printed line alone.
+    /// The variable is the caller's, and gets the value there; here it stands in the printed line.
     GetAlarm {
         alarm: AlarmRef,
         variable: Variable,

@@ -3,7 +3,7 @@
 ghost use Rattle.std.specs.Prelude.{◌≡◌};
 ghost use Rattle.osbase.specs.Words.{status_number, status_name, service_name};
 
-/// What a service answers (OSEK/VDX OS 2.2.3, StatusType; AUTOSAR SWS OS 4.x, section 7.7).
+/// What a service answers (OSEK/VDX OS 2.2.3, StatusType; AUTOSAR SWS OS 4.x, StatusType).
 /// The numbers 0 to 8 are OSEK's; the others are this project's own.
 #[derive(Clone, Copy, Debug, PartialEq, Eq)]
 pub enum Status {
@@ -58,7 +58,7 @@ impl Status {
     }
 }
 
-/// A service whose status a trace prints (AUTOSAR SWS OS 4.x, OSServiceIdType).
+/// A service whose status a trace prints (OSEK/VDX OS 2.2.3, section 13.8.1, OSServiceIdType).
 #[derive(Clone, Copy, Debug, PartialEq, Eq)]
 pub enum ServiceId {
     ActivateTask,

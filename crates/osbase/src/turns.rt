@@ -9,7 +9,7 @@ use crate::lists::List;
 use crate::marks::Mark;
 use crate::references::CoreId;
 
-/// How many core numbers there are: cores are numbered below this.
+/// Configured cores are numbered below this.
 pub const CORES: usize = 16;
 
 /// The stimuli of one core, in order.

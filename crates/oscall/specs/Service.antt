@@ -3,7 +3,7 @@
 -- A service answers the status of the first check that fails, or E_OK, and then has its effect. An
 -- effect is a function from history to history. The lines of a call are: effects, the status, the
 -- error hook, and then dispatch.
-use Rattle.std.specs.Prelude.{ℤ, ◌&&◌, Bool, true, false, not, if◌then◌else◌, Option, Some, None, is_none, List, [], ◌∷◌}
+use Rattle.std.specs.Prelude.{ℤ, ◌&&◌, Bool, true, false, not, if◌then◌else◌, Option, Some, None, is_none, is_some, List, [], ◌∷◌}
 use Rattle.std.specs.Option.{option_map_or}
 use Rattle.osbase.specs.declared.statuses.Status.{Status}
 use Rattle.osbase.specs.declared.statuses.Status.TheVariants.{EOk, EOsCallevel, EOsId, EOsLimit, EOsMissingend, EOsCore}
@@ -20,7 +20,7 @@ use Rattle.osbase.specs.History.{History, Printed, Noted, Opened, Queued, Done, 
 use Rattle.oscript.specs.declared.Op.{Op}
 use Rattle.oscript.specs.declared.Op.TheVariants.{Work, ActivateTask, TerminateTask}
 use Rattle.osplan.specs.View.{View}
-use Rattle.osstate.specs.Readings.{is_own, is_at_limit, is_started}
+use Rattle.osstate.specs.Readings.{is_own, is_at_limit, is_started, own_task}
 
 -- A check: whether it fails, and what is answered then. [own]
 abbrev pub Check : Type 0
@@ -39,7 +39,7 @@ is_ok_status s = false
 abbrev pub prints : Mark → History → History
 prints mark h = Printed mark ∷ h
 
--- A status other than E_OK calls ErrorHook. [OSEK/VDX OS 2.2.3, section 11.1]
+-- A status other than E_OK calls ErrorHook. [OSEK/VDX OS 2.2.3, section 11.2]
 abbrev pub reports : Status → History → History
 reports status h = if is_ok_status status then h else prints (Mark.ErrorHook status) h
 
@@ -54,17 +54,17 @@ abbrev pub queues : CoreId → Message → History → History
 queues core message h = Noted (Queued core (record { number = queued_count core h; message = message })) ∷ h
 
 -- A service on another core's object: a request goes to the outbox, and the call stays open until its reply.
--- [AUTOSAR SWS OS 4.x, section 7.9.18; that it is a request and a reply is this project's own]
+-- [AUTOSAR SWS OS 4.x, SWS_Os_00596 and SWS_Os_00602; that it is a request and a reply is this project's own]
 abbrev pub asks : Runner → ServiceId → CoreId → RemoteCall → History → History
 asks r service core call h =
     Noted (Opened (record { runner = r; service = service; core = core }))
-    ∷ queues core (Message.Request call) (prints (Mark.CallPosted core call) h)
+    ∷ queues core (Message.Request call) (prints (Mark.CallQueued core call) h)
 
 -- A job of the task begins. [OSEK/VDX OS 2.2.3, section 4.3]
 abbrev pub activates : TaskRef → History → History
 activates t h = prints (Mark.Activated t) h
 
--- The runner's oldest job ends by its own act: PostTaskHook comes first. [OSEK/VDX OS 2.2.3, section 11.1]
+-- The runner's oldest job ends by its own act: PostTaskHook comes first. [OSEK/VDX OS 2.2.3, section 11.5]
 abbrev pub ends : Runner → History → History
 ends (Runner.Task t) h = prints (Mark.Terminated t) (prints (Mark.PostTaskHook t) h)
 ends (Runner.Isr i) h = prints (Mark.IsrLeft i) h
@@ -98,10 +98,12 @@ is_isr (Runner.Isr i) = true
 abbrev pub termination_checks : Runner → List Check
 termination_checks r = (is_isr r, EOsCallevel) ∷ []
 
--- What an operation of the runner's job does; a refused service has no effect.
+-- A service that is refused has no effect but to return its status.
 abbrev pub answers : Runner → ServiceId → Status → (History → History) → History → History
 answers r service status effect h = if is_ok_status status then effect h else returns r service status None h
 
+-- What an operation of the runner's job does. `work` has no effect but to be done. [own: one operation is one unit
+-- of a script]
 abbrev pub operates : View → Runner → Op → History → History
 operates v r Work h = Noted (Done r EOk None) ∷ h
 operates v r (ActivateTask target) h =
@@ -109,7 +111,13 @@ operates v r (ActivateTask target) h =
 operates v r TerminateTask h =
     answers r Service.TerminateTask (first_failing (termination_checks r)) (ends r) h
 
--- The part of a service that the object's own core does for another: the remaining checks, and the effect.
+-- A call that goes across cores, to an object of this core. Only ActivateTask does so far. [own]
+abbrev pub is_served : View → RemoteCall → Bool
+is_served v (Remote.ActivateTask t) = is_some (own_task v t)
+is_served v call = false
+
+-- The part of a service that the object's own core does for another: the remaining checks, and the effect. A call
+-- that is not served has none of them.
 abbrev pub served_checks : View → RemoteCall → History → List Check
 served_checks v (Remote.ActivateTask t) h = (is_at_limit v t h, EOsLimit) ∷ []
 served_checks v call h = []

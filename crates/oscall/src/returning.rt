@@ -7,7 +7,7 @@ ghost use Rattle.oscall.specs.Service.{asks, reports, returns};
 use osbase::{CoreId, Mark, Message, OpenCall, RemoteCall, Runner, ServiceId, Status};
 use osstate::CoreState;
 
-/// A status other than E_OK calls ErrorHook (OSEK/VDX OS 2.2.3, section 11.1).
+/// A status other than E_OK calls ErrorHook (OSEK/VDX OS 2.2.3, section 11.2).
 pub fn report<const P: usize, const J: usize, const OUT: usize>(
     state: &mut CoreState<'_, P, J, OUT>,
     status: Status,
@@ -57,7 +57,7 @@ pub fn finish<const P: usize, const J: usize, const OUT: usize>(
 }
 
 /// A service on another core's object: its request joins the outbox, and the call stays open until the
-/// reply comes (AUTOSAR SWS OS 4.x, section 7.9.18).
+/// reply comes (AUTOSAR SWS OS 4.x, SWS_Os_00596 and SWS_Os_00602).
 pub fn ask<const P: usize, const J: usize, const OUT: usize>(
     state: &mut CoreState<'_, P, J, OUT>,
     runner: Runner,
@@ -76,7 +76,7 @@ pub fn ask<const P: usize, const J: usize, const OUT: usize>(
     ensures len { vec_len marks.new ≤ vec_len marks.old + 1 }
     ensures capacity { vec_capacity marks.new ≡ vec_capacity marks.old }
 {
-    state.print(Mark::CallPosted { core, call }, marks);
+    state.print(Mark::CallQueued { core, call }, marks);
     state.queue(core, Message::Request(call));
     state.open_call(OpenCall {
         runner,

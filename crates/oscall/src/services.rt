@@ -13,7 +13,7 @@ use oscript::Op;
 use osstate::CoreState;
 
 /// The oldest job of one of the core's tasks ends by its own act: PostTaskHook comes first
-/// (OSEK/VDX OS 2.2.3, section 11.1).
+/// (OSEK/VDX OS 2.2.3, section 11.5).
 pub fn end<const P: usize, const J: usize, const OUT: usize>(
     state: &mut CoreState<'_, P, J, OUT>,
     runner: Runner,

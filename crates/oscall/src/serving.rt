@@ -3,7 +3,7 @@
 ghost use Rattle.std.specs.Prelude.{◌≡◌, ◌+◌, ◌<◌, ◌≤◌, ◌^◌, IsTrue, false, length, vec_len, vec_capacity};
 ghost use Rattle.osstate.specs.Does.{Adds, Does, Reads, StaysInItem};
 ghost use Rattle.osstate.specs.Sound.{is_before_live};
-ghost use Rattle.oscall.specs.Service.{served_status, serves, serves_action, serves_request};
+ghost use Rattle.oscall.specs.Service.{is_served, served_status, serves, serves_action, serves_request};
 ghost use Rattle.oscall.specs.Started.{serves_own};
 
 use crate::returning::report;
@@ -17,6 +17,7 @@ fn serve<const P: usize, const J: usize, const OUT: usize>(
     call: RemoteCall,
     marks: &mut Vec<Mark>,
 ) -> Status
+    requires served { IsTrue (is_served state.old.view call) }
     requires live { is_before_live state.old.phase ≡ false }
     requires count { state.old.entries + 1 < 2 ^ 63 }
     requires room { vec_len marks.old + 2 ≤ vec_capacity marks.old }
@@ -39,12 +40,13 @@ fn serve<const P: usize, const J: usize, const OUT: usize>(
     status
 }
 
-// The remaining checks and the effect: none but ActivateTask has any yet.
+// The remaining checks and the effect.
 fn act<const P: usize, const J: usize, const OUT: usize>(
     state: &mut CoreState<'_, P, J, OUT>,
     call: RemoteCall,
     marks: &mut Vec<Mark>,
 ) -> Status
+    requires served { IsTrue (is_served state.old.view call) }
     requires live { is_before_live state.old.phase ≡ false }
     requires count { state.old.entries < 2 ^ 63 }
     requires room { vec_len marks.old < vec_capacity marks.old }
@@ -56,10 +58,10 @@ fn act<const P: usize, const J: usize, const OUT: usize>(
     ensures len { vec_len marks.new ≤ vec_len marks.old + 1 }
     ensures capacity { vec_capacity marks.new ≡ vec_capacity marks.old }
 {
-    if let RemoteCall::ActivateTask(task) = call {
-        return activate_for(state, task, marks);
-    }
-    Status::EOk
+    let RemoteCall::ActivateTask(task) = call else {
+        unreachable!()
+    };
+    activate_for(state, task, marks)
 }
 
 fn activate_for<const P: usize, const J: usize, const OUT: usize>(
@@ -92,6 +94,7 @@ pub fn serve_request<const P: usize, const J: usize, const OUT: usize>(
     call: RemoteCall,
     marks: &mut Vec<Mark>,
 )
+    requires served { IsTrue (is_served state.old.view call) }
     requires live { is_before_live state.old.phase ≡ false }
     requires sender { from.number < 16 }
     requires outbox { length state.old.outbox < OUT }
@@ -120,6 +123,7 @@ pub fn serve_action<const P: usize, const J: usize, const OUT: usize>(
     call: RemoteCall,
     marks: &mut Vec<Mark>,
 )
+    requires served { IsTrue (is_served state.old.view call) }
     requires live { is_before_live state.old.phase ≡ false }
     requires count { state.old.entries + 2 < 2 ^ 63 }
     requires room { vec_len marks.old + 3 ≤ vec_capacity marks.old }

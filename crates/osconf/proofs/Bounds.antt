@@ -15,8 +15,8 @@ use Rattle.osconf.specs.declared.shapes.ConfigText.{ConfigText}
 use Rattle.osconf.specs.declared.shapes.CoreText.{CoreText}
 use Rattle.osconf.specs.declared.shapes.TaskText.{TaskText}
 use Rattle.oscript.specs.declared.Op.TheVariants.{ActivateTask}
-use Rattle.osconf.specs.declared.faults.ConfFault.{ConfFault}
-use Rattle.osconf.specs.declared.faults.ConfFault.TheVariants.{Limit, DuplicateName, UnknownName}
+use Rattle.osplan.specs.declared.faults.ConfFault.{ConfFault}
+use Rattle.osplan.specs.declared.faults.ConfFault.TheVariants.{Limit, DuplicateName, UnknownName}
 use Rattle.osconf.specs.Fault.{failing}
 use Rattle.osconf.specs.Operation.{Form, work, activate, terminate, operations_of, form_of, op_of_form}
 use Rattle.osconf.specs.Check.{is_between, is_task_within, is_core_within, is_within, has_name, same_number, is_apart, is_first_apart, are_cores_distinct, is_each_once, are_known, tests_of}
@@ -35,7 +35,7 @@ right false b h = absurd (true≢false (sym h))
 
 -- ---- numbers
 
-byte-small : (n : ℕ) → n ≤ 255 → byte_of (Some n) ≡ n
+pub byte-small : (n : ℕ) → n ≤ 255 → byte_of (Some n) ≡ n
 byte-small n le = rw (le-leb n 255 le) refl
 
 byte-at_most-if : (b : Bool) (n : ℕ) → cond b n 0 ≤ n
@@ -82,16 +82,16 @@ bytes-differ (Some n) (Some m) in_a in_b other =
 
 -- ---- lists of tests
 
-list_all-by : {X Y : Type 0} (p : X → Bool) (q : Y → Bool) (f : X → Y) → ((x : X) → p x ≡ true → q (f x) ≡ true) → (xs : List X) → list_all p xs ≡ true → list_all q (map f xs) ≡ true
+pub list_all-by : {X Y : Type 0} (p : X → Bool) (q : Y → Bool) (f : X → Y) → ((x : X) → p x ≡ true → q (f x) ≡ true) → (xs : List X) → list_all p xs ≡ true → list_all q (map f xs) ≡ true
 list_all-by p q f each [] h = refl
 list_all-by p q f each (x ∷ xs) h = both (q (f x)) (list_all q (map f xs)) (each x (left (p x) (list_all p xs) h)) (list_all-by p q f each xs (right (p x) (list_all p xs) h))
 
-list_all-both : {X : Type 0} (p q : X → Bool) (xs : List X) → list_all p xs ≡ true → list_all q xs ≡ true → list_all (λ x. p x && q x) xs ≡ true
+pub list_all-both : {X : Type 0} (p q : X → Bool) (xs : List X) → list_all p xs ≡ true → list_all q xs ≡ true → list_all (λ x. p x && q x) xs ≡ true
 list_all-both p q [] g h = refl
 list_all-both p q (x ∷ xs) g h =
     both (p x && q x) _ (both (p x) (q x) (left (p x) (list_all p xs) g) (left (q x) (list_all q xs) h)) (list_all-both p q xs (right (p x) (list_all p xs) g) (right (q x) (list_all q xs) h))
 
-list_all-always : {X Y : Type 0} (q : Y → Bool) (y : Y) → q y ≡ true → (xs : List X) → list_all q (map (λ (x : X). y) xs) ≡ true
+pub list_all-always : {X Y : Type 0} (q : Y → Bool) (y : Y) → q y ≡ true → (xs : List X) → list_all q (map (λ (x : X). y) xs) ≡ true
 list_all-always q y h [] = refl
 list_all-always q y h (x ∷ xs) = both (q y) _ h (list_all-always q y h xs)
 
@@ -257,7 +257,7 @@ plan-bounds t within once known =
     both _ _ (both _ _ (both _ _ (both _ _ (both _ _ (both _ _ (both _ _ (both _ _ (byte-low 1 16 t.cap (omega arith) cap) (byte-high 1 16 t.cap (omega arith) cap)) refl) refl) (rw len some)) (rw len most)) (cores-distinct t.cores t.cores distinct cores)) (master-found t.cores t.cores t.master (left _ _ known) cores))
     (list_all-by is_core_within (limits.is_core_within (plan_of t)) (core_plan t.cores) (core-bounds t places) t.cores cores)
 
-row-passes : (fault : ConfFault) (passes : Bool) (faults : List ConfFault) → cond passes faults (fault ∷ faults) ≡ [] → (passes ≡ true) × (faults ≡ [])
+pub row-passes : (fault : ConfFault) (passes : Bool) (faults : List ConfFault) → cond passes faults (fault ∷ faults) ≡ [] → (passes ≡ true) × (faults ≡ [])
 row-passes fault true faults e = (refl, e)
 row-passes fault false faults e = cc
 

@@ -1,8 +1,9 @@
 -- In a table of ascending faults the first that fails is the least.
 use Rattle.std.proofs.Common.{◌≡◌, ℕ, zero, suc, ◌<◌, Bool, true, false, cond, List, [], ◌∷◌, length, get_or, Some, sym, ap, arith}
-use Rattle.osconf.specs.declared.faults.ConfFault.{ConfFault}
+use Rattle.osplan.specs.declared.faults.ConfFault.{ConfFault}
 use Rattle.osconf.specs.declared.shapes.ConfigText.{ConfigText}
-use Rattle.osconf.specs.Fault.{Tests, fault_number, failing, first_fault}
+use Rattle.osplan.specs.Fault.{fault_number}
+use Rattle.osconf.specs.Fault.{Tests, failing, first_fault}
 use Rattle.osconf.specs.Check.{tests_of}
 use Rattle.osconf.specs.Meaning.{IsLeast}
 

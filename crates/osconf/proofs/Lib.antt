@@ -5,3 +5,11 @@ pub mod Splitting
 pub mod Placing
 pub mod Least
 pub mod Bounds
+pub mod Sayings
+pub mod Joining
+pub mod Formed
+pub mod Reshaped
+pub mod Placed
+pub mod Restored
+pub mod Faultless
+pub mod Flat

@@ -5,7 +5,8 @@ use Rattle.std.specs.Str.{bytes_eq}
 use Rattle.std.proofs.lemmas.Bool.{ne_eqb}
 use Rattle.std.proofs.Math.Dec.{eqb-suc-zero}
 use Rattle.std.proofs.lemmas.List.Splits.{join_with_byte-slice_split, length-slice_split}
-use Rattle.osconf.specs.Word.{is_name, is_name_part, parts_of}
+use Rattle.osplan.specs.Expressible.{is_name, is_name_part}
+use Rattle.osconf.specs.Word.{parts_of}
 use Rattle.osconf.specs.Operation.{activate, target_of, lone_form, form_with, form_of, form_of_words}
 
 -- the parts between spaces

@@ -1,10 +1,11 @@
--- The tests of a configuration's text, a row for each fault past its shape. Each is defined apart from
+-- The tests of a configuration's text, a row for each fault past its shape that a text can have so far. Each is defined apart from
 -- the others, over the text as it stands. [own]
-use Rattle.std.specs.Prelude.{ℕ, ◌==◌, ◌&&◌, nat_le, Bool, true, false, not, is_some, Option, Some, None, List, [], ◌∷◌, length, codes}
+use Rattle.std.specs.Prelude.{ℕ, ◌==◌, ◌&&◌, nat_le, Bool, true, false, not, is_some, Option, Some, None, List, [], ◌∷◌, length}
 use Rattle.std.specs.Option.{option_map_or}
 use Rattle.std.specs.List.{list_all, list_any}
 use Rattle.std.specs.Str.{bytes_eq}
-use Rattle.osconf.specs.declared.faults.ConfFault.TheVariants.{Limit, DuplicateName, UnknownName, BadScript}
+use Rattle.osplan.specs.Expressible.{mode_name}
+use Rattle.osplan.specs.declared.faults.ConfFault.TheVariants.{Limit, DuplicateName, UnknownName, BadScript}
 use Rattle.osconf.specs.declared.shapes.ConfigText.{ConfigText}
 use Rattle.osconf.specs.declared.shapes.CoreText.{CoreText}
 use Rattle.osconf.specs.declared.shapes.TaskText.{TaskText}
@@ -31,10 +32,6 @@ abbrev pub is_within : ConfigText → Bool
 is_within t = is_between 1 1 t.version && is_between 1 16 t.cap && nat_le 1 (length t.cores) && nat_le (length t.cores) 8 && list_all is_core_within t.cores
 
 -- ---- names and numbers that stand twice
-
--- The only mode.
-abbrev pub mode_name : List ℕ
-mode_name = codes "M"
 
 abbrev pub has_name : List ℕ → TaskText → Bool
 has_name name task = bytes_eq task.name name

@@ -15,8 +15,8 @@ use Rattle.osplan.specs.View.{core_of}
 use Rattle.serde_json.specs.Data.{Data}
 use Rattle.serde_json.specs.Read.{read}
 use Rattle.serde_json.specs.Find.{as_str, as_object}
-use Rattle.osconf.specs.declared.faults.ConfFault.{ConfFault}
-use Rattle.osconf.specs.declared.faults.ConfFault.TheVariants.{NotJson, Limit, BadStimulus, BadSchedule}
+use Rattle.osplan.specs.declared.faults.ConfFault.{ConfFault}
+use Rattle.osplan.specs.declared.faults.ConfFault.TheVariants.{NotJson, Limit, BadStimulus, BadSchedule}
 use Rattle.osconf.specs.Fault.{Tests, failing}
 use Rattle.osconf.specs.Word.{parts_of, core_number}
 use Rattle.osconf.specs.Reading.{◌>>=◌, each, entries}

@@ -6,3 +6,4 @@ pub mod Operation
 pub mod Check
 pub mod Meaning
 pub mod Given
+pub mod Writing

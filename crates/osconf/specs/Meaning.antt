@@ -11,17 +11,19 @@ use Rattle.osplan.specs.declared.plans.Task.{Task}
 use Rattle.osplan.specs.declared.plans.CoreMode.TheVariants.{Named}
 use Rattle.serde_json.specs.Data.{Data}
 use Rattle.serde_json.specs.Read.{read}
-use Rattle.osconf.specs.declared.faults.ConfFault.{ConfFault}
-use Rattle.osconf.specs.declared.faults.ConfFault.TheVariants.{NotJson, Shape}
+use Rattle.osplan.specs.declared.faults.ConfFault.{ConfFault}
+use Rattle.osplan.specs.declared.faults.ConfFault.TheVariants.{NotJson, Shape}
 use Rattle.osconf.specs.declared.shapes.ConfigText.{ConfigText}
 use Rattle.osconf.specs.declared.shapes.CoreText.{CoreText}
 use Rattle.osconf.specs.declared.shapes.TaskText.{TaskText}
-use Rattle.osconf.specs.Fault.{fault_number, failing}
+use Rattle.osplan.specs.Fault.{fault_number}
+use Rattle.osplan.specs.Expressible.{mode_name}
+use Rattle.osconf.specs.Fault.{failing}
 use Rattle.osconf.specs.Shape.{config_shape}
 use Rattle.osconf.specs.Operation.{operations_of, form_of, op_of_form}
-use Rattle.osconf.specs.Check.{has_name, mode_name, tests_of}
+use Rattle.osconf.specs.Check.{has_name, tests_of}
 
--- A number as a byte: 0 where it is no byte, which no text within the limits has.
+-- A number as a byte: 0 where it is no byte, which no text without a fault has.
 abbrev pub byte_of : Option ℕ → ℕ
 byte_of None = 0
 byte_of (Some n) = if nat_le n 255 then n else 0

@@ -5,7 +5,8 @@ use Rattle.osbase.specs.declared.references.TaskRef.{TaskRef}
 use Rattle.oscript.specs.declared.Op.{Op}
 use Rattle.osconf.specs.declared.scripts.OpText.{OpText}
 use Rattle.osconf.specs.declared.scripts.OpText.TheVariants as text
-use Rattle.osconf.specs.Word.{parts_of, is_name}
+use Rattle.osplan.specs.Expressible.{is_name}
+use Rattle.osconf.specs.Word.{parts_of}
 
 -- An operation in good form, whose name is not looked up yet: None is `?`.
 pub data Form : Type 0 where

@@ -6,9 +6,9 @@ use Rattle.serde_json.specs.Data.{Num, unsigned, negative, float, Data, Items, n
 use Rattle.serde_json.specs.Find.{get, as_number, as_str, as_array, as_object}
 use Rattle.osconf.specs.declared.members.Refusal.{Refusal}
 use Rattle.osconf.specs.declared.members.Refusal.TheVariants.{OutOfMemory, Unfit}
-use Rattle.osconf.specs.declared.faults.ConfFault.{ConfFault}
-use Rattle.osconf.specs.declared.faults.ConfFault.TheVariants.{NoMemory}
-use Rattle.osconf.specs.Word.{is_name}
+use Rattle.osplan.specs.declared.faults.ConfFault.{ConfFault}
+use Rattle.osplan.specs.declared.faults.ConfFault.TheVariants.{NoMemory}
+use Rattle.osplan.specs.Expressible.{is_name}
 
 infixl 10 ◌>>=◌
 abbrev pub ◌>>=◌ : {A B : Type 0} → Option A → (A → Option B) → Option B
@@ -45,7 +45,7 @@ abbrev pub entries : Members → List (List ℕ × Data)
 entries no_members = []
 entries (member k d ms) = (k, d) ∷ entries ms
 
--- A whole number: one below 0 is None. A number with a point or an exponent, or past 64 bits, is none. [own]
+-- A whole number: one below 0 is None. A number with a point or an exponent, `-0`, or one past 64 bits is none. [own]
 abbrev pub whole_number : Num → Option (Option ℕ)
 whole_number (unsigned n) = Some (Some n)
 whole_number (negative z) = Some None

@@ -1,20 +1,11 @@
--- Names, numbers and the parts of a text.
-use Rattle.std.specs.Prelude.{ℕ, ◌+◌, ◌*◌, ◌-◌, ◌==◌, ◌&&◌, ◌||◌, nat_le, Bool, false, if◌then◌else◌, Option, Some, None, option_and_then, option_map, List, [], ◌∷◌, length}
-use Rattle.std.specs.Char.{is_ascii_digit, is_ascii_alphabetic, is_ascii_alphanumeric}
-use Rattle.std.specs.List.{list_all, slice_split}
+-- Numbers and the parts of a text.
+use Rattle.std.specs.Prelude.{ℕ, ◌+◌, ◌*◌, ◌-◌, ◌==◌, if◌then◌else◌, Option, Some, None, option_and_then, option_map, List, [], ◌∷◌, length}
+use Rattle.std.specs.Char.{is_ascii_digit}
+use Rattle.std.specs.List.{slice_split}
 
 -- What a text has between separators of one byte. The empty text has no part. [own]
 abbrev pub parts_of : ℕ → List ℕ → List (List ℕ)
 parts_of separator text = if length text == 0 then [] else slice_split (λ b. b == separator) text
-
--- A name's first character is a letter, and the others are letters, digits and underscores, all of ASCII. [own]
-abbrev pub is_name_part : ℕ → Bool
-is_name_part c = is_ascii_alphanumeric c || (c == 95)
-
--- A name has 1 to 128 characters. [own]
-abbrev pub is_name : List ℕ → Bool
-is_name [] = false
-is_name (c ∷ cs) = is_ascii_alphabetic c && nat_le (length cs) 127 && list_all is_name_part cs
 
 -- The value of a decimal digit.
 abbrev pub digit_of : ℕ → Option ℕ
@@ -23,7 +14,7 @@ digit_of c = if is_ascii_digit c then Some (c - 48) else None
 abbrev pub two_digits : ℕ → ℕ → Option ℕ
 two_digits tens ones = option_and_then (λ t. option_map (λ n. 10 * t + n) (digit_of ones)) (digit_of tens)
 
--- A core number in decimal, without a leading zero. No core has a number of three digits. [own]
+-- A core number in decimal, without a leading zero. No configured core has a number of three digits. [own]
 abbrev pub core_number : List ℕ → Option ℕ
 core_number [] = None
 core_number (ones ∷ []) = digit_of ones

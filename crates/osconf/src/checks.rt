@@ -4,14 +4,15 @@ ghost use Rattle.std.specs.Prelude.{◌≡◌, ◌==◌, not, MatchResult, Some,
 ghost use Rattle.std.specs.List.{list_all, list_any, slice_split};
 ghost use Rattle.osconf.specs.declared.shapes.CoreText.{CoreText as Core};
 ghost use Rattle.osconf.specs.declared.shapes.TaskText.{TaskText as Task};
+ghost use Rattle.osplan.specs.Expressible.{mode_name};
 ghost use Rattle.osconf.specs.Fault.{failing, first_fault};
-ghost use Rattle.osconf.specs.Check.{is_between, is_task_within, is_core_within, is_within, has_name, core_has_name, is_first_named, are_tasks_distinct, same_number, is_apart, is_first_apart, are_cores_distinct, is_each_once, is_task_name, is_operation_known, are_operations_known, is_mode_name, is_task_known, is_core_known, are_known, is_operation, is_task_script, is_core_script, are_operations, mode_name, tests_of};
+ghost use Rattle.osconf.specs.Check.{is_between, is_task_within, is_core_within, is_within, has_name, core_has_name, is_first_named, are_tasks_distinct, same_number, is_apart, is_first_apart, are_cores_distinct, is_each_once, is_task_name, is_operation_known, are_operations_known, is_mode_name, is_task_known, is_core_known, are_known, is_operation, is_task_script, is_core_script, are_operations, tests_of};
 
-use crate::faults::ConfFault;
 use crate::scripts::{OpText, form_of};
 use crate::shapes::{ConfigText, CoreText, TaskText, Whole};
 use crate::words::part_count;
 use osbase::Name;
+use osplan::ConfFault;
 
 /// The name of the only mode.
 pub const MODE: &str = "M";

@@ -8,11 +8,10 @@ ghost use Rattle.osconf.specs.Meaning.{config_of, IsLeastFault};
 ghost use Rattle.osconf.specs.Reading.{GivesOr};
 
 use crate::checks::check;
-use crate::faults::ConfFault;
 use crate::members::Refusal;
 use crate::plans::plan_of;
 use crate::shapes::{ConfigText, config_shape};
-use osplan::Config;
+use osplan::{ConfFault, Config};
 use serde_json::Value;
 use std::alloc::Global;
 

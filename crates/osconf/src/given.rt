@@ -11,11 +11,10 @@ ghost use Rattle.osconf.specs.Given.{core_named, stimulus_of, stimuli_of_text, c
 ghost use Rattle.serde_json.specs.View.{view, members_view};
 
 use crate::configs::value_of;
-use crate::faults::ConfFault;
 use crate::members::Refusal;
 use crate::words::{core_number, part_count, words_of};
 use osbase::{Choice, CoreId, CoreStimuli, List as Items, Schedule, Stimuli, Stimulus, Turn};
-use osplan::{Config, Plan};
+use osplan::{ConfFault, Config, Plan};
 use serde_json::{Map, Value};
 use std::alloc::Global;
 

@@ -1,4 +1,5 @@
-//! Reading: the configuration, the stimuli and the schedule of JSON texts.
+//! Reading: the configuration, the stimuli and the schedule of JSON texts. Writing: the text of a
+//! configuration.
 //!
 //! A text is judged in passes: whether it is JSON, its shape, and then a table of tests in ascending
 //! order of their faults, each defined apart from the others. So the fault that is answered is the one of
@@ -7,7 +8,6 @@
 
 mod checks;
 mod configs;
-mod faults;
 mod given;
 mod members;
 mod plans;
@@ -15,10 +15,11 @@ mod scripts;
 mod shapes;
 #[cfg(test)]
 mod tests;
+mod texts;
 mod words;
 
 pub use configs::read_config;
-pub use faults::ConfFault;
 pub use given::{read_schedule, read_stimuli};
 pub use osbase::{Schedule, Stimuli};
-pub use osplan::Config;
+pub use osplan::{ConfFault, Config, cut, is_separate};
+pub use texts::config_text;

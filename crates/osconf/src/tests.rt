@@ -1,10 +1,51 @@
-use crate::{ConfFault, read_config, read_schedule, read_stimuli};
+mod given;
+mod hostile;
+mod limits;
+mod names;
+
+use crate::{ConfFault, config_text, cut, is_separate, read_config, read_schedule, read_stimuli};
 use osbase::{Choice, CoreId};
 use oscript::Op;
+use std::alloc::Global;
+use std::process::Abort;
 use std::test::Fail;
 
 const TWO_CORES: &str =
     "{\"cores\":[{\"id\":0,\"start\":[1],\"tasks\":[{\"name\":\"A\",\"prio\":1,\"auto\":[\"M\"],\"script\":\"ActivateTask B;TerminateTask\"}]},{\"id\":1,\"tasks\":[{\"name\":\"B\",\"prio\":1,\"script\":\"TerminateTask\"}]}]}";
+
+// The text with a value in place of its `@`.
+fn filled(alloc: Global, text: &str, value: &str) -> Result<String, Fail> {
+    let (before, after) = text.split_once('@').ok_or("a place to fill")?;
+    let mut filled = String::from_str(alloc, before)?;
+    filled.push_str(value)?;
+    filled.push_str(after)?;
+    Ok(filled)
+}
+
+// So many times the same text.
+fn repeated(alloc: Global, text: &str, count: u32) -> Result<String, Fail> {
+    let mut all = String::new(alloc);
+    for _ in 0..count {
+        all.push_str(text)?;
+    }
+    Ok(all)
+}
+
+// With each of the values in its place the configuration has this fault, or none.
+fn answers(
+    rt: &impl Abort,
+    alloc: Global,
+    text: &str,
+    values: &[&str],
+    fault: Option<ConfFault>,
+) -> Result<(), Fail> {
+    for value in values {
+        let text = filled(alloc, text, value)?;
+        let text = text.as_str();
+        assert_eq!(rt; read_config(alloc, text).err(), fault, "{text}");
+    }
+    Ok(())
+}
 
 #[test]
 fn a_configuration_has_its_parts(rt: HostRuntime) -> Result<(), Fail> {
@@ -151,5 +192,69 @@ fn too_many_words_are_a_limit(rt: HostRuntime) -> Result<(), Fail> {
         read_stimuli(rt.alloc(), &config, text.as_str()).err(),
         Some(ConfFault::Limit)
     );
+    Ok(())
+}
+
+#[test]
+fn a_configuration_is_written_and_read_back(rt: HostRuntime) -> Result<(), Fail> {
+    let written =
+        "{\"cap\":16,\"cores\":[{\"id\":0,\"start\":[1],\"tasks\":[{\"activations\":1,\"auto\":[\"M\"],\"name\":\"A\",\"prio\":1,\"script\":\"ActivateTask B;TerminateTask\"}]},{\"id\":1,\"start\":[],\"tasks\":[{\"activations\":1,\"auto\":[],\"name\":\"B\",\"prio\":1,\"script\":\"TerminateTask\"}]}],\"master\":0,\"version\":1}";
+    let text = config_text(rt.alloc(), &read_config(rt.alloc(), TWO_CORES)?)?;
+    assert!(rt; text.as_str() == written);
+    let again = config_text(rt.alloc(), &read_config(rt.alloc(), written)?)?;
+    assert!(rt; again.as_str() == written);
+    Ok(())
+}
+
+// Core 1 is started by core 0, and core 2 by core 1. No script names a task of core 2.
+const THREE_CORES: &str =
+    "{\"cap\":2,\"cores\":[{\"id\":0,\"start\":[1,9],\"tasks\":[{\"name\":\"A\",\"prio\":2,\"script\":\"ActivateTask B;ActivateTask ?\"}]},{\"id\":1,\"start\":[2],\"tasks\":[{\"name\":\"B\",\"prio\":1,\"script\":\"\"}]},{\"id\":2,\"tasks\":[{\"name\":\"V\",\"prio\":1,\"auto\":[\"M\"],\"script\":\"work;ActivateTask V;ActivateTask ?;TerminateTask\"}]},{\"id\":3}]}";
+
+#[test]
+fn a_separate_core_is_cut_printed_and_read(rt: HostRuntime) -> Result<(), Fail> {
+    let config = read_config(rt.alloc(), THREE_CORES)?;
+    let alone = cut(rt.alloc(), &config, CoreId { number: 2 })?;
+    let text = config_text(rt.alloc(), &alone)?;
+    let written =
+        "{\"cap\":2,\"cores\":[{\"id\":2,\"start\":[],\"tasks\":[{\"activations\":1,\"auto\":[\"M\"],\"name\":\"V\",\"prio\":1,\"script\":\"work;ActivateTask V;ActivateTask ?;TerminateTask\"}]}],\"master\":2,\"version\":1}";
+    assert!(rt; text.as_str() == written);
+    let read = read_config(rt.alloc(), text.as_str())?;
+    assert!(rt; config_text(rt.alloc(), &read)?.as_str() == written);
+    Ok(())
+}
+
+#[test]
+fn separate_and_bound_cores(rt: HostRuntime) -> Result<(), Fail> {
+    // Core 0 activates a task of core 1, and the other way round; core 1 is not started.
+    let outward =
+        "{\"cores\":[{\"id\":0,\"tasks\":[{\"name\":\"A\",\"prio\":1,\"script\":\"ActivateTask B\"}]},{\"id\":1,\"tasks\":[{\"name\":\"B\",\"prio\":1,\"script\":\"\"}]}]}";
+    let inward =
+        "{\"cores\":[{\"id\":0,\"tasks\":[{\"name\":\"A\",\"prio\":1,\"script\":\"\"}]},{\"id\":1,\"tasks\":[{\"name\":\"B\",\"prio\":1,\"script\":\"ActivateTask A\"}]}]}";
+    let itself = "{\"cores\":[{\"id\":0,\"start\":[0]}]}";
+    let lone = "{\"master\":5,\"cores\":[{\"id\":5}]}";
+    let cores = [
+        (THREE_CORES, 0, false),
+        (THREE_CORES, 1, false),
+        (THREE_CORES, 2, true),
+        (THREE_CORES, 3, false),
+        (THREE_CORES, 9, false),
+        (outward, 0, false),
+        (inward, 0, false),
+        (inward, 1, false),
+        (itself, 0, false),
+        (lone, 5, true),
+        (lone, 0, false),
+    ];
+    for (text, number, separate) in cores {
+        let config = read_config(rt.alloc(), text)?;
+        let core = CoreId { number };
+        assert_eq!(rt; is_separate(&config, core), separate);
+        let refused = if separate {
+            None
+        } else {
+            Some(ConfFault::NotSeparate)
+        };
+        assert_eq!(rt; cut(rt.alloc(), &config, core).err(), refused);
+    }
     Ok(())
 }

@@ -3,7 +3,8 @@
 ghost use Rattle.std.specs.Prelude.{◌≡◌, ℕ, ◌==◌, IfOk, map, count_by, length, List};
 ghost use Rattle.std.specs.List.{list_all};
 ghost use Rattle.std.specs.Borrow.{Bor};
-ghost use Rattle.osconf.specs.Word.{parts_of, is_name, is_name_part, digit_of, two_digits, core_number};
+ghost use Rattle.osplan.specs.Expressible.{is_name, is_name_part};
+ghost use Rattle.osconf.specs.Word.{parts_of, digit_of, two_digits, core_number};
 
 use std::alloc::{AllocError, Global};
 

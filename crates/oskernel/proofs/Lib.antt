@@ -1,3 +1,4 @@
 pub mod Phases
 pub mod Taken
 pub mod Autostart
+pub mod Admitted

@@ -1,20 +1,23 @@
 -- What holds after an admitted item is taken.
-use Rattle.std.proofs.Common.{◌≡◌, ℕ, ◌≤◌, ◌<◌, true, false, List, [], ◌∷◌, length, nat_lt, nat_eq, slice_index, refl, subst, arith}
+use Rattle.std.proofs.Common.{◌≡◌, ℕ, ◌≤◌, ◌<◌, Bool, true, false, Option, Some, None, is_some, List, [], ◌∷◌, length, nat_lt, refl, arith}
 use Rattle.std.proofs.lemmas.Bool.{false≢true, and_parts, ltb-true}
+use Rattle.osbase.specs.declared.statuses.Status.{Status}
 use Rattle.osbase.specs.declared.references.CoreId.{CoreId}
 use Rattle.osbase.specs.declared.messages.Message.{Message}
+use Rattle.osbase.specs.declared.histories.OpenCall.{OpenCall}
+use Rattle.std.specs.Option.{option_map_or}
 use Rattle.osbase.specs.declared.histories.Sent.{Sent}
 use Rattle.osbase.specs.declared.items.Agreement.TheVariants as Agreement
 use Rattle.osbase.specs.declared.items.Stimulus.TheVariants as Stimulus
 use Rattle.osbase.specs.declared.items.Item.{Item}
 use Rattle.osbase.specs.History.{History, Took, phase_after, outbox_after, is_scheduling, open_call}
 use Rattle.osplan.specs.View.{View}
-use Rattle.osstate.specs.Readings.{has_core}
 use Rattle.osstate.specs.State.{KernelState}
 use Rattle.osstate.specs.Sound.{is_before_live}
-use Rattle.oskernel.specs.Step.{effect, is_live, is_at_second_gate, is_empty, is_own_call}
+use Rattle.oscall.specs.Service.{is_served}
+use Rattle.oskernel.specs.Step.{effect, is_live, is_at_second_gate, is_empty, is_reply_to, is_stimulus}
 use Rattle.oskernel.specs.Admission.{admits, is_awaited_in, is_settled_in}
-use Rattle.oskernel.specs.Taking.{follows, is_acting, is_filling, is_second_gate}
+use Rattle.oskernel.specs.Taking.{follows, is_acting, is_answered, is_filling, is_known, is_second_gate}
 use Rattle.oskernel.proofs.Phases.{live_past, scheduling_past, second_before}
 
 pub acting : (room : ℕ) (s : KernelState) (item : Item) → admits room s item ≡ true → is_acting item ≡ true → is_before_live (phase_after (Took item) s.phase) ≡ false
@@ -35,7 +38,7 @@ pub filling : (room : ℕ) (s : KernelState) (item : Item) → 1 ≤ room → ad
 filling room s (Item.Stim stimulus) some a b =
     omega (arith, none-long s.outbox (and_parts _ (is_empty s.outbox) (and_parts _ (is_settled_in s) a).1).1)
 filling room s (Item.Received from number (Message.Request call)) some a b =
-    ltb-true (length s.outbox) room (and_parts (is_own_call s.view call) (nat_lt (length s.outbox) room) (and_parts _ (is_awaited_in room s from (Message.Request call)) (and_parts (is_scheduling s.phase) _ a).1).1).1
+    ltb-true (length s.outbox) room (and_parts (is_served s.view call) (nat_lt (length s.outbox) room) (and_parts _ (is_awaited_in room s from (Message.Request call)) (and_parts (is_scheduling s.phase) _ a).1).1).1
 filling room s (Item.Received from number (Message.Action call)) some a b = absurd (false≢true b)
 filling room s (Item.Received from number (Message.Reply status value)) some a b = absurd (false≢true b)
 filling room s item some a b = absurd (false≢true b)
@@ -53,9 +56,21 @@ effect-follows v h (Item.Received from number (Message.Action call)) = refl
 effect-follows v h (Item.Received from number (Message.Reply status value)) = refl
 effect-follows v h item = refl
 
--- The sender of an admitted envelope was started.
-pub sender_started : (room : ℕ) (s : KernelState) (item : Item) (from : CoreId) (number : ℕ) (message : Message) → item ≡ Item.Received from number message → admits room s item ≡ true → has_core s.started from ≡ true
-sender_started room s item from number message is a =
-    let admitted = subst (λ (i : Item). admits room s i ≡ true) is a in
-    let next = (and_parts (is_scheduling s.phase) _ admitted).1 in
-    (and_parts (has_core s.started from) _ (and_parts _ (nat_eq number (slice_index s.received from.number)) (and_parts _ (is_awaited_in room s from message) next).0).0).0
+-- An admitted item is one of those that are taken so far.
+reply-known : (status : Status) (has_value : Bool) (from : CoreId) (awaited : Option OpenCall) → option_map_or (is_reply_to from status has_value) awaited false ≡ true → is_some awaited ≡ true
+reply-known status has_value from None a = absurd (false≢true a)
+reply-known status has_value from (Some call) a = refl
+
+message-known : (room : ℕ) (s : KernelState) (from : CoreId) (message : Message) → is_awaited_in room s from message ≡ true → is_answered s.view s.open_call message ≡ true
+message-known room s from (Message.Request call) a = (and_parts (is_served s.view call) _ a).0
+message-known room s from (Message.Action call) a = a
+message-known room s from (Message.Reply status value) a = reply-known status (is_some value) from s.open_call a
+
+pub known : (room : ℕ) (s : KernelState) (item : Item) → admits room s item ≡ true → is_known s.view s.open_call item ≡ true
+known room s (Item.Stim stimulus) a = (and_parts _ (is_stimulus stimulus) (and_parts _ (is_settled_in s) a).0).1
+known room s (Item.Received from number message) a = message-known room s from message (and_parts _ (is_awaited_in room s from message) (and_parts (is_scheduling s.phase) _ a).1).1
+known room s (Item.Granted spinlock) a = absurd (false≢true a)
+known room s (Item.Tried spinlock taken) a = absurd (false≢true a)
+known room s (Item.Freed spinlock) a = absurd (false≢true a)
+known room s (Item.Halt core status) a = absurd (false≢true a)
+known room s item a = refl

@@ -2,7 +2,7 @@
 use Rattle.std.specs.Prelude.{ℕ, ◌*◌, ◌≤◌}
 use Rattle.osstate.specs.State.{KernelState}
 
--- The outbox has places for a reply and a request, and an item adds at most 1024 entries to the history.
+-- The outbox has 8 places at least, and an item adds at most 1024 entries to the history.
 pub record IsBounded (room : ℕ) (s : KernelState) : Type 0 where
   pub outbox : 8 ≤ room
   pub entries : s.entries ≤ 1024 * s.items

@@ -10,8 +10,6 @@ use Rattle.osbase.specs.declared.references.CoreId.{CoreId}
 use Rattle.osbase.specs.declared.references.ModeId.{ModeId}
 use Rattle.osbase.specs.declared.references.TaskRef.{TaskRef}
 use Rattle.osbase.specs.declared.references.Runner.{Runner}
-use Rattle.osbase.specs.declared.messages.RemoteCall.{RemoteCall}
-use Rattle.osbase.specs.declared.messages.RemoteCall.TheVariants as Remote
 use Rattle.osbase.specs.declared.messages.Message.{Message}
 use Rattle.osbase.specs.declared.items.CoreSet.{CoreSet}
 use Rattle.osbase.specs.declared.items.Agreement.{Agreement}
@@ -30,10 +28,10 @@ use Rattle.osplan.specs.declared.plans.Task.{Task}
 use Rattle.osplan.specs.declared.plans.CoreMode.{CoreMode}
 use Rattle.osplan.specs.declared.plans.CoreMode.TheVariants.{Named, DontCare}
 use Rattle.osplan.specs.View.{View, is_configured}
-use Rattle.osstate.specs.Readings.{is_own, own_task, script_of, frame_at, best_job, has_core, is_started, phase_at, next_start, core_ids, task_refs}
-use Rattle.oscall.specs.Service.{is_ok_status, prints, returns, activates, ends_unasked, operates, serves_request, serves_action}
+use Rattle.osstate.specs.Readings.{is_own, script_of, frame_at, best_job, has_core, is_started, phase_at, next_start, core_ids, task_refs}
+use Rattle.oscall.specs.Service.{is_ok_status, is_served, prints, returns, activates, ends_unasked, operates, serves_request, serves_action}
 
--- One test for each phase.
+-- One test for each phase in which something is asked for.
 abbrev pub is_off : Phase → Bool
 is_off Phase.Off = true
 is_off p = false
@@ -68,23 +66,23 @@ is_closing p = false
 
 -- `StartCore` answers E_OS_ID exactly for a core that is not configured, and else E_OK, or E_OS_STATE for one
 -- that was started already. [AUTOSAR SWS OS 4.x, StartCore; E_OS_STATE before StartOS]
-abbrev pub is_started_or_running : Status → Bool
-is_started_or_running EOk = true
-is_started_or_running EOsState = true
-is_started_or_running s = false
+abbrev pub is_started_now_or_before : Status → Bool
+is_started_now_or_before EOk = true
+is_started_now_or_before EOsState = true
+is_started_now_or_before s = false
 
 abbrev pub is_unknown_core : Status → Bool
 is_unknown_core EOsId = true
 is_unknown_core s = false
 
 abbrev pub is_start_answer : View → CoreId → Status → Bool
-is_start_answer v core status = if is_configured v core then is_started_or_running status else is_unknown_core status
+is_start_answer v core status = if is_configured v core then is_started_now_or_before status else is_unknown_core status
 
 abbrev pub is_for : CoreId → Option CoreId → Bool
 is_for core other = option_map_or (same_core core) other false
 
 -- What the first gate may come to for a core: a conflict, its own mode, or, for a core that says DONOTCARE,
--- any mode or none. [AUTOSAR SWS OS 4.x, section 7.9.5; that all may say DONOTCARE is this project's own]
+-- any mode or none. [AUTOSAR SWS OS 4.x, SWS_Os_00608 to SWS_Os_00610; that all may say DONOTCARE is this project's own]
 abbrev pub is_agreement : View → CoreMode → Agreement → Bool
 is_agreement v mode Agreement.Conflict = true
 is_agreement v (Named own) (Agreement.Mode m) = own.index == m.index
@@ -105,23 +103,20 @@ abbrev pub is_empty : List Sent → Bool
 is_empty [] = true
 is_empty (s ∷ ss) = false
 
--- The call is one that goes across cores, to an object of this core. Only ActivateTask does so far.
-abbrev pub is_own_call : View → RemoteCall → Bool
-is_own_call v (Remote.ActivateTask t) = is_some (own_task v t)
-is_own_call v call = false
-
--- The reply of this core is awaited, with a value exactly for GetAlarm and E_OK.
+-- The service whose E_OK comes with a value.
 abbrev pub answers_value : ServiceId → Bool
 answers_value Service.GetAlarm = true
 answers_value s = false
 
+-- The reply of this core is awaited, with a value exactly for GetAlarm and E_OK. [own]
 abbrev pub is_reply_to : CoreId → Status → Bool → OpenCall → Bool
 is_reply_to from status has_value call =
     same_core call.core from && (if answers_value call.service && is_ok_status status then has_value else not has_value)
 
+-- A message is expected: a request where the reply to it has room, an action, or the reply of the open call. [own]
 abbrev pub is_awaited : ℕ → View → CoreId → Message → History → Bool
-is_awaited room v from (Message.Request call) h = is_own_call v call && nat_lt (length (outbox h)) room
-is_awaited room v from (Message.Action call) h = is_own_call v call
+is_awaited room v from (Message.Request call) h = is_served v call && nat_lt (length (outbox h)) room
+is_awaited room v from (Message.Action call) h = is_served v call
 is_awaited room v from (Message.Reply status value) h = option_map_or (is_reply_to from status (is_some value)) (open_call h) false
 
 -- Which stimulus there is: so far only the running job's next operation.
@@ -133,7 +128,7 @@ is_stimulus s = false
 abbrev pub is_settled : History → Bool
 is_settled h = is_none (open_call h) && is_empty (outbox h)
 
--- An item may be taken: one line for each kind. `room` is how many envelopes the outbox holds. [own]
+-- An item may be taken: one line for each kind. `room` is how many envelopes the outbox may hold. [own]
 abbrev pub may_take : ℕ → View → History → Item → Bool
 may_take room v h Item.On = is_off (phase_at v h)
 may_take room v h (Item.Began core status) =
@@ -155,12 +150,12 @@ may_take room v h Item.Drained = is_live (phase_at v h) && is_settled h
 may_take room v h Item.PassEnd = is_drained (phase_at v h)
 may_take room v h (Item.Last shutdown) = is_closing (phase_at v h) && is_none shutdown
 
--- A core takes fewer than 2 ^ 48 items.
+-- An item may be taken while fewer than 2 ^ 48 were.
 abbrev pub takes : ℕ → View → History → Item → Bool
 takes room v h item = nat_lt (item_count h) (2 ^ 48) && may_take room v h item
 
 -- Autostart: the tasks whose list names the mode, in index order; none where there is no mode.
--- [OSEK/VDX OS 2.2.3, section 5.2; AUTOSAR SWS OS 4.x, section 7.9.5]
+-- [OSEK/VDX OS 2.2.3, section 11.3; AUTOSAR SWS OS 4.x, SWS_Os_00608 to SWS_Os_00610]
 abbrev pub names_mode : Option Agreement → Task → Bool
 names_mode (Some (Agreement.Mode m)) task = list_any (λ (n : ModeId). n.index == m.index) task.auto
 names_mode other task = false
@@ -185,7 +180,7 @@ closes (Some call) status value h = returns call.runner call.service status valu
 
 -- What follows from an item at once; `before` is the history before it.
 abbrev pub effect : View → History → Item → History → History
-effect v before (Item.Began core status) h = prints (Mark.CoreStarted core status) h
+effect v before (Item.Began core status) h = prints (Mark.StartCoreReturned core status) h
 effect v before (Item.Pass1 Agreement.Conflict) h = prints Mark.ModesConflict h
 effect v before (Item.Pass1 (Agreement.Mode m)) h = prints Mark.StartupHook h
 effect v before (Item.Pass1 Agreement.NoMode) h = prints Mark.StartupHook h
@@ -196,11 +191,12 @@ effect v before (Item.Received from number (Message.Action call)) h = serves_act
 effect v before (Item.Received from number (Message.Reply status value)) h = closes (open_call before) status value h
 effect v before item h = h
 
--- Going to the best job: nothing if it is the running one; else PostTaskHook of the current task, if there is
--- one, and PreTaskHook of the best job's. [OSEK/VDX OS 2.2.3, section 4.6 and 11.1]
+-- No two jobs of a core have one stamp.
 abbrev pub same_job : Job → Job → Bool
 same_job a b = a.stamp == b.stamp
 
+-- PostTaskHook of the current task, if there is one, and PreTaskHook of the runner's.
+-- [OSEK/VDX OS 2.2.3, section 11.5]
 abbrev pub leaves : Option TaskRef → History → History
 leaves None h = h
 leaves (Some t) h = prints (Mark.PostTaskHook t) h
@@ -209,6 +205,7 @@ abbrev pub enters : Runner → History → History
 enters (Runner.Task t) h = prints (Mark.PreTaskHook t) (leaves (current_task h) h)
 enters (Runner.Isr i) h = prints (Mark.IsrEntered i) h
 
+-- Going to the best job: nothing if it is the running one. [OSEK/VDX OS 2.2.3, section 4.4 and 4.6]
 abbrev pub goes_to : Option Job → History → History
 goes_to None h = h
 goes_to (Some j) h = if option_map_or (same_job j) (running h) false then h else enters j.runner h
@@ -222,10 +219,11 @@ dispatches v h =
 abbrev pub after : View → History → Item → History
 after v h item = dispatches v (effect v h item (Took item ∷ h))
 
--- A core by itself: the items applied in order, where each in turn may be taken. Its marks are the trace. [own]
+-- How many envelopes a core's outbox may hold. [own]
 abbrev pub outbox_size : ℕ
 outbox_size = 64
 
+-- A core by itself: the items applied in order, where each in turn may be taken. Its marks are the trace. [own]
 abbrev pub solo_from : View → History → List Item → Option History
 solo_from v h [] = Some h
 solo_from v h (item ∷ items) = if takes outbox_size v h item then solo_from v (after v h item) items else None
@@ -233,7 +231,7 @@ solo_from v h (item ∷ items) = if takes outbox_size v h item then solo_from v 
 abbrev pub solo : View → List Item → Option History
 solo v items = solo_from v [] items
 
--- The history that items lead to, each taken in turn.
+-- The history that items lead to, whether each may be taken or not.
 abbrev pub history_from : View → History → List Item → History
 history_from v h [] = h
 history_from v h (item ∷ items) = history_from v (after v h item) items

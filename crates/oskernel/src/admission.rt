@@ -7,7 +7,8 @@ ghost use Rattle.osbase.specs.History.{is_scheduling};
 ghost use Rattle.osplan.specs.View.{is_configured};
 ghost use Rattle.oscall.specs.Service.{is_ok_status};
 ghost use Rattle.osstate.specs.Readings.{has_core, next_start};
-ghost use Rattle.oskernel.specs.Step.{answers_value, are_started_cores, is_agreement, is_at_first_gate, is_at_second_gate, is_between_gates, is_booting, is_closing, is_drained, is_empty, is_for, is_front_for, is_live, is_off, is_own_call, is_reply_to, is_start_answer, is_started_or_running, is_stimulus, is_unknown_core};
+ghost use Rattle.oscall.specs.Service.{is_served};
+ghost use Rattle.oskernel.specs.Step.{answers_value, are_started_cores, is_agreement, is_at_first_gate, is_at_second_gate, is_between_gates, is_booting, is_closing, is_drained, is_empty, is_for, is_front_for, is_live, is_off, is_reply_to, is_start_answer, is_started_now_or_before, is_stimulus, is_unknown_core};
 ghost use Rattle.oskernel.specs.Admission.{admits, is_awaited_in, is_next_from, is_settled_in};
 
 use osbase::{
@@ -145,7 +146,7 @@ fn is_answer<const P: usize, const J: usize, const OUT: usize>(
 }
 
 fn is_started_now(status: Status) -> bool
-    ensures { result ≡ is_started_or_running status }
+    ensures { result ≡ is_started_now_or_before status }
 {
     matches!(status, Status::EOk | Status::EOsState)
 }
@@ -267,7 +268,7 @@ fn is_own_target<const P: usize, const J: usize, const OUT: usize>(
     state: &CoreState<'_, P, J, OUT>,
     call: RemoteCall,
 ) -> bool
-    ensures { result ≡ is_own_call state.now.view call }
+    ensures { result ≡ is_served state.now.view call }
 {
     if let RemoteCall::ActivateTask(task) = call {
         return state.own_task(task).is_some();

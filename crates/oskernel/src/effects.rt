@@ -1,6 +1,6 @@
 //! What follows from an item.
 
-ghost use Rattle.std.specs.Prelude.{◌≡◌, ◌==◌, ◌+◌, ◌<◌, ◌≤◌, ◌^◌, ◌∷◌, ◌++◌, [], if◌then◌else◌, Some, IsTrue, false, length, vec_len, vec_capacity};
+ghost use Rattle.std.specs.Prelude.{◌≡◌, ◌==◌, ◌+◌, ◌<◌, ◌≤◌, ◌^◌, ◌∷◌, ◌++◌, [], if◌then◌else◌, Some, IsSome, IsTrue, false, length, vec_len, vec_capacity};
 ghost use Rattle.std.specs.List.{list_any};
 ghost use Rattle.std.specs.Option.{option_map_or};
 ghost use Rattle.osbase.specs.History.{Took, agreement_of, job_count, outbox_after, phase_after, running};
@@ -9,9 +9,9 @@ ghost use Rattle.osstate.specs.Readings.{frame_at, script_of, task_refs};
 ghost use Rattle.osstate.specs.Does.{Adds, Does, Reads, StaysInItem};
 ghost use Rattle.osstate.specs.Sound.{activation_limit, is_before_live, is_own_runner, is_plain, is_sender_known};
 ghost use Rattle.oscall.specs.Service.{activates};
-ghost use Rattle.oskernel.specs.Step.{autostarts, closes, dispatches, effect, enters, goes_on, goes_to, names_mode, performs, same_job};
+ghost use Rattle.oskernel.specs.Step.{autostarts, closes, dispatches, effect, enters, goes_on, goes_to, is_stimulus, names_mode, performs, same_job};
 ghost use Rattle.oskernel.specs.Admission.{admits};
-ghost use Rattle.oskernel.specs.Taking.{TakesItem, answers_to, follows, gate_mark, is_acting, is_filling, is_request, is_second_gate, stimulates};
+ghost use Rattle.oskernel.specs.Taking.{TakesItem, answers_to, follows, gate_mark, is_acting, is_answered, is_filling, is_known, is_request, is_second_gate, stimulates};
 
 use crate::admission::is_phase_scheduling;
 use osbase::{
@@ -23,7 +23,6 @@ use osplan::Task;
 use osstate::CoreState;
 
 /// Takes an item that may be taken, and does what follows from it.
-
 pub(crate) fn take<const P: usize, const J: usize, const OUT: usize>(
     state: &mut CoreState<'_, P, J, OUT>,
     item: &Item,
@@ -57,27 +56,8 @@ fn show_admitted<const P: usize, const J: usize, const OUT: usize>(
     ensures live { IsTrue (is_acting item.now) → is_before_live (phase_after (Took item.now) state.now.phase) ≡ false }
     ensures fresh { IsTrue (is_second_gate item.now) → IsTrue (is_before_live state.now.phase) }
     ensures filling { IsTrue (is_filling item.now) → length (outbox_after (Took item.now) state.now.outbox) < OUT }
-{
-    show_sender(state, item);
-}
-
-// The sender of an admitted envelope was started, so that it has one of the 16 core numbers.
-fn show_sender<const P: usize, const J: usize, const OUT: usize>(
-    state: &CoreState<'_, P, J, OUT>,
-    item: &Item,
-)
-    requires { IsTrue (admits OUT state.now item.now) }
-    ensures { IsTrue (is_sender_known item.now) }
-{
-    if let Item::Received {
-        from,
-        number: _,
-        message: _,
-    } = item
-    {
-        prove!(state.is_started(*from));
-    }
-}
+    ensures known { IsTrue (is_known state.now.view state.now.open_call item.now) }
+{}
 
 // What follows from an item that was taken; `awaited` is the call that was open before.
 fn follow<const P: usize, const J: usize, const OUT: usize>(
@@ -86,6 +66,7 @@ fn follow<const P: usize, const J: usize, const OUT: usize>(
     awaited: Option<OpenCall>,
     marks: &mut Vec<Mark>,
 )
+    requires known { IsTrue (is_known state.old.view awaited item.now) }
     requires sender { IsTrue (is_sender_known item.now) }
     requires live { IsTrue (is_acting item.now) → is_before_live state.old.phase ≡ false }
     requires fresh { IsTrue (is_second_gate item.now) → state.old.jobs ≡ [] }
@@ -100,7 +81,7 @@ fn follow<const P: usize, const J: usize, const OUT: usize>(
 {
     match item {
         Item::Began { core, status } => {
-            let mark = Mark::CoreStarted {
+            let mark = Mark::StartCoreReturned {
                 core: *core,
                 status: *status,
             };
@@ -118,13 +99,13 @@ fn follow<const P: usize, const J: usize, const OUT: usize>(
         Item::Entered => {}
         Item::Readied => {}
         Item::Posted(_) => {}
-        Item::Granted(_) => {}
+        Item::Granted(_) => unreachable!(),
         Item::Tried {
             spinlock: _,
             taken: _,
-        } => {}
-        Item::Freed(_) => {}
-        Item::Halt { core: _, status: _ } => {}
+        } => unreachable!(),
+        Item::Freed(_) => unreachable!(),
+        Item::Halt { core: _, status: _ } => unreachable!(),
         Item::Drained => {}
         Item::PassEnd => {}
         Item::Last(_) => {}
@@ -223,6 +204,7 @@ fn go_on<const P: usize, const J: usize, const OUT: usize>(
     stimulus: Stimulus,
     marks: &mut Vec<Mark>,
 )
+    requires known { IsTrue (is_stimulus stimulus) }
     requires live { is_before_live state.old.phase ≡ false }
     requires outbox { length state.old.outbox < OUT }
     requires count { state.old.entries < 2 ^ 62 + 40 }
@@ -235,8 +217,8 @@ fn go_on<const P: usize, const J: usize, const OUT: usize>(
 {
     match stimulus {
         Stimulus::Op => go_on_by_one(state, marks),
-        Stimulus::Tick => {}
-        Stimulus::Irq(_) => {}
+        Stimulus::Tick => unreachable!(),
+        Stimulus::Irq(_) => unreachable!(),
     }
 }
 
@@ -288,6 +270,7 @@ fn receive<const P: usize, const J: usize, const OUT: usize>(
     awaited: Option<OpenCall>,
     marks: &mut Vec<Mark>,
 )
+    requires answered { IsTrue (is_answered state.old.view awaited message.now) }
     requires live { is_before_live state.old.phase ≡ false }
     requires sender { from.number < 16 }
     requires outbox { IsTrue (is_request message.now) → length state.old.outbox < OUT }
@@ -314,6 +297,7 @@ fn close<const P: usize, const J: usize, const OUT: usize>(
     value: Option<i64>,
     marks: &mut Vec<Mark>,
 )
+    requires awaited { IsSome awaited }
     requires count { state.old.entries < 2 ^ 62 + 40 }
     requires room { vec_len marks.old + 3 ≤ vec_capacity marks.old }
     ensures does { Does (λ v h. closes awaited status value h) state.old state.new marks.old.items marks.new.items }
@@ -322,9 +306,8 @@ fn close<const P: usize, const J: usize, const OUT: usize>(
     ensures len { vec_len marks.new ≤ vec_len marks.old + 2 }
     ensures capacity { vec_capacity marks.new ≡ vec_capacity marks.old }
 {
-    if let Some(call) = awaited {
-        oscall::close(state, call, status, value, marks);
-    }
+    let Some(call) = awaited else { unreachable!() };
+    oscall::close(state, call, status, value, marks);
 }
 
 /// Dispatch, where the core schedules and no call is open.
@@ -380,7 +363,7 @@ fn is_running<const P: usize, const J: usize, const OUT: usize>(
 }
 
 // PostTaskHook of the current task, if there is one, and PreTaskHook of the runner's
-// (OSEK/VDX OS 2.2.3, section 11.1).
+// (OSEK/VDX OS 2.2.3, section 11.5).
 fn enter<const P: usize, const J: usize, const OUT: usize>(
     state: &mut CoreState<'_, P, J, OUT>,
     runner: Runner,

@@ -9,7 +9,7 @@ ghost use Rattle.osstate.specs.Readings.{next_start};
 ghost use Rattle.osstate.specs.Readings.{phase_at};
 ghost use Rattle.osstate.specs.State.{state_of};
 ghost use Rattle.osstate.specs.Does.{Adds, Does, Reads};
-ghost use Rattle.oskernel.specs.Step.{after};
+ghost use Rattle.oskernel.specs.Step.{after, takes};
 ghost use Rattle.oskernel.specs.Wants.{want_in, want_of, post_or as front_or};
 ghost use Rattle.oskernel.specs.Admission.{front_in, may_take_of};
 
@@ -21,7 +21,7 @@ use osplan::Config;
 use osstate::CoreState;
 use std::marker::Model;
 
-// A core takes fewer items than this.
+// A core takes at most so many items.
 const MOST_ITEMS: u64 = 1 << 48;
 
 /// The kernel of one core, with room for `J` live jobs and `OUT` envelopes; priorities are below `P`.
@@ -42,8 +42,8 @@ impl<'a, const P: usize, const J: usize, const OUT: usize> Model for Kernel<'a, 
 }
 
 impl<'a, const P: usize, const J: usize, const OUT: usize> Kernel<'a, P, J, OUT> {
-    /// The kernel of a configured core that took no item. `OUT` is what the actions of its alarms and
-    /// schedule tables may fill at once, and 8 more.
+    /// The kernel of a configured core that took no item. `OUT` is at least what the actions of its
+    /// alarms and schedule tables may fill at once, and 8 more.
     pub fn new(config: &'a Config, core: CoreId) -> Self
         requires configured { IsSome (core_of config.now core) }
         requires priorities { IsTrue (list_all (λ (t : TaskValue). nat_lt t.priority P) (view_of config.now core).tasks) }
@@ -103,7 +103,8 @@ impl<'a, const P: usize, const J: usize, const OUT: usize> Kernel<'a, P, J, OUT>
 
     /// Whether the item may be taken now.
     pub fn may_take(&self, item: &Item) -> bool
-        ensures { result ≡ may_take_of OUT self.now item.now }
+        ensures state { result ≡ may_take_of OUT self.now item.now }
+        ensures reads { Reads (λ v h. takes OUT v h item.now) self.now result }
     {
         if self.state.items() < MOST_ITEMS {
             return is_admitted(&self.state, item);

@@ -4,6 +4,7 @@ ghost use Rattle.std.specs.Prelude.{◌≡◌, ◌∷◌, [], if◌then◌else�
 ghost use Rattle.std.specs.List.{list_all};
 ghost use Rattle.osplan.specs.declared.plans.Task.{Task as TaskValue};
 ghost use Rattle.osplan.specs.Limits.{is_within_limits};
+ghost use Rattle.osplan.specs.Expressible.{is_expressible};
 ghost use Rattle.osplan.specs.View.{core_of, view_of};
 
 use super::*;
@@ -64,6 +65,7 @@ fn core(alloc: Global, id: CoreId, start: &[CoreId], task: Task) -> Result<Core,
 // Task A of core 0, which starts core 1, activates task B of core 1.
 fn two_cores(alloc: Global) -> Result<Plan, AllocError>
     ensures limits { IfOk result (λ plan. IsTrue (is_within_limits plan)) }
+    ensures expressible { IfOk result (λ plan. IsTrue (is_expressible plan)) }
     ensures configured { IfOk result (λ plan. IsSome (core_of plan CORE_0)) }
     ensures priorities { IfOk result (λ plan. IsTrue (list_all (λ (t : TaskValue). nat_lt t.priority 32) (view_of plan CORE_0).tasks)) }
     ensures activations { IfOk result (λ plan. sum_by (λ (t : TaskValue). t.activations) (view_of plan CORE_0).tasks ≤ 64) }
@@ -131,14 +133,14 @@ fn items(alloc: Global) -> Result<Vec<Item>, AllocError> {
 // The marks of core 0.
 fn marks(alloc: Global) -> Result<Vec<Mark>, AllocError> {
     let marks = [
-        Mark::CoreStarted {
+        Mark::StartCoreReturned {
             core: CORE_1,
             status: Status::EOk,
         },
         Mark::StartupHook,
         Mark::Activated(TASK_A),
         Mark::PreTaskHook(TASK_A),
-        Mark::CallPosted {
+        Mark::CallQueued {
             core: CORE_1,
             call: RemoteCall::ActivateTask(TASK_B),
         },

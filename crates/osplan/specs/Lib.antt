@@ -1,2 +1,6 @@
 pub mod View
 pub mod Limits
+pub mod Expressible
+pub mod Separate
+pub mod Fault
+pub mod Flags

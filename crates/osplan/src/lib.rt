@@ -1,9 +1,13 @@
-//! The configuration of an operating system, and what one core sees of it.
+//! The configuration of an operating system, what one core sees of it, and which cores are separate.
 //!
-//! A `Config` is within the limits, and every reference in it names an object of it: the layers above
-//! test neither again.
+//! A `Config` is within the limits, every reference in it names an object of it, and a text can say it:
+//! the layers above test none of these again.
 #![tactic(auto)]
 
+pub mod faults;
 pub mod plans;
+pub mod separate;
 
+pub use faults::ConfFault;
 pub use plans::{Alarm, Config, Core, CoreMode, Isr, Plan, Table, Task};
+pub use separate::{cut, is_separate};

@@ -3,6 +3,7 @@
 ghost use Rattle.std.specs.Prelude.{◌≡◌, ◌↔◌, IsTrue, Option, option_copied};
 ghost use Rattle.osplan.specs.View.{core_of};
 ghost use Rattle.osplan.specs.Limits.{is_within_limits};
+ghost use Rattle.osplan.specs.Expressible.{is_expressible};
 
 use osbase::{CoreId, List, ModeId, Name};
 use oscript::Script;
@@ -39,7 +40,7 @@ pub struct Table {
     pub name: Name,
 }
 
-/// The application mode with which a core calls StartOS (AUTOSAR SWS OS 4.x, section 7.9.5).
+/// The application mode with which a core calls StartOS (AUTOSAR SWS OS 4.x, SWS_Os_00608 to SWS_Os_00610).
 #[derive(Clone, Copy, Debug, PartialEq, Eq)]
 pub enum CoreMode {
     Named(ModeId),
@@ -71,7 +72,8 @@ pub struct Plan {
     pub cores: List<Core>,
 }
 
-/// A configuration within the limits, all of whose references name objects of it.
+/// A configuration within the limits, all of whose references name objects of it, and that a text can
+/// say: its names are in form and all different.
 #[derive(Debug, Drop)]
 pub struct Config {
     plan: Plan,
@@ -81,18 +83,20 @@ impl Model for Config {
     ghost use Rattle.std.specs.Prelude.{IsTrue};
     ghost use Rattle.osplan.specs.declared.plans.Plan.{Plan};
     ghost use Rattle.osplan.specs.Limits.{is_within_limits};
+    ghost use Rattle.osplan.specs.Expressible.{is_expressible};
 
     ghost Value = { Plan };
 
     ghost view = { λ c. c.plan };
 
-    ghost invariant = { λ c. IsTrue (is_within_limits c.plan) };
+    ghost invariant = { λ c. IsTrue (is_within_limits c.plan) × IsTrue (is_expressible c.plan) };
 }
 
 impl Config {
-    /// The configuration of a plan within the limits.
+    /// The configuration of a plan within the limits that a text can say.
     pub fn new(plan: Plan) -> Self
-        requires { IsTrue (is_within_limits plan) }
+        requires limits { IsTrue (is_within_limits plan) }
+        requires expressible { IsTrue (is_expressible plan) }
         ensures { result ≡ plan }
     {
         Config { plan }
@@ -102,6 +106,7 @@ impl Config {
     pub fn plan(&self) -> &Plan
         ensures value { result.now ≡ self.now }
         ensures limits { IsTrue (is_within_limits self.now) }
+        ensures expressible { IsTrue (is_expressible self.now) }
     {
         &self.plan
     }

@@ -42,8 +42,8 @@ second_items =
 
 abbrev pub first_marks : List Mark
 first_marks =
-    Mark.CoreStarted (core 1) EOk ∷ Mark.StartupHook ∷ Mark.Activated task_a ∷ Mark.PreTaskHook task_a
-    ∷ Mark.CallPosted (core 1) (Remote.ActivateTask task_b) ∷ Mark.ServiceReturned (Runner.Task task_a) Service.ActivateTask EOk None
+    Mark.StartCoreReturned (core 1) EOk ∷ Mark.StartupHook ∷ Mark.Activated task_a ∷ Mark.PreTaskHook task_a
+    ∷ Mark.CallQueued (core 1) (Remote.ActivateTask task_b) ∷ Mark.ServiceReturned (Runner.Task task_a) Service.ActivateTask EOk None
     ∷ Mark.PostTaskHook task_a ∷ Mark.Terminated task_a ∷ []
 
 abbrev pub second_marks : List Mark
@@ -60,7 +60,7 @@ second_items_unmoved = Item.On ∷ gates both ++ Item.Drained ∷ end
 
 abbrev pub first_marks_unmoved : List Mark
 first_marks_unmoved =
-    Mark.CoreStarted (core 1) EOk ∷ Mark.StartupHook ∷ Mark.Activated task_a ∷ Mark.PreTaskHook task_a ∷ []
+    Mark.StartCoreReturned (core 1) EOk ∷ Mark.StartupHook ∷ Mark.Activated task_a ∷ Mark.PreTaskHook task_a ∷ []
 
 abbrev pub second_marks_unmoved : List Mark
 second_marks_unmoved = Mark.StartupHook ∷ []

@@ -38,9 +38,9 @@ second_items =
 
 abbrev pub first_marks : List Mark
 first_marks =
-    Mark.CoreStarted (core 1) EOk ∷ Mark.StartupHook ∷ Mark.Activated task_a ∷ Mark.PreTaskHook task_a
-    ∷ Mark.CallPosted (core 1) (Remote.ActivateTask task_b) ∷ Mark.ServiceReturned (Runner.Task task_a) Service.ActivateTask EOk None
-    ∷ Mark.CallPosted (core 1) (Remote.ActivateTask task_b) ∷ Mark.ServiceReturned (Runner.Task task_a) Service.ActivateTask EOsLimit None
+    Mark.StartCoreReturned (core 1) EOk ∷ Mark.StartupHook ∷ Mark.Activated task_a ∷ Mark.PreTaskHook task_a
+    ∷ Mark.CallQueued (core 1) (Remote.ActivateTask task_b) ∷ Mark.ServiceReturned (Runner.Task task_a) Service.ActivateTask EOk None
+    ∷ Mark.CallQueued (core 1) (Remote.ActivateTask task_b) ∷ Mark.ServiceReturned (Runner.Task task_a) Service.ActivateTask EOsLimit None
     ∷ Mark.ErrorHook EOsLimit ∷ Mark.PostTaskHook task_a ∷ Mark.Terminated task_a ∷ []
 
 abbrev pub second_marks : List Mark

@@ -1,4 +1,4 @@
--- What holds of the state of every kernel: that nothing runs out of its room.
+-- What holds of the state of every kernel: that nothing runs out of its room. All of it is this project's own.
 use Rattle.std.specs.Prelude.{◌≡◌, ℕ, ◌≤◌, nat_le, nat_lt, Bool, true, false, IsTrue, is_some, [], length, slice_index, sum_by}
 use Rattle.std.specs.List.{list_all}
 use Rattle.std.specs.Option.{option_map_or}
@@ -31,7 +31,7 @@ abbrev pub activation_limit : View → Runner → ℕ
 activation_limit v (Runner.Task t) = option_map_or (λ (task : Task). task.activations) (own_task v t) 0
 activation_limit v (Runner.Isr i) = 0
 
--- A mark that changes nothing but the length of the history.
+-- A mark that changes nothing of the state but how many entries the history has.
 abbrev pub is_plain : Mark → Bool
 is_plain (Mark.Activated t) = false
 is_plain (Mark.Terminated t) = false

@@ -25,7 +25,7 @@ use Rattle.osstate.specs.declared.progress.Progress.{Progress}
 use Rattle.osstate.specs.Readings.{script_of, static_priority}
 use Rattle.osstate.specs.State.{KernelState}
 
--- The phase past the first gate. [AUTOSAR SWS OS 4.x, section 7.9.5]
+-- The phase past the first gate. [AUTOSAR SWS OS 4.x, SWS_Os_00608 to SWS_Os_00610]
 abbrev pub first_gate_phase : Agreement → Phase
 first_gate_phase Agreement.Conflict = Phase.Ended
 first_gate_phase (Agreement.Mode m) = Phase.BetweenGates

@@ -50,13 +50,10 @@ fn is_isr(isr: IsrRef, runner: Runner) -> bool
     }
 }
 
-fn is_same_isr(left: IsrRef, right: IsrRef) -> bool
-    ensures { result ≡ same_isr left right }
+fn is_same_isr(isr: IsrRef, other: IsrRef) -> bool
+    ensures { result ≡ same_isr isr other }
 {
-    both(
-        is_same_core(left.core, right.core),
-        left.index == right.index,
-    )
+    both(is_same_core(isr.core, other.core), isr.index == other.index)
 }
 
 /// Whether both hold. Unlike `&&` it is a function, whose answer a proof reads as one fact.

@@ -145,7 +145,7 @@ pub(crate) fn count_one(counts: &mut [u64; 16], core: CoreId)
     counts[usize::from(core.number)] += 1;
 }
 
-/// Of the jobs of greatest priority the first (OSEK/VDX OS 2.2.3, section 4.6.5).
+/// Of the jobs of greatest priority the first (OSEK/VDX OS 2.2.3, section 4.4 and 4.5).
 pub(crate) fn first_greatest(core: &Core, jobs: &[JobSlot]) -> Option<Job>
     ensures { result ≡ greatest_job (λ j. priority_in core.now j.runner) jobs.now }
 {

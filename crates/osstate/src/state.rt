@@ -132,7 +132,7 @@ impl<'a, const P: usize, const J: usize, const OUT: usize> CoreState<'a, P, J, O
         marks.push_reserved(Mark::Terminated(task));
     }
 
-    /// A task enters the running state, and PreTaskHook is called (OSEK/VDX OS 2.2.3, section 11.1).
+    /// A task enters the running state, and PreTaskHook is called (OSEK/VDX OS 2.2.3, section 11.5).
     pub fn enter(&mut self, task: TaskRef, marks: &mut Vec<Mark>)
         requires count { self.old.entries < 2 ^ 63 }
         requires room { vec_len marks.old < vec_capacity marks.old }
@@ -145,7 +145,7 @@ impl<'a, const P: usize, const J: usize, const OUT: usize> CoreState<'a, P, J, O
         marks.push_reserved(Mark::PreTaskHook(task));
     }
 
-    /// PostTaskHook is called, and a task leaves the running state (OSEK/VDX OS 2.2.3, section 11.1).
+    /// PostTaskHook is called, and a task leaves the running state (OSEK/VDX OS 2.2.3, section 11.5).
     pub fn leave(&mut self, task: TaskRef, marks: &mut Vec<Mark>)
         requires count { self.old.entries < 2 ^ 63 }
         requires room { vec_len marks.old < vec_capacity marks.old }
@@ -226,7 +226,7 @@ impl<'a, const P: usize, const J: usize, const OUT: usize> CoreState<'a, P, J, O
         self.progress.items
     }
 
-    /// The next core of the start list, if one is left (AUTOSAR SWS OS 4.x, section 7.9.4).
+    /// The next core of the start list, if one is left (AUTOSAR SWS OS 4.x, StartCore).
     pub fn next_start(&self) -> Option<CoreId>
         ensures state { result ≡ next_start self.now.view self.now.began }
         ensures reads { Reads (λ v h. next_start v (began_count h)) self.now result }
@@ -365,7 +365,7 @@ impl<'a, const P: usize, const J: usize, const OUT: usize> CoreState<'a, P, J, O
         parts::oldest_job(self.jobs.as_slice(), Runner::Task(task))
     }
 
-    /// The job to run: of the live jobs of greatest priority the oldest (OSEK/VDX OS 2.2.3, section 4.6.5).
+    /// The job to run: of the live jobs of greatest priority the oldest (OSEK/VDX OS 2.2.3, section 4.4 and 4.5).
     pub fn best_job(&self) -> Option<Job>
         ensures state { result ≡ best_in self.now }
         ensures reads { Reads (λ v h. best_job v h) self.now result }

@@ -1,4 +1,4 @@
--- The words that lines are written of.
+-- The words that lines are written of. All of it is this project's own.
 use Rattle.std.specs.Prelude.{ℕ, List, ◌++◌, codes}
 use Rattle.std.specs.Fmt.{decimal, signed_decimal}
 use Rattle.std.specs.List.{flat_map}

@@ -76,7 +76,7 @@ answer_words status value = status_name status ∷ value_words value
 -- The words of a mark's line.
 -- [own; hooks and services as OSEK/VDX OS 2.2.3 and AUTOSAR SWS OS 4.x name them]
 abbrev pub words_of : Plan → Mark → List (List ℕ)
-words_of plan (Mark.CoreStarted core status) = codes "start" ∷ decimal core.number ∷ status_name status ∷ []
+words_of plan (Mark.StartCoreReturned core status) = codes "start" ∷ decimal core.number ∷ status_name status ∷ []
 words_of plan Mark.ModesConflict = codes "conflict" ∷ []
 words_of plan Mark.StartupHook = codes "hook" ∷ codes "Startup" ∷ []
 words_of plan (Mark.ErrorHook status) = codes "hook" ∷ codes "Error" ∷ status_name status ∷ []
@@ -99,7 +99,7 @@ words_of plan (Mark.AlarmExpired a) = codes "alarm" ∷ alarm_name plan a ∷ []
 words_of plan (Mark.ExpiryPoint s offset) = codes "point" ∷ table_name plan s ∷ decimal offset ∷ []
 words_of plan (Mark.TableStopped s) = codes "stop" ∷ table_name plan s ∷ []
 words_of plan (Mark.TableBegun s) = codes "begin" ∷ table_name plan s ∷ []
-words_of plan (Mark.CallPosted core call) = codes "out" ∷ decimal core.number ∷ call_words plan call
+words_of plan (Mark.CallQueued core call) = codes "out" ∷ decimal core.number ∷ call_words plan call
 words_of plan (Mark.CallServed core call status value) =
     codes "in" ∷ decimal core.number ∷ (call_words plan call ++ answer_words status value)
 words_of plan (Mark.ServiceReturned runner service status value) =

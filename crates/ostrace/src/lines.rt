@@ -273,7 +273,7 @@ pub fn write_line<S: Sink>(plan: &Plan, out: &mut S, mark: &Mark) -> Result<(), 
     ensures { Writes S.taken S.failed out.old out.new (line_of plan.now mark.now) result }
 {
     match *mark {
-        Mark::CoreStarted { core, status } => write_core(out, "start", core, status),
+        Mark::StartCoreReturned { core, status } => write_core(out, "start", core, status),
         Mark::ModesConflict => write_word_alone(out, "conflict"),
         Mark::StartupHook => write_name(out, "hook", "Startup"),
         Mark::ErrorHook(status) => write_hook(out, "Error", status),
@@ -296,7 +296,7 @@ pub fn write_line<S: Sink>(plan: &Plan, out: &mut S, mark: &Mark) -> Result<(), 
         Mark::ExpiryPoint { table, offset } => write_point(plan, out, table, offset),
         Mark::TableStopped(table) => write_name(out, "stop", name_of_table(plan, table)),
         Mark::TableBegun(table) => write_name(out, "begin", name_of_table(plan, table)),
-        Mark::CallPosted { core, call } => write_remote(plan, out, "out", core, call),
+        Mark::CallQueued { core, call } => write_remote(plan, out, "out", core, call),
         Mark::CallServed {
             core,
             call,

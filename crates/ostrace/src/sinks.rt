@@ -25,7 +25,7 @@ pub trait Sink {
     // The bytes that the sink has taken, or `None` where its type does not say.
     ghost taken: { Self → Option (List ℕ) };
 
-    // How many writes failed or took nothing.
+    // How many writes failed.
     ghost failed: { Self → ℕ };
 
     /// Takes some of the bytes from their front, and answers how many. `None`, and 0 for a text that
@@ -41,7 +41,7 @@ pub trait Sink {
 #[derive(Drop)]
 pub struct WriteSink<W> {
     pub writer: W,
-    /// How many writes failed or took nothing: below 2^48 as long as the sink is written to.
+    /// How many writes failed, which a write of nothing never does: below 2^48 as long as the sink is written to.
     pub failed: u64,
 }
 
@@ -94,7 +94,7 @@ fn is_failed(taken: Option<usize>, bytes: &[u8]) -> bool
 #[derive(Drop)]
 pub struct MemorySink {
     pub bytes: Vec<u8>,
-    /// How many writes failed: below 2^48 as long as the sink is written to.
+    /// How many writes failed for want of memory: below 2^48 as long as the sink is written to.
     pub failed: u64,
 }
 

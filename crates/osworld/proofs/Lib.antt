@@ -1,1 +1,16 @@
-pub mod Fits
+pub mod Sizes
+pub mod Quiet
+pub mod Listed
+pub mod Streams
+pub mod Carrying
+pub mod Agreed
+pub mod Turning
+pub mod Turned
+pub mod Played
+pub mod Started
+pub mod Reported
+pub mod Rounds
+pub mod Short
+pub mod Default
+pub mod Fitting
+pub mod Fitted

@@ -16,7 +16,7 @@ use Rattle.osworld.specs.declared.boards.ModeSet.{ModeSet}
 
 -- What a core asks of the board.
 pub data BoardCall : Type 0 where
-  -- starts this core
+  -- starts the core that is named
   StartCore : CoreId → BoardCall
   -- has entered, with this mode
   Enter : CoreMode → BoardCall
@@ -93,7 +93,7 @@ abbrev pub have_all : CoreSet → CoreSet → Bool
 have_all started cores = list_all (λ (p : Bool × Bool). not p.0 || p.1) (zip started.members cores.members)
 
 -- What the named modes come to, by how many they are: none, the one, or a conflict of several.
--- [AUTOSAR SWS OS 4.x, section 7.9.5; that all may say DONOTCARE is this project's own]
+-- [AUTOSAR SWS OS 4.x, SWS_Os_00608 to SWS_Os_00610; that all may say DONOTCARE is this project's own]
 abbrev pub agreement_by : ℕ → Option ℕ → Agreement
 agreement_by zero first = Agreement.NoMode
 agreement_by (suc zero) None = Agreement.NoMode

@@ -1,4 +1,6 @@
-pub mod Borders
 pub mod Board
 pub mod Ends
 pub mod World
+pub mod Naming
+pub mod Playing
+pub mod Fits

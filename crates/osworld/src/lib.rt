@@ -3,6 +3,7 @@
 
 pub mod boards;
 pub mod ends;
+mod naming;
 pub mod runs;
 mod seats;
 mod worlds;

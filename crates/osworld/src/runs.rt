@@ -1,32 +1,44 @@
 //! Runs: listed turns, and the default schedule.
 
-ghost use Rattle.std.specs.Prelude.{◌≡◌};
+ghost use Rattle.std.specs.Prelude.{◌≡◌, ◌++◌, ◌≤◌, ◌||◌, [], IfOk, IfErr, OnErr, OnOk, true, vec_len, vec_capacity};
+ghost use Rattle.osworld.specs.World.{first_world, ids_of, round_of, rounds as rounds_of, turns_in_round};
+ghost use Rattle.osworld.specs.Playing.{AreReports, HasNoSchedule, IsBegun, IsBrokenOff, IsDefaultBrokenOff, IsDefaultRun, IsDefaultSchedule, IsRound, Plays, PlaysDefault, StopsDefaultShort};
 
-use crate::worlds::World;
-use osbase::{CORES, Choice, CoreId, List, Report, Schedule, Stimuli, Turn};
+use crate::worlds::{World, either};
+use osbase::{Choice, CoreId, List, Report, Schedule, Stimuli, Turn};
 use osplan::{Config, Plan};
 use std::alloc::{AllocError, Global};
 use thiserror::Error;
 
-/// Why a run broke off, and the reports of the turns before.
+/// Why there is no run, or only its beginning.
 #[derive(Debug, Drop, Error)]
 pub enum RunFault {
-    /// A growth was refused, before the turn that needed it.
+    /// Memory was refused before the first turn could be played: there is nothing to report.
+    #[error("out of memory")]
+    NotBegun,
+    /// A growth was refused before the turn that needed it. The reports are those of the turns before.
     #[error("out of memory")]
     NoMemory { reports: Vec<Report> },
 }
 
-/// Plays these turns. One report for each configured core, in ascending order.
+/// Plays these turns: the reports are those of the world after them, one for each configured core in
+/// ascending order, and its cores' items fit one another. Want of memory comes before the turn whose growth
+/// was refused.
 pub fn run_world(
     alloc: Global,
     config: &Config,
     stimuli: &Stimuli,
     turns: &[Turn],
-) -> Result<Vec<Report>, RunFault> {
+) -> Result<Vec<Report>, RunFault>
+    ensures world { IfOk result (λ reports. AreReports config.now stimuli.now turns.now reports.items) }
+    ensures broken_off { IfErr result (IsBrokenOff config.now stimuli.now turns.now) }
+{
     let mut world = begin(alloc, config, stimuli)?;
     match world.play(turns) {
         Ok(_) => Ok(world.finish()),
-        Err(_) => Err(broken_off(world)),
+        Err(_) => Err(RunFault::NoMemory {
+            reports: world.finish(),
+        }),
     }
 }
 
@@ -35,86 +47,99 @@ pub fn run_default(
     alloc: Global,
     config: &Config,
     stimuli: &Stimuli,
-) -> Result<Vec<Report>, RunFault> {
+) -> Result<Vec<Report>, RunFault>
+    ensures default { IfOk result (λ reports. IsDefaultRun config.now stimuli.now reports.items) }
+    ensures broken_off { IfErr result (IsDefaultBrokenOff config.now stimuli.now) }
+{
     let Ok(round) = round_of(alloc, config.plan()) else {
-        return Err(nothing_yet(alloc));
+        return Err(RunFault::NotBegun);
     };
     let mut world = begin(alloc, config, stimuli)?;
-    // Rounds that change something are fewer than the items that all cores may take.
-    for _ in 0..u64::MAX {
-        match world.play(round.as_slice()) {
-            Ok(changed) => {
-                if !changed || world.is_over() {
-                    break;
-                }
-            }
-            Err(_) => return Err(broken_off(world)),
-        }
+    match play_rounds(&mut world, round.as_slice()) {
+        Ok(_) => Ok(world.finish()),
+        Err(_) => Err(RunFault::NoMemory {
+            reports: world.finish(),
+        }),
     }
-    Ok(world.finish())
 }
 
 /// The default schedule: whole rounds, in each of which each core by ascending number serves every other
 /// core, goes on with its own work and looks at the board; up to the first round at whose end every started
-/// core has ended, or in which nothing changed.
+/// core has ended, or in which nothing changed. Want of memory leaves the reports of the turns that were
+/// played to find it: a beginning of it, or all of them where the schedule itself could not grow.
 pub fn default_schedule(
     alloc: Global,
     config: &Config,
     stimuli: &Stimuli,
-) -> Result<Schedule, RunFault> {
+) -> Result<Schedule, RunFault>
+    ensures default { IfOk result (λ schedule. IsDefaultSchedule config.now stimuli.now schedule) }
+    ensures broken_off { IfErr result (HasNoSchedule config.now stimuli.now) }
+{
     let Ok(round) = round_of(alloc, config.plan()) else {
-        return Err(nothing_yet(alloc));
+        return Err(RunFault::NotBegun);
     };
     let mut world = begin(alloc, config, stimuli)?;
+    let Ok(rounds) = play_rounds(&mut world, round.as_slice()) else {
+        return Err(RunFault::NoMemory {
+            reports: world.finish(),
+        });
+    };
+    match repeated(alloc, round.as_slice(), rounds) {
+        Ok(schedule) => Ok(schedule),
+        Err(_) => Err(RunFault::NoMemory {
+            reports: world.finish(),
+        }),
+    }
+}
+
+// Plays whole rounds up to the end of the default schedule, and says how many.
+fn play_rounds(world: &mut World, round: &[Turn]) -> Result<u64, AllocError>
+    requires round { IsRound world.old.config.now round.now }
+    requires begun { IsBegun world.old.config.now world.old.seats.items world.old.mail world.old.board }
+    ensures reports { world.new.reports ≡ world.old.reports }
+    ensures len { vec_len world.new.seats ≡ vec_len world.old.seats }
+    ensures ok { IfOk result (λ rounds. PlaysDefault world.old rounds world.new) }
+    ensures err { OnErr result (StopsDefaultShort world.old world.new) }
+{
+    for rounds in 1..u64::MAX {
+        let changed = world.play(round)?;
+        if either(world.is_over(), !changed) {
+            return Ok(rounds);
+        }
+    }
+    unreachable!()
+}
+
+// So many rounds.
+fn repeated(alloc: Global, round: &[Turn], rounds: u64) -> Result<Schedule, AllocError>
+    ensures { IfOk result (λ schedule. schedule ≡ rounds_of rounds round.now) }
+{
     let mut schedule = List::new(alloc);
-    for _ in 0..u64::MAX {
-        if append(&mut schedule, round.as_slice()).is_err() {
-            return Err(broken_off(world));
-        }
-        match world.play(round.as_slice()) {
-            Ok(changed) => {
-                if !changed || world.is_over() {
-                    break;
-                }
-            }
-            Err(_) => return Err(broken_off(world)),
-        }
+    for _ in 0..rounds {
+        append(&mut schedule, round)?;
     }
     Ok(schedule)
 }
 
 // The world before the first turn.
-fn begin<'a>(
-    alloc: Global,
-    config: &'a Config,
-    stimuli: &'a Stimuli,
-) -> Result<World<'a>, RunFault> {
+fn begin<'a>(alloc: Global, config: &'a Config, stimuli: &'a Stimuli) -> Result<World<'a>, RunFault>
+    ensures config { IfOk result (λ world. world.config.now ≡ config.now) }
+    ensures plays { IfOk result (λ world. Plays config.now stimuli.now (first_world config.now) world.seats.items world.mail world.board) }
+    ensures reports { IfOk result (λ world. world.reports.items ≡ []) }
+    ensures room { IfOk result (λ world. vec_len world.seats ≤ vec_capacity world.reports) }
+    ensures nothing { IfErr result (λ fault. fault ≡ RunFault.NotBegun) }
+{
     match World::new(alloc, config, stimuli.as_slice()) {
         Ok(world) => Ok(world),
-        Err(_) => Err(nothing_yet(alloc)),
-    }
-}
-
-fn nothing_yet(alloc: Global) -> RunFault {
-    RunFault::NoMemory {
-        reports: Vec::new(alloc),
-    }
-}
-
-fn broken_off(world: World) -> RunFault {
-    RunFault::NoMemory {
-        reports: world.finish(),
+        Err(_) => Err(RunFault::NotBegun),
     }
 }
 
 // The turns of one round.
-fn round_of(alloc: Global, plan: &Plan) -> Result<Vec<Turn>, AllocError> {
-    let mut ids = Vec::new(alloc);
-    for number in 0..16 {
-        if plan.core(CoreId { number }).is_some() {
-            ids.push(CoreId { number })?;
-        }
-    }
+fn round_of(alloc: Global, plan: &Plan) -> Result<Vec<Turn>, AllocError>
+    ensures { IfOk result (λ round. round.items ≡ round_of plan.now) }
+{
+    let ids = ids_of(alloc, plan)?;
     let mut round = Vec::new(alloc);
     for id in ids.as_slice() {
         push_turns(&mut round, ids.as_slice(), *id)?;
@@ -122,8 +147,23 @@ fn round_of(alloc: Global, plan: &Plan) -> Result<Vec<Turn>, AllocError> {
     Ok(round)
 }
 
+// The configured cores, ascending.
+fn ids_of(alloc: Global, plan: &Plan) -> Result<Vec<CoreId>, AllocError>
+    ensures { IfOk result (λ ids. ids.items ≡ ids_of plan.now) }
+{
+    let mut ids = Vec::new(alloc);
+    for number in 0..16 {
+        if plan.core(CoreId { number }).is_some() {
+            ids.push(CoreId { number })?;
+        }
+    }
+    Ok(ids)
+}
+
 // The turns of one core in a round.
-fn push_turns(round: &mut Vec<Turn>, ids: &[CoreId], id: CoreId) -> Result<(), AllocError> {
+fn push_turns(round: &mut Vec<Turn>, ids: &[CoreId], id: CoreId) -> Result<(), AllocError>
+    ensures { OnOk result (round.new.items ≡ round.old.items ++ turns_in_round ids.now id) }
+{
     for other in ids {
         if other.number != id.number {
             round.push((id, Choice::Serve(*other)))?;
@@ -134,7 +174,9 @@ fn push_turns(round: &mut Vec<Turn>, ids: &[CoreId], id: CoreId) -> Result<(), A
     Ok(())
 }
 
-fn append(schedule: &mut Schedule, round: &[Turn]) -> Result<(), AllocError> {
+fn append(schedule: &mut Schedule, round: &[Turn]) -> Result<(), AllocError>
+    ensures { OnOk result (schedule.new ≡ schedule.old ++ round.now) }
+{
     for turn in round {
         schedule.push(*turn)?;
     }

@@ -1,6 +1,6 @@
 //! One core of a run.
 
-ghost use Rattle.std.specs.Prelude.{◌++◌, ◌∷◌, [], IsTrue, IsSome, ◌≡◌, ◌+◌, ◌<◌, ◌≤◌, IfOk, OnOk, vec_len, vec_capacity};
+ghost use Rattle.std.specs.Prelude.{◌++◌, ◌∷◌, [], IsTrue, IsSome, ◌≡◌, ◌+◌, ◌<◌, ◌≤◌, IfOk, IfSome, OnOk, vec_len, vec_capacity};
 ghost use Rattle.osbase.specs.declared.turns.TheConstants.{CORES};
 ghost use Rattle.osplan.specs.View.{core_of, view_of};
 ghost use Rattle.osplan.specs.Limits.{is_within_limits};
@@ -8,13 +8,19 @@ ghost use Rattle.osstate.specs.Does.{Does};
 ghost use Rattle.osstate.specs.State.{state_of};
 ghost use Rattle.oskernel.specs.Admission.{may_take_of};
 ghost use Rattle.oskernel.specs.Step.{after};
+ghost use Rattle.osbase.specs.Runs.{stimuli_of};
+ghost use Rattle.osworld.specs.World.{is_ended_phase};
+ghost use Rattle.osworld.specs.Naming.{IsPlaced, left_after, named_by};
 ghost use Rattle.osworld.specs.declared.seats.TheConstants.{MARKS};
 
+use crate::boards::Board;
+use crate::naming::{Mailboxes, looked_item, own_item, served_item};
 use osbase::{
-    CORES, CoreId, CoreStimuli, Envelope, Item, List, Mark, Phase, Report, Stimulus, stimuli_for,
+    CORES, Choice, CoreId, CoreStimuli, Envelope, Item, List, Mark, Phase, Report, Stimulus,
+    stimuli_for,
 };
 use oskernel::{Kernel, Want};
-use osplan::{Config, Core, CoreMode};
+use osplan::{Config, Core, CoreMode, Plan};
 use std::alloc::{AllocError, Global};
 
 /// A kernel of the sizes that every configuration within the limits fits: 32 priorities, 64 jobs, an
@@ -49,7 +55,11 @@ impl<'a> Seat<'a> {
         requires configured { IsSome (core_of config.now id) }
         requires limits { IsTrue (is_within_limits config.now) }
         ensures kernel { result.kernel ≡ state_of (view_of config.now id) [] }
-        ensures empty { vec_len result.items ≡ 0 }
+        ensures core { result.id ≡ id }
+        ensures mode { result.mode ≡ mode }
+        ensures stimuli { result.stimuli.now ≡ stimuli_of stimuli.now id }
+        ensures items { result.items.items ≡ [] }
+        ensures marks { result.marks.items ≡ [] }
     {
         Seat {
             id,
@@ -61,12 +71,35 @@ impl<'a> Seat<'a> {
         }
     }
 
+    /// The item that a turn of this core names.
+    pub fn named(
+        &self,
+        plan: &Plan,
+        board: &Board,
+        mail: &Mailboxes,
+        choice: Choice,
+    ) -> Option<Item>
+        ensures value { result ≡ named_by plan.now board.now mail.now self.now.id self.now.stimuli.now self.now.kernel choice }
+        ensures placed { IfSome result (λ i. IsPlaced mail.now self.now.id i) }
+    {
+        match choice {
+            Choice::Own => {
+                let want = self.kernel.want();
+                own_item(plan, board, mail, self.id, self.stimuli, want)
+            }
+            Choice::Serve(from) => served_item(mail, self.id, from),
+            Choice::Look => looked_item(board, self.id, self.kernel.phase()),
+        }
+    }
+
     /// Makes room for one more item and all lines that it may print. Without memory nothing changes.
     pub fn make_room(&mut self) -> Result<(), AllocError>
         ensures items { OnOk result (vec_len self.new.items < vec_capacity self.new.items) }
         ensures marks { OnOk result (vec_len self.new.marks + MARKS ≤ vec_capacity self.new.marks) }
         ensures kernel { self.new.kernel ≡ self.old.kernel }
         ensures id { self.new.id ≡ self.old.id }
+        ensures mode { self.new.mode ≡ self.old.mode }
+        ensures stimuli { self.new.stimuli ≡ self.old.stimuli }
         ensures taken { self.new.items.items ≡ self.old.items.items }
         ensures printed { self.new.marks.items ≡ self.old.marks.items }
     {
@@ -80,6 +113,8 @@ impl<'a> Seat<'a> {
         requires marks { vec_len self.old.marks + MARKS ≤ vec_capacity self.old.marks }
         requires taken { IsTrue (may_take_of 64 self.old.kernel item) }
         ensures id { self.new.id ≡ self.old.id }
+        ensures mode { self.new.mode ≡ self.old.mode }
+        ensures stimuli { self.new.stimuli.now ≡ left_after item self.old.stimuli.now }
         ensures taken { self.new.items.items ≡ self.old.items.items ++ item ∷ [] }
         ensures does { Does (λ v h. after v h item) self.old.kernel self.new.kernel self.old.marks.items self.new.marks.items }
     {
@@ -93,12 +128,16 @@ impl<'a> Seat<'a> {
     }
 
     /// Whether the core has come to its end.
-    pub fn has_ended(&self) -> bool {
+    pub fn has_ended(&self) -> bool
+        ensures { result ≡ is_ended_phase self.now.kernel.phase }
+    {
         matches!(self.kernel.phase(), Phase::Ended)
     }
 
     /// What the run came to for this core.
-    pub fn report(self) -> Report {
+    pub fn report(self) -> Report
+        ensures { result ≡ record { core = self.entry.id; items = self.entry.items.items; marks = self.entry.marks.items; ended = is_ended_phase self.entry.kernel.phase } }
+    {
         let ended = self.has_ended();
         let Seat {
             id,

@@ -83,7 +83,7 @@ pub fn reports(alloc: Global) -> Result<Vec<Report>, AllocError> {
         index: 0,
     };
     let call = RemoteCall::ActivateTask(blink);
-    let posted = Mark::CallPosted { core: one, call };
+    let posted = Mark::CallQueued { core: one, call };
     let served = Mark::CallServed {
         core: zero,
         call,

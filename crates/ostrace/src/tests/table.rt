@@ -35,7 +35,7 @@ const TABLE: TableRef = TableRef {
 };
 
 fn started(core: CoreId, status: Status) -> Mark {
-    Mark::CoreStarted { core, status }
+    Mark::StartCoreReturned { core, status }
 }
 
 /// Lines of a core's start, its hooks and its end.
@@ -111,7 +111,7 @@ pub fn objects() -> [(Mark, &'static str); 8] {
 }
 
 fn posted(call: RemoteCall) -> Mark {
-    Mark::CallPosted { core: ONE, call }
+    Mark::CallQueued { core: ONE, call }
 }
 
 fn served(call: RemoteCall, status: Status, value: Option<i64>) -> Mark {

@@ -1,11 +1,12 @@
 use Rattle.std.proofs.Common.{◌≡◌, ◌∙◌, ap, sym, subst, List}
 use Rattle.std.proofs.lemmas.Result.{err_from_is_err_and}
-use Rattle.osconf.specs.declared.faults.ConfFault.{ConfFault}
+use Rattle.osplan.specs.declared.faults.ConfFault.{ConfFault}
 use Rattle.osconf.specs.Fault.{failing}
 use Rattle.osconf.specs.Check.{tests_of}
 use Rattle.osconf.specs.Meaning.{IsLeast, faults_of, faults_of_data, faults_of_shape}
 use Rattle.osconf.proofs.Least.{least-tests_of}
 use Rattle.osconf.proofs.Bounds.{bounds-of}
+use Rattle.osconf.proofs.Sayings.{config-named, expressible-of}
 use Rattle.osconf.proofs.configs.read_config.Goals as goal
 
 pub returns-in_err-check-clause-fault : goal.returns-in_err-check-clause-fault
@@ -14,5 +15,8 @@ returns-in_err-check-clause-fault c =
     let p = err_from_is_err_and c.from_residual-in_err-check.result c.from_residual-in_err-check.ensures.1 in
     rw (p.1, p.2) (λ _. subst (λ (fs : List ConfFault). IsLeast c.in_err-check.field-0.0 fs) (sym faults) (least-tests_of c.in_ok-text.text c.in_err-check.field-0.0 c.in_err-check.ensures))
 
-pub new-requires : goal.new-requires
-new-requires c = rw c.in_ok-plan_of.ensures (bounds-of c.in_ok-text.text c.in_ok-check.ensures)
+pub new-requires-clause-limits : goal.new-requires-clause-limits
+new-requires-clause-limits c = rw c.in_ok-plan_of.ensures (bounds-of c.in_ok-text.text c.in_ok-check.ensures)
+
+pub new-requires-clause-expressible : goal.new-requires-clause-expressible
+new-requires-clause-expressible c = rw c.in_ok-plan_of.ensures (expressible-of c.in_ok-text.text (config-named _ c.in_ok-text.text c.in_ok-text.ensures) c.in_ok-check.ensures)

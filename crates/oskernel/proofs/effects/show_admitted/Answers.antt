@@ -1,5 +1,5 @@
 use Rattle.oskernel.proofs.Phases.{forward}
-use Rattle.oskernel.proofs.Taken.{acting, fresh, filling}
+use Rattle.oskernel.proofs.Taken.{acting, fresh, filling, known}
 use Rattle.oskernel.proofs.effects.show_admitted.Goals as goal
 
 pub returns-clause-forward : goal.returns-clause-forward
@@ -13,3 +13,6 @@ returns-clause-fresh g c = fresh g.row.OUT c.args.state.now c.args.item.now c.re
 
 pub returns-clause-filling : goal.returns-clause-filling
 returns-clause-filling g c = filling g.row.OUT c.args.state.now c.args.item.now c.requires.outbox c.requires.admitted
+
+pub returns-clause-known : goal.returns-clause-known
+returns-clause-known g c = known g.row.OUT c.args.state.now c.args.item.now c.requires.admitted

@@ -1,5 +1,5 @@
 use Rattle.std.proofs.Common.{rules}
-use Rattle.osworld.proofs.Fits.{view-priorities, view-activations}
+use Rattle.osworld.proofs.Sizes.{view-priorities, view-activations}
 use Rattle.osworld.proofs.seats.Seat.new.Goals as goal
 
 pub new-requires : goal.new-requires

@@ -1,0 +1,10 @@
+use Rattle.std.proofs.lemmas.Result.{err_from_is_err_and}
+use Rattle.osconf.specs.Given.{schedule_faults}
+use Rattle.mcos.specs.Runs.{text_at}
+use Rattle.mcos.proofs.Judging.{IsFaultOf-read}
+use Rattle.mcos.proofs.performs.schedule_in.Goals as goal
+
+pub returns-in_err-read_schedule-clause-fault : goal.returns-in_err-read_schedule-clause-fault
+returns-in_err-read_schedule-clause-fault c =
+    let p = err_from_is_err_and c.from_residual-in_err-read_schedule.result c.from_residual-in_err-read_schedule.ensures.1 in
+    rw p.1 (IsFaultOf-read (schedule_faults c.args.config.now) (text_at c.args.files.now 2) c.in_ok-text.text.now _ p.0 c.in_ok-text.ensures p.2 c.in_err-read_schedule.ensures.fault)

@@ -1,0 +1,83 @@
+-- The JSON data that a configuration is written as: every member, in ascending order of names. [own]
+use Rattle.std.specs.Prelude.{ℕ, ◌++◌, Option, Some, None, List, [], map, codes, slice_get}
+use Rattle.std.specs.List.{join_by}
+use Rattle.std.specs.Option.{option_map_or}
+use Rattle.serde_json.specs.Data.{unsigned, Data, number, string, array, object, no_members, member}
+use Rattle.serde_json.specs.View.{items_of}
+use Rattle.osbase.specs.declared.references.CoreId.{CoreId}
+use Rattle.osbase.specs.declared.references.ModeId.{ModeId}
+use Rattle.osbase.specs.declared.references.TaskRef.{TaskRef}
+use Rattle.oscript.specs.declared.Op.{Op}
+use Rattle.oscript.specs.declared.Op.TheVariants.{Work, ActivateTask, TerminateTask}
+use Rattle.osplan.specs.declared.plans.Plan.{Plan}
+use Rattle.osplan.specs.declared.plans.Core.{Core}
+use Rattle.osplan.specs.declared.plans.Task.{Task}
+use Rattle.osplan.specs.View.{core_of}
+
+-- ---- names
+
+-- The name of a mode; of one that there is not, the empty text.
+abbrev pub mode_text : Plan → ModeId → List ℕ
+mode_text plan mode = option_map_or (λ (name : List ℕ). name) (slice_get plan.modes mode.index) []
+
+-- The name of a task; of one that there is not, the empty text.
+abbrev pub name_in : Core → ℕ → List ℕ
+name_in core index = option_map_or (λ (task : Task). task.name) (slice_get core.tasks index) []
+
+abbrev pub task_name : Plan → TaskRef → List ℕ
+task_name plan task = option_map_or (λ (core : Core). name_in core task.index) (core_of plan task.core) []
+
+-- ---- scripts
+
+-- A task's place in an operation: its name, or `?` for the invalid identifier.
+abbrev pub target_text : Plan → Option TaskRef → List ℕ
+target_text plan None = codes "?"
+target_text plan (Some task) = task_name plan task
+
+-- The words of an operation, divided by one space.
+abbrev pub op_text : Plan → Op → List ℕ
+op_text plan Work = codes "work"
+op_text plan (ActivateTask target) = codes "ActivateTask " ++ target_text plan target
+op_text plan TerminateTask = codes "TerminateTask"
+
+-- The operations of a script, divided by `;`.
+abbrev pub script_text : Plan → List Op → List ℕ
+script_text plan script = join_by (op_text plan) (codes ";") script
+
+-- ---- members
+
+abbrev pub whole_data : ℕ → Data
+whole_data n = number (unsigned n)
+
+abbrev pub list_data : {X : Type 0} → (X → Data) → List X → Data
+list_data f xs = array (items_of (map f xs))
+
+abbrev pub id_data : CoreId → Data
+id_data id = whole_data id.number
+
+abbrev pub mode_data : Plan → ModeId → Data
+mode_data plan mode = string (mode_text plan mode)
+
+-- A task: its activation limit, the modes of its autostart, its name, priority and script.
+abbrev pub task_data : Plan → Task → Data
+task_data plan task = object
+    (member (codes "activations") (whole_data task.activations)
+    (member (codes "auto") (list_data (mode_data plan) task.auto)
+    (member (codes "name") (string task.name)
+    (member (codes "prio") (whole_data task.priority)
+    (member (codes "script") (string (script_text plan task.script)) no_members)))))
+
+-- A core: its number, the cores that it starts, and its tasks.
+abbrev pub core_data : Plan → Core → Data
+core_data plan core = object
+    (member (codes "id") (id_data core.id)
+    (member (codes "start") (list_data id_data core.start)
+    (member (codes "tasks") (list_data (task_data plan) core.tasks) no_members)))
+
+-- A configuration: the size of a mailbox, its cores, the master core and the version, 1.
+abbrev pub config_data : Plan → Data
+config_data plan = object
+    (member (codes "cap") (whole_data plan.cap)
+    (member (codes "cores") (list_data (core_data plan) plan.cores)
+    (member (codes "master") (id_data plan.master)
+    (member (codes "version") (whole_data 1) no_members))))

@@ -1,0 +1,131 @@
+-- The configuration of a separate core alone is within the limits, and a text can say it.
+use Rattle.std.proofs.Common.{◌≡◌, Bool, true, false, not, ◌&&◌, nat_eq, nat_le, nat_lt, List, [], ◌∷◌, length, Option, Some, None, is_some, IsTrue, refl, sym, ap, ◌∙◌, arith}
+use Rattle.std.specs.List.{list_all, list_any}
+use Rattle.std.specs.Option.{option_map_or}
+use Rattle.std.proofs.lemmas.Bool.{and_parts, and_from, or_parts, not-true, not-false, not_from_false, eq-eqb, eqb-true}
+use Rattle.osbase.specs.declared.references.CoreId.{CoreId}
+use Rattle.osbase.specs.declared.references.TaskRef.{TaskRef}
+use Rattle.osbase.specs.History.{same_core}
+use Rattle.oscript.specs.declared.Op.{Op}
+use Rattle.oscript.specs.declared.Op.TheVariants.{Work, ActivateTask, TerminateTask}
+use Rattle.osplan.specs.declared.plans.Plan.{Plan}
+use Rattle.osplan.specs.declared.plans.Core.{Core}
+use Rattle.osplan.specs.declared.plans.Task.{Task}
+use Rattle.osplan.specs.declared.plans.Isr.{Isr}
+use Rattle.osplan.specs.declared.plans.Alarm.{Alarm}
+use Rattle.osplan.specs.declared.plans.Table.{Table}
+use Rattle.osplan.specs.View.{core_of}
+use Rattle.osplan.specs.Limits.{is_task, is_op_known, is_mode, is_task_within, is_core_within, are_cores_distinct, is_within_limits}
+use Rattle.osplan.specs.Expressible.{is_core_expressible, is_expressible, are_tasks_distinct, are_names_distinct, are_mode_name, core_has_name, mode_name}
+use Rattle.osplan.specs.Separate.{alone_of, has_operation, is_named_elsewhere, is_separate_core, names_other}
+use Rattle.osplan.proofs.Tests.{all-weaker, all-both, find-holds, find-passes}
+use Rattle.osplan.proofs.Starting.{same_core-true}
+
+-- no element passes
+all-not : {X : Type 0} (p : X → Bool) (xs : List X) → list_any p xs ≡ false → list_all (λ x. not (p x)) xs ≡ true
+all-not p [] e = refl
+all-not p (x ∷ xs) e =
+    let parts = or_parts (p x) (list_any p xs) e in
+    and_from (not (p x)) _ (not_from_false (p x) parts.0) (all-not p xs parts.1)
+
+-- ---- what a core cannot have yet
+
+none-from : {X : Type 0} (xs : List X) → nat_eq (length xs) 0 ≡ true → xs ≡ []
+none-from [] e = refl
+none-from (x ∷ xs) e = absurd (let n : length (x ∷ xs) ≡ 0 = eqb-true (length (x ∷ xs)) 0 e in omega arith)
+
+pub no_tables : (core : Core) → IsTrue (is_core_expressible core) → core.tables ≡ []
+no_tables core h = none-from core.tables (and_parts _ (nat_eq (length core.tables) 0) h).1
+
+pub no_alarms : (core : Core) → IsTrue (is_core_expressible core) → core.alarms ≡ []
+no_alarms core h = none-from core.alarms (and_parts _ (nat_eq (length core.alarms) 0) (and_parts _ (nat_eq (length core.tables) 0) h).0).1
+
+pub no_isrs : (core : Core) → IsTrue (is_core_expressible core) → core.isrs ≡ []
+no_isrs core h = none-from core.isrs (and_parts _ (nat_eq (length core.isrs) 0) (and_parts _ (nat_eq (length core.alarms) 0) (and_parts _ (nat_eq (length core.tables) 0) h).0).0).1
+
+-- a core is its parts
+pub core-parts : (core : Core) (start : List CoreId) (tasks : List Task) (isrs : List Isr) (alarms : List Alarm) (tables : List Table) → start ≡ core.start → tasks ≡ core.tasks → isrs ≡ core.isrs → alarms ≡ core.alarms → tables ≡ core.tables
+    → (let copy : Core = record { id = core.id; mode = core.mode; start = start; tasks = tasks; isrs = isrs; alarms = alarms; tables = tables } in copy ≡ core)
+core-parts core start tasks isrs alarms tables a b c d e = rw (a, b, c, d, e) refl
+
+-- ---- the limits
+
+module _ (plan : Plan) (id : CoreId) (core : Core) (found : core_of plan id ≡ Some core) (same : core.id ≡ id) where
+  -- an operation that names no other core's task names one of the core's own
+  own-task : (t : TaskRef) → t.core ≡ core.id → is_task plan t ≡ true → is_task (alone_of plan id core) t ≡ true
+  own-task t own known =
+      let here : core_of plan t.core ≡ Some core = ap (core_of plan) (own ∙ same) ∙ found in
+      let index : nat_lt t.index (length core.tasks) ≡ true = sym (ap (λ (o : Option Core). option_map_or (λ (c : Core). nat_lt t.index (length c.tasks)) o false) here) ∙ known in
+      let mine : same_core core.id t.core ≡ true = eq-eqb core.id.number t.core.number (ap (λ (i : CoreId). i.number) (sym own)) in
+      rw mine index
+
+  own-operation : (op : Op) → (is_op_known plan op && not (names_other core.id op)) ≡ true → is_op_known (alone_of plan id core) op ≡ true
+  own-operation Work h = refl
+  own-operation (ActivateTask None) h = refl
+  own-operation (ActivateTask (Some t)) h =
+      let parts = and_parts (is_task plan t) (not (not (same_core t.core core.id))) h in
+      own-task t (same_core-true t.core core.id (not-false _ (not-true _ parts.1))) parts.0
+  own-operation TerminateTask h = refl
+
+  own-script : (task : Task) → (is_task_within plan task && not (list_any (names_other core.id) task.script)) ≡ true → is_task_within (alone_of plan id core) task ≡ true
+  own-script task h =
+      let parts = and_parts (is_task_within plan task) _ h in
+      let modes = and_parts _ (list_all (is_mode plan) task.auto) parts.0 in
+      let ops = and_parts _ (list_all (is_op_known plan) task.script) modes.0 in
+      and_from _ _ (and_from _ _ ops.0
+      (all-weaker (λ op. is_op_known plan op && not (names_other core.id op)) (is_op_known (alone_of plan id core)) own-operation task.script
+      (all-both (is_op_known plan) (λ op. not (names_other core.id op)) task.script ops.1 (all-not (names_other core.id) task.script (not-true _ parts.1))))) modes.1
+
+  core-alone : is_core_within plan core ≡ true → has_operation (names_other core.id) core ≡ false → is_core_within (alone_of plan id core) core ≡ true
+  core-alone within inside =
+      let parts = and_parts _ (list_all (is_task_within plan) core.tasks) within in
+      and_from _ _ parts.0
+      (all-weaker (λ (task : Task). is_task_within plan task && not (list_any (names_other core.id) task.script)) (is_task_within (alone_of plan id core)) own-script core.tasks
+      (all-both (is_task_within plan) (λ (task : Task). not (list_any (names_other core.id) task.script)) core.tasks parts.1 (all-not (λ (task : Task). list_any (names_other core.id) task.script) core.tasks inside)))
+
+  plan-alone : is_within_limits plan ≡ true → is_core_within plan core ≡ true → has_operation (names_other core.id) core ≡ false → is_within_limits (alone_of plan id core) ≡ true
+  plan-alone limits within inside =
+      let cores = and_parts _ (list_all (is_core_within plan) plan.cores) limits in
+      let master = and_parts _ (is_some (core_of plan plan.master)) cores.0 in
+      let distinct = and_parts _ (are_cores_distinct plan.cores) master.0 in
+      let most = and_parts _ (nat_le (length plan.cores) 8) distinct.0 in
+      let some = and_parts _ (nat_le 1 (length plan.cores)) most.0 in
+      let mine : same_core core.id id ≡ true = eq-eqb core.id.number id.number (ap (λ (i : CoreId). i.number) same) in
+      and_from _ _ (and_from _ _ (and_from _ _ (and_from _ _ (and_from _ _ some.0 refl) refl) refl) (rw mine refl)) (and_from _ _ (core-alone within inside) refl)
+
+  -- ---- what a text can say
+  expressible-alone : is_expressible plan ≡ true → is_core_expressible core ≡ true → not (core_has_name mode_name core) ≡ true → are_tasks_distinct core.tasks ≡ true → is_expressible (alone_of plan id core) ≡ true
+  expressible-alone all mine unmoded distinct =
+      let cores = and_parts _ (list_all (λ (c : Core). not (core_has_name mode_name c)) plan.cores) all in
+      let names = and_parts _ (are_names_distinct plan.cores) cores.0 in
+      let modes = and_parts (are_mode_name plan.modes) (list_all is_core_expressible plan.cores) names.0 in
+      and_from _ _ (and_from _ _ (and_from _ _ modes.0 (and_from _ _ mine refl)) (and_from _ _ (and_from _ _ distinct refl) refl)) (and_from _ _ unmoded refl)
+
+each-distinct : (cores : List Core) → are_names_distinct cores ≡ true → list_all (λ (c : Core). are_tasks_distinct c.tasks) cores ≡ true
+each-distinct [] h = refl
+each-distinct (c ∷ cs) h =
+    let rest = and_parts _ (are_names_distinct cs) h in
+    and_from _ _ (and_parts (are_tasks_distinct c.tasks) _ rest.0).0 (each-distinct cs rest.1)
+
+-- ---- the whole
+
+-- What a cut needs of the core's own configuration.
+pub record IsWhole (plan : Plan) (id : CoreId) (core : Core) : Type 0 where
+  pub expressible_core : is_core_expressible core ≡ true
+  pub limits : is_within_limits (alone_of plan id core) ≡ true
+  pub expressible : is_expressible (alone_of plan id core) ≡ true
+
+pub whole-alone : (plan : Plan) (id : CoreId) (core : Core) → IsTrue (is_within_limits plan) → IsTrue (is_expressible plan) → core_of plan id ≡ Some core → is_separate_core plan core ≡ true → IsWhole plan id core
+whole-alone plan id core limits expressible found separate =
+    let pick : (q : Core → Bool) → list_all q plan.cores ≡ true → q core ≡ true = λ q a. find-passes (λ (c : Core). same_core c.id id) q plan.cores core a found in
+    let unmoded = and_parts _ (list_all (λ (c : Core). not (core_has_name mode_name c)) plan.cores) expressible in
+    let names = and_parts _ (are_names_distinct plan.cores) unmoded.0 in
+    let mine = pick is_core_expressible (and_parts (are_mode_name plan.modes) _ names.0).1 in
+    let within = pick (is_core_within plan) (and_parts _ (list_all (is_core_within plan) plan.cores) limits).1 in
+    let outward = and_parts _ (not (has_operation (names_other core.id) core)) (and_parts _ (not (is_named_elsewhere plan core.id)) separate).0 in
+    let same = same_core-true core.id id (find-holds (λ (c : Core). same_core c.id id) plan.cores core found) in
+    record {
+      expressible_core = mine;
+      limits = plan-alone plan id core found same limits within (not-true _ outward.1);
+      expressible = expressible-alone plan id core found same expressible mine (pick (λ (c : Core). not (core_has_name mode_name c)) unmoded.1) (pick (λ (c : Core). are_tasks_distinct c.tasks) (each-distinct plan.cores names.1));
+    }

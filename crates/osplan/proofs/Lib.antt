@@ -1,0 +1,3 @@
+pub mod Tests
+pub mod Starting
+pub mod Cutting

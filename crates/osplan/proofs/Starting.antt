@@ -1,0 +1,147 @@
+-- The flags of the code are those of the started cores.
+use Rattle.std.proofs.Common.{◌≡◌, ◌≢◌, ℕ, zero, suc, ◌+◌, ◌<◌, Bool, true, false, ◌&&◌, ◌||◌, nat_eq, nat_le, nat_lt, List, [], ◌∷◌, length, map, filter, get_or, set, replicate, is_some, IsTrue, inl, inr, refl, sym, ap, ◌∙◌, get_or-set_same, get_or-set_other, below_more, add-one, arith}
+use Rattle.std.specs.List.{list_all, list_any}
+use Rattle.std.proofs.lemmas.Bool.{and_parts, and_from, and_right, or_right, or_cases, leb-true, ltb-true, lt-ltb, eqb-true, eq-eqb, ne_eqb, cases_eq}
+use Rattle.std.proofs.lemmas.List.{length-replicate}
+use Rattle.std.proofs.lemmas.Map.Views.{any-filter_same}
+use Rattle.osbase.specs.declared.references.CoreId.{CoreId}
+use Rattle.osbase.specs.declared.items.CoreSet.{CoreSet}
+use Rattle.osbase.specs.History.{same_core}
+use Rattle.osplan.specs.declared.plans.Plan.{Plan}
+use Rattle.osplan.specs.declared.plans.Core.{Core}
+use Rattle.osplan.specs.View.{core_of}
+use Rattle.osplan.specs.Limits.{is_within_limits, is_core_within}
+use Rattle.osplan.specs.Flags.{is_flagged, is_named_by_flagged, is_next, AreStarted}
+use Rattle.osplan.specs.Separate.{core_ids, is_among, is_named_by, is_started, started_within}
+use Rattle.osplan.proofs.Tests.{all-weaker, all-both, any-same, any-find}
+
+-- ---- the master's flag alone
+
+no-flag : (n k : ℕ) → get_or (replicate n false) k false ≡ false
+no-flag zero k = refl
+no-flag (suc n) zero = refl
+no-flag (suc n) (suc k) = no-flag n k
+
+pub one-flag : (n m k : ℕ) → m < n → get_or (set (replicate n false) m true) k false ≡ nat_eq k m
+one-flag n m k lt =
+    elim (cases_eq k m) as (λ _. get_or (set (replicate n false) m true) k false ≡ nat_eq k m) [
+      | inl same ↦ let inside : m < length (replicate n false) = rw (length-replicate n false) lt in rw (same, eq-eqb m m refl) (get_or-set_same (replicate n false) m true false inside)
+      | inr other ↦ rw (ne_eqb k m other) (get_or-set_other (replicate n false) m k true false other ∙ no-flag n k)
+    ]
+
+-- one flag more
+pub flags-more : (f : ℕ → Bool) (members : List Bool) (n : ℕ) (flag : Bool) → length members ≡ 16 → n < 16 → flag ≡ f n → ((k : ℕ) → k < n → get_or members k false ≡ f k)
+    → (k : ℕ) → k < n + 1 → get_or (set members n flag) k false ≡ f k
+flags-more f members n flag len lt here below =
+    below_more (λ k. get_or (set members n flag) k false ≡ f k) n
+    (λ k h. let ne : k ≢ n = omega arith in get_or-set_other members n k flag false ne ∙ below k h)
+    (let inside : n < length members = omega arith in get_or-set_same members n flag false inside ∙ here)
+
+pub same_core-true : (a b : CoreId) → same_core a b ≡ true → a ≡ b
+same_core-true a b e = ap (λ (n : ℕ). let id : CoreId = record { number = n } in id) (eqb-true a.number b.number e)
+
+-- ---- what a round keeps
+
+-- The started cores within n rounds are the configured cores that are flagged.
+abbrev pub AreWithin : Plan → ℕ → CoreSet → Type 0
+AreWithin plan n cores = (id : CoreId) → id.number < 16 → is_among (started_within plan n) id ≡ (is_flagged cores id && is_among (core_ids plan) id)
+
+kept : (test : CoreId → Bool) (ids : List CoreId) (id : CoreId) → is_among (filter test ids) id ≡ (test id && is_among ids id)
+kept test ids id = any-filter_same (λ c. same_core c id) test (test id) (λ c e. ap test (same_core-true c id e)) ids
+
+-- every configured core is among the configured ones, under a number below 16
+abbrev is_known : Plan → Core → Bool
+is_known plan core = nat_lt core.id.number 16 && is_among (core_ids plan) core.id
+
+all-among : (cores : List Core) → list_all (λ (c : Core). is_among (map (λ (d : Core). d.id) cores) c.id) cores ≡ true
+all-among [] = refl
+all-among (c ∷ cs) =
+    and_from _ _ (ap (λ b. b || is_among (map (λ (d : Core). d.id) cs) c.id) (eq-eqb c.id.number c.id.number refl))
+    (all-weaker (λ (d : Core). is_among (map (λ (e : Core). e.id) cs) d.id) (λ (d : Core). is_among (map (λ (e : Core). e.id) (c ∷ cs)) d.id) (λ d h. or_right (same_core c.id d.id) _ h) cs (all-among cs))
+
+number-low : (plan : Plan) (core : Core) → is_core_within plan core ≡ true → nat_lt core.id.number 16 ≡ true
+number-low plan core h =
+    let low = leb-true core.id.number 7 (and_parts (nat_le core.id.number 7) _ (and_parts _ _ (and_parts _ _ (and_parts _ _ h).0).0).0).0 in
+    lt-ltb core.id.number 16 (omega arith)
+
+all-known : (plan : Plan) → IsTrue (is_within_limits plan) → list_all (is_known plan) plan.cores ≡ true
+all-known plan limits =
+    all-both (λ (c : Core). nat_lt c.id.number 16) (λ (c : Core). is_among (core_ids plan) c.id) plan.cores
+    (all-weaker (is_core_within plan) (λ (c : Core). nat_lt c.id.number 16) (number-low plan) plan.cores (and_parts _ (list_all (is_core_within plan) plan.cores) limits).1)
+    (all-among plan.cores)
+
+-- the master's number is that of a configured core
+number-found : (cores : List Core) (id : CoreId) → list_all (λ (c : Core). nat_lt c.id.number 16) cores ≡ true → list_any (λ (c : Core). same_core c.id id) cores ≡ true → id.number < 16
+number-found [] id low found = cc
+number-found (c ∷ cs) id low found =
+    let parts = and_parts (nat_lt c.id.number 16) _ low in
+    elim (or_cases (same_core c.id id) _ found) as (λ _. id.number < 16) [
+      | inl here ↦ let same : c.id.number ≡ id.number = eqb-true c.id.number id.number here in let lt : c.id.number < 16 = ltb-true c.id.number 16 parts.0 in omega arith
+      | inr later ↦ number-found cs id parts.1 later
+    ]
+
+configured-low : (plan : Plan) (id : CoreId) → IsTrue (is_within_limits plan) → is_some (core_of plan id) ≡ true → id.number < 16
+configured-low plan id limits found =
+    number-found plan.cores id
+    (all-weaker (is_core_within plan) (λ (c : Core). nat_lt c.id.number 16) (number-low plan) plan.cores (and_parts _ (list_all (is_core_within plan) plan.cores) limits).1)
+    (any-find (λ (c : Core). same_core c.id id) plan.cores ∙ found)
+
+pub master-low : (plan : Plan) → IsTrue (is_within_limits plan) → plan.master.number < 16
+master-low plan limits =
+    configured-low plan plan.master limits (and_parts _ (is_some (core_of plan plan.master)) (and_parts _ (list_all (is_core_within plan) plan.cores) limits).0).1
+
+pub within-zero : (plan : Plan) (cores : CoreSet) → ((id : CoreId) → id.number < 16 → is_flagged cores id ≡ same_core id plan.master) → AreWithin plan 0 cores
+within-zero plan cores flags id lt = kept (λ i. same_core i plan.master) (core_ids plan) id ∙ ap (λ b. b && is_among (core_ids plan) id) (sym (flags id lt))
+
+-- the flags after a round, and the started cores after it
+round-same : (f a n : Bool) → (((f && a) || n) && a) ≡ ((f || n) && a)
+round-same true true n = refl
+round-same true false true = refl
+round-same true false false = refl
+round-same false true n = refl
+round-same false false true = refl
+round-same false false false = refl
+
+and-true : (b : Bool) → (b && true) ≡ b
+and-true true = refl
+and-true false = refl
+
+flagged-known : (plan : Plan) (n : ℕ) (cores : CoreSet) → AreWithin plan n cores → (id : CoreId) (core : Core) → is_known plan core ≡ true
+    → (is_among (started_within plan n) core.id && is_among core.start id) ≡ (is_flagged cores core.id && is_among core.start id)
+flagged-known plan n cores within id core known =
+    let parts = and_parts (nat_lt core.id.number 16) (is_among (core_ids plan) core.id) known in
+    let flag : is_among (started_within plan n) core.id ≡ is_flagged cores core.id = within core.id (ltb-true core.id.number 16 parts.0) ∙ ap (λ b. is_flagged cores core.id && b) parts.1 ∙ and-true (is_flagged cores core.id) in
+    ap (λ b. b && is_among core.start id) flag
+
+pub within-suc : (plan : Plan) (n : ℕ) (before after : CoreSet) → IsTrue (is_within_limits plan) → AreWithin plan n before
+    → ((id : CoreId) → id.number < 16 → is_flagged after id ≡ is_next plan.cores before id)
+    → AreWithin plan (n + 1) after
+within-suc plan n before after limits within flags id lt =
+    let named : is_named_by plan (started_within plan n) id ≡ is_named_by_flagged plan.cores before id
+    = any-same _ _ (is_known plan) (flagged-known plan n before within id) plan.cores (all-known plan limits) in
+    rw add-one
+    (kept (λ i. is_among (started_within plan n) i || is_named_by plan (started_within plan n) i) (core_ids plan) id
+    ∙ ap (λ b. (b || is_named_by plan (started_within plan n) id) && is_among (core_ids plan) id) (within id lt)
+    ∙ ap (λ b. ((is_flagged before id && is_among (core_ids plan) id) || b) && is_among (core_ids plan) id) named
+    ∙ round-same (is_flagged before id) (is_among (core_ids plan) id) _
+    ∙ ap (λ b. b && is_among (core_ids plan) id) (sym (flags id lt)))
+
+among-map : (cores : List Core) (id : CoreId) → is_among (map (λ (c : Core). c.id) cores) id ≡ list_any (λ (c : Core). same_core c.id id) cores
+among-map [] id = refl
+among-map (c ∷ cs) id = ap (λ b. same_core c.id id || b) (among-map cs id)
+
+among-configured : (plan : Plan) (id : CoreId) → is_among (core_ids plan) id ≡ is_some (core_of plan id)
+among-configured plan id = among-map plan.cores id ∙ any-find (λ (c : Core). same_core c.id id) plan.cores
+
+-- after as many rounds as there are cores
+pub started-within : (plan : Plan) (n : ℕ) (cores : CoreSet) → IsTrue (is_within_limits plan) → n ≡ length plan.cores → AreWithin plan n cores → AreStarted plan cores
+started-within plan n cores limits e within id found =
+    rw (← e) (within id (configured-low plan id limits found) ∙ ap (λ b. is_flagged cores id && b) (among-configured plan id ∙ found) ∙ and-true (is_flagged cores id))
+
+-- a core that is not configured is never started
+unstarted-within : (plan : Plan) (n : ℕ) (id : CoreId) → is_some (core_of plan id) ≡ false → is_among (started_within plan n) id ≡ false
+unstarted-within plan zero id none = kept (λ i. same_core i plan.master) (core_ids plan) id ∙ and_right _ _ (among-configured plan id ∙ none)
+unstarted-within plan (suc n) id none = kept (λ i. is_among (started_within plan n) i || is_named_by plan (started_within plan n) i) (core_ids plan) id ∙ and_right _ _ (among-configured plan id ∙ none)
+
+pub unstarted : (plan : Plan) (id : CoreId) → is_some (core_of plan id) ≡ false → is_started plan id ≡ false
+unstarted plan id none = unstarted-within plan (length plan.cores) id none

@@ -1,0 +1,111 @@
+-- When a core is separate, so that no other core has a say in what it prints, and its configuration by itself.
+use Rattle.std.specs.Prelude.{ℕ, zero, suc, ◌==◌, ◌&&◌, ◌||◌, not, Bool, true, false, Some, None, List, [], ◌∷◌, length, map, filter}
+use Rattle.std.specs.List.{list_all, list_any}
+use Rattle.std.specs.Option.{option_map_or}
+use Rattle.osbase.specs.declared.references.CoreId.{CoreId}
+use Rattle.osbase.specs.History.{same_core}
+use Rattle.oscript.specs.declared.Op.{Op}
+use Rattle.oscript.specs.declared.Op.TheVariants.{Work, ActivateTask, TerminateTask}
+use Rattle.osplan.specs.declared.plans.Plan.{Plan}
+use Rattle.osplan.specs.declared.plans.Core.{Core}
+use Rattle.osplan.specs.declared.plans.Task.{Task}
+use Rattle.osplan.specs.declared.plans.CoreMode.{CoreMode}
+use Rattle.osplan.specs.declared.plans.CoreMode.TheVariants.{Named, DontCare}
+use Rattle.osplan.specs.View.{core_of}
+
+-- ---- which cores are started
+
+-- The numbers of the configured cores.
+abbrev pub core_ids : Plan → List CoreId
+core_ids plan = map (λ (c : Core). c.id) plan.cores
+
+-- The core's number is among these.
+abbrev pub is_among : List CoreId → CoreId → Bool
+is_among ids id = list_any (λ (c : CoreId). same_core c id) ids
+
+-- One of the started cores names this one in its start list.
+abbrev pub is_named_by : Plan → List CoreId → CoreId → Bool
+is_named_by plan started id = list_any (λ (c : Core). is_among started c.id && is_among c.start id) plan.cores
+
+-- The configured cores that are started after one more round of start lists.
+abbrev pub after_round : Plan → List CoreId → List CoreId
+after_round plan started = filter (λ id. is_among started id || is_named_by plan started id) (core_ids plan)
+
+-- The configured cores that are started within n rounds of start lists. The master alone needs none.
+abbrev pub started_within : Plan → ℕ → List CoreId
+started_within plan zero = filter (λ id. same_core id plan.master) (core_ids plan)
+started_within plan (suc n) = after_round plan (started_within plan n)
+
+-- A core is started if start lists lead to it from the master. As many rounds as there are cores are
+-- enough: a way that visits no core twice has no more steps. A start list may also name a core that is
+-- not configured, which is never started. [AUTOSAR SWS OS 4.x, StartCore]
+-- The code keeps a flag for each core number.
+abbrev pub is_started : Plan → CoreId → Bool
+is_started plan id = is_among (started_within plan (length plan.cores)) id
+
+-- ---- modes
+
+-- The core names an application mode other than DONOTCARE.
+abbrev pub names_mode : CoreMode → Bool
+names_mode (Named m) = true
+names_mode DontCare = false
+
+-- The two do not name different modes.
+abbrev pub agree : CoreMode → CoreMode → Bool
+agree (Named m) (Named n) = m.index == n.index
+agree (Named m) DontCare = true
+agree DontCare other = true
+
+-- Each started core names this mode, or none.
+abbrev pub is_agreed_mode : Plan → CoreMode → Bool
+is_agreed_mode plan mode = list_all (λ (c : Core). not (is_started plan c.id) || agree mode c.mode) plan.cores
+
+-- ---- what scripts name
+
+-- The operation names an object of this core. The invalid identifier names nothing.
+abbrev pub names_own : CoreId → Op → Bool
+names_own id Work = false
+names_own id (ActivateTask None) = false
+names_own id (ActivateTask (Some t)) = same_core t.core id
+names_own id TerminateTask = false
+
+-- The operation names an object of a core other than this one.
+abbrev pub names_other : CoreId → Op → Bool
+names_other id Work = false
+names_other id (ActivateTask None) = false
+names_other id (ActivateTask (Some t)) = not (same_core t.core id)
+names_other id TerminateTask = false
+
+-- A script of the core has such an operation.
+abbrev pub has_operation : (Op → Bool) → Core → Bool
+has_operation test core = list_any (λ (task : Task). list_any test task.script) core.tasks
+
+-- Another core than the one of this number, started or not, has a script that names an object of that one.
+abbrev pub is_named_elsewhere : Plan → CoreId → Bool
+is_named_elsewhere plan id = list_any (λ (other : Core). not (same_core other.id id) && has_operation (names_own id) other) plan.cores
+
+-- ---- separate cores, and the configuration of one alone
+
+-- The core is started; it names a mode; no started core names another mode; it starts no core; no script of
+-- it names an object of another core; and no script of another core, also of one that is never started,
+-- names an object of it. [own]
+abbrev pub is_separate_core : Plan → Core → Bool
+is_separate_core plan core =
+    is_started plan core.id
+    && names_mode core.mode
+    && is_agreed_mode plan core.mode
+    && (length core.start == 0)
+    && not (has_operation (names_other core.id) core)
+    && not (is_named_elsewhere plan core.id)
+
+-- The configured core of this number is separate. [own]
+abbrev pub is_separate : Plan → CoreId → Bool
+is_separate plan id = option_map_or (is_separate_core plan) (core_of plan id) false
+
+-- The core alone, under this number, as the master; the modes and the mailboxes' size stay. [own]
+abbrev pub alone_of : Plan → CoreId → Core → Plan
+alone_of plan id core = record plan { master = id; cores = core ∷ [] }
+
+-- The configuration of the core of this number alone; of one that is not configured, without any core. [own]
+abbrev pub cut_of : Plan → CoreId → Plan
+cut_of plan id = option_map_or (alone_of plan id) (core_of plan id) (record plan { master = id; cores = [] })

@@ -1,0 +1,277 @@
+//! Separate cores: no other core has a say in what they print. And the configuration of one alone.
+
+ghost use Rattle.std.specs.Prelude.{◌≡◌, ◌<◌, ◌⊎◌, ◌↔◌, false, IsTrue, IfOk, IfErr, Err};
+ghost use Rattle.std.specs.List.{list_any};
+ghost use Rattle.osbase.specs.History.{same_core};
+ghost use Rattle.osplan.specs.Limits.{is_within_limits};
+ghost use Rattle.osplan.specs.Expressible.{is_core_expressible};
+ghost use Rattle.osplan.specs.Flags.{is_flagged, is_named_by_flagged, is_next, AreStarted};
+ghost use Rattle.osplan.specs.Separate.{agree, alone_of, cut_of, has_operation, is_among, is_named_elsewhere, is_agreed_mode, is_separate, is_separate_core, is_started, names_mode, names_other, names_own};
+
+use crate::faults::ConfFault;
+use crate::plans::{Config, Core, CoreMode, Plan, Task};
+use osbase::{CoreId, CoreSet, List, Name};
+use oscript::Op;
+use std::alloc::{AllocError, Global};
+
+/// One past the greatest number that a set holds.
+const NUMBERS: u8 = 16;
+
+fn is_flagged(cores: &CoreSet, id: CoreId) -> bool
+    ensures { result ≡ is_flagged cores.now id }
+{
+    match cores.members.get(usize::from(id.number)) {
+        Some(flag) => *flag,
+        None => false,
+    }
+}
+
+fn is_among(ids: &[CoreId], id: CoreId) -> bool
+    ensures { result ≡ is_among ids.now id }
+{
+    ids.iter().any(|other| other.number == id.number)
+}
+
+fn is_named_by(cores: &[Core], started: &CoreSet, id: CoreId) -> bool
+    ensures { result ≡ is_named_by_flagged cores.now started.now id }
+{
+    cores.iter().any(|core| is_flagged(started, core.id) && is_among(core.start.as_slice(), id))
+}
+
+fn is_next(cores: &[Core], started: &CoreSet, id: CoreId) -> bool
+    ensures { result ≡ is_next cores.now started.now id }
+{
+    is_flagged(started, id) || is_named_by(cores, started, id)
+}
+
+// The cores that are started after one more round of start lists.
+fn after_round(cores: &[Core], started: &CoreSet) -> CoreSet
+    ensures { (id : CoreId) → id.number < 16 → is_flagged result id ≡ is_next cores.now started.now id }
+{
+    let mut members = [false; 16];
+    for number in 0..NUMBERS {
+        members[usize::from(number)] = is_next(cores, started, CoreId { number });
+    }
+    CoreSet { members }
+}
+
+// The master alone.
+fn at_first(master: CoreId) -> CoreSet
+    requires { master.number < 16 }
+    ensures { (id : CoreId) → id.number < 16 → is_flagged result id ≡ same_core id master }
+{
+    let mut members = [false; 16];
+    members[usize::from(master.number)] = true;
+    CoreSet { members }
+}
+
+fn started_cores(plan: &Plan) -> CoreSet
+    requires { IsTrue (is_within_limits plan.now) }
+    ensures { AreStarted plan.now result }
+{
+    let cores = plan.cores.as_slice();
+    let mut started = at_first(plan.master);
+    for _round in 0..cores.len() {
+        started = after_round(cores, &started);
+    }
+    started
+}
+
+fn is_started(plan: &Plan, started: &CoreSet, id: CoreId) -> bool
+    requires { AreStarted plan.now started.now }
+    ensures { result ≡ is_started plan.now id }
+{
+    plan.core(id).is_some() && is_flagged(started, id)
+}
+
+fn names_mode(mode: CoreMode) -> bool
+    ensures { result ≡ names_mode mode }
+{
+    match mode {
+        CoreMode::Named(_) => true,
+        CoreMode::DontCare => false,
+    }
+}
+
+fn agree(mode: CoreMode, other: CoreMode) -> bool
+    ensures { result ≡ agree mode other }
+{
+    match (mode, other) {
+        (CoreMode::Named(mode), CoreMode::Named(other)) => mode.index == other.index,
+        (CoreMode::Named(_), CoreMode::DontCare) => true,
+        (CoreMode::DontCare, _) => true,
+    }
+}
+
+fn is_agreed_mode(plan: &Plan, started: &CoreSet, mode: CoreMode) -> bool
+    requires { AreStarted plan.now started.now }
+    ensures { result ≡ is_agreed_mode plan.now mode }
+{
+    plan.cores.as_slice().iter().all(|core| !is_started(plan, started, core.id)
+        || agree(mode, core.mode))
+}
+
+fn names_own(id: CoreId, op: Op) -> bool
+    ensures { result ≡ names_own id op }
+{
+    match op {
+        Op::ActivateTask(Some(task)) => task.core.number == id.number,
+        Op::ActivateTask(None) => false,
+        Op::Work => false,
+        Op::TerminateTask => false,
+    }
+}
+
+fn names_other(id: CoreId, op: Op) -> bool
+    ensures { result ≡ names_other id op }
+{
+    match op {
+        Op::ActivateTask(Some(task)) => task.core.number != id.number,
+        Op::ActivateTask(None) => false,
+        Op::Work => false,
+        Op::TerminateTask => false,
+    }
+}
+
+fn is_script_outward(id: CoreId, task: &Task) -> bool
+    ensures { result ≡ list_any (names_other id) task.now.script }
+{
+    task.script.as_slice().iter().any(|op| names_other(id, *op))
+}
+
+fn is_script_inward(id: CoreId, task: &Task) -> bool
+    ensures { result ≡ list_any (names_own id) task.now.script }
+{
+    task.script.as_slice().iter().any(|op| names_own(id, *op))
+}
+
+fn is_outward(core: &Core) -> bool
+    ensures { result ≡ has_operation (names_other core.now.id) core.now }
+{
+    core.tasks
+        .as_slice()
+        .iter()
+        .any(|task| is_script_outward(core.id, task))
+}
+
+fn is_inward(id: CoreId, other: &Core) -> bool
+    ensures { result ≡ has_operation (names_own id) other.now }
+{
+    other
+        .tasks
+        .as_slice()
+        .iter()
+        .any(|task| is_script_inward(id, task))
+}
+
+fn is_named_elsewhere(plan: &Plan, id: CoreId) -> bool
+    ensures { result ≡ is_named_elsewhere plan.now id }
+{
+    plan.cores.as_slice().iter().any(|other| other.id.number != id.number && is_inward(id, other))
+}
+
+fn is_separate_core(plan: &Plan, core: &Core) -> bool
+    requires { IsTrue (is_within_limits plan.now) }
+    ensures { result ≡ is_separate_core plan.now core.now }
+{
+    let started = started_cores(plan);
+    is_started(plan, &started, core.id)
+        && names_mode(core.mode)
+        && is_agreed_mode(plan, &started, core.mode)
+        && core.start.len() == 0
+        && !is_outward(core)
+        && !is_named_elsewhere(plan, core.id)
+}
+
+/// Whether the core of this number is separate: it is started, by start lists that lead to it from the
+/// master; it names a mode other than DONOTCARE, and no started core names another; it starts no core;
+/// and no script of it names an object of another core, nor any script of another core, started or not,
+/// an object of it. A core that is not configured is not separate. Takes no memory.
+pub fn is_separate(config: &Config, core: CoreId) -> bool
+    ensures { result ≡ is_separate config.now core }
+{
+    let plan = config.plan();
+    match plan.core(core) {
+        Some(found) => is_separate_core(plan, found),
+        None => false,
+    }
+}
+
+fn copied_task(alloc: Global, task: &Task) -> Result<Task, AllocError>
+    ensures { IfOk result (λ copy. copy ≡ task.now) }
+{
+    Ok(Task {
+        name: Name::new(alloc, task.name.as_str())?,
+        priority: task.priority,
+        auto: List::from_vec(task.auto.as_slice().to_vec(alloc)?),
+        activations: task.activations,
+        script: List::from_vec(task.script.as_slice().to_vec(alloc)?),
+    })
+}
+
+fn copied_tasks(alloc: Global, tasks: &[Task]) -> Result<List<Task>, AllocError>
+    ensures { IfOk result (λ copies. copies ≡ tasks.now) }
+{
+    let mut copies = List::new(alloc);
+    for task in tasks {
+        copies.push(copied_task(alloc, task)?)?;
+    }
+    Ok(copies)
+}
+
+fn copied_names(alloc: Global, names: &[Name]) -> Result<List<Name>, AllocError>
+    ensures { IfOk result (λ copies. copies ≡ names.now) }
+{
+    let mut copies = List::new(alloc);
+    for name in names {
+        copies.push(Name::new(alloc, name.as_str())?)?;
+    }
+    Ok(copies)
+}
+
+fn copied_core(alloc: Global, core: &Core) -> Result<Core, AllocError>
+    requires { IsTrue (is_core_expressible core.now) }
+    ensures { IfOk result (λ copy. copy ≡ core.now) }
+{
+    Ok(Core {
+        id: core.id,
+        mode: core.mode,
+        start: List::from_vec(core.start.as_slice().to_vec(alloc)?),
+        tasks: copied_tasks(alloc, core.tasks.as_slice())?,
+        isrs: List::new(alloc),
+        alarms: List::new(alloc),
+        tables: List::new(alloc),
+    })
+}
+
+fn alone(alloc: Global, plan: &Plan, id: CoreId, core: &Core) -> Result<Plan, AllocError>
+    requires { IsTrue (is_core_expressible core.now) }
+    ensures { IfOk result (λ alone. alone ≡ alone_of plan.now id core.now) }
+{
+    let mut cores = List::new(alloc);
+    cores.push(copied_core(alloc, core)?)?;
+    Ok(Plan {
+        cap: plan.cap,
+        master: id,
+        modes: copied_names(alloc, plan.modes.as_slice())?,
+        cores,
+    })
+}
+
+/// The configuration of a separate core alone: the core under its number, as the master, with the modes
+/// and the mailboxes' size of the whole. `NotSeparate` exactly where the core is not separate
+/// (`is_separate`), and `NoMemory` where memory runs out; the configuration stays as it is.
+pub fn cut(alloc: Global, config: &Config, core: CoreId) -> Result<Config, ConfFault>
+    ensures ok { IfOk result (λ cut. cut ≡ cut_of config.now core) }
+    ensures refused { (result ≡ Err ConfFault.NotSeparate) ↔ (is_separate config.now core ≡ false) }
+    ensures fault { IfErr result (λ fault. (fault ≡ ConfFault.NotSeparate) ⊎ (fault ≡ ConfFault.NoMemory)) }
+{
+    let plan = config.plan();
+    let Some(own) = plan.core(core) else {
+        return Err(ConfFault::NotSeparate);
+    };
+    if !is_separate_core(plan, own) {
+        return Err(ConfFault::NotSeparate);
+    }
+    Ok(Config::new(alone(alloc, plan, core, own)?))
+}

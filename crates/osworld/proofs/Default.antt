@@ -1,0 +1,175 @@
+-- The rounds of the default schedule, one by one.
+use Rattle.std.proofs.Common.{◌≡◌, ℕ, zero, suc, ◌+◌, ◌^◌, ◌≤◌, Bool, true, false, not, ◌||◌, cond, List, [], ◌∷◌, length, map, refl, ap, sym, subst, ◌∙◌, arith, nat_eq, nat_le, inl, inr, ◌⊎◌, Vec, Global, take, length-append}
+use Rattle.std.specs.List.{All, list_all}
+use Rattle.std.proofs.lemmas.Bool.{leb-true}
+use Rattle.std.proofs.lemmas.Bool.Decides.{nat_tests}
+use Rattle.std.proofs.lemmas.List.Elements.{All-head, All-tail}
+use Rattle.std.proofs.Math.Seq.{take-append-add}
+use Rattle.osbase.specs.declared.references.CoreId.{CoreId}
+use Rattle.osbase.specs.declared.items.Item.{Item}
+use Rattle.osbase.specs.declared.turns.Choice.{Choice}
+use Rattle.osbase.specs.declared.turns.CoreStimuli.{CoreStimuli}
+use Rattle.osmail.specs.Mail.{Mail}
+use Rattle.osplan.specs.declared.plans.Plan.{Plan}
+use Rattle.osstate.specs.Readings.{has_core}
+use Rattle.osstate.specs.State.{KernelState}
+use Rattle.osbase.specs.declared.turns.Report.{Report}
+use Rattle.osworld.specs.declared.runs.RunFault.TheVariants.{NoMemory}
+use Rattle.osworld.specs.declared.boards.Board.{Board}
+use Rattle.osworld.specs.declared.seats.Seat.{Seat}
+use Rattle.osworld.specs.World.{World, board_in, default_turns, first_world, has_ended, is_default, is_default_from, is_ended_phase, is_over, is_unchanged, item_total, round_of, world, world_from}
+use Rattle.osworld.specs.Playing.{AreReports, IsBegun, IsCutShort, IsDefaultBrokenOff, IsDefaultCutShort, IsDefaultPlayed, IsDefaultRun, IsDefaultSchedule, IsPlayed, IsSeated, lists_of, Plays, report_of}
+use Rattle.osworld.proofs.Played.{world_from-append, world_from-grows}
+use Rattle.osworld.proofs.Reported.{reports-played}
+use Rattle.osworld.proofs.Short.{world-bounded}
+
+-- Whether all have ended, read off the seats.
+abbrev pub seats_over : Board → List Seat → Bool
+seats_over board seats = list_all (λ (s : Seat). not (has_core board.started s.id) || is_ended_phase s.kernel.phase) seats
+
+over-each : (plan : Plan) (stimuli : List CoreStimuli) (board : Board) (seats : List Seat) → All (IsSeated plan stimuli) seats → seats_over board seats ≡ list_all (λ (p : CoreId × List Item). not (has_core board.started p.0) || has_ended plan p) (lists_of seats)
+over-each plan stimuli board [] seated = refl
+over-each plan stimuli board (s ∷ ss) seated =
+    let here : IsSeated plan stimuli s = All-head (IsSeated plan stimuli) s ss seated in
+    rw (over-each plan stimuli board ss (All-tail (IsSeated plan stimuli) s ss seated), ap (λ (k : KernelState). is_ended_phase k.phase) here.tracks.stands.is) refl
+
+pub over-agrees : (plan : Plan) (stimuli : List CoreStimuli) (w : World) (seats : List Seat) (mail : Mail) (board : Board) → Plays plan stimuli w seats mail board → seats_over board seats ≡ is_over plan w
+over-agrees plan stimuli w seats mail board plays =
+    over-each plan stimuli board seats plays.seated
+    ∙ ap (λ (b : Board). list_all (λ (p : CoreId × List Item). not (has_core b.started p.0) || has_ended plan p) (lists_of seats)) plays.shown
+    ∙ ap (list_all (λ (p : CoreId × List Item). not (has_core (board_in plan w).started p.0) || has_ended plan p)) (sym plays.lists)
+
+past_them : (m a b : ℕ) → nat_eq a b ≡ false → m ≤ a → a ≤ b → suc m ≤ b
+past_them m a b differ le grows = grind (arith, nat_tests, differ)
+
+-- Some whole rounds are played, and the default schedule goes on.
+pub record IsUnderway (plan : Plan) (stimuli : List CoreStimuli) (next : ℕ) (seats : List Seat) (mail : Mail) (board : Board) : Type 0 where
+  pub played : ℕ
+  pub is_next : suc played ≡ next
+  pub plays : Plays plan stimuli (world plan stimuli (default_turns plan played)) seats mail board
+  pub goes_on : (more : ℕ) → is_default plan stimuli (played + suc more) ≡ is_default_from plan stimuli (world plan stimuli (default_turns plan played)) (suc more)
+  pub grown : played ≤ item_total (world plan stimuli (default_turns plan played))
+  pub none : (fewer : ℕ) → fewer ≤ played → is_default plan stimuli fewer ≡ false
+
+up_to : (n m : ℕ) → n ≤ suc m → (n ≤ m) ⊎ (n ≡ suc m)
+up_to n m le = by (nat_le n m) refl
+  where
+    by : (b : Bool) → nat_le n m ≡ b → (n ≤ m) ⊎ (n ≡ suc m)
+    by true e = inl (leb-true n m e)
+    by false e = inr (grind (arith, nat_tests, e))
+
+pub underway-first : (plan : Plan) (stimuli : List CoreStimuli) (seats : List Seat) (mail : Mail) (board : Board) → Plays plan stimuli (first_world plan) seats mail board → IsUnderway plan stimuli 1 seats mail board
+underway-first plan stimuli seats mail board plays = record {
+  played = 0;
+  is_next = refl;
+  plays = plays;
+  goes_on = λ more. let same : 0 + suc more ≡ suc more = omega arith in ap (is_default plan stimuli) same;
+  grown = omega arith;
+  none = none_yet;
+}
+  where
+    none_yet : (fewer : ℕ) → fewer ≤ 0 → is_default plan stimuli fewer ≡ false
+    none_yet zero le = refl
+    none_yet (suc n) le = absurd (omega arith)
+
+module _ (plan : Plan) (stimuli : List CoreStimuli) (next : ℕ) (seats : List Seat) (mail : Mail) (board : Board) (underway : IsUnderway plan stimuli next seats mail board) where
+  abbrev here : World
+  here = world plan stimuli (default_turns plan underway.played)
+
+  abbrev after_round : World
+  after_round = world_from plan stimuli here (round_of plan)
+
+  joined : world plan stimuli (default_turns plan (suc underway.played)) ≡ after_round
+  joined = world_from-append plan stimuli (first_world plan) (default_turns plan underway.played) (round_of plan)
+
+  module _ (changed over : Bool) (seats' : List Seat) (mail' : Mail) (board' : Board) (round : IsPlayed plan stimuli here (round_of plan) changed seats' mail' board') (is_over' : over ≡ seats_over board' seats') where
+    ends : (over || not changed) ≡ (is_over plan after_round || is_unchanged here after_round)
+    ends = rw (is_over' ∙ over-agrees plan stimuli after_round seats' mail' board' round.plays, round.tells) (by (is_over plan after_round) (is_unchanged here after_round))
+      where
+        by : (a b : Bool) → (a || not (not b)) ≡ (a || b)
+        by true b = refl
+        by false true = refl
+        by false false = refl
+
+    pub default-played : (over || not changed) ≡ true → IsDefaultPlayed plan stimuli next seats' mail' board'
+    default-played yes_ended = subst (λ (n : ℕ). IsDefaultPlayed plan stimuli n seats' mail' board') underway.is_next (record {
+      least =
+          let one : suc underway.played ≡ underway.played + suc 0 = omega arith in
+          ap (is_default plan stimuli) one ∙ underway.goes_on 0 ∙ ap (λ (b : Bool). cond b (nat_eq 0 0) (is_default_from plan stimuli after_round 0)) (sym ends ∙ yes_ended);
+      plays = subst (λ (w : World). Plays plan stimuli w seats' mail' board') (sym joined) round.plays;
+    })
+
+    pub underway-on : (over || not changed) ≡ false → IsUnderway plan stimuli (next + 1) seats' mail' board'
+    underway-on not_ended = record {
+      played = suc underway.played;
+      is_next = let was = underway.is_next in omega arith;
+      plays = subst (λ (w : World). Plays plan stimuli w seats' mail' board') (sym joined) round.plays;
+      goes_on = λ more.
+          let one : suc underway.played + suc more ≡ underway.played + suc (suc more) = omega arith in
+          ap (is_default plan stimuli) one ∙ underway.goes_on (suc more)
+          ∙ ap (λ (b : Bool). cond b (nat_eq (suc more) 0) (is_default_from plan stimuli after_round (suc more))) (sym ends ∙ not_ended)
+          ∙ ap (λ (w : World). is_default_from plan stimuli w (suc more)) (sym joined);
+      none = λ fewer le. none_later fewer (up_to fewer underway.played le);
+      grown = subst (λ (w : World). suc underway.played ≤ item_total w) (sym joined) (more_items (is_over plan after_round) (is_unchanged here after_round) refl (sym ends ∙ not_ended));
+    }
+      where
+        none_later : (fewer : ℕ) → (fewer ≤ underway.played) ⊎ (fewer ≡ suc underway.played) → is_default plan stimuli fewer ≡ false
+        none_later fewer (inl before) = underway.none fewer before
+        none_later fewer (inr now) =
+            let one : fewer ≡ underway.played + suc 0 = omega arith in
+            ap (is_default plan stimuli) one ∙ underway.goes_on 0 ∙ ap (λ (b : Bool). cond b (nat_eq 0 0) (is_default_from plan stimuli after_round 0)) (sym ends ∙ not_ended)
+
+        more_items : (a b : Bool) → is_unchanged here after_round ≡ b → (a || b) ≡ false → suc underway.played ≤ item_total after_round
+        more_items true b e f = cc
+        more_items false true e f = cc
+        more_items false false e f = past_them underway.played (item_total here) (item_total after_round) e underway.grown (world_from-grows plan stimuli here (round_of plan))
+
+  pub default-cut : (seats' : List Seat) (mail' : Mail) (board' : Board) → IsCutShort plan stimuli here (round_of plan) seats' mail' board' → IsDefaultCutShort plan stimuli seats' mail' board'
+  default-cut seats' mail' board' cut = record {
+    rounds = suc underway.played;
+    goes_on = λ fewer lt. underway.none fewer (omega arith);
+    cut = record {
+      before = length (default_turns plan underway.played) + cut.before;
+      within = let lt = cut.within in let all = length-append (default_turns plan underway.played) (round_of plan) in omega arith;
+      plays = subst (λ (w : World). Plays plan stimuli w seats' mail' board')
+          (sym (ap (world plan stimuli) (take-append-add (default_turns plan underway.played) (round_of plan) cut.before) ∙ world_from-append plan stimuli (first_world plan) (default_turns plan underway.played) (take cut.before (round_of plan))))
+          cut.plays;
+    };
+  }
+
+  -- the rounds come to an end, since each of them appends an item
+  pub too_many : 2 ^ 63 ≤ next → ⊥
+  too_many many = let few = world-bounded plan stimuli (default_turns plan underway.played) in let grown = underway.grown in let is = underway.is_next in omega arith
+
+-- the same said of the run's own configuration and turns
+module _ (plan plan' : Plan) (same : plan' ≡ plan) (stimuli : List CoreStimuli) (turns : List (CoreId × Choice)) (is_round : turns ≡ round_of plan) (seats seats' : List Seat) (mail mail' : Mail) (board board' : Board) (w : World) (plays : Plays plan stimuli w seats mail board) where
+  pub round-played : (changed : Bool) → ((v : World) → Plays plan' stimuli v seats mail board → IsPlayed plan' stimuli v turns changed seats' mail' board') → IsPlayed plan stimuli w (round_of plan) changed seats' mail' board'
+  round-played changed played =
+      subst (λ (ts : List (CoreId × Choice)). IsPlayed plan stimuli w ts changed seats' mail' board') is_round
+      (subst (λ (p : Plan). (v : World) → Plays p stimuli v seats mail board → IsPlayed p stimuli v turns changed seats' mail' board') same played w plays)
+
+  pub round-cut : ((v : World) → Plays plan' stimuli v seats mail board → IsCutShort plan' stimuli v turns seats' mail' board') → IsCutShort plan stimuli w (round_of plan) seats' mail' board'
+  round-cut cut =
+      subst (λ (ts : List (CoreId × Choice)). IsCutShort plan stimuli w ts seats' mail' board') is_round
+      (subst (λ (p : Plan). (v : World) → Plays p stimuli v seats mail board → IsCutShort p stimuli v turns seats' mail' board') same cut w plays)
+
+pub begun-there : (plan plan' : Plan) → plan' ≡ plan → (stimuli : List CoreStimuli) (seats : List Seat) (mail : Mail) (board : Board) → Plays plan stimuli (first_world plan) seats mail board → IsBegun plan' seats mail board
+begun-there plan plan' same stimuli seats mail board begun = subst (λ (p : Plan). IsBegun p seats mail board) (sym same) (stimuli, begun)
+
+module _ (plan plan' : Plan) (same : plan' ≡ plan) (stimuli : List CoreStimuli) (seats seats' : List Seat) (mail mail' : Mail) (board board' : Board) (begun : Plays plan stimuli (first_world plan) seats mail board) where
+  played-here : (rounds : ℕ) → ((given : List CoreStimuli) → Plays plan' given (first_world plan') seats mail board → IsDefaultPlayed plan' given rounds seats' mail' board') → IsDefaultPlayed plan stimuli rounds seats' mail' board'
+  played-here rounds played = subst (λ (p : Plan). (given : List CoreStimuli) → Plays p given (first_world p) seats mail board → IsDefaultPlayed p given rounds seats' mail' board') same played stimuli begun
+
+  pub default-reported : (rounds : ℕ) → ((given : List CoreStimuli) → Plays plan' given (first_world plan') seats mail board → IsDefaultPlayed plan' given rounds seats' mail' board') → IsDefaultRun plan stimuli (map report_of seats')
+  default-reported rounds played =
+      let here = played-here rounds played in
+      record { rounds = rounds; least = here.least; are = reports-played plan stimuli (default_turns plan rounds) seats' mail' board' here.plays }
+
+  pub default-scheduled : (rounds : ℕ) (turns : List (CoreId × Choice)) → turns ≡ default_turns plan rounds → ((given : List CoreStimuli) → Plays plan' given (first_world plan') seats mail board → IsDefaultPlayed plan' given rounds seats' mail' board') → IsDefaultSchedule plan stimuli turns
+  default-scheduled rounds turns is played = record { rounds = rounds; least = (played-here rounds played).least; is = is }
+
+  pub default-broken_off : ((given : List CoreStimuli) → Plays plan' given (first_world plan') seats mail board → IsDefaultCutShort plan' given seats' mail' board') → (reports : Vec Report Global) → reports.items ≡ map report_of seats' → IsDefaultBrokenOff plan stimuli (NoMemory reports)
+  default-broken_off cut reports are =
+      let here = subst (λ (p : Plan). (given : List CoreStimuli) → Plays p given (first_world p) seats mail board → IsDefaultCutShort p given seats' mail' board') same cut stimuli begun in
+      let turns = take here.cut.before (default_turns plan here.rounds) in
+      (here.rounds, here.goes_on, (here.cut.before, here.cut.within, subst (AreReports plan stimuli turns) (sym are) (reports-played plan stimuli turns seats' mail' board' here.cut.plays)))

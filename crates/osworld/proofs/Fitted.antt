@@ -1,0 +1,268 @@
+-- Every world fits: what it was before a turn did, and so does what the turn appends.
+use Rattle.std.proofs.Common.{◌≡◌, Bool, true, false, ◌&&◌, ◌||◌, cond, Option, Some, None, is_some, List, [], ◌∷◌, ◌++◌, length, refl, sym, ap, subst, ◌∙◌, append_assoc, append-nil}
+use Rattle.std.specs.List.{slice_get}
+use Rattle.std.specs.Option.{option_map_or}
+use Rattle.std.proofs.lemmas.Bool.{false≢true}
+use Rattle.std.proofs.lemmas.List.Elements.{filter-append}
+use Rattle.osbase.specs.declared.references.CoreId.{CoreId}
+use Rattle.osbase.specs.declared.messages.Envelope.{Envelope}
+use Rattle.osbase.specs.declared.items.Item.{Item}
+use Rattle.osbase.specs.declared.items.Stimulus.{Stimulus}
+use Rattle.osbase.specs.declared.turns.Choice.{Choice}
+use Rattle.osbase.specs.declared.turns.CoreStimuli.{CoreStimuli}
+use Rattle.osbase.specs.History.{History, front_envelope, outbox, posted, received, received_count, same_core}
+use Rattle.osbase.specs.Runs.{stimuli_of}
+use Rattle.osplan.specs.declared.plans.Plan.{Plan}
+use Rattle.osplan.specs.declared.plans.CoreMode.{CoreMode}
+use Rattle.osplan.specs.View.{view_of}
+use Rattle.osstate.proofs.Same.{same_core-true, same_core-refl}
+use Rattle.oskernel.specs.Step.{takes, outbox_size}
+use Rattle.osworld.specs.declared.boards.Board.{Board}
+use Rattle.osworld.specs.Board.{BoardCall, BoardEntry, board_after, board_from, first_board, reply_of}
+use Rattle.osworld.specs.World.{World, appends, board_in, call_of, first_world, history_in, ids_of, items_in, named, stimulus_count, turn, turn_by, with_call, world, world_from}
+use Rattle.osworld.specs.Fits.{Allows, AreAnswered, asking, calls_by, Fits, FitsCore, has_drained, IsBeginning, is_drain, Replays, stimuli_in}
+use Rattle.osworld.proofs.Listed.{list_of, list_of-same, list_of-other, history_from-push}
+use Rattle.osworld.proofs.Streams.{is_from, is_post_to}
+use Rattle.osworld.proofs.Carrying.{history-same, history-other, posted-in}
+use Rattle.osworld.proofs.Started.{no_history, nothing_of}
+use Rattle.osworld.proofs.Fitting.{begins-all, begins-next, envelope_in, has_drained-push, IsNext, Known, length-received, length-stimuli_in, named-known, past_all, received-is, solo-push, stimuli_in-push}
+
+and_false : {A : Type 0} (b : Bool) (x y : A) → cond (b && false) x y ≡ y
+and_false true x y = refl
+and_false false x y = refl
+
+and_true : (b : Bool) → b ≡ (b && true)
+and_true true = refl
+and_true false = refl
+
+-- the board's calls, and one more
+replays-push : (first : Board) (es : List BoardEntry) (core : CoreId) (call : BoardCall) → Replays first es → Replays first (es ++ record { core = core; call = call; reply = reply_of call (board_from first es) } ∷ [])
+replays-push first [] core call replays = (refl, tt)
+replays-push first (e ∷ es) core call replays = (replays.0, replays-push (board_after e.core e.call first) es core call replays.1)
+
+answered-push : (id : CoreId) (mode : CoreMode) (is : List Item) (es : List BoardEntry) (i : Item) (e : BoardEntry) → AreAnswered id mode is es → call_of mode i ≡ Some e.call → Allows id e.reply i → AreAnswered id mode (is ++ i ∷ []) (es ++ e ∷ [])
+answered-push id mode [] [] i e answered is allowed = (is, allowed, tt)
+answered-push id mode [] (d ∷ es) i e answered is allowed = absurd answered
+answered-push id mode (j ∷ is) [] i e answered call allowed = absurd answered
+answered-push id mode (j ∷ is) (d ∷ es) i e answered call allowed = (answered.0, answered.1, answered-push id mode is es i e answered.2 call allowed)
+
+-- an item from another core is what that one posted next
+next-envelope : (plan : Plan) (stimuli : List CoreStimuli) (w : World) (core from : CoreId) (i : Item) → is_from i from ≡ true → IsNext plan stimuli w core i
+    → (e : Envelope) × (envelope_in i ≡ e ∷ []) × (slice_get (posted core (history_in plan w from)) (received_count from (history_in plan w core)) ≡ Some e) × ((d : CoreId) → is_post_to i d ≡ false)
+next-envelope plan stimuli w core from (Item.Received f number m) is next =
+    (record { number = number; message = m }, refl, subst (λ (c : CoreId). slice_get (posted core (history_in plan w c)) (received_count c (history_in plan w core)) ≡ Some (record { number = number; message = m })) (same_core-true f from is) next, λ d. refl)
+next-envelope plan stimuli w core from Item.On is next = absurd (false≢true is)
+next-envelope plan stimuli w core from (Item.Began k s) is next = absurd (false≢true is)
+next-envelope plan stimuli w core from Item.Entered is next = absurd (false≢true is)
+next-envelope plan stimuli w core from (Item.Pass1 a) is next = absurd (false≢true is)
+next-envelope plan stimuli w core from Item.Readied is next = absurd (false≢true is)
+next-envelope plan stimuli w core from (Item.Pass2 cores) is next = absurd (false≢true is)
+next-envelope plan stimuli w core from (Item.Stim s) is next = absurd (false≢true is)
+next-envelope plan stimuli w core from (Item.Posted to) is next = absurd (false≢true is)
+next-envelope plan stimuli w core from (Item.Granted l) is next = absurd (false≢true is)
+next-envelope plan stimuli w core from (Item.Tried l taken) is next = absurd (false≢true is)
+next-envelope plan stimuli w core from (Item.Freed l) is next = absurd (false≢true is)
+next-envelope plan stimuli w core from (Item.Halt k s) is next = absurd (false≢true is)
+next-envelope plan stimuli w core from Item.Drained is next = absurd (false≢true is)
+next-envelope plan stimuli w core from Item.PassEnd is next = absurd (false≢true is)
+next-envelope plan stimuli w core from (Item.Last shutdown) is next = absurd (false≢true is)
+
+-- the stimuli of a core that took one item more
+module _ (plan : Plan) (stimuli : List CoreStimuli) (w : World) (core : CoreId) (fits : FitsCore plan stimuli core (items_in w core)) where
+  abbrev past : List Item
+  past = items_in w core
+
+  abbrev listed_stimuli : List Stimulus
+  listed_stimuli = stimuli_of stimuli core
+
+  abbrev BeginsOn : Item → Type 0
+  BeginsOn item = IsBeginning (stimuli_in past ++ stimuli_in (item ∷ [])) listed_stimuli × ((has_drained past || is_drain item) ≡ true → stimuli_in past ++ stimuli_in (item ∷ []) ≡ listed_stimuli)
+
+  at_count : (o : Option Stimulus) → slice_get listed_stimuli (stimulus_count past) ≡ o → slice_get listed_stimuli (length (stimuli_in past)) ≡ o
+  at_count o e = ap (slice_get listed_stimuli) (length-stimuli_in past) ∙ e
+
+  by_stimulus : (s : Stimulus) → slice_get listed_stimuli (stimulus_count past) ≡ Some s → BeginsOn (Item.Stim s)
+  by_stimulus s next = (begins-next (stimuli_in past) listed_stimuli s fits.begins (at_count (Some s) next), λ drained. none_left (has_drained past) refl drained)
+    where
+      none_left : (b : Bool) → has_drained past ≡ b → (b || false) ≡ true → stimuli_in past ++ s ∷ [] ≡ listed_stimuli
+      none_left true e drained =
+          let whole : stimuli_in past ≡ listed_stimuli = fits.drains e in
+          let clash : None ≡ Some s = sym (past_all listed_stimuli) ∙ ap (λ (xs : List Stimulus). slice_get listed_stimuli (length xs)) (sym whole) ∙ at_count (Some s) next in
+          cc
+      none_left false e drained = absurd (false≢true drained)
+
+  by_drain : slice_get listed_stimuli (stimulus_count past) ≡ None → BeginsOn Item.Drained
+  by_drain none =
+      let whole : stimuli_in past ≡ listed_stimuli = begins-all (stimuli_in past) listed_stimuli fits.begins (at_count None none) in
+      (([], append-nil (stimuli_in past ++ []) ∙ append-nil (stimuli_in past) ∙ whole), λ drained. append-nil (stimuli_in past) ∙ whole)
+
+  plainly : (item : Item) → stimuli_in (item ∷ []) ≡ [] → is_drain item ≡ false → BeginsOn item
+  plainly item none no_drain = (
+    subst (λ (xs : List Stimulus). IsBeginning (stimuli_in past ++ xs) listed_stimuli) (sym none) (subst (λ (xs : List Stimulus). IsBeginning xs listed_stimuli) (sym (append-nil (stimuli_in past))) fits.begins),
+    λ drained. ap (λ (xs : List Stimulus). stimuli_in past ++ xs) none ∙ append-nil (stimuli_in past) ∙ before (has_drained past) refl (subst (λ (b : Bool). (has_drained past || b) ≡ true) no_drain drained),
+  )
+    where
+      before : (b : Bool) → has_drained past ≡ b → (b || false) ≡ true → stimuli_in past ≡ listed_stimuli
+      before true e drained = fits.drains e
+      before false e drained = absurd (false≢true drained)
+
+  begins_on : (item : Item) → IsNext plan stimuli w core item → BeginsOn item
+  begins_on (Item.Stim s) next = by_stimulus s next
+  begins_on Item.Drained next = by_drain next
+  begins_on Item.On next = plainly Item.On refl refl
+  begins_on (Item.Began k s) next = plainly (Item.Began k s) refl refl
+  begins_on Item.Entered next = plainly Item.Entered refl refl
+  begins_on (Item.Pass1 a) next = plainly (Item.Pass1 a) refl refl
+  begins_on Item.Readied next = plainly Item.Readied refl refl
+  begins_on (Item.Pass2 cores) next = plainly (Item.Pass2 cores) refl refl
+  begins_on (Item.Posted to) next = plainly (Item.Posted to) refl refl
+  begins_on (Item.Received from number m) next = plainly (Item.Received from number m) refl refl
+  begins_on (Item.Granted l) next = plainly (Item.Granted l) refl refl
+  begins_on (Item.Tried l taken) next = plainly (Item.Tried l taken) refl refl
+  begins_on (Item.Freed l) next = plainly (Item.Freed l) refl refl
+  begins_on (Item.Halt k s) next = plainly (Item.Halt k s) refl refl
+  begins_on Item.PassEnd next = plainly Item.PassEnd refl refl
+  begins_on (Item.Last shutdown) next = plainly (Item.Last shutdown) refl refl
+
+  core_on : (item : Item) → IsNext plan stimuli w core item → takes outbox_size (view_of plan core) (history_in plan w core) item ≡ true → FitsCore plan stimuli core (past ++ item ∷ [])
+  core_on item next taken =
+      let on = begins_on item next in
+      record {
+        alone = solo-push (view_of plan core) [] past item fits.alone taken ∙ ap Some (sym (history_from-push (view_of plan core) [] past item));
+        begins = subst (λ (xs : List Stimulus). IsBeginning xs listed_stimuli) (sym (stimuli_in-push past item)) on.0;
+        drains = λ drained. stimuli_in-push past item ∙ on.1 (sym (has_drained-push past item) ∙ drained);
+      }
+
+-- a world in which a turn appended an item
+module _ (plan : Plan) (stimuli : List CoreStimuli) (w : World) (fits : Fits plan stimuli w) (core : CoreId) (item : Item) (p : CoreId × List Item) (listed : list_of core w.items ≡ Some p) (known : Known plan stimuli w core item) (taken : takes outbox_size (view_of plan core) (history_in plan w core) item ≡ true) where
+  abbrev next : World
+  next = appends plan w core item
+
+  abbrev items_by : Option (CoreId × List Item) → List Item
+  items_by o = option_map_or (λ (q : CoreId × List Item). q.1) o []
+
+  items-same : items_in next core ≡ items_in w core ++ item ∷ []
+  items-same = ap items_by (list_of-same core item w.items p listed) ∙ ap (λ (o : Option (CoreId × List Item)). items_by o ++ item ∷ []) (sym listed)
+
+  items-other : (c : CoreId) → same_core core c ≡ false → items_in next c ≡ items_in w c
+  items-other c other = ap items_by (list_of-other core c item w.items other)
+
+  cores-on : (id : CoreId) → FitsCore plan stimuli id (items_in next id)
+  cores-on id = by (same_core core id) refl
+    where
+      by : (b : Bool) → same_core core id ≡ b → FitsCore plan stimuli id (items_in next id)
+      by true e =
+          subst (λ (c : CoreId). FitsCore plan stimuli c (items_in next c)) (same_core-true core id e)
+          (subst (FitsCore plan stimuli core) (sym items-same) (core_on plan stimuli w core (fits.cores core) item known.follows taken))
+      by false e = subst (FitsCore plan stimuli id) (sym (items-other id e)) (fits.cores id)
+
+  received-in : (from to : CoreId) → received from (history_in plan next to) ≡ cond (is_from item from && same_core core to) (received from (history_in plan w to) ++ envelope_in item) (received from (history_in plan w to))
+  received-in from to = by (same_core core to) refl
+    where
+      by : (b : Bool) → same_core core to ≡ b → received from (history_in plan next to) ≡ cond (is_from item from && b) (received from (history_in plan w to) ++ envelope_in item) (received from (history_in plan w to))
+      by true e =
+          subst (λ (c : CoreId). received from (history_in plan next c) ≡ cond (is_from item from && true) (received from (history_in plan w c) ++ envelope_in item) (received from (history_in plan w c))) (same_core-true core to e)
+          (ap (received from) (history-same plan w core item p listed) ∙ received-is (view_of plan core) from item (history_in plan w core)
+          ∙ ap (λ (b : Bool). cond b (received from (history_in plan w core) ++ envelope_in item) (received from (history_in plan w core))) (and_true (is_from item from)))
+      by false e = ap (received from) (history-other plan w core item p listed to e) ∙ sym (and_false (is_from item from) _ _)
+
+  streams-on : (from to : CoreId) → IsBeginning (received from (history_in plan next to)) (posted to (history_in plan next from))
+  streams-on from to =
+      subst (λ (xs : List Envelope). IsBeginning xs (posted to (history_in plan next from))) (sym (received-in from to))
+      (subst (λ (ys : List Envelope). IsBeginning (cond (is_from item from && same_core core to) (received from (history_in plan w to) ++ envelope_in item) (received from (history_in plan w to))) ys) (sym (posted-in plan w core item p listed from to))
+      (by (is_from item from) (same_core core to) refl refl))
+    where
+      front : List Envelope
+      front = front_envelope (outbox (history_in plan w core))
+
+      longer : (b : Bool) → IsBeginning (received from (history_in plan w to)) (cond b (posted to (history_in plan w from) ++ front) (posted to (history_in plan w from)))
+      longer true = let begins = fits.streams from to in (begins.0 ++ front, sym (append_assoc (received from (history_in plan w to)) begins.0 front) ∙ ap (λ (xs : List Envelope). xs ++ front) begins.1)
+      longer false = fits.streams from to
+
+      got : (c : CoreId) → same_core core c ≡ true → is_from item from ≡ true → IsBeginning (received from (history_in plan w c) ++ envelope_in item) (cond (same_core core from && is_post_to item c) (posted c (history_in plan w from) ++ front) (posted c (history_in plan w from)))
+      got c here is =
+          subst (λ (c : CoreId). IsBeginning (received from (history_in plan w c) ++ envelope_in item) (cond (same_core core from && is_post_to item c) (posted c (history_in plan w from) ++ front) (posted c (history_in plan w from)))) (same_core-true core c here)
+          (let e = next-envelope plan stimuli w core from item is known.follows in
+          subst (λ (b : Bool). IsBeginning (received from (history_in plan w core) ++ envelope_in item) (cond (same_core core from && b) (posted core (history_in plan w from) ++ front) (posted core (history_in plan w from)))) (sym (e.3 core))
+          (subst (λ (ys : List Envelope). IsBeginning (received from (history_in plan w core) ++ envelope_in item) ys) (sym (and_false (same_core core from) (posted core (history_in plan w from) ++ front) (posted core (history_in plan w from))))
+          (subst (λ (xs : List Envelope). IsBeginning (received from (history_in plan w core) ++ xs) (posted core (history_in plan w from))) (sym e.1)
+          (begins-next (received from (history_in plan w core)) (posted core (history_in plan w from)) e.0 (fits.streams from core)
+          (ap (slice_get (posted core (history_in plan w from))) (length-received from (history_in plan w core)) ∙ e.2)))))
+
+      by : (a b : Bool) → is_from item from ≡ a → same_core core to ≡ b → IsBeginning (cond (a && b) (received from (history_in plan w to) ++ envelope_in item) (received from (history_in plan w to))) (cond (same_core core from && is_post_to item to) (posted to (history_in plan w from) ++ front) (posted to (history_in plan w from)))
+      by true true is here = got to here is
+      by true false is here = longer (same_core core from && is_post_to item to)
+      by false b is here = longer (same_core core from && is_post_to item to)
+
+  board-on : (o : Option BoardCall) → Replays (first_board plan.master) (with_call core (board_in plan w) o w.calls)
+  board-on None = fits.board
+  board-on (Some call) = replays-push (first_board plan.master) w.calls core call fits.board
+
+  -- the call of an item is behind those of the core's earlier items, and aside for every other core
+  abbrev mode : CoreMode
+  mode = (view_of plan core).mode
+
+  answers-here : (o : Option BoardCall) → call_of mode item ≡ o → AreAnswered core mode (asking mode (items_in w core) ++ cond (is_some o) (item ∷ []) []) (calls_by core (with_call core (board_in plan w) o w.calls))
+  answers-here None e = subst (λ (xs : List Item). AreAnswered core mode xs (calls_by core w.calls)) (sym (append-nil (asking mode (items_in w core)))) (fits.answers core)
+  answers-here (Some call) e =
+      subst (λ (es : List BoardEntry). AreAnswered core mode (asking mode (items_in w core) ++ item ∷ []) es)
+      (sym (filter-append (λ (d : BoardEntry). same_core d.core core) w.calls (entry ∷ []) ∙ ap (λ (b : Bool). calls_by core w.calls ++ cond b (entry ∷ []) []) (same_core-refl core)))
+      (answered-push core mode (asking mode (items_in w core)) (calls_by core w.calls) item entry (fits.answers core) e (known.answered call e))
+    where
+      entry : BoardEntry
+      entry = record { core = core; call = call; reply = reply_of call (board_in plan w) }
+
+  answers-there : (id : CoreId) → same_core core id ≡ false → (o : Option BoardCall) → calls_by id (with_call core (board_in plan w) o w.calls) ≡ calls_by id w.calls
+  answers-there id other None = refl
+  answers-there id other (Some call) =
+      filter-append (λ (d : BoardEntry). same_core d.core id) w.calls (entry ∷ []) ∙ ap (λ (b : Bool). calls_by id w.calls ++ cond b (entry ∷ []) []) other ∙ append-nil (calls_by id w.calls)
+    where
+      entry : BoardEntry
+      entry = record { core = core; call = call; reply = reply_of call (board_in plan w) }
+
+  answers-on : (id : CoreId) → AreAnswered id (view_of plan id).mode (asking (view_of plan id).mode (items_in next id)) (calls_by id next.calls)
+  answers-on id = by (same_core core id) refl
+    where
+      by : (b : Bool) → same_core core id ≡ b → AreAnswered id (view_of plan id).mode (asking (view_of plan id).mode (items_in next id)) (calls_by id next.calls)
+      by true e =
+          subst (λ (c : CoreId). AreAnswered c (view_of plan c).mode (asking (view_of plan c).mode (items_in next c)) (calls_by c next.calls)) (same_core-true core id e)
+          (subst (λ (xs : List Item). AreAnswered core mode xs (calls_by core next.calls)) (sym (ap (asking mode) items-same ∙ filter-append (λ (i : Item). is_some (call_of mode i)) (items_in w core) (item ∷ [])))
+          (answers-here (call_of mode item) refl))
+      by false e =
+          subst (λ (xs : List Item). AreAnswered id (view_of plan id).mode (asking (view_of plan id).mode xs) (calls_by id next.calls)) (sym (items-other id e))
+          (subst (λ (es : List BoardEntry). AreAnswered id (view_of plan id).mode (asking (view_of plan id).mode (items_in w id)) es) (sym (answers-there id e (call_of mode item))) (fits.answers id))
+
+  fits_on : Fits plan stimuli next
+  fits_on = record { cores = cores-on; streams = streams-on; board = board-on (call_of mode item); answers = answers-on }
+
+turn_by-fits : (plan : Plan) (stimuli : List CoreStimuli) (w : World) → Fits plan stimuli w → (core : CoreId) (o : Option Item) → ((item : Item) → o ≡ Some item → Known plan stimuli w core item) → (q : Option (CoreId × List Item)) → list_of core w.items ≡ q → is_some q ≡ true → Fits plan stimuli (turn_by plan w core o)
+turn_by-fits plan stimuli w fits core None known q e there = fits
+turn_by-fits plan stimuli w fits core (Some item) known None e there = absurd (false≢true there)
+turn_by-fits plan stimuli w fits core (Some item) known (Some p) e there = by (takes outbox_size (view_of plan core) (history_in plan w core) item) refl
+  where
+    by : (b : Bool) → takes outbox_size (view_of plan core) (history_in plan w core) item ≡ b → Fits plan stimuli (cond b (appends plan w core item) w)
+    by true taken = fits_on plan stimuli w fits core item p e (known item refl) taken
+    by false taken = fits
+
+turn-fits : (plan : Plan) (stimuli : List CoreStimuli) (w : World) → Fits plan stimuli w → (t : CoreId × Choice) → Fits plan stimuli (turn plan stimuli w t)
+turn-fits plan stimuli w fits t = by (is_some (list_of t.0 w.items)) refl
+  where
+    by : (b : Bool) → is_some (list_of t.0 w.items) ≡ b → Fits plan stimuli (cond b (turn_by plan w t.0 (named plan stimuli w t.0 t.1)) w)
+    by true there = turn_by-fits plan stimuli w fits t.0 (named plan stimuli w t.0 t.1) (λ item. named-known plan stimuli w t.0 t.1 item) (list_of t.0 w.items) refl there
+    by false there = fits
+
+world_from-fits : (plan : Plan) (stimuli : List CoreStimuli) (w : World) → Fits plan stimuli w → (ts : List (CoreId × Choice)) → Fits plan stimuli (world_from plan stimuli w ts)
+world_from-fits plan stimuli w fits [] = fits
+world_from-fits plan stimuli w fits (t ∷ ts) = world_from-fits plan stimuli (turn plan stimuli w t) (turn-fits plan stimuli w fits t) ts
+
+first-fits : (plan : Plan) (stimuli : List CoreStimuli) → Fits plan stimuli (first_world plan)
+first-fits plan stimuli = record {
+  cores = λ id. subst (FitsCore plan stimuli id) (sym (nothing_of plan id (ids_of plan))) (record { alone = refl; begins = (stimuli_of stimuli id, refl); drains = λ drained. absurd (false≢true drained) });
+  streams = λ from to. subst (λ (h : History). IsBeginning (received from h) (posted to (history_in plan (first_world plan) from))) (sym (no_history plan to)) (posted to (history_in plan (first_world plan) from), refl);
+  board = tt;
+  answers = λ id. subst (λ (xs : List Item). AreAnswered id (view_of plan id).mode (asking (view_of plan id).mode xs) []) (sym (nothing_of plan id (ids_of plan))) tt;
+}
+
+-- every world fits
+pub world_fits : (plan : Plan) (stimuli : List CoreStimuli) (turns : List (CoreId × Choice)) → Fits plan stimuli (world plan stimuli turns)
+world_fits plan stimuli turns = world_from-fits plan stimuli (first_world plan) (first-fits plan stimuli) turns

@@ -1,0 +1,94 @@
+-- Turn by turn: what was played before, and one turn more.
+use Rattle.std.proofs.Common.{◌≡◌, ℕ, ◌+◌, ◌<◌, ◌≤◌, Bool, true, false, not, ◌||◌, cond, Option, Some, None, is_some, List, [], ◌∷◌, ◌++◌, length, get_or, take, refl, sym, subst, arith, nat_eq}
+use Rattle.std.proofs.lemmas.Bool.Decides.{nat_tests}
+use Rattle.std.proofs.lemmas.List.{take_more, take_all}
+use Rattle.osbase.specs.declared.references.CoreId.{CoreId}
+use Rattle.osbase.specs.declared.items.Item.{Item}
+use Rattle.osbase.specs.declared.turns.Choice.{Choice}
+use Rattle.osbase.specs.declared.turns.CoreStimuli.{CoreStimuli}
+use Rattle.osmail.specs.Mail.{Mail}
+use Rattle.osplan.specs.declared.plans.Plan.{Plan}
+use Rattle.osplan.specs.View.{view_of}
+use Rattle.oskernel.specs.Step.{takes, outbox_size}
+use Rattle.osworld.specs.declared.boards.Board.{Board}
+use Rattle.osworld.specs.declared.seats.Seat.{Seat}
+use Rattle.osworld.specs.World.{World, appends, history_in, item_total, named, turn, turn_by, world_from}
+use Rattle.osworld.specs.Playing.{IsCutShort, IsPlayed, Plays}
+use Rattle.osworld.proofs.Listed.{list_of, total-push}
+
+abbrev Turns : Type 0
+Turns = List (CoreId × Choice)
+
+-- a turn takes no item back
+module _ (plan : Plan) (w : World) (core : CoreId) where
+  grows-by : (o : Option Item) → is_some (list_of core w.items) ≡ true → item_total w ≤ item_total (turn_by plan w core o)
+  grows-by None there = omega arith
+  grows-by (Some item) there = by (takes outbox_size (view_of plan core) (history_in plan w core) item)
+    where
+      listed : (o : Option (CoreId × List Item)) → list_of core w.items ≡ o → is_some o ≡ true → item_total w ≤ item_total (appends plan w core item)
+      listed None e some = cc
+      listed (Some p) e some = let more = total-push core item w.items p e in omega arith
+
+      by : (b : Bool) → item_total w ≤ item_total (cond b (appends plan w core item) w)
+      by true = listed (list_of core w.items) refl there
+      by false = omega arith
+
+pub turn-grows : (plan : Plan) (stimuli : List CoreStimuli) (w : World) (t : CoreId × Choice) → item_total w ≤ item_total (turn plan stimuli w t)
+turn-grows plan stimuli w t = by (is_some (list_of t.0 w.items)) refl
+  where
+    by : (b : Bool) → is_some (list_of t.0 w.items) ≡ b → item_total w ≤ item_total (cond b (turn_by plan w t.0 (named plan stimuli w t.0 t.1)) w)
+    by true there = grows-by plan w t.0 (named plan stimuli w t.0 t.1) there
+    by false there = omega arith
+
+pub world_from-grows : (plan : Plan) (stimuli : List CoreStimuli) (w : World) (ts : Turns) → item_total w ≤ item_total (world_from plan stimuli w ts)
+world_from-grows plan stimuli w [] = omega arith
+world_from-grows plan stimuli w (t ∷ ts) =
+    let first = turn-grows plan stimuli w t in let rest = world_from-grows plan stimuli (turn plan stimuli w t) ts in omega arith
+
+pub world_from-append : (plan : Plan) (stimuli : List CoreStimuli) (w : World) (ts us : Turns) → world_from plan stimuli w (ts ++ us) ≡ world_from plan stimuli (world_from plan stimuli w ts) us
+world_from-append plan stimuli w [] us = refl
+world_from-append plan stimuli w (t ∷ ts) us = world_from-append plan stimuli (turn plan stimuli w t) ts us
+
+-- what changed in the first part or in the second one has changed
+pub changed-on : (a b c : ℕ) (first second : Bool) → a ≤ b → b ≤ c → first ≡ not (nat_eq a b) → second ≡ not (nat_eq b c) → (second || first) ≡ not (nat_eq a c)
+changed-on a b c first second ab bc is_first is_second = by (nat_eq a b) (nat_eq b c) refl refl
+  where
+    by : (x y : Bool) → nat_eq a b ≡ x → nat_eq b c ≡ y → (second || first) ≡ not (nat_eq a c)
+    by true true e f = rw (is_first, is_second, e, f) (grind (arith, nat_tests, e, f))
+    by true false e f = rw (is_first, is_second, e, f) (grind (arith, nat_tests, e, f))
+    by false true e f = rw (is_first, is_second, e, f) (grind (arith, nat_tests, e, f))
+    by false false e f = rw (is_first, is_second, e, f) (grind (arith, nat_tests, e, f))
+
+-- turns, and turns after them
+pub played-append : (plan : Plan) (stimuli : List CoreStimuli) (w : World) (ts us : Turns) (first second : Bool) (seats seats' : List Seat) (mail mail' : Mail) (board board' : Board) → IsPlayed plan stimuli w ts first seats mail board
+    → ((v : World) → Plays plan stimuli v seats mail board → IsPlayed plan stimuli v us second seats' mail' board') → IsPlayed plan stimuli w (ts ++ us) (second || first) seats' mail' board'
+played-append plan stimuli w ts us first second seats seats' mail mail' board board' before next =
+    let then = next (world_from plan stimuli w ts) before.plays in
+    let joined = world_from-append plan stimuli w ts us in
+    record {
+      plays = rw joined then.plays;
+      tells = rw joined (changed-on (item_total w) (item_total (world_from plan stimuli w ts)) (item_total (world_from plan stimuli (world_from plan stimuli w ts) us)) first second
+          (world_from-grows plan stimuli w ts) (world_from-grows plan stimuli (world_from plan stimuli w ts) us) before.tells then.tells);
+    }
+
+pub played-more : (plan plan' : Plan) → plan' ≡ plan → (stimuli : List CoreStimuli) (w : World) (turns : Turns) (i : ℕ) (d : CoreId × Choice) (first second : Bool) (seats seats' : List Seat) (mail mail' : Mail) (board board' : Board) → i < length turns → IsPlayed plan stimuli w (take i turns) first seats mail board
+    → ((v : World) → Plays plan' stimuli v seats mail board → IsPlayed plan' stimuli v (get_or turns i d ∷ []) second seats' mail' board') → IsPlayed plan stimuli w (take (i + 1) turns) (second || first) seats' mail' board'
+played-more plan plan' same stimuli w turns i d first second seats seats' mail mail' board board' lt before next =
+    subst (λ (ts : Turns). IsPlayed plan stimuli w ts (second || first) seats' mail' board')
+    (sym (take_more turns i d lt))
+    (played-append plan stimuli w (take i turns) (get_or turns i d ∷ []) first second seats seats' mail mail' board board' before
+    (subst (λ (p : Plan). (v : World) → Plays p stimuli v seats mail board → IsPlayed p stimuli v (get_or turns i d ∷ []) second seats' mail' board') same next))
+
+pub cut-before : (plan plan' : Plan) → plan' ≡ plan → (stimuli : List CoreStimuli) (w : World) (turns : Turns) (i : ℕ) (changed : Bool) (seats seats' : List Seat) (mail mail' : Mail) (board board' : Board) → i < length turns → IsPlayed plan stimuli w (take i turns) changed seats mail board
+    → ((v : World) → Plays plan' stimuli v seats mail board → Plays plan' stimuli v seats' mail' board') → IsCutShort plan stimuli w turns seats' mail' board'
+cut-before plan plan' same stimuli w turns i changed seats seats' mail mail' board board' lt before kept = record {
+  before = i;
+  within = lt;
+  plays = subst (λ (p : Plan). (v : World) → Plays p stimuli v seats mail board → Plays p stimuli v seats' mail' board') same kept (world_from plan stimuli w (take i turns)) before.plays;
+}
+
+pub played-all : (plan : Plan) (stimuli : List CoreStimuli) (w : World) (turns : Turns) (i : ℕ) (changed : Bool) (seats : List Seat) (mail : Mail) (board : Board) → length turns ≤ i → IsPlayed plan stimuli w (take i turns) changed seats mail board → IsPlayed plan stimuli w turns changed seats mail board
+played-all plan stimuli w turns i changed seats mail board le played = subst (λ (ts : Turns). IsPlayed plan stimuli w ts changed seats mail board) (take_all i turns le) played
+
+pub played-none : (plan : Plan) (stimuli : List CoreStimuli) (w : World) (seats : List Seat) (mail : Mail) (board : Board) → Plays plan stimuli w seats mail board → IsPlayed plan stimuli w [] false seats mail board
+played-none plan stimuli w seats mail board plays = record { plays = plays; tells = grind (arith, nat_tests) }

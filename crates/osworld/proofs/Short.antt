@@ -1,0 +1,118 @@
+-- No core takes more than 2 ^ 48 items, so a world's items are bounded.
+use Rattle.std.proofs.Common.{◌≡◌, ℕ, suc, ◌+◌, ◌*◌, ◌^◌, ◌<◌, ◌≤◌, Bool, true, false, cond, Option, Some, None, is_some, List, [], ◌∷◌, ◌++◌, length, map, refl, ap, sym, subst, ◌∙◌, arith, filter, nat_lt, sum_by, length-append}
+use Rattle.std.specs.Option.{option_map_or}
+use Rattle.std.proofs.lemmas.Bool.{and_parts, ltb-true}
+use Rattle.std.proofs.lemmas.List.Sums.{sum_by-cons}
+use Rattle.osbase.specs.declared.references.CoreId.{CoreId}
+use Rattle.osbase.specs.declared.items.Item.{Item}
+use Rattle.osbase.specs.declared.turns.Choice.{Choice}
+use Rattle.osbase.specs.declared.turns.CoreStimuli.{CoreStimuli}
+use Rattle.osbase.specs.History.{History, item_count}
+use Rattle.osplan.specs.declared.plans.Plan.{Plan}
+use Rattle.osplan.specs.View.{View, core_of, view_of}
+use Rattle.osstate.specs.Readings.{core_ids}
+use Rattle.oskernel.specs.Step.{after, history_from, may_take, takes, outbox_size}
+use Rattle.osworld.specs.World.{World, appends, first_world, history_in, ids_of, item_total, named, turn, turn_by, with_item, world, world_from}
+use Rattle.osworld.proofs.Quiet.{quiet_after}
+use Rattle.osworld.proofs.Listed.{Lists, is_of, list_of}
+
+-- Each list has at most 2 ^ 48 items.
+abbrev are_short : Lists → Type 0
+are_short [] = Unit {0}
+are_short (p ∷ ps) = (length p.1 ≤ 2 ^ 48) × are_short ps
+
+abbrev size : CoreId × List Item → ℕ
+size p = length p.1
+
+total-bounded : (ls : Lists) → are_short ls → sum_by size ls ≤ length ls * 2 ^ 48
+total-bounded [] short = omega arith
+total-bounded (p ∷ ps) short =
+    let rest = total-bounded ps short.1 in let first = short.0 in let all = sum_by-cons size p ps in
+    omega arith
+
+-- every item of a list is counted in its history
+counted : (v : View) (h : History) (items : List Item) → item_count (history_from v h items) ≡ item_count h + length items
+counted v h [] = omega arith
+counted v h (i ∷ items) =
+    let rest = counted v (after v h i) items in
+    let one = quiet_after item_count (λ m k. refl) (λ n k. refl) v h i in
+    omega arith
+
+short-push : (id : CoreId) (item : Item) (ls : Lists) (p : CoreId × List Item) → list_of id ls ≡ Some p → length p.1 < 2 ^ 48 → are_short ls → are_short (with_item id item ls)
+short-push id item [] p e lt short = cc
+short-push id item (q ∷ qs) p e lt short = by (is_of id q) refl e (λ later. short-push id item qs p later lt short.1)
+  where
+    by : (b : Bool) → is_of id q ≡ b → cond b (Some q) (list_of id qs) ≡ Some p → (list_of id qs ≡ Some p → are_short (with_item id item qs)) → are_short (cond b ((q.0, q.1 ++ item ∷ []) ∷ qs) (q ∷ with_item id item qs))
+    by true t e rest =
+        let same : q ≡ p = cc in let below = subst (λ (r : CoreId × List Item). length r.1 < 2 ^ 48) (sym same) lt in let longer = length-append q.1 (item ∷ []) in
+        (omega arith, short.1)
+    by false t e rest = (short.0, rest e)
+
+length-with_item : (id : CoreId) (item : Item) (ls : Lists) → length (with_item id item ls) ≡ length ls
+length-with_item id item [] = refl
+length-with_item id item (q ∷ qs) = by (is_of id q) (length-with_item id item qs)
+  where
+    by : (b : Bool) → length (with_item id item qs) ≡ length qs → length (cond b ((q.0, q.1 ++ item ∷ []) ∷ qs) (q ∷ with_item id item qs)) ≡ suc (length qs)
+    by true rest = refl
+    by false rest = ap suc rest
+
+-- what holds of a world's lists at all times
+abbrev Bounded : World → Type 0
+Bounded w = are_short w.items × (length w.items ≤ 16)
+
+module _ (plan : Plan) (stimuli : List CoreStimuli) (w : World) (bounded : Bounded w) where
+  taken-bounded : (core : CoreId) (item : Item) (o : Option (CoreId × List Item)) → list_of core w.items ≡ o → is_some o ≡ true → takes outbox_size (view_of plan core) (history_in plan w core) item ≡ true → Bounded (appends plan w core item)
+  taken-bounded core item None e there taken = cc
+  taken-bounded core item (Some p) e there taken =
+      let items : history_in plan w core ≡ history_from (view_of plan core) [] p.1 = ap (λ (o : Option (CoreId × List Item)). history_from (view_of plan core) [] (option_map_or (λ (q : CoreId × List Item). q.1) o [])) e in
+      let few : item_count (history_in plan w core) < 2 ^ 48 = ltb-true (item_count (history_in plan w core)) (2 ^ 48) (and_parts (nat_lt (item_count (history_in plan w core)) (2 ^ 48)) (may_take outbox_size (view_of plan core) (history_in plan w core) item) taken).0 in
+      let all : item_count (history_in plan w core) ≡ item_count [] + length p.1 = ap item_count items ∙ counted (view_of plan core) [] p.1 in
+      let same = length-with_item core item w.items in let before = bounded.1 in
+      (short-push core item w.items p e (omega arith) bounded.0, omega arith)
+
+  turn_by-bounded : (core : CoreId) (o : Option Item) → is_some (list_of core w.items) ≡ true → Bounded (turn_by plan w core o)
+  turn_by-bounded core None there = bounded
+  turn_by-bounded core (Some item) there = by (takes outbox_size (view_of plan core) (history_in plan w core) item) refl
+    where
+      by : (b : Bool) → takes outbox_size (view_of plan core) (history_in plan w core) item ≡ b → Bounded (cond b (appends plan w core item) w)
+      by true taken = taken-bounded core item (list_of core w.items) refl there taken
+      by false taken = bounded
+
+  turn-bounded : (t : CoreId × Choice) → Bounded (turn plan stimuli w t)
+  turn-bounded t = by (is_some (list_of t.0 w.items)) refl
+    where
+      by : (b : Bool) → is_some (list_of t.0 w.items) ≡ b → Bounded (cond b (turn_by plan w t.0 (named plan stimuli w t.0 t.1)) w)
+      by true there = turn_by-bounded t.0 (named plan stimuli w t.0 t.1) there
+      by false there = bounded
+
+world_from-bounded : (plan : Plan) (stimuli : List CoreStimuli) (w : World) (ts : List (CoreId × Choice)) → Bounded w → Bounded (world_from plan stimuli w ts)
+world_from-bounded plan stimuli w [] bounded = bounded
+world_from-bounded plan stimuli w (t ∷ ts) bounded = world_from-bounded plan stimuli (turn plan stimuli w t) ts (turn-bounded plan stimuli w bounded t)
+
+empty-short : (ids : List CoreId) → are_short (map (λ (id : CoreId). (id, [])) ids)
+empty-short [] = tt
+empty-short (i ∷ is) = (omega arith, empty-short is)
+
+length-filter : (p : CoreId → Bool) (ids : List CoreId) → length (filter p ids) ≤ length ids
+length-filter p [] = omega arith
+length-filter p (i ∷ is) = by (p i) (length-filter p is)
+  where
+    by : (b : Bool) → length (filter p is) ≤ length is → length (cond b (i ∷ filter p is) (filter p is)) ≤ suc (length is)
+    by true rest = omega arith
+    by false rest = omega arith
+
+as_many : (ids : List CoreId) → length (map {B = CoreId × List Item} (λ (id : CoreId). (id, [])) ids) ≡ length ids
+as_many [] = refl
+as_many (i ∷ is) = ap suc (as_many is)
+
+first-bounded : (plan : Plan) → Bounded (first_world plan)
+first-bounded plan =
+    let few = length-filter (λ (id : CoreId). is_some (core_of plan id)) core_ids in let same = as_many (ids_of plan) in
+    (empty-short (ids_of plan), omega arith)
+
+-- a world has at most 2 ^ 52 items
+pub world-bounded : (plan : Plan) (stimuli : List CoreStimuli) (ts : List (CoreId × Choice)) → item_total (world plan stimuli ts) ≤ 2 ^ 52
+world-bounded plan stimuli ts =
+    let bounded = world_from-bounded plan stimuli (first_world plan) ts (first-bounded plan) in
+    let total = total-bounded (world plan stimuli ts).items bounded.0 in let few = bounded.1 in
+    omega arith

@@ -1,0 +1,147 @@
+-- The seats, the mailboxes and the board before the first turn.
+use Rattle.std.proofs.Common.{◌≡◌, ℕ, zero, suc, ◌+◌, ◌*◌, ◌<◌, ◌≤◌, Bool, true, false, cond, Option, Some, None, is_some, List, [], ◌∷◌, ◌++◌, map, get_or, take, drop, refl, sym, ap, ◌∙◌, arith, filter, append-nil, Bor, option_copied}
+use Rattle.std.specs.List.{All}
+use Rattle.std.specs.Option.{option_map_or}
+use Rattle.std.proofs.lemmas.List.{take_more, map-append, length-replicate}
+use Rattle.std.proofs.lemmas.List.Elements.{All-push, filter-append}
+use Rattle.osbase.specs.declared.references.CoreId.{CoreId}
+use Rattle.osbase.specs.declared.messages.Envelope.{Envelope}
+use Rattle.osbase.specs.declared.items.Item.{Item}
+use Rattle.osbase.specs.declared.turns.CoreStimuli.{CoreStimuli}
+use Rattle.osbase.specs.declared.turns.TheConstants.{CORES}
+use Rattle.osbase.specs.History.{History, posted, received_count}
+use Rattle.osbase.specs.Runs.{stimuli_of}
+use Rattle.osmail.specs.Mail.{Mail, empty_mail}
+use Rattle.osmail.proofs.Boxes.{box_of-empty}
+use Rattle.osplan.specs.declared.plans.Plan.{Plan}
+use Rattle.osplan.specs.declared.plans.Core.{Core}
+use Rattle.osplan.specs.declared.plans.CoreMode.{CoreMode}
+use Rattle.osplan.specs.View.{core_of, view_of}
+use Rattle.osstate.specs.Readings.{core_ids}
+use Rattle.osstate.specs.State.{state_of}
+use Rattle.oskernel.specs.Step.{history_from}
+use Rattle.osworld.specs.declared.seats.Seat.{Seat}
+use Rattle.osworld.specs.declared.boards.Board.{Board}
+use Rattle.osworld.specs.Board.{first_board}
+use Rattle.osworld.specs.World.{first_world, history_in, ids_of}
+use Rattle.osworld.specs.Playing.{IsMail, IsSeated, lists_of, Plays}
+use Rattle.osworld.proofs.Listed.{Lists, is_of, list_of}
+
+abbrev pub id_at : ℕ → CoreId
+id_at n = record { number = n }
+
+abbrev pub is_there : Plan → CoreId → Bool
+is_there plan id = is_some (core_of plan id)
+
+-- the lists of the configured cores with a number below n
+abbrev pub ids_below : Plan → ℕ → List CoreId
+ids_below plan n = filter (is_there plan) (take n core_ids)
+
+abbrev pub lists_below : Plan → ℕ → Lists
+lists_below plan n = map (λ (id : CoreId). (id, [])) (ids_below plan n)
+
+pub one_more_id : (n : ℕ) → n < 16 → take (n + 1) core_ids ≡ take n core_ids ++ id_at n ∷ []
+one_more_id n lt = take_more core_ids n (id_at n) lt ∙ ap (λ (id : CoreId). take n core_ids ++ id ∷ []) (at n lt)
+  where
+    at : (n : ℕ) → n < 16 → get_or core_ids n (id_at n) ≡ id_at n
+    at zero lt = refl
+    at (suc zero) lt = refl
+    at (suc (suc zero)) lt = refl
+    at (suc (suc (suc zero))) lt = refl
+    at (suc (suc (suc (suc zero)))) lt = refl
+    at (suc (suc (suc (suc (suc zero))))) lt = refl
+    at (suc (suc (suc (suc (suc (suc zero)))))) lt = refl
+    at (suc (suc (suc (suc (suc (suc (suc zero))))))) lt = refl
+    at (suc (suc (suc (suc (suc (suc (suc (suc zero)))))))) lt = refl
+    at (suc (suc (suc (suc (suc (suc (suc (suc (suc zero))))))))) lt = refl
+    at (suc (suc (suc (suc (suc (suc (suc (suc (suc (suc zero)))))))))) lt = refl
+    at (suc (suc (suc (suc (suc (suc (suc (suc (suc (suc (suc zero))))))))))) lt = refl
+    at (suc (suc (suc (suc (suc (suc (suc (suc (suc (suc (suc (suc zero)))))))))))) lt = refl
+    at (suc (suc (suc (suc (suc (suc (suc (suc (suc (suc (suc (suc (suc zero))))))))))))) lt = refl
+    at (suc (suc (suc (suc (suc (suc (suc (suc (suc (suc (suc (suc (suc (suc zero)))))))))))))) lt = refl
+    at (suc (suc (suc (suc (suc (suc (suc (suc (suc (suc (suc (suc (suc (suc (suc zero))))))))))))))) lt = refl
+    at (suc (suc (suc (suc (suc (suc (suc (suc (suc (suc (suc (suc (suc (suc (suc (suc n)))))))))))))))) lt = absurd (omega arith)
+
+-- one number more, of a core that is configured or not
+pub ids_below-more : (plan : Plan) (n : ℕ) → n < 16 → ids_below plan (n + 1) ≡ ids_below plan n ++ cond (is_there plan (id_at n)) (id_at n ∷ []) []
+ids_below-more plan n lt = ap (filter (is_there plan)) (one_more_id n lt) ∙ filter-append (is_there plan) (take n core_ids) (id_at n ∷ [])
+
+pub ids_below-skip : (plan : Plan) (n : ℕ) → n < 16 → is_there plan (id_at n) ≡ false → ids_below plan (n + 1) ≡ ids_below plan n
+ids_below-skip plan n lt nobody = ids_below-more plan n lt ∙ ap (λ (b : Bool). ids_below plan n ++ cond b (id_at n ∷ []) []) nobody ∙ append-nil (ids_below plan n)
+
+pub ids_below-push : (plan : Plan) (n : ℕ) → n < 16 → is_there plan (id_at n) ≡ true → ids_below plan (n + 1) ≡ ids_below plan n ++ id_at n ∷ []
+ids_below-push plan n lt there = ids_below-more plan n lt ∙ ap (λ (b : Bool). ids_below plan n ++ cond b (id_at n ∷ []) []) there
+
+pub is_some_copied : (o : Option (Bor Core)) → is_some (option_copied o) ≡ is_some o
+is_some_copied None = refl
+is_some_copied (Some x) = refl
+
+pub ids_below-all : (plan : Plan) (n : ℕ) → 16 ≤ n → n ≤ 16 → ids_below plan n ≡ ids_of plan
+ids_below-all plan n low high = let whole : n ≡ 16 = omega arith in ap (ids_below plan) whole
+
+-- a core that is not configured has no seat, and a configured one has a seat without items
+lists_below-skip : (plan : Plan) (n : ℕ) → n < 16 → core_of plan (id_at n) ≡ None → lists_below plan (n + 1) ≡ lists_below plan n
+lists_below-skip plan n lt nobody = ap (map (λ (id : CoreId). (id, []))) (ids_below-skip plan n lt (ap (λ (o : Option Core). is_some o) nobody))
+
+lists_below-push : (plan : Plan) (n : ℕ) (core : Core) → n < 16 → core_of plan (id_at n) ≡ Some core → lists_below plan (n + 1) ≡ lists_below plan n ++ (id_at n, []) ∷ []
+lists_below-push plan n core lt somebody =
+    ap (map (λ (id : CoreId). (id, []))) (ids_below-push plan n lt (ap (λ (o : Option Core). is_some o) somebody))
+    ∙ map-append (λ (id : CoreId). (id, [])) (ids_below plan n) (id_at n ∷ [])
+
+-- the seat of a core that took nothing
+pub seated-first : (plan : Plan) (stimuli : List CoreStimuli) (seat : Seat) (id : CoreId) (core : Core) → core_of plan id ≡ Some core → seat.id ≡ id → seat.kernel ≡ state_of (view_of plan id) [] → seat.mode ≡ core.mode → seat.stimuli.now ≡ stimuli_of stimuli id → seat.items.items ≡ [] → seat.marks.items ≡ [] → IsSeated plan stimuli seat
+seated-first plan stimuli seat id core found is_id is_kernel is_mode is_left no_items no_marks = record {
+  tracks = rw (is_id, no_items, no_marks) (record { stands = record { is = is_kernel }; shows = refl });
+  mode = is_mode ∙ ap (λ (o : Option Core). option_map_or (λ (c : Core). c.mode) o CoreMode.DontCare) (sym found) ∙ ap (λ (i : CoreId). (view_of plan i).mode) (sym is_id);
+  left = rw (is_id, no_items) is_left;
+}
+
+-- nothing was posted or received
+module _ (plan : Plan) where
+  pub nothing_of : (id : CoreId) (ids : List CoreId) → option_map_or (λ (p : CoreId × List Item). p.1) (list_of id (map (λ (i : CoreId). (i, [])) ids)) [] ≡ []
+  nothing_of id [] = refl
+  nothing_of id (i ∷ is) = by (is_of id (i, [])) (nothing_of id is)
+    where
+      by : (b : Bool) → option_map_or (λ (p : CoreId × List Item). p.1) (list_of id (map (λ (i : CoreId). (i, [])) is)) [] ≡ [] → option_map_or (λ (p : CoreId × List Item). p.1) (cond b (Some (i, [])) (list_of id (map (λ (i : CoreId). (i, [])) is))) [] ≡ []
+      by true rest = refl
+      by false rest = rest
+
+  pub no_history : (id : CoreId) → history_in plan (first_world plan) id ≡ []
+  no_history id = ap (λ (items : List Item). history_from (view_of plan id) [] items) (nothing_of id (ids_of plan))
+
+  pub no_mail : (mail : Mail) → mail ≡ empty_mail plan.cap → IsMail plan (first_world plan) mail
+  no_mail mail is = rw is (record {
+    cap = refl;
+    places = length-replicate {A = List Envelope} (CORES * CORES) [];
+    boxes = λ from to a b. box_of-empty plan.cap from to a b
+        ∙ sym (ap (λ (h : History). drop (received_count from h) (posted to (history_in plan (first_world plan) from))) (no_history to) ∙ ap (posted to) (no_history from));
+    order = λ from to. rw (no_history to) (omega arith);
+  })
+
+-- all 16 numbers were looked at
+pub started-all : (plan : Plan) (stimuli : List CoreStimuli) (seats : List Seat) (n : ℕ) (mail : Mail) (board : Board) → All (IsSeated plan stimuli) seats → lists_of seats ≡ lists_below plan n → 16 ≤ n → n ≤ 16 → mail ≡ empty_mail plan.cap → board ≡ first_board plan.master → Plays plan stimuli (first_world plan) seats mail board
+started-all plan stimuli seats n mail board seated lists low high is_mail is_board = record {
+  seated = seated;
+  lists = let whole : n ≡ 16 = omega arith in sym (lists ∙ ap (lists_below plan) whole);
+  carries = no_mail plan mail is_mail;
+  shown = is_board;
+}
+
+-- one seat more
+pub started-push : (plan plan' : Plan) → plan' ≡ plan → (stimuli : List CoreStimuli) (seats : List Seat) (n : ℕ) (seat : Seat) (core : Core) → n < 16 → Some core ≡ core_of plan' (id_at n) → All (IsSeated plan stimuli) seats × (lists_of seats ≡ lists_below plan n)
+    → seat.id ≡ id_at n → seat.kernel ≡ state_of (view_of plan (id_at n)) [] → seat.mode ≡ core.mode → seat.stimuli.now ≡ stimuli_of stimuli (id_at n) → seat.items.items ≡ [] → seat.marks.items ≡ []
+    → All (IsSeated plan stimuli) (seats ++ seat ∷ []) × (lists_of (seats ++ seat ∷ []) ≡ lists_below plan (n + 1))
+started-push plan plan' same stimuli seats n seat core lt there before is_id is_kernel is_mode is_left no_items no_marks =
+    let found : core_of plan (id_at n) ≡ Some core = sym (there ∙ ap (λ (p : Plan). core_of p (id_at n)) same) in (
+      All-push (IsSeated plan stimuli) seats seat before.0 (seated-first plan stimuli seat (id_at n) core found is_id is_kernel is_mode is_left no_items no_marks),
+      map-append (λ (s : Seat). (s.id, s.items.items)) seats (seat ∷ [])
+          ∙ ap (λ (ls : Lists). ls ++ (seat.id, seat.items.items) ∷ []) before.1
+          ∙ ap (λ (i : CoreId). lists_below plan n ++ (i, seat.items.items) ∷ []) is_id
+          ∙ ap (λ (items : List Item). lists_below plan n ++ (id_at n, items) ∷ []) no_items
+          ∙ sym (lists_below-push plan n core lt found),
+    )
+
+pub started-skip : (plan plan' : Plan) → plan' ≡ plan → (stimuli : List CoreStimuli) (seats : List Seat) (n : ℕ) → n < 16 → None ≡ core_of plan' (id_at n) → All (IsSeated plan stimuli) seats × (lists_of seats ≡ lists_below plan n) → All (IsSeated plan stimuli) seats × (lists_of seats ≡ lists_below plan (n + 1))
+started-skip plan plan' same stimuli seats n lt nobody before =
+    let found : core_of plan (id_at n) ≡ None = sym (nobody ∙ ap (λ (p : Plan). core_of p (id_at n)) same) in
+    (before.0, before.1 ∙ sym (lists_below-skip plan n lt found))

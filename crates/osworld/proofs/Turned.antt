@@ -1,0 +1,138 @@
+-- One turn of a run, as its contract has it.
+use Rattle.std.proofs.Common.{◌≡◌, ℕ, suc, ◌<◌, Bool, true, false, not, Option, Some, None, List, [], ◌∷◌, ◌++◌, length, get_or, set, refl, sym, ap, subst, ◌∙◌, arith, nat_eq, Bor, Result, Ok, Err}
+use Rattle.std.specs.Result.{OnErr}
+use Rattle.std.specs.List.{position, position_or_len}
+use Rattle.std.proofs.lemmas.Bool.{eq-eqb}
+use Rattle.std.proofs.lemmas.Bool.Decides.{nat_tests}
+use Rattle.std.proofs.lemmas.List.Elements.{All-get_or, All-set}
+use Rattle.std.proofs.Math.Seq.{map-set_same}
+use Rattle.osbase.specs.declared.references.CoreId.{CoreId}
+use Rattle.osbase.specs.declared.messages.Envelope.{Envelope}
+use Rattle.osbase.specs.declared.items.Item.{Item}
+use Rattle.osbase.specs.declared.items.Stimulus.{Stimulus}
+use Rattle.osbase.specs.declared.turns.Choice.{Choice}
+use Rattle.osbase.specs.declared.turns.CoreStimuli.{CoreStimuli}
+use Rattle.osbase.specs.History.{same_core}
+use Rattle.osmail.specs.Mail.{Mail}
+use Rattle.osplan.specs.declared.plans.Plan.{Plan}
+use Rattle.osplan.specs.View.{view_of}
+use Rattle.osstate.specs.Does.{Reads}
+use Rattle.osstate.proofs.Same.{same_core-true}
+use Rattle.oskernel.specs.Step.{takes}
+use Rattle.oskernel.specs.Admission.{front_in}
+use Rattle.osworld.specs.declared.boards.Board.{Board}
+use Rattle.osworld.specs.declared.seats.Seat.{Seat}
+use Rattle.osworld.specs.World.{World, history_by, is_unchanged, item_total, turn}
+use Rattle.osworld.specs.Naming.{carried, IsPlaced, left_after, named_by, told}
+use Rattle.osworld.specs.Playing.{IsPlayed, IsSeated, Plays}
+use Rattle.osworld.proofs.Listed.{is_seat_of, seat_is_of, seat_nowhere, seat_place}
+use Rattle.osworld.proofs.Turning.{Took, turn-nobody, turn-nothing, turn-refused, turn-taken, turn-appends}
+
+-- A seat that is as it was but for the room that it has.
+pub record Keeps (old new : Seat) : Type 0 where
+  pub id : new.id ≡ old.id
+  pub mode : new.mode ≡ old.mode
+  pub left : new.stimuli ≡ old.stimuli
+  pub items : new.items.items ≡ old.items.items
+  pub marks : new.marks.items ≡ old.marks.items
+  pub kernel : new.kernel ≡ old.kernel
+
+unchanged-same : (w : World) (next : World) → next ≡ w → false ≡ not (is_unchanged w next)
+unchanged-same w next same = sym (ap (λ (v : World). not (is_unchanged w v)) same ∙ ap not (eq-eqb (item_total w) (item_total w) refl))
+
+one_more-differs : (n : ℕ) → true ≡ not (nat_eq n (suc n))
+one_more-differs n = grind (arith, nat_tests)
+
+module _ (plan : Plan) (stimuli : List CoreStimuli) (w : World) (seats : List Seat) (mail : Mail) (board : Board) (plays : Plays plan stimuli w seats mail board) (core : CoreId) (choice : Choice) where
+  idle : turn plan stimuli w (core, choice) ≡ w → IsPlayed plan stimuli w ((core, choice) ∷ []) false seats mail board
+  idle same = record {
+    plays = subst (λ (next : World). Plays plan stimuli next seats mail board) (sym same) plays;
+    tells = unchanged-same w (turn plan stimuli w (core, choice)) same;
+  }
+
+  -- nobody sits there
+  pub nobody-played : position (is_seat_of core) seats ≡ None → IsPlayed plan stimuli w ((core, choice) ∷ []) false seats mail board
+  nobody-played nowhere = idle (turn-nobody plan stimuli w seats core choice plays.lists (seat_nowhere core seats nowhere))
+
+  module _ (at : ℕ) (seat : Seat) (place : position (is_seat_of core) seats ≡ Some at) (is : seat ≡ get_or seats at seat) where
+    within : at < length seats
+    within = (seat_place core seats at place).1
+
+    at_core : seat.id ≡ core
+    at_core = same_core-true seat.id core (subst (λ (s : Seat). same_core s.id core ≡ true) (sym is) (seat_is_of core seats at seat (seat_place core seats at place).0 within))
+
+    here : at ≡ position_or_len (is_seat_of seat.id) seats
+    here = subst (λ (c : CoreId). at ≡ position_or_len (is_seat_of c) seats) (sym at_core) (seat_place core seats at place).0
+
+    abbrev named_here : Option Item
+    named_here = named_by plan board mail seat.id seat.stimuli.now seat.kernel choice
+
+    -- the seat as it was, with more room
+    pub kept : (new : Seat) → Keeps seat new → Plays plan stimuli w (set seats at new) mail board
+    kept new keeps =
+        let seated : IsSeated plan stimuli seat = subst (λ (s : Seat). IsSeated plan stimuli s) (sym is) (All-get_or (IsSeated plan stimuli) seats at seat within plays.seated) in
+        record {
+          seated = All-set (IsSeated plan stimuli) seats at new (again seated) plays.seated;
+          lists = plays.lists ∙ sym (map-set_same (λ (s : Seat). (s.id, s.items.items)) seats at new seat (ap (λ (i : CoreId). (i, new.items.items)) keeps.id ∙ ap (λ (items : List Item). (seat.id, items)) keeps.items ∙ ap (λ (s : Seat). (s.id, s.items.items)) is));
+          carries = plays.carries;
+          shown = plays.shown;
+        }
+      where
+        again : IsSeated plan stimuli seat → IsSeated plan stimuli new
+        again seated = record {
+          tracks = rw (keeps.id, keeps.items, keeps.marks, keeps.kernel) seated.tracks;
+          mode = rw (keeps.id, keeps.mode) seated.mode;
+          left = rw (keeps.id, keeps.items, keeps.left) seated.left;
+        }
+
+    -- the turn names nothing
+    pub nothing-played : named_here ≡ None → (new : Seat) → Keeps seat new → IsPlayed plan stimuli w ((core, choice) ∷ []) false (set seats at new) mail board
+    nothing-played nothing new keeps =
+        let same : turn plan stimuli w (core, choice) ≡ w = subst (λ (c : CoreId). turn plan stimuli w (c, choice) ≡ w) at_core (turn-nothing plan stimuli w seats mail board plays choice at seat here within (sym is) nothing) in
+        record {
+          plays = subst (λ (next : World). Plays plan stimuli next (set seats at new) mail board) (sym same) (kept new keeps);
+          tells = unchanged-same w (turn plan stimuli w (core, choice)) same;
+        }
+
+    module _ (item : Item) (names : named_here ≡ Some item) (may : Bool) (reads : Reads (λ v h. takes 64 v h item) seat.kernel may) where
+      seated_here : IsSeated plan stimuli seat
+      seated_here = subst (λ (s : Seat). IsSeated plan stimuli s) (sym is) (All-get_or (IsSeated plan stimuli) seats at seat within plays.seated)
+
+      admitted : may ≡ takes 64 (view_of plan seat.id) (history_by plan seat.id seat.items.items) item
+      admitted = reads (view_of plan seat.id) (history_by plan seat.id seat.items.items) seated_here.tracks.stands
+
+      -- the core does not take what the turn names
+      pub refused-played : may ≡ false → (new : Seat) → Keeps seat new → IsPlayed plan stimuli w ((core, choice) ∷ []) false (set seats at new) mail board
+      refused-played refused new keeps =
+          let same : turn plan stimuli w (core, choice) ≡ w = subst (λ (c : CoreId). turn plan stimuli w (c, choice) ≡ w) at_core (turn-refused plan stimuli w seats mail board plays choice at seat here within (sym is) item names (sym admitted ∙ refused)) in
+          record {
+            plays = subst (λ (next : World). Plays plan stimuli next (set seats at new) mail board) (sym same) (kept new keeps);
+            tells = unchanged-same w (turn plan stimuli w (core, choice)) same;
+          }
+
+      -- the core takes it, once there is room
+      pub taken-played : may ≡ true → (roomy new : Seat) → Keeps seat roomy → Took roomy new item → IsPlaced mail seat.id item → (front : Option (CoreId × Envelope)) (next_mail : Mail) (next_board : Board) → front ≡ front_in roomy.kernel.outbox → next_mail ≡ carried roomy.id front item mail → next_board ≡ told roomy.id roomy.mode item board
+          → IsPlayed plan stimuli w ((core, choice) ∷ []) true (set seats at new) next_mail next_board
+      taken-played taken roomy new keeps took placed front next_mail next_board fronts carried_on told_on =
+          let takes_it = sym admitted ∙ taken in
+          record {
+            plays = rw (carried_on, told_on, fronts, keeps.id, keeps.mode, keeps.kernel)
+                (subst (λ (c : CoreId). Plays plan stimuli (turn plan stimuli w (c, choice)) (set seats at new) (carried seat.id (front_in seat.kernel.outbox) item mail) (told seat.id seat.mode item board)) at_core
+                (turn-taken plan stimuli w seats mail board plays choice at seat here within (sym is) item names new (took_after roomy new keeps took) placed takes_it));
+            tells = subst (λ (c : CoreId). true ≡ not (is_unchanged w (turn plan stimuli w (c, choice)))) at_core
+                (one_more-differs (item_total w) ∙ ap (λ (n : ℕ). not (nat_eq (item_total w) n)) (sym (turn-appends plan stimuli w seats mail board plays choice at seat here within (sym is) item names takes_it)));
+          }
+        where
+          took_after : (roomy new : Seat) → Keeps seat roomy → Took roomy new item → Took seat new item
+          took_after roomy new keeps took = record {
+            id = took.id ∙ keeps.id;
+            mode = took.mode ∙ keeps.mode;
+            left = took.left ∙ ap (λ (xs : Bor (List Stimulus)). left_after item xs.now) keeps.left;
+            items = took.items ∙ ap (λ (xs : List Item). xs ++ item ∷ []) keeps.items;
+            does = rw (← keeps.kernel, ← keeps.marks) took.does;
+          }
+
+-- what is true where something failed
+pub on_err : {A E P : Type 0} → (r : Result A E) → P → OnErr r P
+on_err (Ok x) p = tt
+on_err (Err e) p = p

@@ -1,0 +1,7 @@
+use Rattle.std.proofs.Common.{◌≡◌, take}
+use Rattle.std.specs.List.{flat_map}
+use Rattle.osworld.specs.World.{turns_in_round}
+use Rattle.osworld.proofs.runs.round_of.Given as goal
+
+abbrev pub invariant-loop-id : goal.invariant-loop-id
+invariant-loop-id l = l.round.items ≡ flat_map (turns_in_round l.id-items) (take l.id-index l.id-items)

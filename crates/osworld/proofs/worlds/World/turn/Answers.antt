@@ -1,0 +1,37 @@
+use Rattle.std.proofs.Common.{refl, sym, ◌∙◌}
+use Rattle.osworld.proofs.Turned.{nobody-played, nothing-played, refused-played, taken-played, kept, on_err}
+use Rattle.osworld.proofs.worlds.World.turn.Goals as goal
+
+pub returns-in_default-clause-ok : goal.returns-in_default-clause-ok
+returns-in_default-clause-ok c stimuli w plays =
+    nobody-played c.args.self.now.config.now stimuli w c.args.self.now.seats.items c.args.self.now.mail c.args.self.now.board plays c.args.core c.args.choice (sym c.place_of.ensures.place ∙ c.in_default.is)
+
+pub returns-in_default-named-clause-ok : goal.returns-in_default-named-clause-ok
+returns-in_default-named-clause-ok c stimuli w plays =
+    nothing-played c.args.self.now.config.now stimuli w c.args.self.now.seats.items c.args.self.now.mail c.args.self.now.board plays c.args.core c.args.choice c.in-Some.at c.index_mut-seat.result.now
+    (sym c.place_of.ensures.place ∙ c.in-Some.is) c.index_mut-seat.ensures.value (rw (← c.plan.ensures.value) (sym c.named.ensures.value ∙ c.in_default-named.is))
+    c.index_mut-seat.result.now (record { id = refl; mode = refl; left = refl; items = refl; marks = refl; kernel = refl })
+
+pub returns-then-not-may_take-clause-ok : goal.returns-then-not-may_take-clause-ok
+returns-then-not-may_take-clause-ok c stimuli w plays =
+    refused-played c.args.self.now.config.now stimuli w c.args.self.now.seats.items c.args.self.now.mail c.args.self.now.board plays c.args.core c.args.choice c.in-Some.at c.index_mut-seat.result.now
+    (sym c.place_of.ensures.place ∙ c.in-Some.is) c.index_mut-seat.ensures.value c.in-Some-named.item (rw (← c.plan.ensures.value) (sym c.named.ensures.value ∙ c.in-Some-named.is))
+    c.may_take.result c.may_take.ensures.reads c.if-not-may_take.true
+    c.index_mut-seat.result.now (record { id = refl; mode = refl; left = refl; items = refl; marks = refl; kernel = refl })
+
+pub returns-in_err-make_room-clause-err : goal.returns-in_err-make_room-clause-err
+returns-in_err-make_room-clause-err c =
+    on_err c.from_residual.result (λ stimuli w plays.
+    kept c.args.self.now.config.now stimuli w c.args.self.now.seats.items c.args.self.now.mail c.args.self.now.board plays c.args.core c.args.choice c.in-Some.at c.index_mut-seat.result.now
+    (sym c.place_of.ensures.place ∙ c.in-Some.is) c.index_mut-seat.ensures.value
+    c.make_room.new.self (record { id = c.make_room.ensures.id; mode = c.make_room.ensures.mode; left = c.make_room.ensures.stimuli; items = c.make_room.ensures.taken; marks = c.make_room.ensures.printed; kernel = c.make_room.ensures.kernel }))
+
+pub returns-clause-ok : goal.returns-clause-ok
+returns-clause-ok c stimuli w plays =
+    taken-played c.args.self.now.config.now stimuli w c.args.self.now.seats.items c.args.self.now.mail c.args.self.now.board plays c.args.core c.args.choice c.in-Some.at c.index_mut-seat.result.now
+    (sym c.place_of.ensures.place ∙ c.in-Some.is) c.index_mut-seat.ensures.value c.in-Some-named.item (rw (← c.plan.ensures.value) (sym c.named.ensures.value ∙ c.in-Some-named.is))
+    c.may_take.result c.may_take.ensures.reads c.if-not-may_take.false
+    c.make_room.new.self c.take.new.self
+    (record { id = c.make_room.ensures.id; mode = c.make_room.ensures.mode; left = c.make_room.ensures.stimuli; items = c.make_room.ensures.taken; marks = c.make_room.ensures.printed; kernel = c.make_room.ensures.kernel })
+    (record { id = c.take.ensures.id; mode = c.take.ensures.mode; left = c.take.ensures.stimuli; items = c.take.ensures.taken; does = c.take.ensures.does })
+    c.in-Some-named.ensures.placed c.front.result c.carry.new.mail c.tell.new.board c.front.ensures.state c.carry.ensures c.tell.ensures
