@@ -60,7 +60,10 @@ fn run(rt: &HostRuntime) -> Result<u8, AllocError> {
 // A word that is not UTF-8 is wrong usage.
 fn refuse_words(rt: &HostRuntime) -> u8 {
     let mut err = WriteSink::new(rt.stderr());
-    let _ = write_all(&mut err, b"error: a word of the command line is not UTF-8\n");
+    let _ = write_all(
+        &mut err,
+        b"error: a word of the command line is not UTF-8\n",
+    );
     USAGE
 }
 
