@@ -1,1 +1,3 @@
-pub mod Judging
+pub mod Printing
+pub mod Reading
+pub mod Standings

@@ -1,11 +1,13 @@
 -- The program's command line, in the terms of `clap`. [own]
-use Rattle.std.specs.Prelude.{◌≡◌, ℕ, true, Some, List, codes}
+use Rattle.std.specs.Prelude.{◌≡◌, ℕ, true, Option, Some, List, codes}
+use Rattle.std.specs.Str.Parse.{digits_value, without_leading_plus}
 use Rattle.clap.specs.Words.{App, Row, Rule, first_of, new_app, new_rule, subcommand_of, with_rule, with_subcommand}
 use Rattle.clap.specs.declared.builder.ArgAction.TheVariants.{Set}
+use Rattle.clap.specs.declared.builder.ValueParser.TheVariants.{Unsigned}
 use Rattle.mcos.specs.declared.jobs.Job.{Job}
-use Rattle.mcos.specs.Jobs.{config_path, stimuli_path, schedule_path}
+use Rattle.mcos.specs.declared.jobs.Job.TheVariants.{Run, Check, Cut}
+use Rattle.mcos.specs.Jobs.{path_in}
 
--- `run CFG STIM [--schedule FILE]`
 abbrev pub config_rule : Rule
 config_rule = record (new_rule (codes "CFG")) { required = true }
 
@@ -15,24 +17,52 @@ stimuli_rule = record (new_rule (codes "STIM")) { required = true }
 abbrev pub schedule_rule : Rule
 schedule_rule = record (new_rule (codes "schedule")) { long = Some (codes "schedule"); value_names = 1; action = Some Set }
 
+-- A core is a number of 0 to 255.
+abbrev pub core_rule : Rule
+core_rule = record (new_rule (codes "CORE")) { required = true; parser = Some (Unsigned 0 255) }
+
+-- `run CFG STIM [--schedule FILE]`
 abbrev pub run_command : App
 run_command = with_rule (with_rule (with_rule (new_app (codes "run")) config_rule) stimuli_rule) schedule_rule
+
+-- `check CFG`
+abbrev pub check_command : App
+check_command = with_rule (new_app (codes "check")) config_rule
+
+-- `cut CFG CORE`
+abbrev pub cut_command : App
+cut_command = with_rule (with_rule (new_app (codes "cut")) config_rule) core_rule
 
 -- `mcos` with one of its subcommands
 abbrev pub requires_subcommand : App → App
 requires_subcommand app = record app { top = record app.top { subcommand_required = true } }
 
 abbrev pub command_line : App
-command_line = with_subcommand (requires_subcommand (new_app (codes "mcos"))) run_command.top
+command_line = with_subcommand (with_subcommand (with_subcommand (requires_subcommand (new_app (codes "mcos"))) run_command.top) check_command.top) cut_command.top
 
--- The entries of `run` are the job's.
-pub record HasEntries (rows : List Row) (job : Job) : Type 0 where
-  pub config : first_of (codes "CFG") rows ≡ Some (config_path job)
-  pub stimuli : first_of (codes "STIM") rows ≡ Some (stimuli_path job)
-  pub schedule : first_of (codes "schedule") rows ≡ schedule_path job
+-- A text that is there says this number.
+pub record SaysNumber (entry : Option (List ℕ)) (number : ℕ) : Type 0 where
+  pub text : List ℕ
+  pub is_there : entry ≡ Some text
+  pub says : digits_value 10 (without_leading_plus text) ≡ number
 
--- The words, of which the first is the program's name, name `run` with the job's entries.
+-- The entries of a subcommand are the job's.
+abbrev pub HasEntries : List Row → Job → Type 0
+HasEntries rows (Run config stimuli schedule) =
+    (first_of (codes "CFG") rows ≡ Some config.now)
+    × (first_of (codes "STIM") rows ≡ Some stimuli.now)
+    × (first_of (codes "schedule") rows ≡ path_in schedule)
+HasEntries rows (Check config) = first_of (codes "CFG") rows ≡ Some config.now
+HasEntries rows (Cut config core) =
+    (first_of (codes "CFG") rows ≡ Some config.now) × SaysNumber (first_of (codes "CORE") rows) core.number
+
+abbrev pub subcommand_name : Job → List ℕ
+subcommand_name (Run config stimuli schedule) = codes "run"
+subcommand_name (Check config) = codes "check"
+subcommand_name (Cut config core) = codes "cut"
+
+-- The words, of which the first is the program's name, name the job's subcommand with the job's entries.
 pub record AsksFor (words : List (List ℕ)) (job : Job) : Type 0 where
   pub rows : List Row
-  pub runs : subcommand_of command_line words ≡ Some (codes "run", rows)
+  pub names : subcommand_of command_line words ≡ Some (subcommand_name job, rows)
   pub entries : HasEntries rows job

@@ -3,18 +3,16 @@ use Rattle.std.specs.Prelude.{ℕ, List, ◌++◌, codes}
 use Rattle.std.specs.Fmt.{decimal}
 use Rattle.osplan.specs.Fault.{fault_number as conf_fault_number, fault_name as conf_fault_name}
 use Rattle.mcos.specs.declared.faults.Fault.{Fault}
-use Rattle.mcos.specs.declared.faults.Fault.TheVariants.{Text, NoMemoryToRead, NoMemoryToRun, WriteFailed, Unreadable}
+use Rattle.mcos.specs.declared.faults.Fault.TheVariants.{Text, NoMemoryToRun, WriteFailed, Unreadable}
 
 abbrev pub fault_number : Fault → ℕ
 fault_number (Text fault) = conf_fault_number fault
-fault_number NoMemoryToRead = 11
 fault_number NoMemoryToRun = 16
 fault_number WriteFailed = 19
 fault_number Unreadable = 21
 
 abbrev pub fault_name : Fault → List ℕ
 fault_name (Text fault) = conf_fault_name fault
-fault_name NoMemoryToRead = codes "NoMemory"
 fault_name NoMemoryToRun = codes "NoMemory"
 fault_name WriteFailed = codes "WriteFailed"
 fault_name Unreadable = codes "Unreadable"

@@ -1,17 +1,26 @@
 -- The files of a job. [own]
-use Rattle.std.specs.Prelude.{ℕ, List, [], ◌∷◌, Option, Some, None, option_map}
+use Rattle.std.specs.Prelude.{ℕ, List, [], ◌∷◌, ◌++◌, Option, Some, None, option_map}
 use Rattle.std.specs.Borrow.{Bor}
 use Rattle.mcos.specs.declared.jobs.Job.{Job}
-use Rattle.mcos.specs.declared.jobs.Job.TheVariants.{Run}
+use Rattle.mcos.specs.declared.jobs.Job.TheVariants.{Run, Check, Cut}
 
 abbrev pub config_path : Job → List ℕ
 config_path (Run config stimuli schedule) = config.now
+config_path (Check config) = config.now
+config_path (Cut config core) = config.now
 
-abbrev pub stimuli_path : Job → List ℕ
-stimuli_path (Run config stimuli schedule) = stimuli.now
+abbrev pub stimuli_path : Job → Option (List ℕ)
+stimuli_path (Run config stimuli schedule) = Some stimuli.now
+stimuli_path (Check config) = None
+stimuli_path (Cut config core) = None
+
+abbrev pub path_in : Option (Bor (List ℕ)) → Option (List ℕ)
+path_in path = option_map (λ (p : Bor (List ℕ)). p.now) path
 
 abbrev pub schedule_path : Job → Option (List ℕ)
-schedule_path (Run config stimuli schedule) = option_map (λ (path : Bor (List ℕ)). path.now) schedule
+schedule_path (Run config stimuli schedule) = path_in schedule
+schedule_path (Check config) = None
+schedule_path (Cut config core) = None
 
 -- A path that is there.
 abbrev pub listed : Option (List ℕ) → List (List ℕ)
@@ -20,4 +29,4 @@ listed (Some path) = path ∷ []
 
 -- The files in the order in which they are read and judged.
 abbrev pub paths_of : Job → List (List ℕ)
-paths_of job = config_path job ∷ stimuli_path job ∷ listed (schedule_path job)
+paths_of job = config_path job ∷ (listed (stimuli_path job) ++ listed (schedule_path job))

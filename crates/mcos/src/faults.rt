@@ -2,20 +2,20 @@
 
 ghost use Rattle.std.specs.Prelude.{◌≡◌};
 ghost use Rattle.mcos.specs.Faults.{fault_number, fault_name};
+ghost use Rattle.osplan.specs.declared.faults.ConfFault.TheVariants.{NoMemory};
 ghost use Rattle.mcos.specs.declared.faults.Fault.TheVariants.{NoMemoryToRun, Text, WriteFailed};
 
 use osconf::ConfFault;
 use ostrace::WriteFailed;
 use osworld::RunFault;
+use std::alloc::AllocError;
 
 /// Why a job was not done. The program prints `fault N Name` and exits with status 1.
 #[derive(Clone, Copy, Debug, PartialEq, Eq)]
 pub enum Fault {
-    /// A text is not what it has to be.
+    /// A text is not what it has to be, or memory was refused before a run: for the words, a file's bytes, a
+    /// configuration.
     Text(ConfFault),
-    /// A growth was refused before the texts were read: of the words, of a file's bytes or of the output's
-    /// buffer.
-    NoMemoryToRead,
     /// A growth was refused in a run.
     NoMemoryToRun,
     /// The output was refused.
@@ -31,7 +31,6 @@ impl Fault {
     {
         match self {
             Fault::Text(fault) => fault.number(),
-            Fault::NoMemoryToRead => 11,
             Fault::NoMemoryToRun => 16,
             Fault::WriteFailed => 19,
             Fault::Unreadable => 21,
@@ -44,7 +43,6 @@ impl Fault {
     {
         match self {
             Fault::Text(fault) => fault.name(),
-            Fault::NoMemoryToRead => "NoMemory",
             Fault::NoMemoryToRun => "NoMemory",
             Fault::WriteFailed => "WriteFailed",
             Fault::Unreadable => "Unreadable",
@@ -57,6 +55,14 @@ impl From<ConfFault> for Fault {
 
     fn from(fault: ConfFault) -> Fault {
         Fault::Text(fault)
+    }
+}
+
+impl From<AllocError> for Fault {
+    ghost from_gives = { λ _ fault. fault ≡ Text NoMemory };
+
+    fn from(_refused: AllocError) -> Fault {
+        Fault::Text(ConfFault::NoMemory)
     }
 }
 

@@ -1,9 +1,10 @@
-//! Files as bytes.
+//! Files on disk as bytes.
 
-ghost use Rattle.std.specs.Prelude.{◌+◌, IfOk};
+ghost use Rattle.std.specs.Prelude.{◌+◌, IfOk, None};
 ghost use Rattle.mcos.specs.declared.files.TheConstants.{LARGEST, PIECE};
 ghost use Rattle.mcos.specs.Files.{HasFewerThan};
 
+use crate::sources::{Source, bytes_at};
 use std::alloc::{AllocError, Global};
 use std::fs::File;
 use std::io::Read;
@@ -45,4 +46,47 @@ pub fn read_file<R: Files + AllocGlobal>(rt: &R, path: &str) -> Result<Reading, 
         bytes.extend_from_slice(&piece[..count])?;
     }
     Ok(Reading::Bytes(bytes))
+}
+
+/// The files at paths, of which none is opened before it is asked for.
+#[derive(Drop)]
+pub struct Paths<'r, 'p, R> {
+    rt: &'r R,
+    paths: Vec<&'p str>,
+    files: Vec<Option<Vec<u8>>>,
+}
+
+impl<'r, 'p, R: Files + AllocGlobal> Paths<'r, 'p, R> {
+    /// Nothing is read yet.
+    pub fn new(rt: &'r R, paths: Vec<&'p str>) -> Self {
+        Paths {
+            rt,
+            paths,
+            files: Vec::new(rt.alloc()),
+        }
+    }
+}
+
+impl<'r, 'p, R: Files + AllocGlobal> Source for Paths<'r, 'p, R> {
+    ghost files = { λ paths. paths.files.items };
+
+    ghost known = { λ _. None };
+
+    fn read(&mut self, at: usize) -> Result<(), AllocError> {
+        if at != self.files.len() {
+            return Ok(());
+        }
+        if let Some(path) = self.paths.get(at) {
+            let file = match read_file(self.rt, path)? {
+                Reading::Bytes(bytes) => Some(bytes),
+                Reading::Unreadable => None,
+            };
+            self.files.push(file)?;
+        }
+        Ok(())
+    }
+
+    fn bytes(&self, at: usize) -> Option<&[u8]> {
+        bytes_at(self.files.as_slice(), at)
+    }
 }

@@ -1,12 +1,14 @@
 //! What the program is asked to do.
 
-ghost use Rattle.std.specs.Prelude.{◌≡◌, IfErr, IfOk, map};
-ghost use Rattle.clap.specs.Words.{FailsBy, app_of, fault_of, found_of, kind_of, rows_of};
+ghost use Rattle.std.specs.Prelude.{◌≡◌, IfErr, IfOk, codes, false, map};
+ghost use Rattle.clap.specs.Words.{FailsBy, app_of, fault_of, found_of, kind_of, rows_of, rule_of};
 ghost use Rattle.clap.specs.declared.error.ErrorKind.TheVariants.{OutOfMemory};
-ghost use Rattle.mcos.specs.CommandLine.{AsksFor, HasEntries, command_line};
+ghost use Rattle.mcos.specs.CommandLine.{AsksFor, HasEntries, check_command, command_line, config_rule, cut_command, run_command, subcommand_name};
 ghost use Rattle.mcos.specs.Jobs.{paths_of};
 
+use clap::builder::ValueParser;
 use clap::{Arg, ArgAction, ArgMatches, Command, Error};
+use osbase::CoreId;
 use std::alloc::{AllocError, Global};
 use std::convert::AsStr;
 
@@ -19,6 +21,15 @@ pub enum Job<'a> {
         stimuli: &'a str,
         schedule: Option<&'a str>,
     },
+    /// Prints which cores are separate.
+    Check {
+        config: &'a str,
+    },
+    /// Prints the configuration of a separate core alone.
+    Cut {
+        config: &'a str,
+        core: CoreId,
+    },
 }
 
 impl<'a> Job<'a> {
@@ -26,16 +37,21 @@ impl<'a> Job<'a> {
     pub fn paths(&self, alloc: Global) -> Result<Vec<&'a str>, AllocError>
         ensures { IfOk result (λ paths. map (λ path. path.now) paths.items ≡ paths_of self.now) }
     {
-        let Job::Run {
-            config,
-            stimuli,
-            schedule,
-        } = self;
         let mut paths = Vec::new(alloc);
-        paths.push(*config)?;
-        paths.push(*stimuli)?;
-        if let Some(schedule) = schedule {
-            paths.push(*schedule)?;
+        match self {
+            Job::Run {
+                config,
+                stimuli,
+                schedule,
+            } => {
+                paths.push(*config)?;
+                paths.push(*stimuli)?;
+                if let Some(schedule) = schedule {
+                    paths.push(*schedule)?;
+                }
+            }
+            Job::Check { config } => paths.push(*config)?,
+            Job::Cut { config, .. } => paths.push(*config)?,
         }
         Ok(paths)
     }
@@ -48,15 +64,21 @@ pub fn job_of<'a, S: AsStr>(alloc: Global, words: &'a [S]) -> Result<Job<'a>, Er
     ensures fault { FailsBy (fault_of command_line (map S.text words.entry.now)) result }
 {
     let matches = command(alloc)?.try_get_matches_from(words)?;
-    match matches.subcommand_matches("run") {
-        Some(run) => run_job(run),
+    if let Some(run) = matches.subcommand_matches("run") {
+        return run_job(run);
+    }
+    if let Some(check) = matches.subcommand_matches("check") {
+        return check_job(check);
+    }
+    match matches.subcommand_matches("cut") {
+        Some(cut) => cut_job(cut),
         None => Err(Error::from(AllocError)),
     }
 }
 
 // The entries of `run`, which its required arguments have.
 fn run_job<'a>(run: &ArgMatches<'a>) -> Result<Job<'a>, Error>
-    ensures job { IfOk result (HasEntries (rows_of (found_of run.now))) }
+    ensures job { IfOk result (λ job. HasEntries (rows_of (found_of run.now)) job × (subcommand_name job ≡ codes "run")) }
     ensures memory { IfErr result (λ error. kind_of error ≡ OutOfMemory) }
 {
     let (Some(config), Some(stimuli)) = (run.get_str("CFG"), run.get_str("STIM")) else {
@@ -69,13 +91,49 @@ fn run_job<'a>(run: &ArgMatches<'a>) -> Result<Job<'a>, Error>
     })
 }
 
+// The entry of `check`, which its required argument has.
+fn check_job<'a>(check: &ArgMatches<'a>) -> Result<Job<'a>, Error>
+    ensures job { IfOk result (λ job. HasEntries (rows_of (found_of check.now)) job × (subcommand_name job ≡ codes "check")) }
+    ensures memory { IfErr result (λ error. kind_of error ≡ OutOfMemory) }
+{
+    match check.get_str("CFG") {
+        Some(config) => Ok(Job::Check { config }),
+        None => Err(Error::from(AllocError)),
+    }
+}
+
+// The entries of `cut`, which its required arguments have; the core is a number that a byte can hold.
+fn cut_job<'a>(cut: &ArgMatches<'a>) -> Result<Job<'a>, Error>
+    ensures job { IfOk result (λ job. HasEntries (rows_of (found_of cut.now)) job × (subcommand_name job ≡ codes "cut")) }
+    ensures memory { IfErr result (λ error. kind_of error ≡ OutOfMemory) }
+{
+    let (Some(config), Some(core)) = (cut.get_str("CFG"), cut.get_str("CORE")) else {
+        return Err(Error::from(AllocError));
+    };
+    match core.parse::<u8>() {
+        Ok(number) => Ok(Job::Cut {
+            config,
+            core: CoreId { number },
+        }),
+        Err(_) => Err(Error::from(AllocError)),
+    }
+}
+
 // The program's command line.
 fn command<'a>(alloc: Global) -> Result<Command<'a>, AllocError>
     ensures { IfOk result (λ command. app_of command ≡ command_line) }
 {
-    let config = Arg::new(alloc, "CFG")
-        .required(true)
-        .help("the configuration, a JSON file");
+    Command::new(alloc, "mcos")
+        .about("A multicore AUTOSAR OS kernel, simulated")
+        .subcommand_required(true)
+        .subcommand(run_command(alloc)?)?
+        .subcommand(check_command(alloc)?)?
+        .subcommand(cut_command(alloc)?)
+}
+
+fn run_command<'a>(alloc: Global) -> Result<Command<'a>, AllocError>
+    ensures { IfOk result (λ command. app_of command ≡ run_command) }
+{
     let stimuli = Arg::new(alloc, "STIM")
         .required(true)
         .help("each core's stimuli, a JSON file");
@@ -84,13 +142,39 @@ fn command<'a>(alloc: Global) -> Result<Command<'a>, AllocError>
         .value_name("FILE")
         .action(ArgAction::Set)
         .help("the turns in order, a JSON file; without it the default schedule runs");
-    let run = Command::new(alloc, "run")
+    Command::new(alloc, "run")
         .about("Runs the cores turn by turn, and prints each core's trace")
-        .arg(config)?
+        .arg(config_arg(alloc))?
         .arg(stimuli)?
-        .arg(schedule)?;
-    Command::new(alloc, "mcos")
-        .about("A multicore AUTOSAR OS kernel, simulated")
-        .subcommand_required(true)
-        .subcommand(run)
+        .arg(schedule)
+}
+
+fn check_command<'a>(alloc: Global) -> Result<Command<'a>, AllocError>
+    ensures { IfOk result (λ command. app_of command ≡ check_command) }
+{
+    Command::new(alloc, "check")
+        .about("Prints for each core whether it is separate, bound to others or off")
+        .arg(config_arg(alloc))
+}
+
+fn cut_command<'a>(alloc: Global) -> Result<Command<'a>, AllocError>
+    ensures { IfOk result (λ command. app_of command ≡ cut_command) }
+{
+    let core = Arg::new(alloc, "CORE")
+        .required(true)
+        .value_parser(ValueParser::unsigned(0, 255))
+        .help("the core's number");
+    Command::new(alloc, "cut")
+        .about("Prints the configuration of a separate core alone")
+        .arg(config_arg(alloc))?
+        .arg(core)
+}
+
+fn config_arg<'a>(alloc: Global) -> Arg<'a>
+    ensures rule { rule_of result ≡ config_rule }
+    ensures own { result.global ≡ false }
+{
+    Arg::new(alloc, "CFG")
+        .required(true)
+        .help("the configuration, a JSON file")
 }

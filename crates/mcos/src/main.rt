@@ -1,17 +1,23 @@
 //! `mcos`: a multicore AUTOSAR OS kernel, simulated.
 #![tactic(auto)]
 
+mod checks;
 mod faults;
 mod files;
 mod jobs;
+mod outcomes;
 mod performs;
+mod readings;
+mod runs;
+mod sources;
 #[cfg(test)]
 mod tests;
 
 use crate::faults::Fault;
-use crate::files::{Reading, read_file};
+use crate::files::Paths;
 use crate::jobs::{Job, job_of};
-use crate::performs::{FAULT, fault_line, perform};
+use crate::outcomes::FAULT;
+use crate::performs::{fault_line, perform_from};
 use ostrace::{WriteSink, write_all};
 use std::alloc::AllocError;
 use std::env;
@@ -27,9 +33,9 @@ const USAGE: u8 = 2;
 fn main(rt: HostRuntime) -> ExitCode {
     match run(&rt) {
         Ok(status) => ExitCode::from(status),
-        Err(_) => {
+        Err(error) => {
             let mut err = WriteSink::new(rt.stderr());
-            let _ = fault_line(&mut err, Fault::NoMemoryToRead);
+            let _ = fault_line(&mut err, Fault::from(error));
             ExitCode::from(FAULT)
         }
     }
@@ -67,22 +73,16 @@ fn refuse_words(rt: &HostRuntime) -> u8 {
     USAGE
 }
 
-// Reads the job's files, performs it, and sends off what is still gathered.
+// Performs the job over its files, and sends off what is still gathered.
 fn do_job(rt: &HostRuntime, job: &Job) -> Result<u8, AllocError> {
     let alloc = rt.alloc();
-    let mut files = Vec::new(alloc);
-    for path in job.paths(alloc)?.as_slice() {
-        match read_file(rt, path)? {
-            Reading::Bytes(bytes) => files.push(Some(bytes))?,
-            Reading::Unreadable => files.push(None)?,
-        }
-    }
-    let mut err = WriteSink::new(rt.stderr());
+    let mut files = Paths::new(rt, job.paths(alloc)?);
     let Ok(writer) = BufWriter::with_capacity(alloc, BUFFER, rt.stdout()) else {
         return Err(AllocError);
     };
     let mut out = WriteSink::new(writer);
-    let status = perform(alloc, job, files.as_slice(), &mut out, &mut err);
+    let mut err = WriteSink::new(rt.stderr());
+    let status = perform_from(alloc, job, &mut files, &mut out, &mut err);
     if status != FAULT && out.writer.flush().is_err() {
         let mut err = WriteSink::new(rt.stderr());
         let _ = fault_line(&mut err, Fault::WriteFailed);

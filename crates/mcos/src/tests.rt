@@ -4,6 +4,7 @@ ghost use Rattle.std.specs.Prelude.{None};
 
 use crate::jobs::{Job, job_of};
 use crate::performs::perform;
+use osbase::CoreId;
 use ostrace::{MemorySink, Sink};
 use std::alloc::{AllocError, Global};
 use std::process::Abort;
@@ -29,6 +30,16 @@ const LIMIT_TRACE: &str =
 
 const REFUSALS_TRACE: &str =
     "core 0\nhook Startup\nact A\npre A\nstat A ActivateTask E_OS_CORE\nhook Error E_OS_CORE\nstat A ActivateTask E_OS_ID\nhook Error E_OS_ID\nstat A ActivateTask E_OS_LIMIT\nhook Error E_OS_LIMIT\npost A\nend A\ncore 1\nended\n";
+
+/// One activation across the border, beside a core that has nothing to do with it.
+const BESIDE: &str =
+    r#"{"cores":[{"id":0,"start":[1,2],"tasks":[{"name":"A","prio":1,"auto":["M"],"script":"ActivateTask B;TerminateTask"}]},{"id":1,"tasks":[{"name":"B","prio":1,"script":"TerminateTask"}]},{"id":2,"tasks":[{"name":"V","prio":1,"auto":["M"],"script":"TerminateTask"}]}]}"#;
+
+const ALONE: &str =
+    r#"{"cap":16,"cores":[{"id":2,"start":[],"tasks":[{"activations":1,"auto":["M"],"name":"V","prio":1,"script":"TerminateTask"}]}],"master":2,"version":1}
+"#;
+
+const ALONE_TRACE: &str = "core 2\nhook Startup\nact V\npre V\npost V\nend V\nended\n";
 
 /// A schedule that ends the first example's run, with a useless turn among the others.
 const BORDER_SCHEDULE: &str =
@@ -179,23 +190,113 @@ fn run_of(schedule: Option<&'static str>) -> Job<'static> {
     }
 }
 
+fn check_of() -> Job<'static> {
+    Job::Check {
+        config: "config.json",
+    }
+}
+
+fn cut_of(number: u8) -> Job<'static> {
+    Job::Cut {
+        config: "config.json",
+        core: CoreId { number },
+    }
+}
+
+/// What a job came to.
+#[derive(Drop)]
+struct Printed {
+    out: Vec<u8>,
+    err: Vec<u8>,
+    status: u8,
+}
+
+fn print(alloc: Global, job: &Job, texts: &[Option<&str>]) -> Result<Printed, AllocError> {
+    let files = files_of(alloc, texts)?;
+    let mut out = MemorySink::new(Vec::new(alloc));
+    let mut err = MemorySink::new(Vec::new(alloc));
+    let status = perform(alloc, job, files.as_slice(), &mut out, &mut err);
+    Ok(Printed {
+        out: out.bytes,
+        err: err.bytes,
+        status,
+    })
+}
+
 #[test]
 fn examples_come_to_their_texts_and_statuses(rt: HostRuntime) -> Result<(), Fail> {
-    let alloc = rt.alloc();
     for example in EXAMPLES.as_slice() {
-        let job = run_of(example.schedule);
         let texts = [
             Some(example.config),
             Some(example.stimuli),
             example.schedule,
         ];
-        let files = files_of(alloc, texts.as_slice())?;
-        let mut out = MemorySink::new(Vec::new(alloc));
-        let mut err = MemorySink::new(Vec::new(alloc));
-        let status = perform(alloc, &job, files.as_slice(), &mut out, &mut err);
-        assert_eq!(rt; out.bytes.as_slice(), example.out.as_bytes());
-        assert_eq!(rt; err.bytes.as_slice(), example.err.as_bytes());
-        assert_eq!(rt; status, example.status);
+        let printed = print(rt.alloc(), &run_of(example.schedule), texts.as_slice())?;
+        assert_eq!(rt; printed.out.as_slice(), example.out.as_bytes());
+        assert_eq!(rt; printed.err.as_slice(), example.err.as_bytes());
+        assert_eq!(rt; printed.status, example.status);
+    }
+    Ok(())
+}
+
+#[test]
+fn cores_are_separate_bound_or_off(rt: HostRuntime) -> Result<(), Fail> {
+    let examples = [
+        (BESIDE, "ok\ncore 0 bound\ncore 1 bound\ncore 2 separate\n"),
+        (REFUSALS, "ok\ncore 0 bound\ncore 1 off\n"),
+        (ALONE, "ok\ncore 2 separate\n"),
+        (
+            r#"{"cores":[{"id":7},{"id":0,"start":[7]}]}"#,
+            "ok\ncore 0 bound\ncore 7 separate\n",
+        ),
+    ];
+    for (config, out) in examples.as_slice() {
+        let printed = print(rt.alloc(), &check_of(), &[Some(*config)])?;
+        assert_eq!(rt; printed.out.as_slice(), out.as_bytes());
+        assert_eq!(rt; printed.err.as_slice(), b"".as_slice());
+        assert_eq!(rt; printed.status, 0);
+    }
+    Ok(())
+}
+
+#[test]
+fn a_separate_core_is_cut_and_runs_alone(rt: HostRuntime) -> Result<(), Fail> {
+    let alloc = rt.alloc();
+    let whole = print(
+        alloc,
+        &run_of(None),
+        &[Some(BESIDE), Some(r#"{"0":"op op","2":"op"}"#)],
+    )?;
+    assert!(rt; whole.out.as_slice().ends_with(ALONE_TRACE.as_bytes()));
+    let cut = print(alloc, &cut_of(2), &[Some(BESIDE)])?;
+    assert_eq!(rt; cut.out.as_slice(), ALONE.as_bytes());
+    assert_eq!(rt; cut.status, 0);
+    let alone = print(alloc, &run_of(None), &[Some(ALONE), Some(r#"{"2":"op"}"#)])?;
+    assert_eq!(rt; alone.out.as_slice(), ALONE_TRACE.as_bytes());
+    assert_eq!(rt; alone.status, 0);
+    let again = print(alloc, &cut_of(2), &[Some(ALONE)])?;
+    assert_eq!(rt; again.out.as_slice(), ALONE.as_bytes());
+    Ok(())
+}
+
+#[test]
+fn faults_of_check_and_cut(rt: HostRuntime) -> Result<(), Fail> {
+    let examples = [
+        (check_of(), Some(r#"{"cores":["#), "fault 1 NotJson\n"),
+        (check_of(), Some(r#"{"cores":[]}"#), "fault 3 Limit\n"),
+        (check_of(), None, "fault 21 Unreadable\n"),
+        (cut_of(0), Some(BESIDE), "fault 20 NotSeparate\n"),
+        (cut_of(1), Some(REFUSALS), "fault 20 NotSeparate\n"),
+        (cut_of(7), Some(BESIDE), "fault 20 NotSeparate\n"),
+        (cut_of(255), Some(BESIDE), "fault 20 NotSeparate\n"),
+        (cut_of(0), Some("{}"), "fault 2 Shape\n"),
+        (cut_of(0), None, "fault 21 Unreadable\n"),
+    ];
+    for (job, config, err) in examples.as_slice() {
+        let printed = print(rt.alloc(), job, &[*config])?;
+        assert!(rt; printed.out.is_empty());
+        assert_eq!(rt; printed.err.as_slice(), err.as_bytes());
+        assert_eq!(rt; printed.status, 1);
     }
     Ok(())
 }
@@ -229,19 +330,42 @@ fn fault_of(rt: &impl Abort, alloc: Global, files: &[Option<Vec<u8>>]) -> Result
 fn words_make_the_job(rt: HostRuntime) -> Result<(), Fail> {
     let alloc = rt.alloc();
     let words = ["mcos", "run", "a", "--schedule", "c", "b"];
-    let Ok(job) = job_of(alloc, words.as_slice()) else {
-        return Err(Fail::from("no job"));
+    let run = Job::Run {
+        config: "a",
+        stimuli: "b",
+        schedule: Some("c"),
     };
-    let Job::Run {
-        config,
-        stimuli,
-        schedule,
-    } = job;
-    assert_eq!(rt; config, "a");
-    assert_eq!(rt; stimuli, "b");
-    assert_eq!(rt; schedule, Some("c"));
-    for words in [["mcos", "run", "a"], ["mcos", "walk", "a"]].as_slice() {
-        let Err(error) = job_of(alloc, words.as_slice()) else {
+    assert_eq!(rt; job_of(alloc, words.as_slice()).ok(), Some(run));
+    let check = Job::Check { config: "a" };
+    assert_eq!(rt;
+        job_of(alloc, ["mcos", "check", "a"].as_slice()).ok(),
+        Some(check)
+    );
+    let cut = Job::Cut {
+        config: "a",
+        core: CoreId { number: 255 },
+    };
+    assert_eq!(rt;
+        job_of(alloc, ["mcos", "cut", "a", "255"].as_slice()).ok(),
+        Some(cut)
+    );
+    Ok(())
+}
+
+#[test]
+fn other_words_are_wrong_usage(rt: HostRuntime) -> Result<(), Fail> {
+    let refused = [
+        ["mcos", "run", "a"].as_slice(),
+        ["mcos", "walk", "a"].as_slice(),
+        ["mcos"].as_slice(),
+        ["mcos", "check"].as_slice(),
+        ["mcos", "cut", "a"].as_slice(),
+        ["mcos", "cut", "a", "256"].as_slice(),
+        ["mcos", "cut", "a", "-1"].as_slice(),
+        ["mcos", "cut", "a", "x"].as_slice(),
+    ];
+    for words in refused.as_slice() {
+        let Err(error) = job_of(rt.alloc(), *words) else {
             return Err(Fail::from("a job"));
         };
         assert_eq!(rt; error.exit_code(), 2);

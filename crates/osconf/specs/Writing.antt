@@ -4,6 +4,7 @@ use Rattle.std.specs.List.{join_by}
 use Rattle.std.specs.Option.{option_map_or}
 use Rattle.serde_json.specs.Data.{unsigned, Data, number, string, array, object, no_members, member}
 use Rattle.serde_json.specs.View.{items_of}
+use Rattle.serde_json.specs.Written.{compact_text}
 use Rattle.osbase.specs.declared.references.CoreId.{CoreId}
 use Rattle.osbase.specs.declared.references.ModeId.{ModeId}
 use Rattle.osbase.specs.declared.references.TaskRef.{TaskRef}
@@ -81,3 +82,7 @@ config_data plan = object
     (member (codes "cores") (list_data (core_data plan) plan.cores)
     (member (codes "master") (id_data plan.master)
     (member (codes "version") (whole_data 1) no_members))))
+
+-- Its text: compact JSON. [own]
+abbrev pub config_text : Plan → List ℕ
+config_text plan = compact_text (config_data plan)

@@ -21,5 +21,5 @@ mod words;
 pub use configs::read_config;
 pub use given::{read_schedule, read_stimuli};
 pub use osbase::{Schedule, Stimuli};
-pub use osplan::{ConfFault, Config, cut, is_separate};
+pub use osplan::{ConfFault, Config, Standing, cut, is_separate, standing_of};
 pub use texts::config_text;

@@ -2,9 +2,8 @@
 
 ghost use Rattle.std.specs.Prelude.{◌≡◌, IfOk, Some, string_bytes, ◌++◌, codes};
 ghost use Rattle.serde_json.specs.View.{view};
-ghost use Rattle.serde_json.specs.Written.{compact_text};
 ghost use Rattle.osconf.specs.Meaning.{config_of};
-ghost use Rattle.osconf.specs.Writing.{mode_text, name_in, task_name, op_text, script_text, id_data, mode_data, list_data, task_data, core_data, config_data};
+ghost use Rattle.osconf.specs.Writing.{mode_text, name_in, task_name, op_text, script_text, id_data, mode_data, list_data, task_data, core_data, config_data, config_text};
 
 use osbase::{CoreId, ModeId, TaskRef};
 use oscript::Op;
@@ -149,7 +148,7 @@ fn plan_value(alloc: Global, plan: &Plan) -> Result<Value, AllocError>
 /// The text of a configuration, version 1 of the format: compact JSON with every member written, in
 /// ascending order of names. Reading it gives the configuration back.
 pub fn config_text(alloc: Global, config: &Config) -> Result<String, AllocError>
-    ensures text { IfOk result (λ text. string_bytes text ≡ compact_text (config_data config.now)) }
+    ensures text { IfOk result (λ text. string_bytes text ≡ config_text config.now) }
     // The text's configuration is the configuration.
     ensures reads_back { IfOk result (λ text. config_of (string_bytes text) ≡ Some config.now) }
 {

@@ -1,5 +1,5 @@
 -- When a core is separate, so that no other core has a say in what it prints, and its configuration by itself.
-use Rattle.std.specs.Prelude.{ℕ, zero, suc, ◌==◌, ◌&&◌, ◌||◌, not, Bool, true, false, Some, None, List, [], ◌∷◌, length, map, filter}
+use Rattle.std.specs.Prelude.{ℕ, zero, suc, ◌==◌, ◌&&◌, ◌||◌, not, Bool, true, false, if◌then◌else◌, Some, None, List, [], ◌∷◌, length, map, filter}
 use Rattle.std.specs.List.{list_all, list_any}
 use Rattle.std.specs.Option.{option_map_or}
 use Rattle.osbase.specs.declared.references.CoreId.{CoreId}
@@ -11,6 +11,7 @@ use Rattle.osplan.specs.declared.plans.Core.{Core}
 use Rattle.osplan.specs.declared.plans.Task.{Task}
 use Rattle.osplan.specs.declared.plans.CoreMode.{CoreMode}
 use Rattle.osplan.specs.declared.plans.CoreMode.TheVariants.{Named, DontCare}
+use Rattle.osplan.specs.declared.separate.Standing.{Standing}
 use Rattle.osplan.specs.View.{core_of}
 
 -- ---- which cores are started
@@ -101,6 +102,10 @@ is_separate_core plan core =
 -- The configured core of this number is separate. [own]
 abbrev pub is_separate : Plan → CoreId → Bool
 is_separate plan id = option_map_or (is_separate_core plan) (core_of plan id) false
+
+-- Separate, or else bound to others, or never started. [own]
+abbrev pub standing_of : Plan → CoreId → Standing
+standing_of plan id = if is_separate plan id then Standing.Separate else (if is_started plan id then Standing.Bound else Standing.Off)
 
 -- The core alone, under this number, as the master; the modes and the mailboxes' size stay. [own]
 abbrev pub alone_of : Plan → CoreId → Core → Plan

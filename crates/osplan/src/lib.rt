@@ -10,4 +10,4 @@ pub mod separate;
 
 pub use faults::ConfFault;
 pub use plans::{Alarm, Config, Core, CoreMode, Isr, Plan, Table, Task};
-pub use separate::{cut, is_separate};
+pub use separate::{Standing, cut, is_separate, standing_of};

@@ -6,7 +6,7 @@ ghost use Rattle.osbase.specs.History.{same_core};
 ghost use Rattle.osplan.specs.Limits.{is_within_limits};
 ghost use Rattle.osplan.specs.Expressible.{is_core_expressible};
 ghost use Rattle.osplan.specs.Flags.{is_flagged, is_named_by_flagged, is_next, AreStarted};
-ghost use Rattle.osplan.specs.Separate.{agree, alone_of, cut_of, has_operation, is_among, is_named_elsewhere, is_agreed_mode, is_separate, is_separate_core, is_started, names_mode, names_other, names_own};
+ghost use Rattle.osplan.specs.Separate.{agree, alone_of, cut_of, has_operation, is_among, is_named_elsewhere, is_agreed_mode, is_separate, is_separate_core, is_started, names_mode, names_other, names_own, standing_of};
 
 use crate::faults::ConfFault;
 use crate::plans::{Config, Core, CoreMode, Plan, Task};
@@ -256,6 +256,31 @@ fn alone(alloc: Global, plan: &Plan, id: CoreId, core: &Core) -> Result<Plan, Al
         modes: copied_names(alloc, plan.modes.as_slice())?,
         cores,
     })
+}
+
+/// What a core is to the other cores of its configuration.
+#[derive(Clone, Copy, Debug, PartialEq, Eq)]
+pub enum Standing {
+    /// Started, and no other core has a say in what it prints.
+    Separate,
+    /// Started, and not separate.
+    Bound,
+    /// Not started: no start list leads to it.
+    Off,
+}
+
+/// Whether a core is separate, else whether it is started; one that is not configured is off.
+pub fn standing_of(config: &Config, core: CoreId) -> Standing
+    ensures { result ≡ standing_of config.now core }
+{
+    let plan = config.plan();
+    if is_separate(config, core) {
+        Standing::Separate
+    } else if is_started(plan, &started_cores(plan), core) {
+        Standing::Bound
+    } else {
+        Standing::Off
+    }
 }
 
 /// The configuration of a separate core alone: the core under its number, as the master, with the modes

@@ -1,5 +1,5 @@
 -- The rounds of the default schedule, one by one.
-use Rattle.std.proofs.Common.{◌≡◌, ℕ, zero, suc, ◌+◌, ◌^◌, ◌≤◌, Bool, true, false, not, ◌||◌, cond, List, [], ◌∷◌, length, map, refl, ap, sym, subst, ◌∙◌, arith, nat_eq, nat_le, inl, inr, ◌⊎◌, Vec, Global, take, length-append}
+use Rattle.std.proofs.Common.{◌≡◌, ℕ, zero, suc, ◌+◌, ◌^◌, ◌≤◌, Bool, IsTrue, true, false, not, ◌||◌, cond, List, [], ◌∷◌, length, map, refl, ap, sym, subst, ◌∙◌, arith, nat_eq, nat_le, inl, inr, ◌⊎◌, Vec, Global, take, length-append}
 use Rattle.std.specs.List.{All, list_all}
 use Rattle.std.proofs.lemmas.Bool.{leb-true}
 use Rattle.std.proofs.lemmas.Bool.Decides.{nat_tests}
@@ -11,6 +11,7 @@ use Rattle.osbase.specs.declared.turns.Choice.{Choice}
 use Rattle.osbase.specs.declared.turns.CoreStimuli.{CoreStimuli}
 use Rattle.osmail.specs.Mail.{Mail}
 use Rattle.osplan.specs.declared.plans.Plan.{Plan}
+use Rattle.osplan.specs.Limits.{is_within_limits}
 use Rattle.osstate.specs.Readings.{has_core}
 use Rattle.osstate.specs.State.{KernelState}
 use Rattle.osbase.specs.declared.turns.Report.{Report}
@@ -160,16 +161,16 @@ module _ (plan plan' : Plan) (same : plan' ≡ plan) (stimuli : List CoreStimuli
   played-here : (rounds : ℕ) → ((given : List CoreStimuli) → Plays plan' given (first_world plan') seats mail board → IsDefaultPlayed plan' given rounds seats' mail' board') → IsDefaultPlayed plan stimuli rounds seats' mail' board'
   played-here rounds played = subst (λ (p : Plan). (given : List CoreStimuli) → Plays p given (first_world p) seats mail board → IsDefaultPlayed p given rounds seats' mail' board') same played stimuli begun
 
-  pub default-reported : (rounds : ℕ) → ((given : List CoreStimuli) → Plays plan' given (first_world plan') seats mail board → IsDefaultPlayed plan' given rounds seats' mail' board') → IsDefaultRun plan stimuli (map report_of seats')
-  default-reported rounds played =
+  pub default-reported : IsTrue (is_within_limits plan) → (rounds : ℕ) → ((given : List CoreStimuli) → Plays plan' given (first_world plan') seats mail board → IsDefaultPlayed plan' given rounds seats' mail' board') → IsDefaultRun plan stimuli (map report_of seats')
+  default-reported limits rounds played =
       let here = played-here rounds played in
-      record { rounds = rounds; least = here.least; are = reports-played plan stimuli (default_turns plan rounds) seats' mail' board' here.plays }
+      record { rounds = rounds; least = here.least; are = reports-played plan limits stimuli (default_turns plan rounds) seats' mail' board' here.plays }
 
   pub default-scheduled : (rounds : ℕ) (turns : List (CoreId × Choice)) → turns ≡ default_turns plan rounds → ((given : List CoreStimuli) → Plays plan' given (first_world plan') seats mail board → IsDefaultPlayed plan' given rounds seats' mail' board') → IsDefaultSchedule plan stimuli turns
   default-scheduled rounds turns is played = record { rounds = rounds; least = (played-here rounds played).least; is = is }
 
-  pub default-broken_off : ((given : List CoreStimuli) → Plays plan' given (first_world plan') seats mail board → IsDefaultCutShort plan' given seats' mail' board') → (reports : Vec Report Global) → reports.items ≡ map report_of seats' → IsDefaultBrokenOff plan stimuli (NoMemory reports)
-  default-broken_off cut reports are =
+  pub default-broken_off : IsTrue (is_within_limits plan) → ((given : List CoreStimuli) → Plays plan' given (first_world plan') seats mail board → IsDefaultCutShort plan' given seats' mail' board') → (reports : Vec Report Global) → reports.items ≡ map report_of seats' → IsDefaultBrokenOff plan stimuli (NoMemory reports)
+  default-broken_off limits cut reports are =
       let here = subst (λ (p : Plan). (given : List CoreStimuli) → Plays p given (first_world p) seats mail board → IsDefaultCutShort p given seats' mail' board') same cut stimuli begun in
       let turns = take here.cut.before (default_turns plan here.rounds) in
-      (here.rounds, here.goes_on, (here.cut.before, here.cut.within, subst (AreReports plan stimuli turns) (sym are) (reports-played plan stimuli turns seats' mail' board' here.cut.plays)))
+      (here.rounds, here.goes_on, (here.cut.before, here.cut.within, subst (AreReports plan stimuli turns) (sym are) (reports-played plan limits stimuli turns seats' mail' board' here.cut.plays)))

@@ -1,4 +1,5 @@
 pub mod Sizes
+pub mod Kept
 pub mod Quiet
 pub mod Listed
 pub mod Streams
@@ -8,9 +9,17 @@ pub mod Turning
 pub mod Turned
 pub mod Played
 pub mod Started
+pub mod Fitting
+pub mod Fitted
+pub mod Reached
+pub mod Among
+pub mod Idling
+pub mod Stepping
+pub mod Ahead
+pub mod Agreeing
+pub mod Apart
+pub mod Alone
 pub mod Reported
 pub mod Rounds
 pub mod Short
 pub mod Default
-pub mod Fitting
-pub mod Fitted

@@ -33,7 +33,7 @@ board_from-push : (board : Board) (es : List BoardEntry) (e : BoardEntry) → bo
 board_from-push board [] e = refl
 board_from-push board (d ∷ es) e = board_from-push (board_after d.core d.call board) es e
 
-told-on : (first : Board) (es : List BoardEntry) (core : CoreId) (o : Option BoardCall) → option_map_or (λ call. board_after core call (board_from first es)) o (board_from first es) ≡ board_from first (with_call core (board_from first es) o es)
+pub told-on : (first : Board) (es : List BoardEntry) (core : CoreId) (o : Option BoardCall) → option_map_or (λ call. board_after core call (board_from first es)) o (board_from first es) ≡ board_from first (with_call core (board_from first es) o es)
 told-on first es core None = refl
 told-on first es core (Some call) = sym (board_from-push first es (record { core = core; call = call; reply = reply_of call (board_from first es) }))
 

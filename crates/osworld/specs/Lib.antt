@@ -4,3 +4,4 @@ pub mod World
 pub mod Naming
 pub mod Playing
 pub mod Fits
+pub mod Alone

@@ -17,6 +17,7 @@ use Rattle.osstate.specs.Does.{Tracks}
 use Rattle.osworld.specs.declared.boards.Board.{Board}
 use Rattle.osworld.specs.declared.seats.Seat.{Seat}
 use Rattle.osworld.specs.declared.worlds.World.{World as Run}
+use Rattle.osworld.specs.Alone.{ArePrintedAlone}
 use Rattle.osworld.specs.Fits.{Fits}
 use Rattle.osworld.specs.declared.runs.RunFault.{RunFault}
 use Rattle.osworld.specs.declared.runs.RunFault.TheVariants.{NotBegun, NoMemory}
@@ -109,10 +110,12 @@ pub record IsDefaultCutShort (plan : Plan) (stimuli : List CoreStimuli) (seats :
   pub goes_on : HasAtLeast plan stimuli rounds
   pub cut : IsCutShort plan stimuli (first_world plan) (default_turns plan rounds) seats mail board
 
--- The reports are those of the world after these turns, which fits.
+-- The reports are those of the world after these turns, which fits; each separate core prints what its
+-- configuration alone prints.
 pub record AreReports (plan : Plan) (stimuli : List CoreStimuli) (turns : List (CoreId × Choice)) (reports : List Report) : Type 0 where
   pub are : reports ≡ reports_of plan (world plan stimuli turns)
   pub fit : Fits plan stimuli (world plan stimuli turns)
+  pub separate : ArePrintedAlone plan stimuli (world plan stimuli turns)
 
 -- A run did not begin, or broke off before one of its turns, and these are the reports of the turns before it.
 abbrev pub IsBrokenOff : Plan → List CoreStimuli → List (CoreId × Choice) → RunFault → Type 0

@@ -1,6 +1,7 @@
 //! Runs: listed turns, and the default schedule.
 
-ghost use Rattle.std.specs.Prelude.{◌≡◌, ◌++◌, ◌≤◌, ◌||◌, [], IfOk, IfErr, OnErr, OnOk, true, vec_len, vec_capacity};
+ghost use Rattle.std.specs.Prelude.{IsTrue, ◌≡◌, ◌++◌, ◌≤◌, ◌||◌, [], IfOk, IfErr, OnErr, OnOk, true, vec_len, vec_capacity};
+ghost use Rattle.osplan.specs.Limits.{is_within_limits};
 ghost use Rattle.osworld.specs.World.{first_world, ids_of, round_of, rounds as rounds_of, turns_in_round};
 ghost use Rattle.osworld.specs.Playing.{AreReports, HasNoSchedule, IsBegun, IsBrokenOff, IsDefaultBrokenOff, IsDefaultRun, IsDefaultSchedule, IsRound, Plays, PlaysDefault, StopsDefaultShort};
 
@@ -22,8 +23,8 @@ pub enum RunFault {
 }
 
 /// Plays these turns: the reports are those of the world after them, one for each configured core in
-/// ascending order, and its cores' items fit one another. Want of memory comes before the turn whose growth
-/// was refused.
+/// ascending order; its cores' items fit one another, and each separate core prints what its configuration
+/// alone prints. Want of memory comes before the turn whose growth was refused.
 pub fn run_world(
     alloc: Global,
     config: &Config,
@@ -128,6 +129,7 @@ fn begin<'a>(alloc: Global, config: &'a Config, stimuli: &'a Stimuli) -> Result<
     ensures reports { IfOk result (λ world. world.reports.items ≡ []) }
     ensures room { IfOk result (λ world. vec_len world.seats ≤ vec_capacity world.reports) }
     ensures nothing { IfErr result (λ fault. fault ≡ RunFault.NotBegun) }
+    ensures limits { IsTrue (is_within_limits config.now) }
 {
     match World::new(alloc, config, stimuli.as_slice()) {
         Ok(world) => Ok(world),

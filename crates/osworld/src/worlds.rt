@@ -1,8 +1,9 @@
 //! The world of a listed run: its cores, mailboxes and board, turn by turn.
 
-ghost use Rattle.std.specs.Prelude.{◌≡◌, ◌+◌, ◌<◌, ◌≤◌, ◌∷◌, [], IfSome, IfOk, OnErr, vec_len, vec_capacity, map, not, ◌||◌, position};
+ghost use Rattle.std.specs.Prelude.{IsTrue, ◌≡◌, ◌+◌, ◌<◌, ◌≤◌, ◌∷◌, [], IfSome, IfOk, OnErr, vec_len, vec_capacity, map, not, ◌||◌, position};
 ghost use Rattle.std.specs.List.{list_all};
 ghost use Rattle.osbase.specs.History.{same_core};
+ghost use Rattle.osplan.specs.Limits.{is_within_limits};
 ghost use Rattle.osworld.specs.declared.seats.Seat.{Seat as SeatValue};
 ghost use Rattle.osstate.specs.Readings.{has_core};
 ghost use Rattle.osworld.specs.World.{first_world, is_ended_phase};
@@ -36,6 +37,7 @@ impl<'a> World<'a> {
         ensures plays { IfOk result (λ world. Plays config.now stimuli.now (first_world config.now) world.seats.items world.mail world.board) }
         ensures reports { IfOk result (λ world. world.reports.items ≡ []) }
         ensures room { IfOk result (λ world. vec_len world.seats ≤ vec_capacity world.reports) }
+        ensures limits { IsTrue (is_within_limits config.now) }
     {
         let plan = config.plan();
         let mut seats = Vec::with_capacity(alloc, CORES)?;

@@ -1,4 +1,4 @@
-use Rattle.std.proofs.Common.{sym, codes, ◌∙◌}
+use Rattle.std.proofs.Common.{refl, sym, codes, ◌∙◌}
 use Rattle.clap.specs.Words.{found_of}
 use Rattle.clap.proofs.WalkLemmas.{first_value-rows}
 use Rattle.mcos.proofs.jobs.run_job.Goals as goal
@@ -6,8 +6,7 @@ use Rattle.mcos.proofs.jobs.run_job.Goals as goal
 pub returns-clause-job : goal.returns-clause-job
 returns-clause-job c =
     let found = found_of c.args.run.now in
-    record {
-      config = sym (first_value-rows found (codes "CFG")) ∙ sym c.in-Some-Some.ensures;
-      stimuli = sym (first_value-rows found (codes "STIM")) ∙ sym c.in-Some-Some.ensures';
-      schedule = sym (first_value-rows found (codes "schedule")) ∙ sym c.get_str-3.ensures;
-    }
+    let config = sym (first_value-rows found (codes "CFG")) ∙ sym c.in-Some-Some.ensures in
+    let stimuli = sym (first_value-rows found (codes "STIM")) ∙ sym c.in-Some-Some.ensures' in
+    let schedule = sym (first_value-rows found (codes "schedule")) ∙ sym c.get_str-3.ensures in
+    ((config, stimuli, schedule), refl)

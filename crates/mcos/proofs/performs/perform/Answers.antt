@@ -1,10 +1,9 @@
-use Rattle.std.proofs.Common.{Ok, true, false, refl}
+use Rattle.std.proofs.Common.{◌≡◌, Some}
 use Rattle.mcos.proofs.performs.perform.Goals as goal
 
-pub returns-in-Ok-true : goal.returns-in-Ok-true
-returns-in-Ok-true g c =
-    record { result = Ok true; runs = rw c.in-Ok-true.field-0-test at c.in-Ok-true.ensures; status_is = refl; tells = refl }
+-- files that are known are the files that were given
+same : {A : Type 0} (x y : A) → Some x ≡ Some y → x ≡ y
+same x y e = cc
 
-pub returns-in-Ok-false : goal.returns-in-Ok-false
-returns-in-Ok-false g c =
-    record { result = Ok false; runs = rw c.in-Ok-false.field-0-test at c.in-Ok-false.ensures; status_is = refl; tells = refl }
+pub returns : goal.returns
+returns g c = rw (same _ _ c.perform_from.ensures.known) at c.perform_from.ensures.performs

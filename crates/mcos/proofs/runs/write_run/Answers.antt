@@ -1,7 +1,7 @@
 use Rattle.std.proofs.Common.{arith}
 use Rattle.ostrace.proofs.Writing.{Writes-begun, Writes-then}
 use Rattle.mcos.specs.Runs.{last_line}
-use Rattle.mcos.proofs.performs.write_run.Goals as goal
+use Rattle.mcos.proofs.runs.write_run.Goals as goal
 
 pub returns-in_err-write_reports : goal.returns-in_err-write_reports
 returns-in_err-write_reports g c =

@@ -1,0 +1,37 @@
+-- What was read of a job's files, and what stays of it.
+use Rattle.std.proofs.Common.{◌≡◌, ◌≢◌, ◌∙◌, ap, arith, ℕ, List, Option, Result, Ok}
+use Rattle.osbase.specs.declared.turns.CoreStimuli.{CoreStimuli}
+use Rattle.osplan.specs.declared.plans.Plan.{Plan}
+use Rattle.osplan.specs.declared.faults.ConfFault.{ConfFault}
+use Rattle.osplan.specs.declared.faults.ConfFault.TheVariants.{NoMemory}
+use Rattle.osconf.specs.Given.{stimuli_meant}
+use Rattle.osconf.specs.Meaning.{IsLeast, config_of}
+use Rattle.mcos.specs.declared.faults.Fault.{Fault}
+use Rattle.mcos.specs.declared.faults.Fault.TheVariants.{Text}
+use Rattle.mcos.specs.Runs.{IsGiven}
+use Rattle.mcos.specs.Texts.{File, IsFaultOf, KeepsBelow, Means, bytes_at, text_at}
+
+-- a reader's fault is the fault of the file
+pub IsFaultOf-read : (faults : List ℕ → List ConfFault) (file : Result (List ℕ) Fault) (text : List ℕ) (read : ConfFault) (fault : Fault)
+    → Ok text ≡ file → fault ≡ Text read → (read ≢ NoMemory → IsLeast read (faults text)) → fault ≢ Text NoMemory → IsFaultOf faults file fault
+IsFaultOf-read faults file text read fault is named least apart = rw (← is, named) (least (λ same. apart (named ∙ ap Text same)))
+
+-- a file that stays as it was has the meaning that it had
+Means-kept : {A : Type 0} (meaning : List ℕ → Option A) (old new : List File) (at : ℕ) (x : A) → bytes_at new at ≡ bytes_at old at
+    → Means meaning (text_at old at) x → Means meaning (text_at new at) x
+Means-kept meaning old new at x kept means = rw kept means
+
+-- the stimuli are read after the configuration
+pub config-kept : (old new : List File) (plan : Plan) → KeepsBelow 1 old new → Means config_of (text_at old 0) plan → Means config_of (text_at new 0) plan
+config-kept old new plan keeps config = Means-kept config_of old new 0 plan (keeps 0 (omega arith)) config
+
+pub IsGiven-read : (old new : List File) (plan : Plan) (stimuli : List CoreStimuli) → KeepsBelow 1 old new
+    → Means config_of (text_at old 0) plan → Means (stimuli_meant plan) (text_at new 1) stimuli → IsGiven new plan stimuli
+IsGiven-read old new plan stimuli keeps config listed = record { config = config-kept old new plan keeps config; listed = listed }
+
+-- and the schedule after both
+pub IsGiven-kept : (old new : List File) (plan : Plan) (stimuli : List CoreStimuli) → KeepsBelow 2 old new → IsGiven old plan stimuli → IsGiven new plan stimuli
+IsGiven-kept old new plan stimuli keeps given = record {
+  config = Means-kept config_of old new 0 plan (keeps 0 (omega arith)) given.config;
+  listed = Means-kept (stimuli_meant plan) old new 1 stimuli (keeps 1 (omega arith)) given.listed;
+}

@@ -1,0 +1,10 @@
+use Rattle.mcos.proofs.performs.print.Goals as goal
+
+pub returns-in-Run-clause-comes : goal.returns-in-Run-clause-comes
+returns-in-Run-clause-comes g c = rw c.in-Run.is c.run.ensures.comes
+
+pub returns-in-Check-clause-comes : goal.returns-in-Check-clause-comes
+returns-in-Check-clause-comes g c = rw c.in-Check.is c.check.ensures.comes
+
+pub returns-in-Cut-clause-comes : goal.returns-in-Cut-clause-comes
+returns-in-Cut-clause-comes g c = rw c.in-Cut.is c.cut_out.ensures.comes

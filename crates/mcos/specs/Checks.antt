@@ -1,0 +1,36 @@
+-- What `check` and `cut` print. [own]
+use Rattle.std.specs.Prelude.{ℕ, ◌++◌, if◌then◌else◌, is_some, List, [], codes}
+use Rattle.std.specs.Fmt.{decimal}
+use Rattle.std.specs.List.{flat_map}
+use Rattle.osbase.specs.declared.references.CoreId.{CoreId}
+use Rattle.osplan.specs.declared.plans.Plan.{Plan}
+use Rattle.osplan.specs.declared.separate.Standing.{Standing}
+use Rattle.osplan.specs.declared.separate.Standing.TheVariants.{Separate, Bound, Off}
+use Rattle.osplan.specs.Separate.{cut_of, standing_of}
+use Rattle.osplan.specs.View.{core_of}
+use Rattle.osconf.specs.Writing.{config_text}
+use Rattle.osworld.specs.World.{ids_of}
+
+abbrev pub standing_word : Standing → List ℕ
+standing_word Separate = codes "separate"
+standing_word Bound = codes "bound"
+standing_word Off = codes "off"
+
+-- The line of a configured core. [own]
+abbrev pub core_text : CoreId → Standing → List ℕ
+core_text id standing = codes "core " ++ (decimal id.number ++ (codes " " ++ (standing_word standing ++ codes "\n")))
+
+abbrev pub standing_line : Plan → CoreId → List ℕ
+standing_line plan id = core_text id (standing_of plan id)
+
+-- No line for a number that no core has.
+abbrev pub line_at : Plan → CoreId → List ℕ
+line_at plan id = if is_some (core_of plan id) then standing_line plan id else []
+
+-- `ok`, and a line for each configured core by ascending number. [own]
+abbrev pub check_text : Plan → List ℕ
+check_text plan = codes "ok\n" ++ flat_map (standing_line plan) (ids_of plan)
+
+-- The text of the core's own configuration, with a line end. [own]
+abbrev pub cut_text : Plan → CoreId → List ℕ
+cut_text plan id = config_text (cut_of plan id) ++ codes "\n"

@@ -1,0 +1,150 @@
+-- What a job comes to: what it prints, its status, and the fault that it tells. [own]
+use Rattle.std.specs.Prelude.{◌≡◌, ◌≢◌, ℕ, Bool, true, false, Option, Result, Ok, Err, List, IsSome, IfOk, IfErr}
+use Rattle.osbase.specs.declared.references.CoreId.{CoreId}
+use Rattle.osbase.specs.declared.turns.CoreStimuli.{CoreStimuli}
+use Rattle.osbase.specs.declared.turns.Report.{Report}
+use Rattle.osplan.specs.declared.plans.Plan.{Plan}
+use Rattle.osplan.specs.declared.faults.ConfFault.TheVariants.{NoMemory, NotSeparate}
+use Rattle.osplan.specs.Separate.{cut_of, is_separate}
+use Rattle.osconf.specs.Meaning.{config_of, faults_of}
+use Rattle.osconf.specs.Given.{schedule_faults, stimuli_faults}
+use Rattle.ostrace.specs.declared.sinks.WriteFailed.{WriteFailed as SinkFailed}
+use Rattle.ostrace.specs.Taken.{Writes}
+use Rattle.osworld.specs.Ends.{have_all_ended}
+use Rattle.mcos.specs.declared.faults.Fault.{Fault}
+use Rattle.mcos.specs.declared.faults.Fault.TheVariants.{Text, NoMemoryToRun, WriteFailed}
+use Rattle.mcos.specs.declared.jobs.Job.{Job}
+use Rattle.mcos.specs.declared.jobs.Job.TheVariants.{Run, Check, Cut}
+use Rattle.mcos.specs.declared.outcomes.Outcome.{Outcome}
+use Rattle.mcos.specs.declared.outcomes.Outcome.TheVariants.{Done, Stalled}
+use Rattle.osconf.specs.Writing.{config_text}
+use Rattle.mcos.specs.Checks.{check_text, cut_text}
+use Rattle.mcos.specs.Faults.{fault_text}
+use Rattle.mcos.specs.Jobs.{path_in}
+use Rattle.mcos.specs.Runs.{HasSchedule, IsGiven, IsPlayed, run_text}
+use Rattle.mcos.specs.Texts.{File, IsFaultOf, Means, text_at}
+
+-- ---- how a job ends
+
+-- A run has stalled where a started core did not end. [own]
+abbrev pub outcome_of : Bool → Outcome
+outcome_of true = Done
+outcome_of false = Stalled
+
+-- The exit status: 0 done, 3 stalled, 1 a fault. [own]
+abbrev pub outcome_status : Outcome → ℕ
+outcome_status Done = 0
+outcome_status Stalled = 3
+
+abbrev pub status_of : Result Outcome Fault → ℕ
+status_of (Ok outcome) = outcome_status outcome
+status_of (Err fault) = 1
+
+-- ---- run
+
+-- What a run prints of the reports that its files come to, and how it ends. [own]
+pub record IsRunOutput (schedule : Option (List ℕ)) (files : List File) (text : List ℕ) (outcome : Outcome) : Type 0 where
+  pub plan : Plan
+  pub reports : List Report
+  pub played : IsPlayed schedule files plan reports
+  pub text_is : text ≡ run_text plan reports
+  pub outcome_is : outcome ≡ outcome_of (have_all_ended plan reports)
+
+-- The fault of the first file that has one, in the order configuration, stimuli, schedule; or want of memory in a run of files
+-- that have meanings. [own]
+pub data IsRunFault (schedule : Option (List ℕ)) (files : List File) (fault : Fault) : Type 0 where
+  in_config : IsFaultOf faults_of (text_at files 0) fault → IsRunFault schedule files fault
+  in_stimuli : (plan : Plan) → Means config_of (text_at files 0) plan →
+      IsFaultOf (stimuli_faults plan) (text_at files 1) fault → IsRunFault schedule files fault
+  in_schedule : (plan : Plan) (stimuli : List CoreStimuli) → IsSome schedule → IsGiven files plan stimuli →
+      IsFaultOf (schedule_faults plan) (text_at files 2) fault → IsRunFault schedule files fault
+  broken_off : (plan : Plan) (stimuli : List CoreStimuli) → IsGiven files plan stimuli → HasSchedule schedule files plan →
+      fault ≡ NoMemoryToRun → IsRunFault schedule files fault
+
+-- Why a run prints nothing. Want of memory while reading may be the fault of any files.
+abbrev pub HasNoReports : Option (List ℕ) → List File → Fault → Type 0
+HasNoReports schedule files fault = fault ≢ Text NoMemory → IsRunFault schedule files fault
+
+-- ---- check
+
+-- How the cores of the file's configuration stand to one another. [own]
+pub record IsCheckOutput (files : List File) (text : List ℕ) (outcome : Outcome) : Type 0 where
+  pub plan : Plan
+  pub config : Means config_of (text_at files 0) plan
+  pub text_is : text ≡ check_text plan
+  pub outcome_is : outcome ≡ Done
+
+abbrev pub HasNoConfig : List File → Fault → Type 0
+HasNoConfig files fault = fault ≢ Text NoMemory → IsFaultOf faults_of (text_at files 0) fault
+
+-- ---- cut
+
+-- The own configuration of a separate core. [own]
+pub record IsCutOutput (core : CoreId) (files : List File) (text : List ℕ) (outcome : Outcome) : Type 0 where
+  pub plan : Plan
+  pub config : Means config_of (text_at files 0) plan
+  pub separate : is_separate plan core ≡ true
+  pub text_is : text ≡ cut_text plan core
+  pub outcome_is : outcome ≡ Done
+
+-- The fault of the configuration, or that the core is not separate. [own]
+pub data IsCutFault (core : CoreId) (files : List File) (fault : Fault) : Type 0 where
+  in_config : IsFaultOf faults_of (text_at files 0) fault → IsCutFault core files fault
+  in_core : (plan : Plan) → Means config_of (text_at files 0) plan → is_separate plan core ≡ false → fault ≡ Text NotSeparate →
+      IsCutFault core files fault
+
+abbrev pub HasNoCut : CoreId → List File → Fault → Type 0
+HasNoCut core files fault = fault ≢ Text NoMemory → IsCutFault core files fault
+
+-- The same of one configuration.
+abbrev pub IsCutOf : Plan → CoreId → List ℕ → Type 0
+IsCutOf plan core text = (is_separate plan core ≡ true) × (text ≡ config_text (cut_of plan core))
+
+abbrev pub IsNotCut : Plan → CoreId → Fault → Type 0
+IsNotCut plan core fault = fault ≢ Text NoMemory → (is_separate plan core ≡ false) × (fault ≡ Text NotSeparate)
+
+-- ---- any job
+
+abbrev pub IsOutput : Job → List File → List ℕ → Outcome → Type 0
+IsOutput (Run config stimuli schedule) files text outcome = IsRunOutput (path_in schedule) files text outcome
+IsOutput (Check config) files text outcome = IsCheckOutput files text outcome
+IsOutput (Cut config core) files text outcome = IsCutOutput core files text outcome
+
+abbrev pub HasNoOutput : Job → List File → Fault → Type 0
+HasNoOutput (Run config stimuli schedule) files fault = HasNoReports (path_in schedule) files fault
+HasNoOutput (Check config) files fault = HasNoConfig files fault
+HasNoOutput (Cut config core) files fault = HasNoCut core files fault
+
+-- ---- printing
+
+-- A result without its value.
+abbrev pub done : {A E : Type 0} → Result A E → Result Unit E
+done (Ok x) = Ok tt
+done (Err e) = Err e
+
+-- A text is printed: all of it, or a beginning of it up to the first write that fails. [own]
+pub record Prints {S : Type 0} (taken : S → Option (List ℕ)) (failed : S → ℕ) (old new : S) (text : List ℕ) (outcome : Outcome)
+    (result : Result Outcome Fault) : Type 0 where
+  pub ok : IfOk result (λ answered. answered ≡ outcome)
+  pub fault : IfErr result (λ fault. fault ≡ WriteFailed)
+  pub writes : Writes taken failed old new text (done result)
+
+-- There is an output, which is printed; or there is none, for a fault, and nothing is printed. [own]
+pub data Comes {S : Type 0} (taken : S → Option (List ℕ)) (failed : S → ℕ) (old new : S) (Output : List ℕ → Outcome → Type 0)
+    (None : Fault → Type 0) (result : Result Outcome Fault) : Type 0 where
+  prints : (text : List ℕ) (outcome : Outcome) → Output text outcome → Prints taken failed old new text outcome result →
+      Comes taken failed old new Output None result
+  fails : (fault : Fault) → result ≡ Err fault → None fault → new ≡ old → Comes taken failed old new Output None result
+
+-- A fault is told by its line, as far as it can be written, and nothing else is told. [own]
+abbrev pub Tells : {S : Type 0} → (S → Option (List ℕ)) → (S → ℕ) → S → S → Result Outcome Fault → Type 0
+Tells taken failed old new (Ok outcome) = new ≡ old
+Tells taken failed old new (Err fault) = (written : Result Unit SinkFailed) × Writes taken failed old new (fault_text fault) written
+
+-- What a job comes to: what it prints, its status, and what is told of a fault. [own]
+pub record Performs {O E : Type 0} (out_taken : O → Option (List ℕ)) (out_failed : O → ℕ) (old_out new_out : O)
+    (err_taken : E → Option (List ℕ)) (err_failed : E → ℕ) (old_err new_err : E) (job : Job) (files : List File) (status : ℕ) : Type 0 where
+  pub result : Result Outcome Fault
+  pub comes : Comes out_taken out_failed old_out new_out (IsOutput job files) (HasNoOutput job files) result
+  pub status_is : status ≡ status_of result
+  pub tells : Tells err_taken err_failed old_err new_err result

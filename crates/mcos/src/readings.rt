@@ -1,0 +1,73 @@
+//! Reading a job's files: the configuration, the stimuli, the schedule.
+
+ghost use Rattle.std.specs.Prelude.{◌≡◌, ◌≢◌, IfOk, IfErr};
+ghost use Rattle.std.specs.Result.{result_map_both};
+ghost use Rattle.osplan.specs.declared.faults.ConfFault.TheVariants.{NoMemory};
+ghost use Rattle.osconf.specs.Given.{schedule_faults, schedule_meant, stimuli_faults, stimuli_meant};
+ghost use Rattle.osconf.specs.Meaning.{config_of, faults_of};
+ghost use Rattle.mcos.specs.Texts.{IsFaultOf, KeepsBelow, Means, text_at};
+
+use crate::faults::Fault;
+use crate::sources::Source;
+use osconf::{ConfFault, Config, Schedule, Stimuli, read_config, read_schedule, read_stimuli};
+use std::alloc::Global;
+use std::str;
+
+/// The configuration, the first file.
+pub fn config_in<S: Source>(alloc: Global, source: &mut S) -> Result<Config, Fault>
+    ensures ok { IfOk result (λ config. Means config_of (text_at (S.files source.new) 0) config) }
+    ensures fault { IfErr result (λ fault. fault ≢ Fault.Text NoMemory
+        → IsFaultOf faults_of (text_at (S.files source.new) 0) fault) }
+    ensures known { S.known source.new ≡ S.known source.old }
+{
+    source.read(0)?;
+    let text = text_at(source, 0)?;
+    Ok(read_config(alloc, text)?)
+}
+
+/// The stimuli, the second file.
+pub fn stimuli_in<S: Source>(
+    alloc: Global,
+    config: &Config,
+    source: &mut S,
+) -> Result<Stimuli, Fault>
+    ensures ok { IfOk result (λ stimuli. Means (stimuli_meant config.now) (text_at (S.files source.new) 1) stimuli) }
+    ensures fault { IfErr result (λ fault. fault ≢ Fault.Text NoMemory
+        → IsFaultOf (stimuli_faults config.now) (text_at (S.files source.new) 1) fault) }
+    ensures keeps { KeepsBelow 1 (S.files source.old) (S.files source.new) }
+    ensures known { S.known source.new ≡ S.known source.old }
+{
+    source.read(1)?;
+    let text = text_at(source, 1)?;
+    Ok(read_stimuli(alloc, config, text)?)
+}
+
+/// The schedule, the third file.
+pub fn schedule_in<S: Source>(
+    alloc: Global,
+    config: &Config,
+    source: &mut S,
+) -> Result<Schedule, Fault>
+    ensures ok { IfOk result (λ schedule. Means (schedule_meant config.now) (text_at (S.files source.new) 2) schedule) }
+    ensures fault { IfErr result (λ fault. fault ≢ Fault.Text NoMemory
+        → IsFaultOf (schedule_faults config.now) (text_at (S.files source.new) 2) fault) }
+    ensures keeps { KeepsBelow 2 (S.files source.old) (S.files source.new) }
+    ensures known { S.known source.new ≡ S.known source.old }
+{
+    source.read(2)?;
+    let text = text_at(source, 2)?;
+    Ok(read_schedule(alloc, config, text)?)
+}
+
+// The text of a file: unreadable is a fault of its own, and bytes that are no text are not JSON.
+fn text_at<'a, S: Source>(source: &'a S, at: usize) -> Result<&'a str, Fault>
+    ensures { result_map_both (λ text. text.now) (λ fault. fault) result ≡ text_at (S.files source.now) at }
+{
+    match source.bytes(at) {
+        Some(bytes) => match str::from_utf8(bytes) {
+            Ok(text) => Ok(text),
+            Err(_) => Err(Fault::Text(ConfFault::NotJson)),
+        },
+        None => Err(Fault::Unreadable),
+    }
+}

@@ -1,0 +1,54 @@
+//! Where a job's files come from.
+
+ghost use Rattle.std.specs.Prelude.{◌≡◌, List, Option, Some, option_map};
+ghost use Rattle.mcos.specs.Texts.{File, KeepsBelow, bytes_at};
+
+use std::alloc::AllocError;
+
+/// The files of a job in the order in which they are judged, each read when it is asked for.
+pub trait Source {
+    // The files as far as they are read.
+    ghost files: { Self → List File };
+
+    // All files, or `None` where the type does not know them before they are read.
+    ghost known: { Self → Option (List File) };
+
+    /// Reads the file in this place, where those before it are read. They stay as they are.
+    fn read(&mut self, at: usize) -> Result<(), AllocError>
+        ensures keeps { KeepsBelow at (files self.old) (files self.new) }
+        ensures known { known self.new ≡ known self.old };
+
+    /// The bytes of the file in this place; `None` where it could not be read, or is not read yet.
+    fn bytes(&self, at: usize) -> Option<&[u8]>
+        ensures { option_map (λ bytes. bytes.now) result ≡ bytes_at (files self.now) at };
+}
+
+/// Files that are read already.
+#[derive(Clone, Copy)]
+pub struct Given<'a> {
+    pub files: &'a [Option<Vec<u8>>],
+}
+
+impl<'a> Source for Given<'a> {
+    ghost files = { λ given. given.files.now };
+
+    ghost known = { λ given. Some given.files.now };
+
+    fn read(&mut self, _at: usize) -> Result<(), AllocError> {
+        Ok(())
+    }
+
+    fn bytes(&self, at: usize) -> Option<&[u8]> {
+        bytes_at(self.files, at)
+    }
+}
+
+/// The bytes of the file in a place, where it is there and could be read.
+pub fn bytes_at<'a>(files: &'a [Option<Vec<u8>>], at: usize) -> Option<&'a [u8]>
+    ensures { option_map (λ bytes. bytes.now) result ≡ bytes_at files.now at }
+{
+    match files.get(at) {
+        Some(Some(bytes)) => Some(bytes.as_slice()),
+        _ => None,
+    }
+}
