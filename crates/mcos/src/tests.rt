@@ -45,6 +45,21 @@ const ALONE_TRACE: &str = "core 2\nhook Startup\nact V\npre V\npost V\nend V\nen
 const BORDER_SCHEDULE: &str =
     r#""0o 1l 1o 0o 0l 1l 0o 1o 0l 1l 0o 0o 1s0 1o 0s1 1l 0o 1o 0o 1o 1o 0l 1l 0l 1l""#;
 
+/// The same, with a turn that changes nothing before each that does.
+const UNHURRIED_SCHEDULE: &str =
+    r#""1o 0o 0s1 1l 1s0 1o 1l 0o 0o 0l 1o 1l 0l 0o 0l 1o 1o 0l 0l 1l 1s0 0o 1s0 0o 0o 1s0 0s1 1o 1s0 0s1 0s1 0o 1s0 1o 0s1 0o 0l 1o 0l 1o 1o 0l 0o 1l 1o 0l 0l 1l""#;
+
+/// Two cores that ask each other, with room for one envelope in each mailbox.
+const MUTUAL: &str =
+    r#"{"cap":1,"cores":[{"id":0,"start":[1],"tasks":[{"name":"A","prio":1,"auto":["M"],"activations":2,"script":"ActivateTask B;TerminateTask"}]},{"id":1,"tasks":[{"name":"B","prio":1,"auto":["M"],"activations":2,"script":"ActivateTask A;TerminateTask"}]}]}"#;
+
+const MUTUAL_TRACE: &str =
+    "core 0\nstart 1 E_OK\nhook Startup\nact A\npre A\nout 1 ActivateTask B\nact A\nin 1 ActivateTask A E_OK\nstat A ActivateTask E_OK\npost A\nend A\npre A\ncore 1\nhook Startup\nact B\npre B\nout 0 ActivateTask A\nact B\nin 0 ActivateTask B E_OK\nstat B ActivateTask E_OK\npost B\nend B\npre B\nended\n";
+
+/// The first core's reply finds a full mailbox twice.
+const FULL_SCHEDULE: &str =
+    r#""0o 1l 1o 0o 0l 1l 0o 1o 0l 1l 0o 1o 0o 1o 0s1 0o 0o 1s0 0o 1o 0s1 1s0 0o 1o 0o 1o 0l 1l 0l 1l""#;
+
 /// The texts of an example, and what they come to.
 struct Example {
     config: &'static str,
@@ -55,7 +70,7 @@ struct Example {
     status: u8,
 }
 
-const EXAMPLES: [Example; 14] = [
+const EXAMPLES: [Example; 17] = [
     Example {
         config: BORDER,
         stimuli: r#"{"0":"op op","1":"op op"}"#,
@@ -69,6 +84,30 @@ const EXAMPLES: [Example; 14] = [
         stimuli: r#"{"0":"op op","1":"op op"}"#,
         schedule: Some(BORDER_SCHEDULE),
         out: BORDER_TRACE,
+        err: "",
+        status: 0,
+    },
+    Example {
+        config: BORDER,
+        stimuli: r#"{"0":"op op","1":"op op"}"#,
+        schedule: Some(UNHURRIED_SCHEDULE),
+        out: BORDER_TRACE,
+        err: "",
+        status: 0,
+    },
+    Example {
+        config: MUTUAL,
+        stimuli: r#"{"0":"op op","1":"op op"}"#,
+        schedule: Some(FULL_SCHEDULE),
+        out: MUTUAL_TRACE,
+        err: "",
+        status: 0,
+    },
+    Example {
+        config: MUTUAL,
+        stimuli: r#"{"0":"op op","1":"op op"}"#,
+        schedule: None,
+        out: MUTUAL_TRACE,
         err: "",
         status: 0,
     },
