@@ -1,7 +1,8 @@
 //! How a service returns to its caller.
 
-ghost use Rattle.std.specs.Prelude.{◌≡◌, ◌+◌, ◌<◌, ◌≤◌, ◌^◌, length, vec_len, vec_capacity};
+ghost use Rattle.std.specs.Prelude.{◌≡◌, ◌+◌, ◌<◌, ◌≤◌, ◌^◌, IsTrue, length, vec_len, vec_capacity};
 ghost use Rattle.osstate.specs.Does.{Adds, Does, StaysInItem};
+ghost use Rattle.osstate.specs.Sound.{is_own_runner};
 ghost use Rattle.oscall.specs.Service.{asks, reports, returns};
 
 use osbase::{CoreId, Mark, Message, OpenCall, RemoteCall, Runner, ServiceId, Status};
@@ -27,7 +28,7 @@ pub fn report<const P: usize, const J: usize, const OUT: usize>(
     state.print(Mark::ErrorHook(status), marks);
 }
 
-/// A service returns to the runner's job: its status is printed, then ErrorHook is called, and the job
+/// A service returns to the job of one of the core's tasks: its status is printed, then ErrorHook is called, and the job
 /// stands at its next operation.
 pub fn finish<const P: usize, const J: usize, const OUT: usize>(
     state: &mut CoreState<'_, P, J, OUT>,
@@ -37,6 +38,7 @@ pub fn finish<const P: usize, const J: usize, const OUT: usize>(
     value: Option<i64>,
     marks: &mut Vec<Mark>,
 )
+    requires own { IsTrue (is_own_runner state.old.view runner) }
     requires count { state.old.entries + 2 < 2 ^ 63 }
     requires room { vec_len marks.old + 2 ≤ vec_capacity marks.old }
     ensures does { Does (λ v h. returns runner service status value h) state.old state.new marks.old.items marks.new.items }
@@ -66,6 +68,7 @@ pub fn ask<const P: usize, const J: usize, const OUT: usize>(
     call: RemoteCall,
     marks: &mut Vec<Mark>,
 )
+    requires own { IsTrue (is_own_runner state.old.view runner) }
     requires receiver { core.number < 16 }
     requires outbox { length state.old.outbox < OUT }
     requires count { state.old.entries + 2 < 2 ^ 63 }
@@ -94,6 +97,7 @@ pub fn close<const P: usize, const J: usize, const OUT: usize>(
     value: Option<i64>,
     marks: &mut Vec<Mark>,
 )
+    requires own { IsTrue (is_own_runner state.old.view call.runner) }
     requires count { state.old.entries + 2 < 2 ^ 63 }
     requires room { vec_len marks.old + 2 ≤ vec_capacity marks.old }
     ensures does { Does (λ v h. returns call.runner call.service status value h) state.old state.new marks.old.items marks.new.items }

@@ -1,9 +1,9 @@
 //! The operations of a running job.
 
-ghost use Rattle.std.specs.Prelude.{◌≡◌, ◌+◌, ◌<◌, ◌≤◌, ◌^◌, IsTrue, false, length, vec_len, vec_capacity};
-ghost use Rattle.osbase.specs.History.{Noted, Done};
+ghost use Rattle.std.specs.Prelude.{◌≡◌, ◌+◌, ◌<◌, ◌≤◌, ◌^◌, Some, IsTrue, false, length, vec_len, vec_capacity};
+ghost use Rattle.osbase.specs.History.{Noted, Done, job_count};
 ghost use Rattle.osstate.specs.Does.{Adds, Does, StaysInItem};
-ghost use Rattle.osstate.specs.Sound.{is_before_live, is_own_runner};
+ghost use Rattle.osstate.specs.Sound.{is_before_live, is_op_known, is_own_runner};
 ghost use Rattle.oscall.specs.Service.{ends, ends_unasked, operates};
 ghost use Rattle.oscall.specs.Started.{activates_started};
 
@@ -20,6 +20,7 @@ pub fn end<const P: usize, const J: usize, const OUT: usize>(
     marks: &mut Vec<Mark>,
 )
     requires own { IsTrue (is_own_runner state.old.view runner) }
+    requires job { 0 < job_count runner state.old.jobs }
     requires count { state.old.entries + 1 < 2 ^ 63 }
     requires room { vec_len marks.old + 2 ≤ vec_capacity marks.old }
     ensures does { Does (λ v h. ends runner h) state.old state.new marks.old.items marks.new.items }
@@ -45,6 +46,7 @@ pub fn end_unasked<const P: usize, const J: usize, const OUT: usize>(
     marks: &mut Vec<Mark>,
 )
     requires own { IsTrue (is_own_runner state.old.view runner) }
+    requires job { 0 < job_count runner state.old.jobs }
     requires count { state.old.entries + 2 < 2 ^ 63 }
     requires room { vec_len marks.old + 3 ≤ vec_capacity marks.old }
     ensures does { Does (λ v h. ends_unasked runner h) state.old state.new marks.old.items marks.new.items }
@@ -62,7 +64,7 @@ pub fn end_unasked<const P: usize, const J: usize, const OUT: usize>(
     }
 }
 
-/// ActivateTask by a running job (OSEK/VDX OS 2.2.3, section 13.2.3.1). The invalid identifier answers
+/// ActivateTask by a running job of one of the core's tasks (OSEK/VDX OS 2.2.3, section 13.2.3.1). The invalid identifier answers
 /// E_OS_ID, a task of a core that was never started E_OS_CORE, and an own task with as many jobs as it
 /// may have E_OS_LIMIT; none of these activates anything.
 pub fn activate<const P: usize, const J: usize, const OUT: usize>(
@@ -71,6 +73,8 @@ pub fn activate<const P: usize, const J: usize, const OUT: usize>(
     target: Option<TaskRef>,
     marks: &mut Vec<Mark>,
 )
+    requires own { IsTrue (is_own_runner state.old.view runner) }
+    requires known { IsTrue (is_op_known state.old.view (Op.ActivateTask target)) }
     requires live { is_before_live state.old.phase ≡ false }
     requires outbox { length state.old.outbox < OUT }
     requires count { state.old.entries + 3 < 2 ^ 63 }
@@ -99,6 +103,8 @@ fn activate_started<const P: usize, const J: usize, const OUT: usize>(
     task: TaskRef,
     marks: &mut Vec<Mark>,
 )
+    requires own { IsTrue (is_own_runner state.old.view runner) }
+    requires known { IsTrue (is_op_known state.old.view (Op.ActivateTask (Some task))) }
     requires live { is_before_live state.old.phase ≡ false }
     requires receiver { task.core.number < 16 }
     requires outbox { length state.old.outbox < OUT }
@@ -130,6 +136,7 @@ pub fn terminate<const P: usize, const J: usize, const OUT: usize>(
     marks: &mut Vec<Mark>,
 )
     requires own { IsTrue (is_own_runner state.old.view runner) }
+    requires job { 0 < job_count runner state.old.jobs }
     requires count { state.old.entries + 1 < 2 ^ 63 }
     requires room { vec_len marks.old + 2 ≤ vec_capacity marks.old }
     ensures does { Does (λ v h. operates v runner Op.TerminateTask h) state.old state.new marks.old.items marks.new.items }
@@ -152,6 +159,8 @@ pub fn operate<const P: usize, const J: usize, const OUT: usize>(
     marks: &mut Vec<Mark>,
 )
     requires own { IsTrue (is_own_runner state.old.view runner) }
+    requires job { 0 < job_count runner state.old.jobs }
+    requires known { IsTrue (is_op_known state.old.view op) }
     requires live { is_before_live state.old.phase ≡ false }
     requires outbox { length state.old.outbox < OUT }
     requires count { state.old.entries + 3 < 2 ^ 63 }

@@ -2,12 +2,12 @@
 
 ghost use Rattle.std.specs.Prelude.{◌≡◌, ◌+◌, ◌<◌, ◌≤◌, ◌^◌, IsTrue, false, length, vec_len, vec_capacity};
 ghost use Rattle.osstate.specs.Does.{Adds, Does, Reads, StaysInItem};
-ghost use Rattle.osstate.specs.Sound.{is_before_live};
+ghost use Rattle.osstate.specs.Sound.{is_before_live, is_own_runner};
 ghost use Rattle.oscall.specs.Service.{is_served, served_status, serves, serves_action, serves_request};
 ghost use Rattle.oscall.specs.Started.{serves_own};
 
 use crate::returning::report;
-use osbase::{CoreId, Mark, Message, RemoteCall, Status, TaskRef};
+use osbase::{CoreId, Mark, Message, RemoteCall, Runner, Status, TaskRef};
 use osstate::CoreState;
 
 // The remaining checks of a service and its effect, and its line with the status.
@@ -69,6 +69,7 @@ fn activate_for<const P: usize, const J: usize, const OUT: usize>(
     task: TaskRef,
     marks: &mut Vec<Mark>,
 ) -> Status
+    requires own { IsTrue (is_own_runner state.old.view (Runner.Task task)) }
     requires live { is_before_live state.old.phase ≡ false }
     requires count { state.old.entries < 2 ^ 63 }
     requires room { vec_len marks.old < vec_capacity marks.old }

@@ -6,6 +6,7 @@ use Rattle.osbase.specs.declared.references.CoreId.{CoreId}
 use Rattle.osbase.specs.declared.messages.Message.{Message}
 use Rattle.osbase.specs.declared.histories.OpenCall.{OpenCall}
 use Rattle.std.specs.Option.{option_map_or}
+use Rattle.osbase.specs.declared.histories.Phase.{Phase}
 use Rattle.osbase.specs.declared.histories.Sent.{Sent}
 use Rattle.osbase.specs.declared.items.Agreement.TheVariants as Agreement
 use Rattle.osbase.specs.declared.items.Stimulus.TheVariants as Stimulus
@@ -13,9 +14,9 @@ use Rattle.osbase.specs.declared.items.Item.{Item}
 use Rattle.osbase.specs.History.{History, Took, phase_after, outbox_after, is_scheduling, open_call}
 use Rattle.osplan.specs.View.{View}
 use Rattle.osstate.specs.State.{KernelState}
-use Rattle.osstate.specs.Sound.{is_before_live}
+use Rattle.osstate.specs.Sound.{is_before_live, is_past_first_gate, is_posted, is_taken}
 use Rattle.oscall.specs.Service.{is_served}
-use Rattle.oskernel.specs.Step.{effect, is_live, is_at_second_gate, is_empty, is_reply_to, is_stimulus}
+use Rattle.oskernel.specs.Step.{effect, is_live, is_at_second_gate, is_empty, is_front_for, is_reply_to, is_stimulus}
 use Rattle.oskernel.specs.Admission.{admits, is_awaited_in, is_settled_in}
 use Rattle.oskernel.specs.Taking.{follows, is_acting, is_answered, is_filling, is_known, is_second_gate}
 use Rattle.oskernel.proofs.Phases.{live_past, scheduling_past, second_before}
@@ -26,9 +27,28 @@ acting room s (Item.Stim stimulus) a b = live_past s.phase (and_parts (is_live s
 acting room s (Item.Received from number message) a b = scheduling_past s.phase (and_parts (is_scheduling s.phase) _ a).0
 acting room s item a b = absurd (false≢true b)
 
+pub among_taken : (room : ℕ) (s : KernelState) (item : Item) → admits room s item ≡ true → is_taken item ≡ true
+among_taken room s (Item.Granted spinlock) a = absurd (false≢true a)
+among_taken room s (Item.Tried spinlock taken) a = absurd (false≢true a)
+among_taken room s (Item.Freed spinlock) a = absurd (false≢true a)
+among_taken room s (Item.Halt core status) a = absurd (false≢true a)
+among_taken room s item a = refl
+
+pub past : (p : Phase) (item : Item) → is_second_gate item ≡ true → is_past_first_gate (phase_after (Took item) p) ≡ true
+past p (Item.Pass2 cores) b = refl
+past p item b = absurd (false≢true b)
+
 pub fresh : (room : ℕ) (s : KernelState) (item : Item) → admits room s item ≡ true → is_second_gate item ≡ true → is_before_live s.phase ≡ true
 fresh room s (Item.Pass2 cores) a b = second_before s.phase (and_parts (is_at_second_gate s.phase) _ a).0
 fresh room s item a b = absurd (false≢true b)
+
+some-long : (core : CoreId) (xs : List Sent) → is_front_for core xs ≡ true → 0 < length xs
+some-long core [] e = absurd (false≢true e)
+some-long core (x ∷ xs) e = omega arith
+
+pub front : (room : ℕ) (s : KernelState) (item : Item) → admits room s item ≡ true → is_posted item ≡ true → 0 < length s.outbox
+front room s (Item.Posted core) a b = some-long core s.outbox (and_parts _ (is_front_for core s.outbox) a).1
+front room s item a b = absurd (false≢true b)
 
 none-long : (xs : List Sent) → is_empty xs ≡ true → length xs ≡ 0
 none-long [] e = refl

@@ -1,10 +1,11 @@
 -- What taking an item does to the state, and its effect said of the history with the item.
-use Rattle.std.specs.Prelude.{◌≡◌, ℕ, ◌+◌, ◌≤◌, Bool, true, false, Option, is_some}
+use Rattle.std.specs.Prelude.{◌≡◌, ℕ, ◌+◌, ◌≤◌, Bool, true, false, Option, Some, None, is_some}
 use Rattle.osbase.specs.declared.items.Agreement.{Agreement}
 use Rattle.osbase.specs.declared.items.Item.{Item}
 use Rattle.osbase.specs.declared.marks.Mark.{Mark}
 use Rattle.osbase.specs.declared.items.Stimulus.{Stimulus}
 use Rattle.osbase.specs.declared.references.CoreId.{CoreId}
+use Rattle.osbase.specs.declared.references.ModeId.{ModeId}
 use Rattle.osbase.specs.declared.messages.Message.{Message}
 use Rattle.osbase.specs.declared.histories.OpenCall.{OpenCall}
 use Rattle.osbase.specs.History.{History, agreement_of, running}
@@ -29,6 +30,12 @@ abbrev pub gate_mark : Agreement → Mark
 gate_mark Agreement.Conflict = Mark.ModesConflict
 gate_mark (Agreement.Mode m) = Mark.StartupHook
 gate_mark Agreement.NoMode = Mark.StartupHook
+
+-- What the first gate came to where it gave this mode, or none.
+-- [AUTOSAR SWS OS 4.x, SWS_Os_00608 to SWS_Os_00610; that all may say DONOTCARE is this project's own]
+abbrev pub agreement_on : Option ModeId → Agreement
+agreement_on (Some m) = Agreement.Mode m
+agreement_on None = Agreement.NoMode
 
 -- A request asks for a place in the outbox.
 abbrev pub is_request : Message → Bool

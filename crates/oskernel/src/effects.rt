@@ -1,17 +1,17 @@
 //! What follows from an item.
 
-ghost use Rattle.std.specs.Prelude.{◌≡◌, ◌==◌, ◌+◌, ◌<◌, ◌≤◌, ◌^◌, ◌∷◌, ◌++◌, [], if◌then◌else◌, Some, IsSome, IsTrue, false, length, vec_len, vec_capacity};
+ghost use Rattle.std.specs.Prelude.{◌≡◌, ◌==◌, ◌+◌, ◌<◌, ◌≤◌, ◌^◌, ◌∷◌, ◌++◌, ◌||◌, [], if◌then◌else◌, Some, IsSome, IfSome, IsTrue, false, length, vec_len, vec_capacity};
 ghost use Rattle.std.specs.List.{list_any};
 ghost use Rattle.std.specs.Option.{option_map_or};
 ghost use Rattle.osbase.specs.History.{Took, agreement_of, job_count, outbox_after, phase_after, running};
 ghost use Rattle.oscript.specs.Frames.{action_at};
 ghost use Rattle.osstate.specs.Readings.{frame_at, script_of, task_refs};
 ghost use Rattle.osstate.specs.Does.{Adds, Does, Reads, StaysInItem};
-ghost use Rattle.osstate.specs.Sound.{activation_limit, is_before_live, is_own_runner, is_plain, is_sender_known};
+ghost use Rattle.osstate.specs.Sound.{activation_limit, is_agreed, is_before_live, is_first_gate, is_own_runner, is_past_first_gate, is_plain, is_posted, is_sender_known, is_taken};
 ghost use Rattle.oscall.specs.Service.{activates};
 ghost use Rattle.oskernel.specs.Step.{autostarts, closes, dispatches, effect, enters, goes_on, goes_to, is_stimulus, names_mode, performs, same_job};
 ghost use Rattle.oskernel.specs.Admission.{admits};
-ghost use Rattle.oskernel.specs.Taking.{TakesItem, answers_to, follows, gate_mark, is_acting, is_answered, is_filling, is_known, is_request, is_second_gate, stimulates};
+ghost use Rattle.oskernel.specs.Taking.{TakesItem, agreement_on, answers_to, follows, gate_mark, is_acting, is_answered, is_filling, is_known, is_request, is_second_gate, stimulates};
 
 use crate::admission::is_phase_scheduling;
 use osbase::{
@@ -51,10 +51,14 @@ fn show_admitted<const P: usize, const J: usize, const OUT: usize>(
 )
     requires admitted { IsTrue (admits OUT state.now item.now) }
     requires outbox { 1 ≤ OUT }
+    ensures taken { IsTrue (is_taken item.now) }
     ensures sender { IsTrue (is_sender_known item.now) }
     ensures forward { IsTrue (is_before_live (phase_after (Took item.now) state.now.phase)) → IsTrue (is_before_live state.now.phase) }
+    ensures onward { IsTrue (is_past_first_gate (phase_after (Took item.now) state.now.phase)) → IsTrue (is_first_gate item.now || is_past_first_gate state.now.phase) }
     ensures live { IsTrue (is_acting item.now) → is_before_live (phase_after (Took item.now) state.now.phase) ≡ false }
+    ensures past { IsTrue (is_second_gate item.now) → IsTrue (is_past_first_gate (phase_after (Took item.now) state.now.phase)) }
     ensures fresh { IsTrue (is_second_gate item.now) → IsTrue (is_before_live state.now.phase) }
+    ensures front { IsTrue (is_posted item.now) → 0 < length state.now.outbox }
     ensures filling { IsTrue (is_filling item.now) → length (outbox_after (Took item.now) state.now.outbox) < OUT }
     ensures known { IsTrue (is_known state.now.view state.now.open_call item.now) }
 {}
@@ -67,8 +71,10 @@ fn follow<const P: usize, const J: usize, const OUT: usize>(
     marks: &mut Vec<Mark>,
 )
     requires known { IsTrue (is_known state.old.view awaited item.now) }
+    requires caller { IfSome awaited (λ call. IsTrue (is_own_runner state.old.view call.runner)) }
     requires sender { IsTrue (is_sender_known item.now) }
     requires live { IsTrue (is_acting item.now) → is_before_live state.old.phase ≡ false }
+    requires past { IsTrue (is_second_gate item.now) → IsTrue (is_past_first_gate state.old.phase) }
     requires fresh { IsTrue (is_second_gate item.now) → state.old.jobs ≡ [] }
     requires outbox { IsTrue (is_filling item.now) → length state.old.outbox < OUT }
     requires count { state.old.entries < 2 ^ 62 + 40 }
@@ -129,6 +135,7 @@ fn start<const P: usize, const J: usize, const OUT: usize>(
     marks: &mut Vec<Mark>,
 )
     requires live { is_before_live state.old.phase ≡ false }
+    requires past { IsTrue (is_past_first_gate state.old.phase) }
     requires fresh { state.old.jobs ≡ [] }
     requires count { state.old.entries < 2 ^ 62 + 40 }
     requires room { vec_len marks.old + 32 ≤ vec_capacity marks.old }
@@ -138,20 +145,33 @@ fn start<const P: usize, const J: usize, const OUT: usize>(
     ensures len { vec_len marks.new ≤ vec_len marks.old + 32 }
     ensures capacity { vec_capacity marks.new ≡ vec_capacity marks.old }
 {
-    let agreement = state.agreement();
+    let mode = agreed_mode(state.agreement());
     let core = state.id();
     let tasks = state.tasks();
     let mut index: u8 = 0;
     for task in tasks {
         let reference = TaskRef { core, index };
-        autostart(state, agreement, task, reference, marks);
+        autostart(state, mode, task, reference, marks);
         index += 1;
+    }
+}
+
+// The mode that the cores came to, or none where all of them say DONOTCARE.
+fn agreed_mode(agreement: Option<Agreement>) -> Option<ModeId>
+    requires { IsTrue (is_agreed agreement) }
+    ensures { agreement ≡ Some (agreement_on result) }
+{
+    match agreement {
+        Some(Agreement::Mode(mode)) => Some(mode),
+        Some(Agreement::NoMode) => None,
+        Some(Agreement::Conflict) => unreachable!(),
+        None => unreachable!(),
     }
 }
 
 fn autostart<const P: usize, const J: usize, const OUT: usize>(
     state: &mut CoreState<'_, P, J, OUT>,
-    agreement: Option<Agreement>,
+    mode: Option<ModeId>,
     task: &Task,
     reference: TaskRef,
     marks: &mut Vec<Mark>,
@@ -160,35 +180,25 @@ fn autostart<const P: usize, const J: usize, const OUT: usize>(
     requires limit { job_count (Runner.Task reference) state.old.jobs < activation_limit state.old.view (Runner.Task reference) }
     requires count { state.old.entries < 2 ^ 63 }
     requires room { vec_len marks.old + 1 ≤ vec_capacity marks.old }
-    ensures does { Does (λ v h. (if names_mode agreement task.now then activates reference h else h)) state.old state.new marks.old.items marks.new.items }
+    ensures does { Does (λ v h. (if names_mode (Some (agreement_on mode)) task.now then activates reference h else h)) state.old state.new marks.old.items marks.new.items }
     ensures stays { StaysInItem 1 state.old state.new }
     ensures adds { Adds 1 marks.old.items marks.new.items }
     ensures len { vec_len marks.new ≤ vec_len marks.old + 1 }
     ensures capacity { vec_capacity marks.new ≡ vec_capacity marks.old }
-    ensures jobs { state.new.jobs ≡ (if names_mode agreement task.now then state.old.jobs ++ record { runner = Runner.Task reference; stamp = state.old.entries } ∷ [] else state.old.jobs) }
+    ensures jobs { state.new.jobs ≡ (if names_mode (Some (agreement_on mode)) task.now then state.old.jobs ++ record { runner = Runner.Task reference; stamp = state.old.entries } ∷ [] else state.old.jobs) }
 {
-    if is_started_in(agreement, task) {
+    if is_started_in(mode, task) {
         state.activate(reference, marks);
     }
 }
 
 // Whether the task's list names the mode; nothing starts by itself where there is no mode.
-fn is_started_in(agreement: Option<Agreement>, task: &Task) -> bool
-    ensures { result ≡ names_mode agreement task.now }
+fn is_started_in(mode: Option<ModeId>, task: &Task) -> bool
+    ensures { result ≡ names_mode (Some (agreement_on mode)) task.now }
 {
-    match agreement {
-        Some(agreed) => is_mode_named(agreed, task),
+    match mode {
+        Some(agreed) => is_listed(task.auto.as_slice(), agreed),
         None => false,
-    }
-}
-
-fn is_mode_named(agreement: Agreement, task: &Task) -> bool
-    ensures { result ≡ names_mode (Some agreement) task.now }
-{
-    match agreement {
-        Agreement::Conflict => false,
-        Agreement::Mode(mode) => is_listed(task.auto.as_slice(), mode),
-        Agreement::NoMode => false,
     }
 }
 
@@ -247,6 +257,7 @@ fn perform<const P: usize, const J: usize, const OUT: usize>(
     marks: &mut Vec<Mark>,
 )
     requires own { IsTrue (is_own_runner state.old.view runner) }
+    requires job { 0 < job_count runner state.old.jobs }
     requires live { is_before_live state.old.phase ≡ false }
     requires outbox { length state.old.outbox < OUT }
     requires count { state.old.entries < 2 ^ 62 + 40 }
@@ -271,6 +282,7 @@ fn receive<const P: usize, const J: usize, const OUT: usize>(
     marks: &mut Vec<Mark>,
 )
     requires answered { IsTrue (is_answered state.old.view awaited message.now) }
+    requires caller { IfSome awaited (λ call. IsTrue (is_own_runner state.old.view call.runner)) }
     requires live { is_before_live state.old.phase ≡ false }
     requires sender { from.number < 16 }
     requires outbox { IsTrue (is_request message.now) → length state.old.outbox < OUT }
@@ -298,6 +310,7 @@ fn close<const P: usize, const J: usize, const OUT: usize>(
     marks: &mut Vec<Mark>,
 )
     requires awaited { IsSome awaited }
+    requires caller { IfSome awaited (λ call. IsTrue (is_own_runner state.old.view call.runner)) }
     requires count { state.old.entries < 2 ^ 62 + 40 }
     requires room { vec_len marks.old + 3 ≤ vec_capacity marks.old }
     ensures does { Does (λ v h. closes awaited status value h) state.old state.new marks.old.items marks.new.items }
@@ -335,6 +348,7 @@ fn go_to<const P: usize, const J: usize, const OUT: usize>(
     best: Option<Job>,
     marks: &mut Vec<Mark>,
 )
+    requires own { IfSome best (λ job. IsTrue (is_own_runner state.old.view job.runner)) }
     requires count { state.old.entries < 2 ^ 62 + 40 }
     requires room { vec_len marks.old + 2 ≤ vec_capacity marks.old }
     ensures does { Does (λ v h. goes_to best h) state.old state.new marks.old.items marks.new.items }
@@ -369,6 +383,7 @@ fn enter<const P: usize, const J: usize, const OUT: usize>(
     runner: Runner,
     marks: &mut Vec<Mark>,
 )
+    requires own { IsTrue (is_own_runner state.old.view runner) }
     requires count { state.old.entries < 2 ^ 62 + 40 }
     requires room { vec_len marks.old + 2 ≤ vec_capacity marks.old }
     ensures does { Does (λ v h. enters runner h) state.old state.new marks.old.items marks.new.items }
@@ -379,7 +394,7 @@ fn enter<const P: usize, const J: usize, const OUT: usize>(
 {
     match runner {
         Runner::Task(task) => enter_task(state, task, marks),
-        Runner::Isr(isr) => state.print(Mark::IsrEntered(isr), marks),
+        Runner::Isr(_) => unreachable!(),
     }
 }
 

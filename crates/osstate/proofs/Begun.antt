@@ -1,14 +1,16 @@
 -- The state of a core that took no item.
-use Rattle.std.proofs.Common.{◌≡◌, ℕ, zero, suc, ◌+◌, ◌≤◌, Bool, true, false, cond, IsTrue, Option, Some, is_some, List, [], ◌∷◌, length, map, refl, ap, sym, subst, ◌∙◌, arith, replicate, nat_le, sum_by, get_or}
-use Rattle.std.specs.List.{find, list_all, enumerate_from}
+use Rattle.std.proofs.Common.{◌≡◌, ℕ, zero, suc, ◌+◌, ◌≤◌, ◌<◌, Bool, true, false, cond, IsTrue, Option, Some, None, is_some, List, [], ◌∷◌, length, map, refl, ap, sym, subst, ◌∙◌, arith, replicate, nat_le, nat_lt, sum_by, get_or, not, ◌||◌}
+use Rattle.std.specs.List.{find, list_all, enumerate_from, slice_get}
 use Rattle.std.specs.Option.{option_map_or}
-use Rattle.std.proofs.lemmas.Bool.{false≢true, leb-true, and_parts, and_from, eq-eqb, eqb-true}
+use Rattle.std.proofs.lemmas.Bool.{false≢true, leb-true, ltb-true, and_parts, and_from, eq-eqb, eqb-true}
 use Rattle.std.proofs.lemmas.List.{length-replicate}
 use Rattle.osbase.specs.declared.references.CoreId.{CoreId}
 use Rattle.osbase.specs.declared.references.TaskRef.{TaskRef}
 use Rattle.osbase.specs.declared.histories.Job.{Job}
 use Rattle.osbase.specs.declared.histories.Sent.{Sent}
 use Rattle.osbase.specs.History.{same_core}
+use Rattle.oscript.specs.declared.Op.{Op}
+use Rattle.oscript.specs.declared.Op.TheVariants.{Work, ActivateTask, TerminateTask}
 use Rattle.oscript.specs.declared.Frame.{Frame}
 use Rattle.oscript.specs.Frames.{new_frame}
 use Rattle.osplan.specs.declared.plans.Plan.{Plan}
@@ -16,11 +18,11 @@ use Rattle.osplan.specs.declared.plans.Core.{Core}
 use Rattle.osplan.specs.declared.plans.Task.{Task}
 use Rattle.osplan.specs.declared.plans.CoreMode.TheVariants.{DontCare}
 use Rattle.osplan.specs.View.{View, core_of, view_of}
-use Rattle.osplan.specs.Limits.{is_within_limits, is_core_within, is_task_within}
+use Rattle.osplan.specs.Limits.{is_within_limits, is_core_within, is_task_within, is_mode, is_op_known as is_op_within}
 use Rattle.osstate.specs.declared.progress.Progress.{Progress}
 use Rattle.osstate.specs.State.{state_of}
 use Rattle.osstate.specs.Steps.{view_from, state_from, first_progress}
-use Rattle.osstate.specs.Sound.{IsSound}
+use Rattle.osstate.specs.Sound.{IsSound, is_agreed, is_op_known, is_past_first_gate}
 use Rattle.osstate.proofs.Same.{same_core-true}
 
 find-passes : (p : Core → Bool) (xs : List Core) (x : Core) → find p xs ≡ Some x → p x ≡ true
@@ -41,11 +43,11 @@ find-all p q (y ∷ ys) x a e =
     cases true t e rest = let same : y ≡ x = cc in subst (λ (z : Core). q z ≡ true) same t
     cases false t e rest = rest e
 
-all-weaker : (p q : Task → Bool) → ((t : Task) → p t ≡ true → q t ≡ true) → (xs : List Task) → list_all p xs ≡ true → list_all q xs ≡ true
-all-weaker p q imply [] a = refl
-all-weaker p q imply (x ∷ xs) a =
+list_all-weaker : {X : Type 0} (p q : X → Bool) → ((x : X) → p x ≡ true → q x ≡ true) → (xs : List X) → list_all p xs ≡ true → list_all q xs ≡ true
+list_all-weaker p q imply [] a = refl
+list_all-weaker p q imply (x ∷ xs) a =
     let parts = and_parts (p x) (list_all p xs) a in
-    and_from (q x) (list_all q xs) (imply x parts.0) (all-weaker p q imply xs parts.1)
+    and_from (q x) (list_all q xs) (imply x parts.0) (list_all-weaker p q imply xs parts.1)
 
 -- A configured core is within the limits.
 pub core_within : (plan : Plan) (id : CoreId) (core : Core) → IsTrue (is_within_limits plan) → core_of plan id ≡ Some core → is_core_within plan core ≡ true
@@ -60,10 +62,37 @@ tasks_within plan core within =
 
 some_activations : (plan : Plan) (core : Core) → is_core_within plan core ≡ true → list_all (λ (t : Task). nat_le 1 t.activations) core.tasks ≡ true
 some_activations plan core within =
-    all-weaker (is_task_within plan) (λ (t : Task). nat_le 1 t.activations) each core.tasks (and_parts _ (list_all (is_task_within plan) core.tasks) within).1
+    list_all-weaker (is_task_within plan) (λ (t : Task). nat_le 1 t.activations) each core.tasks (and_parts _ (list_all (is_task_within plan) core.tasks) within).1
   where
     each : (t : Task) → is_task_within plan t ≡ true → nat_le 1 t.activations ≡ true
     each t h = (and_parts (nat_le t.priority 31) (nat_le 1 t.activations) (and_parts _ (nat_le t.activations 64) (and_parts _ (nat_le (length t.script) 256) (and_parts _ _ (and_parts _ _ h).0).0).0).0).1
+
+within-some : (xs : List Task) (i : ℕ) → i < length xs → is_some (slice_get xs i) ≡ true
+within-some [] i h = absurd (omega (arith, h))
+within-some (x ∷ xs) zero h = refl
+within-some (x ∷ xs) (suc i) h = within-some xs i (omega (arith, h))
+
+-- An operation of a configuration names a task that is there, so on this core one of its tasks.
+known_op : (plan : Plan) (id : CoreId) (core : Core) → core_of plan id ≡ Some core → (op : Op) → is_op_within plan op ≡ true → is_op_known (view_from plan core) op ≡ true
+known_op plan id core found Work h = refl
+known_op plan id core found (ActivateTask None) h = refl
+known_op plan id core found TerminateTask h = refl
+known_op plan id core found (ActivateTask (Some t)) h = cases (same_core t.core core.id) refl
+  where
+    cases : (b : Bool) → same_core t.core core.id ≡ b → (not b || is_some (cond b (slice_get core.tasks t.index) None)) ≡ true
+    cases false e = refl
+    cases true e =
+        let here : t.core ≡ id = same_core-true t.core core.id e ∙ same_core-true core.id id (find-passes (λ (c : Core). same_core c.id id) plan.cores core found) in
+        let of_core : core_of plan t.core ≡ Some core = ap (core_of plan) here ∙ found in
+        within-some core.tasks t.index (ltb-true t.index (length core.tasks) (subst (λ (o : Option Core). option_map_or (λ (c : Core). nat_lt t.index (length c.tasks)) o false ≡ true) of_core h))
+
+known_scripts : (plan : Plan) (id : CoreId) (core : Core) → is_core_within plan core ≡ true → core_of plan id ≡ Some core → list_all (λ (t : Task). list_all (is_op_known (view_from plan core)) t.script) core.tasks ≡ true
+known_scripts plan id core within found =
+    list_all-weaker (is_task_within plan) (λ (t : Task). list_all (is_op_known (view_from plan core)) t.script) each core.tasks (and_parts _ (list_all (is_task_within plan) core.tasks) within).1
+  where
+    each : (t : Task) → is_task_within plan t ≡ true → list_all (is_op_known (view_from plan core)) t.script ≡ true
+    each t h =
+        list_all-weaker (is_op_within plan) (is_op_known (view_from plan core)) (known_op plan id core found) t.script (and_parts _ (list_all (is_op_within plan) t.script) (and_parts _ (list_all (is_mode plan) t.auto) h).0).1
 
 -- What a core sees, read off its own part.
 pub view_from-view_of : (plan : Plan) (id : CoreId) (core : Core) → core_of plan id ≡ Some core → view_from plan core ≡ view_of plan id
@@ -105,14 +134,21 @@ sound-begun room plan id core master limits found sum = record {
   frames = length-replicate (length core.tasks) new_frame;
   limits = subst (λ (v : View). sum_by (λ (t : Task). t.activations) v.tasks ≤ room) (sym (view_from-view_of plan id core found)) sum;
   some = some_activations plan core within;
+  scripts = known_scripts plan id core within found;
   jobs = (λ r. omega arith);
   idle = (λ e. refl);
+  agreed = before_gate master;
+  caller = tt;
   began = omega arith;
   items = omega arith;
   queued = zeros_low 16;
   received = zeros_low 16;
 }
   where
+    before_gate : (b : Bool) → is_past_first_gate (first_progress b).phase ≡ true → is_agreed None ≡ true
+    before_gate true e = absurd (false≢true e)
+    before_gate false e = absurd (false≢true e)
+
     within : is_core_within plan core ≡ true
     within = core_within plan id core limits found
 

@@ -1,18 +1,24 @@
 -- What is read off the state is what is read off the history.
-use Rattle.std.proofs.Common.{◌≡◌, ℕ, ◌<◌, Bool, true, false, Option, is_some, List, [], ◌∷◌, refl, ap, sym, ◌∙◌, slice_index}
-use Rattle.std.specs.List.{filter}
-use Rattle.std.proofs.lemmas.Bool.{lt-ltb}
+use Rattle.std.proofs.Common.{◌≡◌, ℕ, zero, suc, ◌<◌, Bool, true, false, cond, Option, Some, None, is_some, List, [], ◌∷◌, refl, ap, sym, subst, ◌∙◌, slice_index}
+use Rattle.std.specs.List.{filter, list_all, slice_get}
+use Rattle.std.specs.Option.{option_map_or}
+use Rattle.std.proofs.lemmas.Bool.{lt-ltb, and_parts}
 use Rattle.osbase.specs.declared.references.CoreId.{CoreId}
 use Rattle.osbase.specs.declared.references.TaskRef.{TaskRef}
 use Rattle.osbase.specs.declared.references.Runner.{Runner}
 use Rattle.osbase.specs.declared.histories.Job.{Job}
-use Rattle.osbase.specs.History.{History, live_jobs, is_able, first_greatest, received_count}
+use Rattle.osbase.specs.History.{History, live_jobs, is_able, first_greatest, received_count, same_core}
+use Rattle.oscript.specs.declared.Op.{Op}
+use Rattle.oscript.specs.declared.Frame.{Frame}
 use Rattle.oscript.specs.declared.Action.{Action}
+use Rattle.oscript.specs.declared.Action.TheVariants.{Perform, End}
 use Rattle.oscript.specs.Frames.{action_at, new_frame}
+use Rattle.osplan.specs.declared.plans.Task.{Task}
 use Rattle.osplan.specs.View.{View}
 use Rattle.osstate.specs.Readings.{best_job, frame_at, script_of, static_priority, own_task}
 use Rattle.osstate.specs.State.{KernelState, state_of}
 use Rattle.osstate.specs.Steps.{best_in, frame_in}
+use Rattle.osstate.specs.Sound.{is_action_known, is_op_known}
 use Rattle.osstate.specs.Does.{Reads}
 use Rattle.osstate.proofs.Histories.{count_at, frame-own, no_task}
 
@@ -38,3 +44,22 @@ action-in v h (Runner.Task t) = cases (is_some (own_task v t)) refl
 
 pub reads_action : (s : KernelState) (r : Runner) (a : Action) → a ≡ action_at (script_of s.view r) (frame_in r s.frames) → Reads (λ v h. action_at (script_of v r) (frame_at v r h)) s a
 reads_action s r a is v h stands = is ∙ ap (λ (q : KernelState). action_at (script_of q.view r) (frame_in r q.frames)) stands.is ∙ action-in v h r
+
+passes-at : {X : Type 0} (p : X → Bool) → (xs : List X) (i : ℕ) (x : X) → list_all p xs ≡ true → slice_get xs i ≡ Some x → p x ≡ true
+passes-at p [] i x all e = cc
+passes-at p (y ∷ ys) zero x all e =
+    let same : y ≡ x = cc in
+    subst (λ z. p z ≡ true) same (and_parts (p y) (list_all p ys) all).0
+passes-at p (y ∷ ys) (suc i) x all e = passes-at p ys i x (and_parts (p y) (list_all p ys) all).1 e
+
+-- What an own task does next names on this core only the core's tasks.
+pub known_action : (v : View) (t : TaskRef) (u : Task) (frame : Frame) (a : Action) → list_all (λ (w : Task). list_all (is_op_known v) w.script) v.tasks ≡ true → own_task v t ≡ Some u → a ≡ action_at u.script frame → is_action_known v a ≡ true
+known_action v t u frame a all own is = subst (λ (b : Action). is_action_known v b ≡ true) (sym is) (next (slice_get u.script frame.pc) refl)
+  where
+    script : (b : Bool) → cond b (slice_get v.tasks t.index) None ≡ Some u → list_all (is_op_known v) u.script ≡ true
+    script true e = passes-at (λ (w : Task). list_all (is_op_known v) w.script) v.tasks t.index u all e
+    script false e = cc
+
+    next : (o : Option Op) → slice_get u.script frame.pc ≡ o → is_action_known v (option_map_or Perform o End) ≡ true
+    next None e = refl
+    next (Some op) e = passes-at (is_op_known v) u.script frame.pc op (script (same_core t.core v.core) own) e

@@ -1,16 +1,20 @@
 -- The live jobs of a core that keeps its tasks' limits are at most as many as the limits sum to.
 use Rattle.std.proofs.Common.{◌≡◌, ℕ, zero, suc, ◌+◌, ◌≤◌, ◌<◌, Bool, true, false, cond, Option, Some, None, List, [], ◌∷◌, length, refl, ap, sym, subst, ◌∙◌, arith, sum_by, is_some, IfSome}
-use Rattle.std.specs.List.{slice_get}
+use Rattle.std.specs.List.{slice_get, All}
 use Rattle.std.specs.Option.{option_map_or}
 use Rattle.std.proofs.lemmas.List.Sums.{sum_by-cons}
+use Rattle.std.proofs.lemmas.List.Elements.{All-nil, All-cons}
 use Rattle.osbase.specs.declared.references.CoreId.{CoreId}
 use Rattle.osbase.specs.declared.references.TaskRef.{TaskRef}
 use Rattle.osbase.specs.declared.references.Runner.{Runner}
 use Rattle.osbase.specs.declared.histories.Job.{Job}
 use Rattle.osbase.specs.History.{same_core, same_runner, job_count, oldest, oldest_of}
+use Rattle.osplan.specs.declared.plans.Plan.{Plan}
+use Rattle.osplan.specs.declared.plans.Core.{Core}
 use Rattle.osplan.specs.declared.plans.Task.{Task}
 use Rattle.osplan.specs.View.{View}
 use Rattle.osstate.specs.Readings.{own_task}
+use Rattle.osstate.specs.Steps.{is_runner_in, view_from}
 use Rattle.osstate.specs.Sound.{activation_limit, is_own_runner}
 use Rattle.osstate.proofs.Same.{same_core-true, same_core-refl, same_task-refl}
 use Rattle.osstate.proofs.JobLists.{job_count-rest}
@@ -105,6 +109,18 @@ own_from_place v (Runner.Task t) h = cases (own_task v t) h
     cases None h = absurd (omega (arith, h))
     cases (Some x) h = refl
 
+-- what the core's own part says of a runner is what its view says
+pub runner_in : (plan : Plan) (core : Core) (r : Runner) → is_own_runner (view_from plan core) r ≡ is_runner_in core r
+runner_in plan core (Runner.Task t) = refl
+runner_in plan core (Runner.Isr i) = refl
+
+-- each live job is one of the core's own
+pub all_own : (v : View) (js : List Job) → ((r : Runner) → job_count r js ≤ activation_limit v r) → All (λ (j : Job). is_own_runner v j.runner ≡ true) js
+all_own v [] within = All-nil (λ (j : Job). is_own_runner v j.runner ≡ true)
+all_own v (j ∷ js) within =
+    let some : 0 < activation_limit v j.runner = omega (arith, within j.runner, job_count-same j.runner j js (same_runner-refl j.runner)) in
+    All-cons (λ (j : Job). is_own_runner v j.runner ≡ true) j js (own_from_place v j.runner some) (all_own v js (λ r. omega (arith, within r, job_count-rest r j js)))
+
 -- the oldest job of a runner is live
 oldest_counted : (r : Runner) (js : List Job) (j : Job) → oldest r js ≡ Some j → 0 < job_count j.runner js
 oldest_counted r [] j e = cc
@@ -121,6 +137,12 @@ oldest_counted r (x ∷ js) j e = cases (same_runner x.runner r) e (λ later. ol
 pub own_oldest : (v : View) (current : Option TaskRef) (js : List Job) (j : Job) → ((r : Runner) → job_count r js ≤ activation_limit v r) → oldest_of current js ≡ Some j → is_own_runner v j.runner ≡ true
 own_oldest v None js j within e = cc
 own_oldest v (Some t) js j within e = own_from_place v j.runner (omega (arith, within j.runner, oldest_counted (Runner.Task t) js j e))
+
+-- and it is live
+pub live_current : (current : Option TaskRef) (js : List Job) (o : Option Job) → o ≡ oldest_of current js → IfSome o (λ j. 0 < job_count j.runner js)
+live_current current js None e = tt
+live_current None js (Some j) e = cc
+live_current (Some t) js (Some j) e = oldest_counted (Runner.Task t) js j (sym e)
 
 pub own_current : (v : View) (current : Option TaskRef) (js : List Job) (o : Option Job) → ((r : Runner) → job_count r js ≤ activation_limit v r) → o ≡ oldest_of current js → IfSome o (λ j. is_own_runner v j.runner ≡ true)
 own_current v current js None within e = tt

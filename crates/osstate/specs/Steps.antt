@@ -1,5 +1,5 @@
 -- What each entry of the history does to the state.
-use Rattle.std.specs.Prelude.{ℕ, ◌+◌, Bool, if◌then◌else◌, Option, Some, None, List, [], slice_get, slice_index, slice_index_or, slice_set, map}
+use Rattle.std.specs.Prelude.{ℕ, ◌+◌, Bool, false, is_some, if◌then◌else◌, Option, Some, None, List, [], slice_get, slice_index, slice_index_or, slice_set, map}
 use Rattle.std.specs.Option.{option_map_or}
 use Rattle.osbase.specs.declared.references.CoreId.{CoreId}
 use Rattle.osbase.specs.declared.references.TaskRef.{TaskRef}
@@ -145,6 +145,11 @@ task_in core t = if same_core t.core core.id then slice_get core.tasks t.index e
 -- The script of a task of this core; nothing else has one.
 abbrev pub script_in : Core → TaskRef → List Op
 script_in core t = option_map_or (λ (task : Task). task.script) (task_in core t) []
+
+-- The runner is one of this core's tasks.
+abbrev pub is_runner_in : Core → Runner → Bool
+is_runner_in core (Runner.Task t) = is_some (task_in core t)
+is_runner_in core (Runner.Isr i) = false
 
 -- The static priority of a runner.
 abbrev pub priority_in : Core → Runner → ℕ

@@ -1,10 +1,11 @@
 //! How an entry changes one of the lists of a core's state.
 
-ghost use Rattle.std.specs.Prelude.{◌≡◌, ◌+◌, ◌<◌, ◌^◌, ℕ, length, slice_index, option_copied, IsTrue, IfSome, IfNone, remove, replicate};
+ghost use Rattle.std.specs.Prelude.{◌≡◌, ◌+◌, ◌<◌, ◌^◌, ℕ, length, slice_index, option_copied, IsTrue, IsSome, IfSome, IfNone, remove, replicate};
+ghost use Rattle.std.specs.List.{All};
 ghost use Rattle.osbase.specs.History.{Took, better_of as better_job, first_greatest as greatest_job, job_count, oldest, outbox_after, without_oldest};
 ghost use Rattle.oscript.specs.Frames.{completed, new_frame, rewound};
-ghost use Rattle.osstate.specs.Sound.{is_sender_known};
-ghost use Rattle.osstate.specs.Steps.{frame_in, one_more, priority_in, received_after, script_in, task_in, with_frame};
+ghost use Rattle.osstate.specs.Sound.{is_posted, is_sender_known};
+ghost use Rattle.osstate.specs.Steps.{frame_in, is_runner_in, one_more, priority_in, received_after, script_in, task_in, with_frame};
 
 use crate::equality::{is_same_core, is_same_runner};
 use crate::slots::{FrameSlot, JobSlot, SentSlot};
@@ -46,7 +47,7 @@ pub(crate) fn rewind_frame(frames: &mut ArrayVec<FrameSlot, 32>, task: TaskRef)
     slot.frame.rewind();
 }
 
-/// Takes the frame of a task past its operation. A reference to no task of the core changes nothing.
+/// Takes the frame of one of the core's tasks past its operation.
 pub(crate) fn complete_frame(
     core: &Core,
     frames: &mut ArrayVec<FrameSlot, 32>,
@@ -54,22 +55,26 @@ pub(crate) fn complete_frame(
     status: Status,
     value: Option<i64>,
 )
-    requires { length frames.old.items ≡ length core.now.tasks }
+    requires own { IsSome (task_in core.now task) }
+    requires frames { length frames.old.items ≡ length core.now.tasks }
     ensures { frames.new.items ≡ with_frame (Runner.Task task) (completed (script_in core.now task) (frame_in (Runner.Task task) frames.old.items) status value) frames.old.items }
 {
-    if let Some(own) = task_of(core, task) {
-        let slot = &mut frames.as_mut_slice()[usize::from(task.index)];
-        complete(&own.script, &mut slot.frame, status, value);
-    }
+    let Some(own) = task_of(core, task) else {
+        unreachable!()
+    };
+    let slot = &mut frames.as_mut_slice()[usize::from(task.index)];
+    complete(&own.script, &mut slot.frame, status, value);
 }
 
-/// Takes the oldest job of this runner out of the list.
+/// Takes the oldest job of this runner, which has one, out of the list.
 pub(crate) fn remove_oldest<const J: usize>(jobs: &mut ArrayVec<JobSlot, J>, runner: Runner)
+    requires { 0 < job_count runner jobs.old.items }
     ensures { jobs.new.items ≡ without_oldest runner jobs.old.items }
 {
-    if let Some(place) = oldest_place(jobs.as_slice(), runner) {
-        jobs.remove(place);
-    }
+    let Some(place) = oldest_place(jobs.as_slice(), runner) else {
+        unreachable!()
+    };
+    jobs.remove(place);
 }
 
 // The place of the oldest job of this runner.
@@ -77,6 +82,7 @@ fn oldest_place(jobs: &[JobSlot], runner: Runner) -> Option<usize>
     ensures found { IfSome result (λ place. remove jobs.now place ≡ without_oldest runner jobs.now) }
     ensures within { IfSome result (λ place. place < length jobs.now) }
     ensures none { IfNone result (without_oldest runner jobs.now ≡ jobs.now) }
+    ensures absent { IfNone result (job_count runner jobs.now ≡ 0) }
 {
     for (place, slot) in jobs.iter().enumerate() {
         if is_same_runner(slot.job.runner, runner) {
@@ -113,10 +119,11 @@ pub(crate) fn count_jobs(jobs: &[JobSlot], runner: Runner) -> usize
 
 /// A post takes the front of the outbox.
 pub(crate) fn post_by<const OUT: usize>(outbox: &mut ArrayVec<SentSlot, OUT>, item: &Item)
+    requires { IsTrue (is_posted item.now) → 0 < length outbox.old.items }
     ensures { outbox.new.items ≡ outbox_after (Took item.now) outbox.old.items }
 {
     if let Item::Posted(_) = item {
-        let _ = outbox.pop_at(0);
+        outbox.remove(0);
     }
 }
 
@@ -147,7 +154,9 @@ pub(crate) fn count_one(counts: &mut [u64; 16], core: CoreId)
 
 /// Of the jobs of greatest priority the first (OSEK/VDX OS 2.2.3, section 4.4 and 4.5).
 pub(crate) fn first_greatest(core: &Core, jobs: &[JobSlot]) -> Option<Job>
-    ensures { result ≡ greatest_job (λ j. priority_in core.now j.runner) jobs.now }
+    requires { All (λ j. IsTrue (is_runner_in core.now j.runner)) jobs.now }
+    ensures greatest { result ≡ greatest_job (λ j. priority_in core.now j.runner) jobs.now }
+    ensures own { IfSome result (λ j. IsTrue (is_runner_in core.now j.runner)) }
 {
     let mut best = None;
     let mut place = jobs.len();
@@ -160,7 +169,10 @@ pub(crate) fn first_greatest(core: &Core, jobs: &[JobSlot]) -> Option<Job>
 }
 
 fn better_of(core: &Core, job: Job, best: Option<Job>) -> Job
-    ensures { result ≡ better_job (λ j. priority_in core.now j.runner) job best }
+    requires job { IsTrue (is_runner_in core.now job.runner) }
+    requires best { IfSome best (λ j. IsTrue (is_runner_in core.now j.runner)) }
+    ensures better { result ≡ better_job (λ j. priority_in core.now j.runner) job best }
+    ensures own { IsTrue (is_runner_in core.now result.runner) }
 {
     if let Some(other) = best {
         if priority_of(core, job.runner) < priority_of(core, other.runner) {
@@ -171,19 +183,21 @@ fn better_of(core: &Core, job: Job, best: Option<Job>) -> Job
 }
 
 fn priority_of(core: &Core, runner: Runner) -> u8
+    requires { IsTrue (is_runner_in core.now runner) }
     ensures { result ≡ priority_in core.now runner }
 {
     match runner {
         Runner::Task(task) => task_priority(core, task),
-        Runner::Isr(_) => 0,
+        Runner::Isr(_) => unreachable!(),
     }
 }
 
 fn task_priority(core: &Core, task: TaskRef) -> u8
+    requires { IsSome (task_in core.now task) }
     ensures { result ≡ priority_in core.now (Runner.Task task) }
 {
     match task_of(core, task) {
         Some(own) => own.priority,
-        None => 0,
+        None => unreachable!(),
     }
 }

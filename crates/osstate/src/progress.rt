@@ -1,7 +1,8 @@
 //! Where a core stands: the part of its state that is no list.
 
-ghost use Rattle.std.specs.Prelude.{◌≡◌, ◌+◌, ◌<◌, ◌^◌};
+ghost use Rattle.std.specs.Prelude.{◌≡◌, ◌+◌, ◌<◌, ◌^◌, IsTrue};
 ghost use Rattle.osbase.specs.History.{Took, Printed, current_after, open_after, phase_after};
+ghost use Rattle.osstate.specs.Sound.{is_taken};
 ghost use Rattle.osstate.specs.Steps.{agreement_after, began_after, first_gate_phase, first_progress, progress_after, started_after};
 
 use crate::equality::is_same_task;
@@ -48,6 +49,7 @@ impl Progress {
 
     /// Goes on by an item.
     pub fn take_item(&mut self, item: &Item)
+        requires taken { IsTrue (is_taken item.now) }
         requires began { self.old.began < 2 ^ 63 }
         requires items { self.old.items < 2 ^ 63 }
         requires entries { self.old.entries < 2 ^ 63 }
@@ -92,6 +94,7 @@ fn without(current: Option<TaskRef>, task: TaskRef) -> Option<TaskRef>
 }
 
 fn phase_by(phase: Phase, item: &Item) -> Phase
+    requires { IsTrue (is_taken item.now) }
     ensures { result ≡ phase_after (Took item.now) phase }
 {
     match item {
@@ -108,13 +111,13 @@ fn phase_by(phase: Phase, item: &Item) -> Phase
             number: _,
             message: _,
         } => phase,
-        Item::Granted(_) => phase,
+        Item::Granted(_) => unreachable!(),
         Item::Tried {
             spinlock: _,
             taken: _,
-        } => phase,
-        Item::Freed(_) => phase,
-        Item::Halt { core: _, status: _ } => phase,
+        } => unreachable!(),
+        Item::Freed(_) => unreachable!(),
+        Item::Halt { core: _, status: _ } => unreachable!(),
         Item::Drained => Phase::Drained,
         Item::PassEnd => Phase::Closing,
         Item::Last(_) => Phase::Ended,

@@ -1,6 +1,6 @@
 //! The state of a core.
 
-ghost use Rattle.std.specs.Prelude.{◌≡◌, ◌==◌, ◌∷◌, ◌++◌, ◌<◌, ◌≤◌, ◌^◌, [], nat_lt, IsTrue, IsSome, IfSome, false, length, nat_le, option_copied, slice_get, slice_index, vec_len, vec_capacity, sum_by};
+ghost use Rattle.std.specs.Prelude.{◌≡◌, ◌==◌, ◌||◌, ◌∷◌, ◌++◌, ◌<◌, ◌≤◌, ◌^◌, [], nat_lt, IsTrue, IsSome, IfSome, false, length, nat_le, option_copied, slice_get, slice_index, vec_len, vec_capacity, sum_by};
 ghost use Rattle.std.specs.List.{list_all};
 ghost use Rattle.osbase.specs.History.{Took, Printed, Noted, Opened, Queued, Done, agreement_of, began_count, current_job, current_task, item_count, job_count, oldest_of, open_call, outbox, phase_after, queued_count, received_count};
 ghost use Rattle.osplan.specs.declared.plans.Task.{Task as TaskValue};
@@ -9,7 +9,7 @@ ghost use Rattle.osplan.specs.View.{core_of, is_configured, view_of};
 ghost use Rattle.osstate.specs.Does.{Does, Notes, Reads};
 ghost use Rattle.osstate.specs.Readings.{best_job, frame_at, has_core, is_at_limit, is_own, is_started, next_start, own_task, phase_at, script_of};
 ghost use Rattle.osstate.specs.State.{state_of};
-ghost use Rattle.osstate.specs.Sound.{activation_limit, is_before_live, is_own_runner, is_plain, is_sender_known};
+ghost use Rattle.osstate.specs.Sound.{activation_limit, is_action_known, is_agreed, is_before_live, is_first_gate, is_own_runner, is_past_first_gate, is_plain, is_posted, is_sender_known, is_taken};
 ghost use Rattle.osstate.specs.Steps.{best_in, frame_in, next_envelope, state_after};
 
 use crate::cores::is_member;
@@ -84,8 +84,11 @@ impl<'a, const P: usize, const J: usize, const OUT: usize> CoreState<'a, P, J, O
 
     /// The entry of an item that the core takes.
     pub fn take_item(&mut self, item: &Item)
+        requires taken { IsTrue (is_taken item.now) }
         requires sender { IsTrue (is_sender_known item.now) }
         requires forward { IsTrue (is_before_live (phase_after (Took item.now) self.old.phase)) → IsTrue (is_before_live self.old.phase) }
+        requires onward { IsTrue (is_past_first_gate (phase_after (Took item.now) self.old.phase)) → IsTrue (is_first_gate item.now || is_past_first_gate self.old.phase) }
+        requires front { IsTrue (is_posted item.now) → 0 < length self.old.outbox }
         requires count { self.old.entries < 2 ^ 63 }
         ensures state { self.new ≡ state_after (Took item.now) self.old }
         ensures notes { Notes (λ v h. Took item.now ∷ h) self.old self.new }
@@ -119,6 +122,7 @@ impl<'a, const P: usize, const J: usize, const OUT: usize> CoreState<'a, P, J, O
     /// The oldest job of one of the core's tasks has ended.
     pub fn terminate(&mut self, task: TaskRef, marks: &mut Vec<Mark>)
         requires own { IsTrue (is_own_runner self.old.view (Runner.Task task)) }
+        requires job { 0 < job_count (Runner.Task task) self.old.jobs }
         requires count { self.old.entries < 2 ^ 63 }
         requires room { vec_len marks.old < vec_capacity marks.old }
         ensures state { self.new ≡ state_after (Printed (Mark.Terminated task)) self.old }
@@ -189,8 +193,9 @@ impl<'a, const P: usize, const J: usize, const OUT: usize> CoreState<'a, P, J, O
         self.progress.entries += 1;
     }
 
-    /// A service of a job awaits another core's reply.
+    /// A service of a job of one of the core's tasks awaits another core's reply.
     pub fn open_call(&mut self, call: OpenCall)
+        requires own { IsTrue (is_own_runner self.old.view call.runner) }
         requires count { self.old.entries < 2 ^ 63 }
         ensures state { self.new ≡ state_after (Noted (Opened call)) self.old }
         ensures notes { Notes (λ v h. Noted (Opened call) ∷ h) self.old self.new }
@@ -199,17 +204,22 @@ impl<'a, const P: usize, const J: usize, const OUT: usize> CoreState<'a, P, J, O
         self.progress.entries += 1;
     }
 
-    /// An operation of the runner's oldest live job is done.
+    /// An operation of the oldest live job of one of the core's tasks is done.
     pub fn complete(&mut self, runner: Runner, status: Status, value: Option<i64>)
+        requires own { IsTrue (is_own_runner self.old.view runner) }
         requires count { self.old.entries < 2 ^ 63 }
         ensures state { self.new ≡ state_after (Noted (Done runner status value)) self.old }
         ensures notes { Notes (λ v h. Noted (Done runner status value) ∷ h) self.old self.new }
     {
-        if let Runner::Task(task) = runner {
-            parts::complete_frame(self.core, &mut self.frames, task, status, value);
+        match runner {
+            Runner::Task(task) => {
+                parts::complete_frame(self.core, &mut self.frames, task, status, value);
+            }
+            Runner::Isr(_) => unreachable!(),
         }
         self.progress.entries += 1;
     }
+
     /// The phase.
     pub fn phase(&self) -> Phase
         ensures state { result ≡ self.now.phase }
@@ -238,6 +248,7 @@ impl<'a, const P: usize, const J: usize, const OUT: usize> CoreState<'a, P, J, O
     pub fn agreement(&self) -> Option<Agreement>
         ensures state { result ≡ self.now.agreement }
         ensures reads { Reads (λ v h. agreement_of h) self.now result }
+        ensures agreed { IsTrue (is_past_first_gate self.now.phase) → IsTrue (is_agreed result) }
     {
         self.progress.agreement
     }
@@ -246,6 +257,7 @@ impl<'a, const P: usize, const J: usize, const OUT: usize> CoreState<'a, P, J, O
     pub fn awaited_call(&self) -> Option<OpenCall>
         ensures state { result ≡ self.now.open_call }
         ensures reads { Reads (λ v h. open_call h) self.now result }
+        ensures own { IfSome result (λ call. IsTrue (is_own_runner self.now.view call.runner)) }
     {
         self.progress.open_call
     }
@@ -359,6 +371,7 @@ impl<'a, const P: usize, const J: usize, const OUT: usize> CoreState<'a, P, J, O
     pub fn current_job(&self) -> Option<Job>
         ensures state { result ≡ oldest_of self.now.current self.now.jobs }
         ensures reads { Reads (λ v h. current_job h) self.now result }
+        ensures live { IfSome result (λ job. 0 < job_count job.runner self.now.jobs) }
         ensures own { IfSome result (λ job. IsTrue (is_own_runner self.now.view job.runner)) }
     {
         let task = self.progress.current?;
@@ -369,42 +382,48 @@ impl<'a, const P: usize, const J: usize, const OUT: usize> CoreState<'a, P, J, O
     pub fn best_job(&self) -> Option<Job>
         ensures state { result ≡ best_in self.now }
         ensures reads { Reads (λ v h. best_job v h) self.now result }
+        ensures own { IfSome result (λ job. IsTrue (is_own_runner self.now.view job.runner)) }
     {
         parts::first_greatest(self.core, self.jobs.as_slice())
     }
 
-    /// Whether as many jobs of the task are live as it may have; so it is with what is no task of the core.
+    /// Whether as many jobs of one of the core's tasks are live as it may have.
     pub fn is_at_limit(&self, task: TaskRef) -> bool
+        requires own { IsTrue (is_own_runner self.now.view (Runner.Task task)) }
         ensures state { result ≡ nat_le (activation_limit self.now.view (Runner.Task task)) (job_count (Runner.Task task) self.now.jobs) }
         ensures reads { Reads (λ v h. is_at_limit v task h) self.now result }
     {
         let limit = match parts::task_of(self.core, task) {
             Some(own) => usize::from(own.activations),
-            None => 0,
+            None => unreachable!(),
         };
         limit <= parts::count_jobs(self.jobs.as_slice(), Runner::Task(task))
     }
 
-    /// What the runner's oldest live job does next.
+    /// What the oldest live job of one of the core's tasks does next.
     pub fn next_action(&self, runner: Runner) -> Action
+        requires own { IsTrue (is_own_runner self.now.view runner) }
         ensures state { result ≡ action_at (script_of self.now.view runner) (frame_in runner self.now.frames) }
         ensures reads { Reads (λ v h. action_at (script_of v runner) (frame_at v runner h)) self.now result }
+        ensures known { IsTrue (is_action_known self.now.view result) }
     {
         match runner {
             Runner::Task(task) => self.next_action_of(task),
-            Runner::Isr(_) => Action::End,
+            Runner::Isr(_) => unreachable!(),
         }
     }
 
     fn next_action_of(&self, task: TaskRef) -> Action
-        ensures { result ≡ action_at (script_of self.now.view (Runner.Task task)) (frame_in (Runner.Task task) self.now.frames) }
+        requires { IsSome (own_task self.now.view task) }
+        ensures state { result ≡ action_at (script_of self.now.view (Runner.Task task)) (frame_in (Runner.Task task) self.now.frames) }
+        ensures known { IsTrue (is_action_known self.now.view result) }
     {
         match parts::task_of(self.core, task) {
             Some(own) => {
                 let slot = &self.frames.as_slice()[usize::from(task.index)];
                 oscript::next(&own.script, &slot.frame)
             }
-            None => Action::End,
+            None => unreachable!(),
         }
     }
 }

@@ -1,15 +1,27 @@
-use Rattle.oskernel.proofs.Phases.{forward}
-use Rattle.oskernel.proofs.Taken.{acting, fresh, filling, known}
+use Rattle.oskernel.proofs.Phases.{forward, onward}
+use Rattle.oskernel.proofs.Taken.{acting, among_taken, past, fresh, front, filling, known}
 use Rattle.oskernel.proofs.effects.show_admitted.Goals as goal
+
+pub returns-clause-taken : goal.returns-clause-taken
+returns-clause-taken g c = among_taken g.row.OUT c.args.state.now c.args.item.now c.requires.admitted
 
 pub returns-clause-forward : goal.returns-clause-forward
 returns-clause-forward g c = forward g.row.OUT c.args.state.now c.args.item.now c.requires.admitted
 
+pub returns-clause-onward : goal.returns-clause-onward
+returns-clause-onward g c = onward g.row.OUT c.args.state.now c.args.item.now c.requires.admitted
+
 pub returns-clause-live : goal.returns-clause-live
 returns-clause-live g c = acting g.row.OUT c.args.state.now c.args.item.now c.requires.admitted
 
+pub returns-clause-past : goal.returns-clause-past
+returns-clause-past g c = past c.args.state.now.phase c.args.item.now
+
 pub returns-clause-fresh : goal.returns-clause-fresh
 returns-clause-fresh g c = fresh g.row.OUT c.args.state.now c.args.item.now c.requires.admitted
+
+pub returns-clause-front : goal.returns-clause-front
+returns-clause-front g c = front g.row.OUT c.args.state.now c.args.item.now c.requires.admitted
 
 pub returns-clause-filling : goal.returns-clause-filling
 returns-clause-filling g c = filling g.row.OUT c.args.state.now c.args.item.now c.requires.outbox c.requires.admitted

@@ -1,8 +1,9 @@
-use Rattle.std.proofs.Common.{◌<◌, sym, subst, ◌∙◌, rules, arith}
+use Rattle.std.proofs.Common.{◌<◌, Some, sym, subst, ◌∙◌, rules, arith}
 use Rattle.osbase.specs.declared.references.Runner.TheVariants as Runner
 use Rattle.osbase.specs.History.{History, job_count}
 use Rattle.osstate.specs.Does.{Tracks}
 use Rattle.osstate.specs.Sound.{activation_limit}
+use Rattle.oskernel.specs.Taking.{agreement_on}
 use Rattle.oskernel.proofs.Autostart.{ref_at, next-place, next-start, all-started, still-none, stays-more, adds-more}
 use Rattle.oskernel.proofs.effects.start.Goals as goal
 
@@ -23,12 +24,12 @@ loop-task-preserved g c = record {
   capacity = c.autostart.ensures.capacity ∙ c.loop-task.invariant.capacity;
   does = (λ v h earlier tracks.
       subst (λ (x : History). Tracks v x earlier c.autostart.new.state c.autostart.new.marks.items)
-      (sym (next-start v c.args.state.now h c.tasks-tasks.result.now c.id-core.result c.loop-task.index c.loop-task.task-index c.task-item.result c.agreement-agreement.result tracks.stands c.tasks-tasks.ensures.value c.id-core.ensures c.loop-task.invariant.place c.loop-task-test.true c.task-item.is))
+      (sym (next-start v c.args.state.now h c.tasks-tasks.result.now c.id-core.result c.loop-task.index c.loop-task.task-index c.task-item.result (Some (agreement_on c.agreed_mode-mode.result)) tracks.stands c.tasks-tasks.ensures.value c.id-core.ensures c.loop-task.invariant.place c.loop-task-test.true c.task-item.is))
       (c.autostart.ensures.does v _ earlier (c.loop-task.invariant.does v h earlier tracks)));
 }
 
 pub returns-clause-does : goal.returns-clause-does
 returns-clause-does g c v h earlier tracks =
     subst (λ (x : History). Tracks v x earlier c.loop-task.state c.loop-task.marks.items)
-    (all-started v c.args.state.now h c.tasks-tasks.result.now c.loop-task.task-index c.agreement-agreement.result tracks.stands c.tasks-tasks.ensures.value c.loop-task-test.false (c.agreement-agreement.ensures.reads v h tracks.stands))
+    (all-started v c.args.state.now h c.tasks-tasks.result.now c.loop-task.task-index (Some (agreement_on c.agreed_mode-mode.result)) tracks.stands c.tasks-tasks.ensures.value c.loop-task-test.false (sym c.agreed_mode-mode.ensures ∙ c.agreement.ensures.reads v h tracks.stands))
     (c.loop-task.invariant.does v h earlier tracks)

@@ -1,9 +1,10 @@
-use Rattle.std.proofs.Common.{◌≡◌, ℕ, ◌+◌, ◌≤◌, take, vec_len, vec_capacity}
+use Rattle.std.proofs.Common.{◌≡◌, ℕ, Some, ◌+◌, ◌≤◌, take, vec_len, vec_capacity}
 use Rattle.osbase.specs.declared.references.Runner.TheVariants as Runner
 use Rattle.osbase.specs.History.{job_count}
 use Rattle.osstate.specs.Readings.{task_refs}
 use Rattle.osstate.specs.Does.{Adds, Does, StaysInItem}
 use Rattle.oskernel.specs.Step.{autostarts}
+use Rattle.oskernel.specs.Taking.{agreement_on}
 use Rattle.oskernel.proofs.Autostart.{ref_at}
 use Rattle.oskernel.proofs.effects.start.Given as goal
 
@@ -15,5 +16,5 @@ invariant-loop-task g l = record {
   adds : Adds l.task-index l.initial.marks.items l.marks.items;
   len : vec_len l.marks ≤ vec_len l.initial.marks + l.task-index;
   capacity : vec_capacity l.marks ≡ vec_capacity l.initial.marks;
-  does : Does (λ v h. autostarts l.agreement (take l.task-index (task_refs v)) h) l.initial.state l.state l.initial.marks.items l.marks.items;
+  does : Does (λ v h. autostarts (Some (agreement_on l.mode)) (take l.task-index (task_refs v)) h) l.initial.state l.state l.initial.marks.items l.marks.items;
 }

@@ -1,10 +1,10 @@
-use Rattle.std.proofs.Common.{Some, IsTrue, IfSome, ap, subst, ◌∙◌}
+use Rattle.std.proofs.Common.{◌<◌, Some, IsTrue, IfSome, ap, subst, ◌∙◌}
 use Rattle.osbase.specs.declared.references.Runner.TheVariants as Runner
-use Rattle.osbase.specs.History.{oldest}
+use Rattle.osbase.specs.History.{job_count, oldest}
 use Rattle.osstate.specs.State.{KernelState}
 use Rattle.osstate.specs.Steps.{view_from}
 use Rattle.osstate.specs.Sound.{is_own_runner}
-use Rattle.osstate.proofs.Room.{own_current}
+use Rattle.osstate.proofs.Room.{live_current, own_current}
 use Rattle.osstate.proofs.state.CoreState.current_job.Goals as goal
 
 pub returns-clause-own : goal.returns-clause-own
@@ -12,3 +12,8 @@ returns-clause-own g c =
     subst (λ (s : KernelState). IfSome c.oldest_job.result (λ job. IsTrue (is_own_runner s.view job.runner))) c.self.view_is
     (own_current (view_from c.self.inside.config.now c.self.inside.core.now) (Some c.in_ok-task.task) c.self.inside.jobs.items c.oldest_job.result c.self.invariant.jobs
     (c.oldest_job.ensures ∙ ap (oldest (Runner.Task c.in_ok-task.task)) c.as_slice.ensures.value))
+
+pub returns-clause-live : goal.returns-clause-live
+returns-clause-live g c =
+    subst (λ (s : KernelState). IfSome c.oldest_job.result (λ job. 0 < job_count job.runner s.jobs)) c.self.view_is
+    (live_current (Some c.in_ok-task.task) c.self.inside.jobs.items c.oldest_job.result (c.oldest_job.ensures ∙ ap (oldest (Runner.Task c.in_ok-task.task)) c.as_slice.ensures.value))
