@@ -21,11 +21,11 @@ use Rattle.osworld.specs.Playing.{IsMail, waiting}
 use Rattle.osworld.proofs.Listed.{list_of, list_of-same, list_of-other, history_from-push}
 use Rattle.osworld.proofs.Streams.{is_post_to, is_from, posted-after, received-after, box-changed, waiting-longer, waiting-shorter, waiting-front, some_waits}
 
-and_true : (b : Bool) → b ≡ (b && true)
+pub and_true : (b : Bool) → b ≡ (b && true)
 and_true true = refl
 and_true false = refl
 
-and_false : {A : Type 0} (b : Bool) (x y : A) → cond (b && false) x y ≡ y
+pub and_false : {A : Type 0} (b : Bool) (x y : A) → cond (b && false) x y ≡ y
 and_false true x y = refl
 and_false false x y = refl
 

@@ -23,17 +23,9 @@ use Rattle.osworld.specs.World.{World, appends, board_in, call_of, first_world, 
 use Rattle.osworld.specs.Fits.{Allows, AreAnswered, asking, calls_by, Fits, FitsCore, has_drained, IsBeginning, is_drain, Replays, stimuli_in}
 use Rattle.osworld.proofs.Listed.{list_of, list_of-same, list_of-other, history_from-push}
 use Rattle.osworld.proofs.Streams.{is_from, is_post_to}
-use Rattle.osworld.proofs.Carrying.{history-same, history-other, posted-in}
+use Rattle.osworld.proofs.Carrying.{and_false, and_true, history-same, history-other, posted-in}
 use Rattle.osworld.proofs.Started.{no_history, nothing_of}
 use Rattle.osworld.proofs.Fitting.{begins-all, begins-next, envelope_in, has_drained-push, IsNext, Known, length-received, length-stimuli_in, named-known, past_all, received-is, solo-push, stimuli_in-push}
-
-and_false : {A : Type 0} (b : Bool) (x y : A) → cond (b && false) x y ≡ y
-and_false true x y = refl
-and_false false x y = refl
-
-and_true : (b : Bool) → b ≡ (b && true)
-and_true true = refl
-and_true false = refl
 
 -- the board's calls, and one more
 replays-push : (first : Board) (es : List BoardEntry) (core : CoreId) (call : BoardCall) → Replays first es → Replays first (es ++ record { core = core; call = call; reply = reply_of call (board_from first es) } ∷ [])
