@@ -1,9 +1,10 @@
 //! The worked examples, from text to text.
 
-ghost use Rattle.std.specs.Prelude.{None};
+ghost use Rattle.std.specs.Prelude.{None, Some};
 
 use crate::jobs::{Job, job_of};
-use crate::performs::perform;
+use crate::performs::{perform, perform_from};
+use crate::sources::{Given, Source};
 use osbase::CoreId;
 use ostrace::{MemorySink, Sink};
 use std::alloc::{AllocError, Global};
@@ -363,6 +364,57 @@ fn fault_of(rt: &impl Abort, alloc: Global, files: &[Option<Vec<u8>>]) -> Result
     assert_eq!(rt; perform(alloc, &run_of(None), files, &mut out, &mut err), 1);
     assert!(rt; out.bytes.is_empty());
     Ok(err.bytes)
+}
+
+/// Given files, with a count of those that were asked for.
+#[derive(Drop)]
+struct Counted<'a> {
+    given: Given<'a>,
+    count: usize,
+}
+
+impl<'a> Source for Counted<'a> {
+    ghost files = { λ counted. counted.given.files.now };
+
+    ghost known = { λ counted. Some counted.given.files.now };
+
+    fn read(&mut self, at: usize) -> Result<(), AllocError> {
+        self.count = self.count.saturating_add(1);
+        self.given.read(at)
+    }
+
+    fn bytes(&self, at: usize) -> Option<&[u8]> {
+        self.given.bytes(at)
+    }
+}
+
+#[test]
+fn no_file_is_read_after_one_with_a_fault(rt: HostRuntime) -> Result<(), Fail> {
+    let alloc = rt.alloc();
+    let scheduled = run_of(Some("turns.json"));
+    let examples = [
+        (scheduled, ["{}", "{}", "x"], 1),
+        (scheduled, [BORDER, "x", "x"], 2),
+        (scheduled, [BORDER, "{}", "x"], 3),
+        (run_of(None), [BORDER, "{}", "x"], 2),
+        (check_of(), [BORDER, "x", "x"], 1),
+        (cut_of(0), [BORDER, "x", "x"], 1),
+    ];
+    for (job, texts, count) in examples.as_slice() {
+        let texts = texts.map(Some);
+        let files = files_of(alloc, texts.as_slice())?;
+        let mut source = Counted {
+            given: Given {
+                files: files.as_slice(),
+            },
+            count: 0,
+        };
+        let mut out = MemorySink::new(Vec::new(alloc));
+        let mut err = MemorySink::new(Vec::new(alloc));
+        perform_from(alloc, job, &mut source, &mut out, &mut err);
+        assert_eq!(rt; source.count, *count);
+    }
+    Ok(())
 }
 
 #[test]
