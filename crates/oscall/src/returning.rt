@@ -28,8 +28,8 @@ pub fn report<const P: usize, const J: usize, const OUT: usize>(
     state.print(Mark::ErrorHook(status), marks);
 }
 
-/// A service returns to the job of one of the core's tasks: its status is printed, then ErrorHook is called, and the job
-/// stands at its next operation.
+/// A service returns to the job of one of the core's tasks: its status is printed, then ErrorHook is
+/// called, and the job stands at its next operation.
 pub fn finish<const P: usize, const J: usize, const OUT: usize>(
     state: &mut CoreState<'_, P, J, OUT>,
     runner: Runner,

@@ -64,9 +64,9 @@ pub fn end_unasked<const P: usize, const J: usize, const OUT: usize>(
     }
 }
 
-/// ActivateTask by a running job of one of the core's tasks (OSEK/VDX OS 2.2.3, section 13.2.3.1). The invalid identifier answers
-/// E_OS_ID, a task of a core that was never started E_OS_CORE, and an own task with as many jobs as it
-/// may have E_OS_LIMIT; none of these activates anything.
+/// ActivateTask by a running job of one of the core's tasks (OSEK/VDX OS 2.2.3, section 13.2.3.1). The
+/// invalid identifier answers E_OS_ID, a task of a core that was never started E_OS_CORE, and an own
+/// task with as many jobs as it may have E_OS_LIMIT; none of these activates anything.
 pub fn activate<const P: usize, const J: usize, const OUT: usize>(
     state: &mut CoreState<'_, P, J, OUT>,
     runner: Runner,

@@ -17,7 +17,7 @@ pub with_front-nil : {Y : Type 0} (read : Option (List Y)) → with_front [] rea
 with_front-nil None = refl
 with_front-nil (Some ys) = refl
 
-with_front-cons : {Y : Type 0} (front : List Y) (y : Y) (read : Option (List Y)) → with_front front (option_map (λ ys. y ∷ ys) read) ≡ with_front (front ++ y ∷ []) read
+pub with_front-cons : {Y : Type 0} (front : List Y) (y : Y) (read : Option (List Y)) → with_front front (option_map (λ ys. y ∷ ys) read) ≡ with_front (front ++ y ∷ []) read
 with_front-cons front y None = refl
 with_front-cons front y (Some ys) = ap Some (sym (append_assoc front (y ∷ []) ys))
 

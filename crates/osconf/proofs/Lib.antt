@@ -13,3 +13,5 @@ pub mod Placed
 pub mod Restored
 pub mod Faultless
 pub mod Flat
+pub mod Walking
+pub mod Known

@@ -19,7 +19,7 @@ use Rattle.osconf.specs.declared.shapes.ObjectKind.TheVariants as kind
 use Rattle.osconf.specs.Fault.{failing}
 use Rattle.osconf.specs.Reading.{each, whole_of, if_name, name_of, values_of, member_of, member_or, is_object_of}
 use Rattle.osconf.specs.Shape.{is_member, only_if, each_of, task_shape, core_shape, config_shape}
-use Rattle.osconf.specs.Check.{core_has_name, is_task_within, is_core_within, is_within, same_number, is_first_named, are_tasks_distinct, is_apart, is_first_apart, are_cores_distinct, is_each_once, tests_of}
+use Rattle.osconf.specs.Check.{core_has_name, has_named_tasks, is_task_within, is_core_within, is_within, same_number, is_first_named, are_tasks_distinct, is_apart, is_first_apart, are_cores_distinct, is_each_once, tests_of}
 use Rattle.osconf.specs.Meaning.{byte_of, number_id, only_mode, task_plan, core_plan, plan_of}
 use Rattle.osconf.proofs.Bounds.{list_all-by, list_all-both, list_all-always, row-passes}
 
@@ -66,10 +66,6 @@ name-if false text name is e = cc
 
 name-passes : (d : Data) (name : List ℕ) → name_of d ≡ Some name → is_name name ≡ true
 name-passes d name e = let step = some-step if_name (as_str d) name e in name-if (is_name step.0) step.0 name refl step.2
-
--- the names of a core's tasks, and of all cores
-abbrev has_named_tasks : CoreText → Bool
-has_named_tasks core = list_all (λ (task : TaskText). is_name task.name) core.tasks
 
 task-named : (d : Data) (task : TaskText) → task_shape d ≡ Some task → is_name task.name ≡ true
 unfolding task_shape

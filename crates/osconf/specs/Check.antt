@@ -4,7 +4,7 @@ use Rattle.std.specs.Prelude.{ℕ, ◌==◌, ◌&&◌, nat_le, Bool, true, false
 use Rattle.std.specs.Option.{option_map_or}
 use Rattle.std.specs.List.{list_all, list_any}
 use Rattle.std.specs.Str.{bytes_eq}
-use Rattle.osplan.specs.Expressible.{mode_name}
+use Rattle.osplan.specs.Expressible.{is_name, mode_name}
 use Rattle.osplan.specs.declared.faults.ConfFault.TheVariants.{Limit, DuplicateName, UnknownName, BadScript}
 use Rattle.osconf.specs.declared.shapes.ConfigText.{ConfigText}
 use Rattle.osconf.specs.declared.shapes.CoreText.{CoreText}
@@ -70,6 +70,10 @@ abbrev pub is_each_once : ConfigText → Bool
 is_each_once t = are_cores_distinct t.cores && list_all (λ (core : CoreText). not (core_has_name mode_name core)) t.cores
 
 -- ---- names and numbers that name nothing
+
+-- Each task of the core has a name in form, as in every shape.
+abbrev pub has_named_tasks : CoreText → Bool
+has_named_tasks core = list_all (λ (task : TaskText). is_name task.name) core.tasks
 
 -- The task of this name, wherever it stands.
 abbrev pub is_task_name : List CoreText → List ℕ → Bool

@@ -34,6 +34,13 @@ core_named plan digits = do
 abbrev pub stimulus_of : List ℕ → Option Stimulus
 stimulus_of word = if bytes_eq word (codes "op") then Some Op else None
 
+-- What follows the word `op` and a space.
+abbrev pub after_op : List ℕ → Option (List ℕ)
+after_op [] = None
+after_op (a ∷ []) = None
+after_op (a ∷ b ∷ []) = None
+after_op (a ∷ b ∷ c ∷ later) = if a == 111 then (if b == 112 then (if c == 32 then Some later else None) else None) else None
+
 abbrev pub stimuli_of_text : List ℕ → Option (List Stimulus)
 stimuli_of_text text = each stimulus_of (parts_of 32 text)
 

@@ -1,5 +1,6 @@
 -- The configuration that a text means, and the faults that a text has. [own]
-use Rattle.std.specs.Prelude.{ℕ, ◌<◌, nat_le, Option, Some, None, option_map, option_and_then, if◌then◌else◌, List, [], ◌∷◌, map, position}
+use Rattle.std.specs.Prelude.{ℕ, ◌<◌, ◌&&◌, true, is_some, nat_le, Option, Some, None, option_map, option_and_then, if◌then◌else◌, List, [], ◌∷◌, map, position}
+use Rattle.std.specs.Option.{option_map_or}
 use Rattle.std.specs.List.{IsAmong}
 use Rattle.osbase.specs.declared.references.CoreId.{CoreId}
 use Rattle.osbase.specs.declared.references.ModeId.{ModeId}
@@ -20,8 +21,9 @@ use Rattle.osplan.specs.Fault.{fault_number}
 use Rattle.osplan.specs.Expressible.{mode_name}
 use Rattle.osconf.specs.Fault.{failing}
 use Rattle.osconf.specs.Shape.{config_shape}
-use Rattle.osconf.specs.Operation.{operations_of, form_of, op_of_form}
-use Rattle.osconf.specs.Check.{has_name, tests_of}
+use Rattle.osconf.specs.Operation.{Form, operations_of, form_of, task_in_form, op_of_form}
+use Rattle.osconf.specs.Check.{has_name, is_task_name, tests_of}
+use Rattle.osconf.specs.Reading.{value_if}
 
 -- A number as a byte: 0 where it is no byte, which no text without a fault has.
 abbrev pub byte_of : Option ℕ → ℕ
@@ -49,6 +51,10 @@ task_place (core ∷ cores) name = or_else (task_of_core name core) (task_place 
 -- The operation that a text says.
 abbrev pub op_of : List CoreText → List ℕ → Op
 op_of cores text = op_of_form (task_place cores) (form_of text)
+
+-- The operation of a form, where that is good and the task that it names, if it names one, is there.
+abbrev pub known_op : List CoreText → Option Form → Option Op
+known_op cores form = value_if (option_map_or (is_task_name cores) (task_in_form form) true && is_some form) (op_of_form (task_place cores) form)
 
 -- There is one mode, of number 0.
 abbrev pub only_mode : ModeId

@@ -31,6 +31,10 @@ abbrev pub GivesOr : {X Y : Type 0} → ConfFault → (X → Y) → Result X Con
 GivesOr named view (Ok x) read = read ≡ Some (view x)
 GivesOr named view (Err fault) read = Faults named fault read
 
+-- A value, where the test passes. [own]
+abbrev pub value_if : {X : Type 0} → Bool → X → Option X
+value_if b x = if b then Some x else None
+
 -- Each element is read, or none of them is.
 abbrev pub each : {X Y : Type 0} → (X → Option Y) → List X → Option (List Y)
 each f [] = Some []

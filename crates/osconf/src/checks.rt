@@ -1,12 +1,12 @@
 //! The tests of a configuration's text, one for each fault past its shape, in ascending order.
 
-ghost use Rattle.std.specs.Prelude.{◌≡◌, ◌==◌, not, MatchResult, Some, []};
+ghost use Rattle.std.specs.Prelude.{◌≡◌, ◌==◌, ◌&&◌, true, false, not, MatchResult, Some};
 ghost use Rattle.std.specs.List.{list_all, list_any, slice_split};
 ghost use Rattle.osconf.specs.declared.shapes.CoreText.{CoreText as Core};
 ghost use Rattle.osconf.specs.declared.shapes.TaskText.{TaskText as Task};
 ghost use Rattle.osplan.specs.Expressible.{mode_name};
 ghost use Rattle.osconf.specs.Fault.{failing, first_fault};
-ghost use Rattle.osconf.specs.Check.{is_between, is_task_within, is_core_within, is_within, has_name, core_has_name, is_first_named, are_tasks_distinct, same_number, is_apart, is_first_apart, are_cores_distinct, is_each_once, is_task_name, is_operation_known, are_operations_known, is_mode_name, is_task_known, is_core_known, are_known, is_operation, is_task_script, is_core_script, are_operations, tests_of};
+ghost use Rattle.osconf.specs.Check.{is_between, is_task_within, is_core_within, is_within, has_name, core_has_name, is_first_named, are_tasks_distinct, same_number, is_apart, is_first_apart, are_cores_distinct, is_each_once, is_task_name, is_operation_known, are_operations_known, is_mode_name, is_task_known, is_core_known, are_known, are_operations, tests_of};
 
 use crate::scripts::{OpText, form_of};
 use crate::shapes::{ConfigText, CoreText, TaskText, Whole};
@@ -217,7 +217,8 @@ fn is_mode_name(name: &str) -> bool
     name == MODE
 }
 
-fn are_mode_names(names: &[Name]) -> bool
+/// Whether each name is the only mode's.
+pub fn are_mode_names(names: &[Name]) -> bool
     ensures { result ≡ list_all is_mode_name names.now }
 {
     names.iter().all(|name| is_mode_name(name.as_str()))
@@ -238,7 +239,8 @@ fn is_core_known(cores: &[CoreText], core: &CoreText) -> bool
         .all(|task| is_task_known(cores, task))
 }
 
-fn has_core(cores: &[CoreText], number: Whole) -> bool
+/// Whether a core has this number.
+pub fn has_core(cores: &[CoreText], number: Whole) -> bool
     ensures { result ≡ list_any (λ (core : Core). same_number core.id number) cores.now }
 {
     cores.iter().any(|core| same_number(core.id, number))
@@ -257,40 +259,9 @@ fn are_known(text: &ConfigText) -> bool
     has_core(cores, text.master) && are_cores_known(cores, cores)
 }
 
-fn is_operation(text: &str) -> bool
-    ensures { result ≡ is_operation text.now }
-{
-    form_of(text).is_some()
-}
-
-fn are_parts_operations(script: &str) -> bool
-    ensures { result ≡ list_all is_operation (slice_split (λ b. b == 59) script.now) }
-{
-    script.split(';').all(is_operation)
-}
-
-fn is_task_script(task: &TaskText) -> bool
-    ensures { result ≡ is_task_script task.now }
-{
-    let script = task.script.as_str();
-    script.is_empty() || are_parts_operations(script)
-}
-
-fn is_core_script(core: &CoreText) -> bool
-    ensures { result ≡ is_core_script core.now }
-{
-    core.tasks.as_slice().iter().all(is_task_script)
-}
-
-fn are_operations(text: &ConfigText) -> bool
-    ensures { result ≡ are_operations text.now }
-{
-    text.cores.as_slice().iter().all(is_core_script)
-}
-
-/// The text has none of the faults past its shape, or the smallest of those that it has.
+/// The text has neither fault of its limits and of what stands twice, or the smaller of those that it has.
 pub fn check(text: &ConfigText) -> Result<(), ConfFault>
-    ensures { MatchResult result (λ _. failing (tests_of text.now) ≡ [])
+    ensures { MatchResult result (λ _. (is_within text.now && is_each_once text.now) ≡ true)
         (λ fault. first_fault (failing (tests_of text.now)) ≡ Some fault) }
 {
     if !is_within(text) {
@@ -299,11 +270,19 @@ pub fn check(text: &ConfigText) -> Result<(), ConfFault>
     if !is_each_once(text) {
         return Err(ConfFault::DuplicateName);
     }
-    if !are_known(text) {
-        return Err(ConfFault::UnknownName);
-    }
-    if !are_operations(text) {
-        return Err(ConfFault::BadScript);
-    }
     Ok(())
+}
+
+/// The fault of a text without those, some name of which names nothing or some operation of which is not
+/// in good form.
+pub fn fault_of_names(text: &ConfigText) -> ConfFault
+    requires checked { (is_within text.now && is_each_once text.now) ≡ true }
+    requires faulty { (are_known text.now && are_operations text.now) ≡ false }
+    ensures { first_fault (failing (tests_of text.now)) ≡ Some result }
+{
+    if are_known(text) {
+        ConfFault::BadScript
+    } else {
+        ConfFault::UnknownName
+    }
 }

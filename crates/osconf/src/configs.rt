@@ -1,17 +1,20 @@
 //! Reading a configuration.
 
-ghost use Rattle.std.specs.Prelude.{◌≡◌, ◌≢◌, IfOk, IfErr, Some};
+ghost use Rattle.std.specs.Prelude.{◌≡◌, ◌≢◌, IfOk, IfErr, Some, [], true};
+ghost use Rattle.std.specs.List.{list_all};
 ghost use Rattle.serde_json.specs.Read.{read};
 ghost use Rattle.serde_json.specs.View.{view};
 ghost use Rattle.osconf.specs.Shape.{config_shape};
-ghost use Rattle.osconf.specs.Meaning.{config_of, IsLeastFault};
+ghost use Rattle.osconf.specs.Fault.{failing, first_fault};
+ghost use Rattle.osconf.specs.Check.{has_named_tasks, tests_of};
+ghost use Rattle.osconf.specs.Meaning.{plan_of, config_of, IsLeastFault};
 ghost use Rattle.osconf.specs.Reading.{GivesOr};
 
-use crate::checks::check;
+use crate::checks::{check, fault_of_names};
 use crate::members::Refusal;
 use crate::plans::plan_of;
 use crate::shapes::{ConfigText, config_shape};
-use osplan::{ConfFault, Config};
+use osplan::{ConfFault, Config, Plan};
 use serde_json::Value;
 use std::alloc::Global;
 
@@ -41,6 +44,20 @@ fn shape_of(alloc: Global, value: &Value) -> Result<ConfigText, ConfFault>
     }
 }
 
+// Names and operations are judged while the plan is made, and again where it cannot be.
+fn plan_if_faultless(alloc: Global, text: &ConfigText) -> Result<Plan, ConfFault>
+    requires named { list_all has_named_tasks text.now.cores ≡ true }
+    ensures ok { IfOk result (λ plan. (failing (tests_of text.now) ≡ []) × (plan ≡ plan_of text.now)) }
+    ensures fault { IfErr result (λ fault. fault ≢ ConfFault.NoMemory → first_fault (failing (tests_of text.now)) ≡ Some fault) }
+{
+    check(text)?;
+    match plan_of(alloc, text) {
+        Ok(plan) => Ok(plan),
+        Err(Refusal::OutOfMemory) => Err(ConfFault::NoMemory),
+        Err(Refusal::Unfit) => Err(fault_of_names(text)),
+    }
+}
+
 /// The configuration that a JSON text means, version 1 of the format. Of several faults the one of
 /// smallest number is answered; past `NotJson` and `Shape` nothing more is judged. `NoMemory` where
 /// memory runs out, and never another answer in its place.
@@ -52,6 +69,5 @@ pub fn read_config(alloc: Global, text: &str) -> Result<Config, ConfFault>
 {
     let value = value_of(alloc, text)?;
     let text = shape_of(alloc, &value)?;
-    check(&text)?;
-    Ok(Config::new(plan_of(alloc, &text)?))
+    Ok(Config::new(plan_if_faultless(alloc, &text)?))
 }

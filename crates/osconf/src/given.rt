@@ -1,13 +1,14 @@
 //! Reading what a run is given: stimuli and turns.
 
-ghost use Rattle.std.specs.Prelude.{◌≡◌, ◌≢◌, ◌≤◌, ◌<◌, not, length, position, IfOk, IfErr, IfSome, Some};
+ghost use Rattle.std.specs.Prelude.{◌≡◌, ◌≢◌, ◌≤◌, ◌<◌, ◌==◌, not, length, position, IfOk, IfErr, IfSome, Some, option_map, ℕ, List};
 ghost use Rattle.std.specs.Char.{is_ascii_digit};
-ghost use Rattle.std.specs.List.{list_all};
+ghost use Rattle.std.specs.List.{list_all, slice_split};
+ghost use Rattle.std.specs.Borrow.{Bor};
 ghost use Rattle.std.specs.BTreeMap.{values};
 ghost use Rattle.serde_json.specs.declared.value.Value.{Value};
 ghost use Rattle.osconf.specs.Reading.{Gives, each, entries};
 ghost use Rattle.osconf.specs.Meaning.{IsLeast};
-ghost use Rattle.osconf.specs.Given.{core_named, stimulus_of, stimuli_of_text, core_stimuli_of, stimuli_of_data, has_words_within, are_stimuli_within, schedule_of_data, digits_in, served, choice_of, turn_of, turns_of_text, stimuli_meant, stimuli_faults, schedule_meant, schedule_faults};
+ghost use Rattle.osconf.specs.Given.{core_named, stimulus_of, after_op, stimuli_of_text, core_stimuli_of, stimuli_of_data, has_words_within, are_stimuli_within, schedule_of_data, digits_in, served, choice_of, turn_of, turns_of_text, stimuli_meant, stimuli_faults, schedule_meant, schedule_faults};
 ghost use Rattle.serde_json.specs.View.{view, members_view};
 
 use crate::configs::value_of;
@@ -33,17 +34,16 @@ fn core_named(plan: &Plan, digits: &[u8]) -> Option<CoreId>
     Some(core.id)
 }
 
-fn stimulus_of(word: &str) -> Option<Stimulus>
+fn stimulus_of(word: &[u8]) -> Option<Stimulus>
     ensures { result ≡ stimulus_of word.now }
 {
-    if word == "op" {
-        Some(Stimulus::Op)
-    } else {
-        None
+    match word {
+        [b'o', b'p'] => Some(Stimulus::Op),
+        _ => None,
     }
 }
 
-fn read_stimulus(word: &str) -> Result<Stimulus, Refusal>
+fn read_stimulus(word: &[u8]) -> Result<Stimulus, Refusal>
     ensures { Gives (λ x. x) result (stimulus_of word.now) }
 {
     match stimulus_of(word) {
@@ -52,15 +52,37 @@ fn read_stimulus(word: &str) -> Result<Stimulus, Refusal>
     }
 }
 
+/// What follows the word `op` and a space.
+fn after_op(text: &[u8]) -> Option<&[u8]>
+    ensures { option_map (λ (later : Bor (List ℕ)). later.now) result ≡ after_op text.now }
+{
+    match text {
+        [b'o', b'p', b' ', later @ ..] => Some(later),
+        _ => None,
+    }
+}
+
+// `op` is the only word so far, so the words are walked by it, and none is collected.
+fn stimuli_of_words(alloc: Global, text: &[u8]) -> Result<Items<Stimulus>, Refusal>
+    ensures { Gives (λ x. x) result (each stimulus_of (slice_split (λ b. b == 32) text.now)) }
+{
+    let mut stimuli = Vec::with_capacity(alloc, text.len() / 3 + 1)?;
+    let mut rest = text;
+    while let Some(later) = after_op(rest) {
+        stimuli.push(Stimulus::Op)?;
+        rest = later;
+    }
+    stimuli.push(read_stimulus(rest)?)?;
+    Ok(Items::from_vec(stimuli))
+}
+
 fn stimuli_of_text(alloc: Global, text: &str) -> Result<Items<Stimulus>, Refusal>
     ensures { Gives (λ x. x) result (stimuli_of_text text.now) }
 {
-    let words = words_of(alloc, text)?;
-    let mut stimuli = Items::new(alloc);
-    for word in &words {
-        stimuli.push(read_stimulus(word)?)?;
+    if text.is_empty() {
+        return Ok(Items::new(alloc));
     }
-    Ok(stimuli)
+    stimuli_of_words(alloc, text.as_bytes())
 }
 
 #[tactic(auto, unfolding(crate::specs::Given::core_stimuli_of))]

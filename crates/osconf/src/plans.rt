@@ -1,13 +1,15 @@
 //! The configuration that a text without a fault means.
 
-ghost use Rattle.std.specs.Prelude.{◌≡◌, ℕ, IfOk, List as Items, map, position};
+ghost use Rattle.std.specs.Prelude.{◌≡◌, ◌&&◌, ℕ, true, IfOk, List as Items, [], map, position, option_map};
 ghost use Rattle.std.specs.Borrow.{Bor};
-ghost use Rattle.osconf.specs.Operation.{operations_of};
-ghost use Rattle.osconf.specs.Check.{has_name};
-ghost use Rattle.osconf.specs.Meaning.{byte_of, number_id, id_of, task_of_core, task_place, op_of, only_mode, task_plan, core_plan, plan_of};
+ghost use Rattle.std.specs.List.{list_all};
+ghost use Rattle.osconf.specs.Reading.{Gives, value_if};
+ghost use Rattle.osconf.specs.Operation.{activate, operations_of, target_of, lone_form, form_with, form_of};
+ghost use Rattle.osconf.specs.Check.{has_name, has_named_tasks, are_operations_known, is_task_known, is_core_known, are_known, is_operation, is_task_script, is_core_script, are_operations};
+ghost use Rattle.osconf.specs.Meaning.{byte_of, number_id, id_of, task_of_core, task_place, op_of, known_op, only_mode, task_plan, core_plan, plan_of};
 
-use crate::checks::{MODE, has_name};
-use crate::scripts::{OpText, form_of};
+use crate::checks::{MODE, are_mode_names, has_core, has_name};
+use crate::members::Refusal;
 use crate::shapes::{ConfigText, CoreText, TaskText, Whole};
 use osbase::{CoreId, List, ModeId, Name, TaskRef};
 use oscript::{Op, Script};
@@ -62,15 +64,58 @@ fn task_place(cores: &[CoreText], name: &str) -> Option<TaskRef>
     None
 }
 
-fn op_of(cores: &[CoreText], text: &str) -> Op
-    ensures { result ≡ op_of cores.now text.now }
+fn lone_op(name: &str) -> Option<Op>
+    ensures { result ≡ known_op [] (lone_form name.now) }
 {
-    match form_of(text) {
-        Some(OpText::ActivateTask(Some(name))) => Op::ActivateTask(task_place(cores, name)),
-        Some(OpText::ActivateTask(None)) => Op::ActivateTask(None),
-        Some(OpText::TerminateTask) => Op::TerminateTask,
-        Some(OpText::Work) => Op::Work,
-        None => Op::Work,
+    if name == "work" {
+        return Some(Op::Work);
+    }
+    if name == "TerminateTask" {
+        return Some(Op::TerminateTask);
+    }
+    None
+}
+
+// A task's name is in form, so the letters of an argument need no judging.
+fn activation_of(cores: &[CoreText], argument: &str) -> Option<Op>
+    requires named { list_all has_named_tasks cores.now ≡ true }
+    ensures { result ≡ known_op cores.now (option_map activate (target_of argument.now)) }
+{
+    if argument == "?" {
+        return Some(Op::ActivateTask(None));
+    }
+    let task = task_place(cores, argument)?;
+    Some(Op::ActivateTask(Some(task)))
+}
+
+fn op_with(cores: &[CoreText], name: &str, argument: &str) -> Option<Op>
+    requires named { list_all has_named_tasks cores.now ≡ true }
+    ensures { result ≡ known_op cores.now (form_with name.now argument.now) }
+{
+    if name == "ActivateTask" {
+        activation_of(cores, argument)
+    } else {
+        None
+    }
+}
+
+fn op_of(cores: &[CoreText], text: &str) -> Option<Op>
+    requires named { list_all has_named_tasks cores.now ≡ true }
+    ensures { result ≡ known_op cores.now (form_of text.now) }
+{
+    match text.split_once(' ') {
+        None => lone_op(text),
+        Some((name, argument)) => op_with(cores, name, argument),
+    }
+}
+
+fn read_op(cores: &[CoreText], text: &str) -> Result<Op, Refusal>
+    requires named { list_all has_named_tasks cores.now ≡ true }
+    ensures { Gives (λ x. x) result (known_op cores.now (form_of text.now)) }
+{
+    match op_of(cores, text) {
+        Some(op) => Ok(op),
+        None => Err(Refusal::Unfit),
     }
 }
 
@@ -83,13 +128,14 @@ fn operations_of(alloc: Global, script: &str) -> Result<Vec<&str>, AllocError>
     script.split(';').collect(alloc)
 }
 
-fn script_of(alloc: Global, cores: &[CoreText], script: &str) -> Result<Script, AllocError>
-    ensures { IfOk result (λ ops. ops ≡ map (op_of cores.now) (operations_of script.now)) }
+fn script_of(alloc: Global, cores: &[CoreText], script: &str) -> Result<Script, Refusal>
+    requires named { list_all has_named_tasks cores.now ≡ true }
+    ensures { Gives (λ x. x) result (value_if (are_operations_known cores.now script.now && list_all is_operation (operations_of script.now)) (map (op_of cores.now) (operations_of script.now))) }
 {
     let texts = operations_of(alloc, script)?;
     let mut ops = List::new(alloc);
     for text in &texts {
-        ops.push(op_of(cores, text))?;
+        ops.push(read_op(cores, text)?)?;
     }
     Ok(ops)
 }
@@ -104,9 +150,13 @@ fn modes_of(alloc: Global, names: &[Name]) -> Result<List<ModeId>, AllocError>
     Ok(modes)
 }
 
-fn task_plan(alloc: Global, cores: &[CoreText], task: &TaskText) -> Result<Task, AllocError>
-    ensures { IfOk result (λ plan. plan ≡ task_plan cores.now task.now) }
+fn task_plan(alloc: Global, cores: &[CoreText], task: &TaskText) -> Result<Task, Refusal>
+    requires named { list_all has_named_tasks cores.now ≡ true }
+    ensures { Gives (λ x. x) result (value_if (is_task_known cores.now task.now && is_task_script task.now) (task_plan cores.now task.now)) }
 {
+    if !are_mode_names(task.auto.as_slice()) {
+        return Err(Refusal::Unfit);
+    }
     Ok(Task {
         name: Name::new(alloc, task.name.as_str())?,
         priority: byte_of(task.prio),
@@ -116,8 +166,9 @@ fn task_plan(alloc: Global, cores: &[CoreText], task: &TaskText) -> Result<Task,
     })
 }
 
-fn tasks_of(alloc: Global, cores: &[CoreText], tasks: &[TaskText]) -> Result<List<Task>, AllocError>
-    ensures { IfOk result (λ plans. plans ≡ map (task_plan cores.now) tasks.now) }
+fn tasks_of(alloc: Global, cores: &[CoreText], tasks: &[TaskText]) -> Result<List<Task>, Refusal>
+    requires named { list_all has_named_tasks cores.now ≡ true }
+    ensures { Gives (λ x. x) result (value_if (list_all (is_task_known cores.now) tasks.now && list_all is_task_script tasks.now) (map (task_plan cores.now) tasks.now)) }
 {
     let mut plans = List::new(alloc);
     for task in tasks {
@@ -138,8 +189,9 @@ fn ids_of(alloc: Global, numbers: &[Whole]) -> Result<List<CoreId>, AllocError>
     Ok(ids)
 }
 
-fn core_plan(alloc: Global, cores: &[CoreText], core: &CoreText) -> Result<Core, AllocError>
-    ensures { IfOk result (λ plan. plan ≡ core_plan cores.now core.now) }
+fn core_plan(alloc: Global, cores: &[CoreText], core: &CoreText) -> Result<Core, Refusal>
+    requires named { list_all has_named_tasks cores.now ≡ true }
+    ensures { Gives (λ x. x) result (value_if (is_core_known cores.now core.now && is_core_script core.now) (core_plan cores.now core.now)) }
 {
     Ok(Core {
         id: id_of(core),
@@ -152,8 +204,9 @@ fn core_plan(alloc: Global, cores: &[CoreText], core: &CoreText) -> Result<Core,
     })
 }
 
-fn cores_of(alloc: Global, cores: &[CoreText]) -> Result<List<Core>, AllocError>
-    ensures { IfOk result (λ plans. plans ≡ map (core_plan cores.now) cores.now) }
+fn cores_of(alloc: Global, cores: &[CoreText]) -> Result<List<Core>, Refusal>
+    requires named { list_all has_named_tasks cores.now ≡ true }
+    ensures { Gives (λ x. x) result (value_if (list_all (is_core_known cores.now) cores.now && list_all is_core_script cores.now) (map (core_plan cores.now) cores.now)) }
 {
     let mut plans = List::new(alloc);
     for core in cores {
@@ -162,10 +215,15 @@ fn cores_of(alloc: Global, cores: &[CoreText]) -> Result<List<Core>, AllocError>
     Ok(plans)
 }
 
-/// The plan of a text; of one with a fault it means nothing.
-pub fn plan_of(alloc: Global, text: &ConfigText) -> Result<Plan, AllocError>
-    ensures { IfOk result (λ plan. plan ≡ plan_of text.now) }
+/// The plan of a text. `Unfit` where a name in it names nothing, or an operation is not in good form.
+pub fn plan_of(alloc: Global, text: &ConfigText) -> Result<Plan, Refusal>
+    requires named { list_all has_named_tasks text.now.cores ≡ true }
+    ensures { Gives (λ x. x) result (value_if (are_known text.now && are_operations text.now) (plan_of text.now)) }
 {
+    let cores = text.cores.as_slice();
+    if !has_core(cores, text.master) {
+        return Err(Refusal::Unfit);
+    }
     let mut modes = List::new(alloc);
     modes.push(Name::new(alloc, MODE)?)?;
     Ok(Plan {
@@ -174,6 +232,6 @@ pub fn plan_of(alloc: Global, text: &ConfigText) -> Result<Plan, AllocError>
             number: byte_of(text.master),
         },
         modes,
-        cores: cores_of(alloc, text.cores.as_slice())?,
+        cores: cores_of(alloc, cores)?,
     })
 }

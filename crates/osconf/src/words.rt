@@ -1,12 +1,15 @@
 //! Names, numbers and the parts of a text.
 
-ghost use Rattle.std.specs.Prelude.{◌≡◌, ℕ, ◌==◌, IfOk, map, count_by, length, List};
+ghost use Rattle.std.specs.Prelude.{◌≡◌, ℕ, ◌==◌, ◌≤◌, IfOk, map, count_by, length, List};
 ghost use Rattle.std.specs.List.{list_all};
 ghost use Rattle.std.specs.Borrow.{Bor};
 ghost use Rattle.osplan.specs.Expressible.{is_name, is_name_part};
 ghost use Rattle.osconf.specs.Word.{parts_of, digit_of, two_digits, core_number};
 
 use std::alloc::{AllocError, Global};
+
+/// The most bytes of a run, whose count is a byte.
+const RUN: usize = 240;
 
 /// Whether a text has the form of a name: 1 to 128 letters, digits and underscores, a letter first.
 pub fn is_name(text: &str) -> bool
@@ -72,10 +75,31 @@ pub fn part_count(text: &str, separator: u8) -> usize
     count_of(text.as_bytes(), separator) + 1
 }
 
+// A run's count is a byte, so that many bytes are compared at once.
 fn count_of(bytes: &[u8], byte: u8) -> usize
     ensures { result ≡ count_by (λ b. b == byte) bytes.now }
 {
-    bytes.iter().filter(|b| **b == byte).count()
+    let mut count = 0;
+    let mut rest = bytes;
+    while RUN < rest.len() {
+        let (run, later) = rest.split_at(RUN);
+        count += usize::from(count_in_run(run, byte));
+        rest = later;
+    }
+    count + usize::from(count_in_run(rest, byte))
+}
+
+fn count_in_run(run: &[u8], byte: u8) -> u8
+    requires { length run.now ≤ 240 }
+    ensures { result ≡ count_by (λ b. b == byte) run.now }
+{
+    let mut count = 0;
+    for b in run {
+        if *b == byte {
+            count += 1;
+        }
+    }
+    count
 }
 
 /// The words of a text, which are divided by one space. The empty text has none.

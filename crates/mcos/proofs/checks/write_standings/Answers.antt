@@ -1,4 +1,3 @@
-use Rattle.std.proofs.Common.{ℕ}
 use Rattle.ostrace.proofs.Writing.{Writes-broken, Wrote-all, Wrote-then}
 use Rattle.osworld.proofs.Started.{id_at}
 use Rattle.mcos.specs.Checks.{line_at}

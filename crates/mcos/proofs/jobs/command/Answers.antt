@@ -2,7 +2,7 @@ use Rattle.std.proofs.Common.{Bool, ap, apâ‚‚, codes, refl, true, false, not, â—
 use Rattle.std.proofs.lemmas.Result.{IfOk-weaker}
 use Rattle.clap.specs.Simple.{app_of_fields}
 use Rattle.clap.specs.Words.{App, app_of, new_app, with_subcommand}
-use Rattle.mcos.specs.CommandLine.{check_command, cut_command, requires_subcommand, run_command}
+use Rattle.mcos.specs.CommandLine.{check_command, requires_subcommand, run_command}
 use Rattle.mcos.proofs.jobs.command.Goals as goal
 
 -- a command that is plain has no global argument

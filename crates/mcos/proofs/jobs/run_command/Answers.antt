@@ -1,7 +1,7 @@
 use Rattle.std.proofs.Common.{rules, ap, ap₂, codes, true, false, ◌≡◌, ◌∙◌}
 use Rattle.std.proofs.lemmas.Result.{IfOk-weaker}
 use Rattle.clap.specs.Simple.{app_of_fields}
-use Rattle.clap.specs.Words.{App, Rule, app_of, new_app, rule_of, with_rule}
+use Rattle.clap.specs.Words.{Rule, app_of, new_app, rule_of, with_rule}
 use Rattle.clap.specs.declared.builder.Arg.{Arg}
 use Rattle.mcos.specs.CommandLine.{schedule_rule, stimuli_rule}
 use Rattle.mcos.proofs.jobs.run_command.Goals as goal

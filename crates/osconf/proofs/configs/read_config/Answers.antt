@@ -9,14 +9,17 @@ use Rattle.osconf.proofs.Bounds.{bounds-of}
 use Rattle.osconf.proofs.Sayings.{config-named, expressible-of}
 use Rattle.osconf.proofs.configs.read_config.Goals as goal
 
-pub returns-in_err-check-clause-fault : goal.returns-in_err-check-clause-fault
-returns-in_err-check-clause-fault c =
+pub plan_if_faultless-requires : goal.plan_if_faultless-requires
+plan_if_faultless-requires c = record { named = config-named _ c.in_ok-text.text c.in_ok-text.ensures }
+
+pub returns-in_err-plan_if_faultless-clause-fault : goal.returns-in_err-plan_if_faultless-clause-fault
+returns-in_err-plan_if_faultless-clause-fault c =
     let faults : faults_of c.args.text.now ≡ failing (tests_of c.in_ok-text.text) = ap faults_of_data c.in_ok-value.ensures ∙ ap faults_of_shape c.in_ok-text.ensures in
-    let p = err_from_is_err_and c.from_residual-in_err-check.result c.from_residual-in_err-check.ensures.1 in
-    rw (p.1, p.2) (λ _. subst (λ (fs : List ConfFault). IsLeast c.in_err-check.field-0.0 fs) (sym faults) (least-tests_of c.in_ok-text.text c.in_err-check.field-0.0 c.in_err-check.ensures))
+    let p = err_from_is_err_and c.from_residual-in_err-plan_if_faultless.result c.from_residual-in_err-plan_if_faultless.ensures.1 in
+    rw (p.1, p.2) (λ known. subst (λ (fs : List ConfFault). IsLeast c.in_err-plan_if_faultless.field-0.0 fs) (sym faults) (least-tests_of c.in_ok-text.text c.in_err-plan_if_faultless.field-0.0 (c.in_err-plan_if_faultless.ensures.fault known)))
 
 pub new-requires-clause-limits : goal.new-requires-clause-limits
-new-requires-clause-limits c = rw c.in_ok-plan_of.ensures (bounds-of c.in_ok-text.text c.in_ok-check.ensures)
+new-requires-clause-limits c = rw c.in_ok-plan_if_faultless.ensures.ok.1 (bounds-of c.in_ok-text.text c.in_ok-plan_if_faultless.ensures.ok.0)
 
 pub new-requires-clause-expressible : goal.new-requires-clause-expressible
-new-requires-clause-expressible c = rw c.in_ok-plan_of.ensures (expressible-of c.in_ok-text.text (config-named _ c.in_ok-text.text c.in_ok-text.ensures) c.in_ok-check.ensures)
+new-requires-clause-expressible c = rw c.in_ok-plan_if_faultless.ensures.ok.1 (expressible-of c.in_ok-text.text (config-named _ c.in_ok-text.text c.in_ok-text.ensures) c.in_ok-plan_if_faultless.ensures.ok.0)

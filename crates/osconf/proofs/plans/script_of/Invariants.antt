@@ -1,7 +1,8 @@
-use Rattle.std.proofs.Common.{◌≡◌, map, take}
-use Rattle.osconf.specs.Meaning.{op_of}
-use Rattle.osconf.proofs.Each.{shown}
+use Rattle.std.proofs.Common.{◌≡◌, map, drop}
+use Rattle.osconf.specs.Reading.{each}
+use Rattle.osconf.proofs.Each.{with_front, shown}
+use Rattle.osconf.proofs.Known.{known_in}
 use Rattle.osconf.proofs.plans.script_of.Given as goal
 
 abbrev pub invariant-loop-text : goal.invariant-loop-text
-invariant-loop-text l = l.ops ≡ map (λ text. op_of l.cores (shown text)) (take l.text-index l.text-items)
+invariant-loop-text l = with_front l.ops (each (known_in l.cores) (map shown (drop l.text-index l.text-items))) ≡ each (known_in l.cores) (map shown l.text-items)

@@ -1,6 +1,8 @@
-use Rattle.std.proofs.Common.{◌≡◌, map, take}
-use Rattle.osconf.specs.Meaning.{task_plan}
+use Rattle.std.proofs.Common.{◌≡◌, map, drop}
+use Rattle.osconf.specs.Reading.{each}
+use Rattle.osconf.proofs.Each.{with_front}
+use Rattle.osconf.proofs.Known.{known_task, itself}
 use Rattle.osconf.proofs.plans.tasks_of.Given as goal
 
 abbrev pub invariant-loop-task : goal.invariant-loop-task
-invariant-loop-task l = l.plans ≡ map (task_plan l.cores) (take l.task-index l.tasks)
+invariant-loop-task l = with_front l.plans (each (known_task l.cores) (map itself (drop l.task-index l.tasks))) ≡ each (known_task l.cores) (map itself l.tasks)
