@@ -3,7 +3,7 @@
 ghost use Rattle.std.specs.Prelude.{◌≡◌, ◌+◌, ◌<◌, ◌≤◌, ◌^◌, Some, IsTrue, false, length, vec_len, vec_capacity};
 ghost use Rattle.osbase.specs.History.{Noted, Done, job_count};
 ghost use Rattle.osstate.specs.Does.{Adds, Does, StaysInItem};
-ghost use Rattle.osstate.specs.Sound.{is_before_live, is_op_known, is_own_runner};
+ghost use Rattle.osstate.specs.Sound.{is_before_live, is_current, is_op_known, is_own_runner};
 ghost use Rattle.oscall.specs.Service.{ends, ends_unasked, operates};
 ghost use Rattle.oscall.specs.Started.{activates_started};
 
@@ -21,6 +21,7 @@ pub fn end<const P: usize, const J: usize, const OUT: usize>(
 )
     requires own { IsTrue (is_own_runner state.old.view runner) }
     requires job { 0 < job_count runner state.old.jobs }
+    requires current { IsTrue (is_current state.old.current runner) }
     requires count { state.old.entries + 1 < 2 ^ 63 }
     requires room { vec_len marks.old + 2 ≤ vec_capacity marks.old }
     ensures does { Does (λ v h. ends runner h) state.old state.new marks.old.items marks.new.items }
@@ -47,6 +48,7 @@ pub fn end_unasked<const P: usize, const J: usize, const OUT: usize>(
 )
     requires own { IsTrue (is_own_runner state.old.view runner) }
     requires job { 0 < job_count runner state.old.jobs }
+    requires current { IsTrue (is_current state.old.current runner) }
     requires count { state.old.entries + 2 < 2 ^ 63 }
     requires room { vec_len marks.old + 3 ≤ vec_capacity marks.old }
     ensures does { Does (λ v h. ends_unasked runner h) state.old state.new marks.old.items marks.new.items }
@@ -137,6 +139,7 @@ pub fn terminate<const P: usize, const J: usize, const OUT: usize>(
 )
     requires own { IsTrue (is_own_runner state.old.view runner) }
     requires job { 0 < job_count runner state.old.jobs }
+    requires current { IsTrue (is_current state.old.current runner) }
     requires count { state.old.entries + 1 < 2 ^ 63 }
     requires room { vec_len marks.old + 2 ≤ vec_capacity marks.old }
     ensures does { Does (λ v h. operates v runner Op.TerminateTask h) state.old state.new marks.old.items marks.new.items }
@@ -160,6 +163,7 @@ pub fn operate<const P: usize, const J: usize, const OUT: usize>(
 )
     requires own { IsTrue (is_own_runner state.old.view runner) }
     requires job { 0 < job_count runner state.old.jobs }
+    requires current { IsTrue (is_current state.old.current runner) }
     requires known { IsTrue (is_op_known state.old.view op) }
     requires live { is_before_live state.old.phase ≡ false }
     requires outbox { length state.old.outbox < OUT }

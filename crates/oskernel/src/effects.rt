@@ -7,7 +7,7 @@ ghost use Rattle.osbase.specs.History.{Took, agreement_of, job_count, outbox_aft
 ghost use Rattle.oscript.specs.Frames.{action_at};
 ghost use Rattle.osstate.specs.Readings.{frame_at, script_of, task_refs};
 ghost use Rattle.osstate.specs.Does.{Adds, Does, Reads, StaysInItem};
-ghost use Rattle.osstate.specs.Sound.{activation_limit, is_agreed, is_before_live, is_first_gate, is_own_runner, is_past_first_gate, is_plain, is_posted, is_sender_known, is_taken};
+ghost use Rattle.osstate.specs.Sound.{activation_limit, is_agreed, is_before_live, is_current, is_first_gate, is_own_runner, is_past_first_gate, is_plain, is_posted, is_sender_known, is_taken};
 ghost use Rattle.oscall.specs.Service.{activates};
 ghost use Rattle.oskernel.specs.Step.{autostarts, closes, dispatches, effect, enters, goes_on, goes_to, is_stimulus, names_mode, performs, same_job};
 ghost use Rattle.oskernel.specs.Admission.{admits};
@@ -258,6 +258,7 @@ fn perform<const P: usize, const J: usize, const OUT: usize>(
 )
     requires own { IsTrue (is_own_runner state.old.view runner) }
     requires job { 0 < job_count runner state.old.jobs }
+    requires current { IsTrue (is_current state.old.current runner) }
     requires live { is_before_live state.old.phase ≡ false }
     requires outbox { length state.old.outbox < OUT }
     requires count { state.old.entries < 2 ^ 62 + 40 }

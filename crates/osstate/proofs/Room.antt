@@ -1,5 +1,5 @@
 -- The live jobs of a core that keeps its tasks' limits are at most as many as the limits sum to.
-use Rattle.std.proofs.Common.{◌≡◌, ℕ, zero, suc, ◌+◌, ◌≤◌, ◌<◌, Bool, true, false, cond, Option, Some, None, List, [], ◌∷◌, length, refl, ap, sym, subst, ◌∙◌, arith, sum_by, is_some, IfSome}
+use Rattle.std.proofs.Common.{◌≡◌, ℕ, zero, suc, ◌+◌, ◌≤◌, ◌<◌, Bool, true, false, cond, Option, Some, None, List, [], ◌∷◌, length, refl, ap, sym, subst, ◌∙◌, arith, sum_by, is_some, IfSome, IsTrue}
 use Rattle.std.specs.List.{slice_get, All}
 use Rattle.std.specs.Option.{option_map_or}
 use Rattle.std.proofs.lemmas.List.Sums.{sum_by-cons}
@@ -15,7 +15,7 @@ use Rattle.osplan.specs.declared.plans.Task.{Task}
 use Rattle.osplan.specs.View.{View}
 use Rattle.osstate.specs.Readings.{own_task}
 use Rattle.osstate.specs.Steps.{is_runner_in, view_from}
-use Rattle.osstate.specs.Sound.{activation_limit, is_own_runner}
+use Rattle.osstate.specs.Sound.{activation_limit, is_current, is_own_runner}
 use Rattle.osstate.proofs.Same.{same_core-true, same_core-refl, same_task-refl}
 use Rattle.osstate.proofs.JobLists.{job_count-rest}
 
@@ -147,3 +147,15 @@ live_current (Some t) js (Some j) e = oldest_counted (Runner.Task t) js j (sym e
 pub own_current : (v : View) (current : Option TaskRef) (js : List Job) (o : Option Job) → ((r : Runner) → job_count r js ≤ activation_limit v r) → o ≡ oldest_of current js → IfSome o (λ j. is_own_runner v j.runner ≡ true)
 own_current v current js None within e = tt
 own_current v current js (Some j) within e = own_oldest v current js j within (sym e)
+
+-- and it is the current task's
+pub runs_current : (current : Option TaskRef) (js : List Job) (o : Option Job) → o ≡ oldest_of current js → IfSome o (λ j. IsTrue (is_current current j.runner))
+runs_current current js None e = tt
+runs_current None js (Some j) e = cc
+runs_current (Some t) [] (Some j) e = cc
+runs_current (Some t) (x ∷ js) (Some j) e = cases (same_runner x.runner (Runner.Task t)) refl e (λ later. runs_current (Some t) js (Some j) later)
+  where
+    cases : (b : Bool) → same_runner x.runner (Runner.Task t) ≡ b → Some j ≡ cond b (Some x) (oldest (Runner.Task t) js)
+        → (Some j ≡ oldest (Runner.Task t) js → same_runner j.runner (Runner.Task t) ≡ true) → same_runner j.runner (Runner.Task t) ≡ true
+    cases true same e rest = subst (λ (o : Option Job). IfSome o (λ y. same_runner y.runner (Runner.Task t) ≡ true)) (sym e) same
+    cases false same e rest = rest e

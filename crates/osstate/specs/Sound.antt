@@ -1,13 +1,14 @@
 -- What holds of the state of every kernel: that nothing runs out of its room. All of it is this project's own.
-use Rattle.std.specs.Prelude.{◌≡◌, ◌||◌, ℕ, ◌≤◌, nat_le, nat_lt, Bool, true, false, not, IsTrue, IfSome, Option, Some, is_some, [], length, slice_index, sum_by}
+use Rattle.std.specs.Prelude.{◌≡◌, ◌||◌, ℕ, ◌≤◌, nat_le, nat_lt, Bool, true, false, not, IsTrue, IfSome, Option, Some, None, is_some, [], length, slice_index, sum_by}
 use Rattle.std.specs.List.{list_all}
 use Rattle.std.specs.Option.{option_map_or}
 use Rattle.osbase.specs.declared.references.Runner.{Runner}
+use Rattle.osbase.specs.declared.references.TaskRef.{TaskRef}
 use Rattle.osbase.specs.declared.items.Agreement.{Agreement}
 use Rattle.osbase.specs.declared.items.Item.{Item}
 use Rattle.osbase.specs.declared.marks.Mark.{Mark}
 use Rattle.osbase.specs.declared.histories.Phase.{Phase}
-use Rattle.osbase.specs.History.{job_count}
+use Rattle.osbase.specs.History.{job_count, same_runner}
 use Rattle.oscript.specs.declared.Op.{Op}
 use Rattle.oscript.specs.declared.Op.TheVariants.{ActivateTask}
 use Rattle.oscript.specs.declared.Action.{Action}
@@ -45,6 +46,11 @@ is_agreed other = false
 abbrev pub is_own_runner : View → Runner → Bool
 is_own_runner v (Runner.Task t) = is_some (own_task v t)
 is_own_runner v (Runner.Isr i) = false
+
+-- The runner is the task in the running state.
+abbrev pub is_current : Option TaskRef → Runner → Bool
+is_current None r = false
+is_current (Some t) r = same_runner r (Runner.Task t)
 
 -- How many jobs of a runner may be live at once; none of what is not the core's own.
 abbrev pub activation_limit : View → Runner → ℕ

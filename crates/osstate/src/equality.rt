@@ -12,8 +12,7 @@ pub fn is_same_core(left: CoreId, right: CoreId) -> bool
     left.number == right.number
 }
 
-/// Whether these name one task.
-pub fn is_same_task(left: TaskRef, right: TaskRef) -> bool
+fn is_same_task(left: TaskRef, right: TaskRef) -> bool
     ensures { result ≡ same_task left right }
 {
     both(

@@ -1,12 +1,11 @@
 //! Where a core stands: the part of its state that is no list.
 
 ghost use Rattle.std.specs.Prelude.{◌≡◌, ◌+◌, ◌<◌, ◌^◌, IsTrue};
-ghost use Rattle.osbase.specs.History.{Took, Printed, current_after, open_after, phase_after};
-ghost use Rattle.osstate.specs.Sound.{is_taken};
+ghost use Rattle.osbase.specs.History.{Took, Printed, open_after, phase_after};
+ghost use Rattle.osstate.specs.Sound.{is_current, is_taken};
 ghost use Rattle.osstate.specs.Steps.{agreement_after, began_after, first_gate_phase, first_progress, progress_after, started_after};
 
-use crate::equality::is_same_task;
-use osbase::{Agreement, CoreSet, Item, Mark, Message, OpenCall, Phase, TaskRef};
+use osbase::{Agreement, CoreSet, Item, Mark, Message, OpenCall, Phase, Runner, TaskRef};
 
 /// Where a core stands.
 #[derive(Clone, Copy, Debug, PartialEq, Eq)]
@@ -73,24 +72,26 @@ impl Progress {
         self.entries += 1;
     }
 
-    /// A task leaves the running state, if it is in it.
+    /// The task in the running state leaves it.
     pub fn leave(&mut self, task: TaskRef)
-        requires { self.old.entries < 2 ^ 63 }
+        requires current { IsTrue (is_current self.old.current (Runner.Task task)) }
+        requires entries { self.old.entries < 2 ^ 63 }
         ensures { self.new ≡ progress_after (Printed (Mark.PostTaskHook task)) self.old }
     {
-        self.current = without(self.current, task);
+        let _ = task;
+        self.current = None;
         self.entries += 1;
     }
-}
 
-fn without(current: Option<TaskRef>, task: TaskRef) -> Option<TaskRef>
-    ensures { result ≡ current_after (Printed (Mark.PostTaskHook task)) current }
-{
-    let running = current?;
-    if is_same_task(task, running) {
-        return None;
+    /// A task that left the running state has ended.
+    pub fn terminate(&mut self, task: TaskRef)
+        requires left { self.old.current ≡ None }
+        requires entries { self.old.entries < 2 ^ 63 }
+        ensures { self.new ≡ progress_after (Printed (Mark.Terminated task)) self.old }
+    {
+        let _ = task;
+        self.entries += 1;
     }
-    current
 }
 
 fn phase_by(phase: Phase, item: &Item) -> Phase

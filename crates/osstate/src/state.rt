@@ -9,7 +9,7 @@ ghost use Rattle.osplan.specs.View.{core_of, is_configured, view_of};
 ghost use Rattle.osstate.specs.Does.{Does, Notes, Reads};
 ghost use Rattle.osstate.specs.Readings.{best_job, frame_at, has_core, is_at_limit, is_own, is_started, next_start, own_task, phase_at, script_of};
 ghost use Rattle.osstate.specs.State.{state_of};
-ghost use Rattle.osstate.specs.Sound.{activation_limit, is_action_known, is_agreed, is_before_live, is_first_gate, is_own_runner, is_past_first_gate, is_plain, is_posted, is_sender_known, is_taken};
+ghost use Rattle.osstate.specs.Sound.{activation_limit, is_action_known, is_agreed, is_before_live, is_current, is_first_gate, is_own_runner, is_past_first_gate, is_plain, is_posted, is_sender_known, is_taken};
 ghost use Rattle.osstate.specs.Steps.{best_in, frame_in, next_envelope, state_after};
 
 use crate::cores::is_member;
@@ -119,10 +119,11 @@ impl<'a, const P: usize, const J: usize, const OUT: usize> CoreState<'a, P, J, O
         marks.push_reserved(Mark::Activated(task));
     }
 
-    /// The oldest job of one of the core's tasks has ended.
+    /// The oldest job of one of the core's tasks has ended, which left the running state.
     pub fn terminate(&mut self, task: TaskRef, marks: &mut Vec<Mark>)
         requires own { IsTrue (is_own_runner self.old.view (Runner.Task task)) }
         requires job { 0 < job_count (Runner.Task task) self.old.jobs }
+        requires left { self.old.current ≡ None }
         requires count { self.old.entries < 2 ^ 63 }
         requires room { vec_len marks.old < vec_capacity marks.old }
         ensures state { self.new ≡ state_after (Printed (Mark.Terminated task)) self.old }
@@ -132,7 +133,7 @@ impl<'a, const P: usize, const J: usize, const OUT: usize> CoreState<'a, P, J, O
     {
         parts::remove_oldest(&mut self.jobs, Runner::Task(task));
         parts::rewind_frame(&mut self.frames, task);
-        self.progress.leave(task);
+        self.progress.terminate(task);
         marks.push_reserved(Mark::Terminated(task));
     }
 
@@ -149,14 +150,16 @@ impl<'a, const P: usize, const J: usize, const OUT: usize> CoreState<'a, P, J, O
         marks.push_reserved(Mark::PreTaskHook(task));
     }
 
-    /// PostTaskHook is called, and a task leaves the running state (OSEK/VDX OS 2.2.3, section 11.5).
+    /// PostTaskHook is called, and the task in the running state leaves it (OSEK/VDX OS 2.2.3, section 11.5).
     pub fn leave(&mut self, task: TaskRef, marks: &mut Vec<Mark>)
+        requires current { IsTrue (is_current self.old.current (Runner.Task task)) }
         requires count { self.old.entries < 2 ^ 63 }
         requires room { vec_len marks.old < vec_capacity marks.old }
         ensures state { self.new ≡ state_after (Printed (Mark.PostTaskHook task)) self.old }
         ensures marks { marks.new.items ≡ marks.old.items ++ Mark.PostTaskHook task ∷ [] }
         ensures capacity { vec_capacity marks.new ≡ vec_capacity marks.old }
         ensures does { Does (λ v h. Printed (Mark.PostTaskHook task) ∷ h) self.old self.new marks.old.items marks.new.items }
+        ensures left { self.new.current ≡ None }
     {
         self.progress.leave(task);
         marks.push_reserved(Mark::PostTaskHook(task));
@@ -266,6 +269,7 @@ impl<'a, const P: usize, const J: usize, const OUT: usize> CoreState<'a, P, J, O
     pub fn current(&self) -> Option<TaskRef>
         ensures state { result ≡ self.now.current }
         ensures reads { Reads (λ v h. current_task h) self.now result }
+        ensures current { IfSome result (λ task. IsTrue (is_current self.now.current (Runner.Task task))) }
     {
         self.progress.current
     }
@@ -373,6 +377,7 @@ impl<'a, const P: usize, const J: usize, const OUT: usize> CoreState<'a, P, J, O
         ensures reads { Reads (λ v h. current_job h) self.now result }
         ensures live { IfSome result (λ job. 0 < job_count job.runner self.now.jobs) }
         ensures own { IfSome result (λ job. IsTrue (is_own_runner self.now.view job.runner)) }
+        ensures current { IfSome result (λ job. IsTrue (is_current self.now.current job.runner)) }
     {
         let task = self.progress.current?;
         parts::oldest_job(self.jobs.as_slice(), Runner::Task(task))
