@@ -1,3 +1,5 @@
+pub mod Parsed
 pub mod Printing
 pub mod Reading
 pub mod Standings
+pub mod Usage

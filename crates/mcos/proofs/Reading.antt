@@ -1,5 +1,7 @@
 -- What was read of a job's files, and what stays of it.
-use Rattle.std.proofs.Common.{◌≡◌, ◌≢◌, ◌∙◌, ap, arith, ℕ, List, Option, Result, Ok}
+use Rattle.std.proofs.Common.{◌≡◌, ◌≢◌, ◌+◌, ◌≤◌, ◌∙◌, ap, arith, refl, ℕ, List, Option, Some, None, Result, Ok, Vec, length, option_map, option_and_then, slice_get}
+use Rattle.std.proofs.lemmas.Option.{slice_get_within}
+use Rattle.std.specs.declared.alloc.Global.{Global}
 use Rattle.osbase.specs.declared.turns.CoreStimuli.{CoreStimuli}
 use Rattle.osplan.specs.declared.plans.Plan.{Plan}
 use Rattle.osplan.specs.declared.faults.ConfFault.{ConfFault}
@@ -9,7 +11,7 @@ use Rattle.osconf.specs.Meaning.{IsLeast, config_of}
 use Rattle.mcos.specs.declared.faults.Fault.{Fault}
 use Rattle.mcos.specs.declared.faults.Fault.TheVariants.{Text}
 use Rattle.mcos.specs.Runs.{IsGiven}
-use Rattle.mcos.specs.Texts.{File, IsFaultOf, KeepsBelow, Means, bytes_at, text_at}
+use Rattle.mcos.specs.Texts.{File, IsFaultOf, KeepsBelow, Means, bytes_at, text_at, text_in}
 
 -- a reader's fault is the fault of the file
 pub IsFaultOf-read : (faults : List ℕ → List ConfFault) (file : Result (List ℕ) Fault) (text : List ℕ) (read : ConfFault) (fault : Fault)
@@ -35,3 +37,11 @@ IsGiven-kept old new plan stimuli keeps given = record {
   config = Means-kept config_of old new 0 plan (keeps 0 (omega arith)) given.config;
   listed = Means-kept (stimuli_meant plan) old new 1 stimuli (keeps 1 (omega arith)) given.listed;
 }
+
+-- a file that has a meaning was read
+pub Means-there : {A : Type 0} (meaning : List ℕ → Option A) (files : List File) (at : ℕ) (x : A) → Means meaning (text_at files at) x → at + 1 ≤ length files
+Means-there meaning files at x means = by (slice_get files at) refl means
+  where
+    by : (o : Option File) → slice_get files at ≡ o → Means meaning (text_in (option_map (λ (bytes : Vec ℕ Global). bytes.items) (option_and_then (λ (file : File). file) o))) x → at + 1 ≤ length files
+    by None e none = absurd none
+    by (Some file) e means = let within = slice_get_within files at file e in omega arith

@@ -61,7 +61,8 @@ pub data IsRunFault (schedule : Option (List ℕ)) (files : List File) (fault : 
   broken_off : (plan : Plan) (stimuli : List CoreStimuli) → IsGiven files plan stimuli → HasSchedule schedule files plan →
       fault ≡ NoMemoryToRun → IsRunFault schedule files fault
 
--- Why a run prints nothing. Want of memory while reading may be the fault of any files.
+-- Why a run prints nothing: a fault of its files, or want of memory in the run. Nothing is said of the files where memory was
+-- wanting while they were read.
 abbrev pub HasNoReports : Option (List ℕ) → List File → Fault → Type 0
 HasNoReports schedule files fault = fault ≢ Text NoMemory → IsRunFault schedule files fault
 
@@ -96,10 +97,11 @@ pub data IsCutFault (core : CoreId) (files : List File) (fault : Fault) : Type 0
 abbrev pub HasNoCut : CoreId → List File → Fault → Type 0
 HasNoCut core files fault = fault ≢ Text NoMemory → IsCutFault core files fault
 
--- The same of one configuration.
+-- The text of a core's own configuration, where the core is separate.
 abbrev pub IsCutOf : Plan → CoreId → List ℕ → Type 0
 IsCutOf plan core text = (is_separate plan core ≡ true) × (text ≡ config_text (cut_of plan core))
 
+-- Why there is none: the core is not separate. Nothing is said where memory was wanting.
 abbrev pub IsNotCut : Plan → CoreId → Fault → Type 0
 IsNotCut plan core fault = fault ≢ Text NoMemory → (is_separate plan core ≡ false) × (fault ≡ Text NotSeparate)
 
@@ -131,10 +133,10 @@ pub record Prints {S : Type 0} (taken : S → Option (List ℕ)) (failed : S →
 
 -- There is an output, which is printed; or there is none, for a fault, and nothing is printed. [own]
 pub data Comes {S : Type 0} (taken : S → Option (List ℕ)) (failed : S → ℕ) (old new : S) (Output : List ℕ → Outcome → Type 0)
-    (None : Fault → Type 0) (result : Result Outcome Fault) : Type 0 where
+    (NoOutput : Fault → Type 0) (result : Result Outcome Fault) : Type 0 where
   prints : (text : List ℕ) (outcome : Outcome) → Output text outcome → Prints taken failed old new text outcome result →
-      Comes taken failed old new Output None result
-  fails : (fault : Fault) → result ≡ Err fault → None fault → new ≡ old → Comes taken failed old new Output None result
+      Comes taken failed old new Output NoOutput result
+  fails : (fault : Fault) → result ≡ Err fault → NoOutput fault → new ≡ old → Comes taken failed old new Output NoOutput result
 
 -- A fault is told by its line, as far as it can be written, and nothing else is told. [own]
 abbrev pub Tells : {S : Type 0} → (S → Option (List ℕ)) → (S → ℕ) → S → S → Result Outcome Fault → Type 0

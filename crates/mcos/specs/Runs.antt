@@ -1,5 +1,5 @@
 -- What the files of a run come to: its reports, and what is printed of them. [own]
-use Rattle.std.specs.Prelude.{ℕ, Bool, true, false, Option, Some, None, List, ◌++◌, codes}
+use Rattle.std.specs.Prelude.{ℕ, ◌≤◌, max, Bool, true, false, Option, Some, None, List, ◌++◌, codes, length}
 use Rattle.osbase.specs.declared.references.CoreId.{CoreId}
 use Rattle.osbase.specs.declared.turns.Choice.{Choice}
 use Rattle.osbase.specs.declared.turns.CoreStimuli.{CoreStimuli}
@@ -16,6 +16,14 @@ use Rattle.mcos.specs.Texts.{File, Means, text_at}
 pub record IsGiven (files : List File) (plan : Plan) (stimuli : List CoreStimuli) : Type 0 where
   pub config : Means config_of (text_at files 0) plan
   pub listed : Means (stimuli_meant plan) (text_at files 1) stimuli
+
+-- No file is read after one with a fault: beyond the files that were read before, there are at most the configuration;
+-- the stimuli, where the configuration has a meaning; and the schedule, where both have one. [own]
+pub data StopsAtFaults (before : ℕ) (files : List File) : Type 0 where
+  at_config : length files ≤ max before 1 → StopsAtFaults before files
+  at_stimuli : (plan : Plan) → Means config_of (text_at files 0) plan → length files ≤ max before 2 → StopsAtFaults before files
+  at_schedule : (plan : Plan) (stimuli : List CoreStimuli) → IsGiven files plan stimuli → length files ≤ max before 3 →
+      StopsAtFaults before files
 
 -- The reports are those of the world after the listed turns, where a schedule is named, and else after the turns of the
 -- default schedule. [own]

@@ -1,7 +1,7 @@
 //! `check` and `cut`: how the cores of a configuration stand to one another, and the configuration of a
 //! separate core alone.
 
-ghost use Rattle.std.specs.Prelude.{◌≡◌, ◌<◌, ◌^◌, ◌++◌, IfErr, IfOk, codes, string_bytes};
+ghost use Rattle.std.specs.Prelude.{◌≡◌, ◌<◌, ◌≤◌, ◌^◌, ◌++◌, IfErr, IfOk, codes, length, max, string_bytes};
 ghost use Rattle.std.specs.List.{flat_map};
 ghost use Rattle.ostrace.specs.Taken.{Writes};
 ghost use Rattle.osworld.specs.World.{ids_of};
@@ -27,6 +27,7 @@ pub fn check<S: Source, O: Sink>(
     requires { O.failed out.old < 2 ^ 48 }
     ensures comes { Comes O.taken O.failed out.old out.new (IsCheckOutput (S.files source.new))
         (HasNoConfig (S.files source.new)) result }
+    ensures ahead { length (S.files source.new) ≤ max (length (S.files source.old)) 1 }
     ensures known { S.known source.new ≡ S.known source.old }
 {
     let config = config_in(alloc, source)?;
@@ -95,6 +96,7 @@ pub fn cut_out<S: Source, O: Sink>(
     requires { O.failed out.old < 2 ^ 48 }
     ensures comes { Comes O.taken O.failed out.old out.new (IsCutOutput core (S.files source.new))
         (HasNoCut core (S.files source.new)) result }
+    ensures ahead { length (S.files source.new) ≤ max (length (S.files source.old)) 1 }
     ensures known { S.known source.new ≡ S.known source.old }
 {
     let config = config_in(alloc, source)?;

@@ -13,8 +13,8 @@ use std::alloc::AllocError;
 /// Why a job was not done. The program prints `fault N Name` and exits with status 1.
 #[derive(Clone, Copy, Debug, PartialEq, Eq)]
 pub enum Fault {
-    /// A text is not what it has to be, or memory was refused before a run: for the words, a file's bytes, a
-    /// configuration.
+    /// A text is not what it has to be, the core to cut is not separate, or memory was refused before a run:
+    /// for the words, a file's bytes, a configuration.
     Text(ConfFault),
     /// A growth was refused in a run.
     NoMemoryToRun,

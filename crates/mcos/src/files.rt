@@ -1,6 +1,6 @@
 //! Files on disk as bytes.
 
-ghost use Rattle.std.specs.Prelude.{◌+◌, IfOk, None};
+ghost use Rattle.std.specs.Prelude.{◌≡◌, ◌+◌, [], IfOk, None, vec_len};
 ghost use Rattle.mcos.specs.declared.files.TheConstants.{LARGEST, PIECE};
 ghost use Rattle.mcos.specs.Files.{HasFewerThan};
 
@@ -10,7 +10,7 @@ use std::fs::File;
 use std::io::Read;
 use std::rt::Files;
 
-/// The largest file that is read, in bytes: above it the program's memory is at an end.
+/// How many bytes are read of a file: where more follows, that is answered as want of memory.
 pub const LARGEST: usize = 1 << 30;
 
 /// How many bytes are read at once.
@@ -57,8 +57,11 @@ pub struct Paths<'r, 'p, R> {
 }
 
 impl<'r, 'p, R: Files + AllocGlobal> Paths<'r, 'p, R> {
-    /// Nothing is read yet.
-    pub fn new(rt: &'r R, paths: Vec<&'p str>) -> Self {
+    /// No file is read yet.
+    pub fn new(rt: &'r R, paths: Vec<&'p str>) -> Self
+        ensures files { result.files.items ≡ [] }
+        ensures paths { result.paths ≡ paths.entry }
+    {
         Paths {
             rt,
             paths,
@@ -72,8 +75,10 @@ impl<'r, 'p, R: Files + AllocGlobal> Source for Paths<'r, 'p, R> {
 
     ghost known = { λ _. None };
 
+    ghost count = { λ paths. vec_len paths.paths };
+
     fn read(&mut self, at: usize) -> Result<(), AllocError> {
-        if at != self.files.len() {
+        if at < self.files.len() {
             return Ok(());
         }
         if let Some(path) = self.paths.get(at) {

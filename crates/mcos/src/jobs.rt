@@ -1,8 +1,7 @@
 //! What the program is asked to do.
 
-ghost use Rattle.std.specs.Prelude.{◌≡◌, IfErr, IfOk, codes, false, map};
-ghost use Rattle.clap.specs.Words.{FailsBy, app_of, fault_of, found_of, kind_of, rows_of, rule_of};
-ghost use Rattle.clap.specs.declared.error.ErrorKind.TheVariants.{OutOfMemory};
+ghost use Rattle.std.specs.Prelude.{◌≡◌, IfOk, IsSome, IsSomeAnd, codes, false, map};
+ghost use Rattle.clap.specs.Words.{FailsBy, IsUnsignedIn, app_of, fault_of, first_value, found_of, rows_of, rule_of};
 ghost use Rattle.mcos.specs.CommandLine.{AsksFor, HasEntries, check_command, command_line, config_rule, cut_command, run_command, subcommand_name};
 ghost use Rattle.mcos.specs.Jobs.{paths_of};
 
@@ -65,57 +64,59 @@ pub fn job_of<'a, S: AsStr>(alloc: Global, words: &'a [S]) -> Result<Job<'a>, Er
 {
     let matches = command(alloc)?.try_get_matches_from(words)?;
     if let Some(run) = matches.subcommand_matches("run") {
-        return run_job(run);
+        return Ok(run_job(run));
     }
     if let Some(check) = matches.subcommand_matches("check") {
-        return check_job(check);
+        return Ok(check_job(check));
     }
-    match matches.subcommand_matches("cut") {
-        Some(cut) => cut_job(cut),
-        None => Err(Error::from(AllocError)),
-    }
+    let Some(cut) = matches.subcommand_matches("cut") else {
+        unreachable!();
+    };
+    Ok(cut_job(cut))
 }
 
-// The entries of `run`, which its required arguments have.
-fn run_job<'a>(run: &ArgMatches<'a>) -> Result<Job<'a>, Error>
-    ensures job { IfOk result (λ job. HasEntries (rows_of (found_of run.now)) job × (subcommand_name job ≡ codes "run")) }
-    ensures memory { IfErr result (λ error. kind_of error ≡ OutOfMemory) }
+// The entries of `run`, whose required arguments are there.
+fn run_job<'a>(run: &ArgMatches<'a>) -> Job<'a>
+    requires config { IsSome (first_value (found_of run.now) (codes "CFG")) }
+    requires stimuli { IsSome (first_value (found_of run.now) (codes "STIM")) }
+    ensures { HasEntries (rows_of (found_of run.now)) result × (subcommand_name result ≡ codes "run") }
 {
     let (Some(config), Some(stimuli)) = (run.get_str("CFG"), run.get_str("STIM")) else {
-        return Err(Error::from(AllocError));
+        unreachable!();
     };
-    Ok(Job::Run {
+    Job::Run {
         config,
         stimuli,
         schedule: run.get_str("schedule"),
-    })
-}
-
-// The entry of `check`, which its required argument has.
-fn check_job<'a>(check: &ArgMatches<'a>) -> Result<Job<'a>, Error>
-    ensures job { IfOk result (λ job. HasEntries (rows_of (found_of check.now)) job × (subcommand_name job ≡ codes "check")) }
-    ensures memory { IfErr result (λ error. kind_of error ≡ OutOfMemory) }
-{
-    match check.get_str("CFG") {
-        Some(config) => Ok(Job::Check { config }),
-        None => Err(Error::from(AllocError)),
     }
 }
 
-// The entries of `cut`, which its required arguments have; the core is a number that a byte can hold.
-fn cut_job<'a>(cut: &ArgMatches<'a>) -> Result<Job<'a>, Error>
-    ensures job { IfOk result (λ job. HasEntries (rows_of (found_of cut.now)) job × (subcommand_name job ≡ codes "cut")) }
-    ensures memory { IfErr result (λ error. kind_of error ≡ OutOfMemory) }
+// The entry of `check`, whose required argument is there.
+fn check_job<'a>(check: &ArgMatches<'a>) -> Job<'a>
+    requires config { IsSome (first_value (found_of check.now) (codes "CFG")) }
+    ensures { HasEntries (rows_of (found_of check.now)) result × (subcommand_name result ≡ codes "check") }
+{
+    let Some(config) = check.get_str("CFG") else {
+        unreachable!();
+    };
+    Job::Check { config }
+}
+
+// The entries of `cut`, whose required arguments are there; the core is a number that a byte can hold.
+fn cut_job<'a>(cut: &ArgMatches<'a>) -> Job<'a>
+    requires config { IsSome (first_value (found_of cut.now) (codes "CFG")) }
+    requires core { IsSomeAnd (first_value (found_of cut.now) (codes "CORE")) (IsUnsignedIn 0 255) }
+    ensures { HasEntries (rows_of (found_of cut.now)) result × (subcommand_name result ≡ codes "cut") }
 {
     let (Some(config), Some(core)) = (cut.get_str("CFG"), cut.get_str("CORE")) else {
-        return Err(Error::from(AllocError));
+        unreachable!();
     };
-    match core.parse::<u8>() {
-        Ok(number) => Ok(Job::Cut {
-            config,
-            core: CoreId { number },
-        }),
-        Err(_) => Err(Error::from(AllocError)),
+    let Ok(number) = core.parse::<u8>() else {
+        unreachable!();
+    };
+    Job::Cut {
+        config,
+        core: CoreId { number },
     }
 }
 

@@ -1,9 +1,10 @@
 //! Doing a job over its files' bytes.
 
-ghost use Rattle.std.specs.Prelude.{◌≡◌, ◌<◌, ◌^◌};
+ghost use Rattle.std.specs.Prelude.{◌≡◌, ◌<◌, ◌^◌, length};
 ghost use Rattle.ostrace.specs.Taken.{Writes};
 ghost use Rattle.mcos.specs.Faults.{fault_text};
 ghost use Rattle.mcos.specs.Performs.{Comes, HasNoOutput, IsOutput, Performs};
+ghost use Rattle.mcos.specs.Runs.{StopsAtFaults};
 
 use crate::checks::{check, cut_out};
 use crate::faults::Fault;
@@ -33,7 +34,8 @@ pub fn perform<O: Sink, E: Sink>(
     perform_from(alloc, job, &mut Given { files }, out, err)
 }
 
-/// The same over files that are read one by one: each is judged before the next is read.
+/// The same over files that are read one by one: each is judged before the next is read, and none is read
+/// after one with a fault.
 pub fn perform_from<S: Source, O: Sink, E: Sink>(
     alloc: Global,
     job: &Job,
@@ -45,6 +47,7 @@ pub fn perform_from<S: Source, O: Sink, E: Sink>(
     requires err { E.failed err.old < 2 ^ 48 }
     ensures performs { Performs O.taken O.failed out.old out.new E.taken E.failed err.old err.new
         job.now (S.files source.new) result }
+    ensures stops { StopsAtFaults (length (S.files source.old)) (S.files source.new) }
     ensures known { S.known source.new ≡ S.known source.old }
 {
     match print(alloc, job, source, out) {
@@ -66,6 +69,7 @@ fn print<S: Source, O: Sink>(
     requires { O.failed out.old < 2 ^ 48 }
     ensures comes { Comes O.taken O.failed out.old out.new (IsOutput job.now (S.files source.new))
         (HasNoOutput job.now (S.files source.new)) result }
+    ensures stops { StopsAtFaults (length (S.files source.old)) (S.files source.new) }
     ensures known { S.known source.new ≡ S.known source.old }
 {
     match job {

@@ -1,6 +1,6 @@
 //! Reading a job's files: the configuration, the stimuli, the schedule.
 
-ghost use Rattle.std.specs.Prelude.{◌≡◌, ◌≢◌, IfOk, IfErr};
+ghost use Rattle.std.specs.Prelude.{◌≡◌, ◌≢◌, ◌≤◌, IfOk, IfErr, length, max};
 ghost use Rattle.std.specs.Result.{result_map_both};
 ghost use Rattle.osplan.specs.declared.faults.ConfFault.TheVariants.{NoMemory};
 ghost use Rattle.osconf.specs.Given.{schedule_faults, schedule_meant, stimuli_faults, stimuli_meant};
@@ -18,6 +18,7 @@ pub fn config_in<S: Source>(alloc: Global, source: &mut S) -> Result<Config, Fau
     ensures ok { IfOk result (λ config. Means config_of (text_at (S.files source.new) 0) config) }
     ensures fault { IfErr result (λ fault. fault ≢ Fault.Text NoMemory
         → IsFaultOf faults_of (text_at (S.files source.new) 0) fault) }
+    ensures ahead { length (S.files source.new) ≤ max (length (S.files source.old)) 1 }
     ensures known { S.known source.new ≡ S.known source.old }
 {
     source.read(0)?;
@@ -25,15 +26,17 @@ pub fn config_in<S: Source>(alloc: Global, source: &mut S) -> Result<Config, Fau
     Ok(read_config(alloc, text)?)
 }
 
-/// The stimuli, the second file.
+/// The stimuli, the second file, where the first is read.
 pub fn stimuli_in<S: Source>(
     alloc: Global,
     config: &Config,
     source: &mut S,
 ) -> Result<Stimuli, Fault>
+    requires { 1 ≤ length (S.files source.old) }
     ensures ok { IfOk result (λ stimuli. Means (stimuli_meant config.now) (text_at (S.files source.new) 1) stimuli) }
     ensures fault { IfErr result (λ fault. fault ≢ Fault.Text NoMemory
         → IsFaultOf (stimuli_faults config.now) (text_at (S.files source.new) 1) fault) }
+    ensures ahead { length (S.files source.new) ≤ max (length (S.files source.old)) 2 }
     ensures keeps { KeepsBelow 1 (S.files source.old) (S.files source.new) }
     ensures known { S.known source.new ≡ S.known source.old }
 {
@@ -42,15 +45,17 @@ pub fn stimuli_in<S: Source>(
     Ok(read_stimuli(alloc, config, text)?)
 }
 
-/// The schedule, the third file.
+/// The schedule, the third file, where the first two are read.
 pub fn schedule_in<S: Source>(
     alloc: Global,
     config: &Config,
     source: &mut S,
 ) -> Result<Schedule, Fault>
+    requires { 2 ≤ length (S.files source.old) }
     ensures ok { IfOk result (λ schedule. Means (schedule_meant config.now) (text_at (S.files source.new) 2) schedule) }
     ensures fault { IfErr result (λ fault. fault ≢ Fault.Text NoMemory
         → IsFaultOf (schedule_faults config.now) (text_at (S.files source.new) 2) fault) }
+    ensures ahead { length (S.files source.new) ≤ max (length (S.files source.old)) 3 }
     ensures keeps { KeepsBelow 2 (S.files source.old) (S.files source.new) }
     ensures known { S.known source.new ≡ S.known source.old }
 {

@@ -1,12 +1,12 @@
 //! A run: its files are read and played, and the reports printed.
 
-ghost use Rattle.std.specs.Prelude.{◌≡◌, ◌<◌, ◌^◌, ◌++◌, IfOk, IfErr, Some};
+ghost use Rattle.std.specs.Prelude.{◌≡◌, ◌<◌, ◌^◌, ◌++◌, IfOk, IfErr, Some, length};
 ghost use Rattle.ostrace.specs.Taken.{Writes};
 ghost use Rattle.ostrace.specs.Trace.{text_of};
 ghost use Rattle.osworld.specs.Ends.{have_all_ended};
 ghost use Rattle.mcos.specs.Jobs.{path_in};
 ghost use Rattle.mcos.specs.Performs.{Comes, HasNoReports, IsRunOutput, Prints, outcome_of};
-ghost use Rattle.mcos.specs.Runs.{IsPlayed, last_line, run_text};
+ghost use Rattle.mcos.specs.Runs.{IsPlayed, StopsAtFaults, last_line, run_text};
 
 use crate::faults::Fault;
 use crate::outcomes::Outcome;
@@ -29,6 +29,7 @@ pub fn run<S: Source, O: Sink>(
     requires { O.failed out.old < 2 ^ 48 }
     ensures comes { Comes O.taken O.failed out.old out.new (IsRunOutput (path_in schedule.entry) (S.files source.new))
         (HasNoReports (path_in schedule.entry) (S.files source.new)) result }
+    ensures stops { StopsAtFaults (length (S.files source.old)) (S.files source.new) }
     ensures known { S.known source.new ≡ S.known source.old }
 {
     let (config, reports) = play(alloc, schedule, source)?;
@@ -43,6 +44,7 @@ fn play<S: Source>(
 ) -> Result<(Config, Vec<Report>), Fault>
     ensures ok { IfOk result (λ played. IsPlayed (path_in schedule.entry) (S.files source.new) played.0 played.1.items) }
     ensures fault { IfErr result (HasNoReports (path_in schedule.entry) (S.files source.new)) }
+    ensures stops { StopsAtFaults (length (S.files source.old)) (S.files source.new) }
     ensures known { S.known source.new ≡ S.known source.old }
 {
     let config = config_in(alloc, source)?;

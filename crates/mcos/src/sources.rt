@@ -1,6 +1,6 @@
 //! Where a job's files come from.
 
-ghost use Rattle.std.specs.Prelude.{◌≡◌, List, Option, Some, option_map};
+ghost use Rattle.std.specs.Prelude.{◌≡◌, ◌+◌, ◌<◌, ◌≤◌, ℕ, List, OnOk, Option, Some, length, max, option_map};
 ghost use Rattle.mcos.specs.Texts.{File, KeepsBelow, bytes_at};
 
 use std::alloc::AllocError;
@@ -13,8 +13,16 @@ pub trait Source {
     // All files, or `None` where the type does not know them before they are read.
     ghost known: { Self → Option (List File) };
 
-    /// Reads the file in this place, where those before it are read. They stay as they are.
+    // How many files there are.
+    ghost count: { Self → ℕ };
+
+    /// Reads the file in this place, if it is there, and none after it. Those before it are read already,
+    /// and stay as they are.
     fn read(&mut self, at: usize) -> Result<(), AllocError>
+        requires { at ≤ length (files self.old) }
+        ensures filled { OnOk result (at < count self.new → at < length (files self.new)) }
+        ensures ahead { length (files self.new) ≤ max (length (files self.old)) (at + 1) }
+        ensures count { count self.new ≡ count self.old }
         ensures keeps { KeepsBelow at (files self.old) (files self.new) }
         ensures known { known self.new ≡ known self.old };
 
@@ -33,6 +41,8 @@ impl<'a> Source for Given<'a> {
     ghost files = { λ given. given.files.now };
 
     ghost known = { λ given. Some given.files.now };
+
+    ghost count = { λ given. length given.files.now };
 
     fn read(&mut self, _at: usize) -> Result<(), AllocError> {
         Ok(())

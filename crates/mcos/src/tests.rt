@@ -1,6 +1,6 @@
 //! The worked examples, from text to text.
 
-ghost use Rattle.std.specs.Prelude.{None, Some};
+ghost use Rattle.std.specs.Prelude.{None, Some, length};
 
 use crate::jobs::{Job, job_of};
 use crate::performs::{perform, perform_from};
@@ -377,6 +377,8 @@ impl<'a> Source for Counted<'a> {
     ghost files = { λ counted. counted.given.files.now };
 
     ghost known = { λ counted. Some counted.given.files.now };
+
+    ghost count = { λ counted. length counted.given.files.now };
 
     fn read(&mut self, at: usize) -> Result<(), AllocError> {
         self.count = self.count.saturating_add(1);

@@ -1,7 +1,9 @@
 -- Reading each element of a list, as a loop does: what was read goes before what is still to read.
 use Rattle.std.proofs.Common.{◌≡◌, ℕ, zero, suc, ◌+◌, ◌<◌, ◌≤◌, List, [], ◌∷◌, ◌++◌, length, get_or, drop, map, Option, Some, None, option_map, option_and_then, refl, sym, ap, ◌∙◌, append_assoc, add-one, arith}
 use Rattle.std.specs.Borrow.{Bor}
-use Rattle.std.proofs.lemmas.List.{append-nil, get_or_default}
+use Rattle.std.proofs.lemmas.List.{append-nil}
+use Rattle.std.specs.Iterator.{AlwaysYields}
+use Rattle.std.proofs.lemmas.Iterator.{YieldsList}
 use Rattle.osconf.specs.declared.members.Refusal.{Refusal}
 use Rattle.osconf.specs.declared.members.Refusal.TheVariants.{OutOfMemory, Unfit}
 use Rattle.osconf.specs.Reading.{Refuses, each}
@@ -53,19 +55,6 @@ pub each-end : {V D Y : Type 0} (f : D → Option Y) (g : V → D) (vs : List V)
 each-end f g vs i front total le so_far =
     sym so_far ∙ ap (with_front front) (each_past f g vs i le) ∙ ap Some (append-nil front)
 
--- the same two steps, where the element is read with a default
-pub each-more-at : {V D Y : Type 0} (f : D → Option Y) (g : V → D) (vs : List V) (i : ℕ) (d : V) (front : List Y) (y : Y) (total : Option (List Y)) → i < length vs → f (g (get_or vs i d)) ≡ Some y
-    → with_front front (each f (map g (drop i vs))) ≡ total → with_front (front ++ y ∷ []) (each f (map g (drop (i + 1) vs))) ≡ total
-each-more-at f g vs i d front y total lt e so_far = each-more f g vs i (get_or vs i d) front y total lt (get_or_default vs i d (get_or vs i d) lt) e so_far
-
-pub each-stop-at : {V D Y : Type 0} (f : D → Option Y) (g : V → D) (vs : List V) (i : ℕ) (d : V) (front : List Y) (total : Option (List Y)) (e : Refusal) → i < length vs → Refuses e (f (g (get_or vs i d)))
-    → with_front front (each f (map g (drop i vs))) ≡ total → Refuses e total
-each-stop-at f g vs i d front total e lt refused so_far = each-stop f g vs i (get_or vs i d) front total e lt (get_or_default vs i d (get_or vs i d) lt) refused so_far
-
--- no word
-abbrev pub no_word : Bor (List ℕ)
-no_word = record { ref_ptr = (0, 0); now = [] }
-
 -- and over a list that is taken from its front
 pub front-more : {V D Y : Type 0} (f : D → Option Y) (g : V → D) (v : V) (rest whole : List V) (front : List Y) (y : Y) (total : Option (List Y)) → whole ≡ v ∷ rest → f (g v) ≡ Some y
     → with_front front (each f (map g whole)) ≡ total → with_front (front ++ y ∷ []) (each f (map g rest)) ≡ total
@@ -81,3 +70,45 @@ front-stop f g v rest whole front total Unfit is refused so_far =
 
 pub front-end : {V D Y : Type 0} (f : D → Option Y) (g : V → D) (whole : List V) (front : List Y) (total : Option (List Y)) → whole ≡ [] → with_front front (each f (map g whole)) ≡ total → total ≡ Some front
 front-end f g whole front total is so_far = sym so_far ∙ ap (with_front front) (ap (λ vs. each f (map g vs)) is) ∙ ap Some (append-nil front)
+
+-- ---- and over what an iterator still gives
+
+-- what was read, and what is still to read, are the whole
+pub record StillReads {S V D Y : Type 0} (steps : S → Option V → S → Type 0) (g : V → D) (f : D → Option Y) (s : S) (front : List Y) (total : Option (List Y)) : Type 0 where
+  pub rest : List D
+  pub comes : YieldsList steps g s rest
+  pub read : with_front front (each f rest) ≡ total
+
+module _ {S V D Y : Type 0} (steps : S → Option V → S → Type 0) (g : V → D) (f : D → Option Y) (s t : S) (front : List Y) (total : Option (List Y)) where
+  abbrev front-of : List D → Option Y → Option (List Y)
+  front-of ds first = with_front front (option_and_then (λ y. option_map (λ ys. y ∷ ys) (each f ds)) first)
+
+  more-from : (v : V) (y : Y) (rest : List D) → AlwaysYields steps g s rest → steps s (Some v) t → f (g v) ≡ Some y → with_front front (each f rest) ≡ total → StillReads steps g f t (front ++ y ∷ []) total
+  more-from v y [] comes step e read = absurd (comes v t step)
+  more-from v y (d ∷ ds) comes step e read =
+      let here = comes.1 v t step in
+      record { rest = ds; comes = record { runs = here.1 }; read = sym (with_front-cons front y (each f ds)) ∙ ap (front-of ds) (sym e ∙ ap f here.0) ∙ read }
+
+  stop-from : (v : V) (refusal : Refusal) (rest : List D) → AlwaysYields steps g s rest → steps s (Some v) t → Refuses refusal (f (g v)) → with_front front (each f rest) ≡ total → Refuses refusal total
+  stop-from v OutOfMemory rest comes step refused read = tt
+  stop-from v Unfit [] comes step refused read = absurd (comes v t step)
+  stop-from v Unfit (d ∷ ds) comes step refused read = sym read ∙ ap (front-of ds) (ap f (sym (comes.1 v t step).0) ∙ refused)
+
+  end-from : (rest : List D) → AlwaysYields steps g s rest → steps s None t → with_front front (each f rest) ≡ total → total ≡ Some front
+  end-from [] comes step read = sym read ∙ ap Some (append-nil front)
+  end-from (d ∷ ds) comes step read = absurd (comes.0 t step)
+
+pub reads-first : {S V D Y : Type 0} {steps : S → Option V → S → Type 0} {g : V → D} (f : D → Option Y) {s : S} (rest : List D) → YieldsList steps g s rest → StillReads steps g f s [] (each f rest)
+reads-first f rest comes = record { rest = rest; comes = comes; read = with_front-nil (each f rest) }
+
+pub reads-more : {S V D Y : Type 0} {steps : S → Option V → S → Type 0} {g : V → D} {f : D → Option Y} {s : S} {front : List Y} {total : Option (List Y)} (t : S) (v : V) (y : Y)
+    → StillReads steps g f s front total → steps s (Some v) t → f (g v) ≡ Some y → StillReads steps g f t (front ++ y ∷ []) total
+reads-more {S} {V} {D} {Y} {steps} {g} {f} {s} {front} {total} t v y still step e = more-from steps g f s t front total v y still.rest still.comes.runs step e still.read
+
+pub reads-stop : {S V D Y : Type 0} {steps : S → Option V → S → Type 0} {g : V → D} {f : D → Option Y} {s : S} {front : List Y} {total : Option (List Y)} (t : S) (v : V) (refusal : Refusal)
+    → StillReads steps g f s front total → steps s (Some v) t → Refuses refusal (f (g v)) → Refuses refusal total
+reads-stop {S} {V} {D} {Y} {steps} {g} {f} {s} {front} {total} t v refusal still step refused = stop-from steps g f s t front total v refusal still.rest still.comes.runs step refused still.read
+
+pub reads-end : {S V D Y : Type 0} {steps : S → Option V → S → Type 0} {g : V → D} {f : D → Option Y} {s : S} {front : List Y} {total : Option (List Y)} (t : S)
+    → StillReads steps g f s front total → steps s None t → total ≡ Some front
+reads-end {S} {V} {D} {Y} {steps} {g} {f} {s} {front} {total} t still step = end-from steps g f s t front total still.rest still.comes.runs step still.read

@@ -1,9 +1,9 @@
 -- The operations that are written are in good form, and read as they are.
-use Rattle.std.proofs.Common.{◌≡◌, ◌≢◌, ℕ, zero, suc, ◌<◌, Bool, true, false, not, ◌&&◌, ◌||◌, ◌==◌, nat_le, nat_lt, List, [], ◌∷◌, ◌++◌, length, map, get_or, Option, Some, None, option_map, codes, inl, inr, refl, sym, ap, ◌∙◌, subst, arith}
+use Rattle.std.proofs.Common.{◌≡◌, ℕ, zero, suc, ◌<◌, Bool, true, false, not, ◌&&◌, ◌||◌, ◌==◌, nat_le, nat_lt, List, [], ◌∷◌, ◌++◌, length, map, Option, Some, None, option_map, codes, inl, inr, refl, sym, ap, ◌∙◌, subst, arith}
 use Rattle.std.specs.List.{list_all, slice_get}
 use Rattle.std.specs.Option.{option_map_or}
 use Rattle.std.specs.Str.{bytes_eq}
-use Rattle.std.proofs.lemmas.Bool.{and_parts, and_from, not_from_false, true≢false, eqb-true, eq-eqb, ltb-true, cases_Bool}
+use Rattle.std.proofs.lemmas.Bool.{and_parts, and_from, not_from_false, true≢false, eqb-true, ltb-true, cases_Bool}
 use Rattle.std.proofs.Math.Dec.{eqb-suc-zero}
 use Rattle.std.specs.Char.{is_ascii_alphabetic, is_ascii_digit, is_ascii_uppercase, is_ascii_lowercase}
 use Rattle.std.proofs.lemmas.List.Folds.{list_all-append}
@@ -21,7 +21,7 @@ use Rattle.osplan.proofs.Tests.{all-weaker, find-passes}
 use Rattle.osconf.specs.Operation.{Form, work, activate, terminate, operations_of, target_of, form_of}
 use Rattle.osconf.specs.Writing.{name_in, task_name, target_text, op_text, script_text}
 use Rattle.osconf.proofs.Joining.{has_none, parts-pieces}
-use Rattle.osconf.proofs.Splitting.{form_of-cut}
+use Rattle.osconf.proofs.Splitting.{form_of-activation}
 
 -- ---- what a task's reference finds
 
@@ -120,13 +120,8 @@ form_in plan TerminateTask = terminate
 target-form : (name : List ℕ) → is_name name ≡ true → target_of name ≡ Some (Some name)
 target-form name h = rw (not-invalid name h, h) refl
 
-no-space : (text : List ℕ) → has_none 32 text ≡ true → (i : ℕ) → i < length text → get_or text i 0 ≢ 32
-no-space [] h i lt = absurd (omega arith)
-no-space (x ∷ xs) h zero lt = λ e. true≢false (sym (and_parts (not (x == 32)) (has_none 32 xs) h).0 ∙ ap not (eq-eqb x 32 e))
-no-space (x ∷ xs) h (suc i) lt = no-space xs (and_parts (not (x == 32)) (has_none 32 xs) h).1 i (omega arith)
-
 activation-form : (name : List ℕ) → is_name name ≡ true → form_of (codes "ActivateTask " ++ name) ≡ Some (activate (Some name))
-activation-form name h = form_of-cut (codes "ActivateTask") name (no-space (codes "ActivateTask") refl) ∙ ap (option_map activate) (target-form name h)
+activation-form name h = form_of-activation _ name refl ∙ ap (option_map activate) (target-form name h)
 
 pub form-back : (plan : Plan) → list_all is_core_expressible plan.cores ≡ true → (op : Op) → is_op_known plan op ≡ true → form_of (op_text plan op) ≡ Some (form_in plan op)
 form-back plan said Work known = refl

@@ -1,8 +1,9 @@
--- The words of an operation, as a text that is cut at its first space.
-use Rattle.std.proofs.Common.{◌≡◌, ◌≢◌, ℕ, suc, ◌<◌, ◌&&◌, ◌==◌, Bool, true, false, List, [], ◌∷◌, ◌++◌, length, get_or, Option, None, refl, sym, ap, ◌∙◌, arith, cond, codes, option_map}
-use Rattle.std.specs.List.{list_all, slice_split, join_with_byte}
+-- The words of an operation, as a text that begins with the word `ActivateTask` and its space, or does not.
+use Rattle.std.proofs.Common.{inl, inr, ◌≡◌, ◌≢◌, ℕ, ◌&&◌, ◌||◌, ◌==◌, Bool, true, false, List, [], ◌∷◌, ◌++◌, length, Option, None, refl, sym, ap, ◌∙◌, arith, cond, codes, option_map}
+use Rattle.std.specs.List.{list_all, list_any, slice_split, join_with_byte}
 use Rattle.std.specs.Str.{bytes_eq}
-use Rattle.std.proofs.lemmas.Bool.{ne_eqb}
+use Rattle.std.proofs.lemmas.Bool.{cases_Bool, true≢false}
+use Rattle.std.proofs.lemmas.Slice.Eq.{bytes_eq-Decides}
 use Rattle.std.proofs.Math.Dec.{eqb-suc-zero}
 use Rattle.std.proofs.lemmas.List.Splits.{join_with_byte-slice_split, length-slice_split}
 use Rattle.osplan.specs.Expressible.{is_name, is_name_part}
@@ -17,6 +18,10 @@ and-false : (b : Bool) → (b && false) ≡ false
 and-false true = refl
 and-false false = refl
 
+or-true : (b : Bool) → (b || true) ≡ true
+or-true true = refl
+or-true false = refl
+
 not-all-parts : (xs ys : List ℕ) → list_all is_name_part (xs ++ 32 ∷ ys) ≡ false
 not-all-parts [] ys = refl
 not-all-parts (x ∷ xs) ys = rw (not-all-parts xs ys) (and-false (is_name_part x))
@@ -26,13 +31,25 @@ not-name : (xs ys : List ℕ) → is_name (xs ++ 32 ∷ ys) ≡ false
 not-name [] ys = refl
 not-name (x ∷ xs) ys = rw (not-all-parts xs ys) (and-false _)
 
-not-invalid : (xs ys : List ℕ) → bytes_eq (xs ++ 32 ∷ ys) (codes "?") ≡ false
-not-invalid [] ys = refl
-not-invalid (x ∷ []) ys = and-false (x == 63)
-not-invalid (x ∷ y ∷ xs) ys = and-false (x == 63)
+has-space : (xs ys : List ℕ) → list_any (λ b. b == 32) (xs ++ 32 ∷ ys) ≡ true
+has-space [] ys = refl
+has-space (x ∷ xs) ys = rw (has-space xs ys) (or-true (x == 32))
+
+-- a text with a space is no word without one
+not-word : (xs ys word : List ℕ) → list_any (λ b. b == 32) word ≡ false → bytes_eq (xs ++ 32 ∷ ys) word ≡ false
+not-word xs ys word none =
+    elim (cases_Bool (bytes_eq (xs ++ 32 ∷ ys) word)) as (λ _. bytes_eq (xs ++ 32 ∷ ys) word ≡ false) [
+      | inl same ↦
+          let e = ap (list_any (λ b. b == 32)) ((bytes_eq-Decides (xs ++ 32 ∷ ys) word).0 same) in
+          absurd (true≢false (sym (has-space xs ys) ∙ e ∙ none))
+      | inr other ↦ other
+    ]
+
+no-lone : (xs ys : List ℕ) → lone_form (xs ++ 32 ∷ ys) ≡ None
+no-lone xs ys = rw (not-word xs ys (codes "work") refl, not-word xs ys (codes "TerminateTask") refl) refl
 
 no-target : (xs ys : List ℕ) → target_of (xs ++ 32 ∷ ys) ≡ None
-no-target xs ys = rw (not-invalid xs ys, not-name xs ys) refl
+no-target xs ys = rw (not-word xs ys (codes "?") refl, not-name xs ys) refl
 
 no-form : (b : Bool) (target : Option (Option (List ℕ))) → target ≡ None → cond b (option_map activate target) None ≡ None
 no-form true target e = rw e refl
@@ -47,32 +64,33 @@ form_with-words name argument (part ∷ next ∷ more) joined some =
 some-part : (text : List ℕ) → words text ≡ [] → ⊥
 some-part text e = let n = length-slice_split (λ b. b == 32) text in let z : length (words text) ≡ 0 = ap length e in omega arith
 
--- no byte of the text is a space
-abbrev NoSpace : List ℕ → Type 0
-NoSpace text = (i : ℕ) → i < length text → get_or text i 0 ≢ 32
-
-words-lone : (text : List ℕ) → NoSpace text → words text ≡ text ∷ []
-words-lone [] none = refl
-words-lone (x ∷ xs) none =
-    rw (ne_eqb x 32 (none 0 (omega arith)), words-lone xs (λ i lt. none (suc i) (omega arith))) refl
-
-words-cut : (name argument : List ℕ) → NoSpace name → words (name ++ 32 ∷ argument) ≡ name ∷ words argument
-words-cut [] argument none = refl
-words-cut (x ∷ xs) argument none =
-    rw (ne_eqb x 32 (none 0 (omega arith)), words-cut xs argument (λ i lt. none (suc i) (omega arith))) refl
-
 parts-some : (x : ℕ) (xs : List ℕ) → parts_of 32 (x ∷ xs) ≡ words (x ∷ xs)
 parts-some x xs = rw (eqb-suc-zero (length xs)) refl
-
--- an operation without a space
-pub form_of-lone : (text : List ℕ) → NoSpace text → form_of text ≡ lone_form text
-form_of-lone [] none = refl
-form_of-lone (x ∷ xs) none = ap form_of_words (parts-some x xs ∙ words-lone (x ∷ xs) none)
 
 form_of-after : (name argument : List ℕ) → form_of_words (name ∷ words argument) ≡ form_with name argument
 form_of-after name argument = form_with-words name argument (words argument) (join_with_byte-slice_split 32 argument) (some-part argument)
 
--- an operation that is cut at its first space
-pub form_of-cut : (name argument : List ℕ) → NoSpace name → form_of (name ++ 32 ∷ argument) ≡ form_with name argument
-form_of-cut [] argument none = ap form_of_words (parts-some 32 argument) ∙ form_of-after [] argument
-form_of-cut (x ∷ xs) argument none = ap form_of_words (parts-some x (xs ++ 32 ∷ argument) ∙ words-cut (x ∷ xs) argument none) ∙ form_of-after (x ∷ xs) argument
+-- an operation that begins with the word and its space
+pub form_of-activation : (text argument : List ℕ) → text ≡ codes "ActivateTask " ++ argument → form_of text ≡ option_map activate (target_of argument)
+form_of-activation text argument is =
+    rw is (ap form_of_words (parts-some 65 (codes "ctivateTask " ++ argument)) ∙ form_of-after (codes "ActivateTask") argument)
+
+other-words : (text : List ℕ) (parts : List (List ℕ)) → ((argument : List ℕ) → text ≢ codes "ActivateTask " ++ argument) → join_with_byte 32 parts ≡ text → (parts ≡ [] → ⊥) → form_of_words parts ≡ lone_form text
+other-words text [] other joined some = absurd (some refl)
+other-words text (part ∷ []) other joined some = ap lone_form joined
+other-words text (name ∷ next ∷ more) other joined some =
+    let rest = join_with_byte 32 (next ∷ more) in
+    let named : bytes_eq name (codes "ActivateTask") ≡ false = elim (cases_Bool (bytes_eq name (codes "ActivateTask"))) as (λ _. bytes_eq name (codes "ActivateTask") ≡ false) [
+      | inl same ↦
+          let word : name ≡ codes "ActivateTask" = (bytes_eq-Decides name (codes "ActivateTask")).0 same in
+          absurd (other rest (sym joined ∙ ap (λ n. n ++ 32 ∷ rest) word))
+      | inr apart ↦ apart
+    ] in
+    let none : form_with name rest ≡ None = ap (λ b. cond b (option_map activate (target_of rest)) None) named in
+    form_with-words name rest (next ∷ more) refl (λ e. cc) ∙ none ∙ sym (no-lone name rest) ∙ ap lone_form joined
+
+-- and one that does not
+pub form_of-other : (text : List ℕ) → ((argument : List ℕ) → text ≢ codes "ActivateTask " ++ argument) → form_of text ≡ lone_form text
+form_of-other [] other = refl
+form_of-other (x ∷ xs) other =
+    ap form_of_words (parts-some x xs) ∙ other-words (x ∷ xs) (words (x ∷ xs)) other (join_with_byte-slice_split 32 (x ∷ xs)) (some-part (x ∷ xs))

@@ -80,11 +80,12 @@ fn is_within(text: &ConfigText) -> bool
         && are_cores_within(text.cores.as_slice())
 }
 
-/// Whether the task has this name.
+/// Whether the task has this name. Names commonly begin alike, so their ends are compared first.
 pub fn has_name(name: &str, task: &TaskText) -> bool
     ensures { result ≡ has_name name.now task.now }
 {
-    task.name.as_str() == name
+    let own = task.name.as_str();
+    own.as_bytes().last() == name.as_bytes().last() && own == name
 }
 
 fn is_name_in(name: &str, tasks: &[TaskText]) -> bool

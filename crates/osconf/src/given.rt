@@ -13,7 +13,7 @@ ghost use Rattle.serde_json.specs.View.{view, members_view};
 
 use crate::configs::value_of;
 use crate::members::Refusal;
-use crate::words::{core_number, part_count, words_of};
+use crate::words::{core_number, part_count};
 use osbase::{Choice, CoreId, CoreStimuli, List as Items, Schedule, Stimuli, Stimulus, Turn};
 use osplan::{ConfFault, Config, Plan};
 use serde_json::{Map, Value};
@@ -229,9 +229,11 @@ fn read_turn(plan: &Plan, word: &str) -> Result<Turn, Refusal>
 fn turns_of_text(alloc: Global, plan: &Plan, text: &str) -> Result<Schedule, Refusal>
     ensures { Gives (λ x. x) result (turns_of_text plan.now text.now) }
 {
-    let words = words_of(alloc, text)?;
     let mut turns = Items::new(alloc);
-    for word in &words {
+    if text.is_empty() {
+        return Ok(turns);
+    }
+    for word in text.split(' ') {
         turns.push(read_turn(plan, word)?)?;
     }
     Ok(turns)

@@ -1,10 +1,9 @@
 //! The configuration that a text without a fault means.
 
 ghost use Rattle.std.specs.Prelude.{◌≡◌, ◌&&◌, ℕ, true, IfOk, List as Items, [], map, position, option_map};
-ghost use Rattle.std.specs.Borrow.{Bor};
 ghost use Rattle.std.specs.List.{list_all};
 ghost use Rattle.osconf.specs.Reading.{Gives, value_if};
-ghost use Rattle.osconf.specs.Operation.{activate, operations_of, target_of, lone_form, form_with, form_of};
+ghost use Rattle.osconf.specs.Operation.{activate, operations_of, target_of, lone_form, form_of};
 ghost use Rattle.osconf.specs.Check.{has_name, has_named_tasks, are_operations_known, is_task_known, is_core_known, are_known, is_operation, is_task_script, is_core_script, are_operations};
 ghost use Rattle.osconf.specs.Meaning.{byte_of, number_id, id_of, task_of_core, task_place, op_of, known_op, only_mode, task_plan, core_plan, plan_of};
 
@@ -88,24 +87,14 @@ fn activation_of(cores: &[CoreText], argument: &str) -> Option<Op>
     Some(Op::ActivateTask(Some(task)))
 }
 
-fn op_with(cores: &[CoreText], name: &str, argument: &str) -> Option<Op>
-    requires named { list_all has_named_tasks cores.now ≡ true }
-    ensures { result ≡ known_op cores.now (form_with name.now argument.now) }
-{
-    if name == "ActivateTask" {
-        activation_of(cores, argument)
-    } else {
-        None
-    }
-}
-
+// No other operation has an argument.
 fn op_of(cores: &[CoreText], text: &str) -> Option<Op>
     requires named { list_all has_named_tasks cores.now ≡ true }
     ensures { result ≡ known_op cores.now (form_of text.now) }
 {
-    match text.split_once(' ') {
+    match text.strip_prefix("ActivateTask ") {
+        Some(argument) => activation_of(cores, argument),
         None => lone_op(text),
-        Some((name, argument)) => op_with(cores, name, argument),
     }
 }
 
@@ -119,22 +108,15 @@ fn read_op(cores: &[CoreText], text: &str) -> Result<Op, Refusal>
     }
 }
 
-fn operations_of(alloc: Global, script: &str) -> Result<Vec<&str>, AllocError>
-    ensures { IfOk result (λ v. map (λ (op : Bor (Items ℕ)). op.now) v.items ≡ operations_of script.now) }
-{
-    if script.is_empty() {
-        return Ok(Vec::new(alloc));
-    }
-    script.split(';').collect(alloc)
-}
-
 fn script_of(alloc: Global, cores: &[CoreText], script: &str) -> Result<Script, Refusal>
     requires named { list_all has_named_tasks cores.now ≡ true }
     ensures { Gives (λ x. x) result (value_if (are_operations_known cores.now script.now && list_all is_operation (operations_of script.now)) (map (op_of cores.now) (operations_of script.now))) }
 {
-    let texts = operations_of(alloc, script)?;
     let mut ops = List::new(alloc);
-    for text in &texts {
+    if script.is_empty() {
+        return Ok(ops);
+    }
+    for text in script.split(';') {
         ops.push(read_op(cores, text)?)?;
     }
     Ok(ops)

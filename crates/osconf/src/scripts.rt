@@ -2,7 +2,7 @@
 
 ghost use Rattle.std.specs.Prelude.{◌≡◌, ℕ, option_map, List};
 ghost use Rattle.std.specs.Borrow.{Bor};
-ghost use Rattle.osconf.specs.Operation.{target_of, lone_form, form_with, form_of, form_view};
+ghost use Rattle.osconf.specs.Operation.{activate, target_of, lone_form, form_of, form_view};
 
 use crate::words::is_name;
 
@@ -18,9 +18,9 @@ pub enum OpText<'a> {
 pub fn form_of(text: &str) -> Option<OpText<'_>>
     ensures { option_map form_view result ≡ form_of text.now }
 {
-    match text.split_once(' ') {
+    match text.strip_prefix("ActivateTask ") {
+        Some(argument) => activation_of(argument),
         None => lone_word(text),
-        Some((name, argument)) => with_argument(name, argument),
     }
 }
 
@@ -36,14 +36,11 @@ fn lone_word(name: &str) -> Option<OpText<'_>>
     None
 }
 
-// A name has no space, so the argument is one word.
-fn with_argument<'a>(name: &str, argument: &'a str) -> Option<OpText<'a>>
-    ensures { option_map form_view result ≡ form_with name.now argument.now }
+// Neither a name nor `?` has a space, so the argument is one word.
+fn activation_of(argument: &str) -> Option<OpText<'_>>
+    ensures { option_map form_view result ≡ option_map activate (target_of argument.now) }
 {
-    if name == "ActivateTask" {
-        return Some(OpText::ActivateTask(target_of(argument)?));
-    }
-    None
+    Some(OpText::ActivateTask(target_of(argument)?))
 }
 
 /// A task's place in an operation: a name, or `?`.

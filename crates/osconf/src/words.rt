@@ -1,12 +1,9 @@
 //! Names, numbers and the parts of a text.
 
-ghost use Rattle.std.specs.Prelude.{◌≡◌, ℕ, ◌==◌, ◌≤◌, IfOk, map, count_by, length, List};
+ghost use Rattle.std.specs.Prelude.{◌≡◌, ◌==◌, ◌≤◌, count_by, length};
 ghost use Rattle.std.specs.List.{list_all};
-ghost use Rattle.std.specs.Borrow.{Bor};
 ghost use Rattle.osplan.specs.Expressible.{is_name, is_name_part};
 ghost use Rattle.osconf.specs.Word.{parts_of, digit_of, two_digits, core_number};
-
-use std::alloc::{AllocError, Global};
 
 /// The most bytes of a run, whose count is a byte.
 const RUN: usize = 240;
@@ -100,14 +97,4 @@ fn count_in_run(run: &[u8], byte: u8) -> u8
         }
     }
     count
-}
-
-/// The words of a text, which are divided by one space. The empty text has none.
-pub fn words_of<'a>(alloc: Global, text: &'a str) -> Result<Vec<&'a str>, AllocError>
-    ensures { IfOk result (λ v. map (λ (word : Bor (List ℕ)). word.now) v.items ≡ parts_of 32 text.now) }
-{
-    if text.is_empty() {
-        return Ok(Vec::new(alloc));
-    }
-    text.split(' ').collect(alloc)
 }

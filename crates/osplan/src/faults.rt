@@ -1,4 +1,4 @@
-//! Why a configuration was not read, or not cut.
+//! Why a configuration, stimuli or a schedule was not read, or a core's configuration not cut from the whole.
 
 ghost use Rattle.std.specs.Prelude.{◌≡◌};
 ghost use Rattle.osplan.specs.Fault.{fault_number, fault_name};

@@ -170,6 +170,8 @@ fn is_named_elsewhere(plan: &Plan, id: CoreId) -> bool
     plan.cores.as_slice().iter().any(|other| other.id.number != id.number && is_inward(id, other))
 }
 
+// Only tasks have scripts so far: ISRs, alarms and tables, which could name objects of other cores too, cannot
+// be configured yet.
 fn is_separate_core(plan: &Plan, core: &Core) -> bool
     requires { IsTrue (is_within_limits plan.now) }
     ensures { result ≡ is_separate_core plan.now core.now }

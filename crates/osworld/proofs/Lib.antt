@@ -7,6 +7,7 @@ pub mod Carrying
 pub mod Agreed
 pub mod Turning
 pub mod Turned
+pub mod Places
 pub mod Played
 pub mod Started
 pub mod Fitting

@@ -1,13 +1,15 @@
 //! The world of a listed run: its cores, mailboxes and board, turn by turn.
 
-ghost use Rattle.std.specs.Prelude.{IsTrue, ◌≡◌, ◌+◌, ◌<◌, ◌≤◌, ◌∷◌, [], IfSome, IfOk, OnErr, vec_len, vec_capacity, map, not, ◌||◌, position};
+ghost use Rattle.std.specs.Prelude.{IsTrue, ◌≡◌, ◌+◌, ◌<◌, ◌≤◌, ◌∷◌, [], Some, IfSome, IfOk, OnErr, vec_len, vec_capacity, map, not, ◌||◌, position, slice_get};
 ghost use Rattle.std.specs.List.{list_all};
+ghost use Rattle.std.proofs.Props.{props};
+ghost use Rattle.osbase.specs.declared.turns.TheConstants.{CORES};
+ghost use Rattle.osbase.specs.declared.references.CoreId.{CoreId as CoreIdValue};
 ghost use Rattle.osbase.specs.History.{same_core};
 ghost use Rattle.osplan.specs.Limits.{is_within_limits};
 ghost use Rattle.osworld.specs.declared.seats.Seat.{Seat as SeatValue};
 ghost use Rattle.osstate.specs.Readings.{has_core};
 ghost use Rattle.osworld.specs.World.{first_world, is_ended_phase};
-ghost use Rattle.osworld.specs.Playing.{Plays, PlaysTurns, StandsStill, StopsShort, report_of};
 
 use crate::boards::Board;
 use crate::naming::{Mailboxes, carry, tell};
@@ -16,17 +18,22 @@ use osbase::{CORES, Choice, CoreId, CoreStimuli, Item, Report, Turn};
 use osplan::Config;
 use std::alloc::{AllocError, Global};
 
-/// The cores of a configuration in ascending order, the mailboxes between them and the board.
+/// The cores of a configuration in ascending order, the mailboxes between them and the board. A turn finds its
+/// core's seat by the table of places, without going over the seats.
 #[derive(Drop)]
 pub struct World<'a> {
     config: &'a Config,
     seats: Vec<Seat<'a>>,
+    places: [Option<usize>; CORES],
     reports: Vec<Report>,
     mail: Mailboxes,
     board: Board,
+    ghost placed: { (core : CoreIdValue) → core.number < CORES → slice_get places core.number ≡ Some (position (λ (s : SeatValue). same_core s.id core) seats.items) } by { Prim.hlevel props },
 }
 
 impl<'a> World<'a> {
+    ghost use Rattle.osworld.specs.Playing.{Plays, PlaysTurns, StandsStill, StopsShort, report_of};
+
     /// The world before the first turn, with place for the reports at its end.
     pub fn new(
         alloc: Global,
@@ -50,6 +57,7 @@ impl<'a> World<'a> {
         Ok(World {
             config,
             reports: Vec::with_capacity(alloc, seats.len())?,
+            places: places_of(seats.as_slice()),
             seats,
             mail: Mailboxes::new(alloc, plan.cap as usize)?,
             board: Board::new(plan.master),
@@ -128,10 +136,31 @@ impl<'a> World<'a> {
         ensures place { result ≡ position (λ (s : SeatValue). same_core s.id core) self.now.seats.items }
         ensures within { IfSome result (λ at. at < vec_len self.now.seats) }
     {
-        self.seats
-            .iter()
-            .position(|seat| seat.id.number == core.number)
+        let number = usize::from(core.number);
+        if number < CORES {
+            self.places[number]
+        } else {
+            None
+        }
     }
+}
+
+// Where each core sits.
+fn places_of(seats: &[Seat]) -> [Option<usize>; CORES]
+    ensures { (core : CoreIdValue) → core.number < CORES → slice_get result core.number ≡ Some (position (λ (s : SeatValue). same_core s.id core) seats.now) }
+{
+    let mut places = [None; CORES];
+    for number in 0..16 {
+        places[usize::from(number)] = place_in(seats, CoreId { number });
+    }
+    places
+}
+
+// Where this core sits.
+fn place_in(seats: &[Seat], core: CoreId) -> Option<usize>
+    ensures { result ≡ position (λ (s : SeatValue). same_core s.id core) seats.now }
+{
+    seats.iter().position(|seat| seat.id.number == core.number)
 }
 
 /// Whether one of both holds. Unlike `||` it is a function, whose answer a proof reads as one fact.

@@ -3,5 +3,5 @@ use Rattle.clap.specs.Words.{found_of}
 use Rattle.clap.proofs.WalkLemmas.{first_value-rows}
 use Rattle.mcos.proofs.jobs.check_job.Goals as goal
 
-pub returns-in-Some-clause-job : goal.returns-in-Some-clause-job
-returns-in-Some-clause-job c = (sym (first_value-rows (found_of c.args.check.now) (codes "CFG")) ∙ sym c.in-Some.ensures, refl)
+pub returns : goal.returns
+returns c = (sym (first_value-rows (found_of c.args.check.now) (codes "CFG")) ∙ sym c.in-Some.ensures, refl)

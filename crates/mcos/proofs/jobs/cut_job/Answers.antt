@@ -3,8 +3,8 @@ use Rattle.clap.specs.Words.{found_of}
 use Rattle.clap.proofs.WalkLemmas.{first_value-rows}
 use Rattle.mcos.proofs.jobs.cut_job.Goals as goal
 
-pub returns-in-Ok-clause-job : goal.returns-in-Ok-clause-job
-returns-in-Ok-clause-job c =
+pub returns : goal.returns
+returns c =
     let found = found_of c.args.cut.now in
     let config = sym (first_value-rows found (codes "CFG")) ∙ sym c.in-Some-Some.ensures in
     let core = sym (first_value-rows found (codes "CORE")) ∙ sym c.in-Some-Some.ensures' in

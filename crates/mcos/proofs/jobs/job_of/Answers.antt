@@ -1,12 +1,13 @@
-use Rattle.std.proofs.Common.{refl, sym, subst, true, inl, ap, codes, ◌≡◌, ◌∙◌, ℕ, List, [], Option, Some, None, option_map, Result, Ok, Err, IfOk, IfErr, map}
-use Rattle.std.proofs.lemmas.Result.{IfOk-weaker}
-use Rattle.clap.specs.Words.{App, FailsBy, HasMatchesOf, Kinds, Row, app_of, fault_of, found_of, is_simple, is_simple_and_free, kind_of, rows_of, subcommand_of, subcommand_rows_of}
-use Rattle.clap.specs.declared.error.Error.{Error}
-use Rattle.clap.specs.declared.error.ErrorKind.TheVariants.{OutOfMemory}
+use Rattle.std.proofs.Common.{refl, sym, subst, true, false, true≢false, inl, inr, is_some, ap, codes, ◌≡◌, ◌∙◌, List, [], Option, Some, None, option_map, map}
+use Rattle.std.specs.Prelude.{IsSome, IsSomeAnd}
+use Rattle.clap.specs.Words.{App, HasMatchesOf, IsUnsignedIn, Row, Text, app_of, fault_of, first_of, first_value, found_of, is_simple, is_simple_and_free, rows_of, subcommand_name_of, subcommand_of, subcommand_rows_of}
 use Rattle.clap.specs.declared.parser.matches.ArgMatches.{ArgMatches}
+use Rattle.clap.specs.declared.parser.matches.Found.{Found}
 use Rattle.clap.proofs.OnLiterals.{clap_on_literals}
+use Rattle.clap.proofs.WalkLemmas.{first_value-rows}
 use Rattle.mcos.specs.declared.jobs.Job.{Job}
 use Rattle.mcos.specs.CommandLine.{AsksFor, HasEntries, command_line, subcommand_name}
+use Rattle.mcos.proofs.Usage.{IsJob, check_has, cut_has, names_job, run_has}
 use Rattle.mcos.proofs.jobs.job_of.Goals as goal
 
 -- the program's command line is one whose matches and faults are known
@@ -18,13 +19,23 @@ is_free : is_simple_and_free command_line ≡ true
 unfolding clap_on_literals
 is_free = refl
 
-matches_known : (app : App) (words : List (List ℕ)) (m : ArgMatches) → app ≡ command_line → HasMatchesOf app words m → subcommand_rows_of m ≡ subcommand_of command_line words
-matches_known app words m is matches =
-    let at : HasMatchesOf command_line words m = subst (λ (a : App). HasMatchesOf a words m) is matches in
+-- what `clap` says of a parse that succeeds
+record Succeeds (app : App) (words : List Text) (m : ArgMatches) : Type 0 where
+  is : app ≡ command_line
+  matches : HasMatchesOf app words m
+  kinds : is_simple_and_free app ≡ true → fault_of app words ≡ []
+
+rows_known : (app : App) (words : List Text) (m : ArgMatches) → Succeeds app words m → subcommand_rows_of m ≡ subcommand_of command_line words
+rows_known app words m parse =
+    let at : HasMatchesOf command_line words m = subst (λ (a : App). HasMatchesOf a words m) parse.is parse.matches in
     (at is_known).1
 
-faults_known : (app : App) (words : List (List ℕ)) → app ≡ command_line → (is_simple_and_free app ≡ true → fault_of app words ≡ []) → fault_of command_line words ≡ []
-faults_known app words is none = subst (λ (a : App). is_simple_and_free a ≡ true → fault_of a words ≡ []) is none is_free
+no_fault : (app : App) (words : List Text) (m : ArgMatches) → Succeeds app words m → fault_of command_line words ≡ []
+no_fault app words m parse = subst (λ (a : App). is_simple_and_free a ≡ true → fault_of a words ≡ []) parse.is parse.kinds is_free
+
+has_job : (app : App) (words : List Text) (m : ArgMatches) → Succeeds app words m → IsSomeAnd (subcommand_rows_of m) IsJob
+has_job app words m parse =
+    subst (λ (o : Option (Text × List Row)). IsSomeAnd o IsJob) (sym (rows_known app words m parse)) (names_job words (no_fault app words m parse))
 
 -- a subcommand's name and its rows
 named_rows : {X A B : Type 0} (f : X → A) (g : X → B) (o : Option X) (a : A) (b : B) → option_map f o ≡ Some a
@@ -32,51 +43,118 @@ named_rows : {X A B : Type 0} (f : X → A) (g : X → B) (o : Option X) (a : A)
 named_rows f g None a b e h = cc
 named_rows f g (Some x) a b e h = cc
 
--- the subcommand's entries are what the words ask for
-asks_for : (words : List (List ℕ)) (rows : List Row) (name : List ℕ) (result : Result Job Error) → subcommand_of command_line words ≡ Some (name, rows)
-    → IfOk result (λ job. HasEntries rows job × (subcommand_name job ≡ name)) → IfOk result (AsksFor words)
-asks_for words rows name result names entries =
-    IfOk-weaker result _ _ (λ job has. record { rows = rows; names = names ∙ ap (λ (n : List ℕ). Some (n, rows)) (sym has.1); entries = has.0 }) entries
+record IsEntered (words : List Text) (name : Text) (rows : List Row) : Type 0 where
+  names : subcommand_of command_line words ≡ Some (name, rows)
+  job : IsJob (name, rows)
 
--- past a parse only memory can be wanting
-fails_by_memory : {T : Type 0} (kinds : Kinds) (r : Result T Error) → kinds ≡ [] → IfErr r (λ error. kind_of error ≡ OutOfMemory) → FailsBy kinds r
-fails_by_memory kinds (Ok x) none memory = none
-fails_by_memory kinds (Err e) none memory = inl memory
+entered : (app : App) (words : List Text) (m : ArgMatches) (name : Text) (rows : List Row) → Succeeds app words m → subcommand_name_of m ≡ Some name
+    → option_map (λ (p : Text × List Row). p.1) (subcommand_rows_of m) ≡ Some rows → IsEntered words name rows
+entered app words m name rows parse is has =
+    let both : subcommand_rows_of m ≡ Some (name, rows) = named_rows _ _ _ _ _ is has in
+    record {
+      names = sym (rows_known app words m parse) ∙ both;
+      job = subst (λ (o : Option (Text × List Row)). IsSomeAnd o IsJob) both (has_job app words m parse);
+    }
+
+-- the subcommand's entries are what the words ask for
+asks_for : (words : List Text) (rows : List Row) (name : Text) (job : Job) → IsEntered words name rows
+    → HasEntries rows job × (subcommand_name job ≡ name) → AsksFor words job
+asks_for words rows name job enters has =
+    record { rows = rows; names = enters.names ∙ ap (λ (n : Text). Some (n, rows)) (sym has.1); entries = has.0 }
+
+is_there : {X : Type 0} (P : X → Type 0) (o : Option X) → IsSomeAnd o P → IsSome o
+is_there P None h = absurd h
+is_there P (Some x) h = refl
+
+value_there : (f : Found) (id : Text) (P : Text → Type 0) → IsSomeAnd (first_of id (rows_of f)) P → IsSome (first_value f id)
+value_there f id P has = ap (λ (o : Option Text). is_some o) (first_value-rows f id) ∙ is_there P (first_of id (rows_of f)) has
+
+-- there is no other job
+no_other : {X : Type 0} (f : X → Text) (g : X → List Row) (o : Option X) → IsSomeAnd (option_map {U = Text × List Row} (λ x. (f x, g x)) o) IsJob
+    → (option_map f o ≡ Some (codes "run") → false ≡ true) → (option_map f o ≡ Some (codes "check") → false ≡ true)
+    → (option_map f o ≡ Some (codes "cut") → false ≡ true) → ⊥
+no_other f g None job run check cut = job
+no_other f g (Some x) (inl j) run check cut = true≢false (sym (run (ap (λ (n : Text). Some n) j.is)))
+no_other f g (Some x) (inr (inl j)) run check cut = true≢false (sym (check (ap (λ (n : Text). Some n) j.is)))
+no_other f g (Some x) (inr (inr j)) run check cut = true≢false (sym (cut (ap (λ (n : Text). Some n) j.is)))
+
+pub run_job-requires : goal.run_job-requires
+run_job-requires g c =
+    let words = map g.S.AsStr.text c.args.words.now in
+    let parse : Succeeds (app_of c.in_ok-command.field-0) words c.in_ok-matches.matches =
+    record { is = c.in_ok-command.ensures; matches = c.in_ok-matches.ensures.matches; kinds = c.in_ok-matches.ensures.kinds } in
+    let found = found_of c.in-Some.run'.now in
+    let run = run_has (rows_of found) (entered _ words _ (codes "run") (rows_of found) parse (c.in-Some.ensures.found.0 refl) c.in-Some.ensures.rows).job in
+    record { config = value_there found (codes "CFG") _ run.config; stimuli = value_there found (codes "STIM") _ run.stimuli }
 
 pub returns-in-Some-clause-job : goal.returns-in-Some-clause-job
 returns-in-Some-clause-job g c =
-    let matches = c.in_ok-matches.matches in
-    let rows = matches_known (app_of c.in_ok-command.field-0) (map g.S.AsStr.text c.args.words.now) matches c.in_ok-command.ensures c.in_ok-matches.ensures.matches in
-    asks_for _ (rows_of (found_of c.in-Some.run'.now)) (codes "run") c.run_job.result (sym rows ∙ named_rows _ _ _ _ _ (c.in-Some.ensures.found.0 refl) c.in-Some.ensures.rows) c.run_job.ensures.job
+    let words = map g.S.AsStr.text c.args.words.now in
+    let parse : Succeeds (app_of c.in_ok-command.field-0) words c.in_ok-matches.matches =
+    record { is = c.in_ok-command.ensures; matches = c.in_ok-matches.ensures.matches; kinds = c.in_ok-matches.ensures.kinds } in
+    let rows = rows_of (found_of c.in-Some.run'.now) in
+    asks_for words rows (codes "run") c.run_job.result (entered _ words _ (codes "run") rows parse (c.in-Some.ensures.found.0 refl) c.in-Some.ensures.rows) c.run_job.ensures
 
 pub returns-in-Some-clause-fault : goal.returns-in-Some-clause-fault
 returns-in-Some-clause-fault g c =
+    no_fault (app_of c.in_ok-command.field-0) _ c.in_ok-matches.matches
+    (record { is = c.in_ok-command.ensures; matches = c.in_ok-matches.ensures.matches; kinds = c.in_ok-matches.ensures.kinds })
+
+pub check_job-requires : goal.check_job-requires
+check_job-requires g c =
     let words = map g.S.AsStr.text c.args.words.now in
-    let none = faults_known (app_of c.in_ok-command.field-0) words c.in_ok-command.ensures c.in_ok-matches.ensures.kinds in
-    fails_by_memory (fault_of command_line words) c.run_job.result none c.run_job.ensures.memory
+    let parse : Succeeds (app_of c.in_ok-command.field-0) words c.in_ok-matches.matches =
+    record { is = c.in_ok-command.ensures; matches = c.in_ok-matches.ensures.matches; kinds = c.in_ok-matches.ensures.kinds } in
+    let sub = c.in-Some-subcommand_matches in
+    let found = found_of sub.check.now in
+    let check = check_has (rows_of found) (entered _ words _ (codes "check") (rows_of found) parse (sub.ensures.found.0 refl) sub.ensures.rows).job in
+    record { config = value_there found (codes "CFG") _ check.config }
 
 pub returns-in-Some-subcommand_matches-clause-job : goal.returns-in-Some-subcommand_matches-clause-job
 returns-in-Some-subcommand_matches-clause-job g c =
-    let matches = c.in_ok-matches.matches in
-    let rows = matches_known (app_of c.in_ok-command.field-0) (map g.S.AsStr.text c.args.words.now) matches c.in_ok-command.ensures c.in_ok-matches.ensures.matches in
-    let found = c.in-Some-subcommand_matches.ensures in
-    asks_for _ (rows_of (found_of c.in-Some-subcommand_matches.check.now)) (codes "check") c.check_job.result (sym rows ∙ named_rows _ _ _ _ _ (found.found.0 refl) found.rows) c.check_job.ensures.job
+    let words = map g.S.AsStr.text c.args.words.now in
+    let parse : Succeeds (app_of c.in_ok-command.field-0) words c.in_ok-matches.matches =
+    record { is = c.in_ok-command.ensures; matches = c.in_ok-matches.ensures.matches; kinds = c.in_ok-matches.ensures.kinds } in
+    let sub = c.in-Some-subcommand_matches in
+    let rows = rows_of (found_of sub.check.now) in
+    asks_for words rows (codes "check") c.check_job.result (entered _ words _ (codes "check") rows parse (sub.ensures.found.0 refl) sub.ensures.rows) c.check_job.ensures
 
 pub returns-in-Some-subcommand_matches-clause-fault : goal.returns-in-Some-subcommand_matches-clause-fault
 returns-in-Some-subcommand_matches-clause-fault g c =
-    let words = map g.S.AsStr.text c.args.words.now in
-    let none = faults_known (app_of c.in_ok-command.field-0) words c.in_ok-command.ensures c.in_ok-matches.ensures.kinds in
-    fails_by_memory (fault_of command_line words) c.check_job.result none c.check_job.ensures.memory
+    no_fault (app_of c.in_ok-command.field-0) _ c.in_ok-matches.matches
+    (record { is = c.in_ok-command.ensures; matches = c.in_ok-matches.ensures.matches; kinds = c.in_ok-matches.ensures.kinds })
 
-pub returns-in-Some-subcommand_matches-2-clause-job : goal.returns-in-Some-subcommand_matches-2-clause-job
-returns-in-Some-subcommand_matches-2-clause-job g c =
-    let matches = c.in_ok-matches.matches in
-    let rows = matches_known (app_of c.in_ok-command.field-0) (map g.S.AsStr.text c.args.words.now) matches c.in_ok-command.ensures c.in_ok-matches.ensures.matches in
-    let found = c.in-Some-subcommand_matches-2.ensures in
-    asks_for _ (rows_of (found_of c.in-Some-subcommand_matches-2.cut.now)) (codes "cut") c.cut_job.result (sym rows ∙ named_rows _ _ _ _ _ (found.found.0 refl) found.rows) c.cut_job.ensures.job
-
-pub returns-in-Some-subcommand_matches-2-clause-fault : goal.returns-in-Some-subcommand_matches-2-clause-fault
-returns-in-Some-subcommand_matches-2-clause-fault g c =
+pub unreachable-requires : goal.unreachable-requires
+unreachable-requires g c =
     let words = map g.S.AsStr.text c.args.words.now in
-    let none = faults_known (app_of c.in_ok-command.field-0) words c.in_ok-command.ensures c.in_ok-matches.ensures.kinds in
-    fails_by_memory (fault_of command_line words) c.cut_job.result none c.cut_job.ensures.memory
+    let parse : Succeeds (app_of c.in_ok-command.field-0) words c.in_ok-matches.matches =
+    record { is = c.in_ok-command.ensures; matches = c.in_ok-matches.ensures.matches; kinds = c.in_ok-matches.ensures.kinds } in
+    no_other _ _ _ (has_job _ words c.in_ok-matches.matches parse) c.in_default.ensures.found.1
+    c.in_default-subcommand_matches.ensures.found.1 c.in_default-subcommand_matches-2.ensures.found.1
+
+pub cut_job-requires : goal.cut_job-requires
+cut_job-requires g c =
+    let words = map g.S.AsStr.text c.args.words.now in
+    let parse : Succeeds (app_of c.in_ok-command.field-0) words c.in_ok-matches.matches =
+    record { is = c.in_ok-command.ensures; matches = c.in_ok-matches.ensures.matches; kinds = c.in_ok-matches.ensures.kinds } in
+    let sub = c.in-Some-subcommand_matches-2 in
+    let found = found_of sub.cut.now in
+    let cut = cut_has (rows_of found) (entered _ words _ (codes "cut") (rows_of found) parse (sub.ensures.found.0 refl) sub.ensures.rows).job in
+    record {
+      config = value_there found (codes "CFG") _ cut.config;
+      core = subst (λ (o : Option Text). IsSomeAnd o (IsUnsignedIn 0 255)) (sym (first_value-rows found (codes "CORE"))) cut.core;
+    }
+
+pub returns-clause-job : goal.returns-clause-job
+returns-clause-job g c =
+    let words = map g.S.AsStr.text c.args.words.now in
+    let parse : Succeeds (app_of c.in_ok-command.field-0) words c.in_ok-matches.matches =
+    record { is = c.in_ok-command.ensures; matches = c.in_ok-matches.ensures.matches; kinds = c.in_ok-matches.ensures.kinds } in
+    let sub = c.in-Some-subcommand_matches-2 in
+    let rows = rows_of (found_of sub.cut.now) in
+    asks_for words rows (codes "cut") c.cut_job.result (entered _ words _ (codes "cut") rows parse (sub.ensures.found.0 refl) sub.ensures.rows) c.cut_job.ensures
+
+pub returns-clause-fault : goal.returns-clause-fault
+returns-clause-fault g c =
+    no_fault (app_of c.in_ok-command.field-0) _ c.in_ok-matches.matches
+    (record { is = c.in_ok-command.ensures; matches = c.in_ok-matches.ensures.matches; kinds = c.in_ok-matches.ensures.kinds })

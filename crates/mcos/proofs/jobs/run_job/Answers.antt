@@ -3,8 +3,8 @@ use Rattle.clap.specs.Words.{found_of}
 use Rattle.clap.proofs.WalkLemmas.{first_value-rows}
 use Rattle.mcos.proofs.jobs.run_job.Goals as goal
 
-pub returns-clause-job : goal.returns-clause-job
-returns-clause-job c =
+pub returns : goal.returns
+returns c =
     let found = found_of c.args.run.now in
     let config = sym (first_value-rows found (codes "CFG")) ∙ sym c.in-Some-Some.ensures in
     let stimuli = sym (first_value-rows found (codes "STIM")) ∙ sym c.in-Some-Some.ensures' in

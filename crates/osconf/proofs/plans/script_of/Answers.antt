@@ -1,31 +1,36 @@
-use Rattle.std.proofs.Common.{◌≡◌, ◌∙◌, map, ap, sym, arith}
+use Rattle.std.proofs.Common.{◌≡◌, ◌==◌, ◌∙◌, lit<, ap, sym, refl}
+use Rattle.std.specs.List.{slice_split}
+use Rattle.std.proofs.lemmas.Iterator.Consumers.{YieldsList-at}
+use Rattle.std.proofs.lemmas.Iterator.Splits.{YieldsList-from_str_split}
 use Rattle.std.proofs.lemmas.Result.{err_from_is_err_and}
 use Rattle.osconf.specs.Operation.{operations_of}
 use Rattle.osconf.specs.Check.{is_operation_known, is_operation}
 use Rattle.osconf.specs.Meaning.{op_of}
 use Rattle.osconf.specs.Reading.{each}
-use Rattle.osconf.proofs.Each.{with_front-nil, each-more-at, each-stop-at, each-end, shown, no_word}
+use Rattle.osconf.proofs.Each.{reads-first, reads-more, reads-stop, reads-end}
 use Rattle.osconf.proofs.Known.{known_in, each-if, refuses-as}
 use Rattle.osconf.proofs.plans.script_of.Goals as goal
 
 pub returns-in_err-read_op : goal.returns-in_err-read_op
 returns-in_err-read_op c =
     let cores = c.args.cores.now in
-    let texts : map shown c.deref-text-items.result.now ≡ operations_of c.args.script.now = ap (map shown) c.deref-text-items.ensures.value ∙ c.in_ok-texts.ensures in
-    let p = err_from_is_err_and c.from_residual-in_err-read_op.result c.from_residual-in_err-read_op.ensures.1 in
-    let refused = each-stop-at (known_in cores) shown c.deref-text-items.result.now c.loop-text.text-index no_word c.loop-text.ops _ c.in_err-read_op.field-0.0 (omega arith) c.in_err-read_op.ensures c.loop-text.invariant in
-    rw (p.1, p.2) (refuses-as _ _ _ (ap (each (known_in cores)) texts ∙ each-if (is_operation_known cores) is_operation (op_of cores) (operations_of c.args.script.now)) refused)
+    let parts : slice_split (λ b. b == 59) c.args.script.now ≡ operations_of c.args.script.now = rw (← c.if-is_empty.ensures) refl in
+    let p = err_from_is_err_and c.from_residual.result c.from_residual.ensures.1 in
+    let refused = reads-stop c.next.new.self c.in-Some.text c.in_err-read_op.field-0.0 c.loop-text.invariant c.in-Some.ensures.steps c.in_err-read_op.ensures in
+    rw (p.1, p.2) (refuses-as _ _ _ (ap (each (known_in cores)) parts ∙ each-if (is_operation_known cores) is_operation (op_of cores) (operations_of c.args.script.now)) refused)
 
 pub loop-text-init : goal.loop-text-init
-loop-text-init c = rw c.new-ops.ensures (with_front-nil (each (known_in c.args.cores.now) (map shown c.deref-text-items.result.now)))
+loop-text-init c =
+    let split = c.split-text-items.ensures in
+    rw c.new-ops.ensures (reads-first (known_in c.args.cores.now) (slice_split (λ b. b == 59) c.args.script.now)
+    (YieldsList-at c.into_iter-text-iterator.ensures.into_iter_gives (YieldsList-from_str_split 59 c.args.script.now (lit< tt) split.text split.has_more split.pattern)))
 
 pub loop-text-preserved : goal.loop-text-preserved
 loop-text-preserved c =
-    rw c.in_ok-push.ensures.ok (each-more-at (known_in c.args.cores.now) shown c.deref-text-items.result.now c.loop-text.text-index no_word c.loop-text.ops c.in_ok-read_op.field-0 _ (omega arith) c.in_ok-read_op.ensures c.loop-text.invariant)
+    rw c.in_ok-push.ensures.ok (reads-more c.next.new.self c.in-Some.text c.in_ok-read_op.field-0 c.loop-text.invariant c.in-Some.ensures.steps c.in_ok-read_op.ensures)
 
 pub returns : goal.returns
 returns c =
     let cores = c.args.cores.now in
-    let texts : map shown c.deref-text-items.result.now ≡ operations_of c.args.script.now = ap (map shown) c.deref-text-items.ensures.value ∙ c.in_ok-texts.ensures in
-    let read = each-end (known_in cores) shown c.deref-text-items.result.now c.loop-text.text-index c.loop-text.ops _ (omega arith) c.loop-text.invariant in
-    sym (each-if (is_operation_known cores) is_operation (op_of cores) (operations_of c.args.script.now)) ∙ ap (each (known_in cores)) (sym texts) ∙ read
+    let parts : slice_split (λ b. b == 59) c.args.script.now ≡ operations_of c.args.script.now = rw (← c.if-is_empty.ensures) refl in
+    sym (each-if (is_operation_known cores) is_operation (op_of cores) (operations_of c.args.script.now)) ∙ ap (each (known_in cores)) (sym parts) ∙ reads-end c.next.new.self c.loop-text.invariant c.in-None.ensures.steps

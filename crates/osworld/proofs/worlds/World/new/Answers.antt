@@ -1,7 +1,9 @@
-use Rattle.std.proofs.Common.{ap, ◌∙◌}
+use Rattle.std.proofs.Common.{Some, List, ap, ◌∙◌}
 use Rattle.osmail.specs.Mail.{empty_mail}
 use Rattle.osplan.specs.declared.plans.Plan.{Plan}
 use Rattle.osworld.specs.Board.{first_board}
+use Rattle.osworld.specs.declared.seats.Seat.{Seat}
+use Rattle.osworld.proofs.Places.{place_by}
 use Rattle.osworld.proofs.Started.{started-all, started-push, started-skip}
 use Rattle.osworld.proofs.worlds.World.new.Goals as goal
 use Rattle.osworld.proofs.worlds.World.new.Goals.{in-Some+in_ok-push, in_default}
@@ -20,3 +22,8 @@ returns-clause-plays c =
     started-all c.args.config.now c.args.stimuli.now c.loop-number.seats.items c.loop-number.number c.in_ok-new.field-0 c.new-3.result c.loop-number.invariant.0 c.loop-number.invariant.1 c.loop-number-test.false c.loop-number.auto.number-end
     (c.in_ok-new.ensures ∙ ap (λ (p : Plan). empty_mail p.cap) c.plan-plan.ensures.value)
     (c.new-3.ensures ∙ ap (λ (p : Plan). first_board p.master) c.plan-plan.ensures.value)
+
+pub invariant_of-result : goal.invariant_of-result
+invariant_of-result c = record {
+  placed = λ core below. c.places_of.ensures core below ∙ ap (λ (seats : List Seat). Some (place_by seats core)) c.as_slice.ensures.value;
+}

@@ -1,4 +1,5 @@
-use Rattle.std.proofs.Common.{refl, sym, ◌∙◌}
+use Rattle.std.proofs.Common.{Some, ap, refl, sym, ◌∙◌}
+use Rattle.osworld.proofs.Places.{place_by-set}
 use Rattle.osworld.proofs.Turned.{nobody-played, nothing-played, refused-played, taken-played, kept, on_err}
 use Rattle.osworld.proofs.worlds.World.turn.Goals as goal
 
@@ -35,3 +36,15 @@ returns-clause-ok c stimuli w plays =
     (record { id = c.make_room.ensures.id; mode = c.make_room.ensures.mode; left = c.make_room.ensures.stimuli; items = c.make_room.ensures.taken; marks = c.make_room.ensures.printed; kernel = c.make_room.ensures.kernel })
     (record { id = c.take.ensures.id; mode = c.take.ensures.mode; left = c.take.ensures.stimuli; items = c.take.ensures.taken; does = c.take.ensures.does })
     c.in-Some-named.ensures.placed c.front.result c.carry.new.mail c.tell.new.board c.front.ensures.state c.carry.ensures c.tell.ensures
+
+pub invariant_of-self-in-Break-1 : goal.invariant_of-self-in-Break-1
+invariant_of-self-in-Break-1 c = record {
+  placed = λ core below. c.args.self.now.placed core below
+      ∙ ap Some (sym (place_by-set c.args.self.now.seats.items c.in-Some.at c.index_mut-seat.result.now c.make_room.new.self core c.index_mut-seat.ensures.value c.make_room.ensures.id));
+}
+
+pub invariant_of-self-2 : goal.invariant_of-self-2
+invariant_of-self-2 c = record {
+  placed = λ core below. c.args.self.now.placed core below
+      ∙ ap Some (sym (place_by-set c.args.self.now.seats.items c.in-Some.at c.index_mut-seat.result.now c.take.new.self core c.index_mut-seat.ensures.value (c.take.ensures.id ∙ c.make_room.ensures.id)));
+}

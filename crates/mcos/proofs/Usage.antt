@@ -1,0 +1,163 @@
+-- What the words of the program's command line give, where they have no fault.
+use Rattle.std.proofs.Common.{◌≡◌, ◌∙◌, ◌⊎◌, ◌||◌, Bool, cond, not, true, false, true≢false, refl, sym, inl, inr, codes, List, [], ◌∷◌}
+use Rattle.std.specs.Prelude.{⊤, IsSomeAnd}
+use Rattle.std.specs.Str.{bytes_eq}
+use Rattle.std.proofs.lemmas.Slice.Eq.{bytes_eq-Decides}
+use Rattle.clap.specs.Faults.{check_fault}
+use Rattle.clap.specs.Simple.{Shape, built, built_leaf, filled, help_rule, with_index}
+use Rattle.clap.specs.Takes.{is_given}
+use Rattle.clap.specs.Words.{IsUnsignedIn, Row, Rule, Text, fault_of, first_of, subcommand_of}
+use Rattle.clap.specs.declared.error.kind.ErrorKind.{ErrorKind}
+use Rattle.clap.specs.declared.builder.ValueParser.TheVariants.{Unsigned}
+use Rattle.clap.proofs.ValueTestLemmas.{accepts-Accepts}
+use Rattle.mcos.specs.CommandLine.{check_command, command_line, config_rule, core_rule, cut_command, run_command, schedule_rule, stimuli_rule}
+use Rattle.mcos.proofs.Parsed.{AllGive, AllKeep, help_keeps, leaf_first, one_keeps, subcommand_gives}
+
+-- the arguments as they are built
+abbrev config : Rule
+config = with_index 1 (filled config_rule)
+
+abbrev stimuli : Rule
+stimuli = with_index 2 (filled stimuli_rule)
+
+abbrev core : Rule
+core = with_index 2 (filled core_rule)
+
+abbrev run_leaf : Shape
+run_leaf = built_leaf run_command.top
+
+abbrev check_leaf : Shape
+check_leaf = built_leaf check_command.top
+
+abbrev cut_leaf : Shape
+cut_leaf = built_leaf cut_command.top
+
+abbrev Anything : Text → Type 0
+Anything text = ⊤
+
+-- ---- what each use keeps
+
+run_keeps : (id : Text) → AllKeep id Anything false run_leaf.rules
+run_keeps id = (
+  one_keeps id Anything false config (λ is v ok. tt),
+  (
+    one_keeps id Anything false stimuli (λ is v ok. tt),
+    (one_keeps id Anything false (filled schedule_rule) (λ is v ok. tt), (help_keeps id Anything false (filled help_rule), tt)),
+  ),
+)
+
+check_keeps : (id : Text) → AllKeep id Anything false check_leaf.rules
+check_keeps id = (one_keeps id Anything false config (λ is v ok. tt), (help_keeps id Anything false (filled help_rule), tt))
+
+cut_keeps : (id : Text) → AllKeep id Anything false cut_leaf.rules
+cut_keeps id = (
+  one_keeps id Anything false config (λ is v ok. tt),
+  (one_keeps id Anything false core (λ is v ok. tt), (help_keeps id Anything false (filled help_rule), tt)),
+)
+
+core_keeps : AllKeep (codes "CORE") (IsUnsignedIn 0 255) false cut_leaf.rules
+core_keeps = (
+  one_keeps (codes "CORE") (IsUnsignedIn 0 255) false config (λ is v ok. absurd (true≢false (sym is))),
+  (
+    one_keeps (codes "CORE") (IsUnsignedIn 0 255) false core (λ is v ok. accepts-Accepts false (Unsigned 0 255) v ok),
+    (help_keeps (codes "CORE") (IsUnsignedIn 0 255) false (filled help_rule), tt),
+  ),
+)
+
+-- ---- what the checks at the end want
+
+first_wanted : (first rest : Bool) (k : ErrorKind) → cond (not first || rest) (k ∷ []) [] ≡ [] → first ≡ true
+first_wanted true rest k e = refl
+first_wanted false rest k e = cc
+
+second_wanted : (first second rest : Bool) (k : ErrorKind) → cond (not first || (not second || rest)) (k ∷ []) [] ≡ [] → second ≡ true
+second_wanted first true rest k e = refl
+second_wanted true false rest k e = cc
+second_wanted false false rest k e = cc
+
+run_wants : (rows : List Row) → check_fault run_leaf rows false ≡ [] → (is_given (codes "CFG") rows ≡ true) × (is_given (codes "STIM") rows ≡ true)
+run_wants rows e = (first_wanted (is_given (codes "CFG") rows) _ _ e, second_wanted (is_given (codes "CFG") rows) (is_given (codes "STIM") rows) _ _ e)
+
+check_wants : (rows : List Row) → check_fault check_leaf rows false ≡ [] → is_given (codes "CFG") rows ≡ true
+check_wants rows e = first_wanted (is_given (codes "CFG") rows) _ _ e
+
+cut_wants : (rows : List Row) → check_fault cut_leaf rows false ≡ [] → (is_given (codes "CFG") rows ≡ true) × (is_given (codes "CORE") rows ≡ true)
+cut_wants rows e = (first_wanted (is_given (codes "CFG") rows) _ _ e, second_wanted (is_given (codes "CFG") rows) (is_given (codes "CORE") rows) _ _ e)
+
+-- ---- what the subcommand has
+
+abbrev Has : Text → List Row → Type 0
+Has id rows = IsSomeAnd (first_of id rows) Anything
+
+pub record IsRun (name : Text) (rows : List Row) : Type 0 where
+  pub is : name ≡ codes "run"
+  pub config : Has (codes "CFG") rows
+  pub stimuli : Has (codes "STIM") rows
+
+pub record IsCheck (name : Text) (rows : List Row) : Type 0 where
+  pub is : name ≡ codes "check"
+  pub config : Has (codes "CFG") rows
+
+pub record IsCut (name : Text) (rows : List Row) : Type 0 where
+  pub is : name ≡ codes "cut"
+  pub config : Has (codes "CFG") rows
+  pub core : IsSomeAnd (first_of (codes "CORE") rows) (IsUnsignedIn 0 255)
+
+abbrev pub IsJob : Text × List Row → Type 0
+IsJob p = IsRun p.0 p.1 ⊎ (IsCheck p.0 p.1 ⊎ IsCut p.0 p.1)
+
+no_help : (name : Text) → bytes_eq name (codes "help") ≡ false → (bytes_eq (codes "help") name || false) ≡ true → ⊥
+no_help name other is =
+    let same : bytes_eq (codes "help") name ≡ true = either_one (bytes_eq (codes "help") name) is in
+    let back : bytes_eq name (codes "help") ≡ true = (bytes_eq-Decides name (codes "help")).1 (sym ((bytes_eq-Decides (codes "help") name).0 same)) in
+    true≢false (sym back ∙ other)
+  where
+    either_one : (b : Bool) → (b || false) ≡ true → b ≡ true
+    either_one true e = refl
+    either_one false e = e
+
+jobs_give : AllGive IsJob (built command_line).subs
+jobs_give = (
+  (λ name other is words e. inl (record {
+    is = refl;
+    config = leaf_first (codes "CFG") Anything run_leaf (run_keeps _) refl (λ rows c. (run_wants rows c).0) words e;
+    stimuli = leaf_first (codes "STIM") Anything run_leaf (run_keeps _) refl (λ rows c. (run_wants rows c).1) words e;
+  })),
+  (
+    (λ name other is words e. inr (inl (record {
+      is = refl;
+      config = leaf_first (codes "CFG") Anything check_leaf (check_keeps _) refl check_wants words e;
+    }))),
+    (
+      (λ name other is words e. inr (inr (record {
+        is = refl;
+        config = leaf_first (codes "CFG") Anything cut_leaf (cut_keeps _) refl (λ rows c. (cut_wants rows c).0) words e;
+        core = leaf_first (codes "CORE") (IsUnsignedIn 0 255) cut_leaf core_keeps refl (λ rows c. (cut_wants rows c).1) words e;
+      }))),
+      ((λ name other is words e. absurd (no_help name other is)), tt),
+    ),
+  ),
+)
+
+-- the words name one of the subcommands, and give its required arguments
+pub names_job : (words : List Text) → fault_of command_line words ≡ [] → IsSomeAnd (subcommand_of command_line words) IsJob
+names_job words e = subcommand_gives IsJob (built command_line) _ refl refl jobs_give e
+
+-- and so what the subcommand of a name has
+apart : (a b : Text) → bytes_eq a b ≡ false → a ≡ b → ⊥
+apart a b differ same = true≢false (sym ((bytes_eq-Decides a b).1 same) ∙ differ)
+
+pub run_has : (rows : List Row) → IsJob (codes "run", rows) → IsRun (codes "run") rows
+run_has rows (inl run) = run
+run_has rows (inr (inl check)) = absurd (apart (codes "run") (codes "check") refl check.is)
+run_has rows (inr (inr cut)) = absurd (apart (codes "run") (codes "cut") refl cut.is)
+
+pub check_has : (rows : List Row) → IsJob (codes "check", rows) → IsCheck (codes "check") rows
+check_has rows (inl run) = absurd (apart (codes "check") (codes "run") refl run.is)
+check_has rows (inr (inl check)) = check
+check_has rows (inr (inr cut)) = absurd (apart (codes "check") (codes "cut") refl cut.is)
+
+pub cut_has : (rows : List Row) → IsJob (codes "cut", rows) → IsCut (codes "cut") rows
+cut_has rows (inl run) = absurd (apart (codes "cut") (codes "run") refl run.is)
+cut_has rows (inr (inl check)) = absurd (apart (codes "cut") (codes "check") refl check.is)
+cut_has rows (inr (inr cut)) = cut

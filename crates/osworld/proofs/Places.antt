@@ -1,0 +1,82 @@
+-- Where the cores sit.
+use Rattle.std.proofs.Common.{◌≡◌, ℕ, zero, suc, nat_eq, ◌+◌, ◌<◌, ◌≤◌, Bool, true, false, Option, Some, None, List, [], ◌∷◌, cond, nat_lt, not, map, length, get_or, set, slice_get, refl, sym, ap, ◌∙◌, arith}
+use Rattle.std.specs.List.{position, position_or_len}
+use Rattle.std.proofs.lemmas.Bool.Decides.{nat_tests}
+use Rattle.std.proofs.lemmas.List.{length-map}
+use Rattle.std.proofs.Math.Seq.{map-set_same}
+use Rattle.osbase.specs.declared.references.CoreId.{CoreId}
+use Rattle.osbase.specs.declared.turns.TheConstants.{CORES}
+use Rattle.osbase.specs.History.{same_core}
+use Rattle.osworld.specs.declared.seats.Seat.{Seat}
+use Rattle.osworld.proofs.Listed.{is_seat_of}
+
+abbrev pub place_by : List Seat → CoreId → Option ℕ
+place_by seats core = position (is_seat_of core) seats
+
+numbers : List Seat → List CoreId
+numbers seats = map (λ (s : Seat). s.id) seats
+
+-- a core sits where its number stands
+first-alike : (core : CoreId) (seats : List Seat) → position_or_len (λ (id : CoreId). same_core id core) (numbers seats) ≡ position_or_len (is_seat_of core) seats
+unfolding numbers
+first-alike core [] = refl
+first-alike core (s ∷ ss) = ap (λ (n : ℕ). cond (not (same_core s.id core)) (1 + n) 0) (first-alike core ss)
+
+place-alike : (core : CoreId) (seats : List Seat) → position (λ (id : CoreId). same_core id core) (numbers seats) ≡ place_by seats core
+unfolding numbers
+place-alike core seats = rw (first-alike core seats, length-map) refl
+
+-- a seat that keeps its core leaves all places
+pub place_by-set : (seats : List Seat) (at : ℕ) (seat new : Seat) (core : CoreId) → seat ≡ get_or seats at seat → new.id ≡ seat.id → place_by (set seats at new) core ≡ place_by seats core
+unfolding numbers
+place_by-set seats at seat new core is same =
+    sym (place-alike core (set seats at new))
+    ∙ ap (position (λ (id : CoreId). same_core id core)) (map-set_same (λ (s : Seat). s.id) seats at new seat (same ∙ ap (λ (s : Seat). s.id) is))
+    ∙ place-alike core seats
+
+-- no core of a number of 16 or above has a seat
+pub place-nowhere : (core : CoreId) (seats : List Seat) → CORES ≤ core.number → None ≡ place_by seats core
+place-nowhere core seats big = rw (past seats) (rw (not_below (length seats)) refl)
+  where
+    not_below : (n : ℕ) → nat_lt n n ≡ false
+    not_below n = grind (arith, nat_tests)
+
+    apart : (id : CoreId) → id.number < CORES → same_core id core ≡ false
+    apart id small = grind (arith, nat_tests)
+
+    past : (seats : List Seat) → position_or_len (is_seat_of core) seats ≡ length seats
+    past [] = refl
+    past (s ∷ ss) = rw (apart s.id s.known) (ap (λ (n : ℕ). 1 + n) (past ss) ∙ omega arith)
+
+-- the table of places, one number more
+set-same : {A : Type 0} (xs : List A) (i : ℕ) (v : A) → i < length xs → slice_get (set xs i v) i ≡ Some v
+set-same [] i v lt = absurd (omega arith)
+set-same (x ∷ xs) zero v lt = refl
+set-same (x ∷ xs) (suc i) v lt = set-same xs i v (omega arith)
+
+set-other : {A : Type 0} (xs : List A) (i k : ℕ) (v : A) → (k ≡ i → ⊥) → slice_get (set xs i v) k ≡ slice_get xs k
+set-other [] i k v ne = refl
+set-other (x ∷ xs) zero zero v ne = absurd (ne refl)
+set-other (x ∷ xs) zero (suc k) v ne = refl
+set-other (x ∷ xs) (suc i) zero v ne = refl
+set-other (x ∷ xs) (suc i) (suc k) v ne = set-other xs i k v (λ e. ne (ap suc e))
+
+same_number : (a b : ℕ) → nat_eq a b ≡ true → a ≡ b
+same_number a b e = grind (arith, nat_tests)
+
+other_number : (a b : ℕ) → nat_eq a b ≡ false → a ≡ b → ⊥
+other_number a b e same = grind (arith, nat_tests)
+
+abbrev pub ArePlaces : ℕ → List (Option ℕ) → List Seat → Type 0
+ArePlaces below places seats = (core : CoreId) → core.number < below → slice_get places core.number ≡ Some (place_by seats core)
+
+pub places-more : (places : List (Option ℕ)) (seats : List Seat) (n i : ℕ) (place : Option ℕ) → i ≡ n → n < length places → place ≡ place_by seats (record { number = n }) → ArePlaces n places seats → ArePlaces (n + 1) (set places i place) seats
+places-more places seats n i place at within is are core below = by (nat_eq core.number n) refl
+  where
+    by : (b : Bool) → nat_eq core.number n ≡ b → slice_get (set places i place) core.number ≡ Some (place_by seats core)
+    by true e =
+        let same = same_number core.number n e in
+        ap (slice_get (set places i place)) (same ∙ sym at) ∙ set-same places i place (omega arith) ∙ ap Some (is ∙ ap (λ (k : ℕ). place_by seats (record { number = k })) (sym same))
+    by false e =
+        let other = other_number core.number n e in
+        set-other places i core.number place (λ here. other (here ∙ at)) ∙ are core (omega arith)
