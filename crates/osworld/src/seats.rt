@@ -43,32 +43,36 @@ pub struct Seat<'a> {
 }
 
 impl<'a> Seat<'a> {
-    /// The core at the beginning of a run. It takes no memory yet.
+    /// The core at the beginning of a run, with room for the items and lines that its stimuli are likely to
+    /// bring, which then need not be moved while they grow.
     pub fn new(
         alloc: Global,
         config: &'a Config,
         id: CoreId,
         mode: CoreMode,
         stimuli: &'a [CoreStimuli],
-    ) -> Self
+    ) -> Result<Self, AllocError>
         requires number { id.number < CORES }
         requires configured { IsSome (core_of config.now id) }
         requires limits { IsTrue (is_within_limits config.now) }
-        ensures kernel { result.kernel ≡ state_of (view_of config.now id) [] }
-        ensures core { result.id ≡ id }
-        ensures mode { result.mode ≡ mode }
-        ensures stimuli { result.stimuli.now ≡ stimuli_of stimuli.now id }
-        ensures items { result.items.items ≡ [] }
-        ensures marks { result.marks.items ≡ [] }
+        ensures kernel { IfOk result (λ seat. seat.kernel ≡ state_of (view_of config.now id) []) }
+        ensures core { IfOk result (λ seat. seat.id ≡ id) }
+        ensures mode { IfOk result (λ seat. seat.mode ≡ mode) }
+        ensures stimuli { IfOk result (λ seat. seat.stimuli.now ≡ stimuli_of stimuli.now id) }
+        ensures items { IfOk result (λ seat. seat.items.items ≡ []) }
+        ensures marks { IfOk result (λ seat. seat.marks.items ≡ []) }
     {
-        Seat {
+        let stimuli = stimuli_for(stimuli, id);
+        let ahead = stimuli.len().saturating_add(MARKS);
+        Ok(Seat {
             id,
             mode,
             kernel: Kernel::new(config, id),
-            stimuli: stimuli_for(stimuli, id),
-            items: Vec::new(alloc),
-            marks: Vec::new(alloc),
-        }
+            stimuli,
+            // A stimulus is taken to bring itself and an envelope, and three lines.
+            items: Vec::with_capacity(alloc, ahead.saturating_mul(2))?,
+            marks: Vec::with_capacity(alloc, ahead.saturating_mul(3))?,
+        })
     }
 
     /// The item that a turn of this core names.

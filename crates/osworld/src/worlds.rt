@@ -51,7 +51,7 @@ impl<'a> World<'a> {
         for number in 0..16 {
             let id = CoreId { number };
             if let Some(core) = plan.core(id) {
-                seats.push(Seat::new(alloc, config, id, core.mode, stimuli))?;
+                seats.push(Seat::new(alloc, config, id, core.mode, stimuli)?)?;
             }
         }
         Ok(World {
