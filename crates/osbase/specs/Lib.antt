@@ -1,3 +1,4 @@
 pub mod History
 pub mod Runs
+pub mod Sets
 pub mod Words

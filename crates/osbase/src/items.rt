@@ -1,5 +1,8 @@
 //! Items: the only inputs of a core. A core is a machine that takes one item at a time.
 
+ghost use Rattle.std.specs.Prelude.{◌≡◌, ◌<◌, IsTrue};
+ghost use Rattle.osbase.specs.Sets.{has_core};
+
 use crate::messages::Message;
 use crate::references::{CoreId, IsrRef, ModeId, SpinlockId};
 use crate::statuses::Status;
@@ -19,6 +22,19 @@ pub enum Stimulus {
 #[derive(Clone, Copy, Debug, PartialEq, Eq)]
 pub struct CoreSet {
     pub members: [bool; 16],
+}
+
+impl CoreSet {
+    /// Whether the core is in the set.
+    pub fn contains(&self, core: CoreId) -> bool
+        ensures value { result ≡ has_core self.now core }
+        ensures number { IsTrue result → core.number < 16 }
+    {
+        match self.members.get(usize::from(core.number)) {
+            Some(is_member) => *is_member,
+            None => false,
+        }
+    }
 }
 
 /// What the started cores' application modes came to at the first synchronisation point of

@@ -8,7 +8,8 @@ use Rattle.osbase.specs.declared.messages.Message.{Message}
 use Rattle.osbase.specs.declared.items.Item.{Item}
 use Rattle.osbase.specs.declared.histories.Sent.{Sent}
 use Rattle.osbase.specs.History.{is_scheduling}
-use Rattle.osstate.specs.Readings.{has_core, is_own, next_start}
+use Rattle.osbase.specs.Sets.{has_core}
+use Rattle.osstate.specs.Readings.{is_own, next_start}
 use Rattle.osstate.specs.State.{KernelState}
 use Rattle.oscall.specs.Service.{is_served}
 use Rattle.oskernel.specs.Step.{is_off, is_booting, is_at_first_gate, is_between_gates, is_at_second_gate, is_live, is_drained, is_closing, is_for, is_start_answer, is_agreement, are_started_cores, is_front_for, is_empty, is_reply_to, is_stimulus}

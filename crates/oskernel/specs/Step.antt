@@ -28,7 +28,8 @@ use Rattle.osplan.specs.declared.plans.Task.{Task}
 use Rattle.osplan.specs.declared.plans.CoreMode.{CoreMode}
 use Rattle.osplan.specs.declared.plans.CoreMode.TheVariants.{Named, DontCare}
 use Rattle.osplan.specs.View.{View, is_configured}
-use Rattle.osstate.specs.Readings.{is_own, script_of, frame_at, best_job, has_core, is_started, phase_at, next_start, core_ids, task_refs}
+use Rattle.osbase.specs.Sets.{has_core, core_ids}
+use Rattle.osstate.specs.Readings.{is_own, script_of, frame_at, best_job, is_started, phase_at, next_start, task_refs}
 use Rattle.oscall.specs.Service.{is_ok_status, is_served, prints, returns, activates, ends_unasked, operates, serves_request, serves_action}
 
 -- One test for each phase in which something is asked for.

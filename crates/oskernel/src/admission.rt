@@ -6,7 +6,8 @@ ghost use Rattle.std.specs.Option.{option_map_or};
 ghost use Rattle.osbase.specs.History.{is_scheduling};
 ghost use Rattle.osplan.specs.View.{is_configured};
 ghost use Rattle.oscall.specs.Service.{is_ok_status};
-ghost use Rattle.osstate.specs.Readings.{has_core, next_start};
+ghost use Rattle.osbase.specs.Sets.{has_core};
+ghost use Rattle.osstate.specs.Readings.{next_start};
 ghost use Rattle.oscall.specs.Service.{is_served};
 ghost use Rattle.oskernel.specs.Step.{answers_value, are_started_cores, is_agreement, is_at_first_gate, is_at_second_gate, is_between_gates, is_booting, is_closing, is_drained, is_empty, is_for, is_front_for, is_live, is_off, is_reply_to, is_start_answer, is_started_now_or_before, is_stimulus, is_unknown_core};
 ghost use Rattle.oskernel.specs.Admission.{admits, is_awaited_in, is_next_from, is_settled_in};
@@ -17,7 +18,6 @@ use osbase::{
 };
 use osplan::CoreMode;
 use osstate::CoreState;
-use osstate::cores::is_member;
 use osstate::equality::{both, is_same_core};
 
 // Every core number.
@@ -193,7 +193,7 @@ fn are_started<const P: usize, const J: usize, const OUT: usize>(
 ) -> bool
     ensures { result ≡ are_started_cores state.now.view cores.now }
 {
-    let has_own = is_member(cores, state.id());
+    let has_own = cores.contains(state.id());
     both(has_own, are_configured(state, cores, &CORE_IDS))
 }
 
@@ -220,7 +220,7 @@ fn is_absent_or_configured<const P: usize, const J: usize, const OUT: usize>(
 ) -> bool
     ensures { result ≡ (not (has_core cores.now id) || is_configured state.now.view id) }
 {
-    if is_member(cores, id) {
+    if cores.contains(id) {
         return state.is_configured(id);
     }
     true

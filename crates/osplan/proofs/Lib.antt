@@ -1,3 +1,4 @@
 pub mod Tests
 pub mod Starting
+pub mod Reached
 pub mod Cutting

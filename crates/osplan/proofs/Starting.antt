@@ -1,19 +1,33 @@
 -- The flags of the code are those of the started cores.
-use Rattle.std.proofs.Common.{◌≡◌, ◌≢◌, ℕ, zero, suc, ◌+◌, ◌<◌, Bool, true, false, ◌&&◌, ◌||◌, nat_eq, nat_le, nat_lt, List, [], ◌∷◌, length, map, filter, get_or, set, replicate, is_some, IsTrue, inl, inr, refl, sym, ap, ◌∙◌, get_or-set_same, get_or-set_other, below_more, add-one, arith}
+use Rattle.std.proofs.Common.{◌≡◌, ◌≢◌, ℕ, zero, suc, ◌+◌, ◌<◌, Bool, true, false, ◌&&◌, ◌||◌, nat_eq, nat_le, nat_lt, List, [], ◌∷◌, length, map, filter, get_or, set, replicate, is_some, slice_get, IsTrue, inl, inr, refl, sym, ap, ◌∙◌, get_or-set_same, get_or-set_other, below_more, add-one, arith}
 use Rattle.std.specs.List.{list_all, list_any}
+use Rattle.std.specs.Option.{option_map_or}
 use Rattle.std.proofs.lemmas.Bool.{and_parts, and_from, and_right, or_right, or_cases, leb-true, ltb-true, lt-ltb, eqb-true, eq-eqb, ne_eqb, cases_eq}
 use Rattle.std.proofs.lemmas.List.{length-replicate}
 use Rattle.std.proofs.lemmas.Map.Views.{any-filter_same}
 use Rattle.osbase.specs.declared.references.CoreId.{CoreId}
 use Rattle.osbase.specs.declared.items.CoreSet.{CoreSet}
 use Rattle.osbase.specs.History.{same_core}
+use Rattle.osbase.specs.Sets.{has_core}
 use Rattle.osplan.specs.declared.plans.Plan.{Plan}
 use Rattle.osplan.specs.declared.plans.Core.{Core}
 use Rattle.osplan.specs.View.{core_of}
 use Rattle.osplan.specs.Limits.{is_within_limits, is_core_within}
-use Rattle.osplan.specs.Flags.{is_flagged, is_named_by_flagged, is_next, AreStarted}
-use Rattle.osplan.specs.Separate.{core_ids, is_among, is_named_by, is_started, started_within}
+use Rattle.osplan.specs.Flags.{is_named_by_one_of, is_next, AreStarted}
+use Rattle.osplan.specs.Separate.{configured_ids, is_among, is_named_by, is_started, started_within}
 use Rattle.osplan.proofs.Tests.{all-weaker, all-both, any-same, any-find}
+
+-- ---- a set's flags
+
+flag-read : (members : List Bool) (n : ℕ) → option_map_or (λ (b : Bool). b) (slice_get members n) false ≡ get_or members n false
+flag-read [] zero = refl
+flag-read [] (suc n) = refl
+flag-read (b ∷ bs) zero = refl
+flag-read (b ∷ bs) (suc n) = flag-read bs n
+
+-- A core number's flag says whether the core is in the set.
+pub has_core-flag : (cores : CoreSet) (id : CoreId) → id.number < 16 → has_core cores id ≡ get_or cores.members id.number false
+has_core-flag cores id lt = ap (λ b. b && option_map_or (λ (f : Bool). f) (slice_get cores.members id.number) false) (lt-ltb id.number 16 lt) ∙ flag-read cores.members id.number
 
 -- ---- the master's flag alone
 
@@ -44,14 +58,14 @@ same_core-true a b e = ap (λ (n : ℕ). let id : CoreId = record { number = n }
 
 -- The started cores within n rounds are the configured cores that are flagged.
 abbrev pub AreWithin : Plan → ℕ → CoreSet → Type 0
-AreWithin plan n cores = (id : CoreId) → id.number < 16 → is_among (started_within plan n) id ≡ (is_flagged cores id && is_among (core_ids plan) id)
+AreWithin plan n cores = (id : CoreId) → id.number < 16 → is_among (started_within plan n) id ≡ (has_core cores id && is_among (configured_ids plan) id)
 
-kept : (test : CoreId → Bool) (ids : List CoreId) (id : CoreId) → is_among (filter test ids) id ≡ (test id && is_among ids id)
+pub kept : (test : CoreId → Bool) (ids : List CoreId) (id : CoreId) → is_among (filter test ids) id ≡ (test id && is_among ids id)
 kept test ids id = any-filter_same (λ c. same_core c id) test (test id) (λ c e. ap test (same_core-true c id e)) ids
 
 -- every configured core is among the configured ones, under a number below 16
 abbrev is_known : Plan → Core → Bool
-is_known plan core = nat_lt core.id.number 16 && is_among (core_ids plan) core.id
+is_known plan core = nat_lt core.id.number 16 && is_among (configured_ids plan) core.id
 
 all-among : (cores : List Core) → list_all (λ (c : Core). is_among (map (λ (d : Core). d.id) cores) c.id) cores ≡ true
 all-among [] = refl
@@ -66,7 +80,7 @@ number-low plan core h =
 
 all-known : (plan : Plan) → IsTrue (is_within_limits plan) → list_all (is_known plan) plan.cores ≡ true
 all-known plan limits =
-    all-both (λ (c : Core). nat_lt c.id.number 16) (λ (c : Core). is_among (core_ids plan) c.id) plan.cores
+    all-both (λ (c : Core). nat_lt c.id.number 16) (λ (c : Core). is_among (configured_ids plan) c.id) plan.cores
     (all-weaker (is_core_within plan) (λ (c : Core). nat_lt c.id.number 16) (number-low plan) plan.cores (and_parts _ (list_all (is_core_within plan) plan.cores) limits).1)
     (all-among plan.cores)
 
@@ -90,8 +104,8 @@ pub master-low : (plan : Plan) → IsTrue (is_within_limits plan) → plan.maste
 master-low plan limits =
     configured-low plan plan.master limits (and_parts _ (is_some (core_of plan plan.master)) (and_parts _ (list_all (is_core_within plan) plan.cores) limits).0).1
 
-pub within-zero : (plan : Plan) (cores : CoreSet) → ((id : CoreId) → id.number < 16 → is_flagged cores id ≡ same_core id plan.master) → AreWithin plan 0 cores
-within-zero plan cores flags id lt = kept (λ i. same_core i plan.master) (core_ids plan) id ∙ ap (λ b. b && is_among (core_ids plan) id) (sym (flags id lt))
+pub within-zero : (plan : Plan) (cores : CoreSet) → ((id : CoreId) → id.number < 16 → has_core cores id ≡ same_core id plan.master) → AreWithin plan 0 cores
+within-zero plan cores flags id lt = kept (λ i. same_core i plan.master) (configured_ids plan) id ∙ ap (λ b. b && is_among (configured_ids plan) id) (sym (flags id lt))
 
 -- the flags after a round, and the started cores after it
 round-same : (f a n : Bool) → (((f && a) || n) && a) ≡ ((f || n) && a)
@@ -107,41 +121,41 @@ and-true true = refl
 and-true false = refl
 
 flagged-known : (plan : Plan) (n : ℕ) (cores : CoreSet) → AreWithin plan n cores → (id : CoreId) (core : Core) → is_known plan core ≡ true
-    → (is_among (started_within plan n) core.id && is_among core.start id) ≡ (is_flagged cores core.id && is_among core.start id)
+    → (is_among (started_within plan n) core.id && is_among core.start id) ≡ (has_core cores core.id && is_among core.start id)
 flagged-known plan n cores within id core known =
-    let parts = and_parts (nat_lt core.id.number 16) (is_among (core_ids plan) core.id) known in
-    let flag : is_among (started_within plan n) core.id ≡ is_flagged cores core.id = within core.id (ltb-true core.id.number 16 parts.0) ∙ ap (λ b. is_flagged cores core.id && b) parts.1 ∙ and-true (is_flagged cores core.id) in
+    let parts = and_parts (nat_lt core.id.number 16) (is_among (configured_ids plan) core.id) known in
+    let flag : is_among (started_within plan n) core.id ≡ has_core cores core.id = within core.id (ltb-true core.id.number 16 parts.0) ∙ ap (λ b. has_core cores core.id && b) parts.1 ∙ and-true (has_core cores core.id) in
     ap (λ b. b && is_among core.start id) flag
 
 pub within-suc : (plan : Plan) (n : ℕ) (before after : CoreSet) → IsTrue (is_within_limits plan) → AreWithin plan n before
-    → ((id : CoreId) → id.number < 16 → is_flagged after id ≡ is_next plan.cores before id)
+    → ((id : CoreId) → id.number < 16 → has_core after id ≡ is_next plan.cores before id)
     → AreWithin plan (n + 1) after
 within-suc plan n before after limits within flags id lt =
-    let named : is_named_by plan (started_within plan n) id ≡ is_named_by_flagged plan.cores before id
+    let named : is_named_by plan (started_within plan n) id ≡ is_named_by_one_of plan.cores before id
     = any-same _ _ (is_known plan) (flagged-known plan n before within id) plan.cores (all-known plan limits) in
     rw add-one
-    (kept (λ i. is_among (started_within plan n) i || is_named_by plan (started_within plan n) i) (core_ids plan) id
-    ∙ ap (λ b. (b || is_named_by plan (started_within plan n) id) && is_among (core_ids plan) id) (within id lt)
-    ∙ ap (λ b. ((is_flagged before id && is_among (core_ids plan) id) || b) && is_among (core_ids plan) id) named
-    ∙ round-same (is_flagged before id) (is_among (core_ids plan) id) _
-    ∙ ap (λ b. b && is_among (core_ids plan) id) (sym (flags id lt)))
+    (kept (λ i. is_among (started_within plan n) i || is_named_by plan (started_within plan n) i) (configured_ids plan) id
+    ∙ ap (λ b. (b || is_named_by plan (started_within plan n) id) && is_among (configured_ids plan) id) (within id lt)
+    ∙ ap (λ b. ((has_core before id && is_among (configured_ids plan) id) || b) && is_among (configured_ids plan) id) named
+    ∙ round-same (has_core before id) (is_among (configured_ids plan) id) _
+    ∙ ap (λ b. b && is_among (configured_ids plan) id) (sym (flags id lt)))
 
 among-map : (cores : List Core) (id : CoreId) → is_among (map (λ (c : Core). c.id) cores) id ≡ list_any (λ (c : Core). same_core c.id id) cores
 among-map [] id = refl
 among-map (c ∷ cs) id = ap (λ b. same_core c.id id || b) (among-map cs id)
 
-among-configured : (plan : Plan) (id : CoreId) → is_among (core_ids plan) id ≡ is_some (core_of plan id)
+pub among-configured : (plan : Plan) (id : CoreId) → is_among (configured_ids plan) id ≡ is_some (core_of plan id)
 among-configured plan id = among-map plan.cores id ∙ any-find (λ (c : Core). same_core c.id id) plan.cores
 
 -- after as many rounds as there are cores
 pub started-within : (plan : Plan) (n : ℕ) (cores : CoreSet) → IsTrue (is_within_limits plan) → n ≡ length plan.cores → AreWithin plan n cores → AreStarted plan cores
 started-within plan n cores limits e within id found =
-    rw (← e) (within id (configured-low plan id limits found) ∙ ap (λ b. is_flagged cores id && b) (among-configured plan id ∙ found) ∙ and-true (is_flagged cores id))
+    rw (← e) (within id (configured-low plan id limits found) ∙ ap (λ b. has_core cores id && b) (among-configured plan id ∙ found) ∙ and-true (has_core cores id))
 
 -- a core that is not configured is never started
 unstarted-within : (plan : Plan) (n : ℕ) (id : CoreId) → is_some (core_of plan id) ≡ false → is_among (started_within plan n) id ≡ false
-unstarted-within plan zero id none = kept (λ i. same_core i plan.master) (core_ids plan) id ∙ and_right _ _ (among-configured plan id ∙ none)
-unstarted-within plan (suc n) id none = kept (λ i. is_among (started_within plan n) i || is_named_by plan (started_within plan n) i) (core_ids plan) id ∙ and_right _ _ (among-configured plan id ∙ none)
+unstarted-within plan zero id none = kept (λ i. same_core i plan.master) (configured_ids plan) id ∙ and_right _ _ (among-configured plan id ∙ none)
+unstarted-within plan (suc n) id none = kept (λ i. is_among (started_within plan n) i || is_named_by plan (started_within plan n) i) (configured_ids plan) id ∙ and_right _ _ (among-configured plan id ∙ none)
 
 pub unstarted : (plan : Plan) (id : CoreId) → is_some (core_of plan id) ≡ false → is_started plan id ≡ false
 unstarted plan id none = unstarted-within plan (length plan.cores) id none

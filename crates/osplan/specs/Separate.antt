@@ -17,8 +17,8 @@ use Rattle.osplan.specs.View.{core_of}
 -- ---- which cores are started
 
 -- The numbers of the configured cores.
-abbrev pub core_ids : Plan → List CoreId
-core_ids plan = map (λ (c : Core). c.id) plan.cores
+abbrev pub configured_ids : Plan → List CoreId
+configured_ids plan = map (λ (c : Core). c.id) plan.cores
 
 -- The core's number is among these.
 abbrev pub is_among : List CoreId → CoreId → Bool
@@ -30,11 +30,11 @@ is_named_by plan started id = list_any (λ (c : Core). is_among started c.id && 
 
 -- The configured cores that are started after one more round of start lists.
 abbrev pub after_round : Plan → List CoreId → List CoreId
-after_round plan started = filter (λ id. is_among started id || is_named_by plan started id) (core_ids plan)
+after_round plan started = filter (λ id. is_among started id || is_named_by plan started id) (configured_ids plan)
 
 -- The configured cores that are started within n rounds of start lists. The master alone needs none.
 abbrev pub started_within : Plan → ℕ → List CoreId
-started_within plan zero = filter (λ id. same_core id plan.master) (core_ids plan)
+started_within plan zero = filter (λ id. same_core id plan.master) (configured_ids plan)
 started_within plan (suc n) = after_round plan (started_within plan n)
 
 -- A core is started if start lists lead to it from the master. As many rounds as there are cores are

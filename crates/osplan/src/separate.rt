@@ -3,9 +3,10 @@
 ghost use Rattle.std.specs.Prelude.{◌≡◌, ◌<◌, ◌⊎◌, ◌↔◌, false, IsTrue, IfOk, IfErr, Err};
 ghost use Rattle.std.specs.List.{list_any};
 ghost use Rattle.osbase.specs.History.{same_core};
+ghost use Rattle.osbase.specs.Sets.{has_core};
 ghost use Rattle.osplan.specs.Limits.{is_within_limits};
 ghost use Rattle.osplan.specs.Expressible.{is_core_expressible};
-ghost use Rattle.osplan.specs.Flags.{is_flagged, is_named_by_flagged, is_next, AreStarted};
+ghost use Rattle.osplan.specs.Flags.{is_named_by_one_of, is_next, AreStarted};
 ghost use Rattle.osplan.specs.Separate.{agree, alone_of, cut_of, has_operation, is_among, is_named_elsewhere, is_agreed_mode, is_separate, is_separate_core, is_started, names_mode, names_other, names_own, standing_of};
 
 use crate::faults::ConfFault;
@@ -17,15 +18,6 @@ use std::alloc::{AllocError, Global};
 /// One past the greatest number that a set holds.
 const NUMBERS: u8 = 16;
 
-fn is_flagged(cores: &CoreSet, id: CoreId) -> bool
-    ensures { result ≡ is_flagged cores.now id }
-{
-    match cores.members.get(usize::from(id.number)) {
-        Some(flag) => *flag,
-        None => false,
-    }
-}
-
 fn is_among(ids: &[CoreId], id: CoreId) -> bool
     ensures { result ≡ is_among ids.now id }
 {
@@ -33,20 +25,20 @@ fn is_among(ids: &[CoreId], id: CoreId) -> bool
 }
 
 fn is_named_by(cores: &[Core], started: &CoreSet, id: CoreId) -> bool
-    ensures { result ≡ is_named_by_flagged cores.now started.now id }
+    ensures { result ≡ is_named_by_one_of cores.now started.now id }
 {
-    cores.iter().any(|core| is_flagged(started, core.id) && is_among(core.start.as_slice(), id))
+    cores.iter().any(|core| started.contains(core.id) && is_among(core.start.as_slice(), id))
 }
 
 fn is_next(cores: &[Core], started: &CoreSet, id: CoreId) -> bool
     ensures { result ≡ is_next cores.now started.now id }
 {
-    is_flagged(started, id) || is_named_by(cores, started, id)
+    started.contains(id) || is_named_by(cores, started, id)
 }
 
 // The cores that are started after one more round of start lists.
 fn after_round(cores: &[Core], started: &CoreSet) -> CoreSet
-    ensures { (id : CoreId) → id.number < 16 → is_flagged result id ≡ is_next cores.now started.now id }
+    ensures { (id : CoreId) → id.number < 16 → has_core result id ≡ is_next cores.now started.now id }
 {
     let mut members = [false; 16];
     for number in 0..NUMBERS {
@@ -58,7 +50,7 @@ fn after_round(cores: &[Core], started: &CoreSet) -> CoreSet
 // The master alone.
 fn at_first(master: CoreId) -> CoreSet
     requires { master.number < 16 }
-    ensures { (id : CoreId) → id.number < 16 → is_flagged result id ≡ same_core id master }
+    ensures { (id : CoreId) → id.number < 16 → has_core result id ≡ same_core id master }
 {
     let mut members = [false; 16];
     members[usize::from(master.number)] = true;
@@ -81,7 +73,7 @@ fn is_started(plan: &Plan, started: &CoreSet, id: CoreId) -> bool
     requires { AreStarted plan.now started.now }
     ensures { result ≡ is_started plan.now id }
 {
-    plan.core(id).is_some() && is_flagged(started, id)
+    plan.core(id).is_some() && started.contains(id)
 }
 
 fn names_mode(mode: CoreMode) -> bool

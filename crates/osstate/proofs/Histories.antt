@@ -15,7 +15,8 @@ use Rattle.oscript.specs.declared.Frame.{Frame}
 use Rattle.oscript.specs.Frames.{new_frame, completed, rewound}
 use Rattle.osplan.specs.declared.plans.Task.{Task}
 use Rattle.osplan.specs.View.{View}
-use Rattle.osstate.specs.Readings.{own_task, script_of, frame_at, core_ids}
+use Rattle.osbase.specs.Sets.{core_ids}
+use Rattle.osstate.specs.Readings.{own_task, script_of, frame_at}
 use Rattle.osstate.specs.State.{KernelState, state_of}
 use Rattle.osstate.specs.Steps.{state_after, one_more, next_envelope}
 use Rattle.osstate.specs.Sound.{is_own_runner, is_plain, is_sender_known}

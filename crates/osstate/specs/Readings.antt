@@ -1,13 +1,12 @@
 -- What is read off a core's history with what the core sees of its configuration.
-use Rattle.std.specs.Prelude.{ℕ, ◌&&◌, nat_le, nat_lt, if◌then◌else◌, Bool, false, Option, None, List, [], ◌∷◌, map, slice_get}
+use Rattle.std.specs.Prelude.{ℕ, nat_le, if◌then◌else◌, Bool, Option, None, List, [], map, slice_get}
 use Rattle.std.specs.List.{enumerate_from}
 use Rattle.std.specs.Option.{option_map_or}
 use Rattle.osbase.specs.declared.references.CoreId.{CoreId}
 use Rattle.osbase.specs.declared.references.TaskRef.{TaskRef}
 use Rattle.osbase.specs.declared.references.Runner.{Runner}
-use Rattle.osbase.specs.declared.items.CoreSet.{CoreSet}
-use Rattle.osbase.specs.declared.turns.TheConstants.{CORES}
 use Rattle.osbase.specs.declared.histories.Job.{Job}
+use Rattle.osbase.specs.Sets.{has_core}
 use Rattle.osbase.specs.History.{History, same_core, live_jobs, job_count, best, started_cores, phase_of}
 use Rattle.osbase.specs.declared.histories.Phase.{Phase}
 use Rattle.oscript.specs.declared.Op.{Op}
@@ -51,10 +50,6 @@ best_job v h = best (current_priority v h) h
 abbrev pub is_at_limit : View → TaskRef → History → Bool
 is_at_limit v t h = nat_le (option_map_or (λ (task : Task). task.activations) (own_task v t) 0) (job_count (Runner.Task t) (live_jobs h))
 
--- The core is in the set. A set has a flag for each of the 16 core numbers, so no other number is in it.
-abbrev pub has_core : CoreSet → CoreId → Bool
-has_core cores id = nat_lt id.number CORES && option_map_or (λ (b : Bool). b) (slice_get cores.members id.number) false
-
 -- The core was started, as far as this core learned at the second gate.
 abbrev pub is_started : History → CoreId → Bool
 is_started h id = has_core (started_cores h) id
@@ -66,10 +61,6 @@ phase_at v h = phase_of v.is_master h
 -- The next core of the start list. [AUTOSAR SWS OS 4.x, StartCore; that there is a list is this project's own]
 abbrev pub next_start : View → ℕ → Option CoreId
 next_start v began = slice_get v.start began
-
--- The numbers that a configured core may have.
-abbrev pub core_ids : List CoreId
-core_ids = map (λ (n : ℕ). record { number = n }) (0 ∷ 1 ∷ 2 ∷ 3 ∷ 4 ∷ 5 ∷ 6 ∷ 7 ∷ 8 ∷ 9 ∷ 10 ∷ 11 ∷ 12 ∷ 13 ∷ 14 ∷ 15 ∷ [])
 
 -- The core's tasks by reference, in index order.
 abbrev pub task_refs : View → List (TaskRef × Task)

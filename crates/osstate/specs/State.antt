@@ -13,7 +13,8 @@ use Rattle.osbase.specs.History.{History, began_count, agreement_of, started_cor
 use Rattle.oscript.specs.declared.Frame.{Frame}
 use Rattle.osplan.specs.declared.plans.Task.{Task}
 use Rattle.osplan.specs.View.{View}
-use Rattle.osstate.specs.Readings.{phase_at, task_refs, frame_at, core_ids}
+use Rattle.osbase.specs.Sets.{core_ids}
+use Rattle.osstate.specs.Readings.{phase_at, task_refs, frame_at}
 
 -- What a kernel keeps: each field is one reading of the core's history. The frames are those of the
 -- tasks in index order; the counts are by core number.

@@ -3,7 +3,6 @@
 //! No function here takes memory.
 #![tactic(auto)]
 
-pub mod cores;
 pub mod equality;
 mod parts;
 pub mod progress;

@@ -7,12 +7,12 @@ ghost use Rattle.osplan.specs.declared.plans.Task.{Task as TaskValue};
 ghost use Rattle.oscript.specs.Frames.{action_at};
 ghost use Rattle.osplan.specs.View.{core_of, is_configured, view_of};
 ghost use Rattle.osstate.specs.Does.{Does, Notes, Reads};
-ghost use Rattle.osstate.specs.Readings.{best_job, frame_at, has_core, is_at_limit, is_own, is_started, next_start, own_task, phase_at, script_of};
+ghost use Rattle.osbase.specs.Sets.{has_core};
+ghost use Rattle.osstate.specs.Readings.{best_job, frame_at, is_at_limit, is_own, is_started, next_start, own_task, phase_at, script_of};
 ghost use Rattle.osstate.specs.State.{state_of};
 ghost use Rattle.osstate.specs.Sound.{activation_limit, is_action_known, is_agreed, is_before_live, is_current, is_first_gate, is_own_runner, is_past_first_gate, is_plain, is_posted, is_sender_known, is_taken};
 ghost use Rattle.osstate.specs.Steps.{best_in, frame_in, next_envelope, state_after};
 
-use crate::cores::is_member;
 use crate::equality::is_same_core;
 use crate::parts;
 use crate::progress::Progress;
@@ -314,7 +314,7 @@ impl<'a, const P: usize, const J: usize, const OUT: usize> CoreState<'a, P, J, O
         ensures reads { Reads (λ v h. is_started h id) self.now result }
         ensures number { IsTrue result → id.number < 16 }
     {
-        is_member(&self.progress.started, id)
+        self.progress.started.contains(id)
     }
 
     /// Whether the object is one of this core's.

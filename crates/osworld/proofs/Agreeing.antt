@@ -21,7 +21,8 @@ use Rattle.osplan.specs.declared.plans.CoreMode.TheVariants.{Named, DontCare}
 use Rattle.osplan.specs.Separate.{agree, is_agreed_mode, is_among, is_started}
 use Rattle.osplan.specs.View.{View, core_of, is_configured, view_of}
 use Rattle.osplan.proofs.Tests.{find-holds, find-passes}
-use Rattle.osstate.specs.Readings.{has_core, is_own, is_started as is_started_at, next_start, phase_at}
+use Rattle.osbase.specs.Sets.{has_core}
+use Rattle.osstate.specs.Readings.{is_own, is_started as is_started_at, next_start, phase_at}
 use Rattle.osstate.proofs.Begun.{is_some-core_of}
 use Rattle.osstate.proofs.Same.{same_core-true, same_core-refl}
 use Rattle.oskernel.specs.Step.{is_agreement, is_at_first_gate, is_awaited, is_booting, is_for, is_front_for, is_off, is_start_answer, is_started_now_or_before, is_unknown_core, may_take, outbox_size}
@@ -32,7 +33,7 @@ use Rattle.osworld.proofs.Ahead.{at-off, stage, stage_of}
 use Rattle.osworld.proofs.Carrying.{history-other}
 use Rattle.osworld.proofs.Fitting.{Answers}
 use Rattle.osworld.proofs.Listed.{list_of}
-use Rattle.osworld.proofs.Reached.{started-master, started-next}
+use Rattle.osplan.proofs.Reached.{started-master, started-next}
 use Rattle.osworld.proofs.Started.{no_history}
 use Rattle.osworld.proofs.Turning.{told-on}
 

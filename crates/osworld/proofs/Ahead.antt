@@ -14,7 +14,8 @@ use Rattle.osbase.specs.History.{History, Took, Printed, began_count, item_count
 use Rattle.osplan.specs.declared.plans.CoreMode.{CoreMode}
 use Rattle.osplan.specs.declared.plans.CoreMode.TheVariants.{Named}
 use Rattle.osplan.specs.View.{View, is_configured}
-use Rattle.osstate.specs.Readings.{core_ids, has_core, is_started, next_start, phase_at}
+use Rattle.osbase.specs.Sets.{core_ids, has_core}
+use Rattle.osstate.specs.Readings.{is_started, next_start, phase_at}
 use Rattle.oskernel.specs.Step.{after, are_started_cores, history_from, is_agreement, is_at_first_gate, is_at_second_gate, is_between_gates, is_booting, is_closing, is_drained, is_for, is_live, is_off, is_settled, is_start_answer, is_stimulus, may_take, outbox_size, solo, solo_from, takes}
 use Rattle.osworld.specs.Fits.{IsBeginning, has_drained, stimuli_in}
 use Rattle.osworld.proofs.Among.{among, base_of, marks-same, open-same, phase-same}

@@ -23,7 +23,7 @@ use Rattle.osplan.specs.Limits.{is_core_mode, is_core_within, is_task_within, is
 use Rattle.osplan.specs.Separate.{alone_of, cut_of, has_operation, is_agreed_mode, is_named_elsewhere, is_separate_core, is_started, names_mode, names_other}
 use Rattle.osplan.specs.View.{View, core_of, is_configured, view_of}
 use Rattle.osplan.proofs.Tests.{find-holds}
-use Rattle.osstate.specs.Readings.{core_ids, has_core}
+use Rattle.osbase.specs.Sets.{core_ids, has_core}
 use Rattle.osstate.proofs.Begun.{core_within}
 use Rattle.osstate.proofs.Same.{same_core-true, same_core-refl}
 use Rattle.oskernel.specs.Step.{are_started_cores, history_from, is_stimulus, solo}

@@ -12,7 +12,7 @@ use Rattle.osbase.specs.declared.turns.CoreStimuli.{CoreStimuli}
 use Rattle.osmail.specs.Mail.{Mail}
 use Rattle.osplan.specs.declared.plans.Plan.{Plan}
 use Rattle.osplan.specs.Limits.{is_within_limits}
-use Rattle.osstate.specs.Readings.{has_core}
+use Rattle.osbase.specs.Sets.{has_core}
 use Rattle.osstate.specs.State.{KernelState}
 use Rattle.osbase.specs.declared.turns.Report.{Report}
 use Rattle.osworld.specs.declared.runs.RunFault.TheVariants.{NoMemory}

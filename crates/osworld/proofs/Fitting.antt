@@ -15,7 +15,8 @@ use Rattle.osbase.specs.Runs.{stimuli_of}
 use Rattle.osplan.specs.declared.plans.Plan.{Plan}
 use Rattle.osplan.specs.declared.plans.CoreMode.{CoreMode}
 use Rattle.osplan.specs.View.{View, is_configured, view_of}
-use Rattle.osstate.specs.Readings.{has_core, phase_at}
+use Rattle.osbase.specs.Sets.{has_core}
+use Rattle.osstate.specs.Readings.{phase_at}
 use Rattle.oskernel.specs.declared.wants.Want.{Want}
 use Rattle.oskernel.specs.Step.{after, history_from, solo_from, takes, outbox_size}
 use Rattle.oskernel.specs.Wants.{want_of}

@@ -12,7 +12,6 @@ pub mod Played
 pub mod Started
 pub mod Fitting
 pub mod Fitted
-pub mod Reached
 pub mod Among
 pub mod Idling
 pub mod Stepping

@@ -10,7 +10,7 @@ use Rattle.osbase.specs.declared.turns.CoreStimuli.{CoreStimuli}
 use Rattle.osbase.specs.History.{History, item_count}
 use Rattle.osplan.specs.declared.plans.Plan.{Plan}
 use Rattle.osplan.specs.View.{View, core_of, view_of}
-use Rattle.osstate.specs.Readings.{core_ids}
+use Rattle.osbase.specs.Sets.{core_ids}
 use Rattle.oskernel.specs.Step.{after, history_from, may_take, takes, outbox_size}
 use Rattle.osworld.specs.World.{World, appends, first_world, history_in, ids_of, item_total, named, turn, turn_by, with_item, world, world_from}
 use Rattle.osworld.proofs.Quiet.{quiet_after}

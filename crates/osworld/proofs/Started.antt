@@ -17,7 +17,7 @@ use Rattle.osplan.specs.declared.plans.Plan.{Plan}
 use Rattle.osplan.specs.declared.plans.Core.{Core}
 use Rattle.osplan.specs.declared.plans.CoreMode.{CoreMode}
 use Rattle.osplan.specs.View.{core_of, view_of}
-use Rattle.osstate.specs.Readings.{core_ids}
+use Rattle.osbase.specs.Sets.{core_ids}
 use Rattle.osstate.specs.State.{state_of}
 use Rattle.oskernel.specs.Step.{history_from}
 use Rattle.osworld.specs.declared.seats.Seat.{Seat}

@@ -10,7 +10,7 @@ use Rattle.osbase.specs.declared.items.Agreement.{Agreement}
 use Rattle.osbase.specs.History.{no_cores}
 use Rattle.osplan.specs.declared.plans.CoreMode.{CoreMode}
 use Rattle.osplan.specs.declared.plans.CoreMode.TheVariants.{Named, DontCare}
-use Rattle.osstate.specs.Readings.{has_core}
+use Rattle.osbase.specs.Sets.{has_core}
 use Rattle.osworld.specs.declared.boards.Board.{Board}
 use Rattle.osworld.specs.declared.boards.ModeSet.{ModeSet}
 

@@ -9,7 +9,7 @@ use Rattle.osbase.specs.Runs.{stimuli_of}
 use Rattle.osplan.specs.declared.plans.Plan.{Plan}
 use Rattle.osplan.specs.declared.plans.CoreMode.{CoreMode}
 use Rattle.osplan.specs.View.{view_of}
-use Rattle.osstate.specs.Readings.{has_core}
+use Rattle.osbase.specs.Sets.{has_core}
 use Rattle.oskernel.specs.Step.{solo}
 use Rattle.osworld.specs.declared.boards.Board.{Board}
 use Rattle.osworld.specs.Board.{BoardEntry, BoardReply, Started, Noted, Shown, NoHalt, agreement_in, board_after, first_board, have_all, reply_of}

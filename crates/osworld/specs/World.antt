@@ -19,7 +19,8 @@ use Rattle.osbase.specs.declared.turns.TheConstants.{CORES}
 use Rattle.osplan.specs.declared.plans.Plan.{Plan}
 use Rattle.osplan.specs.declared.plans.CoreMode.{CoreMode}
 use Rattle.osplan.specs.View.{View, view_of, core_of, is_configured}
-use Rattle.osstate.specs.Readings.{has_core, core_ids, phase_at}
+use Rattle.osbase.specs.Sets.{has_core, core_ids}
+use Rattle.osstate.specs.Readings.{phase_at}
 use Rattle.oskernel.specs.declared.wants.Want.{Want}
 use Rattle.oskernel.specs.Step.{takes, history_from, outbox_size}
 use Rattle.oskernel.specs.Wants.{want_of}

@@ -3,7 +3,7 @@
 ghost use Rattle.std.specs.Prelude.{◌≡◌, count_by, position, IfSome, ◌<◌, ◌≤◌, length};
 ghost use Rattle.osbase.specs.declared.turns.TheConstants.{CORES};
 ghost use Rattle.osplan.specs.declared.plans.CoreMode.TheVariants.{Named};
-ghost use Rattle.osstate.specs.Readings.{has_core};
+ghost use Rattle.osbase.specs.Sets.{has_core};
 ghost use Rattle.osworld.specs.Board.{BoardCall, StartCore, Enter, MakeReady, Drain, agreement_in, board_after, first_board, have_all, no_modes, start_answer, with_core, with_mode};
 
 use osbase::{Agreement, CORES, CoreId, CoreSet, ModeId, Status};
@@ -97,10 +97,7 @@ impl Board {
     pub fn is_started(&self, core: CoreId) -> bool
         ensures { result ≡ has_core self.now.started core }
     {
-        match self.started.members.get(core.number as usize) {
-            Some(member) => *member,
-            None => false,
-        }
+        self.started.contains(core)
     }
 
     /// Whether every started core has entered, so that the first gate is open.

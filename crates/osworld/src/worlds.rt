@@ -8,7 +8,7 @@ ghost use Rattle.osbase.specs.declared.references.CoreId.{CoreId as CoreIdValue}
 ghost use Rattle.osbase.specs.History.{same_core};
 ghost use Rattle.osplan.specs.Limits.{is_within_limits};
 ghost use Rattle.osworld.specs.declared.seats.Seat.{Seat as SeatValue};
-ghost use Rattle.osstate.specs.Readings.{has_core};
+ghost use Rattle.osbase.specs.Sets.{has_core};
 ghost use Rattle.osworld.specs.World.{first_world, is_ended_phase};
 
 use crate::boards::Board;

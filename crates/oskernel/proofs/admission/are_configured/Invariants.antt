@@ -1,7 +1,7 @@
 use Rattle.std.proofs.Common.{◌≡◌, ◌||◌, not, drop}
 use Rattle.std.specs.List.{list_all}
 use Rattle.osplan.specs.View.{is_configured}
-use Rattle.osstate.specs.Readings.{has_core}
+use Rattle.osbase.specs.Sets.{has_core}
 use Rattle.oskernel.proofs.admission.are_configured.Given as goal
 
 abbrev pub invariant-loop-id : goal.invariant-loop-id

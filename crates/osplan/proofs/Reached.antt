@@ -1,17 +1,16 @@
 -- The started cores are closed under start lists: as many rounds as there are cores are enough.
-use Rattle.std.proofs.Common.{◌≡◌, ◌⊎◌, ℕ, zero, suc, ◌<◌, ◌≤◌, Bool, true, false, ◌&&◌, ◌||◌, cond, Some, List, [], ◌∷◌, length, map, filter, is_some, inl, inr, refl, sym, ap, ◌∙◌, arith}
+use Rattle.std.proofs.Common.{◌≡◌, ◌⊎◌, ℕ, zero, suc, ◌<◌, ◌≤◌, Bool, true, false, ◌&&◌, ◌||◌, cond, Some, List, [], ◌∷◌, length, filter, is_some, inl, inr, refl, sym, ap, ◌∙◌, arith}
 use Rattle.std.specs.List.{list_any, find}
 use Rattle.std.proofs.lemmas.Bool.{and_parts, and_from, or_left, or_right, eq-eqb, false≢true}
 use Rattle.std.proofs.lemmas.List.{length-map}
-use Rattle.std.proofs.lemmas.Map.Views.{any-filter_same}
 use Rattle.osbase.specs.declared.references.CoreId.{CoreId}
 use Rattle.osbase.specs.History.{same_core}
 use Rattle.osplan.specs.declared.plans.Plan.{Plan}
 use Rattle.osplan.specs.declared.plans.Core.{Core}
 use Rattle.osplan.specs.View.{core_of}
-use Rattle.osplan.specs.Separate.{core_ids, is_among, is_named_by, is_started, started_within}
-use Rattle.osplan.proofs.Tests.{any-find, find-holds}
-use Rattle.osplan.proofs.Starting.{same_core-true}
+use Rattle.osplan.specs.Separate.{configured_ids, is_among, is_named_by, is_started, started_within}
+use Rattle.osplan.proofs.Tests.{find-holds}
+use Rattle.osplan.proofs.Starting.{among-configured, kept, same_core-true}
 
 -- ---- a weaker test keeps as many, or more
 
@@ -39,13 +38,10 @@ length-filter-le {X} p (x ∷ xs) = by (p x) (length-filter-le p xs)
 
 module _ (plan : Plan) where
   abbrev ids : List CoreId
-  ids = core_ids plan
+  ids = configured_ids plan
 
   abbrev within : ℕ → CoreId → Bool
   within n id = is_among (started_within plan n) id
-
-  kept : (test : CoreId → Bool) (cs : List CoreId) (id : CoreId) → is_among (filter test cs) id ≡ (test id && is_among cs id)
-  kept test cs id = any-filter_same (λ c. same_core c id) test (test id) (λ c e. ap test (same_core-true c id e)) cs
 
   next-round : (n : ℕ) (id : CoreId) → within (suc n) id ≡ ((within n id || is_named_by plan (started_within plan n) id) && is_among ids id)
   next-round n id = kept (λ i. within n i || is_named_by plan (started_within plan n) i) ids id
@@ -115,13 +111,6 @@ module _ (plan : Plan) where
 
   -- ---- what starts
 
-  among-map : (cores : List Core) (id : CoreId) → is_among (map (λ (c : Core). c.id) cores) id ≡ list_any (λ (c : Core). same_core c.id id) cores
-  among-map [] id = refl
-  among-map (c ∷ cs) id = ap (λ b. same_core c.id id || b) (among-map cs id)
-
-  among-configured : (id : CoreId) → is_among ids id ≡ is_some (core_of plan id)
-  among-configured id = among-map plan.cores id ∙ any-find (λ (c : Core). same_core c.id id) plan.cores
-
   any-found : {X : Type 0} (p q : X → Bool) (xs : List X) (x : X) → find p xs ≡ Some x → q x ≡ true → list_any q xs ≡ true
   any-found p q [] x e h = cc
   any-found {X} p q (y ∷ ys) x e h = by (p y) e (λ f. any-found p q ys x f h)
@@ -138,7 +127,7 @@ module _ (plan : Plan) where
   pub started-master : is_some (core_of plan plan.master) ≡ true → is_started plan plan.master ≡ true
   started-master there =
       within-later (length plan.cores) plan.master
-      (kept (λ i. same_core i plan.master) ids plan.master ∙ and_from _ _ (eq-eqb plan.master.number plan.master.number refl) (among-configured plan.master ∙ there))
+      (kept (λ i. same_core i plan.master) ids plan.master ∙ and_from _ _ (eq-eqb plan.master.number plan.master.number refl) (among-configured plan plan.master ∙ there))
 
   -- so is a configured core that a started one names in its start list
   pub started-next : (id k : CoreId) (core : Core) → is_started plan id ≡ true → core_of plan id ≡ Some core → is_among core.start k ≡ true → is_some (core_of plan k) ≡ true → is_started plan k ≡ true
@@ -147,4 +136,4 @@ module _ (plan : Plan) where
       let named_by : is_named_by plan (started_within plan (length plan.cores)) k ≡ true
       = any-found (λ (c : Core). same_core c.id id) (λ (c : Core). within (length plan.cores) c.id && is_among c.start k) plan.cores core found
       (and_from _ _ (ap (within (length plan.cores)) same ∙ started) named) in
-      sym (enough k) ∙ next-round (length plan.cores) k ∙ and_from _ _ (or_right _ _ named_by) (among-configured k ∙ there)
+      sym (enough k) ∙ next-round (length plan.cores) k ∙ and_from _ _ (or_right _ _ named_by) (among-configured plan k ∙ there)
