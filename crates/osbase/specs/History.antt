@@ -114,7 +114,7 @@ abbrev pub current_task : History → Option TaskRef
 current_task [] = None
 current_task (e ∷ h) = current_after e (current_task h)
 
--- The current job: the oldest live job of the current task.
+-- The current job: the oldest live job of the current task. [OSEK/VDX OS 2.2.3, section 4.3]
 abbrev pub oldest_of : Option TaskRef → List Job → Option Job
 oldest_of None jobs = None
 oldest_of (Some t) jobs = oldest (Runner.Task t) jobs
@@ -220,14 +220,14 @@ phase_from first (e ∷ h) = phase_after e (phase_from first h)
 abbrev pub phase_of : Bool → History → Phase
 phase_of is_master h = phase_from (if is_master then Phase.Boot else Phase.Off) h
 
--- A core schedules, serves and posts from the second gate to its end.
+-- A core schedules, serves and posts from the second gate to its end. [own]
 abbrev pub is_scheduling : Phase → Bool
 is_scheduling Phase.Live = true
 is_scheduling Phase.Drained = true
 is_scheduling Phase.Closing = true
 is_scheduling p = false
 
--- How many entries of the start list are done.
+-- How many entries of the start list are done. [own]
 abbrev pub began_count : History → ℕ
 began_count [] = 0
 began_count (Took (Item.Began k s) ∷ h) = suc (began_count h)
@@ -240,7 +240,7 @@ agreement_of [] = None
 agreement_of (Took (Item.Pass1 a) ∷ h) = Some a
 agreement_of (e ∷ h) = agreement_of h
 
--- The cores that were started, once the second gate is passed; none before.
+-- The cores that were started, once the second gate is passed; none before. [own]
 abbrev pub no_cores : CoreSet
 no_cores = record { members = replicate 16 false }
 

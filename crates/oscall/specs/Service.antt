@@ -44,7 +44,7 @@ abbrev pub reports : Status → History → History
 reports status h = if is_ok_status status then h else prints (Mark.ErrorHook status) h
 
 -- A service returns to the runner's job: its status is printed, then ErrorHook is called, and the job stands
--- at its next operation.
+-- at its next operation. [OSEK/VDX OS 2.2.3, section 11.2]
 abbrev pub returns : Runner → ServiceId → Status → Option ℤ → History → History
 returns r service status value h =
     Noted (Done r status value) ∷ reports status (prints (Mark.ServiceReturned r service status value) h)
@@ -98,7 +98,7 @@ is_isr (Runner.Isr i) = true
 abbrev pub termination_checks : Runner → List Check
 termination_checks r = (is_isr r, EOsCallevel) ∷ []
 
--- A service that is refused has no effect but to return its status.
+-- A service that is refused has no effect but to return its status. [OSEK/VDX OS 2.2.3, section 11.2]
 abbrev pub answers : Runner → ServiceId → Status → (History → History) → History → History
 answers r service status effect h = if is_ok_status status then effect h else returns r service status None h
 

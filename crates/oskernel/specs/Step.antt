@@ -91,7 +91,7 @@ is_agreement v DontCare (Agreement.Mode m) = nat_lt m.index (length v.modes)
 is_agreement v (Named own) Agreement.NoMode = false
 is_agreement v DontCare Agreement.NoMode = true
 
--- The set has configured cores only, and the own one.
+-- The set has configured cores only, and the own one. [own]
 abbrev pub are_started_cores : View → CoreSet → Bool
 are_started_cores v cores = has_core cores v.core && list_all (λ id. not (has_core cores id) || is_configured v id) core_ids
 
@@ -104,7 +104,7 @@ abbrev pub is_empty : List Sent → Bool
 is_empty [] = true
 is_empty (s ∷ ss) = false
 
--- The service whose E_OK comes with a value.
+-- The service whose E_OK comes with a value. [OSEK/VDX OS 2.2.3, section 13.6.3.2]
 abbrev pub answers_value : ServiceId → Bool
 answers_value Service.GetAlarm = true
 answers_value s = false
@@ -125,7 +125,7 @@ abbrev pub is_stimulus : Stimulus → Bool
 is_stimulus Stimulus.Op = true
 is_stimulus s = false
 
--- No call is open, and nothing waits in the outbox.
+-- No call is open, and nothing waits in the outbox. [own]
 abbrev pub is_settled : History → Bool
 is_settled h = is_none (open_call h) && is_empty (outbox h)
 
@@ -151,7 +151,7 @@ may_take room v h Item.Drained = is_live (phase_at v h) && is_settled h
 may_take room v h Item.PassEnd = is_drained (phase_at v h)
 may_take room v h (Item.Last shutdown) = is_closing (phase_at v h) && is_none shutdown
 
--- An item may be taken while fewer than 2 ^ 48 were.
+-- An item may be taken while fewer than 2 ^ 48 were. [own]
 abbrev pub takes : ℕ → View → History → Item → Bool
 takes room v h item = nat_lt (item_count h) (2 ^ 48) && may_take room v h item
 
@@ -165,7 +165,7 @@ abbrev pub autostarts : Option Agreement → List (TaskRef × Task) → History 
 autostarts agreement [] h = h
 autostarts agreement (p ∷ ps) h = autostarts agreement ps (if names_mode agreement p.1 then activates p.0 h else h)
 
--- The stimulus `op`: one operation of the running job, or its end; with nothing running it does nothing.
+-- The stimulus `op`: one operation of the running job, or its end; with nothing running it does nothing. [own]
 abbrev pub performs : View → Runner → Action → History → History
 performs v r (Perform op) h = operates v r op h
 performs v r End h = ends_unasked r h
@@ -174,12 +174,14 @@ abbrev pub goes_on : View → Option Job → History → History
 goes_on v None h = h
 goes_on v (Some j) h = performs v j.runner (action_at (script_of v j.runner) (frame_at v j.runner h)) h
 
--- The reply ends the open call.
+-- The reply ends the open call. [own]
 abbrev pub closes : Option OpenCall → Status → Option ℤ → History → History
 closes None status value h = h
 closes (Some call) status value h = returns call.runner call.service status value h
 
--- What follows from an item at once; `before` is the history before it.
+-- What follows from an item at once; `before` is the history before it. After the first gate StartupHook is called,
+-- or the modes conflict; after the second one tasks start by themselves.
+-- [OSEK/VDX OS 2.2.3, section 11.3; AUTOSAR SWS OS 4.x, SWS_Os_00608 to SWS_Os_00610; items are this project's own]
 abbrev pub effect : View → History → Item → History → History
 effect v before (Item.Began core status) h = prints (Mark.StartCoreReturned core status) h
 effect v before (Item.Pass1 Agreement.Conflict) h = prints Mark.ModesConflict h
@@ -212,6 +214,7 @@ goes_to None h = h
 goes_to (Some j) h = if option_map_or (same_job j) (running h) false then h else enters j.runner h
 
 -- Dispatch comes at the end of an item where the core schedules, unless a call is open.
+-- [OSEK/VDX OS 2.2.3, section 4.6; that a core waits for a reply is this project's own]
 abbrev pub dispatches : View → History → History
 dispatches v h =
     if is_scheduling (phase_at v h) && is_none (open_call h) then goes_to (best_job v h) h else h

@@ -2,7 +2,7 @@
 use Rattle.std.proofs.Common.{◌≡◌, Bool, true, false, not, ◌&&◌, nat_eq, nat_le, nat_lt, List, [], ◌∷◌, length, Option, Some, None, is_some, IsTrue, refl, sym, ap, ◌∙◌, arith}
 use Rattle.std.specs.List.{list_all, list_any}
 use Rattle.std.specs.Option.{option_map_or}
-use Rattle.std.proofs.lemmas.Bool.{and_parts, and_from, or_parts, not-true, not-false, not_from_false, eq-eqb, eqb-true}
+use Rattle.std.proofs.lemmas.Bool.{and_parts, and_from, or_left, or_parts, or_right, not-true, not-false, not_from_false, eq-eqb, eqb-true}
 use Rattle.osbase.specs.declared.references.CoreId.{CoreId}
 use Rattle.osbase.specs.declared.references.TaskRef.{TaskRef}
 use Rattle.osbase.specs.History.{same_core}
@@ -11,13 +11,15 @@ use Rattle.oscript.specs.declared.Op.TheVariants.{Work, ActivateTask, TerminateT
 use Rattle.osplan.specs.declared.plans.Plan.{Plan}
 use Rattle.osplan.specs.declared.plans.Core.{Core}
 use Rattle.osplan.specs.declared.plans.Task.{Task}
+use Rattle.osplan.specs.declared.plans.CoreMode.{CoreMode}
+use Rattle.osplan.specs.declared.plans.CoreMode.TheVariants.{Named, DontCare}
 use Rattle.osplan.specs.declared.plans.Isr.{Isr}
 use Rattle.osplan.specs.declared.plans.Alarm.{Alarm}
 use Rattle.osplan.specs.declared.plans.Table.{Table}
 use Rattle.osplan.specs.View.{core_of}
 use Rattle.osplan.specs.Limits.{is_task, is_op_known, is_mode, is_task_within, is_core_within, are_cores_distinct, is_within_limits}
 use Rattle.osplan.specs.Expressible.{is_core_expressible, is_expressible, are_tasks_distinct, are_names_distinct, are_mode_name, core_has_name, mode_name}
-use Rattle.osplan.specs.Separate.{alone_of, has_operation, is_named_elsewhere, is_separate_core, names_other}
+use Rattle.osplan.specs.Separate.{agree, alone_of, has_operation, is_agreed_mode, is_named_elsewhere, is_separate, is_separate_core, is_started, names_mode, names_other}
 use Rattle.osplan.proofs.Tests.{all-weaker, all-both, find-holds, find-passes}
 use Rattle.osplan.proofs.Starting.{same_core-true}
 
@@ -27,6 +29,10 @@ all-not p [] e = refl
 all-not p (x ∷ xs) e =
     let parts = or_parts (p x) (list_any p xs) e in
     and_from (not (p x)) _ (not_from_false (p x) parts.0) (all-not p xs parts.1)
+
+agree-self : (mode : CoreMode) → agree mode mode ≡ true
+agree-self (Named m) = eq-eqb m.index m.index refl
+agree-self DontCare = refl
 
 -- ---- what a core cannot have yet
 
@@ -101,6 +107,31 @@ module _ (plan : Plan) (id : CoreId) (core : Core) (found : core_of plan id ≡ 
       let modes = and_parts (are_mode_name plan.modes) (list_all is_core_expressible plan.cores) names.0 in
       and_from _ _ (and_from _ _ (and_from _ _ modes.0 (and_from _ _ mine refl)) (and_from _ _ (and_from _ _ distinct refl) refl)) (and_from _ _ unmoded refl)
 
+  -- ---- the core alone is separate again
+  mine : same_core core.id id ≡ true
+  mine = eq-eqb core.id.number id.number (ap (λ (i : CoreId). i.number) same)
+
+  self : same_core core.id core.id ≡ true
+  self = eq-eqb core.id.number core.id.number refl
+
+  started-alone : is_started (alone_of plan id core) core.id ≡ true
+  started-alone = rw (mine, self) (or_left _ _ self)
+
+  agreed-alone : is_agreed_mode (alone_of plan id core) core.mode ≡ true
+  agreed-alone = and_from _ _ (or_right (not (is_started (alone_of plan id core) core.id)) _ (agree-self core.mode)) refl
+
+  unnamed-alone : not (is_named_elsewhere (alone_of plan id core) core.id) ≡ true
+  unnamed-alone = rw self refl
+
+  separate-alone : is_separate_core plan core ≡ true → is_separate (alone_of plan id core) id ≡ true
+  separate-alone separate =
+      let outward = and_parts _ (not (is_named_elsewhere plan core.id)) separate in
+      let start = and_parts _ (not (has_operation (names_other core.id) core)) outward.0 in
+      let agreed = and_parts _ (nat_eq (length core.start) 0) start.0 in
+      let moded = and_parts _ (is_agreed_mode plan core.mode) agreed.0 in
+      let named = and_parts (is_started plan core.id) (names_mode core.mode) moded.0 in
+      rw mine (and_from _ _ (and_from _ _ (and_from _ _ (and_from _ _ (and_from _ _ started-alone named.1) agreed-alone) agreed.1) start.1) unnamed-alone)
+
 each-distinct : (cores : List Core) → are_names_distinct cores ≡ true → list_all (λ (c : Core). are_tasks_distinct c.tasks) cores ≡ true
 each-distinct [] h = refl
 each-distinct (c ∷ cs) h =
@@ -114,6 +145,7 @@ pub record IsWhole (plan : Plan) (id : CoreId) (core : Core) : Type 0 where
   pub expressible_core : is_core_expressible core ≡ true
   pub limits : is_within_limits (alone_of plan id core) ≡ true
   pub expressible : is_expressible (alone_of plan id core) ≡ true
+  pub separate : is_separate (alone_of plan id core) id ≡ true
 
 pub whole-alone : (plan : Plan) (id : CoreId) (core : Core) → IsTrue (is_within_limits plan) → IsTrue (is_expressible plan) → core_of plan id ≡ Some core → is_separate_core plan core ≡ true → IsWhole plan id core
 whole-alone plan id core limits expressible found separate =
@@ -128,4 +160,5 @@ whole-alone plan id core limits expressible found separate =
       expressible_core = mine;
       limits = plan-alone plan id core found same limits within (not-true _ outward.1);
       expressible = expressible-alone plan id core found same expressible mine (pick (λ (c : Core). not (core_has_name mode_name c)) unmoded.1) (pick (λ (c : Core). are_tasks_distinct c.tasks) (each-distinct plan.cores names.1));
+      separate = separate-alone plan id core found same separate;
     }

@@ -279,9 +279,11 @@ pub fn standing_of(config: &Config, core: CoreId) -> Standing
 
 /// The configuration of a separate core alone: the core under its number, as the master, with the modes
 /// and the mailboxes' size of the whole. `NotSeparate` exactly where the core is not separate
-/// (`is_separate`), and `NoMemory` where memory runs out; the configuration stays as it is.
+/// (`is_separate`), and `NoMemory` where memory runs out; the configuration stays as it is. The core is
+/// separate in what it is cut to, so a cut can be cut again.
 pub fn cut(alloc: Global, config: &Config, core: CoreId) -> Result<Config, ConfFault>
     ensures ok { IfOk result (λ cut. cut ≡ cut_of config.now core) }
+    ensures again { IfOk result (λ cut. IsTrue (is_separate cut core)) }
     ensures refused { (result ≡ Err ConfFault.NotSeparate) ↔ (is_separate config.now core ≡ false) }
     ensures fault { IfErr result (λ fault. (fault ≡ ConfFault.NotSeparate) ⊎ (fault ≡ ConfFault.NoMemory)) }
 {

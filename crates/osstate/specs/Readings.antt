@@ -42,7 +42,7 @@ static_priority v (Runner.Isr i) = 0
 abbrev pub current_priority : View → History → Job → ℕ
 current_priority v h j = static_priority v j.runner
 
--- The job to run.
+-- The job to run. [OSEK/VDX OS 2.2.3, section 4.4 and 4.5]
 abbrev pub best_job : View → History → Option Job
 best_job v h = best (current_priority v h) h
 
@@ -50,7 +50,7 @@ best_job v h = best (current_priority v h) h
 abbrev pub is_at_limit : View → TaskRef → History → Bool
 is_at_limit v t h = nat_le (option_map_or (λ (task : Task). task.activations) (own_task v t) 0) (job_count (Runner.Task t) (live_jobs h))
 
--- The core was started, as far as this core learned at the second gate.
+-- The core was started, as far as this core learned at the second gate. [own: isolation]
 abbrev pub is_started : History → CoreId → Bool
 is_started h id = has_core (started_cores h) id
 

@@ -32,7 +32,7 @@ pub data BoardCall : Type 0 where
 -- What the board answers.
 pub data BoardReply : Type 0 where
   Started : Status → BoardReply
-  Noted : BoardReply
+  Acknowledged : BoardReply
   Shown : Board → BoardReply
   NoHalt : BoardReply
 
@@ -48,12 +48,12 @@ with_core id cores = record { members = slice_set cores.members id.number true }
 abbrev pub no_modes : ModeSet
 no_modes = record { members = replicate 8 false }
 
--- DONOTCARE names no mode.
+-- DONOTCARE names no mode. [AUTOSAR SWS OS 4.x, SWS_Os_00608 to SWS_Os_00610]
 abbrev pub with_mode : CoreMode → ModeSet → ModeSet
 with_mode (Named m) modes = record { members = slice_set modes.members m.index true }
 with_mode DontCare modes = modes
 
--- At first the master alone is started.
+-- At first the master alone is started. [AUTOSAR SWS OS 4.x, StartCore: a core starts others before StartOS]
 abbrev pub first_board : CoreId → Board
 first_board master = record {
   started = with_core master no_cores;
@@ -77,9 +77,9 @@ start_answer board k = if has_core board.started k then EOsState else EOk
 
 abbrev pub reply_of : BoardCall → Board → BoardReply
 reply_of (StartCore k) board = Started (start_answer board k)
-reply_of (Enter mode) board = Noted
-reply_of MakeReady board = Noted
-reply_of Drain board = Noted
+reply_of (Enter mode) board = Acknowledged
+reply_of MakeReady board = Acknowledged
+reply_of Drain board = Acknowledged
 reply_of LookAt board = Shown board
 reply_of LookHalt board = NoHalt
 
@@ -88,7 +88,8 @@ abbrev pub board_from : Board → List BoardEntry → Board
 board_from board [] = board
 board_from board (e ∷ es) = board_from (board_after e.core e.call board) es
 
--- Every started core is in the set.
+-- Every started core is in the set: what a synchronisation point waits for.
+-- [AUTOSAR SWS OS 4.x, SWS_Os_00579 and SWS_Os_00580]
 abbrev pub have_all : CoreSet → CoreSet → Bool
 have_all started cores = list_all (λ (p : Bool × Bool). not p.0 || p.1) (zip started.members cores.members)
 

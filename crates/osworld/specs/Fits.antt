@@ -12,7 +12,7 @@ use Rattle.osplan.specs.View.{view_of}
 use Rattle.osbase.specs.Sets.{has_core}
 use Rattle.oskernel.specs.Step.{solo}
 use Rattle.osworld.specs.declared.boards.Board.{Board}
-use Rattle.osworld.specs.Board.{BoardEntry, BoardReply, Started, Noted, Shown, NoHalt, agreement_in, board_after, first_board, have_all, reply_of}
+use Rattle.osworld.specs.Board.{BoardEntry, BoardReply, Started, Acknowledged, Shown, NoHalt, agreement_in, board_after, first_board, have_all, reply_of}
 use Rattle.osworld.specs.World.{World, call_of, history_by, history_in, items_in}
 
 -- The first list is a beginning of the second one.
@@ -48,11 +48,11 @@ Replays board (e ∷ es) = (e.reply ≡ reply_of e.call board) × Replays (board
 abbrev pub Allows : CoreId → BoardReply → Item → Type 0
 Allows id (Shown board) Item.On = has_core board.started id ≡ true
 Allows id (Started answer) (Item.Began k status) = status ≡ answer
-Allows id Noted Item.Entered = Unit {0}
+Allows id Acknowledged Item.Entered = Unit {0}
 Allows id (Shown board) (Item.Pass1 agreement) = (have_all board.started board.entered ≡ true) × (agreement ≡ agreement_in board.modes)
-Allows id Noted Item.Readied = Unit {0}
+Allows id Acknowledged Item.Readied = Unit {0}
 Allows id (Shown board) (Item.Pass2 cores) = (have_all board.started board.ready ≡ true) × (cores ≡ board.started)
-Allows id Noted Item.Drained = Unit {0}
+Allows id Acknowledged Item.Drained = Unit {0}
 Allows id (Shown board) Item.PassEnd = have_all board.started board.drained ≡ true
 Allows id NoHalt (Item.Last None) = Unit {0}
 Allows id reply item = ⊥

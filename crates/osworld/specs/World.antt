@@ -50,7 +50,7 @@ history_in plan w id = history_from (view_of plan id) [] (items_in w id)
 abbrev pub board_in : Plan → World → Board
 board_in plan w = board_from (first_board plan.master) w.calls
 
--- StartCore of a core that is not configured is answered without the board.
+-- StartCore of a core that is not configured is answered without the board. [AUTOSAR SWS OS 4.x, StartCore: E_OS_ID]
 abbrev pub starting : View → Board → CoreId → Item
 starting v board k = Item.Began k (if is_configured v k then start_answer board k else EOsId)
 
@@ -64,18 +64,18 @@ has_room plan w from to =
 abbrev pub posting : Plan → World → CoreId → CoreId → Option Item
 posting plan w from to = if has_room plan w from to then Some (Item.Posted to) else None
 
--- How many stimuli a core has taken.
+-- How many stimuli a core has taken. [own]
 abbrev pub stimulus_count : List Item → ℕ
 stimulus_count [] = 0
 stimulus_count (Item.Stim s ∷ items) = suc (stimulus_count items)
 stimulus_count (item ∷ items) = stimulus_count items
 
--- The next stimulus, or else the core drains.
+-- The next stimulus, or else the core drains. [own]
 abbrev pub going_on : Option Stimulus → Item
 going_on (Some stimulus) = Item.Stim stimulus
 going_on None = Item.Drained
 
--- What `Own` names.
+-- What `Own` names. [own]
 abbrev pub own_named : Plan → List CoreStimuli → World → CoreId → Want → Option Item
 own_named plan stimuli w id (Want.Start k) = Some (starting (view_of plan id) (board_in plan w) k)
 own_named plan stimuli w id Want.Enter = Some Item.Entered
@@ -84,7 +84,7 @@ own_named plan stimuli w id (Want.Post to) = posting plan w id to
 own_named plan stimuli w id Want.GoOn = Some (going_on (slice_get (stimuli_of stimuli id) (stimulus_count (items_in w id))))
 own_named plan stimuli w id Want.Nothing = None
 
--- What `Serve` names: the oldest envelope from the other core that is not received yet.
+-- What `Serve` names: the oldest envelope from the other core that is not received yet. [own]
 abbrev pub receiving : CoreId → Envelope → Item
 receiving from e = Item.Received from e.number e.message
 
@@ -93,6 +93,7 @@ serve_named plan w id from =
     option_map (receiving from) (slice_get (posted id (history_in plan w from)) (received_count from (history_in plan w id)))
 
 -- What `Look` names: the gates open where all started cores have come to them. No core halts so far.
+-- [AUTOSAR SWS OS 4.x, SWS_Os_00579 and SWS_Os_00580; that a core drains and closes is this project's own]
 abbrev pub look_named : CoreId → Board → Phase → Option Item
 look_named id board Phase.Off = if has_core board.started id then Some Item.On else None
 look_named id board Phase.FirstGate = if have_all board.started board.entered then Some (Item.Pass1 (agreement_in board.modes)) else None
@@ -150,7 +151,7 @@ is_listed id lists = is_some (find (λ (p : CoreId × List Item). same_core p.0 
 abbrev pub turn : Plan → List CoreStimuli → World → CoreId × Choice → World
 turn plan stimuli w t = if is_listed t.0 w.items then turn_by plan w t.0 (named plan stimuli w t.0 t.1) else w
 
--- The world after turns in order.
+-- The world after turns in order. [own]
 abbrev pub world_from : Plan → List CoreStimuli → World → List (CoreId × Choice) → World
 world_from plan stimuli w [] = w
 world_from plan stimuli w (t ∷ ts) = world_from plan stimuli (turn plan stimuli w t) ts
@@ -183,7 +184,7 @@ history_by plan id items = history_from (view_of plan id) [] items
 abbrev pub has_ended : Plan → CoreId × List Item → Bool
 has_ended plan p = is_ended_phase (phase_at (view_of plan p.0) (history_by plan p.0 p.1))
 
--- Every started core has ended.
+-- Every started core has ended. [own]
 abbrev pub is_over : Plan → World → Bool
 is_over plan w = list_all (λ (p : CoreId × List Item). not (has_core (board_in plan w).started p.0) || has_ended plan p) w.items
 

@@ -25,3 +25,6 @@ new-requires-clause-limits c = rw c.in_ok-alone.ensures ((whole c.plan-plan.resu
 
 pub new-requires-clause-expressible : goal.new-requires-clause-expressible
 new-requires-clause-expressible c = rw c.in_ok-alone.ensures ((whole c.plan-plan.result.now c.args.config.now c.args.core c.core.result c.in-Some.own c.is_separate_core.result c.plan-plan.ensures.value c.plan-plan.ensures.limits c.plan-plan.ensures.expressible c.core.ensures c.in-Some.is c.is_separate_core.ensures c.if-not-is_separate_core.false).expressible)
+
+pub returns-clause-again : goal.returns-clause-again
+returns-clause-again c = rw (c.new.ensures, c.in_ok-alone.ensures) ((whole c.plan-plan.result.now c.args.config.now c.args.core c.core.result c.in-Some.own c.is_separate_core.result c.plan-plan.ensures.value c.plan-plan.ensures.limits c.plan-plan.ensures.expressible c.core.ensures c.in-Some.is c.is_separate_core.ensures c.if-not-is_separate_core.false).separate)
