@@ -1,7 +1,7 @@
 //! How a service returns to its caller.
 
-ghost use Rattle.std.specs.Prelude.{◌≡◌, ◌+◌, ◌<◌, ◌≤◌, ◌^◌, IsTrue, length, vec_len, vec_capacity};
-ghost use Rattle.osstate.specs.Does.{Adds, Does, StaysInItem};
+ghost use Rattle.std.specs.Prelude.{◌<◌, IsTrue, length};
+ghost use Rattle.osstate.specs.Does.{Effects, HasRoom};
 ghost use Rattle.osstate.specs.Sound.{is_own_runner};
 ghost use Rattle.oscall.specs.Service.{asks, reports, returns};
 
@@ -14,13 +14,8 @@ pub fn report<const P: usize, const J: usize, const OUT: usize>(
     status: Status,
     marks: &mut Vec<Mark>,
 )
-    requires count { state.old.entries < 2 ^ 63 }
-    requires room { vec_len marks.old < vec_capacity marks.old }
-    ensures does { Does (λ v h. reports status h) state.old state.new marks.old.items marks.new.items }
-    ensures stays { StaysInItem 1 state.old state.new }
-    ensures adds { Adds 1 marks.old.items marks.new.items }
-    ensures len { vec_len marks.new ≤ vec_len marks.old + 1 }
-    ensures capacity { vec_capacity marks.new ≡ vec_capacity marks.old }
+    requires { HasRoom 1 1 state.old marks.old }
+    ensures { Effects 1 1 (λ v h. reports status h) state.old state.new marks.old marks.new }
 {
     if let Status::EOk = status {
         return;
@@ -39,13 +34,8 @@ pub fn finish<const P: usize, const J: usize, const OUT: usize>(
     marks: &mut Vec<Mark>,
 )
     requires own { IsTrue (is_own_runner state.old.view runner) }
-    requires count { state.old.entries + 2 < 2 ^ 63 }
-    requires room { vec_len marks.old + 2 ≤ vec_capacity marks.old }
-    ensures does { Does (λ v h. returns runner service status value h) state.old state.new marks.old.items marks.new.items }
-    ensures stays { StaysInItem 3 state.old state.new }
-    ensures adds { Adds 2 marks.old.items marks.new.items }
-    ensures len { vec_len marks.new ≤ vec_len marks.old + 2 }
-    ensures capacity { vec_capacity marks.new ≡ vec_capacity marks.old }
+    requires room { HasRoom 3 2 state.old marks.old }
+    ensures { Effects 3 2 (λ v h. returns runner service status value h) state.old state.new marks.old marks.new }
 {
     let mark = Mark::ServiceReturned {
         runner,
@@ -71,13 +61,8 @@ pub fn ask<const P: usize, const J: usize, const OUT: usize>(
     requires own { IsTrue (is_own_runner state.old.view runner) }
     requires receiver { core.number < 16 }
     requires outbox { length state.old.outbox < OUT }
-    requires count { state.old.entries + 2 < 2 ^ 63 }
-    requires room { vec_len marks.old < vec_capacity marks.old }
-    ensures does { Does (λ v h. asks runner service core call h) state.old state.new marks.old.items marks.new.items }
-    ensures stays { StaysInItem 3 state.old state.new }
-    ensures adds { Adds 1 marks.old.items marks.new.items }
-    ensures len { vec_len marks.new ≤ vec_len marks.old + 1 }
-    ensures capacity { vec_capacity marks.new ≡ vec_capacity marks.old }
+    requires room { HasRoom 3 1 state.old marks.old }
+    ensures { Effects 3 1 (λ v h. asks runner service core call h) state.old state.new marks.old marks.new }
 {
     state.print(Mark::CallQueued { core, call }, marks);
     state.queue(core, Message::Request(call));
@@ -98,13 +83,8 @@ pub fn close<const P: usize, const J: usize, const OUT: usize>(
     marks: &mut Vec<Mark>,
 )
     requires own { IsTrue (is_own_runner state.old.view call.runner) }
-    requires count { state.old.entries + 2 < 2 ^ 63 }
-    requires room { vec_len marks.old + 2 ≤ vec_capacity marks.old }
-    ensures does { Does (λ v h. returns call.runner call.service status value h) state.old state.new marks.old.items marks.new.items }
-    ensures stays { StaysInItem 3 state.old state.new }
-    ensures adds { Adds 2 marks.old.items marks.new.items }
-    ensures len { vec_len marks.new ≤ vec_len marks.old + 2 }
-    ensures capacity { vec_capacity marks.new ≡ vec_capacity marks.old }
+    requires room { HasRoom 3 2 state.old marks.old }
+    ensures { Effects 3 2 (λ v h. returns call.runner call.service status value h) state.old state.new marks.old marks.new }
 {
     finish(state, call.runner, call.service, status, value, marks);
 }

@@ -1,8 +1,8 @@
 //! The operations of a running job.
 
-ghost use Rattle.std.specs.Prelude.{◌≡◌, ◌+◌, ◌<◌, ◌≤◌, ◌^◌, Some, IsTrue, false, length, vec_len, vec_capacity};
+ghost use Rattle.std.specs.Prelude.{◌≡◌, ◌<◌, Some, IsTrue, false, length};
 ghost use Rattle.osbase.specs.History.{Noted, Done, job_count};
-ghost use Rattle.osstate.specs.Does.{Adds, Does, StaysInItem};
+ghost use Rattle.osstate.specs.Does.{Effects, HasRoom};
 ghost use Rattle.osstate.specs.Sound.{is_before_live, is_current, is_op_known, is_own_runner};
 ghost use Rattle.oscall.specs.Service.{ends, ends_unasked, operates};
 ghost use Rattle.oscall.specs.Started.{activates_started};
@@ -22,13 +22,8 @@ pub fn end<const P: usize, const J: usize, const OUT: usize>(
     requires own { IsTrue (is_own_runner state.old.view runner) }
     requires job { 0 < job_count runner state.old.jobs }
     requires current { IsTrue (is_current state.old.current runner) }
-    requires count { state.old.entries + 1 < 2 ^ 63 }
-    requires room { vec_len marks.old + 2 ≤ vec_capacity marks.old }
-    ensures does { Does (λ v h. ends runner h) state.old state.new marks.old.items marks.new.items }
-    ensures stays { StaysInItem 2 state.old state.new }
-    ensures adds { Adds 2 marks.old.items marks.new.items }
-    ensures len { vec_len marks.new ≤ vec_len marks.old + 2 }
-    ensures capacity { vec_capacity marks.new ≡ vec_capacity marks.old }
+    requires room { HasRoom 2 2 state.old marks.old }
+    ensures { Effects 2 2 (λ v h. ends runner h) state.old state.new marks.old marks.new }
 {
     match runner {
         Runner::Task(task) => {
@@ -49,13 +44,8 @@ pub fn end_unasked<const P: usize, const J: usize, const OUT: usize>(
     requires own { IsTrue (is_own_runner state.old.view runner) }
     requires job { 0 < job_count runner state.old.jobs }
     requires current { IsTrue (is_current state.old.current runner) }
-    requires count { state.old.entries + 2 < 2 ^ 63 }
-    requires room { vec_len marks.old + 3 ≤ vec_capacity marks.old }
-    ensures does { Does (λ v h. ends_unasked runner h) state.old state.new marks.old.items marks.new.items }
-    ensures stays { StaysInItem 3 state.old state.new }
-    ensures adds { Adds 3 marks.old.items marks.new.items }
-    ensures len { vec_len marks.new ≤ vec_len marks.old + 3 }
-    ensures capacity { vec_capacity marks.new ≡ vec_capacity marks.old }
+    requires room { HasRoom 3 3 state.old marks.old }
+    ensures { Effects 3 3 (λ v h. ends_unasked runner h) state.old state.new marks.old marks.new }
 {
     match runner {
         Runner::Task(_) => {
@@ -79,13 +69,8 @@ pub fn activate<const P: usize, const J: usize, const OUT: usize>(
     requires known { IsTrue (is_op_known state.old.view (Op.ActivateTask target)) }
     requires live { is_before_live state.old.phase ≡ false }
     requires outbox { length state.old.outbox < OUT }
-    requires count { state.old.entries + 3 < 2 ^ 63 }
-    requires room { vec_len marks.old + 3 ≤ vec_capacity marks.old }
-    ensures does { Does (λ v h. operates v runner (Op.ActivateTask target) h) state.old state.new marks.old.items marks.new.items }
-    ensures stays { StaysInItem 4 state.old state.new }
-    ensures adds { Adds 3 marks.old.items marks.new.items }
-    ensures len { vec_len marks.new ≤ vec_len marks.old + 3 }
-    ensures capacity { vec_capacity marks.new ≡ vec_capacity marks.old }
+    requires room { HasRoom 4 3 state.old marks.old }
+    ensures { Effects 4 3 (λ v h. operates v runner (Op.ActivateTask target) h) state.old state.new marks.old marks.new }
 {
     let service = ServiceId::ActivateTask;
     let Some(task) = target else {
@@ -110,13 +95,8 @@ fn activate_started<const P: usize, const J: usize, const OUT: usize>(
     requires live { is_before_live state.old.phase ≡ false }
     requires receiver { task.core.number < 16 }
     requires outbox { length state.old.outbox < OUT }
-    requires count { state.old.entries + 3 < 2 ^ 63 }
-    requires room { vec_len marks.old + 3 ≤ vec_capacity marks.old }
-    ensures does { Does (λ v h. activates_started v runner task h) state.old state.new marks.old.items marks.new.items }
-    ensures stays { StaysInItem 4 state.old state.new }
-    ensures adds { Adds 3 marks.old.items marks.new.items }
-    ensures len { vec_len marks.new ≤ vec_len marks.old + 3 }
-    ensures capacity { vec_capacity marks.new ≡ vec_capacity marks.old }
+    requires room { HasRoom 4 3 state.old marks.old }
+    ensures { Effects 4 3 (λ v h. activates_started v runner task h) state.old state.new marks.old marks.new }
 {
     let service = ServiceId::ActivateTask;
     if !state.is_own(task.core) {
@@ -140,13 +120,8 @@ pub fn terminate<const P: usize, const J: usize, const OUT: usize>(
     requires own { IsTrue (is_own_runner state.old.view runner) }
     requires job { 0 < job_count runner state.old.jobs }
     requires current { IsTrue (is_current state.old.current runner) }
-    requires count { state.old.entries + 1 < 2 ^ 63 }
-    requires room { vec_len marks.old + 2 ≤ vec_capacity marks.old }
-    ensures does { Does (λ v h. operates v runner Op.TerminateTask h) state.old state.new marks.old.items marks.new.items }
-    ensures stays { StaysInItem 2 state.old state.new }
-    ensures adds { Adds 2 marks.old.items marks.new.items }
-    ensures len { vec_len marks.new ≤ vec_len marks.old + 2 }
-    ensures capacity { vec_capacity marks.new ≡ vec_capacity marks.old }
+    requires room { HasRoom 2 2 state.old marks.old }
+    ensures { Effects 2 2 (λ v h. operates v runner Op.TerminateTask h) state.old state.new marks.old marks.new }
 {
     match runner {
         Runner::Task(_) => end(state, runner, marks),
@@ -167,13 +142,8 @@ pub fn operate<const P: usize, const J: usize, const OUT: usize>(
     requires known { IsTrue (is_op_known state.old.view op) }
     requires live { is_before_live state.old.phase ≡ false }
     requires outbox { length state.old.outbox < OUT }
-    requires count { state.old.entries + 3 < 2 ^ 63 }
-    requires room { vec_len marks.old + 3 ≤ vec_capacity marks.old }
-    ensures does { Does (λ v h. operates v runner op h) state.old state.new marks.old.items marks.new.items }
-    ensures stays { StaysInItem 4 state.old state.new }
-    ensures adds { Adds 3 marks.old.items marks.new.items }
-    ensures len { vec_len marks.new ≤ vec_len marks.old + 3 }
-    ensures capacity { vec_capacity marks.new ≡ vec_capacity marks.old }
+    requires room { HasRoom 4 3 state.old marks.old }
+    ensures { Effects 4 3 (λ v h. operates v runner op h) state.old state.new marks.old marks.new }
 {
     match op {
         Op::Work => state.complete(runner, Status::EOk, None),

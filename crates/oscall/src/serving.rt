@@ -1,7 +1,7 @@
 //! What a core does for another one.
 
-ghost use Rattle.std.specs.Prelude.{◌≡◌, ◌+◌, ◌<◌, ◌≤◌, ◌^◌, IsTrue, false, length, vec_len, vec_capacity};
-ghost use Rattle.osstate.specs.Does.{Adds, Does, Reads, StaysInItem};
+ghost use Rattle.std.specs.Prelude.{◌≡◌, ◌<◌, IsTrue, false, length};
+ghost use Rattle.osstate.specs.Does.{Effects, HasRoom, Reads};
 ghost use Rattle.osstate.specs.Sound.{is_before_live, is_own_runner};
 ghost use Rattle.oscall.specs.Service.{is_served, served_status, serves, serves_action, serves_request};
 ghost use Rattle.oscall.specs.Started.{serves_own};
@@ -19,15 +19,10 @@ fn serve<const P: usize, const J: usize, const OUT: usize>(
 ) -> Status
     requires served { IsTrue (is_served state.old.view call) }
     requires live { is_before_live state.old.phase ≡ false }
-    requires count { state.old.entries + 1 < 2 ^ 63 }
-    requires room { vec_len marks.old + 2 ≤ vec_capacity marks.old }
+    requires room { HasRoom 2 2 state.old marks.old }
     ensures status { Reads (λ v h. served_status v call h) state.old result }
-    ensures does { Does (λ v h. serves v from call (served_status v call h) h) state.old state.new marks.old.items marks.new.items }
+    ensures effects { Effects 2 2 (λ v h. serves v from call (served_status v call h) h) state.old state.new marks.old marks.new }
     ensures outbox { state.new.outbox ≡ state.old.outbox }
-    ensures stays { StaysInItem 2 state.old state.new }
-    ensures adds { Adds 2 marks.old.items marks.new.items }
-    ensures len { vec_len marks.new ≤ vec_len marks.old + 2 }
-    ensures capacity { vec_capacity marks.new ≡ vec_capacity marks.old }
 {
     let status = act(state, call, marks);
     let mark = Mark::CallServed {
@@ -48,15 +43,10 @@ fn act<const P: usize, const J: usize, const OUT: usize>(
 ) -> Status
     requires served { IsTrue (is_served state.old.view call) }
     requires live { is_before_live state.old.phase ≡ false }
-    requires count { state.old.entries < 2 ^ 63 }
-    requires room { vec_len marks.old < vec_capacity marks.old }
+    requires room { HasRoom 1 1 state.old marks.old }
     ensures status { Reads (λ v h. served_status v call h) state.old result }
-    ensures does { Does (λ v h. serves_own v call h) state.old state.new marks.old.items marks.new.items }
+    ensures effects { Effects 1 1 (λ v h. serves_own v call h) state.old state.new marks.old marks.new }
     ensures outbox { state.new.outbox ≡ state.old.outbox }
-    ensures stays { StaysInItem 1 state.old state.new }
-    ensures adds { Adds 1 marks.old.items marks.new.items }
-    ensures len { vec_len marks.new ≤ vec_len marks.old + 1 }
-    ensures capacity { vec_capacity marks.new ≡ vec_capacity marks.old }
 {
     let RemoteCall::ActivateTask(task) = call else {
         unreachable!()
@@ -71,15 +61,10 @@ fn activate_for<const P: usize, const J: usize, const OUT: usize>(
 ) -> Status
     requires own { IsTrue (is_own_runner state.old.view (Runner.Task task)) }
     requires live { is_before_live state.old.phase ≡ false }
-    requires count { state.old.entries < 2 ^ 63 }
-    requires room { vec_len marks.old < vec_capacity marks.old }
+    requires room { HasRoom 1 1 state.old marks.old }
     ensures status { Reads (λ v h. served_status v (RemoteCall.ActivateTask task) h) state.old result }
-    ensures does { Does (λ v h. serves_own v (RemoteCall.ActivateTask task) h) state.old state.new marks.old.items marks.new.items }
+    ensures effects { Effects 1 1 (λ v h. serves_own v (RemoteCall.ActivateTask task) h) state.old state.new marks.old marks.new }
     ensures outbox { state.new.outbox ≡ state.old.outbox }
-    ensures stays { StaysInItem 1 state.old state.new }
-    ensures adds { Adds 1 marks.old.items marks.new.items }
-    ensures len { vec_len marks.new ≤ vec_len marks.old + 1 }
-    ensures capacity { vec_capacity marks.new ≡ vec_capacity marks.old }
 {
     if state.is_at_limit(task) {
         return Status::EOsLimit;
@@ -99,13 +84,8 @@ pub fn serve_request<const P: usize, const J: usize, const OUT: usize>(
     requires live { is_before_live state.old.phase ≡ false }
     requires sender { from.number < 16 }
     requires outbox { length state.old.outbox < OUT }
-    requires count { state.old.entries + 2 < 2 ^ 63 }
-    requires room { vec_len marks.old + 2 ≤ vec_capacity marks.old }
-    ensures does { Does (λ v h. serves_request v from call h) state.old state.new marks.old.items marks.new.items }
-    ensures stays { StaysInItem 3 state.old state.new }
-    ensures adds { Adds 2 marks.old.items marks.new.items }
-    ensures len { vec_len marks.new ≤ vec_len marks.old + 2 }
-    ensures capacity { vec_capacity marks.new ≡ vec_capacity marks.old }
+    requires room { HasRoom 3 2 state.old marks.old }
+    ensures { Effects 3 2 (λ v h. serves_request v from call h) state.old state.new marks.old marks.new }
 {
     let status = serve(state, from, call, marks);
     state.queue(
@@ -126,13 +106,8 @@ pub fn serve_action<const P: usize, const J: usize, const OUT: usize>(
 )
     requires served { IsTrue (is_served state.old.view call) }
     requires live { is_before_live state.old.phase ≡ false }
-    requires count { state.old.entries + 2 < 2 ^ 63 }
-    requires room { vec_len marks.old + 3 ≤ vec_capacity marks.old }
-    ensures does { Does (λ v h. serves_action v from call h) state.old state.new marks.old.items marks.new.items }
-    ensures stays { StaysInItem 3 state.old state.new }
-    ensures adds { Adds 3 marks.old.items marks.new.items }
-    ensures len { vec_len marks.new ≤ vec_len marks.old + 3 }
-    ensures capacity { vec_capacity marks.new ≡ vec_capacity marks.old }
+    requires room { HasRoom 3 3 state.old marks.old }
+    ensures { Effects 3 3 (λ v h. serves_action v from call h) state.old state.new marks.old marks.new }
 {
     let status = serve(state, from, call, marks);
     report(state, status, marks);

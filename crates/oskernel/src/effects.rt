@@ -3,13 +3,13 @@
 ghost use Rattle.std.specs.Prelude.{◌≡◌, ◌==◌, ◌+◌, ◌<◌, ◌≤◌, ◌^◌, ◌∷◌, ◌++◌, ◌||◌, [], if◌then◌else◌, Some, IsSome, IfSome, IsTrue, false, length, vec_len, vec_capacity};
 ghost use Rattle.std.specs.List.{list_any};
 ghost use Rattle.std.specs.Option.{option_map_or};
-ghost use Rattle.osbase.specs.History.{Took, agreement_of, job_count, outbox_after, phase_after, running};
+ghost use Rattle.osbase.specs.History.{Took, agreement_of, current_task, job_count, outbox_after, phase_after, running};
 ghost use Rattle.oscript.specs.Frames.{action_at};
 ghost use Rattle.osstate.specs.Readings.{frame_at, script_of, task_refs};
-ghost use Rattle.osstate.specs.Does.{Adds, Does, Reads, StaysInItem};
+ghost use Rattle.osstate.specs.Does.{Adds, Does, Effects, HasRoom, Reads};
 ghost use Rattle.osstate.specs.Sound.{activation_limit, is_agreed, is_before_live, is_current, is_first_gate, is_own_runner, is_past_first_gate, is_plain, is_posted, is_sender_known, is_taken};
 ghost use Rattle.oscall.specs.Service.{activates};
-ghost use Rattle.oskernel.specs.Step.{autostarts, closes, dispatches, effect, enters, goes_on, goes_to, is_stimulus, names_mode, performs, same_job};
+ghost use Rattle.oskernel.specs.Step.{autostarts, closes, dispatches, effect, enters, goes_on, goes_to, is_stimulus, leaves, names_mode, performs, same_job};
 ghost use Rattle.oskernel.specs.Admission.{admits};
 ghost use Rattle.oskernel.specs.Taking.{TakesItem, agreement_on, answers_to, follows, gate_mark, is_acting, is_answered, is_filling, is_known, is_request, is_second_gate, stimulates};
 
@@ -77,13 +77,8 @@ fn follow<const P: usize, const J: usize, const OUT: usize>(
     requires past { IsTrue (is_second_gate item.now) → IsTrue (is_past_first_gate state.old.phase) }
     requires fresh { IsTrue (is_second_gate item.now) → state.old.jobs ≡ [] }
     requires outbox { IsTrue (is_filling item.now) → length state.old.outbox < OUT }
-    requires count { state.old.entries < 2 ^ 62 + 40 }
-    requires room { vec_len marks.old + 32 ≤ vec_capacity marks.old }
-    ensures does { Does (λ v h. follows v awaited item.now h) state.old state.new marks.old.items marks.new.items }
-    ensures stays { StaysInItem 32 state.old state.new }
-    ensures adds { Adds 32 marks.old.items marks.new.items }
-    ensures len { vec_len marks.new ≤ vec_len marks.old + 32 }
-    ensures capacity { vec_capacity marks.new ≡ vec_capacity marks.old }
+    requires room { HasRoom 32 32 state.old marks.old }
+    ensures { Effects 32 32 (λ v h. follows v awaited item.now h) state.old state.new marks.old marks.new }
 {
     match item {
         Item::Began { core, status } => {
@@ -137,13 +132,8 @@ fn start<const P: usize, const J: usize, const OUT: usize>(
     requires live { is_before_live state.old.phase ≡ false }
     requires past { IsTrue (is_past_first_gate state.old.phase) }
     requires fresh { state.old.jobs ≡ [] }
-    requires count { state.old.entries < 2 ^ 62 + 40 }
-    requires room { vec_len marks.old + 32 ≤ vec_capacity marks.old }
-    ensures does { Does (λ v h. autostarts (agreement_of h) (task_refs v) h) state.old state.new marks.old.items marks.new.items }
-    ensures stays { StaysInItem 32 state.old state.new }
-    ensures adds { Adds 32 marks.old.items marks.new.items }
-    ensures len { vec_len marks.new ≤ vec_len marks.old + 32 }
-    ensures capacity { vec_capacity marks.new ≡ vec_capacity marks.old }
+    requires room { HasRoom 32 32 state.old marks.old }
+    ensures { Effects 32 32 (λ v h. autostarts (agreement_of h) (task_refs v) h) state.old state.new marks.old marks.new }
 {
     let mode = agreed_mode(state.agreement());
     let core = state.id();
@@ -178,13 +168,8 @@ fn autostart<const P: usize, const J: usize, const OUT: usize>(
 )
     requires live { is_before_live state.old.phase ≡ false }
     requires limit { job_count (Runner.Task reference) state.old.jobs < activation_limit state.old.view (Runner.Task reference) }
-    requires count { state.old.entries < 2 ^ 63 }
-    requires room { vec_len marks.old + 1 ≤ vec_capacity marks.old }
-    ensures does { Does (λ v h. (if names_mode (Some (agreement_on mode)) task.now then activates reference h else h)) state.old state.new marks.old.items marks.new.items }
-    ensures stays { StaysInItem 1 state.old state.new }
-    ensures adds { Adds 1 marks.old.items marks.new.items }
-    ensures len { vec_len marks.new ≤ vec_len marks.old + 1 }
-    ensures capacity { vec_capacity marks.new ≡ vec_capacity marks.old }
+    requires room { HasRoom 1 1 state.old marks.old }
+    ensures effects { Effects 1 1 (λ v h. (if names_mode (Some (agreement_on mode)) task.now then activates reference h else h)) state.old state.new marks.old marks.new }
     ensures jobs { state.new.jobs ≡ (if names_mode (Some (agreement_on mode)) task.now then state.old.jobs ++ record { runner = Runner.Task reference; stamp = state.old.entries } ∷ [] else state.old.jobs) }
 {
     if is_started_in(mode, task) {
@@ -217,13 +202,8 @@ fn go_on<const P: usize, const J: usize, const OUT: usize>(
     requires known { IsTrue (is_stimulus stimulus) }
     requires live { is_before_live state.old.phase ≡ false }
     requires outbox { length state.old.outbox < OUT }
-    requires count { state.old.entries < 2 ^ 62 + 40 }
-    requires room { vec_len marks.old + 3 ≤ vec_capacity marks.old }
-    ensures does { Does (λ v h. stimulates v stimulus h) state.old state.new marks.old.items marks.new.items }
-    ensures stays { StaysInItem 4 state.old state.new }
-    ensures adds { Adds 3 marks.old.items marks.new.items }
-    ensures len { vec_len marks.new ≤ vec_len marks.old + 3 }
-    ensures capacity { vec_capacity marks.new ≡ vec_capacity marks.old }
+    requires room { HasRoom 4 3 state.old marks.old }
+    ensures { Effects 4 3 (λ v h. stimulates v stimulus h) state.old state.new marks.old marks.new }
 {
     match stimulus {
         Stimulus::Op => go_on_by_one(state, marks),
@@ -238,13 +218,8 @@ fn go_on_by_one<const P: usize, const J: usize, const OUT: usize>(
 )
     requires live { is_before_live state.old.phase ≡ false }
     requires outbox { length state.old.outbox < OUT }
-    requires count { state.old.entries < 2 ^ 62 + 40 }
-    requires room { vec_len marks.old + 3 ≤ vec_capacity marks.old }
-    ensures does { Does (λ v h. goes_on v (running h) h) state.old state.new marks.old.items marks.new.items }
-    ensures stays { StaysInItem 4 state.old state.new }
-    ensures adds { Adds 3 marks.old.items marks.new.items }
-    ensures len { vec_len marks.new ≤ vec_len marks.old + 3 }
-    ensures capacity { vec_capacity marks.new ≡ vec_capacity marks.old }
+    requires room { HasRoom 4 3 state.old marks.old }
+    ensures { Effects 4 3 (λ v h. goes_on v (running h) h) state.old state.new marks.old marks.new }
 {
     if let Some(job) = state.current_job() {
         perform(state, job.runner, marks);
@@ -261,13 +236,8 @@ fn perform<const P: usize, const J: usize, const OUT: usize>(
     requires current { IsTrue (is_current state.old.current runner) }
     requires live { is_before_live state.old.phase ≡ false }
     requires outbox { length state.old.outbox < OUT }
-    requires count { state.old.entries < 2 ^ 62 + 40 }
-    requires room { vec_len marks.old + 3 ≤ vec_capacity marks.old }
-    ensures does { Does (λ v h. performs v runner (action_at (script_of v runner) (frame_at v runner h)) h) state.old state.new marks.old.items marks.new.items }
-    ensures stays { StaysInItem 4 state.old state.new }
-    ensures adds { Adds 3 marks.old.items marks.new.items }
-    ensures len { vec_len marks.new ≤ vec_len marks.old + 3 }
-    ensures capacity { vec_capacity marks.new ≡ vec_capacity marks.old }
+    requires room { HasRoom 4 3 state.old marks.old }
+    ensures { Effects 4 3 (λ v h. performs v runner (action_at (script_of v runner) (frame_at v runner h)) h) state.old state.new marks.old marks.new }
 {
     match state.next_action(runner) {
         Action::Perform(op) => oscall::operate(state, runner, op, marks),
@@ -287,13 +257,8 @@ fn receive<const P: usize, const J: usize, const OUT: usize>(
     requires live { is_before_live state.old.phase ≡ false }
     requires sender { from.number < 16 }
     requires outbox { IsTrue (is_request message.now) → length state.old.outbox < OUT }
-    requires count { state.old.entries < 2 ^ 62 + 40 }
-    requires room { vec_len marks.old + 3 ≤ vec_capacity marks.old }
-    ensures does { Does (λ v h. answers_to v awaited from message.now h) state.old state.new marks.old.items marks.new.items }
-    ensures stays { StaysInItem 3 state.old state.new }
-    ensures adds { Adds 3 marks.old.items marks.new.items }
-    ensures len { vec_len marks.new ≤ vec_len marks.old + 3 }
-    ensures capacity { vec_capacity marks.new ≡ vec_capacity marks.old }
+    requires room { HasRoom 3 3 state.old marks.old }
+    ensures { Effects 3 3 (λ v h. answers_to v awaited from message.now h) state.old state.new marks.old marks.new }
 {
     match message {
         Message::Request(call) => oscall::serve_request(state, from, *call, marks),
@@ -312,13 +277,8 @@ fn close<const P: usize, const J: usize, const OUT: usize>(
 )
     requires awaited { IsSome awaited }
     requires caller { IfSome awaited (λ call. IsTrue (is_own_runner state.old.view call.runner)) }
-    requires count { state.old.entries < 2 ^ 62 + 40 }
-    requires room { vec_len marks.old + 3 ≤ vec_capacity marks.old }
-    ensures does { Does (λ v h. closes awaited status value h) state.old state.new marks.old.items marks.new.items }
-    ensures stays { StaysInItem 3 state.old state.new }
-    ensures adds { Adds 2 marks.old.items marks.new.items }
-    ensures len { vec_len marks.new ≤ vec_len marks.old + 2 }
-    ensures capacity { vec_capacity marks.new ≡ vec_capacity marks.old }
+    requires room { HasRoom 3 3 state.old marks.old }
+    ensures { Effects 3 2 (λ v h. closes awaited status value h) state.old state.new marks.old marks.new }
 {
     let Some(call) = awaited else { unreachable!() };
     oscall::close(state, call, status, value, marks);
@@ -329,13 +289,8 @@ pub(crate) fn dispatch<const P: usize, const J: usize, const OUT: usize>(
     state: &mut CoreState<'_, P, J, OUT>,
     marks: &mut Vec<Mark>,
 )
-    requires count { state.old.entries < 2 ^ 62 + 40 }
-    requires room { vec_len marks.old + 2 ≤ vec_capacity marks.old }
-    ensures does { Does (λ v h. dispatches v h) state.old state.new marks.old.items marks.new.items }
-    ensures stays { StaysInItem 2 state.old state.new }
-    ensures adds { Adds 2 marks.old.items marks.new.items }
-    ensures len { vec_len marks.new ≤ vec_len marks.old + 2 }
-    ensures capacity { vec_capacity marks.new ≡ vec_capacity marks.old }
+    requires { HasRoom 2 2 state.old marks.old }
+    ensures { Effects 2 2 (λ v h. dispatches v h) state.old state.new marks.old marks.new }
 {
     if is_phase_scheduling(state.phase()) && state.awaited_call().is_none() {
         let best = state.best_job();
@@ -350,13 +305,8 @@ fn go_to<const P: usize, const J: usize, const OUT: usize>(
     marks: &mut Vec<Mark>,
 )
     requires own { IfSome best (λ job. IsTrue (is_own_runner state.old.view job.runner)) }
-    requires count { state.old.entries < 2 ^ 62 + 40 }
-    requires room { vec_len marks.old + 2 ≤ vec_capacity marks.old }
-    ensures does { Does (λ v h. goes_to best h) state.old state.new marks.old.items marks.new.items }
-    ensures stays { StaysInItem 2 state.old state.new }
-    ensures adds { Adds 2 marks.old.items marks.new.items }
-    ensures len { vec_len marks.new ≤ vec_len marks.old + 2 }
-    ensures capacity { vec_capacity marks.new ≡ vec_capacity marks.old }
+    requires room { HasRoom 2 2 state.old marks.old }
+    ensures { Effects 2 2 (λ v h. goes_to best h) state.old state.new marks.old marks.new }
 {
     if let Some(job) = best {
         if !is_running(state, job) {
@@ -385,13 +335,8 @@ fn enter<const P: usize, const J: usize, const OUT: usize>(
     marks: &mut Vec<Mark>,
 )
     requires own { IsTrue (is_own_runner state.old.view runner) }
-    requires count { state.old.entries < 2 ^ 62 + 40 }
-    requires room { vec_len marks.old + 2 ≤ vec_capacity marks.old }
-    ensures does { Does (λ v h. enters runner h) state.old state.new marks.old.items marks.new.items }
-    ensures stays { StaysInItem 2 state.old state.new }
-    ensures adds { Adds 2 marks.old.items marks.new.items }
-    ensures len { vec_len marks.new ≤ vec_len marks.old + 2 }
-    ensures capacity { vec_capacity marks.new ≡ vec_capacity marks.old }
+    requires room { HasRoom 2 2 state.old marks.old }
+    ensures { Effects 2 2 (λ v h. enters runner h) state.old state.new marks.old marks.new }
 {
     match runner {
         Runner::Task(task) => enter_task(state, task, marks),
@@ -404,16 +349,21 @@ fn enter_task<const P: usize, const J: usize, const OUT: usize>(
     task: TaskRef,
     marks: &mut Vec<Mark>,
 )
-    requires count { state.old.entries < 2 ^ 62 + 40 }
-    requires room { vec_len marks.old + 2 ≤ vec_capacity marks.old }
-    ensures does { Does (λ v h. enters (Runner.Task task) h) state.old state.new marks.old.items marks.new.items }
-    ensures stays { StaysInItem 2 state.old state.new }
-    ensures adds { Adds 2 marks.old.items marks.new.items }
-    ensures len { vec_len marks.new ≤ vec_len marks.old + 2 }
-    ensures capacity { vec_capacity marks.new ≡ vec_capacity marks.old }
+    requires { HasRoom 2 2 state.old marks.old }
+    ensures { Effects 2 2 (λ v h. enters (Runner.Task task) h) state.old state.new marks.old marks.new }
+{
+    leave_current(state, marks);
+    state.enter(task, marks);
+}
+
+fn leave_current<const P: usize, const J: usize, const OUT: usize>(
+    state: &mut CoreState<'_, P, J, OUT>,
+    marks: &mut Vec<Mark>,
+)
+    requires { HasRoom 1 1 state.old marks.old }
+    ensures { Effects 1 1 (λ v h. leaves (current_task h) h) state.old state.new marks.old marks.new }
 {
     if let Some(current) = state.current() {
         state.leave(current, marks);
     }
-    state.enter(task, marks);
 }

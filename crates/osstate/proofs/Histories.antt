@@ -20,7 +20,7 @@ use Rattle.osstate.specs.Readings.{own_task, script_of, frame_at}
 use Rattle.osstate.specs.State.{KernelState, state_of}
 use Rattle.osstate.specs.Steps.{state_after, one_more, next_envelope}
 use Rattle.osstate.specs.Sound.{is_own_runner, is_plain, is_sender_known}
-use Rattle.osstate.specs.Does.{Does, Notes, Shows}
+use Rattle.osstate.specs.Does.{Notes}
 use Rattle.osstate.proofs.Same.{same_core-true, same_core-refl, same_task-true, same_task-refl}
 
 -- Two states that agree in every part are one.
@@ -218,18 +218,3 @@ notes_done r status value old new is v h s = record { is = is ∙ ap (state_afte
 pub notes_queued : (to : CoreId) (message : Message) (old new : KernelState) → nat_lt to.number 16 ≡ true → new ≡ state_after (Noted (Queued to (next_envelope old to message))) old → Notes (λ v h. Noted (Queued to (record { number = queued_count to h; message = message })) ∷ h) old new
 notes_queued to message old new known is v h s =
     record { is = is ∙ ap (λ (q : KernelState). state_after (Noted (Queued to (next_envelope q to message))) q) s.is ∙ queued v h to message known }
-
-shows_more : (earlier old new : List Mark) (m : Mark) (h : History) → new ≡ old ++ m ∷ [] → Shows earlier h old → earlier ++ new ≡ marks_of h ++ m ∷ []
-shows_more earlier old new m h is shows = ap (λ (xs : List Mark). earlier ++ xs) is ∙ sym (append_assoc earlier old (m ∷ [])) ∙ ap (λ (xs : List Mark). xs ++ m ∷ []) shows
-
-pub does_printed : (m : Mark) (old new : KernelState) (old_marks new_marks : List Mark) → is_plain m ≡ true → new ≡ state_after (Printed m) old → new_marks ≡ old_marks ++ m ∷ [] → Does (λ v h. Printed m ∷ h) old new old_marks new_marks
-does_printed m old new old_marks new_marks plain is shown v h earlier tracks = record {
-  stands = record { is = is ∙ ap (state_after (Printed m)) tracks.stands.is ∙ printed m v h plain };
-  shows = shows_more earlier old_marks new_marks m h shown tracks.shows;
-}
-
-pub does_terminated : (t : TaskRef) (old new : KernelState) (old_marks new_marks : List Mark) → is_own_runner old.view (Runner.Task t) ≡ true → new ≡ state_after (Printed (Mark.Terminated t)) old → new_marks ≡ old_marks ++ Mark.Terminated t ∷ [] → Does (λ v h. Printed (Mark.Terminated t) ∷ h) old new old_marks new_marks
-does_terminated t old new old_marks new_marks own is shown v h earlier tracks = record {
-  stands = record { is = is ∙ ap (state_after (Printed (Mark.Terminated t))) tracks.stands.is ∙ terminated v h t (subst (λ (s : KernelState). is_own_runner s.view (Runner.Task t) ≡ true) tracks.stands.is own) };
-  shows = shows_more earlier old_marks new_marks (Mark.Terminated t) h shown tracks.shows;
-}

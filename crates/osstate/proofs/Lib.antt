@@ -1,3 +1,4 @@
+pub mod Effecting
 pub mod Same
 pub mod JobLists
 pub mod Room

@@ -1,23 +1,25 @@
 -- What a function does to every history: the form of the contracts of the kernel.
-use Rattle.std.specs.Prelude.{◌≡◌, ℕ, ◌+◌, ◌≤◌, List, ◌++◌, length}
+use Rattle.std.specs.Prelude.{◌≡◌, ℕ, ◌+◌, ◌≤◌, ◌^◌, List, ◌++◌, length, Vec, vec_len, vec_capacity}
+use Rattle.std.specs.declared.alloc.Global.{Global}
 use Rattle.osbase.specs.declared.marks.Mark.{Mark}
 use Rattle.osbase.specs.History.{History, marks_of}
 use Rattle.osplan.specs.View.{View}
 use Rattle.osstate.specs.State.{KernelState, Stands}
 
--- The marks in the vector, behind those that left it earlier, are the history's. [own]
-abbrev pub Shows : List Mark → History → List Mark → Type 0
-Shows earlier h marks = earlier ++ marks ≡ marks_of h
-
--- The kernel stands for the history, and the vector shows its marks. [own]
-pub record Tracks (v : View) (h : History) (earlier : List Mark) (s : KernelState) (marks : List Mark) : Type 0 where
+-- The kernel stands for the history, and the marks behind those of `base` in the vector are, behind the earlier
+-- ones, the history's. So it is said of any vector: one that holds marks already is entered with these as the
+-- base, the history's marks as the earlier ones, and none behind. [own]
+pub record Tracks (v : View) (h : History) (earlier base : List Mark) (s : KernelState) (marks : List Mark) : Type 0 where
   pub stands : Stands v h s
-  pub shows : Shows earlier h marks
+  pub added : List Mark
+  pub behind : marks ≡ base ++ added
+  pub shows : earlier ++ added ≡ marks_of h
 
--- Whatever history the kernel stood for, now it stands for that history with the effect. [own]
+-- Whatever history the kernel stood for, now it stands for that history with the effect, and the marks that it
+-- put into the vector are those that the effect prints. [own]
 abbrev pub Does : (View → History → History) → KernelState → KernelState → List Mark → List Mark → Type 0
 Does effect old new old_marks new_marks =
-    (v : View) (h : History) (earlier : List Mark) → Tracks v h earlier old old_marks → Tracks v (effect v h) earlier new new_marks
+    (v : View) (h : History) (earlier base : List Mark) → Tracks v h earlier base old old_marks → Tracks v (effect v h) earlier base new new_marks
 
 -- The same of what prints nothing. [own]
 abbrev pub Notes : (View → History → History) → KernelState → KernelState → Type 0
@@ -40,3 +42,22 @@ pub record StaysInItem (most : ℕ) (old new : KernelState) : Type 0 where
   pub phase : new.phase ≡ old.phase
   pub items : new.items ≡ old.items
   pub entries : new.entries ≤ old.entries + most
+
+-- There is room for so many entries of the history and so many marks. [own]
+pub record HasRoom (entries marks : ℕ) (s : KernelState) (vec : Vec Mark Global) : Type 0 where
+  pub count : s.entries + entries ≤ 2 ^ 63
+  pub place : vec_len vec + marks ≤ vec_capacity vec
+
+-- What a function within an item does, with at most so many entries and marks. [own]
+pub record Effects (entries marks : ℕ) (effect : View → History → History) (old new : KernelState) (old_vec new_vec : Vec Mark Global) : Type 0 where
+  pub does : Does effect old new old_vec.items new_vec.items
+  pub stays : StaysInItem entries old new
+  pub adds : Adds marks old_vec.items new_vec.items
+  pub len : vec_len new_vec ≤ vec_len old_vec + marks
+  pub capacity : vec_capacity new_vec ≡ vec_capacity old_vec
+
+-- The same of what prints nothing. [own]
+pub record Remarks (entries : ℕ) (effect : View → History → History) (old new : KernelState) : Type 0 where
+  pub notes : Notes effect old new
+  pub silent : (v : View) (h : History) → marks_of (effect v h) ≡ marks_of h
+  pub stays : StaysInItem entries old new

@@ -1,12 +1,12 @@
 //! The state of a core.
 
-ghost use Rattle.std.specs.Prelude.{◌≡◌, ◌==◌, ◌||◌, ◌∷◌, ◌++◌, ◌<◌, ◌≤◌, ◌^◌, [], nat_lt, IsTrue, IsSome, IfSome, false, length, nat_le, option_copied, slice_get, slice_index, vec_len, vec_capacity, sum_by};
+ghost use Rattle.std.specs.Prelude.{◌≡◌, ◌==◌, ◌||◌, ◌∷◌, ◌<◌, ◌≤◌, ◌^◌, [], nat_lt, IsTrue, IsSome, IfSome, false, length, nat_le, option_copied, slice_get, slice_index, sum_by};
 ghost use Rattle.std.specs.List.{list_all};
 ghost use Rattle.osbase.specs.History.{Took, Printed, Noted, Opened, Queued, Done, agreement_of, began_count, current_job, current_task, item_count, job_count, oldest_of, open_call, outbox, phase_after, queued_count, received_count};
 ghost use Rattle.osplan.specs.declared.plans.Task.{Task as TaskValue};
 ghost use Rattle.oscript.specs.Frames.{action_at};
 ghost use Rattle.osplan.specs.View.{core_of, is_configured, view_of};
-ghost use Rattle.osstate.specs.Does.{Does, Notes, Reads};
+ghost use Rattle.osstate.specs.Does.{Effects, HasRoom, Notes, Reads, Remarks};
 ghost use Rattle.osbase.specs.Sets.{has_core};
 ghost use Rattle.osstate.specs.Readings.{best_job, frame_at, is_at_limit, is_own, is_started, next_start, own_task, phase_at, script_of};
 ghost use Rattle.osstate.specs.State.{state_of};
@@ -103,12 +103,9 @@ impl<'a, const P: usize, const J: usize, const OUT: usize> CoreState<'a, P, J, O
     pub fn activate(&mut self, task: TaskRef, marks: &mut Vec<Mark>)
         requires limit { job_count (Runner.Task task) self.old.jobs < activation_limit self.old.view (Runner.Task task) }
         requires live { is_before_live self.old.phase ≡ false }
-        requires count { self.old.entries < 2 ^ 63 }
-        requires room { vec_len marks.old < vec_capacity marks.old }
+        requires room { HasRoom 1 1 self.old marks.old }
         ensures state { self.new ≡ state_after (Printed (Mark.Activated task)) self.old }
-        ensures marks { marks.new.items ≡ marks.old.items ++ Mark.Activated task ∷ [] }
-        ensures capacity { vec_capacity marks.new ≡ vec_capacity marks.old }
-        ensures does { Does (λ v h. Printed (Mark.Activated task) ∷ h) self.old self.new marks.old.items marks.new.items }
+        ensures effects { Effects 1 1 (λ v h. Printed (Mark.Activated task) ∷ h) self.old self.new marks.old marks.new }
     {
         let job = Job {
             runner: Runner::Task(task),
@@ -124,12 +121,9 @@ impl<'a, const P: usize, const J: usize, const OUT: usize> CoreState<'a, P, J, O
         requires own { IsTrue (is_own_runner self.old.view (Runner.Task task)) }
         requires job { 0 < job_count (Runner.Task task) self.old.jobs }
         requires left { self.old.current ≡ None }
-        requires count { self.old.entries < 2 ^ 63 }
-        requires room { vec_len marks.old < vec_capacity marks.old }
+        requires room { HasRoom 1 1 self.old marks.old }
         ensures state { self.new ≡ state_after (Printed (Mark.Terminated task)) self.old }
-        ensures marks { marks.new.items ≡ marks.old.items ++ Mark.Terminated task ∷ [] }
-        ensures capacity { vec_capacity marks.new ≡ vec_capacity marks.old }
-        ensures does { Does (λ v h. Printed (Mark.Terminated task) ∷ h) self.old self.new marks.old.items marks.new.items }
+        ensures effects { Effects 1 1 (λ v h. Printed (Mark.Terminated task) ∷ h) self.old self.new marks.old marks.new }
     {
         parts::remove_oldest(&mut self.jobs, Runner::Task(task));
         parts::rewind_frame(&mut self.frames, task);
@@ -139,12 +133,9 @@ impl<'a, const P: usize, const J: usize, const OUT: usize> CoreState<'a, P, J, O
 
     /// A task enters the running state, and PreTaskHook is called (OSEK/VDX OS 2.2.3, section 11.5).
     pub fn enter(&mut self, task: TaskRef, marks: &mut Vec<Mark>)
-        requires count { self.old.entries < 2 ^ 63 }
-        requires room { vec_len marks.old < vec_capacity marks.old }
+        requires room { HasRoom 1 1 self.old marks.old }
         ensures state { self.new ≡ state_after (Printed (Mark.PreTaskHook task)) self.old }
-        ensures marks { marks.new.items ≡ marks.old.items ++ Mark.PreTaskHook task ∷ [] }
-        ensures capacity { vec_capacity marks.new ≡ vec_capacity marks.old }
-        ensures does { Does (λ v h. Printed (Mark.PreTaskHook task) ∷ h) self.old self.new marks.old.items marks.new.items }
+        ensures effects { Effects 1 1 (λ v h. Printed (Mark.PreTaskHook task) ∷ h) self.old self.new marks.old marks.new }
     {
         self.progress.enter(task);
         marks.push_reserved(Mark::PreTaskHook(task));
@@ -153,12 +144,9 @@ impl<'a, const P: usize, const J: usize, const OUT: usize> CoreState<'a, P, J, O
     /// PostTaskHook is called, and the task in the running state leaves it (OSEK/VDX OS 2.2.3, section 11.5).
     pub fn leave(&mut self, task: TaskRef, marks: &mut Vec<Mark>)
         requires current { IsTrue (is_current self.old.current (Runner.Task task)) }
-        requires count { self.old.entries < 2 ^ 63 }
-        requires room { vec_len marks.old < vec_capacity marks.old }
+        requires room { HasRoom 1 1 self.old marks.old }
         ensures state { self.new ≡ state_after (Printed (Mark.PostTaskHook task)) self.old }
-        ensures marks { marks.new.items ≡ marks.old.items ++ Mark.PostTaskHook task ∷ [] }
-        ensures capacity { vec_capacity marks.new ≡ vec_capacity marks.old }
-        ensures does { Does (λ v h. Printed (Mark.PostTaskHook task) ∷ h) self.old self.new marks.old.items marks.new.items }
+        ensures effects { Effects 1 1 (λ v h. Printed (Mark.PostTaskHook task) ∷ h) self.old self.new marks.old marks.new }
         ensures left { self.new.current ≡ None }
     {
         self.progress.leave(task);
@@ -168,12 +156,9 @@ impl<'a, const P: usize, const J: usize, const OUT: usize> CoreState<'a, P, J, O
     /// A mark that changes nothing of the state but how long the history is.
     pub fn print(&mut self, mark: Mark, marks: &mut Vec<Mark>)
         requires plain { IsTrue (is_plain mark) }
-        requires count { self.old.entries < 2 ^ 63 }
-        requires room { vec_len marks.old < vec_capacity marks.old }
+        requires room { HasRoom 1 1 self.old marks.old }
         ensures state { self.new ≡ state_after (Printed mark) self.old }
-        ensures marks { marks.new.items ≡ marks.old.items ++ mark ∷ [] }
-        ensures capacity { vec_capacity marks.new ≡ vec_capacity marks.old }
-        ensures does { Does (λ v h. Printed mark ∷ h) self.old self.new marks.old.items marks.new.items }
+        ensures effects { Effects 1 1 (λ v h. Printed mark ∷ h) self.old self.new marks.old marks.new }
     {
         self.progress.entries += 1;
         marks.push_reserved(mark);
@@ -185,7 +170,7 @@ impl<'a, const P: usize, const J: usize, const OUT: usize> CoreState<'a, P, J, O
         requires room { length self.old.outbox < OUT }
         requires count { self.old.entries < 2 ^ 63 }
         ensures state { self.new ≡ state_after (Noted (Queued to (next_envelope self.old to message))) self.old }
-        ensures notes { Notes (λ v h. Noted (Queued to (record { number = queued_count to h; message = message })) ∷ h) self.old self.new }
+        ensures remarks { Remarks 1 (λ v h. Noted (Queued to (record { number = queued_count to h; message = message })) ∷ h) self.old self.new }
     {
         let number = self.queued[usize::from(to.number)];
         let envelope = Envelope { number, message };
@@ -201,7 +186,7 @@ impl<'a, const P: usize, const J: usize, const OUT: usize> CoreState<'a, P, J, O
         requires own { IsTrue (is_own_runner self.old.view call.runner) }
         requires count { self.old.entries < 2 ^ 63 }
         ensures state { self.new ≡ state_after (Noted (Opened call)) self.old }
-        ensures notes { Notes (λ v h. Noted (Opened call) ∷ h) self.old self.new }
+        ensures remarks { Remarks 1 (λ v h. Noted (Opened call) ∷ h) self.old self.new }
     {
         self.progress.open_call = Some(call);
         self.progress.entries += 1;
@@ -212,7 +197,7 @@ impl<'a, const P: usize, const J: usize, const OUT: usize> CoreState<'a, P, J, O
         requires own { IsTrue (is_own_runner self.old.view runner) }
         requires count { self.old.entries < 2 ^ 63 }
         ensures state { self.new ≡ state_after (Noted (Done runner status value)) self.old }
-        ensures notes { Notes (λ v h. Noted (Done runner status value) ∷ h) self.old self.new }
+        ensures remarks { Remarks 1 (λ v h. Noted (Done runner status value) ∷ h) self.old self.new }
     {
         match runner {
             Runner::Task(task) => {

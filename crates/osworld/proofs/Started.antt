@@ -91,7 +91,7 @@ lists_below-push plan n core lt somebody =
 -- the seat of a core that took nothing
 pub seated-first : (plan : Plan) (stimuli : List CoreStimuli) (seat : Seat) (id : CoreId) (core : Core) → core_of plan id ≡ Some core → seat.id ≡ id → seat.kernel ≡ state_of (view_of plan id) [] → seat.mode ≡ core.mode → seat.stimuli.now ≡ stimuli_of stimuli id → seat.items.items ≡ [] → seat.marks.items ≡ [] → IsSeated plan stimuli seat
 seated-first plan stimuli seat id core found is_id is_kernel is_mode is_left no_items no_marks = record {
-  tracks = rw (is_id, no_items, no_marks) (record { stands = record { is = is_kernel }; shows = refl });
+  tracks = rw (is_id, no_items, no_marks) (record { stands = record { is = is_kernel }; added = []; behind = refl; shows = refl });
   mode = is_mode ∙ ap (λ (o : Option Core). option_map_or (λ (c : Core). c.mode) o CoreMode.DontCare) (sym found) ∙ ap (λ (i : CoreId). (view_of plan i).mode) (sym is_id);
   left = rw (is_id, no_items) is_left;
 }

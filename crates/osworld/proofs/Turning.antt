@@ -92,10 +92,10 @@ pub record Took (old new : Seat) (item : Item) : Type 0 where
 pub seated-on : (plan : Plan) (stimuli : List CoreStimuli) (old new : Seat) (item : Item) → IsSeated plan stimuli old → Took old new item → IsSeated plan stimuli new
 seated-on plan stimuli old new item seated took =
     record {
-      tracks = subst (λ (i : CoreId). Tracks (view_of plan i) (history_by plan i new.items.items) [] new.kernel new.marks.items) (sym took.id)
-          (subst (λ (items : List Item). Tracks v (history_by plan old.id items) [] new.kernel new.marks.items) (sym took.items)
-          (subst (λ (h : History). Tracks v h [] new.kernel new.marks.items) (sym (history_from-push v [] old.items.items item))
-          (took.does v (history_by plan old.id old.items.items) [] seated.tracks)));
+      tracks = subst (λ (i : CoreId). Tracks (view_of plan i) (history_by plan i new.items.items) [] [] new.kernel new.marks.items) (sym took.id)
+          (subst (λ (items : List Item). Tracks v (history_by plan old.id items) [] [] new.kernel new.marks.items) (sym took.items)
+          (subst (λ (h : History). Tracks v h [] [] new.kernel new.marks.items) (sym (history_from-push v [] old.items.items item))
+          (took.does v (history_by plan old.id old.items.items) [] [] seated.tracks)));
       mode = took.mode ∙ seated.mode ∙ ap (λ (i : CoreId). (view_of plan i).mode) (sym took.id);
       left = took.left ∙ ap (left_after item) seated.left ∙ left-on item (stimulus_count old.items.items) (stimuli_of stimuli old.id)
           ∙ ap (λ (n : ℕ). drop n (stimuli_of stimuli old.id)) (sym (stimulus_count-push old.items.items item))

@@ -47,7 +47,7 @@ reports_of plan w = map (report_in plan) w.items
 
 -- A seat is where its core comes to by the items that it took.
 pub record IsSeated (plan : Plan) (stimuli : List CoreStimuli) (seat : Seat) : Type 0 where
-  pub tracks : Tracks (view_of plan seat.id) (history_by plan seat.id seat.items.items) [] seat.kernel seat.marks.items
+  pub tracks : Tracks (view_of plan seat.id) (history_by plan seat.id seat.items.items) [] [] seat.kernel seat.marks.items
   pub mode : seat.mode ≡ (view_of plan seat.id).mode
   pub left : seat.stimuli.now ≡ drop (stimulus_count seat.items.items) (stimuli_of stimuli seat.id)
 

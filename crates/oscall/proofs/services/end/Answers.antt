@@ -1,5 +1,5 @@
+use Rattle.osstate.proofs.Effecting.{then}
 use Rattle.oscall.proofs.services.end.Goals as goal
 
-pub returns-clause-does : goal.returns-clause-does
-returns-clause-does g c v h earlier tracks =
-    rw c.in-Task.is (c.terminate.ensures.does v _ earlier (c.leave.ensures.does v h earlier tracks))
+pub returns : goal.returns
+returns g c = rw c.in-Task.is (then c.leave.ensures.effects c.terminate.ensures.effects)

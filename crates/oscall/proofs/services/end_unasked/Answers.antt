@@ -1,5 +1,5 @@
+use Rattle.osstate.proofs.Effecting.{then}
 use Rattle.oscall.proofs.services.end_unasked.Goals as goal
 
-pub returns-clause-does : goal.returns-clause-does
-returns-clause-does g c v h earlier tracks =
-    rw c.in-Task.is (rw c.in-Task.is at (c.end.ensures.does v _ earlier (c.print.ensures.does v h earlier tracks)))
+pub returns : goal.returns
+returns g c = rw c.in-Task.is (rw c.in-Task.is at (then c.print.ensures.effects c.end.ensures))

@@ -1,5 +1,7 @@
+use Rattle.std.proofs.Common.{lit≤}
+use Rattle.osstate.proofs.Effecting.{as_effect, then}
 use Rattle.oscall.proofs.serving.serve_action.Goals as goal
 
-pub returns-clause-does : goal.returns-clause-does
-returns-clause-does g c v h earlier tracks =
-    rw (c.serve-status.ensures.status v h tracks.stands) at (c.report.ensures.does v _ earlier (c.serve-status.ensures.does v h earlier tracks))
+pub returns : goal.returns
+returns g c =
+    as_effect (λ v h stands. rw (c.serve-status.ensures.status v h stands)) (lit≤ tt) (lit≤ tt) (then c.serve-status.ensures.effects c.report.ensures)

@@ -1,5 +1,6 @@
+use Rattle.std.proofs.Common.{lit≤}
+use Rattle.osstate.proofs.Effecting.{as_effect}
 use Rattle.oskernel.proofs.effects.go_on_by_one.Goals as goal
 
-pub returns-in-Some-clause-does : goal.returns-in-Some-clause-does
-returns-in-Some-clause-does g c v h earlier tracks =
-    rw (← (c.in-Some.ensures.reads v h tracks.stands)) (c.perform.ensures.does v h earlier tracks)
+pub returns-in-Some : goal.returns-in-Some
+returns-in-Some g c = as_effect (λ v h stands. rw (← (c.in-Some.ensures.reads v h stands))) (lit≤ tt) (lit≤ tt) c.perform.ensures

@@ -1,7 +1,9 @@
+use Rattle.std.proofs.Common.{refl, lit≤}
+use Rattle.osstate.proofs.Effecting.{as_effect}
 use Rattle.oskernel.proofs.effects.receive.Goals as goal
 
-pub returns-in-Action-clause-does : goal.returns-in-Action-clause-does
-returns-in-Action-clause-does g c v h earlier tracks = rw c.in-Action.is (c.serve_action.ensures.does v h earlier tracks)
+pub returns-in-Action : goal.returns-in-Action
+returns-in-Action g c = rw c.in-Action.is c.serve_action.ensures
 
-pub returns-in-Reply-clause-does : goal.returns-in-Reply-clause-does
-returns-in-Reply-clause-does g c v h earlier tracks = rw c.in-Reply.is (c.close.ensures.does v h earlier tracks)
+pub returns-in-Reply : goal.returns-in-Reply
+returns-in-Reply g c = rw c.in-Reply.is (as_effect (λ v h stands. refl) (lit≤ tt) (lit≤ tt) c.close.ensures)

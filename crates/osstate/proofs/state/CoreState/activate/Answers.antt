@@ -1,9 +1,10 @@
-use Rattle.std.proofs.Common.{◌≡◌, ◌<◌, false, rules, sym, subst}
+use Rattle.std.proofs.Common.{◌≡◌, ◌<◌, false, rules, arith, sym, subst}
 use Rattle.osbase.specs.declared.references.Runner.TheVariants as Runner
 use Rattle.osbase.specs.History.{job_count}
 use Rattle.osstate.specs.Sound.{activation_limit, is_before_live}
 use Rattle.osstate.specs.State.{KernelState}
 use Rattle.osstate.proofs.Sounds.{activated, place}
+use Rattle.osstate.proofs.Effecting.{printing}
 use Rattle.osstate.proofs.state.CoreState.activate.Goals as goal
 
 pub push-requires : goal.push-requires
@@ -15,3 +16,6 @@ invariant_of-self g c =
     rw c.push.ensures.items (activated g.row.J c.args.task _ c.self.invariant
     (subst (λ (s : KernelState). job_count (Runner.Task c.args.task) s.jobs < activation_limit s.view (Runner.Task c.args.task)) (sym c.self.view_is) c.requires.limit)
     (subst (λ (s : KernelState). is_before_live s.phase ≡ false) (sym c.self.view_is) c.requires.live))
+
+pub returns-clause-effects : goal.returns-clause-effects
+returns-clause-effects g c = printing (search rules) (search rules) (search rules) (omega arith) (search rules)

@@ -1,0 +1,88 @@
+-- How effects compose.
+use Rattle.std.proofs.Common.{◌≡◌, ℕ, ◌+◌, ◌≤◌, Bool, true, List, [], ◌∷◌, ◌++◌, length, refl, ap, sym, subst, ◌∙◌, arith, add-one, append_assoc, length-append, Vec, Global, vec_len, vec_capacity}
+use Rattle.std.proofs.lemmas.List.{append-nil}
+use Rattle.osbase.specs.declared.references.TaskRef.{TaskRef}
+use Rattle.osbase.specs.declared.references.Runner.{Runner}
+use Rattle.osbase.specs.declared.marks.Mark.{Mark}
+use Rattle.osbase.specs.History.{History, Entry, Printed, Noted, marks_of}
+use Rattle.osplan.specs.View.{View}
+use Rattle.osstate.specs.State.{KernelState, Stands, state_of}
+use Rattle.osstate.specs.Steps.{state_after}
+use Rattle.osstate.specs.Sound.{is_own_runner, is_plain}
+use Rattle.osstate.specs.Does.{Adds, Does, Effects, Notes, Remarks, StaysInItem, Tracks}
+use Rattle.osstate.proofs.Histories.{printed, terminated}
+
+adds-then : {m n : ℕ} {a b c : List Mark} → Adds m a b → Adds n b c → Adds (m + n) a c
+adds-then {a = a} e d = record {
+  added = e.added ++ d.added;
+  is = d.is ∙ ap (λ (ms : List Mark). ms ++ d.added) e.is ∙ append_assoc a e.added d.added;
+  within = omega (arith, length-append e.added d.added, e.within, d.within);
+}
+
+-- One effect, and then another.
+pub then : {a b m n : ℕ} {f g : View → History → History} {s s' s'' : KernelState} {x x' x'' : Vec Mark Global} → Effects a m f s s' x x' → Effects b n g s' s'' x' x'' → Effects (a + b) (m + n) (λ v h. g v (f v h)) s s'' x x''
+then {f = f} e d = record {
+  does = (λ v h earlier base tracks. d.does v (f v h) earlier base (e.does v h earlier base tracks));
+  stays = record {
+    view = d.stays.view ∙ e.stays.view;
+    phase = d.stays.phase ∙ e.stays.phase;
+    items = d.stays.items ∙ e.stays.items;
+    entries = omega (arith, e.stays.entries, d.stays.entries);
+  };
+  adds = adds-then e.adds d.adds;
+  len = omega (arith, e.len, d.len);
+  capacity = d.capacity ∙ e.capacity;
+}
+
+adds-none : (a : List Mark) → Adds 0 a a
+adds-none a = record { added = []; is = sym (append-nil a); within = omega arith }
+
+-- What prints nothing is an effect on any vector.
+pub unprinted : {a : ℕ} {f : View → History → History} {s s' : KernelState} {x : Vec Mark Global} → Remarks a f s s' → Effects a 0 f s s' x x
+unprinted {x = x} e = record {
+  does = (λ v h earlier base tracks. record { stands = e.notes v h tracks.stands; added = tracks.added; behind = tracks.behind; shows = tracks.shows ∙ sym (e.silent v h) });
+  stays = e.stays;
+  adds = adds-none x.items;
+  len = omega arith;
+  capacity = refl;
+}
+
+-- The same effect in other words, within as much or more.
+pub as_effect : {a b m n : ℕ} {f g : View → History → History} {s s' : KernelState} {x x' : Vec Mark Global} → ((v : View) (h : History) → Stands v h s → g v h ≡ f v h) → a ≤ b → m ≤ n → Effects a m f s s' x x' → Effects b n g s s' x x'
+as_effect same few short e = record {
+  does = (λ v h earlier base tracks. rw (same v h tracks.stands) (e.does v h earlier base tracks));
+  stays = record { view = e.stays.view; phase = e.stays.phase; items = e.stays.items; entries = omega (arith, e.stays.entries) };
+  adds = record { added = e.adds.added; is = e.adds.is; within = omega (arith, e.adds.within) };
+  len = omega (arith, e.len);
+  capacity = e.capacity;
+}
+
+stays_in : (s s' : KernelState) (e : Entry) → s' ≡ state_after e s → StaysInItem 1 s (state_after e s) → StaysInItem 1 s s'
+stays_in s s' e is stays = subst (λ (q : KernelState). StaysInItem 1 s q) (sym is) stays
+
+-- One mark more.
+pub printing : {m : Mark} {s s' : KernelState} {x x' : Vec Mark Global} → Notes (λ v h. Printed m ∷ h) s s' → s' ≡ state_after (Printed m) s → x'.items ≡ x.items ++ m ∷ [] → vec_len x' ≤ vec_len x + 1 → vec_capacity x' ≡ vec_capacity x → Effects 1 1 (λ v h. Printed m ∷ h) s s' x x'
+printing {m} {s} {s'} notes is more len capacity = record {
+  does = (λ v h earlier base tracks. record {
+    stands = notes v h tracks.stands;
+    added = tracks.added ++ m ∷ [];
+    behind = more ∙ ap (λ (ms : List Mark). ms ++ m ∷ []) tracks.behind ∙ append_assoc base tracks.added (m ∷ []);
+    shows = sym (append_assoc earlier tracks.added (m ∷ [])) ∙ ap (λ (ms : List Mark). ms ++ m ∷ []) tracks.shows;
+  });
+  stays = stays_in s s' (Printed m) is (record { view = refl; phase = refl; items = refl; entries = omega arith });
+  adds = record { added = m ∷ []; is = more; within = omega arith };
+  len = len;
+  capacity = capacity;
+}
+
+pub plainly : (m : Mark) (s s' : KernelState) → is_plain m ≡ true → s' ≡ state_after (Printed m) s → Notes (λ v h. Printed m ∷ h) s s'
+plainly m s s' plain is v h stands = record { is = is ∙ ap (state_after (Printed m)) stands.is ∙ printed m v h plain }
+
+pub ending : (t : TaskRef) (s s' : KernelState) → is_own_runner s.view (Runner.Task t) ≡ true → s' ≡ state_after (Printed (Mark.Terminated t)) s → Notes (λ v h. Printed (Mark.Terminated t) ∷ h) s s'
+ending t s s' own is v h stands = record { is = is ∙ ap (state_after (Printed (Mark.Terminated t))) stands.is ∙ terminated v h t (subst (λ (q : KernelState). is_own_runner q.view (Runner.Task t) ≡ true) stands.is own) }
+
+-- The marks added are those of the effect, whatever stood in the vector.
+pub added_are : {a m : ℕ} {f : View → History → History} {s s' : KernelState} {x x' : Vec Mark Global} → Effects a m f s s' x x' → (v : View) (h : History) → Stands v h s → (ms : List Mark) × (x'.items ≡ x.items ++ ms) × (marks_of h ++ ms ≡ marks_of (f v h))
+added_are {x = x} e v h stands =
+    let t = e.does v h (marks_of h) x.items (record { stands = stands; added = []; behind = sym (append-nil x.items); shows = append-nil (marks_of h) }) in
+    (t.added, t.behind, t.shows)

@@ -1,0 +1,6 @@
+use Rattle.std.proofs.Common.{rules, arith}
+use Rattle.osstate.proofs.Effecting.{plainly, printing}
+use Rattle.osstate.proofs.state.CoreState.enter.Goals as goal
+
+pub returns-clause-effects : goal.returns-clause-effects
+returns-clause-effects g c = printing (search rules) (search rules) (search rules) (omega arith) (search rules)
