@@ -13,7 +13,7 @@ use crate::outcomes::Outcome;
 use crate::readings::config_in;
 use crate::sources::Source;
 use itoa::Buffer;
-use osbase::CoreId;
+use osbase::{CORE_NUMBERS, CoreId};
 use osconf::{Config, Standing, config_text, cut, standing_of};
 use ostrace::{Sink, WriteFailed, write_all};
 use std::alloc::Global;
@@ -47,7 +47,7 @@ fn write_standings<O: Sink>(config: &Config, out: &mut O) -> Result<(), WriteFai
     requires { O.failed out.old < 2 ^ 48 }
     ensures { Writes O.taken O.failed out.old out.new (flat_map (standing_line config.now) (ids_of config.now)) result }
 {
-    for number in 0..16 {
+    for number in 0..CORE_NUMBERS {
         write_standing(config, out, CoreId { number })?;
     }
     Ok(())

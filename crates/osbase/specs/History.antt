@@ -2,18 +2,18 @@
 --
 -- A history is the list of what a core took and did, the newest first, so that every reading is a
 -- fold with a named step. The kernel stores no history: it keeps the readings.
-use Rattle.std.specs.Prelude.{ℕ, suc, ◌==◌, ◌&&◌, nat_lt, ℤ, Bool, true, false, if◌then◌else◌, Option, Some, None, List, [], ◌∷◌, ◌++◌, length, drop, filter, replicate}
+use Rattle.std.specs.Prelude.{ℕ, suc, ◌+◌, ◌==◌, ◌&&◌, nat_lt, ℤ, Bool, false, if◌then◌else◌, Option, Some, None, List, [], ◌∷◌, ◌++◌, length, drop, replicate}
 use Rattle.osbase.specs.declared.statuses.Status.{Status}
 use Rattle.osbase.specs.declared.references.CoreId.{CoreId}
 use Rattle.osbase.specs.declared.references.TaskRef.{TaskRef}
 use Rattle.osbase.specs.declared.references.IsrRef.{IsrRef}
 use Rattle.osbase.specs.declared.references.Runner.{Runner}
 use Rattle.osbase.specs.declared.messages.Envelope.{Envelope}
-use Rattle.osbase.specs.declared.messages.Message.{Message}
 use Rattle.osbase.specs.declared.items.CoreSet.{CoreSet}
 use Rattle.osbase.specs.declared.items.Agreement.{Agreement}
 use Rattle.osbase.specs.declared.items.Item.{Item}
 use Rattle.osbase.specs.declared.marks.Mark.{Mark}
+use Rattle.osbase.specs.declared.turns.TheConstants.{CORES}
 use Rattle.osbase.specs.declared.histories.Job.{Job}
 use Rattle.osbase.specs.declared.histories.OpenCall.{OpenCall}
 use Rattle.osbase.specs.declared.histories.Sent.{Sent}
@@ -69,11 +69,14 @@ items_of (Printed m ∷ h) = items_of h
 items_of (Noted n ∷ h) = items_of h
 
 -- How many items were taken.
+abbrev pub items_after : Entry → ℕ → ℕ
+items_after (Took i) count = count + 1
+items_after (Printed m) count = count
+items_after (Noted n) count = count
+
 abbrev pub item_count : History → ℕ
 item_count [] = 0
-item_count (Took i ∷ h) = suc (item_count h)
-item_count (Printed m ∷ h) = item_count h
-item_count (Noted n ∷ h) = item_count h
+item_count (e ∷ h) = items_after e (item_count h)
 
 -- Live jobs, the smallest stamp first. An activation begins a job, whose stamp is its place in the
 -- history; an end ends the oldest live job of its task. [OSEK/VDX OS 2.2.3, section 4.3; the code has
@@ -122,15 +125,6 @@ oldest_of (Some t) jobs = oldest (Runner.Task t) jobs
 abbrev pub current_job : History → Option Job
 current_job h = oldest_of (current_task h) (live_jobs h)
 
--- A live job that may run: each of them, since only tasks have jobs and none of them can wait yet.
--- [OSEK/VDX OS 2.2.3, section 4.2]
-abbrev pub is_able : Job → Bool
-is_able j = true
-
--- The running job: the current one, since there are no ISR jobs yet. [OSEK/VDX OS 2.2.3, section 4.2]
-abbrev pub running : History → Option Job
-running h = current_job h
-
 -- Of the jobs of greatest priority the first. In a list by stamps it is the one of smallest stamp.
 abbrev pub better_of : (Job → ℕ) → Job → Option Job → Job
 better_of priority j None = j
@@ -140,16 +134,17 @@ abbrev pub first_greatest : (Job → ℕ) → List Job → Option Job
 first_greatest priority [] = None
 first_greatest priority (j ∷ js) = Some (better_of priority j (first_greatest priority js))
 
--- The job to run: the able job of greatest current priority, and of these the one of smallest stamp.
--- [OSEK/VDX OS 2.2.3, section 4.4 and 4.5; the code reads the same list through.]
-abbrev pub best : (Job → ℕ) → History → Option Job
-best priority h = first_greatest priority (filter is_able (live_jobs h))
-
--- The call that awaits a reply: an opened call stays open until the reply is taken.
+-- The call that awaits a reply: it stays open until its operation is done, or its caller has ended.
 -- [own: a service on another core's object is a request and its reply]
+abbrev pub closed_by : Runner → Option OpenCall → Option OpenCall
+closed_by r None = None
+closed_by r (Some call) = if same_runner call.runner r then None else Some call
+
 abbrev pub open_after : Entry → Option OpenCall → Option OpenCall
 open_after (Noted (Opened call)) open_call = Some call
-open_after (Took (Item.Received from number (Message.Reply status value))) open_call = None
+open_after (Noted (Done r status value)) open_call = closed_by r open_call
+open_after (Printed (Mark.Terminated t)) open_call = closed_by (Runner.Task t) open_call
+open_after (Printed (Mark.IsrLeft i)) open_call = closed_by (Runner.Isr i) open_call
 open_after e open_call = open_call
 
 abbrev pub open_call : History → Option OpenCall
@@ -198,53 +193,73 @@ received s [] = []
 received s (Took (Item.Received from number m) ∷ h) = if same_core from s then received s h ++ record { number = number; message = m } ∷ [] else received s h
 received s (e ∷ h) = received s h
 
--- The phase: the master begins in boot, another core off, and items lead on.
+-- The phase that an item leads to: the master begins in boot, another core off, and items lead on.
 -- [AUTOSAR SWS OS 4.x, SWS_Os_00579 and SWS_Os_00580, the two synchronisation points of StartOS]
+abbrev pub phase_past_first_gate : Agreement → Phase
+phase_past_first_gate Agreement.Conflict = Phase.Ended
+phase_past_first_gate (Agreement.Mode m) = Phase.BetweenGates
+phase_past_first_gate Agreement.NoMode = Phase.BetweenGates
+
+abbrev pub phase_on : Item → Phase → Phase
+phase_on Item.On p = Phase.Boot
+phase_on (Item.Began k status) p = p
+phase_on Item.Entered p = Phase.FirstGate
+phase_on (Item.Pass1 agreement) p = phase_past_first_gate agreement
+phase_on Item.Readied p = Phase.SecondGate
+phase_on (Item.Pass2 cores) p = Phase.Live
+phase_on (Item.Stim stimulus) p = p
+phase_on (Item.Posted core) p = p
+phase_on (Item.Received from number message) p = p
+phase_on (Item.Granted spinlock) p = p
+phase_on (Item.Tried spinlock taken) p = p
+phase_on (Item.Freed spinlock) p = p
+phase_on (Item.Halt core status) p = p
+phase_on Item.Drained p = Phase.Drained
+phase_on Item.PassEnd p = Phase.Closing
+phase_on (Item.Last shutdown) p = Phase.Ended
+
 abbrev pub phase_after : Entry → Phase → Phase
-phase_after (Took Item.On) p = Phase.Boot
-phase_after (Took Item.Entered) p = Phase.FirstGate
-phase_after (Took (Item.Pass1 Agreement.Conflict)) p = Phase.Ended
-phase_after (Took (Item.Pass1 (Agreement.Mode m))) p = Phase.BetweenGates
-phase_after (Took (Item.Pass1 Agreement.NoMode)) p = Phase.BetweenGates
-phase_after (Took Item.Readied) p = Phase.SecondGate
-phase_after (Took (Item.Pass2 cores)) p = Phase.Live
-phase_after (Took Item.Drained) p = Phase.Drained
-phase_after (Took Item.PassEnd) p = Phase.Closing
-phase_after (Took (Item.Last shutdown)) p = Phase.Ended
-phase_after e p = p
+phase_after (Took item) p = phase_on item p
+phase_after (Printed m) p = p
+phase_after (Noted n) p = p
 
 abbrev pub phase_from : Phase → History → Phase
 phase_from first [] = first
 phase_from first (e ∷ h) = phase_after e (phase_from first h)
 
-abbrev pub phase_of : Bool → History → Phase
-phase_of is_master h = phase_from (if is_master then Phase.Boot else Phase.Off) h
+abbrev pub first_phase : Bool → Phase
+first_phase is_master = if is_master then Phase.Boot else Phase.Off
 
--- A core schedules, serves and posts from the second gate to its end. [own]
-abbrev pub is_scheduling : Phase → Bool
-is_scheduling Phase.Live = true
-is_scheduling Phase.Drained = true
-is_scheduling Phase.Closing = true
-is_scheduling p = false
+abbrev pub phase_of : Bool → History → Phase
+phase_of is_master h = phase_from (first_phase is_master) h
 
 -- How many entries of the start list are done. [own]
+abbrev pub began_after : Entry → ℕ → ℕ
+began_after (Took (Item.Began k s)) count = count + 1
+began_after e count = count
+
 abbrev pub began_count : History → ℕ
 began_count [] = 0
-began_count (Took (Item.Began k s) ∷ h) = suc (began_count h)
-began_count (e ∷ h) = began_count h
+began_count (e ∷ h) = began_after e (began_count h)
 
 -- The application mode that the started cores came to, once the first gate is passed.
 -- [AUTOSAR SWS OS 4.x, SWS_Os_00608 to SWS_Os_00610]
+abbrev pub agreement_after : Entry → Option Agreement → Option Agreement
+agreement_after (Took (Item.Pass1 a)) agreement = Some a
+agreement_after e agreement = agreement
+
 abbrev pub agreement_of : History → Option Agreement
 agreement_of [] = None
-agreement_of (Took (Item.Pass1 a) ∷ h) = Some a
-agreement_of (e ∷ h) = agreement_of h
+agreement_of (e ∷ h) = agreement_after e (agreement_of h)
 
 -- The cores that were started, once the second gate is passed; none before. [own]
 abbrev pub no_cores : CoreSet
-no_cores = record { members = replicate 16 false }
+no_cores = record { members = replicate CORES false }
+
+abbrev pub started_after : Entry → CoreSet → CoreSet
+started_after (Took (Item.Pass2 cores)) started = cores
+started_after e started = started
 
 abbrev pub started_cores : History → CoreSet
 started_cores [] = no_cores
-started_cores (Took (Item.Pass2 cores) ∷ h) = cores
-started_cores (e ∷ h) = started_cores h
+started_cores (e ∷ h) = started_after e (started_cores h)

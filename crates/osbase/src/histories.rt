@@ -1,5 +1,8 @@
 //! What the definitions over a history share with the kernel that keeps their readings.
 
+ghost use Rattle.std.specs.Prelude.{◌≡◌};
+ghost use Rattle.osbase.specs.Phases.{is_scheduling, stands_in};
+
 use crate::messages::Envelope;
 use crate::references::{CoreId, Runner};
 use crate::statuses::ServiceId;
@@ -18,6 +21,22 @@ pub enum Phase {
     Drained,
     Closing,
     Ended,
+}
+
+impl Phase {
+    /// Whether the core stands in this phase.
+    pub fn stands_in(self, asked: Phase) -> bool
+        ensures { result ≡ stands_in asked self }
+    {
+        self as u8 == asked as u8
+    }
+
+    /// Whether a core schedules, serves and posts: from the second gate to its end.
+    pub fn is_scheduling(self) -> bool
+        ensures { result ≡ is_scheduling self }
+    {
+        matches!(self, Phase::Live | Phase::Drained | Phase::Closing)
+    }
 }
 
 /// A job of a task or an ISR. Its stamp is the place in the history of its activation, or of its

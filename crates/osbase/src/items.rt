@@ -6,6 +6,7 @@ ghost use Rattle.osbase.specs.Sets.{has_core};
 use crate::messages::Message;
 use crate::references::{CoreId, IsrRef, ModeId, SpinlockId};
 use crate::statuses::Status;
+use crate::turns::CORES;
 
 /// What a core's environment gives it.
 #[derive(Clone, Copy, Debug, PartialEq, Eq)]
@@ -21,14 +22,14 @@ pub enum Stimulus {
 /// A set of cores: a flag for each core number.
 #[derive(Clone, Copy, Debug, PartialEq, Eq)]
 pub struct CoreSet {
-    pub members: [bool; 16],
+    pub members: [bool; CORES],
 }
 
 impl CoreSet {
     /// Whether the core is in the set.
     pub fn contains(&self, core: CoreId) -> bool
         ensures value { result ≡ has_core self.now core }
-        ensures number { IsTrue result → core.number < 16 }
+        ensures number { IsTrue result → core.number < CORES }
     {
         match self.members.get(usize::from(core.number)) {
             Some(is_member) => *is_member,

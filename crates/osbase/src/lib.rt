@@ -8,6 +8,8 @@ pub mod items;
 pub mod lists;
 pub mod marks;
 pub mod messages;
+pub mod names;
+pub mod objects;
 pub mod references;
 pub mod statuses;
 pub mod turns;
@@ -17,9 +19,13 @@ pub use items::{Agreement, CoreSet, Item, Stimulus};
 pub use lists::{List, Name};
 pub use marks::Mark;
 pub use messages::{Envelope, Message, RemoteCall};
+pub use names::is_name;
+pub use objects::{Object, ObjectKind, Place};
 pub use references::{
     AlarmRef, CoreId, CounterRef, IsrRef, ModeId, ResourceRef, Runner, SpinlockId, TableRef,
     TaskRef, Variable,
 };
 pub use statuses::{ServiceId, Status};
-pub use turns::{CORES, Choice, CoreStimuli, Report, Schedule, Stimuli, Turn, stimuli_for};
+pub use turns::{
+    CORE_NUMBERS, CORES, Choice, CoreStimuli, Report, Schedule, Stimuli, Turn, stimuli_for,
+};

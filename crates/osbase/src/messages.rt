@@ -1,5 +1,9 @@
 //! What crosses the border between cores.
 
+ghost use Rattle.std.specs.Prelude.{◌≡◌};
+ghost use Rattle.osbase.specs.Objects.{object_of_call};
+
+use crate::objects::Object;
 use crate::references::{AlarmRef, TaskRef, Variable};
 use crate::statuses::Status;
 
@@ -27,6 +31,22 @@ pub enum RemoteCall {
         alarm: AlarmRef,
         variable: Variable,
     },
+}
+
+impl RemoteCall {
+    /// The object that the call is for.
+    pub fn object(self) -> Object
+        ensures { result ≡ object_of_call self }
+    {
+        match self {
+            RemoteCall::ActivateTask(task) => task.object(),
+            RemoteCall::SetEvent { task, .. } => task.object(),
+            RemoteCall::SetRelAlarm { alarm, .. } => alarm.object(),
+            RemoteCall::SetAbsAlarm { alarm, .. } => alarm.object(),
+            RemoteCall::CancelAlarm(alarm) => alarm.object(),
+            RemoteCall::GetAlarm { alarm, .. } => alarm.object(),
+        }
+    }
 }
 
 /// A request is answered by one reply; an action, of an alarm or a schedule table, by none.

@@ -12,6 +12,9 @@ use crate::references::CoreId;
 /// Configured cores are numbered below this.
 pub const CORES: usize = 16;
 
+/// The same bound in the type of a core's number.
+pub const CORE_NUMBERS: u8 = CORES as u8;
+
 /// The stimuli of one core, in order.
 #[derive(Debug, Drop)]
 pub struct CoreStimuli {

@@ -1,2 +1,6 @@
+pub mod Checks
+pub mod Returning
 pub mod Service
-pub mod Started
+pub mod Tasks
+pub mod Border
+pub mod Operations

@@ -1,12 +1,14 @@
 //! The services of a core: each prints its lines and changes the core's state as its definition says.
 //!
-//! No function here takes memory. Each asks for room for the marks that it adds.
+//! No function here takes memory. Each asks for room for the entries and marks that it adds.
 #![tactic(auto)]
 
+pub mod border;
+pub mod operations;
 pub mod returning;
-pub mod services;
-pub mod serving;
+pub mod tasks;
 
-pub use returning::{close, finish, report};
-pub use services::{activate, end, end_unasked, operate, terminate};
-pub use serving::{serve_action, serve_request};
+pub use border::{call, is_answered, serve_action, serve_request};
+pub use operations::operate;
+pub use returning::{Answer, ask, finish, is_ok, refuse, report};
+pub use tasks::{activate, end, end_unasked, terminate};

@@ -1,12 +1,28 @@
 //! How a service returns to its caller.
 
-ghost use Rattle.std.specs.Prelude.{◌<◌, IsTrue, length};
+ghost use Rattle.std.specs.Prelude.{◌≡◌, ◌<◌, None, IsTrue, length};
+ghost use Rattle.osbase.specs.declared.turns.TheConstants.{CORES};
 ghost use Rattle.osstate.specs.Does.{Effects, HasRoom};
 ghost use Rattle.osstate.specs.Sound.{is_own_runner};
-ghost use Rattle.oscall.specs.Service.{asks, reports, returns};
+ghost use Rattle.oscall.specs.Checks.{is_ok_status};
+ghost use Rattle.oscall.specs.Returning.{asks, reports, returns};
 
 use osbase::{CoreId, Mark, Message, OpenCall, RemoteCall, Runner, ServiceId, Status};
 use osstate::CoreState;
+
+/// What a service answers: its status, and with E_OK the value of one that has a value.
+#[derive(Clone, Copy, Debug, PartialEq, Eq)]
+pub struct Answer {
+    pub status: Status,
+    pub value: Option<i64>,
+}
+
+/// Whether the status is E_OK.
+pub fn is_ok(status: Status) -> bool
+    ensures { result ≡ is_ok_status status }
+{
+    matches!(status, Status::EOk)
+}
 
 /// A status other than E_OK calls ErrorHook (OSEK/VDX OS 2.2.3, section 11.2).
 pub fn report<const P: usize, const J: usize, const OUT: usize>(
@@ -29,23 +45,41 @@ pub fn finish<const P: usize, const J: usize, const OUT: usize>(
     state: &mut CoreState<'_, P, J, OUT>,
     runner: Runner,
     service: ServiceId,
-    status: Status,
-    value: Option<i64>,
+    answer: Answer,
     marks: &mut Vec<Mark>,
 )
-    requires own { IsTrue (is_own_runner state.old.view runner) }
+    requires own { IsTrue (is_own_runner state.old.view.own runner) }
     requires room { HasRoom 3 2 state.old marks.old }
-    ensures { Effects 3 2 (λ v h. returns runner service status value h) state.old state.new marks.old marks.new }
+    ensures { Effects 3 2 (λ v h. returns runner service answer.status answer.value h) state.old state.new marks.old marks.new }
 {
     let mark = Mark::ServiceReturned {
         runner,
         service,
-        status,
-        value,
+        status: answer.status,
+        value: answer.value,
     };
     state.print(mark, marks);
-    report(state, status, marks);
-    state.complete(runner, status, value);
+    report(state, answer.status, marks);
+    state.complete(runner, answer.status, answer.value);
+}
+
+/// A service that is refused returns with this status.
+pub fn refuse<const P: usize, const J: usize, const OUT: usize>(
+    state: &mut CoreState<'_, P, J, OUT>,
+    runner: Runner,
+    service: ServiceId,
+    status: Status,
+    marks: &mut Vec<Mark>,
+)
+    requires own { IsTrue (is_own_runner state.old.view.own runner) }
+    requires room { HasRoom 3 2 state.old marks.old }
+    ensures { Effects 3 2 (λ v h. returns runner service status None h) state.old state.new marks.old marks.new }
+{
+    let answer = Answer {
+        status,
+        value: None,
+    };
+    finish(state, runner, service, answer, marks);
 }
 
 /// A service on another core's object: its request joins the outbox, and the call stays open until the
@@ -58,9 +92,9 @@ pub fn ask<const P: usize, const J: usize, const OUT: usize>(
     call: RemoteCall,
     marks: &mut Vec<Mark>,
 )
-    requires own { IsTrue (is_own_runner state.old.view runner) }
-    requires receiver { core.number < 16 }
-    requires outbox { length state.old.outbox < OUT }
+    requires own { IsTrue (is_own_runner state.old.view.own runner) }
+    requires receiver { core.number < CORES }
+    requires outbox { length state.old.border.outbox < OUT }
     requires room { HasRoom 3 1 state.old marks.old }
     ensures { Effects 3 1 (λ v h. asks runner service core call h) state.old state.new marks.old marks.new }
 {
@@ -71,20 +105,4 @@ pub fn ask<const P: usize, const J: usize, const OUT: usize>(
         service,
         core,
     });
-}
-
-/// The reply of another core ends the call that awaits it. The reply's item has ended the call in the
-/// state already, so that the caller hands it in.
-pub fn close<const P: usize, const J: usize, const OUT: usize>(
-    state: &mut CoreState<'_, P, J, OUT>,
-    call: OpenCall,
-    status: Status,
-    value: Option<i64>,
-    marks: &mut Vec<Mark>,
-)
-    requires own { IsTrue (is_own_runner state.old.view call.runner) }
-    requires room { HasRoom 3 2 state.old marks.old }
-    ensures { Effects 3 2 (λ v h. returns call.runner call.service status value h) state.old state.new marks.old marks.new }
-{
-    finish(state, call.runner, call.service, status, value, marks);
 }

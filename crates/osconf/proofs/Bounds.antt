@@ -1,26 +1,30 @@
 -- A text without a fault means a configuration within the limits.
-use Rattle.std.proofs.Common.{◌≡◌, ℕ, suc, ◌<◌, ◌≤◌, Bool, true, false, not, ◌&&◌, ◌||◌, cond, eqb, leb, ltb, List, [], ◌∷◌, length, map, Option, Some, None, is_some, option_map, ◌⊎◌, inl, inr, zero-add, refl, sym, ap, arith}
+use Rattle.std.proofs.Common.{◌≡◌, ℕ, suc, ◌<◌, ◌≤◌, Bool, true, false, not, ◌&&◌, ◌||◌, cond, eqb, leb, ltb, List, [], ◌∷◌, length, map, Option, Some, None, is_some, option_map, unwrap_or, ◌⊎◌, inl, inr, zero-add, refl, sym, ap, arith}
 use Rattle.std.specs.Option.{option_map_or}
 use Rattle.std.specs.List.{list_all, list_any, find, position, position_or_len, sum_by}
 use Rattle.std.proofs.lemmas.Bool.{leb-true, le-leb, true≢false}
 use Rattle.std.proofs.lemmas.Bool.Decides.{nat_tests}
 use Rattle.std.proofs.lemmas.List.{length-map}
-use Rattle.osbase.specs.declared.references.TaskRef.{TaskRef}
+use Rattle.osbase.specs.declared.objects.ObjectKind.{ObjectKind}
+use Rattle.osbase.specs.declared.objects.ObjectKind.TheVariants as ObjectKind
+use Rattle.osbase.specs.declared.objects.Place.{Place}
 use Rattle.osbase.specs.History.{same_core}
-use Rattle.osplan.specs.declared.plans.Plan.{Plan}
 use Rattle.osplan.specs.declared.plans.Core.{Core}
 use Rattle.osplan.specs.declared.plans.Task.{Task}
 use Rattle.osplan.specs.Limits as limits
 use Rattle.osconf.specs.declared.shapes.ConfigText.{ConfigText}
 use Rattle.osconf.specs.declared.shapes.CoreText.{CoreText}
 use Rattle.osconf.specs.declared.shapes.TaskText.{TaskText}
-use Rattle.oscript.specs.declared.Op.TheVariants.{ActivateTask}
+use Rattle.oscript.specs.declared.Op.{Op}
+use Rattle.oscript.specs.declared.Op.TheVariants.{Work}
+use Rattle.osforms.specs.Operation.{op_meant}
+use Rattle.osforms.proofs.Operations.{meant-passes}
 use Rattle.osplan.specs.declared.faults.ConfFault.{ConfFault}
 use Rattle.osplan.specs.declared.faults.ConfFault.TheVariants.{Limit, DuplicateName, UnknownName}
 use Rattle.osconf.specs.Fault.{failing}
-use Rattle.osconf.specs.Operation.{Form, work, activate, terminate, operations_of, form_of, op_of_form}
-use Rattle.osconf.specs.Check.{is_between, is_task_within, is_core_within, is_within, has_name, same_number, is_apart, is_first_apart, are_cores_distinct, is_each_once, are_known, tests_of}
-use Rattle.osconf.specs.Meaning.{byte_of, number_id, id_of, task_of_core, or_else, task_place, op_of, only_mode, task_plan, core_plan, plan_of}
+use Rattle.osconf.specs.Operation.{operations_of, byte_of, number_id, id_of, has_name, task_of_core, or_else, task_place, place_of, op_of}
+use Rattle.osconf.specs.Check.{is_between, is_task_within, is_core_within, is_within, same_number, is_apart, is_first_apart, are_cores_distinct, is_each_once, are_known, tests_of}
+use Rattle.osconf.specs.Meaning.{only_mode, task_plan, core_plan, plan_of}
 
 pub both : (a b : Bool) → a ≡ true → b ≡ true → (a && b) ≡ true
 both a b p q = rw (p, q) refl
@@ -105,22 +109,22 @@ position-within : (p : TaskText → Bool) (tasks : List TaskText) (i : ℕ) → 
 position-within p tasks i e = position-within-if (ltb (position_or_len p tasks) (length tasks)) (position_or_len p tasks) (length tasks) i refl e
 
 -- the core has that number, and so many tasks
-abbrev HasTask : CoreText → TaskRef → Type 0
+abbrev HasTask : CoreText → Place → Type 0
 HasTask core task = (task.core ≡ id_of core) × (task.index < length core.tasks)
 
-has_task-if : (core : CoreText) (place : Option ℕ) (task : TaskRef) → ((i : ℕ) → place ≡ Some i → i < length core.tasks) → option_map (λ i. record { core = id_of core; index = byte_of (Some i) }) place ≡ Some task → HasTask core task
+has_task-if : (core : CoreText) (place : Option ℕ) (task : Place) → ((i : ℕ) → place ≡ Some i → i < length core.tasks) → option_map (λ i. record { core = id_of core; index = byte_of (Some i) }) place ≡ Some task → HasTask core task
 has_task-if core None task within e = cc
 has_task-if core (Some i) task within e =
     let same : record { core = id_of core; index = byte_of (Some i) } ≡ task = cc in
     let below : byte_of (Some i) ≤ i = byte-at_most i in
     let lt : i < length core.tasks = within i refl in
-    let index : byte_of (Some i) ≡ task.index = ap (λ (t : TaskRef). t.index) same in
-    (sym (ap (λ (t : TaskRef). t.core) same), omega arith)
+    let index : byte_of (Some i) ≡ task.index = ap (λ (t : Place). t.index) same in
+    (sym (ap (λ (t : Place). t.core) same), omega arith)
 
-has_task : (name : List ℕ) (core : CoreText) (task : TaskRef) → task_of_core name core ≡ Some task → HasTask core task
+has_task : (name : List ℕ) (core : CoreText) (task : Place) → task_of_core name core ≡ Some task → HasTask core task
 has_task name core task e = has_task-if core (position (has_name name) core.tasks) task (λ i h. position-within (has_name name) core.tasks i h) e
 
-here-or-later : (first later : Option TaskRef) (task : TaskRef) → or_else first later ≡ Some task → (first ≡ Some task) ⊎ ((first ≡ None) × (later ≡ Some task))
+here-or-later : (first later : Option Place) (task : Place) → or_else first later ≡ Some task → (first ≡ Some task) ⊎ ((first ≡ None) × (later ≡ Some task))
 here-or-later None later task e = inr (refl, e)
 here-or-later (Some t) later task e = inl e
 
@@ -128,7 +132,7 @@ core-number : (core : CoreText) → is_core_within core ≡ true → is_between 
 core-number core h = left (is_between 0 7 core.id) _ (left _ _ (left _ _ h))
 
 -- a core that is apart from others has none of their numbers
-other-number : (name : List ℕ) (core : CoreText) (cores : List CoreText) (task : TaskRef) → is_between 0 7 core.id ≡ true → list_all (is_apart core) cores ≡ true → list_all is_core_within cores ≡ true → task_place cores name ≡ Some task
+other-number : (name : List ℕ) (core : CoreText) (cores : List CoreText) (task : Place) → is_between 0 7 core.id ≡ true → list_all (is_apart core) cores ≡ true → list_all is_core_within cores ≡ true → task_place cores name ≡ Some task
     → eqb (byte_of core.id) task.core.number ≡ false
 other-number name core [] task in_core apart within e = cc
 other-number name core (d ∷ ds) task in_core apart within e =
@@ -149,7 +153,7 @@ first-apart : (core : CoreText) (cores : List CoreText) → are_cores_distinct (
 first-apart core cores h = right _ (list_all (is_apart core) cores) (left (is_first_apart core cores) (are_cores_distinct cores) h)
 
 -- what a name stands for is a task of the plan
-task-found : (all : List CoreText) (name : List ℕ) (cores : List CoreText) (task : TaskRef) → are_cores_distinct cores ≡ true → list_all is_core_within cores ≡ true → task_place cores name ≡ Some task
+task-found : (all : List CoreText) (name : List ℕ) (cores : List CoreText) (task : Place) → are_cores_distinct cores ≡ true → list_all is_core_within cores ≡ true → task_place cores name ≡ Some task
     → option_map_or (λ (c : Core). ltb task.index (length c.tasks)) (find (λ (c : Core). same_core c.id task.core) (map (core_plan all) cores)) false ≡ true
 task-found all name [] task distinct within e = cc
 task-found all name (d ∷ ds) task distinct within e =
@@ -171,18 +175,18 @@ list_all-total q f each [] = refl
 list_all-total q f each (x ∷ xs) = both (q (f x)) _ (each x) (list_all-total q f each xs)
 
 abbrev PlacesKnown : ConfigText → Type 0
-PlacesKnown t = (name : List ℕ) (task : TaskRef) → task_place t.cores name ≡ Some task → limits.is_task (plan_of t) task ≡ true
+PlacesKnown t = (name : List ℕ) (place : Place) → task_place t.cores name ≡ Some place → limits.is_object (plan_of t) (record { kind = ObjectKind.Task; place = place }) ≡ true
 
-place-known : (plan : Plan) (place : Option TaskRef) → ((task : TaskRef) → place ≡ Some task → limits.is_task plan task ≡ true) → limits.is_op_known plan (ActivateTask place) ≡ true
-place-known plan None known = refl
-place-known plan (Some task) known = known task refl
+place-known : (t : ConfigText) → PlacesKnown t → (kind : ObjectKind) (name : List ℕ) (place : Place) → place_of t.cores kind name ≡ Some place → limits.is_object (plan_of t) (record { kind = kind; place = place }) ≡ true
+place-known t known ObjectKind.Task name place e = known name place e
+place-known t known ObjectKind.Alarm name place e = cc
 
-form-known : (t : ConfigText) (form : Option Form) → PlacesKnown t → limits.is_op_known (plan_of t) (op_of_form (task_place t.cores) form) ≡ true
-form-known t None known = refl
-form-known t (Some work) known = refl
-form-known t (Some (activate None)) known = refl
-form-known t (Some (activate (Some name))) known = place-known (plan_of t) (task_place t.cores name) (known name)
-form-known t (Some terminate) known = refl
+op-known : (t : ConfigText) → PlacesKnown t → (text : List ℕ) → limits.is_op_known (plan_of t) (op_of t.cores text) ≡ true
+op-known t known text = by (op_meant (place_of t.cores) text) refl
+  where
+    by : (o : Option Op) → op_meant (place_of t.cores) text ≡ o → limits.is_op_known (plan_of t) (unwrap_or o Work) ≡ true
+    by None e = refl
+    by (Some op) e = meant-passes (place_of t.cores) (limits.is_object (plan_of t)) (place-known t known) text op e
 
 task-bounds : (t : ConfigText) → PlacesKnown t → (task : TaskText) → is_task_within task ≡ true → limits.is_task_within (plan_of t) (task_plan t.cores task) ≡ true
 task-bounds t known task h =
@@ -191,7 +195,7 @@ task-bounds t known task h =
     let count : leb (length (operations_of task.script)) 256 ≡ true = right (is_between 0 31 task.prio && is_between 1 64 task.activations) _ h in
     let script : leb (length (map (op_of t.cores) (operations_of task.script))) 256 ≡ true = rw (length-map (operations_of task.script) (op_of t.cores)) count in
     both _ _ (both _ _ (both _ _ (both _ _ (both _ _ (byte-high 0 31 task.prio (omega arith) prio) (byte-low 1 64 task.activations (omega arith) activations)) (byte-high 1 64 task.activations (omega arith) activations)) script)
-    (list_all-total (limits.is_op_known (plan_of t)) (op_of t.cores) (λ text. form-known t (form_of text) known) (operations_of task.script)))
+    (list_all-total (limits.is_op_known (plan_of t)) (op_of t.cores) (op-known t known) (operations_of task.script)))
     (list_all-always (limits.is_mode (plan_of t)) only_mode refl task.auto)
 
 activations-high : (task : TaskText) → is_task_within task ≡ true → leb (byte_of task.activations) 64 ≡ true

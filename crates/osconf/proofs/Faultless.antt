@@ -1,14 +1,12 @@
 -- The text of a configuration has no fault, and means the configuration.
-use Rattle.std.proofs.Common.{◌≡◌, ℕ, ◌≤◌, Bool, true, false, not, ◌&&◌, cond, nat_le, List, [], ◌∷◌, length, map, Option, Some, None, option_and_then, IsTrue, is_some, refl, sym, ap, ◌∙◌, subst, arith}
-use Rattle.std.specs.List.{list_all, list_any, find}
-use Rattle.std.specs.Option.{option_map_or}
-use Rattle.std.proofs.lemmas.Bool.{and_parts, and_from, or_left, or_right, le-leb, leb-true}
+use Rattle.std.proofs.Common.{◌≡◌, ℕ, ◌≤◌, Bool, true, not, ◌&&◌, nat_le, List, [], ◌∷◌, length, map, Option, Some, option_and_then, IsTrue, refl, ap, ◌∙◌, arith}
+use Rattle.std.specs.List.{list_all, list_any}
+use Rattle.std.proofs.lemmas.Bool.{and_parts, and_from, le-leb, leb-true}
 use Rattle.std.proofs.lemmas.List.{length-map}
 use Rattle.osbase.specs.declared.references.CoreId.{CoreId}
-use Rattle.osbase.specs.declared.references.TaskRef.{TaskRef}
 use Rattle.osbase.specs.History.{same_core}
 use Rattle.oscript.specs.declared.Op.{Op}
-use Rattle.oscript.specs.declared.Op.TheVariants.{Work, ActivateTask, TerminateTask}
+use Rattle.osforms.proofs.Operations.{meant-known}
 use Rattle.osplan.specs.declared.plans.Plan.{Plan}
 use Rattle.osplan.specs.declared.plans.Core.{Core}
 use Rattle.osplan.specs.declared.plans.Task.{Task}
@@ -21,24 +19,13 @@ use Rattle.osconf.specs.Shape.{config_shape}
 use Rattle.osconf.specs.declared.shapes.CoreText.{CoreText}
 use Rattle.osconf.specs.declared.shapes.TaskText.{TaskText}
 use Rattle.osconf.specs.Fault.{failing}
-use Rattle.osconf.specs.Operation.{operations_of, task_in_form}
-use Rattle.osconf.specs.Check.{is_between, is_task_within, is_core_within, is_within, has_name, core_has_name, are_tasks_distinct, same_number, is_apart, are_cores_distinct, is_each_once, is_task_name, is_operation_known, is_mode_name, is_task_known, is_core_known, are_known, is_operation, is_task_script, is_core_script, are_operations, tests_of}
-use Rattle.osconf.specs.Writing.{config_data, mode_text, task_name, op_text, script_text}
+use Rattle.osconf.specs.Operation.{operations_of, has_name, place_of, is_operation_known, is_operation}
+use Rattle.osconf.specs.Check.{is_between, is_task_within, is_core_within, is_within, core_has_name, are_tasks_distinct, same_number, is_apart, are_cores_distinct, is_each_once, is_mode_name, is_task_known, is_core_known, are_known, is_task_script, is_core_script, are_operations, tests_of}
+use Rattle.osconf.specs.Writing.{config_data, mode_text, op_text, script_text}
 use Rattle.osconf.proofs.Bounds.{list_all-by, list_all-both}
 use Rattle.osconf.proofs.Sayings.{any-map}
-use Rattle.osconf.proofs.Formed.{form-back, script-back, names-task}
 use Rattle.osconf.proofs.Reshaped.{number_said, task_said, core_said, config_said, mode-text, config-shape}
-use Rattle.osconf.proofs.Placed.{any-get, bytes_eq-same}
-use Rattle.osconf.proofs.Restored.{Kept, kept-core, kept-task, tasks-both, cores-both, kept-plan, plan-back}
-
-any-found-if : {X : Type 0} (q : X → Bool) (y x : X) (rest : Option X) (ys : List X) (b : Bool) → cond b (Some y) rest ≡ Some x → q x ≡ true → (rest ≡ Some x → list_any q ys ≡ true) → list_any q (y ∷ ys) ≡ true
-any-found-if q y x rest ys true e passes later = let same : y ≡ x = cc in or_left (q y) (list_any q ys) (subst (λ z. q z ≡ true) (sym same) passes)
-any-found-if q y x rest ys false e passes later = or_right (q y) (list_any q ys) (later e)
-
--- what is found is there
-any-found : {X : Type 0} (p q : X → Bool) (xs : List X) (x : X) → find p xs ≡ Some x → q x ≡ true → list_any q xs ≡ true
-any-found p q [] x e passes = cc
-any-found p q (y ∷ ys) x e passes = any-found-if q y x (find p ys) ys (p y) e passes (λ rest. any-found p q ys x rest passes)
+use Rattle.osconf.proofs.Restored.{Kept, kept-core, kept-task, tasks-both, cores-both, kept-plan, op-meant, script-back, plan-back}
 
 between-from : (low high n : ℕ) → low ≤ n → n ≤ high → is_between low high (Some n) ≡ true
 between-from low high n above below = and_from _ _ (le-leb low n above) (le-leb n high below)
@@ -59,7 +46,7 @@ module _ (plan : Plan) (kept : Kept plan) where
   task-within task h =
       let k = kept-task plan task h in
       let zero_low : 0 ≤ task.priority = omega arith in
-      let count : length (operations_of (script_text plan task.script)) ≡ length task.script = ap length (script-back plan kept.said_cores task.script k.known) ∙ length-map task.script (op_text plan) in
+      let count : length (operations_of (script_text plan task.script)) ≡ length task.script = ap length (script-back plan kept task.script k.known) ∙ length-map task.script (op_text plan) in
       and_from _ _ (and_from _ _ (between-from 0 31 task.priority zero_low k.priority) (between-from 1 64 task.activations k.activations_low k.activations_high)) (rw count k.operations)
 
   core-within : (core : Core) → both_core core ≡ true → is_core_within (core_said plan core) ≡ true
@@ -114,19 +101,8 @@ module _ (plan : Plan) (kept : Kept plan) where
 
   -- ---- what names name
 
-  target-named : (target : TaskRef) → limits.is_task plan target ≡ true → is_task_name texts (task_name plan target) ≡ true
-  target-named target known =
-      let found = names-task plan target known in
-      let has : said.core_has_name found.1.name found.0 ≡ true = any-get (said.has_name found.1.name) found.0.tasks target.index found.1 found.2.task_is (bytes_eq-same found.1.name) in
-      ap (is_task_name texts) found.2.name_is ∙ any-map (core_has_name found.1.name) (core_said plan) plan.cores
-      ∙ any-found (λ (c : Core). same_core c.id target.core) (λ (c : Core). core_has_name found.1.name (core_said plan c)) plan.cores found.0 found.2.core_is (core-name found.1.name found.0 ∙ has)
-
   op-known : (op : Op) → limits.is_op_known plan op ≡ true → is_operation_known texts (op_text plan op) ≡ true
-  op-known Work known = refl
-  op-known (ActivateTask None) known = refl
-  op-known (ActivateTask (Some target)) known =
-      ap (λ form. option_map_or (is_task_name texts) (task_in_form form) true) (form-back plan kept.said_cores (ActivateTask (Some target)) known) ∙ target-named target known
-  op-known TerminateTask known = refl
+  op-known op h = (meant-known (place_of texts) (op_text plan op) op (op-meant plan kept op h)).1
 
   mode-known : (name : List ℕ) → name ≡ said.mode_name → is_mode_name name ≡ true
   mode-known name e = rw e refl
@@ -135,7 +111,7 @@ module _ (plan : Plan) (kept : Kept plan) where
   task-known task h =
       let k = kept-task plan task h in
       and_from _ _ (list_all-by said.is_only_mode is_mode_name (mode_text plan) (λ m e. mode-known (mode_text plan m) (mode-text plan kept.mode m e)) task.auto k.auto)
-      (rw (script-back plan kept.said_cores task.script k.known) (list_all-by (limits.is_op_known plan) (is_operation_known texts) (op_text plan) op-known task.script k.known))
+      (rw (script-back plan kept task.script k.known) (list_all-by (limits.is_op_known plan) (is_operation_known texts) (op_text plan) op-known task.script k.known))
 
   core-known : (core : Core) → both_core core ≡ true → is_core_known texts (core_said plan core) ≡ true
   core-known core h = list_all-by both_task (is_task_known texts) (task_said plan) task-known core.tasks (tasks-both plan core (kept-core plan core h))
@@ -148,12 +124,12 @@ module _ (plan : Plan) (kept : Kept plan) where
   -- ---- operations
 
   op-form : (op : Op) → limits.is_op_known plan op ≡ true → is_operation (op_text plan op) ≡ true
-  op-form op h = ap is_some (form-back plan kept.said_cores op h)
+  op-form op h = (meant-known (place_of texts) (op_text plan op) op (op-meant plan kept op h)).0
 
   task-script : (task : Task) → both_task task ≡ true → is_task_script (task_said plan task) ≡ true
   task-script task h =
       let k = kept-task plan task h in
-      rw (script-back plan kept.said_cores task.script k.known) (list_all-by (limits.is_op_known plan) is_operation (op_text plan) op-form task.script k.known)
+      rw (script-back plan kept task.script k.known) (list_all-by (limits.is_op_known plan) is_operation (op_text plan) op-form task.script k.known)
 
   core-script : (core : Core) → both_core core ≡ true → is_core_script (core_said plan core) ≡ true
   core-script core h = list_all-by both_task is_task_script (task_said plan) task-script core.tasks (tasks-both plan core (kept-core plan core h))

@@ -5,14 +5,13 @@ use Rattle.std.specs.Str.{bytes_eq}
 use Rattle.std.proofs.lemmas.Bool.{and_parts, not-true, true≢false, eqb-true, lt-ltb, le-ltb, cases_Bool, or_left, or_right}
 use Rattle.std.proofs.lemmas.List.{length-map}
 use Rattle.std.proofs.lemmas.Slice.Eq.{bytes_eq-Decides}
-use Rattle.osbase.specs.declared.references.TaskRef.{TaskRef}
+use Rattle.osbase.specs.declared.objects.Place.{Place}
 use Rattle.osbase.specs.History.{same_core}
 use Rattle.osplan.specs.declared.plans.Plan.{Plan}
 use Rattle.osplan.specs.declared.plans.Core.{Core}
 use Rattle.osplan.specs.declared.plans.Task.{Task}
 use Rattle.osplan.specs.Expressible as said
-use Rattle.osconf.specs.Check.{has_name}
-use Rattle.osconf.specs.Meaning.{byte_of, number_id, task_of_core, task_place}
+use Rattle.osconf.specs.Operation.{byte_of, number_id, has_name, task_of_core, task_place}
 use Rattle.osconf.proofs.Bounds.{byte-small}
 use Rattle.osplan.proofs.Tests.{all-weaker, find-passes}
 use Rattle.osconf.proofs.Reshaped.{task_said, core_said}
@@ -66,22 +65,22 @@ module _ (plan : Plan) where
       rw (none-len name tasks none, length-map tasks (task_said plan), le-ltb (length tasks) (length tasks) (omega arith)) refl
 
   -- ---- the place among the cores
-  here : (core : Core) (target : TaskRef) (task : Task) → core.id.number ≡ target.core.number → target.core.number ≤ 255 → target.index ≤ 255 → said.are_tasks_distinct core.tasks ≡ true → slice_get core.tasks target.index ≡ Some task
+  here : (core : Core) (target : Place) (task : Task) → core.id.number ≡ target.core.number → target.core.number ≤ 255 → target.index ≤ 255 → said.are_tasks_distinct core.tasks ≡ true → slice_get core.tasks target.index ≡ Some task
       → task_of_core task.name (core_said plan core) ≡ Some target
   here core target task number low index distinct e =
       let id : byte_of (Some core.id.number) ≡ target.core.number = ap (λ n. byte_of (Some n)) number ∙ byte-small target.core.number low in
-      ap (option_map (λ i. let t : TaskRef = record { core = number_id (Some core.id.number); index = byte_of (Some i) } in t)) (position-in core.tasks target.index task distinct e)
-      ∙ ap (λ (n : ℕ). let t : TaskRef = record { core = record { number = n }; index = byte_of (Some target.index) } in Some t) id
-      ∙ ap (λ (n : ℕ). let t : TaskRef = record { core = target.core; index = n } in Some t) (byte-small target.index index)
+      ap (option_map (λ i. let t : Place = record { core = number_id (Some core.id.number); index = byte_of (Some i) } in t)) (position-in core.tasks target.index task distinct e)
+      ∙ ap (λ (n : ℕ). let t : Place = record { core = record { number = n }; index = byte_of (Some target.index) } in Some t) id
+      ∙ ap (λ (n : ℕ). let t : Place = record { core = target.core; index = n } in Some t) (byte-small target.index index)
 
   elsewhere : (core found : Core) (i : ℕ) (task : Task) → said.is_apart core found ≡ true → slice_get found.tasks i ≡ Some task → task_of_core task.name (core_said plan core) ≡ None
   elsewhere core found i task apart e =
       let among : list_any (said.has_name task.name) found.tasks ≡ true = any-get (said.has_name task.name) found.tasks i task e (bytes_eq-same task.name) in
-      ap (option_map (λ i. let t : TaskRef = record { core = number_id (Some core.id.number); index = byte_of (Some i) } in t))
+      ap (option_map (λ i. let t : Place = record { core = number_id (Some core.id.number); index = byte_of (Some i) } in t))
       (position-none task.name core.tasks
       (all-weaker (λ (t : Task). not (said.core_has_name t.name found)) (λ (t : Task). not (bytes_eq t.name task.name)) (λ t h. ap not (other-name task.name t.name found.tasks among h)) core.tasks apart))
 
-  place-if : (core : Core) (cores : List Core) (target : TaskRef) (found : Core) (task : Task) (b : Bool) → same_core core.id target.core ≡ b → target.core.number ≤ 255 → target.index ≤ 255
+  place-if : (core : Core) (cores : List Core) (target : Place) (found : Core) (task : Task) (b : Bool) → same_core core.id target.core ≡ b → target.core.number ≤ 255 → target.index ≤ 255
       → (said.are_tasks_distinct core.tasks ≡ true) × (list_all (said.is_apart core) cores ≡ true) → cond b (Some core) (find (λ (c : Core). same_core c.id target.core) cores) ≡ Some found → slice_get found.tasks target.index ≡ Some task
       → (find (λ (c : Core). same_core c.id target.core) cores ≡ Some found → task_place (map (core_said plan) cores) task.name ≡ Some target) → task_place (map (core_said plan) (core ∷ cores)) task.name ≡ Some target
   place-if core cores target found task true same low index distinct e is later =
@@ -90,7 +89,7 @@ module _ (plan : Plan) where
   place-if core cores target found task false same low index distinct e is later =
       rw (elsewhere core found target.index task (find-passes (λ (c : Core). same_core c.id target.core) (said.is_apart core) cores found distinct.1 e) is) (later e)
 
-  pub placed : (cores : List Core) (target : TaskRef) (found : Core) (task : Task) → said.are_names_distinct cores ≡ true → target.core.number ≤ 255 → target.index ≤ 255
+  pub placed : (cores : List Core) (target : Place) (found : Core) (task : Task) → said.are_names_distinct cores ≡ true → target.core.number ≤ 255 → target.index ≤ 255
       → find (λ (c : Core). same_core c.id target.core) cores ≡ Some found → slice_get found.tasks target.index ≡ Some task → task_place (map (core_said plan) cores) task.name ≡ Some target
   placed [] target found task distinct low index e is = cc
   placed (core ∷ cores) target found task distinct low index e is =

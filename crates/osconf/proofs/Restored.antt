@@ -1,13 +1,20 @@
 -- What the text of a configuration means is the configuration.
-use Rattle.std.proofs.Common.{◌≡◌, ℕ, ◌<◌, ◌≤◌, Bool, true, not, ◌&&◌, ◌==◌, nat_le, List, [], ◌∷◌, length, map, Some, None, is_some, IsTrue, inl, inr, refl, sym, ap, ◌∙◌, arith}
+use Rattle.std.proofs.Common.{◌≡◌, ℕ, ◌<◌, ◌≤◌, Bool, true, false, not, ◌&&◌, ◌==◌, nat_le, nat_lt, List, [], ◌∷◌, length, map, Option, Some, None, is_some, unwrap_or, IsTrue, inl, inr, refl, sym, ap, ◌∙◌, arith}
 use Rattle.std.specs.List.{list_all, list_any, sum_by}
-use Rattle.std.proofs.lemmas.Bool.{and_parts, leb-true, or_cases, true≢false, eqb-true}
+use Rattle.std.specs.Option.{option_map_or}
+use Rattle.std.proofs.lemmas.Bool.{and_parts, leb-true, ltb-true, or_cases, true≢false, eqb-true}
 use Rattle.osbase.specs.declared.references.CoreId.{CoreId}
 use Rattle.osbase.specs.declared.references.ModeId.{ModeId}
-use Rattle.osbase.specs.declared.references.TaskRef.{TaskRef}
+use Rattle.osbase.specs.declared.objects.ObjectKind.{ObjectKind}
+use Rattle.osbase.specs.declared.objects.ObjectKind.TheVariants as ObjectKind
+use Rattle.osbase.specs.declared.objects.Place.{Place}
+use Rattle.osbase.specs.declared.objects.Object.{Object}
 use Rattle.osbase.specs.History.{same_core}
+use Rattle.osbase.specs.Names.{is_name}
 use Rattle.oscript.specs.declared.Op.{Op}
-use Rattle.oscript.specs.declared.Op.TheVariants.{Work, ActivateTask, TerminateTask}
+use Rattle.oscript.specs.declared.Op.TheVariants.{Work}
+use Rattle.osforms.specs.Operation.{op_meant}
+use Rattle.osforms.proofs.Operations.{IsNamed, text-meant, text-none, text-some}
 use Rattle.osplan.specs.declared.plans.Plan.{Plan}
 use Rattle.osplan.specs.declared.plans.Core.{Core}
 use Rattle.osplan.specs.declared.plans.Task.{Task}
@@ -16,14 +23,15 @@ use Rattle.osplan.specs.declared.plans.CoreMode.TheVariants.{Named, DontCare}
 use Rattle.osplan.specs.View.{core_of}
 use Rattle.osplan.specs.Limits as limits
 use Rattle.osplan.specs.Expressible as said
-use Rattle.osplan.proofs.Tests.{any-find, find-holds}
+use Rattle.osplan.proofs.Tests.{all-weaker, any-find, find-holds, find-passes}
 use Rattle.osplan.proofs.Cutting.{no_isrs, no_alarms, no_tables}
-use Rattle.osconf.specs.Operation.{operations_of, op_of_form}
-use Rattle.osconf.specs.Meaning.{byte_of, number_id, task_place, op_of, only_mode, task_plan, core_plan, plan_of}
-use Rattle.osconf.specs.Writing.{mode_text, task_name, op_text, script_text}
+use Rattle.osconf.specs.Operation.{operations_of, byte_of, number_id, task_place, place_of, op_of}
+use Rattle.osconf.specs.Meaning.{only_mode, task_plan, core_plan, plan_of}
+use Rattle.osconf.specs.Writing.{mode_text, object_name, op_text, script_text}
 use Rattle.osconf.specs.declared.shapes.CoreText.{CoreText}
 use Rattle.osconf.proofs.Bounds.{byte-small, list_all-both}
-use Rattle.osconf.proofs.Formed.{names-task, found-passes, form-back, script-back}
+use Rattle.osconf.proofs.Joining.{parts-pieces}
+use Rattle.osconf.proofs.Formed.{task_at, names-task, found-passes, named-form}
 use Rattle.osconf.proofs.Reshaped.{number_said, task_said, core_said, config_said, modes-are, mode-is}
 use Rattle.osconf.proofs.Placed.{get-inside, placed}
 
@@ -84,7 +92,7 @@ pub record KeptTask (plan : Plan) (task : Task) : Type 0 where
   pub activations_high : task.activations ≤ 64
   pub operations : nat_le (length task.script) 256 ≡ true
   pub known : list_all (limits.is_op_known plan) task.script ≡ true
-  pub name : said.is_name task.name ≡ true
+  pub name : is_name task.name ≡ true
   pub auto : list_all said.is_only_mode task.auto ≡ true
 
 pub kept-core : (plan : Plan) (core : Core) → (limits.is_core_within plan core && said.is_core_expressible core) ≡ true → KeptCore plan core
@@ -120,7 +128,7 @@ kept-task plan task h =
     let operations = and_parts _ (nat_le (length task.script) 256) known.0 in
     let high = and_parts _ (nat_le task.activations 64) operations.0 in
     let low = and_parts (nat_le task.priority 31) (nat_le 1 task.activations) high.0 in
-    let name = and_parts (said.is_name task.name) (list_all said.is_only_mode task.auto) both.1 in
+    let name = and_parts (is_name task.name) (list_all said.is_only_mode task.auto) both.1 in
     record {
       priority = leb-true task.priority 31 low.0;
       activations_low = leb-true 1 task.activations low.1;
@@ -171,7 +179,7 @@ module _ (plan : Plan) (kept : Kept plan) where
   abbrev texts : List CoreText
   texts = map (core_said plan) plan.cores
 
-  pub target-back : (target : TaskRef) → limits.is_task plan target ≡ true → task_place texts (task_name plan target) ≡ Some target
+  target-back : (target : Place) → limits.is_object plan (task_at target) ≡ true → task_place texts (object_name plan ObjectKind.Task target) ≡ Some target
   target-back target known =
       let found = names-task plan target known in
       let core = kept-core plan found.0 (found-passes plan target found.0 found.1 (λ (c : Core). limits.is_core_within plan c && said.is_core_expressible c) found.2 (cores-both plan kept)) in
@@ -181,11 +189,35 @@ module _ (plan : Plan) (kept : Kept plan) where
       let index : target.index < length found.0.tasks = get-inside found.0.tasks target.index found.1 found.2.task_is in
       ap (task_place texts) found.2.name_is ∙ placed plan plan.cores target found.0 found.1 kept.names (omega arith) (omega arith) found.2.core_is found.2.task_is
 
-  pub op-back : (op : Op) → limits.is_op_known plan op ≡ true → op_of texts (op_text plan op) ≡ op
-  op-back Work known = refl
-  op-back (ActivateTask None) known = refl
-  op-back (ActivateTask (Some target)) known = ap (op_of_form (task_place texts)) (form-back plan kept.said_cores (ActivateTask (Some target)) known) ∙ ap ActivateTask (target-back target known)
-  op-back TerminateTask known = refl
+  -- there is no alarm
+  no-alarm : (target : Place) (o : Option Core) → core_of plan target.core ≡ o → option_map_or (λ (c : Core). nat_lt target.index (length c.alarms)) o false ≡ true → ⊥
+  no-alarm target None found known = true≢false (sym known)
+  no-alarm target (Some core) found known =
+      let none = no_alarms core (find-passes (λ (c : Core). same_core c.id target.core) said.is_core_expressible plan.cores core kept.said_cores found) in
+      let inside : target.index < length core.alarms = ltb-true target.index (length core.alarms) known in
+      let empty : length core.alarms ≡ 0 = ap length none in
+      omega arith
+
+  -- Each object of the configuration has a name in form, which stands for it.
+  object-named : (object : Object) → limits.is_object plan object ≡ true → IsNamed (place_of texts) (object_name plan) object
+  object-named object known = by object.kind object.place known
+    where
+      by : (kind : ObjectKind) (place : Place) → limits.is_object plan (record { kind = kind; place = place }) ≡ true → IsNamed (place_of texts) (object_name plan) (record { kind = kind; place = place })
+      by ObjectKind.Task place there = record { in_form = named-form plan kept.said_cores place there; found = target-back place there }
+      by ObjectKind.Alarm place there = absurd (no-alarm place (core_of plan place.core) refl there)
+
+  pub op-meant : (op : Op) → limits.is_op_known plan op ≡ true → op_meant (place_of texts) (op_text plan op) ≡ Some op
+  op-meant = text-meant (place_of texts) (object_name plan) (limits.is_object plan) object-named
+
+  op-back : (op : Op) → limits.is_op_known plan op ≡ true → op_of texts (op_text plan op) ≡ op
+  op-back op known = ap (λ o. unwrap_or o Work) (op-meant op known)
+
+  -- a script's text has the texts of its operations
+  pub script-back : (script : List Op) → list_all (limits.is_op_known plan) script ≡ true → operations_of (script_text plan script) ≡ map (op_text plan) script
+  script-back script known =
+      parts-pieces (op_text plan) 59 script refl
+      (all-weaker (limits.is_op_known plan) _ (text-none (place_of texts) (object_name plan) (limits.is_object plan) object-named 59 (record { digit = refl; part = refl; minus = refl; invalid = refl; letter = refl }) refl) script known)
+      (all-weaker (limits.is_op_known plan) _ (λ op h. text-some (object_name plan) op) script known)
 
   task-back : (task : Task) → (limits.is_task_within plan task && said.is_task_expressible task) ≡ true → task_plan texts (task_said plan task) ≡ task
   task-back task h =
@@ -196,7 +228,7 @@ module _ (plan : Plan) (kept : Kept plan) where
       (byte-small task.priority (omega arith))
       (map-back (λ (name : List ℕ). only_mode) (mode_text plan) said.is_only_mode (λ m e. sym (mode-is m e)) task.auto kept_task.auto)
       (byte-small task.activations (omega arith))
-      (ap (map (op_of texts)) (script-back plan kept.said_cores task.script kept_task.known) ∙ map-back (op_of texts) (op_text plan) (limits.is_op_known plan) op-back task.script kept_task.known)
+      (ap (map (op_of texts)) (script-back task.script kept_task.known) ∙ map-back (op_of texts) (op_text plan) (limits.is_op_known plan) op-back task.script kept_task.known)
 
   core-back : (core : Core) → (limits.is_core_within plan core && said.is_core_expressible core) ≡ true → core_plan texts (core_said plan core) ≡ core
   core-back core h =

@@ -8,7 +8,8 @@ use Rattle.osbase.specs.declared.references.CoreId.{CoreId}
 use Rattle.osplan.specs.declared.plans.Core.{Core}
 use Rattle.osplan.specs.declared.plans.Task.{Task}
 use Rattle.osplan.specs.Expressible as said
-use Rattle.osplan.specs.Expressible.{is_name, mode_name, is_only_mode}
+use Rattle.osbase.specs.Names.{is_name}
+use Rattle.osplan.specs.Expressible.{mode_name, is_only_mode}
 use Rattle.osplan.specs.declared.faults.ConfFault.TheVariants.{Limit, DuplicateName}
 use Rattle.serde_json.specs.Data.{Data}
 use Rattle.serde_json.specs.Find.{get, as_str}
@@ -20,7 +21,8 @@ use Rattle.osconf.specs.Fault.{failing}
 use Rattle.osconf.specs.Reading.{each, whole_of, if_name, name_of, values_of, member_of, member_or, is_object_of}
 use Rattle.osconf.specs.Shape.{is_member, only_if, each_of, task_shape, core_shape, config_shape}
 use Rattle.osconf.specs.Check.{core_has_name, has_named_tasks, is_task_within, is_core_within, is_within, same_number, is_first_named, are_tasks_distinct, is_apart, is_first_apart, are_cores_distinct, is_each_once, tests_of}
-use Rattle.osconf.specs.Meaning.{byte_of, number_id, only_mode, task_plan, core_plan, plan_of}
+use Rattle.osconf.specs.Operation.{byte_of, number_id}
+use Rattle.osconf.specs.Meaning.{only_mode, task_plan, core_plan, plan_of}
 use Rattle.osconf.proofs.Bounds.{list_all-by, list_all-both, list_all-always, row-passes}
 
 -- ---- names in a shape are in form

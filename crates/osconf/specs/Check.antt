@@ -1,16 +1,16 @@
 -- The tests of a configuration's text, a row for each fault past its shape that a text can have so far. Each is defined apart from
 -- the others, over the text as it stands. [own]
-use Rattle.std.specs.Prelude.{ℕ, ◌==◌, ◌&&◌, nat_le, Bool, true, false, not, is_some, Option, Some, None, List, [], ◌∷◌, length}
-use Rattle.std.specs.Option.{option_map_or}
+use Rattle.std.specs.Prelude.{ℕ, ◌==◌, ◌&&◌, nat_le, Bool, true, false, not, Option, Some, None, List, [], ◌∷◌, length}
 use Rattle.std.specs.List.{list_all, list_any}
 use Rattle.std.specs.Str.{bytes_eq}
-use Rattle.osplan.specs.Expressible.{is_name, mode_name}
+use Rattle.osbase.specs.Names.{is_name}
+use Rattle.osplan.specs.Expressible.{mode_name}
 use Rattle.osplan.specs.declared.faults.ConfFault.TheVariants.{Limit, DuplicateName, UnknownName, BadScript}
 use Rattle.osconf.specs.declared.shapes.ConfigText.{ConfigText}
 use Rattle.osconf.specs.declared.shapes.CoreText.{CoreText}
 use Rattle.osconf.specs.declared.shapes.TaskText.{TaskText}
 use Rattle.osconf.specs.Fault.{Tests}
-use Rattle.osconf.specs.Operation.{operations_of, form_of, task_in_form}
+use Rattle.osconf.specs.Operation.{operations_of, has_name, is_operation_known, is_operation}
 
 -- The number is there and within these bounds.
 abbrev pub is_between : ℕ → ℕ → Option ℕ → Bool
@@ -33,9 +33,7 @@ is_within t = is_between 1 1 t.version && is_between 1 16 t.cap && nat_le 1 (len
 
 -- ---- names and numbers that stand twice
 
-abbrev pub has_name : List ℕ → TaskText → Bool
-has_name name task = bytes_eq task.name name
-
+-- A task of the core has this name.
 abbrev pub core_has_name : List ℕ → CoreText → Bool
 core_has_name name core = list_any (has_name name) core.tasks
 
@@ -75,14 +73,6 @@ is_each_once t = are_cores_distinct t.cores && list_all (λ (core : CoreText). n
 abbrev pub has_named_tasks : CoreText → Bool
 has_named_tasks core = list_all (λ (task : TaskText). is_name task.name) core.tasks
 
--- The task of this name, wherever it stands.
-abbrev pub is_task_name : List CoreText → List ℕ → Bool
-is_task_name cores name = list_any (core_has_name name) cores
-
--- What an operation in good form names is a task.
-abbrev pub is_operation_known : List CoreText → List ℕ → Bool
-is_operation_known cores text = option_map_or (is_task_name cores) (task_in_form (form_of text)) true
-
 abbrev pub are_operations_known : List CoreText → List ℕ → Bool
 are_operations_known cores script = list_all (is_operation_known cores) (operations_of script)
 
@@ -100,9 +90,6 @@ abbrev pub are_known : ConfigText → Bool
 are_known t = list_any (λ (core : CoreText). same_number core.id t.master) t.cores && list_all (is_core_known t.cores) t.cores
 
 -- ---- scripts
-
-abbrev pub is_operation : List ℕ → Bool
-is_operation text = is_some (form_of text)
 
 abbrev pub is_task_script : TaskText → Bool
 is_task_script task = list_all is_operation (operations_of task.script)

@@ -1,11 +1,7 @@
 -- The configuration that a text means, and the faults that a text has. [own]
-use Rattle.std.specs.Prelude.{ℕ, ◌<◌, ◌&&◌, true, is_some, nat_le, Option, Some, None, option_map, option_and_then, if◌then◌else◌, List, [], ◌∷◌, map, position}
-use Rattle.std.specs.Option.{option_map_or}
+use Rattle.std.specs.Prelude.{ℕ, ◌<◌, Option, Some, None, option_and_then, List, [], ◌∷◌, map}
 use Rattle.std.specs.List.{IsAmong}
-use Rattle.osbase.specs.declared.references.CoreId.{CoreId}
 use Rattle.osbase.specs.declared.references.ModeId.{ModeId}
-use Rattle.osbase.specs.declared.references.TaskRef.{TaskRef}
-use Rattle.oscript.specs.declared.Op.{Op}
 use Rattle.osplan.specs.declared.plans.Plan.{Plan}
 use Rattle.osplan.specs.declared.plans.Core.{Core}
 use Rattle.osplan.specs.declared.plans.Task.{Task}
@@ -21,40 +17,8 @@ use Rattle.osplan.specs.Fault.{fault_number}
 use Rattle.osplan.specs.Expressible.{mode_name}
 use Rattle.osconf.specs.Fault.{failing}
 use Rattle.osconf.specs.Shape.{config_shape}
-use Rattle.osconf.specs.Operation.{Form, operations_of, form_of, task_in_form, op_of_form}
-use Rattle.osconf.specs.Check.{has_name, is_task_name, tests_of}
-use Rattle.osconf.specs.Reading.{value_if}
-
--- A number as a byte: 0 where it is no byte, which no text without a fault has.
-abbrev pub byte_of : Option ℕ → ℕ
-byte_of None = 0
-byte_of (Some n) = if nat_le n 255 then n else 0
-
-abbrev pub number_id : Option ℕ → CoreId
-number_id number = record { number = byte_of number }
-
-abbrev pub id_of : CoreText → CoreId
-id_of core = number_id core.id
-
--- Where the task of a name stands: its core, and its place there.
-abbrev pub task_of_core : List ℕ → CoreText → Option TaskRef
-task_of_core name core = option_map (λ i. record { core = id_of core; index = byte_of (Some i) }) (position (has_name name) core.tasks)
-
-abbrev pub or_else : {A : Type 0} → Option A → Option A → Option A
-or_else None other = other
-or_else (Some x) other = Some x
-
-abbrev pub task_place : List CoreText → List ℕ → Option TaskRef
-task_place [] name = None
-task_place (core ∷ cores) name = or_else (task_of_core name core) (task_place cores name)
-
--- The operation that a text says.
-abbrev pub op_of : List CoreText → List ℕ → Op
-op_of cores text = op_of_form (task_place cores) (form_of text)
-
--- The operation of a form, where that is good and the task that it names, if it names one, is there.
-abbrev pub known_op : List CoreText → Option Form → Option Op
-known_op cores form = value_if (option_map_or (is_task_name cores) (task_in_form form) true && is_some form) (op_of_form (task_place cores) form)
+use Rattle.osconf.specs.Operation.{operations_of, byte_of, number_id, id_of, op_of}
+use Rattle.osconf.specs.Check.{tests_of}
 
 -- There is one mode, of number 0.
 abbrev pub only_mode : ModeId

@@ -1,61 +1,69 @@
--- The operations of a script. [own]
-use Rattle.std.specs.Prelude.{ℕ, Option, Some, None, option_map, if◌then◌else◌, List, [], ◌∷◌, codes}
+-- The operations of a script, and what the names in them stand for. [own]
+use Rattle.std.specs.Prelude.{ℕ, ◌&&◌, nat_le, Bool, Option, Some, None, option_map, unwrap_or, if◌then◌else◌, List, [], ◌∷◌, position}
 use Rattle.std.specs.Str.{bytes_eq}
-use Rattle.osbase.specs.declared.references.TaskRef.{TaskRef}
+use Rattle.osbase.specs.declared.references.CoreId.{CoreId}
+use Rattle.osbase.specs.declared.objects.ObjectKind.{ObjectKind}
+use Rattle.osbase.specs.declared.objects.ObjectKind.TheVariants.{Task, Alarm}
+use Rattle.osbase.specs.declared.objects.Place.{Place}
 use Rattle.oscript.specs.declared.Op.{Op}
-use Rattle.osconf.specs.declared.scripts.OpText.{OpText}
-use Rattle.osconf.specs.declared.scripts.OpText.TheVariants as text
-use Rattle.osplan.specs.Expressible.{is_name}
+use Rattle.oscript.specs.declared.Op.TheVariants.{Work}
+use Rattle.osforms.specs.Operation.{op_meant, is_formed, is_known}
+use Rattle.osconf.specs.declared.shapes.CoreText.{CoreText}
+use Rattle.osconf.specs.declared.shapes.TaskText.{TaskText}
+use Rattle.osconf.specs.Reading.{value_if}
 use Rattle.osconf.specs.Word.{parts_of}
 
--- An operation in good form, whose name is not looked up yet: None is `?`.
-pub data Form : Type 0 where
-  work : Form
-  activate : Option (List ℕ) → Form
-  terminate : Form
-
--- A script's operations are divided by `;`, and an operation's words by one space.
+-- A script's operations are divided by `;`.
 abbrev pub operations_of : List ℕ → List (List ℕ)
 operations_of script = parts_of 59 script
 
--- A task's place in an operation holds a name, or `?` for the invalid identifier.
-abbrev pub target_of : List ℕ → Option (Option (List ℕ))
-target_of word = if bytes_eq word (codes "?") then Some None else (if is_name word then Some (Some word) else None)
+-- ---- where objects stand
 
--- An operation of one word, and one with an argument.
-abbrev pub lone_form : List ℕ → Option Form
-lone_form name = if bytes_eq name (codes "work") then Some work else (if bytes_eq name (codes "TerminateTask") then Some terminate else None)
+-- A number as a byte: 0 where it is no byte, which no text without a fault has.
+abbrev pub byte_of : Option ℕ → ℕ
+byte_of None = 0
+byte_of (Some n) = if nat_le n 255 then n else 0
 
-abbrev pub form_with : List ℕ → List ℕ → Option Form
-form_with name argument = if bytes_eq name (codes "ActivateTask") then option_map activate (target_of argument) else None
+abbrev pub number_id : Option ℕ → CoreId
+number_id number = record { number = byte_of number }
 
-abbrev pub form_of_words : List (List ℕ) → Option Form
-form_of_words [] = None
-form_of_words (name ∷ []) = lone_form name
-form_of_words (name ∷ argument ∷ []) = form_with name argument
-form_of_words (name ∷ argument ∷ more ∷ words) = None
+abbrev pub id_of : CoreText → CoreId
+id_of core = number_id core.id
 
--- What an operation's text says. The empty operation says nothing.
-abbrev pub form_of : List ℕ → Option Form
-form_of text = form_of_words (parts_of 32 text)
+-- The task has this name.
+abbrev pub has_name : List ℕ → TaskText → Bool
+has_name name task = bytes_eq task.name name
 
--- The form as the code holds it.
-abbrev pub form_view : OpText → Form
-form_view text.Work = work
-form_view (text.ActivateTask target) = activate (option_map (λ t. t.now) target)
-form_view text.TerminateTask = terminate
+-- Where the task of a name stands: its core, and its place there.
+abbrev pub task_of_core : List ℕ → CoreText → Option Place
+task_of_core name core = option_map (λ i. record { core = id_of core; index = byte_of (Some i) }) (position (has_name name) core.tasks)
 
--- The task that an operation in good form names, if it names one.
-abbrev pub task_in_form : Option Form → Option (List ℕ)
-task_in_form None = None
-task_in_form (Some work) = None
-task_in_form (Some (activate target)) = target
-task_in_form (Some terminate) = None
+abbrev pub or_else : {A : Type 0} → Option A → Option A → Option A
+or_else None other = other
+or_else (Some x) other = Some x
 
--- The operation of a form, by what its name stands for. A form that is not good stands for none that is used.
-abbrev pub op_of_form : (List ℕ → Option TaskRef) → Option Form → Op
-op_of_form place None = Op.Work
-op_of_form place (Some work) = Op.Work
-op_of_form place (Some (activate None)) = Op.ActivateTask None
-op_of_form place (Some (activate (Some name))) = Op.ActivateTask (place name)
-op_of_form place (Some terminate) = Op.TerminateTask
+abbrev pub task_place : List CoreText → List ℕ → Option Place
+task_place [] name = None
+task_place (core ∷ cores) name = or_else (task_of_core name core) (task_place cores name)
+
+-- Where the object of a kind and a name stands. No alarm can be configured yet.
+abbrev pub place_of : List CoreText → ObjectKind → List ℕ → Option Place
+place_of cores Task name = task_place cores name
+place_of cores Alarm name = None
+
+-- ---- operations
+
+-- Each name of an operation in good form is that of an object of its kind.
+abbrev pub is_operation_known : List CoreText → List ℕ → Bool
+is_operation_known cores text = is_known (place_of cores) text
+
+abbrev pub is_operation : List ℕ → Bool
+is_operation text = is_formed text
+
+-- The operation that a text means. One that is not in good form, or whose names have no objects, stands for none that is used.
+abbrev pub op_of : List CoreText → List ℕ → Op
+op_of cores text = unwrap_or (op_meant (place_of cores) text) Work
+
+-- The operation of a text that has neither fault.
+abbrev pub known_op : List CoreText → List ℕ → Option Op
+known_op cores text = value_if (is_operation_known cores text && is_operation text) (op_of cores text)

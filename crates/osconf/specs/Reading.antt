@@ -8,7 +8,7 @@ use Rattle.osconf.specs.declared.members.Refusal.{Refusal}
 use Rattle.osconf.specs.declared.members.Refusal.TheVariants.{OutOfMemory, Unfit}
 use Rattle.osplan.specs.declared.faults.ConfFault.{ConfFault}
 use Rattle.osplan.specs.declared.faults.ConfFault.TheVariants.{NoMemory}
-use Rattle.osplan.specs.Expressible.{is_name}
+use Rattle.osbase.specs.Names.{is_name}
 
 infixl 10 ◌>>=◌
 abbrev pub ◌>>=◌ : {A B : Type 0} → Option A → (A → Option B) → Option B

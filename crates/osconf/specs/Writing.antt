@@ -1,5 +1,5 @@
 -- The JSON data that a configuration is written as: every member, in ascending order of names. [own]
-use Rattle.std.specs.Prelude.{ℕ, ◌++◌, Option, Some, None, List, [], map, codes, slice_get}
+use Rattle.std.specs.Prelude.{ℕ, List, [], map, codes, slice_get}
 use Rattle.std.specs.List.{join_by}
 use Rattle.std.specs.Option.{option_map_or}
 use Rattle.serde_json.specs.Data.{unsigned, Data, number, string, array, object, no_members, member}
@@ -7,12 +7,15 @@ use Rattle.serde_json.specs.View.{items_of}
 use Rattle.serde_json.specs.Written.{compact_text}
 use Rattle.osbase.specs.declared.references.CoreId.{CoreId}
 use Rattle.osbase.specs.declared.references.ModeId.{ModeId}
-use Rattle.osbase.specs.declared.references.TaskRef.{TaskRef}
+use Rattle.osbase.specs.declared.objects.ObjectKind.{ObjectKind}
+use Rattle.osbase.specs.declared.objects.ObjectKind.TheVariants as ObjectKind
+use Rattle.osbase.specs.declared.objects.Place.{Place}
 use Rattle.oscript.specs.declared.Op.{Op}
-use Rattle.oscript.specs.declared.Op.TheVariants.{Work, ActivateTask, TerminateTask}
+use Rattle.osforms.specs.Operation as forms
 use Rattle.osplan.specs.declared.plans.Plan.{Plan}
 use Rattle.osplan.specs.declared.plans.Core.{Core}
 use Rattle.osplan.specs.declared.plans.Task.{Task}
+use Rattle.osplan.specs.declared.plans.Alarm.{Alarm}
 use Rattle.osplan.specs.View.{core_of}
 
 -- ---- names
@@ -21,25 +24,19 @@ use Rattle.osplan.specs.View.{core_of}
 abbrev pub mode_text : Plan → ModeId → List ℕ
 mode_text plan mode = option_map_or (λ (name : List ℕ). name) (slice_get plan.modes mode.index) []
 
--- The name of a task; of one that there is not, the empty text.
-abbrev pub name_in : Core → ℕ → List ℕ
-name_in core index = option_map_or (λ (task : Task). task.name) (slice_get core.tasks index) []
+-- The name of an object; of one that there is not, the empty text.
+abbrev pub name_in : ObjectKind → Core → ℕ → List ℕ
+name_in ObjectKind.Task core index = option_map_or (λ (task : Task). task.name) (slice_get core.tasks index) []
+name_in ObjectKind.Alarm core index = option_map_or (λ (alarm : Alarm). alarm.name) (slice_get core.alarms index) []
 
-abbrev pub task_name : Plan → TaskRef → List ℕ
-task_name plan task = option_map_or (λ (core : Core). name_in core task.index) (core_of plan task.core) []
+abbrev pub object_name : Plan → ObjectKind → Place → List ℕ
+object_name plan kind place = option_map_or (λ (core : Core). name_in kind core place.index) (core_of plan place.core) []
 
 -- ---- scripts
 
--- A task's place in an operation: its name, or `?` for the invalid identifier.
-abbrev pub target_text : Plan → Option TaskRef → List ℕ
-target_text plan None = codes "?"
-target_text plan (Some task) = task_name plan task
-
 -- The words of an operation, divided by one space.
 abbrev pub op_text : Plan → Op → List ℕ
-op_text plan Work = codes "work"
-op_text plan (ActivateTask target) = codes "ActivateTask " ++ target_text plan target
-op_text plan TerminateTask = codes "TerminateTask"
+op_text plan op = forms.op_text (object_name plan) op
 
 -- The operations of a script, divided by `;`.
 abbrev pub script_text : Plan → List Op → List ℕ

@@ -6,12 +6,14 @@ ghost use Rattle.osconf.specs.declared.shapes.CoreText.{CoreText as Core};
 ghost use Rattle.osconf.specs.declared.shapes.TaskText.{TaskText as Task};
 ghost use Rattle.osplan.specs.Expressible.{mode_name};
 ghost use Rattle.osconf.specs.Fault.{failing, first_fault};
-ghost use Rattle.osconf.specs.Check.{is_between, is_task_within, is_core_within, is_within, has_name, core_has_name, is_first_named, are_tasks_distinct, same_number, is_apart, is_first_apart, are_cores_distinct, is_each_once, is_task_name, is_operation_known, are_operations_known, is_mode_name, is_task_known, is_core_known, are_known, are_operations, tests_of};
+ghost use Rattle.osconf.specs.Operation.{has_name, is_operation_known};
+ghost use Rattle.osconf.specs.Check.{is_between, is_task_within, is_core_within, is_within, core_has_name, is_first_named, are_tasks_distinct, same_number, is_apart, is_first_apart, are_cores_distinct, is_each_once, are_operations_known, is_mode_name, is_task_known, is_core_known, are_known, are_operations, tests_of};
 
-use crate::scripts::{OpText, form_of};
+use crate::places::{Objects, has_name};
 use crate::shapes::{ConfigText, CoreText, TaskText, Whole};
 use crate::words::part_count;
 use osbase::Name;
+use osforms::is_known;
 use osplan::ConfFault;
 
 /// The name of the only mode.
@@ -78,14 +80,6 @@ fn is_within(text: &ConfigText) -> bool
         && 1 <= text.cores.len()
         && text.cores.len() <= CORES
         && are_cores_within(text.cores.as_slice())
-}
-
-/// Whether the task has this name. Names commonly begin alike, so their ends are compared first.
-pub fn has_name(name: &str, task: &TaskText) -> bool
-    ensures { result ≡ has_name name.now task.now }
-{
-    let own = task.name.as_str();
-    own.as_bytes().last() == name.as_bytes().last() && own == name
 }
 
 fn is_name_in(name: &str, tasks: &[TaskText]) -> bool
@@ -183,19 +177,10 @@ fn is_each_once(text: &ConfigText) -> bool
     are_cores_distinct(cores) && has_no_mode_name(cores)
 }
 
-fn is_task_name(cores: &[CoreText], name: &str) -> bool
-    ensures { result ≡ is_task_name cores.now name.now }
-{
-    cores.iter().any(|core| core_has_name(name, core))
-}
-
 fn is_operation_known(cores: &[CoreText], text: &str) -> bool
     ensures { result ≡ is_operation_known cores.now text.now }
 {
-    match form_of(text) {
-        Some(OpText::ActivateTask(Some(name))) => is_task_name(cores, name),
-        _ => true,
-    }
+    is_known(&Objects { cores }, text)
 }
 
 fn are_parts_known(cores: &[CoreText], script: &str) -> bool

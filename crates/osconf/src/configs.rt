@@ -1,12 +1,11 @@
 //! Reading a configuration.
 
-ghost use Rattle.std.specs.Prelude.{◌≡◌, ◌≢◌, IfOk, IfErr, Some, [], true};
-ghost use Rattle.std.specs.List.{list_all};
+ghost use Rattle.std.specs.Prelude.{◌≡◌, ◌≢◌, IfOk, IfErr, Some, []};
 ghost use Rattle.serde_json.specs.Read.{read};
 ghost use Rattle.serde_json.specs.View.{view};
 ghost use Rattle.osconf.specs.Shape.{config_shape};
 ghost use Rattle.osconf.specs.Fault.{failing, first_fault};
-ghost use Rattle.osconf.specs.Check.{has_named_tasks, tests_of};
+ghost use Rattle.osconf.specs.Check.{tests_of};
 ghost use Rattle.osconf.specs.Meaning.{plan_of, config_of, IsLeastFault};
 ghost use Rattle.osconf.specs.Reading.{GivesOr};
 
@@ -46,7 +45,6 @@ fn shape_of(alloc: Global, value: &Value) -> Result<ConfigText, ConfFault>
 
 // Names and operations are judged while the plan is made, and again where it cannot be.
 fn plan_if_faultless(alloc: Global, text: &ConfigText) -> Result<Plan, ConfFault>
-    requires named { list_all has_named_tasks text.now.cores ≡ true }
     ensures ok { IfOk result (λ plan. (failing (tests_of text.now) ≡ []) × (plan ≡ plan_of text.now)) }
     ensures fault { IfErr result (λ fault. fault ≢ ConfFault.NoMemory → first_fault (failing (tests_of text.now)) ≡ Some fault) }
 {

@@ -10,8 +10,8 @@ mod checks;
 mod configs;
 mod given;
 mod members;
+mod places;
 mod plans;
-mod scripts;
 mod shapes;
 #[cfg(test)]
 mod tests;

@@ -6,8 +6,7 @@ ghost use Rattle.serde_json.specs.View.{view};
 ghost use Rattle.osconf.specs.Reading.{Gives, each, whole_of, if_name, name_of, values_of, member_of, member_or};
 ghost use Rattle.osconf.specs.declared.members.Refusal.TheVariants.{OutOfMemory};
 
-use crate::words::is_name;
-use osbase::{List as Items, Name};
+use osbase::{List as Items, Name, is_name};
 use serde_json::Value;
 use std::alloc::{AllocError, AllocFailed, Global};
 

@@ -1,115 +1,35 @@
 //! The configuration that a text without a fault means.
 
-ghost use Rattle.std.specs.Prelude.{◌≡◌, ◌&&◌, ℕ, true, IfOk, List as Items, [], map, position, option_map};
+ghost use Rattle.std.specs.Prelude.{◌≡◌, ◌&&◌, ℕ, IfOk, List as Items, map};
 ghost use Rattle.std.specs.List.{list_all};
 ghost use Rattle.osconf.specs.Reading.{Gives, value_if};
-ghost use Rattle.osconf.specs.Operation.{activate, operations_of, target_of, lone_form, form_of};
-ghost use Rattle.osconf.specs.Check.{has_name, has_named_tasks, are_operations_known, is_task_known, is_core_known, are_known, is_operation, is_task_script, is_core_script, are_operations};
-ghost use Rattle.osconf.specs.Meaning.{byte_of, number_id, id_of, task_of_core, task_place, op_of, known_op, only_mode, task_plan, core_plan, plan_of};
+ghost use Rattle.osconf.specs.Operation.{number_id, is_operation, known_op, op_of, operations_of};
+ghost use Rattle.osconf.specs.Check.{are_operations_known, is_task_known, is_core_known, are_known, is_task_script, is_core_script, are_operations};
+ghost use Rattle.osconf.specs.Meaning.{only_mode, task_plan, core_plan, plan_of};
 
-use crate::checks::{MODE, are_mode_names, has_core, has_name};
+use crate::checks::{MODE, are_mode_names, has_core};
 use crate::members::Refusal;
+use crate::places::{Objects, byte_of, id_of};
 use crate::shapes::{ConfigText, CoreText, TaskText, Whole};
-use osbase::{CoreId, List, ModeId, Name, TaskRef};
+use osbase::{CoreId, List, ModeId, Name};
 use oscript::{Op, Script};
+use osforms::op_meant;
 use osplan::{Core, CoreMode, Plan, Task};
 use std::alloc::{AllocError, Global};
 
 /// The only mode.
 const ONLY_MODE: ModeId = ModeId { index: 0 };
 
-/// A number as a byte: 0 where it is none, which no text within the limits has.
-fn byte_of(number: Whole) -> u8
-    ensures { result ≡ byte_of number }
-{
-    match number {
-        Some(number) => { if number <= 255 { number as u8 } else { 0 } }
-        None => 0,
-    }
-}
-
-fn id_of(core: &CoreText) -> CoreId
-    ensures { result ≡ id_of core.now }
-{
-    CoreId {
-        number: byte_of(core.id),
-    }
-}
-
-fn position_of(name: &str, tasks: &[TaskText]) -> Option<usize>
-    ensures { result ≡ position (has_name name.now) tasks.now }
-{
-    tasks.iter().position(|task| has_name(name, task))
-}
-
-fn task_of_core(name: &str, core: &CoreText) -> Option<TaskRef>
-    ensures { result ≡ task_of_core name.now core.now }
-{
-    let index = position_of(name, core.tasks.as_slice())?;
-    Some(TaskRef {
-        core: id_of(core),
-        index: byte_of(Some(index as u64)),
-    })
-}
-
-fn task_place(cores: &[CoreText], name: &str) -> Option<TaskRef>
-    ensures { result ≡ task_place cores.now name.now }
-{
-    for core in cores {
-        if let Some(task) = task_of_core(name, core) {
-            return Some(task);
-        }
-    }
-    None
-}
-
-fn lone_op(name: &str) -> Option<Op>
-    ensures { result ≡ known_op [] (lone_form name.now) }
-{
-    if name == "work" {
-        return Some(Op::Work);
-    }
-    if name == "TerminateTask" {
-        return Some(Op::TerminateTask);
-    }
-    None
-}
-
-// A task's name is in form, so the letters of an argument need no judging.
-fn activation_of(cores: &[CoreText], argument: &str) -> Option<Op>
-    requires named { list_all has_named_tasks cores.now ≡ true }
-    ensures { result ≡ known_op cores.now (option_map activate (target_of argument.now)) }
-{
-    if argument == "?" {
-        return Some(Op::ActivateTask(None));
-    }
-    let task = task_place(cores, argument)?;
-    Some(Op::ActivateTask(Some(task)))
-}
-
-// No other operation has an argument.
-fn op_of(cores: &[CoreText], text: &str) -> Option<Op>
-    requires named { list_all has_named_tasks cores.now ≡ true }
-    ensures { result ≡ known_op cores.now (form_of text.now) }
-{
-    match text.strip_prefix("ActivateTask ") {
-        Some(argument) => activation_of(cores, argument),
-        None => lone_op(text),
-    }
-}
-
 fn read_op(cores: &[CoreText], text: &str) -> Result<Op, Refusal>
-    requires named { list_all has_named_tasks cores.now ≡ true }
-    ensures { Gives (λ x. x) result (known_op cores.now (form_of text.now)) }
+    ensures { Gives (λ x. x) result (known_op cores.now text.now) }
 {
-    match op_of(cores, text) {
+    match op_meant(&Objects { cores }, text) {
         Some(op) => Ok(op),
         None => Err(Refusal::Unfit),
     }
 }
 
 fn script_of(alloc: Global, cores: &[CoreText], script: &str) -> Result<Script, Refusal>
-    requires named { list_all has_named_tasks cores.now ≡ true }
     ensures { Gives (λ x. x) result (value_if (are_operations_known cores.now script.now && list_all is_operation (operations_of script.now)) (map (op_of cores.now) (operations_of script.now))) }
 {
     let mut ops = List::new(alloc);
@@ -133,7 +53,6 @@ fn modes_of(alloc: Global, names: &[Name]) -> Result<List<ModeId>, AllocError>
 }
 
 fn task_plan(alloc: Global, cores: &[CoreText], task: &TaskText) -> Result<Task, Refusal>
-    requires named { list_all has_named_tasks cores.now ≡ true }
     ensures { Gives (λ x. x) result (value_if (is_task_known cores.now task.now && is_task_script task.now) (task_plan cores.now task.now)) }
 {
     if !are_mode_names(task.auto.as_slice()) {
@@ -149,7 +68,6 @@ fn task_plan(alloc: Global, cores: &[CoreText], task: &TaskText) -> Result<Task,
 }
 
 fn tasks_of(alloc: Global, cores: &[CoreText], tasks: &[TaskText]) -> Result<List<Task>, Refusal>
-    requires named { list_all has_named_tasks cores.now ≡ true }
     ensures { Gives (λ x. x) result (value_if (list_all (is_task_known cores.now) tasks.now && list_all is_task_script tasks.now) (map (task_plan cores.now) tasks.now)) }
 {
     let mut plans = List::new(alloc);
@@ -172,7 +90,6 @@ fn ids_of(alloc: Global, numbers: &[Whole]) -> Result<List<CoreId>, AllocError>
 }
 
 fn core_plan(alloc: Global, cores: &[CoreText], core: &CoreText) -> Result<Core, Refusal>
-    requires named { list_all has_named_tasks cores.now ≡ true }
     ensures { Gives (λ x. x) result (value_if (is_core_known cores.now core.now && is_core_script core.now) (core_plan cores.now core.now)) }
 {
     Ok(Core {
@@ -187,7 +104,6 @@ fn core_plan(alloc: Global, cores: &[CoreText], core: &CoreText) -> Result<Core,
 }
 
 fn cores_of(alloc: Global, cores: &[CoreText]) -> Result<List<Core>, Refusal>
-    requires named { list_all has_named_tasks cores.now ≡ true }
     ensures { Gives (λ x. x) result (value_if (list_all (is_core_known cores.now) cores.now && list_all is_core_script cores.now) (map (core_plan cores.now) cores.now)) }
 {
     let mut plans = List::new(alloc);
@@ -199,7 +115,6 @@ fn cores_of(alloc: Global, cores: &[CoreText]) -> Result<List<Core>, Refusal>
 
 /// The plan of a text. `Unfit` where a name in it names nothing, or an operation is not in good form.
 pub fn plan_of(alloc: Global, text: &ConfigText) -> Result<Plan, Refusal>
-    requires named { list_all has_named_tasks text.now.cores ≡ true }
     ensures { Gives (λ x. x) result (value_if (are_known text.now && are_operations text.now) (plan_of text.now)) }
 {
     let cores = text.cores.as_slice();

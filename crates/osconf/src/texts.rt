@@ -1,12 +1,13 @@
 //! Writing: the JSON text of a configuration.
 
-ghost use Rattle.std.specs.Prelude.{◌≡◌, IfOk, Some, string_bytes, ◌++◌, codes};
+ghost use Rattle.std.specs.Prelude.{◌≡◌, IfOk, Some, string_bytes};
 ghost use Rattle.serde_json.specs.View.{view};
 ghost use Rattle.osconf.specs.Meaning.{config_of};
-ghost use Rattle.osconf.specs.Writing.{mode_text, name_in, task_name, op_text, script_text, id_data, mode_data, list_data, task_data, core_data, config_data, config_text};
+ghost use Rattle.osconf.specs.Writing.{mode_text, name_in, object_name, script_text, id_data, mode_data, list_data, task_data, core_data, config_data, config_text};
 
-use osbase::{CoreId, ModeId, TaskRef};
+use osbase::{CoreId, ModeId, ObjectKind, Place};
 use oscript::Op;
+use osforms::{Names, op_text};
 use osplan::{Config, Core, Plan, Task};
 use serde_json::{Value, json};
 use std::alloc::{AllocError, Global};
@@ -20,49 +21,54 @@ fn mode_text(plan: &Plan, mode: ModeId) -> &str
     }
 }
 
-fn name_in(core: &Core, index: u8) -> &str
-    ensures { result.now ≡ name_in core.now index }
+fn name_in(kind: ObjectKind, core: &Core, index: u8) -> &str
+    ensures { result.now ≡ name_in kind core.now index }
 {
-    match core.tasks.as_slice().get(usize::from(index)) {
-        Some(task) => task.name.as_str(),
+    let index = usize::from(index);
+    match kind {
+        ObjectKind::Task => match core.tasks.as_slice().get(index) {
+            Some(task) => task.name.as_str(),
+            None => "",
+        },
+        ObjectKind::Alarm => match core.alarms.as_slice().get(index) {
+            Some(alarm) => alarm.name.as_str(),
+            None => "",
+        },
+    }
+}
+
+fn object_name(plan: &Plan, kind: ObjectKind, place: Place) -> &str
+    ensures { result.now ≡ object_name plan.now kind place }
+{
+    match plan.core(place.core) {
+        Some(core) => name_in(kind, core, place.index),
         None => "",
     }
 }
 
-fn task_name(plan: &Plan, task: TaskRef) -> &str
-    ensures { result.now ≡ task_name plan.now task }
-{
-    match plan.core(task.core) {
-        Some(core) => name_in(core, task.index),
-        None => "",
-    }
+// The names of a plan's objects.
+#[derive(Clone, Copy, Debug)]
+struct ObjectNames<'p> {
+    plan: &'p Plan,
 }
 
-fn op_text(alloc: Global, plan: &Plan, op: Op) -> Result<String, AllocError>
-    ensures { IfOk result (λ text. string_bytes text ≡ op_text plan.now op) }
-{
-    match op {
-        Op::Work => String::from_str(alloc, "work"),
-        Op::ActivateTask(Some(task)) => activation_text(alloc, task_name(plan, task)),
-        Op::ActivateTask(None) => activation_text(alloc, "?"),
-        Op::TerminateTask => String::from_str(alloc, "TerminateTask"),
-    }
-}
+impl Names for ObjectNames<'_> {
+    ghost use Rattle.osconf.specs.Writing.{object_name};
 
-fn activation_text(alloc: Global, target: &str) -> Result<String, AllocError>
-    ensures { IfOk result (λ text. string_bytes text ≡ codes "ActivateTask " ++ target.now) }
-{
-    let mut text = String::from_str(alloc, "ActivateTask ")?;
-    text.push_str(target)?;
-    Ok(text)
+    ghost name = { λ names. object_name names.plan.now };
+
+    fn name(&self, kind: ObjectKind, place: Place) -> &str {
+        object_name(self.plan, kind, place)
+    }
 }
 
 fn script_text(alloc: Global, plan: &Plan, script: &[Op]) -> Result<String, AllocError>
     ensures { IfOk result (λ text. string_bytes text ≡ script_text plan.now script.now) }
 {
+    let names = ObjectNames { plan };
     let mut texts = Vec::new(alloc);
     for op in script {
-        texts.push(op_text(alloc, plan, *op)?)?;
+        texts.push(op_text(alloc, &names, *op)?)?;
     }
     texts.join(alloc, ";")
 }

@@ -1,36 +1,10 @@
-//! Names, numbers and the parts of a text.
+//! Numbers and the parts of a text.
 
 ghost use Rattle.std.specs.Prelude.{◌≡◌, ◌==◌, ◌≤◌, count_by, length};
-ghost use Rattle.std.specs.List.{list_all};
-ghost use Rattle.osplan.specs.Expressible.{is_name, is_name_part};
 ghost use Rattle.osconf.specs.Word.{parts_of, digit_of, two_digits, core_number};
 
 /// The most bytes of a run, whose count is a byte.
 const RUN: usize = 240;
-
-/// Whether a text has the form of a name: 1 to 128 letters, digits and underscores, a letter first.
-pub fn is_name(text: &str) -> bool
-    ensures { result ≡ is_name text.now }
-{
-    match text.as_bytes() {
-        [] => false,
-        [first, others @ ..] => {
-            first.is_ascii_alphabetic() && others.len() <= 127 && are_name_parts(others)
-        }
-    }
-}
-
-fn are_name_parts(text: &[u8]) -> bool
-    ensures { result ≡ list_all is_name_part text.now }
-{
-    text.iter().all(|c| is_name_part(*c))
-}
-
-fn is_name_part(c: u8) -> bool
-    ensures { result ≡ is_name_part c }
-{
-    c.is_ascii_alphanumeric() || c == b'_'
-}
 
 /// The value of a decimal digit.
 fn digit_of(c: u8) -> Option<u8>

@@ -1,22 +1,21 @@
 -- Where a job stands in its script, read off a history.
-use Rattle.std.specs.Prelude.{◌+◌, ℤ, pos, Bool, true, false, if◌then◌else◌, Option, List, [], ◌∷◌, slice_get}
+use Rattle.std.specs.Prelude.{◌+◌, ℤ, pos, Bool, if◌then◌else◌, Option, is_some, List, [], ◌∷◌, slice_get}
 use Rattle.std.specs.Option.{option_map_or}
 use Rattle.osbase.specs.declared.statuses.Status.{Status}
 use Rattle.osbase.specs.declared.statuses.Status.TheVariants.{EOk}
 use Rattle.osbase.specs.declared.references.Runner.{Runner}
 use Rattle.osbase.specs.declared.marks.Mark.TheVariants as Mark
-use Rattle.osbase.specs.History.{History, Printed, Noted, Done, same_runner}
+use Rattle.osbase.specs.History.{Entry, History, Printed, Noted, Done, same_runner}
 use Rattle.oscript.specs.declared.Op.{Op}
-use Rattle.oscript.specs.declared.Op.TheVariants.{Work, ActivateTask, TerminateTask}
 use Rattle.oscript.specs.declared.Frame.{Frame}
 use Rattle.oscript.specs.declared.Action.{Action}
 use Rattle.oscript.specs.declared.Action.TheVariants.{Perform, End}
+use Rattle.oscript.specs.Rows.{service_of}
+use Rattle.oscript.specs.Rows.{form_of_op}
 
--- Services answer a status; work does not. [own]
+-- An operation that calls a service answers a status; another does not. [own]
 abbrev pub op_has_status : Op → Bool
-op_has_status Work = false
-op_has_status (ActivateTask t) = true
-op_has_status TerminateTask = true
+op_has_status op = is_some (service_of (form_of_op op).0)
 
 -- What a job does at its place: the operation there, or its end past the last. [own]
 abbrev pub action_at : List Op → Frame → Action
@@ -41,9 +40,12 @@ completed script frame status value = completed_by (action_at script frame) fram
 -- Where the oldest live job of the runner stands, or its next job will begin: the operations done by
 -- its jobs applied in order, each job from operation 0. [own]
 -- The code keeps one frame for each task.
+abbrev pub frame_after : List Op → Runner → Entry → Frame → Frame
+frame_after script r (Noted (Done q status value)) frame = if same_runner q r then completed script frame status value else frame
+frame_after script r (Printed (Mark.Terminated t)) frame = if same_runner (Runner.Task t) r then rewound frame else frame
+frame_after script r (Printed (Mark.IsrLeft i)) frame = if same_runner (Runner.Isr i) r then rewound frame else frame
+frame_after script r e frame = frame
+
 abbrev pub frame_of : List Op → Runner → History → Frame
 frame_of script r [] = new_frame
-frame_of script r (Noted (Done q status value) ∷ h) = if same_runner q r then completed script (frame_of script r h) status value else frame_of script r h
-frame_of script r (Printed (Mark.Terminated t) ∷ h) = if same_runner (Runner.Task t) r then rewound (frame_of script r h) else frame_of script r h
-frame_of script r (Printed (Mark.IsrLeft i) ∷ h) = if same_runner (Runner.Isr i) r then rewound (frame_of script r h) else frame_of script r h
-frame_of script r (e ∷ h) = frame_of script r h
+frame_of script r (e ∷ h) = frame_after script r e (frame_of script r h)

@@ -1,10 +1,13 @@
 //! Scripts: what a job does, operation by operation, and where it stands in them.
 #![tactic(auto)]
 
+pub mod rows;
+
 ghost use Rattle.std.specs.Prelude.{◌≡◌};
 ghost use Rattle.oscript.specs.Frames.{action_at, completed, new_frame, op_has_status, rewound};
 
 use osbase::{List, Status, TaskRef};
+pub use rows::{Arg, Args, Form, Kind, Row, VERBS, Verb, form_of_op, op_of, row_of};
 
 /// One operation of a script. In place of an object, `None` is the invalid identifier, `?`.
 #[derive(Clone, Copy, Debug, PartialEq, Eq)]
@@ -22,11 +25,7 @@ impl Op {
     pub fn has_status(self) -> bool
         ensures { result ≡ op_has_status self }
     {
-        match self {
-            Op::Work => false,
-            Op::ActivateTask(_) => true,
-            Op::TerminateTask => true,
-        }
+        row_of(form_of_op(self).verb).service.is_some()
     }
 }
 

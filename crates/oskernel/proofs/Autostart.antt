@@ -1,5 +1,5 @@
 -- Autostart, task by task.
-use Rattle.std.proofs.Common.{◌≡◌, ℕ, zero, suc, ◌+◌, ◌≤◌, ◌<◌, Bool, true, false, cond, Option, Some, List, [], ◌∷◌, ◌++◌, length, take, refl, ap, sym, subst, ◌∙◌, arith, nat_le, map, get_or, add-one, append_assoc, length-append}
+use Rattle.std.proofs.Common.{◌≡◌, ℕ, zero, suc, ◌+◌, ◌≤◌, ◌<◌, Bool, true, false, cond, Option, Some, List, [], ◌∷◌, ◌++◌, length, take, refl, ap, sym, subst, ◌∙◌, arith, nat_le, map, get_or, add-one}
 use Rattle.std.specs.List.{slice_get, enumerate_from, list_all}
 use Rattle.std.proofs.lemmas.Bool.{false_from_ne_true, leb-true, and_parts}
 use Rattle.std.proofs.lemmas.Option.{slice_get-get_or}
@@ -9,28 +9,27 @@ use Rattle.osbase.specs.declared.references.Runner.{Runner}
 use Rattle.osbase.specs.declared.items.Agreement.{Agreement}
 use Rattle.osbase.specs.declared.histories.Job.{Job}
 use Rattle.osbase.specs.History.{History, agreement_of, same_runner, same_core, job_count}
+use Rattle.osplan.specs.declared.plans.Core.{Core}
 use Rattle.osplan.specs.declared.plans.Task.{Task}
 use Rattle.osplan.specs.View.{View}
 use Rattle.osstate.specs.Readings.{task_refs}
-use Rattle.osbase.specs.declared.marks.Mark.{Mark}
-use Rattle.osstate.specs.Does.{Adds, StaysInItem}
 use Rattle.osstate.specs.State.{KernelState, Stands}
 use Rattle.osstate.specs.Sound.{activation_limit}
-use Rattle.osstate.proofs.Same.{same_runner-true, same_core-refl}
+use Rattle.osbase.proofs.Same.{same_runner-true, same_core-refl}
 use Rattle.osstate.proofs.JobLists.{job_count-append}
-use Rattle.oscall.specs.Service.{activates}
-use Rattle.oskernel.specs.Step.{autostarts, names_mode}
+use Rattle.oscall.specs.Tasks.{activates}
+use Rattle.oskernel.specs.Step.{autostarts, starts_in}
 
 abbrev pub ref_at : CoreId → ℕ → TaskRef
 ref_at core n = record { core = core; index = n }
 
 -- one task more
-pub autostarts-more : (agreement : Option Agreement) (ps : List (TaskRef × Task)) (i : ℕ) (p : TaskRef × Task) (h : History) → slice_get ps i ≡ Some p → autostarts agreement (take (suc i) ps) h ≡ cond (names_mode agreement p.1) (activates p.0 (autostarts agreement (take i ps) h)) (autostarts agreement (take i ps) h)
+pub autostarts-more : (agreement : Option Agreement) (ps : List (TaskRef × Task)) (i : ℕ) (p : TaskRef × Task) (h : History) → slice_get ps i ≡ Some p → autostarts agreement (take (suc i) ps) h ≡ cond (starts_in agreement p.1) (activates p.0 (autostarts agreement (take i ps) h)) (autostarts agreement (take i ps) h)
 autostarts-more agreement [] i p h e = cc
 autostarts-more agreement (q ∷ ps) zero p h e =
     let same : q ≡ p = cc in
-    ap (λ (r : TaskRef × Task). cond (names_mode agreement r.1) (activates r.0 h) h) same
-autostarts-more agreement (q ∷ ps) (suc i) p h e = autostarts-more agreement ps i p (cond (names_mode agreement q.1) (activates q.0 h) h) e
+    ap (λ (r : TaskRef × Task). cond (starts_in agreement r.1) (activates r.0 h) h) same
+autostarts-more agreement (q ∷ ps) (suc i) p h e = autostarts-more agreement ps i p (cond (starts_in agreement q.1) (activates q.0 h) h) e
 
 refs-at : (core : CoreId) (n i : ℕ) (t : Task) (xs : List Task) → slice_get xs i ≡ Some t → slice_get (map (λ (p : ℕ × Task). let q : TaskRef × Task = (ref_at core p.0, p.1) in q) (enumerate_from n xs)) i ≡ Some (ref_at core (n + i), t)
 refs-at core n i t [] e = cc
@@ -41,14 +40,14 @@ refs-at core n (suc i) t (x ∷ xs) e =
     refs-at core (n + 1) i t xs e ∙ ap (λ (m : ℕ). Some (ref_at core m, t)) (let next : (n + 1) + i ≡ n + suc i = omega arith in next)
 
 -- the task at a place, with its reference
-pub task_refs-at : (v : View) (i : ℕ) (t : Task) → slice_get v.tasks i ≡ Some t → slice_get (task_refs v) i ≡ Some (ref_at v.core i, t)
-task_refs-at v i t e = refs-at v.core 0 i t v.tasks e ∙ ap (λ (m : ℕ). Some (ref_at v.core m, t)) (let same : 0 + i ≡ i = omega arith in same)
+pub task_refs-at : (own : Core) (i : ℕ) (t : Task) → slice_get own.tasks i ≡ Some t → slice_get (task_refs own) i ≡ Some (ref_at own.id i, t)
+task_refs-at own i t e = refs-at own.id 0 i t own.tasks e ∙ ap (λ (m : ℕ). Some (ref_at own.id m, t)) (let same : 0 + i ≡ i = omega arith in same)
 
 -- a task that has no job yet may have one
-pub place-for-first : (v : View) (js : List Job) (i : ℕ) (t : Task) → list_all (λ (u : Task). nat_le 1 u.activations) v.tasks ≡ true → slice_get v.tasks i ≡ Some t → job_count (Runner.Task (ref_at v.core i)) js ≡ 0 → job_count (Runner.Task (ref_at v.core i)) js < activation_limit v (Runner.Task (ref_at v.core i))
-place-for-first v js i t some e none =
-    let limit : activation_limit v (Runner.Task (ref_at v.core i)) ≡ t.activations = rw (same_core-refl v.core, e) in
-    omega (arith, limit, none, at_least v.tasks i t some e)
+pub place-for-first : (own : Core) (js : List Job) (i : ℕ) (t : Task) → list_all (λ (u : Task). nat_le 1 u.activations) own.tasks ≡ true → slice_get own.tasks i ≡ Some t → job_count (Runner.Task (ref_at own.id i)) js ≡ 0 → job_count (Runner.Task (ref_at own.id i)) js < activation_limit own (Runner.Task (ref_at own.id i))
+place-for-first own js i t some e none =
+    let limit : activation_limit own (Runner.Task (ref_at own.id i)) ≡ t.activations = rw (same_core-refl own.id, e) in
+    omega (arith, limit, none, at_least own.tasks i t some e)
   where
     at_least : (xs : List Task) (i : ℕ) (t : Task) → list_all (λ (u : Task). nat_le 1 u.activations) xs ≡ true → slice_get xs i ≡ Some t → 1 ≤ t.activations
     at_least [] i t all e = cc
@@ -86,23 +85,23 @@ task-at tasks tasks' place t same within is =
     subst (λ (xs : List Task). slice_get xs place ≡ Some t) same (slice_get-get_or tasks place t within ∙ ap (λ (u : Task). Some u) (sym is))
 
 -- in the loop over the tasks: the next one has a place for its first job
-pub next-place : (old now : KernelState) (tasks : List Task) (core : CoreId) (index place : ℕ) (t : Task) → now.view ≡ old.view → tasks ≡ old.view.tasks → core ≡ old.view.core → list_all (λ (u : Task). nat_le 1 u.activations) old.view.tasks ≡ true → index ≡ place → place < length tasks → t ≡ get_or tasks place t → ((k : ℕ) → place ≤ k → job_count (Runner.Task (ref_at core k)) now.jobs ≡ 0) → job_count (Runner.Task (ref_at core index)) now.jobs < activation_limit now.view (Runner.Task (ref_at core index))
+pub next-place : (old now : KernelState) (tasks : List Task) (core : CoreId) (index place : ℕ) (t : Task) → now.view ≡ old.view → tasks ≡ old.view.own.tasks → core ≡ old.view.own.id → list_all (λ (u : Task). nat_le 1 u.activations) old.view.own.tasks ≡ true → index ≡ place → place < length tasks → t ≡ get_or tasks place t → ((k : ℕ) → place ≤ k → job_count (Runner.Task (ref_at core k)) now.tasks.jobs ≡ 0) → job_count (Runner.Task (ref_at core index)) now.tasks.jobs < activation_limit now.view.own (Runner.Task (ref_at core index))
 next-place old now tasks core index place t same_view same_tasks same_core some same_index within is none =
-    let own : Runner.Task (ref_at core index) ≡ Runner.Task (ref_at old.view.core place) = ap (λ (c : CoreId). Runner.Task (ref_at c index)) same_core ∙ ap (λ (n : ℕ). Runner.Task (ref_at old.view.core n)) same_index in
-    let none_here : job_count (Runner.Task (ref_at old.view.core place)) now.jobs ≡ 0 = subst (λ (c : CoreId). job_count (Runner.Task (ref_at c place)) now.jobs ≡ 0) same_core (none place (omega arith)) in
-    let base = place-for-first old.view now.jobs place t some (task-at tasks old.view.tasks place t same_tasks within is) none_here in
-    subst (λ (v : View). job_count (Runner.Task (ref_at core index)) now.jobs < activation_limit v (Runner.Task (ref_at core index))) (sym same_view)
-    (subst (λ (r : Runner). job_count r now.jobs < activation_limit old.view r) (sym own) base)
+    let own : Runner.Task (ref_at core index) ≡ Runner.Task (ref_at old.view.own.id place) = ap (λ (c : CoreId). Runner.Task (ref_at c index)) same_core ∙ ap (λ (n : ℕ). Runner.Task (ref_at old.view.own.id n)) same_index in
+    let none_here : job_count (Runner.Task (ref_at old.view.own.id place)) now.tasks.jobs ≡ 0 = subst (λ (c : CoreId). job_count (Runner.Task (ref_at c place)) now.tasks.jobs ≡ 0) same_core (none place (omega arith)) in
+    let base = place-for-first old.view.own now.tasks.jobs place t some (task-at tasks old.view.own.tasks place t same_tasks within is) none_here in
+    subst (λ (v : View). job_count (Runner.Task (ref_at core index)) now.tasks.jobs < activation_limit v.own (Runner.Task (ref_at core index))) (sym same_view)
+    (subst (λ (r : Runner). job_count r now.tasks.jobs < activation_limit old.view.own r) (sym own) base)
 
 -- and it is the next one of autostart
-pub next-start : (v : View) (old : KernelState) (h : History) (tasks : List Task) (core : CoreId) (index place : ℕ) (t : Task) (agreement : Option Agreement) → Stands v h old → tasks ≡ old.view.tasks → core ≡ old.view.core → index ≡ place → place < length tasks → t ≡ get_or tasks place t → autostarts agreement (take (place + 1) (task_refs v)) h ≡ cond (names_mode agreement t) (activates (ref_at core index) (autostarts agreement (take place (task_refs v)) h)) (autostarts agreement (take place (task_refs v)) h)
+pub next-start : (v : View) (old : KernelState) (h : History) (tasks : List Task) (core : CoreId) (index place : ℕ) (t : Task) (agreement : Option Agreement) → Stands v h old → tasks ≡ old.view.own.tasks → core ≡ old.view.own.id → index ≡ place → place < length tasks → t ≡ get_or tasks place t → autostarts agreement (take (place + 1) (task_refs v.own)) h ≡ cond (starts_in agreement t) (activates (ref_at core index) (autostarts agreement (take place (task_refs v.own)) h)) (autostarts agreement (take place (task_refs v.own)) h)
 next-start v old h tasks core index place t agreement stands same_tasks same_core same_index within is =
     let view_is : old.view ≡ v = ap (λ (s : KernelState). s.view) stands.is in
-    let at : slice_get v.tasks place ≡ Some t = task-at tasks v.tasks place t (same_tasks ∙ ap (λ (w : View). w.tasks) view_is) within is in
-    let own : ref_at v.core place ≡ ref_at core index = ap (λ (c : CoreId). ref_at c place) (sym (same_core ∙ ap (λ (w : View). w.core) view_is)) ∙ ap (ref_at core) (sym same_index) in
-    ap (λ (n : ℕ). autostarts agreement (take n (task_refs v)) h) (add-one place)
-    ∙ autostarts-more agreement (task_refs v) place (ref_at v.core place, t) h (task_refs-at v place t at)
-    ∙ ap (λ (r : TaskRef). cond (names_mode agreement t) (activates r (autostarts agreement (take place (task_refs v)) h)) (autostarts agreement (take place (task_refs v)) h)) own
+    let at : slice_get v.own.tasks place ≡ Some t = task-at tasks v.own.tasks place t (same_tasks ∙ ap (λ (w : View). w.own.tasks) view_is) within is in
+    let own : ref_at v.own.id place ≡ ref_at core index = ap (λ (c : CoreId). ref_at c place) (sym (same_core ∙ ap (λ (w : View). w.own.id) view_is)) ∙ ap (ref_at core) (sym same_index) in
+    ap (λ (n : ℕ). autostarts agreement (take n (task_refs v.own)) h) (add-one place)
+    ∙ autostarts-more agreement (task_refs v.own) place (ref_at v.own.id place, t) h (task_refs-at v.own place t at)
+    ∙ ap (λ (r : TaskRef). cond (starts_in agreement t) (activates r (autostarts agreement (take place (task_refs v.own)) h)) (autostarts agreement (take place (task_refs v.own)) h)) own
 
 take-whole : (ps : List (TaskRef × Task)) (i : ℕ) → length ps ≤ i → take i ps ≡ ps
 take-whole [] zero h = refl
@@ -115,25 +114,9 @@ refs-length core n [] = refl
 refs-length core n (x ∷ xs) = ap suc (refs-length core (n + 1) xs)
 
 -- past the last task autostart is done
-pub all-started : (v : View) (old : KernelState) (h : History) (tasks : List Task) (place : ℕ) (agreement : Option Agreement) → Stands v h old → tasks ≡ old.view.tasks → length tasks ≤ place → agreement ≡ agreement_of h → autostarts agreement (take place (task_refs v)) h ≡ autostarts (agreement_of h) (task_refs v) h
+pub all-started : (v : View) (old : KernelState) (h : History) (tasks : List Task) (place : ℕ) (agreement : Option Agreement) → Stands v h old → tasks ≡ old.view.own.tasks → length tasks ≤ place → agreement ≡ agreement_of h → autostarts agreement (take place (task_refs v.own)) h ≡ autostarts (agreement_of h) (task_refs v.own) h
 all-started v old h tasks place agreement stands same_tasks past agreed =
-    let same : tasks ≡ v.tasks = same_tasks ∙ ap (λ (s : KernelState). s.view.tasks) stands.is in
-    let count : length (task_refs v) ≡ length tasks = refs-length v.core 0 v.tasks ∙ ap length (sym same) in
-    ap (λ (ps : List (TaskRef × Task)). autostarts agreement ps h) (take-whole (task_refs v) place (omega (arith, past, count)))
-    ∙ ap (λ (a : Option Agreement). autostarts a (task_refs v) h) agreed
-
--- one function after another
-pub stays-more : (i : ℕ) (a b c : KernelState) → StaysInItem i a b → StaysInItem 1 b c → StaysInItem (i + 1) a c
-stays-more i a b c first second = record {
-  view = second.view ∙ first.view;
-  phase = second.phase ∙ first.phase;
-  items = second.items ∙ first.items;
-  entries = omega (arith, first.entries, second.entries);
-}
-
-pub adds-more : (i : ℕ) (a b c : List Mark) → Adds i a b → Adds 1 b c → Adds (i + 1) a c
-adds-more i a b c first second = record {
-  added = first.added ++ second.added;
-  is = second.is ∙ ap (λ (xs : List Mark). xs ++ second.added) first.is ∙ append_assoc a first.added second.added;
-  within = omega (arith, first.within, second.within, length-append first.added second.added);
-}
+    let same : tasks ≡ v.own.tasks = same_tasks ∙ ap (λ (s : KernelState). s.view.own.tasks) stands.is in
+    let count : length (task_refs v.own) ≡ length tasks = refs-length v.own.id 0 v.own.tasks ∙ ap length (sym same) in
+    ap (λ (ps : List (TaskRef × Task)). autostarts agreement ps h) (take-whole (task_refs v.own) place (omega (arith, past, count)))
+    ∙ ap (λ (a : Option Agreement). autostarts a (task_refs v.own) h) agreed

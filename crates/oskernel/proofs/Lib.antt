@@ -1,4 +1,10 @@
 pub mod Phases
 pub mod Taken
 pub mod Autostart
-pub mod Admitted
+pub mod Carried
+pub mod Holding
+pub mod Stages
+pub mod Calm
+pub mod Scripts
+pub mod Among
+pub mod Stepping

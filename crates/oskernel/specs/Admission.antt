@@ -1,60 +1,123 @@
--- Which item may be taken, said of the kernel's state. Where the state stands for a history it is the same as
--- what is said of the history (`Kernel::may_take`, clause `reads`).
-use Rattle.std.specs.Prelude.{ℕ, ◌^◌, ◌==◌, ◌&&◌, nat_lt, Bool, false, not, is_none, is_some, Option, Some, None, List, [], ◌∷◌, length, slice_index}
+-- Which item may be taken, asked of a core's state.
+use Rattle.std.specs.Prelude.{ℕ, ◌^◌, ◌==◌, ◌&&◌, ◌||◌, nat_lt, Bool, true, false, not, if◌then◌else◌, is_none, is_some, Option, List, [], ◌∷◌, length, slice_index}
+use Rattle.std.specs.List.{list_all}
 use Rattle.std.specs.Option.{option_map_or}
+use Rattle.osbase.specs.declared.statuses.Status.{Status}
+use Rattle.osbase.specs.declared.statuses.Status.TheVariants.{EOk, EOsId, EOsState}
+use Rattle.osbase.specs.declared.statuses.ServiceId.{ServiceId}
+use Rattle.osbase.specs.declared.statuses.ServiceId.TheVariants as Service
 use Rattle.osbase.specs.declared.references.CoreId.{CoreId}
-use Rattle.osbase.specs.declared.messages.Envelope.{Envelope}
 use Rattle.osbase.specs.declared.messages.Message.{Message}
+use Rattle.osbase.specs.declared.items.CoreSet.{CoreSet}
+use Rattle.osbase.specs.declared.items.Agreement.{Agreement}
+use Rattle.osbase.specs.declared.items.Stimulus.{Stimulus}
 use Rattle.osbase.specs.declared.items.Item.{Item}
+use Rattle.osbase.specs.declared.histories.OpenCall.{OpenCall}
 use Rattle.osbase.specs.declared.histories.Sent.{Sent}
-use Rattle.osbase.specs.History.{is_scheduling}
-use Rattle.osbase.specs.Sets.{has_core}
+use Rattle.osbase.specs.declared.histories.Phase.TheVariants as Phase
+use Rattle.osbase.specs.History.{same_core}
+use Rattle.osbase.specs.Phases.{is_scheduling, stands_in}
+use Rattle.osbase.specs.Sets.{has_core, core_ids}
+use Rattle.osplan.specs.declared.plans.CoreMode.{CoreMode}
+use Rattle.osplan.specs.declared.plans.CoreMode.TheVariants.{Named, DontCare}
+use Rattle.osplan.specs.View.{View, is_configured}
 use Rattle.osstate.specs.Readings.{is_own, next_start}
 use Rattle.osstate.specs.State.{KernelState}
-use Rattle.oscall.specs.Service.{is_served}
-use Rattle.oskernel.specs.Step.{is_off, is_booting, is_at_first_gate, is_between_gates, is_at_second_gate, is_live, is_drained, is_closing, is_for, is_start_answer, is_agreement, are_started_cores, is_front_for, is_empty, is_reply_to, is_stimulus}
+use Rattle.oscall.specs.Checks.{is_ok_status}
+use Rattle.oscall.specs.Border.{is_served}
+
+-- `StartCore` answers E_OS_ID exactly for a core that is not configured, and else E_OK, or E_OS_STATE for one
+-- that was started already. [AUTOSAR SWS OS 4.x, StartCore; E_OS_STATE before StartOS]
+abbrev pub is_started_now_or_before : Status → Bool
+is_started_now_or_before EOk = true
+is_started_now_or_before EOsState = true
+is_started_now_or_before s = false
+
+abbrev pub is_unknown_core : Status → Bool
+is_unknown_core EOsId = true
+is_unknown_core s = false
+
+abbrev pub is_start_answer : View → CoreId → Status → Bool
+is_start_answer v core status = if is_configured v core then is_started_now_or_before status else is_unknown_core status
+
+abbrev pub is_for : CoreId → Option CoreId → Bool
+is_for core other = option_map_or (same_core core) other false
+
+-- What the first gate may come to for a core: a conflict, its own mode, or, for a core that says DONOTCARE,
+-- any mode or none. [AUTOSAR SWS OS 4.x, SWS_Os_00608 to SWS_Os_00610; that all may say DONOTCARE is this project's own]
+abbrev pub is_agreement : View → CoreMode → Agreement → Bool
+is_agreement v mode Agreement.Conflict = true
+is_agreement v (Named own) (Agreement.Mode m) = own.index == m.index
+is_agreement v DontCare (Agreement.Mode m) = nat_lt m.index (length v.modes)
+is_agreement v (Named own) Agreement.NoMode = false
+is_agreement v DontCare Agreement.NoMode = true
+
+-- The set has configured cores only, and the own one. [own]
+abbrev pub are_started_cores : View → CoreSet → Bool
+are_started_cores v cores = has_core cores v.core && list_all (λ id. not (has_core cores id) || is_configured v id) core_ids
+
+-- The front of the outbox is for this core.
+abbrev pub is_front_for : CoreId → List Sent → Bool
+is_front_for core [] = false
+is_front_for core (s ∷ ss) = same_core s.to core
+
+abbrev pub is_empty : List Sent → Bool
+is_empty [] = true
+is_empty (s ∷ ss) = false
+
+-- Which stimulus there is: so far only the running job's next operation.
+abbrev pub is_stimulus : Stimulus → Bool
+is_stimulus Stimulus.Op = true
+is_stimulus Stimulus.Tick = false
+is_stimulus (Stimulus.Irq isr) = false
 
 -- No call is open, and nothing waits in the outbox. [own]
-abbrev pub is_settled_in : KernelState → Bool
-is_settled_in s = is_none s.open_call && is_empty s.outbox
+abbrev pub is_settled : KernelState → Bool
+is_settled s = is_none s.border.open_call && is_empty s.border.outbox
 
--- A message is expected: a request where the reply to it has room, an action, or the reply of the open call. [own]
-abbrev pub is_awaited_in : ℕ → KernelState → CoreId → Message → Bool
-is_awaited_in room s from (Message.Request call) = is_served s.view call && nat_lt (length s.outbox) room
-is_awaited_in room s from (Message.Action call) = is_served s.view call
-is_awaited_in room s from (Message.Reply status value) = option_map_or (is_reply_to from status (is_some value)) s.open_call false
+-- The service whose E_OK comes with a value. [OSEK/VDX OS 2.2.3, section 13.6.3.2]
+abbrev pub answers_value : ServiceId → Bool
+answers_value Service.GetAlarm = true
+answers_value s = false
+
+-- The reply of this core is awaited, with a value exactly for GetAlarm and E_OK. [own]
+abbrev pub is_reply_to : CoreId → Status → Bool → OpenCall → Bool
+is_reply_to from status has_value call =
+    same_core call.core from && (if answers_value call.service && is_ok_status status then has_value else not has_value)
+
+-- A message is expected: a request where the reply to it has a place, an action, or the reply of the open call. [own]
+abbrev pub is_awaited : ℕ → KernelState → CoreId → Message → Bool
+is_awaited places s from (Message.Request call) = is_served s.view call && nat_lt (length s.border.outbox) places
+is_awaited places s from (Message.Action call) = is_served s.view call
+is_awaited places s from (Message.Reply status value) = option_map_or (is_reply_to from status (is_some value)) s.border.open_call false
 
 -- An envelope may be taken: its sender was started and is another core, its number is the next from there.
 -- [own]
 abbrev pub is_next_from : ℕ → KernelState → CoreId → ℕ → Message → Bool
-is_next_from room s from number message =
-    has_core s.started from && not (is_own s.view from) && (number == slice_index s.received from.number) && is_awaited_in room s from message
+is_next_from places s from number message =
+    has_core s.progress.started from && not (is_own s.view from) && (number == slice_index s.border.received from.number)
+    && is_awaited places s from message
 
--- An item may be taken: one line for each kind. [own]
+-- An item may be taken: one line for each kind. `places` is how many envelopes the outbox may hold. [own]
 abbrev pub admits : ℕ → KernelState → Item → Bool
-admits room s Item.On = is_off s.phase
-admits room s (Item.Began core status) =
-    is_booting s.phase && is_for core (next_start s.view s.began) && is_start_answer s.view core status
-admits room s Item.Entered = is_booting s.phase && is_none (next_start s.view s.began)
-admits room s (Item.Pass1 agreement) = is_at_first_gate s.phase && is_agreement s.view s.view.mode agreement
-admits room s Item.Readied = is_between_gates s.phase
-admits room s (Item.Pass2 cores) = is_at_second_gate s.phase && are_started_cores s.view cores
-admits room s (Item.Stim stimulus) = is_live s.phase && is_stimulus stimulus && is_settled_in s
-admits room s (Item.Posted core) = is_scheduling s.phase && is_front_for core s.outbox
-admits room s (Item.Received from number message) = is_scheduling s.phase && is_next_from room s from number message
-admits room s (Item.Granted spinlock) = false
-admits room s (Item.Tried spinlock taken) = false
-admits room s (Item.Freed spinlock) = false
-admits room s (Item.Halt core status) = false
-admits room s Item.Drained = is_live s.phase && is_settled_in s
-admits room s Item.PassEnd = is_drained s.phase
-admits room s (Item.Last shutdown) = is_closing s.phase && is_none shutdown
+admits places s Item.On = stands_in Phase.Off s.progress.phase
+admits places s (Item.Began core status) =
+    stands_in Phase.Boot s.progress.phase && is_for core (next_start s.view s.progress.began) && is_start_answer s.view core status
+admits places s Item.Entered = stands_in Phase.Boot s.progress.phase && is_none (next_start s.view s.progress.began)
+admits places s (Item.Pass1 agreement) = stands_in Phase.FirstGate s.progress.phase && is_agreement s.view s.view.own.mode agreement
+admits places s Item.Readied = stands_in Phase.BetweenGates s.progress.phase
+admits places s (Item.Pass2 cores) = stands_in Phase.SecondGate s.progress.phase && are_started_cores s.view cores
+admits places s (Item.Stim stimulus) = stands_in Phase.Live s.progress.phase && is_stimulus stimulus && is_settled s
+admits places s (Item.Posted core) = is_scheduling s.progress.phase && is_front_for core s.border.outbox
+admits places s (Item.Received from number message) = is_scheduling s.progress.phase && is_next_from places s from number message
+admits places s (Item.Granted spinlock) = false
+admits places s (Item.Tried spinlock taken) = false
+admits places s (Item.Freed spinlock) = false
+admits places s (Item.Halt core status) = false
+admits places s Item.Drained = stands_in Phase.Live s.progress.phase && is_settled s
+admits places s Item.PassEnd = stands_in Phase.Drained s.progress.phase
+admits places s (Item.Last shutdown) = stands_in Phase.Closing s.progress.phase && is_none shutdown
 
--- An item may be taken while fewer than 2 ^ 48 were.
-abbrev pub may_take_of : ℕ → KernelState → Item → Bool
-may_take_of room s item = nat_lt s.items (2 ^ 48) && admits room s item
-
--- The front of the outbox, with the core that it is for. [own]
-abbrev pub front_in : List Sent → Option (CoreId × Envelope)
-front_in [] = None
-front_in (s ∷ ss) = Some (s.to, s.envelope)
+-- An item may be taken while fewer than 2 ^ 48 were. [own]
+abbrev pub takes_in : ℕ → KernelState → Item → Bool
+takes_in places s item = nat_lt s.progress.items (2 ^ 48) && admits places s item

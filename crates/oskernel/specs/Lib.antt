@@ -1,5 +1,5 @@
+pub mod Admission
 pub mod Step
 pub mod Wants
-pub mod Admission
 pub mod Bounded
 pub mod Taking

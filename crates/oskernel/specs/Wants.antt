@@ -1,11 +1,14 @@
 -- What a core's own turn would do: the first rule that applies. [own]
-use Rattle.std.specs.Prelude.{Option, Some, None, List, [], ◌∷◌}
+use Rattle.std.specs.Prelude.{if◌then◌else◌, is_none, Option, Some, None, List, [], ◌∷◌}
 use Rattle.osbase.specs.declared.references.CoreId.{CoreId}
+use Rattle.osbase.specs.declared.messages.Envelope.{Envelope}
+use Rattle.osbase.specs.declared.histories.OpenCall.{OpenCall}
 use Rattle.osbase.specs.declared.histories.Sent.{Sent}
 use Rattle.osbase.specs.declared.histories.Phase.{Phase}
-use Rattle.osbase.specs.History.{History, began_count, outbox}
+use Rattle.osbase.specs.History.{History}
 use Rattle.osplan.specs.View.{View}
-use Rattle.osstate.specs.Readings.{phase_at, next_start}
+use Rattle.osstate.specs.Readings.{next_start}
+use Rattle.osstate.specs.State.{KernelState, state_of}
 use Rattle.oskernel.specs.declared.wants.Want.{Want}
 use Rattle.oskernel.specs.declared.wants.Want.TheVariants.{Start, Enter, Ready, Post, GoOn, Nothing}
 
@@ -18,13 +21,28 @@ abbrev pub post_or : Want → List Sent → Want
 post_or want [] = want
 post_or want (s ∷ ss) = Post s.to
 
-abbrev pub want_in : Phase → Option CoreId → List Sent → Want
-want_in Phase.Boot next sends = start_or_enter next
-want_in Phase.BetweenGates next sends = Ready
-want_in Phase.Live next sends = post_or GoOn sends
-want_in Phase.Drained next sends = post_or Nothing sends
-want_in Phase.Closing next sends = post_or Nothing sends
-want_in phase next sends = Nothing
+-- A core that waits for a reply does not go on.
+abbrev pub go_on_unless : Option OpenCall → Want
+go_on_unless open_call = if is_none open_call then GoOn else Nothing
+
+abbrev pub want_from : Phase → KernelState → Want
+want_from Phase.Boot s = start_or_enter (next_start s.view s.progress.began)
+want_from Phase.BetweenGates s = Ready
+want_from Phase.Live s = post_or (go_on_unless s.border.open_call) s.border.outbox
+want_from Phase.Drained s = post_or Nothing s.border.outbox
+want_from Phase.Closing s = post_or Nothing s.border.outbox
+want_from Phase.Off s = Nothing
+want_from Phase.FirstGate s = Nothing
+want_from Phase.SecondGate s = Nothing
+want_from Phase.Ended s = Nothing
+
+abbrev pub want_in : KernelState → Want
+want_in s = want_from s.progress.phase s
 
 abbrev pub want_of : View → History → Want
-want_of v h = want_in (phase_at v h) (next_start v (began_count h)) (outbox h)
+want_of v h = want_in (state_of v h)
+
+-- The front of the outbox, with the core that it is for. [own]
+abbrev pub front_of : List Sent → Option (CoreId × Envelope)
+front_of [] = None
+front_of (s ∷ ss) = Some (s.to, s.envelope)

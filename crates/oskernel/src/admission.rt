@@ -3,42 +3,20 @@
 ghost use Rattle.std.specs.Prelude.{◌≡◌, ◌||◌, false, not};
 ghost use Rattle.std.specs.List.{list_all};
 ghost use Rattle.std.specs.Option.{option_map_or};
-ghost use Rattle.osbase.specs.History.{is_scheduling};
+ghost use Rattle.osbase.specs.Sets.{core_ids, has_core};
 ghost use Rattle.osplan.specs.View.{is_configured};
-ghost use Rattle.oscall.specs.Service.{is_ok_status};
-ghost use Rattle.osbase.specs.Sets.{has_core};
 ghost use Rattle.osstate.specs.Readings.{next_start};
-ghost use Rattle.oscall.specs.Service.{is_served};
-ghost use Rattle.oskernel.specs.Step.{answers_value, are_started_cores, is_agreement, is_at_first_gate, is_at_second_gate, is_between_gates, is_booting, is_closing, is_drained, is_empty, is_for, is_front_for, is_live, is_off, is_reply_to, is_start_answer, is_started_now_or_before, is_stimulus, is_unknown_core};
-ghost use Rattle.oskernel.specs.Admission.{admits, is_awaited_in, is_next_from, is_settled_in};
+ghost use Rattle.oscall.specs.Border.{is_served};
+ghost use Rattle.oskernel.specs.Admission.{admits, answers_value, are_started_cores, is_agreement, is_awaited, is_for, is_front_for, is_next_from, is_reply_to, is_settled, is_start_answer, is_started_now_or_before, is_stimulus, is_unknown_core};
 
 use osbase::{
-    Agreement, CoreId, CoreSet, Item, Message, ModeId, OpenCall, Phase, RemoteCall, ServiceId,
-    Status, Stimulus,
+    Agreement, CORE_NUMBERS, CoreId, CoreSet, Item, Message, ModeId, OpenCall, Phase, RemoteCall,
+    ServiceId, Status, Stimulus,
 };
+use oscall::{is_answered, is_ok};
 use osplan::CoreMode;
 use osstate::CoreState;
 use osstate::equality::{both, is_same_core};
-
-// Every core number.
-const CORE_IDS: [CoreId; 16] = [
-    CoreId { number: 0 },
-    CoreId { number: 1 },
-    CoreId { number: 2 },
-    CoreId { number: 3 },
-    CoreId { number: 4 },
-    CoreId { number: 5 },
-    CoreId { number: 6 },
-    CoreId { number: 7 },
-    CoreId { number: 8 },
-    CoreId { number: 9 },
-    CoreId { number: 10 },
-    CoreId { number: 11 },
-    CoreId { number: 12 },
-    CoreId { number: 13 },
-    CoreId { number: 14 },
-    CoreId { number: 15 },
-];
 
 /// Whether an item may be taken, but for how many were taken.
 pub(crate) fn is_admitted<const P: usize, const J: usize, const OUT: usize>(
@@ -49,29 +27,35 @@ pub(crate) fn is_admitted<const P: usize, const J: usize, const OUT: usize>(
 {
     let phase = state.phase();
     match item {
-        Item::On => is_phase_off(phase),
+        Item::On => phase.stands_in(Phase::Off),
         Item::Began { core, status } => {
             let is_next = is_next_start(state, *core);
             both(
-                both(is_phase_boot(phase), is_next),
+                both(phase.stands_in(Phase::Boot), is_next),
                 is_answer(state, *core, *status),
             )
         }
-        Item::Entered => both(is_phase_boot(phase), state.next_start().is_none()),
-        Item::Pass1(agreement) => both(is_phase_first_gate(phase), is_agreed(state, *agreement)),
-        Item::Readied => is_phase_between(phase),
-        Item::Pass2(cores) => both(is_phase_second_gate(phase), are_started(state, cores)),
+        Item::Entered => both(phase.stands_in(Phase::Boot), state.next_start().is_none()),
+        Item::Pass1(agreement) => both(
+            phase.stands_in(Phase::FirstGate),
+            is_agreed(state, *agreement),
+        ),
+        Item::Readied => phase.stands_in(Phase::BetweenGates),
+        Item::Pass2(cores) => both(
+            phase.stands_in(Phase::SecondGate),
+            are_started(state, cores),
+        ),
         Item::Stim(stimulus) => {
-            let is_due = both(is_phase_live(phase), is_known_stimulus(*stimulus));
+            let is_due = both(phase.stands_in(Phase::Live), is_known_stimulus(*stimulus));
             both(is_due, is_settled(state))
         }
-        Item::Posted(core) => both(is_phase_scheduling(phase), is_front(state, *core)),
+        Item::Posted(core) => both(phase.is_scheduling(), is_front(state, *core)),
         Item::Received {
             from,
             number,
             message,
         } => both(
-            is_phase_scheduling(phase),
+            phase.is_scheduling(),
             is_next_envelope(state, *from, *number, message),
         ),
         Item::Granted(_) => false,
@@ -81,9 +65,9 @@ pub(crate) fn is_admitted<const P: usize, const J: usize, const OUT: usize>(
         } => false,
         Item::Freed(_) => false,
         Item::Halt { core: _, status: _ } => false,
-        Item::Drained => both(is_phase_live(phase), is_settled(state)),
-        Item::PassEnd => is_phase_drained(phase),
-        Item::Last(shutdown) => both(is_phase_closing(phase), shutdown.is_none()),
+        Item::Drained => both(phase.stands_in(Phase::Live), is_settled(state)),
+        Item::PassEnd => phase.stands_in(Phase::Drained),
+        Item::Last(shutdown) => both(phase.stands_in(Phase::Closing), shutdown.is_none()),
     }
 }
 
@@ -102,7 +86,7 @@ fn is_known_stimulus(stimulus: Stimulus) -> bool
 fn is_settled<const P: usize, const J: usize, const OUT: usize>(
     state: &CoreState<'_, P, J, OUT>,
 ) -> bool
-    ensures { result ≡ is_settled_in state.now }
+    ensures { result ≡ is_settled state.now }
 {
     both(state.awaited_call().is_none(), state.is_outbox_empty())
 }
@@ -111,7 +95,7 @@ fn is_front<const P: usize, const J: usize, const OUT: usize>(
     state: &CoreState<'_, P, J, OUT>,
     core: CoreId,
 ) -> bool
-    ensures { result ≡ is_front_for core state.now.outbox }
+    ensures { result ≡ is_front_for core state.now.border.outbox }
 {
     match state.front() {
         Some(sent) => is_same_core(sent.to, core),
@@ -124,7 +108,7 @@ fn is_next_start<const P: usize, const J: usize, const OUT: usize>(
     state: &CoreState<'_, P, J, OUT>,
     core: CoreId,
 ) -> bool
-    ensures { result ≡ is_for core (next_start state.now.view state.now.began) }
+    ensures { result ≡ is_for core (next_start state.now.view state.now.progress.began) }
 {
     match state.next_start() {
         Some(next) => is_same_core(core, next),
@@ -162,7 +146,7 @@ fn is_agreed<const P: usize, const J: usize, const OUT: usize>(
     state: &CoreState<'_, P, J, OUT>,
     agreement: Agreement,
 ) -> bool
-    ensures { result ≡ is_agreement state.now.view state.now.view.mode agreement }
+    ensures { result ≡ is_agreement state.now.view state.now.view.own.mode agreement }
 {
     match agreement {
         Agreement::Conflict => true,
@@ -178,7 +162,7 @@ fn is_agreed_mode<const P: usize, const J: usize, const OUT: usize>(
     state: &CoreState<'_, P, J, OUT>,
     mode: ModeId,
 ) -> bool
-    ensures { result ≡ is_agreement state.now.view state.now.view.mode (Agreement.Mode mode) }
+    ensures { result ≡ is_agreement state.now.view state.now.view.own.mode (Agreement.Mode mode) }
 {
     match state.mode() {
         CoreMode::Named(own) => own.index == mode.index,
@@ -194,19 +178,18 @@ fn are_started<const P: usize, const J: usize, const OUT: usize>(
     ensures { result ≡ are_started_cores state.now.view cores.now }
 {
     let has_own = cores.contains(state.id());
-    both(has_own, are_configured(state, cores, &CORE_IDS))
+    both(has_own, are_configured(state, cores))
 }
 
-// Each of these cores that is in the set is configured.
+// Each core of the set is configured.
 fn are_configured<const P: usize, const J: usize, const OUT: usize>(
     state: &CoreState<'_, P, J, OUT>,
     cores: &CoreSet,
-    ids: &[CoreId],
 ) -> bool
-    ensures { result ≡ list_all (λ id. not (has_core cores.now id) || is_configured state.now.view id) ids.now }
+    ensures { result ≡ list_all (λ id. not (has_core cores.now id) || is_configured state.now.view id) core_ids }
 {
-    for id in ids {
-        if !is_absent_or_configured(state, cores, *id) {
+    for number in 0..CORE_NUMBERS {
+        if !is_absent_or_configured(state, cores, CoreId { number }) {
             return false;
         }
     }
@@ -236,7 +219,7 @@ fn is_next_envelope<const P: usize, const J: usize, const OUT: usize>(
 ) -> bool
     ensures { result ≡ is_next_from OUT state.now from number message.now }
 {
-    if !state.is_started(from) {
+    if !state.knows_started(from) {
         return false;
     }
     let is_foreign = !state.is_own(from);
@@ -252,10 +235,10 @@ fn is_awaited<const P: usize, const J: usize, const OUT: usize>(
     from: CoreId,
     message: &Message,
 ) -> bool
-    ensures { result ≡ is_awaited_in OUT state.now from message.now }
+    ensures { result ≡ is_awaited OUT state.now from message.now }
 {
     match message {
-        Message::Request(call) => both(is_own_target(state, *call), state.has_room()),
+        Message::Request(call) => both(is_own_target(state, *call), state.has_place()),
         Message::Action(call) => is_own_target(state, *call),
         Message::Reply { status, value } => {
             is_awaited_reply(state, from, *status, value.is_some())
@@ -270,10 +253,7 @@ fn is_own_target<const P: usize, const J: usize, const OUT: usize>(
 ) -> bool
     ensures { result ≡ is_served state.now.view call }
 {
-    if let RemoteCall::ActivateTask(task) = call {
-        return state.own_task(task).is_some();
-    }
-    false
+    both(is_answered(call), state.has(call.object()))
 }
 
 fn is_awaited_reply<const P: usize, const J: usize, const OUT: usize>(
@@ -282,7 +262,7 @@ fn is_awaited_reply<const P: usize, const J: usize, const OUT: usize>(
     status: Status,
     has_value: bool,
 ) -> bool
-    ensures { result ≡ option_map_or (is_reply_to from status has_value) state.now.open_call false }
+    ensures { result ≡ option_map_or (is_reply_to from status has_value) state.now.border.open_call false }
 {
     match state.awaited_call() {
         Some(call) => is_reply(from, status, has_value, call),
@@ -303,65 +283,4 @@ fn gives_value(service: ServiceId) -> bool
     ensures { result ≡ answers_value service }
 {
     matches!(service, ServiceId::GetAlarm)
-}
-
-fn is_ok(status: Status) -> bool
-    ensures { result ≡ is_ok_status status }
-{
-    matches!(status, Status::EOk)
-}
-
-fn is_phase_off(phase: Phase) -> bool
-    ensures { result ≡ is_off phase }
-{
-    matches!(phase, Phase::Off)
-}
-
-fn is_phase_boot(phase: Phase) -> bool
-    ensures { result ≡ is_booting phase }
-{
-    matches!(phase, Phase::Boot)
-}
-
-fn is_phase_first_gate(phase: Phase) -> bool
-    ensures { result ≡ is_at_first_gate phase }
-{
-    matches!(phase, Phase::FirstGate)
-}
-
-fn is_phase_between(phase: Phase) -> bool
-    ensures { result ≡ is_between_gates phase }
-{
-    matches!(phase, Phase::BetweenGates)
-}
-
-fn is_phase_second_gate(phase: Phase) -> bool
-    ensures { result ≡ is_at_second_gate phase }
-{
-    matches!(phase, Phase::SecondGate)
-}
-
-fn is_phase_live(phase: Phase) -> bool
-    ensures { result ≡ is_live phase }
-{
-    matches!(phase, Phase::Live)
-}
-
-fn is_phase_drained(phase: Phase) -> bool
-    ensures { result ≡ is_drained phase }
-{
-    matches!(phase, Phase::Drained)
-}
-
-fn is_phase_closing(phase: Phase) -> bool
-    ensures { result ≡ is_closing phase }
-{
-    matches!(phase, Phase::Closing)
-}
-
-/// Whether a core schedules, serves and posts: from the second gate to its end.
-pub(crate) fn is_phase_scheduling(phase: Phase) -> bool
-    ensures { result ≡ is_scheduling phase }
-{
-    matches!(phase, Phase::Live | Phase::Drained | Phase::Closing)
 }

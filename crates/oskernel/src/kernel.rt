@@ -5,13 +5,12 @@ ghost use Rattle.std.specs.List.{list_all};
 ghost use Rattle.osplan.specs.declared.plans.Task.{Task as TaskValue};
 ghost use Rattle.osplan.specs.View.{core_of, view_of};
 ghost use Rattle.osbase.specs.History.{outbox};
-ghost use Rattle.osstate.specs.Readings.{next_start};
 ghost use Rattle.osstate.specs.Readings.{phase_at};
 ghost use Rattle.osstate.specs.State.{state_of};
 ghost use Rattle.osstate.specs.Does.{Adds, Does, Reads};
 ghost use Rattle.oskernel.specs.Step.{after, takes};
-ghost use Rattle.oskernel.specs.Wants.{want_in, want_of, post_or as front_or};
-ghost use Rattle.oskernel.specs.Admission.{front_in, may_take_of};
+ghost use Rattle.oskernel.specs.Wants.{front_of, go_on_unless, post_or as front_or, want_in, want_of};
+ghost use Rattle.oskernel.specs.Admission.{takes_in};
 
 use crate::admission::is_admitted;
 use crate::effects;
@@ -46,8 +45,8 @@ impl<'a, const P: usize, const J: usize, const OUT: usize> Kernel<'a, P, J, OUT>
     /// alarms and schedule tables may fill at once, and 8 more.
     pub fn new(config: &'a Config, core: CoreId) -> Self
         requires configured { IsSome (core_of config.now core) }
-        requires priorities { IsTrue (list_all (λ (t : TaskValue). nat_lt t.priority P) (view_of config.now core).tasks) }
-        requires activations { sum_by (λ (t : TaskValue). t.activations) (view_of config.now core).tasks ≤ J }
+        requires priorities { IsTrue (list_all (λ (t : TaskValue). nat_lt t.priority P) (view_of config.now core).own.tasks) }
+        requires activations { sum_by (λ (t : TaskValue). t.activations) (view_of config.now core).own.tasks ≤ J }
         requires outbox { 8 ≤ OUT }
         ensures { result ≡ state_of (view_of config.now core) [] }
     {
@@ -58,7 +57,7 @@ impl<'a, const P: usize, const J: usize, const OUT: usize> Kernel<'a, P, J, OUT>
 
     /// Where the core stands between off and ended.
     pub fn phase(&self) -> Phase
-        ensures state { result ≡ self.now.phase }
+        ensures state { result ≡ self.now.progress.phase }
         ensures reads { Reads (λ v h. phase_at v h) self.now result }
     {
         self.state.phase()
@@ -66,13 +65,13 @@ impl<'a, const P: usize, const J: usize, const OUT: usize> Kernel<'a, P, J, OUT>
 
     /// What the core's own turn would do.
     pub fn want(&self) -> Want
-        ensures state { result ≡ want_in self.now.phase (next_start self.now.view self.now.began) self.now.outbox }
+        ensures state { result ≡ want_in self.now }
         ensures reads { Reads (λ v h. want_of v h) self.now result }
     {
         match self.state.phase() {
             Phase::Boot => start_or_enter(self.state.next_start()),
             Phase::BetweenGates => Want::Ready,
-            Phase::Live => self.post_or(Want::GoOn),
+            Phase::Live => self.post_or(self.go_on()),
             Phase::Drained => self.post_or(Want::Nothing),
             Phase::Closing => self.post_or(Want::Nothing),
             Phase::Off => Want::Nothing,
@@ -82,9 +81,20 @@ impl<'a, const P: usize, const J: usize, const OUT: usize> Kernel<'a, P, J, OUT>
         }
     }
 
+    // A core that waits for a reply does not go on.
+    fn go_on(&self) -> Want
+        ensures { result ≡ go_on_unless self.now.border.open_call }
+    {
+        if self.state.awaited_call().is_none() {
+            Want::GoOn
+        } else {
+            Want::Nothing
+        }
+    }
+
     // The front of the outbox goes before anything else.
     fn post_or(&self, want: Want) -> Want
-        ensures { result ≡ front_or want self.now.outbox }
+        ensures { result ≡ front_or want self.now.border.outbox }
     {
         match self.state.front() {
             Some(sent) => Want::Post(sent.to),
@@ -94,8 +104,8 @@ impl<'a, const P: usize, const J: usize, const OUT: usize> Kernel<'a, P, J, OUT>
 
     /// The front of the outbox, with the core that it is for.
     pub fn front(&self) -> Option<(CoreId, Envelope)>
-        ensures state { result ≡ front_in self.now.outbox }
-        ensures reads { Reads (λ v h. front_in (outbox h)) self.now result }
+        ensures state { result ≡ front_of self.now.border.outbox }
+        ensures reads { Reads (λ v h. front_of (outbox h)) self.now result }
     {
         let sent = self.state.front()?;
         Some((sent.to, sent.envelope))
@@ -103,7 +113,7 @@ impl<'a, const P: usize, const J: usize, const OUT: usize> Kernel<'a, P, J, OUT>
 
     /// Whether the item may be taken now.
     pub fn may_take(&self, item: &Item) -> bool
-        ensures state { result ≡ may_take_of OUT self.now item.now }
+        ensures state { result ≡ takes_in OUT self.now item.now }
         ensures reads { Reads (λ v h. takes OUT v h item.now) self.now result }
     {
         if self.state.items() < MOST_ITEMS {
@@ -114,12 +124,12 @@ impl<'a, const P: usize, const J: usize, const OUT: usize> Kernel<'a, P, J, OUT>
 
     /// Takes an item that may be taken, and prints its marks.
     pub fn step(&mut self, item: Item, marks: &mut Vec<Mark>)
-        requires taken { IsTrue (may_take_of OUT self.old item) }
+        requires taken { IsTrue (takes_in OUT self.old item) }
         requires room { vec_len marks.old + 512 ≤ vec_capacity marks.old }
         ensures adds { Adds 512 marks.old.items marks.new.items }
         ensures len { vec_len marks.new ≤ vec_len marks.old + 512 }
         ensures capacity { vec_capacity marks.new ≡ vec_capacity marks.old }
-        ensures items { self.new.items ≡ self.old.items + 1 }
+        ensures items { self.new.progress.items ≡ self.old.progress.items + 1 }
         ensures does { Does (λ v h. after v h item) self.old self.new marks.old.items marks.new.items }
     {
         effects::take(&mut self.state, &item, marks);

@@ -9,7 +9,7 @@ ghost use Rattle.osplan.specs.View.{core_of, view_of};
 
 use super::*;
 use osbase::{
-    Agreement, CoreId, CoreSet, Item, List, Mark, Message, ModeId, Name, RemoteCall, Runner,
+    Agreement, CORES, CoreId, CoreSet, Item, List, Mark, Message, ModeId, Name, RemoteCall, Runner,
     ServiceId, Status, Stimulus, TaskRef,
 };
 use oscript::Op;
@@ -67,8 +67,8 @@ fn two_cores(alloc: Global) -> Result<Plan, AllocError>
     ensures limits { IfOk result (λ plan. IsTrue (is_within_limits plan)) }
     ensures expressible { IfOk result (λ plan. IsTrue (is_expressible plan)) }
     ensures configured { IfOk result (λ plan. IsSome (core_of plan CORE_0)) }
-    ensures priorities { IfOk result (λ plan. IsTrue (list_all (λ (t : TaskValue). nat_lt t.priority 32) (view_of plan CORE_0).tasks)) }
-    ensures activations { IfOk result (λ plan. sum_by (λ (t : TaskValue). t.activations) (view_of plan CORE_0).tasks ≤ 64) }
+    ensures priorities { IfOk result (λ plan. IsTrue (list_all (λ (t : TaskValue). nat_lt t.priority 32) (view_of plan CORE_0).own.tasks)) }
+    ensures activations { IfOk result (λ plan. sum_by (λ (t : TaskValue). t.activations) (view_of plan CORE_0).own.tasks ≤ 64) }
 {
     let mut modes = List::new(alloc);
     modes.push(Name::new(alloc, "M")?)?;
@@ -91,7 +91,7 @@ fn two_cores(alloc: Global) -> Result<Plan, AllocError>
 }
 
 fn started() -> CoreSet {
-    let mut members = [false; 16];
+    let mut members = [false; CORES];
     members[0] = true;
     members[1] = true;
     CoreSet { members }

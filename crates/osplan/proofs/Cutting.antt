@@ -1,13 +1,14 @@
 -- The configuration of a separate core alone is within the limits, and a text can say it.
-use Rattle.std.proofs.Common.{◌≡◌, Bool, true, false, not, ◌&&◌, nat_eq, nat_le, nat_lt, List, [], ◌∷◌, length, Option, Some, None, is_some, IsTrue, refl, sym, ap, ◌∙◌, arith}
+use Rattle.std.proofs.Common.{◌≡◌, Bool, true, false, not, ◌&&◌, nat_eq, nat_le, nat_lt, List, [], ◌∷◌, length, Option, Some, is_some, IsTrue, refl, sym, ap, ◌∙◌}
 use Rattle.std.specs.List.{list_all, list_any}
 use Rattle.std.specs.Option.{option_map_or}
-use Rattle.std.proofs.lemmas.Bool.{and_parts, and_from, or_left, or_parts, or_right, not-true, not-false, not_from_false, eq-eqb, eqb-true}
+use Rattle.std.proofs.lemmas.Bool.{and_parts, and_from, or_left, or_right, not-true, not-false, not_from_false, eq-eqb}
 use Rattle.osbase.specs.declared.references.CoreId.{CoreId}
-use Rattle.osbase.specs.declared.references.TaskRef.{TaskRef}
+use Rattle.osbase.specs.declared.objects.Object.{Object}
 use Rattle.osbase.specs.History.{same_core}
+use Rattle.osbase.proofs.Same.{same_core-true, same_core-refl}
 use Rattle.oscript.specs.declared.Op.{Op}
-use Rattle.oscript.specs.declared.Op.TheVariants.{Work, ActivateTask, TerminateTask}
+use Rattle.oscript.specs.Rows.{objects_of}
 use Rattle.osplan.specs.declared.plans.Plan.{Plan}
 use Rattle.osplan.specs.declared.plans.Core.{Core}
 use Rattle.osplan.specs.declared.plans.Task.{Task}
@@ -17,28 +18,18 @@ use Rattle.osplan.specs.declared.plans.Isr.{Isr}
 use Rattle.osplan.specs.declared.plans.Alarm.{Alarm}
 use Rattle.osplan.specs.declared.plans.Table.{Table}
 use Rattle.osplan.specs.View.{core_of}
-use Rattle.osplan.specs.Limits.{is_task, is_op_known, is_mode, is_task_within, is_core_within, are_cores_distinct, is_within_limits}
+use Rattle.osplan.specs.Objects.{object_count}
+use Rattle.osplan.specs.Limits.{is_object, is_op_known, is_mode, is_task_within, is_core_within, are_cores_distinct, is_within_limits}
 use Rattle.osplan.specs.Expressible.{is_core_expressible, is_expressible, are_tasks_distinct, are_names_distinct, are_mode_name, core_has_name, mode_name}
-use Rattle.osplan.specs.Separate.{agree, alone_of, has_operation, is_agreed_mode, is_named_elsewhere, is_separate, is_separate_core, is_started, names_mode, names_other}
-use Rattle.osplan.proofs.Tests.{all-weaker, all-both, find-holds, find-passes}
-use Rattle.osplan.proofs.Starting.{same_core-true}
-
--- no element passes
-all-not : {X : Type 0} (p : X → Bool) (xs : List X) → list_any p xs ≡ false → list_all (λ x. not (p x)) xs ≡ true
-all-not p [] e = refl
-all-not p (x ∷ xs) e =
-    let parts = or_parts (p x) (list_any p xs) e in
-    and_from (not (p x)) _ (not_from_false (p x) parts.0) (all-not p xs parts.1)
+use Rattle.osplan.specs.Separate.{agree, alone_of, has_operation, is_agreed_mode, is_named_elsewhere, is_on, is_separate, is_separate_core, is_started, names_other}
+use Rattle.osplan.proofs.Tests.{all-both, all-not, all-weaker, find-holds, find-passes, none-from}
+use Rattle.osplan.proofs.Separating.{SeparateParts, separate-parts}
 
 agree-self : (mode : CoreMode) → agree mode mode ≡ true
 agree-self (Named m) = eq-eqb m.index m.index refl
 agree-self DontCare = refl
 
 -- ---- what a core cannot have yet
-
-none-from : {X : Type 0} (xs : List X) → nat_eq (length xs) 0 ≡ true → xs ≡ []
-none-from [] e = refl
-none-from (x ∷ xs) e = absurd (let n : length (x ∷ xs) ≡ 0 = eqb-true (length (x ∷ xs)) 0 e in omega arith)
 
 pub no_tables : (core : Core) → IsTrue (is_core_expressible core) → core.tables ≡ []
 no_tables core h = none-from core.tables (and_parts _ (nat_eq (length core.tables) 0) h).1
@@ -57,21 +48,24 @@ core-parts core start tasks isrs alarms tables a b c d e = rw (a, b, c, d, e) re
 -- ---- the limits
 
 module _ (plan : Plan) (id : CoreId) (core : Core) (found : core_of plan id ≡ Some core) (same : core.id ≡ id) where
-  -- an operation that names no other core's task names one of the core's own
-  own-task : (t : TaskRef) → t.core ≡ core.id → is_task plan t ≡ true → is_task (alone_of plan id core) t ≡ true
-  own-task t own known =
-      let here : core_of plan t.core ≡ Some core = ap (core_of plan) (own ∙ same) ∙ found in
-      let index : nat_lt t.index (length core.tasks) ≡ true = sym (ap (λ (o : Option Core). option_map_or (λ (c : Core). nat_lt t.index (length c.tasks)) o false) here) ∙ known in
-      let mine : same_core core.id t.core ≡ true = eq-eqb core.id.number t.core.number (ap (λ (i : CoreId). i.number) (sym own)) in
-      rw mine index
+  mine : same_core core.id id ≡ true
+  mine = ap (same_core core.id) (sym same) ∙ same_core-refl core.id
+
+  -- an object that stands on no other core is one of the core's own
+  own-object : (object : Object) → (is_object plan object && not (not (is_on core.id object))) ≡ true → is_object (alone_of plan id core) object ≡ true
+  own-object object h =
+      let parts = and_parts (is_object plan object) (not (not (is_on core.id object))) h in
+      let own : object.place.core ≡ core.id = same_core-true object.place.core core.id (not-false _ (not-true _ parts.1)) in
+      let here : core_of plan object.place.core ≡ Some core = ap (core_of plan) (own ∙ same) ∙ found in
+      let index : nat_lt object.place.index (object_count object.kind core) ≡ true = sym (ap (λ (o : Option Core). option_map_or (λ (c : Core). nat_lt object.place.index (object_count object.kind c)) o false) here) ∙ parts.0 in
+      let at_home : same_core core.id object.place.core ≡ true = ap (same_core core.id) own ∙ same_core-refl core.id in
+      rw at_home index
 
   own-operation : (op : Op) → (is_op_known plan op && not (names_other core.id op)) ≡ true → is_op_known (alone_of plan id core) op ≡ true
-  own-operation Work h = refl
-  own-operation (ActivateTask None) h = refl
-  own-operation (ActivateTask (Some t)) h =
-      let parts = and_parts (is_task plan t) (not (not (same_core t.core core.id))) h in
-      own-task t (same_core-true t.core core.id (not-false _ (not-true _ parts.1))) parts.0
-  own-operation TerminateTask h = refl
+  own-operation op h =
+      let parts = and_parts (is_op_known plan op) (not (names_other core.id op)) h in
+      all-weaker (λ object. is_object plan object && not (not (is_on core.id object))) (is_object (alone_of plan id core)) own-object (objects_of op)
+      (all-both (is_object plan) (λ object. not (not (is_on core.id object))) (objects_of op) parts.0 (all-not (λ object. not (is_on core.id object)) (objects_of op) (not-true _ parts.1)))
 
   own-script : (task : Task) → (is_task_within plan task && not (list_any (names_other core.id) task.script)) ≡ true → is_task_within (alone_of plan id core) task ≡ true
   own-script task h =
@@ -96,7 +90,6 @@ module _ (plan : Plan) (id : CoreId) (core : Core) (found : core_of plan id ≡ 
       let distinct = and_parts _ (are_cores_distinct plan.cores) master.0 in
       let most = and_parts _ (nat_le (length plan.cores) 8) distinct.0 in
       let some = and_parts _ (nat_le 1 (length plan.cores)) most.0 in
-      let mine : same_core core.id id ≡ true = eq-eqb core.id.number id.number (ap (λ (i : CoreId). i.number) same) in
       and_from _ _ (and_from _ _ (and_from _ _ (and_from _ _ (and_from _ _ some.0 refl) refl) refl) (rw mine refl)) (and_from _ _ (core-alone within inside) refl)
 
   -- ---- what a text can say
@@ -108,11 +101,8 @@ module _ (plan : Plan) (id : CoreId) (core : Core) (found : core_of plan id ≡ 
       and_from _ _ (and_from _ _ (and_from _ _ modes.0 (and_from _ _ mine refl)) (and_from _ _ (and_from _ _ distinct refl) refl)) (and_from _ _ unmoded refl)
 
   -- ---- the core alone is separate again
-  mine : same_core core.id id ≡ true
-  mine = eq-eqb core.id.number id.number (ap (λ (i : CoreId). i.number) same)
-
   self : same_core core.id core.id ≡ true
-  self = eq-eqb core.id.number core.id.number refl
+  self = same_core-refl core.id
 
   started-alone : is_started (alone_of plan id core) core.id ≡ true
   started-alone = rw (mine, self) (or_left _ _ self)
@@ -123,14 +113,10 @@ module _ (plan : Plan) (id : CoreId) (core : Core) (found : core_of plan id ≡ 
   unnamed-alone : not (is_named_elsewhere (alone_of plan id core) core.id) ≡ true
   unnamed-alone = rw self refl
 
-  separate-alone : is_separate_core plan core ≡ true → is_separate (alone_of plan id core) id ≡ true
-  separate-alone separate =
-      let outward = and_parts _ (not (is_named_elsewhere plan core.id)) separate in
-      let start = and_parts _ (not (has_operation (names_other core.id) core)) outward.0 in
-      let agreed = and_parts _ (nat_eq (length core.start) 0) start.0 in
-      let moded = and_parts _ (is_agreed_mode plan core.mode) agreed.0 in
-      let named = and_parts (is_started plan core.id) (names_mode core.mode) moded.0 in
-      rw mine (and_from _ _ (and_from _ _ (and_from _ _ (and_from _ _ (and_from _ _ started-alone named.1) agreed-alone) agreed.1) start.1) unnamed-alone)
+  separate-alone : SeparateParts plan core → is_separate (alone_of plan id core) id ≡ true
+  separate-alone parts =
+      rw mine (and_from _ _ (and_from _ _ (and_from _ _ (and_from _ _ (and_from _ _ started-alone parts.names) agreed-alone)
+      (ap (λ (cores : List CoreId). nat_eq (length cores) 0) parts.no_start)) (not_from_false _ parts.inward)) unnamed-alone)
 
 each-distinct : (cores : List Core) → are_names_distinct cores ≡ true → list_all (λ (c : Core). are_tasks_distinct c.tasks) cores ≡ true
 each-distinct [] h = refl
@@ -154,11 +140,11 @@ whole-alone plan id core limits expressible found separate =
     let names = and_parts _ (are_names_distinct plan.cores) unmoded.0 in
     let mine = pick is_core_expressible (and_parts (are_mode_name plan.modes) _ names.0).1 in
     let within = pick (is_core_within plan) (and_parts _ (list_all (is_core_within plan) plan.cores) limits).1 in
-    let outward = and_parts _ (not (has_operation (names_other core.id) core)) (and_parts _ (not (is_named_elsewhere plan core.id)) separate).0 in
+    let parts = separate-parts plan core separate in
     let same = same_core-true core.id id (find-holds (λ (c : Core). same_core c.id id) plan.cores core found) in
     record {
       expressible_core = mine;
-      limits = plan-alone plan id core found same limits within (not-true _ outward.1);
+      limits = plan-alone plan id core found same limits within parts.inward;
       expressible = expressible-alone plan id core found same expressible mine (pick (λ (c : Core). not (core_has_name mode_name c)) unmoded.1) (pick (λ (c : Core). are_tasks_distinct c.tasks) (each-distinct plan.cores names.1));
-      separate = separate-alone plan id core found same separate;
+      separate = separate-alone plan id core found same parts;
     }

@@ -1,16 +1,17 @@
 -- The started cores are closed under start lists: as many rounds as there are cores are enough.
-use Rattle.std.proofs.Common.{◌≡◌, ◌⊎◌, ℕ, zero, suc, ◌<◌, ◌≤◌, Bool, true, false, ◌&&◌, ◌||◌, cond, Some, List, [], ◌∷◌, length, filter, is_some, inl, inr, refl, sym, ap, ◌∙◌, arith}
-use Rattle.std.specs.List.{list_any, find}
-use Rattle.std.proofs.lemmas.Bool.{and_parts, and_from, or_left, or_right, eq-eqb, false≢true}
+use Rattle.std.proofs.Common.{◌≡◌, ◌⊎◌, ℕ, zero, suc, ◌<◌, Bool, true, false, ◌&&◌, ◌||◌, cond, Some, List, [], ◌∷◌, length, filter, is_some, inl, inr, refl, sym, ap, ◌∙◌, arith}
+use Rattle.std.specs.List.{list_any}
+use Rattle.std.proofs.lemmas.Bool.{and_parts, and_from, or_left, or_right, false≢true}
 use Rattle.std.proofs.lemmas.List.{length-map}
 use Rattle.osbase.specs.declared.references.CoreId.{CoreId}
 use Rattle.osbase.specs.History.{same_core}
+use Rattle.osbase.proofs.Same.{same_core-true, same_core-refl}
 use Rattle.osplan.specs.declared.plans.Plan.{Plan}
 use Rattle.osplan.specs.declared.plans.Core.{Core}
 use Rattle.osplan.specs.View.{core_of}
 use Rattle.osplan.specs.Separate.{configured_ids, is_among, is_named_by, is_started, started_within}
-use Rattle.osplan.proofs.Tests.{find-holds}
-use Rattle.osplan.proofs.Starting.{among-configured, kept, same_core-true}
+use Rattle.osplan.proofs.Tests.{any-found, find-holds, length-filter-le}
+use Rattle.osplan.proofs.Starting.{among-configured, kept}
 
 -- ---- a weaker test keeps as many, or more
 
@@ -25,14 +26,6 @@ filter-weaker {X} p q imply (x ∷ xs) = by (p x) (q x) (imply x) (filter-weaker
     by false true i (inl e) = let n : length (filter q xs) ≡ length (filter p xs) = ap (λ (ys : List X). length ys) e in inr (omega arith)
     by false true i (inr lt) = inr (omega arith)
     by false false i rest = rest
-
-length-filter-le : {X : Type 0} (p : X → Bool) (xs : List X) → length (filter p xs) ≤ length xs
-length-filter-le p [] = omega arith
-length-filter-le {X} p (x ∷ xs) = by (p x) (length-filter-le p xs)
-  where
-    by : (b : Bool) → length (filter p xs) ≤ length xs → length (cond b (x ∷ filter p xs) (filter p xs)) ≤ suc (length xs)
-    by true rest = omega arith
-    by false rest = omega arith
 
 -- ---- rounds
 
@@ -111,14 +104,6 @@ module _ (plan : Plan) where
 
   -- ---- what starts
 
-  any-found : {X : Type 0} (p q : X → Bool) (xs : List X) (x : X) → find p xs ≡ Some x → q x ≡ true → list_any q xs ≡ true
-  any-found p q [] x e h = cc
-  any-found {X} p q (y ∷ ys) x e h = by (p y) e (λ f. any-found p q ys x f h)
-    where
-      by : (b : Bool) → cond b (Some y) (find p ys) ≡ Some x → (find p ys ≡ Some x → list_any q ys ≡ true) → (q y || list_any q ys) ≡ true
-      by true f rest = let same : x ≡ y = cc in or_left (q y) _ (ap q (sym same) ∙ h)
-      by false f rest = or_right (q y) _ (rest f)
-
   within-later : (n : ℕ) (id : CoreId) → within zero id ≡ true → within n id ≡ true
   within-later zero id e = e
   within-later (suc n) id e = within-more n id (within-later n id e)
@@ -127,7 +112,7 @@ module _ (plan : Plan) where
   pub started-master : is_some (core_of plan plan.master) ≡ true → is_started plan plan.master ≡ true
   started-master there =
       within-later (length plan.cores) plan.master
-      (kept (λ i. same_core i plan.master) ids plan.master ∙ and_from _ _ (eq-eqb plan.master.number plan.master.number refl) (among-configured plan plan.master ∙ there))
+      (kept (λ i. same_core i plan.master) ids plan.master ∙ and_from _ _ (same_core-refl plan.master) (among-configured plan plan.master ∙ there))
 
   -- so is a configured core that a started one names in its start list
   pub started-next : (id k : CoreId) (core : Core) → is_started plan id ≡ true → core_of plan id ≡ Some core → is_among core.start k ≡ true → is_some (core_of plan k) ≡ true → is_started plan k ≡ true

@@ -9,6 +9,7 @@ use Rattle.osbase.specs.declared.references.CoreId.{CoreId}
 use Rattle.osbase.specs.declared.items.CoreSet.{CoreSet}
 use Rattle.osbase.specs.History.{same_core}
 use Rattle.osbase.specs.Sets.{has_core}
+use Rattle.osbase.proofs.Same.{same_core-true, same_core-refl}
 use Rattle.osplan.specs.declared.plans.Plan.{Plan}
 use Rattle.osplan.specs.declared.plans.Core.{Core}
 use Rattle.osplan.specs.View.{core_of}
@@ -19,7 +20,7 @@ use Rattle.osplan.proofs.Tests.{all-weaker, all-both, any-same, any-find}
 
 -- ---- a set's flags
 
-flag-read : (members : List Bool) (n : ℕ) → option_map_or (λ (b : Bool). b) (slice_get members n) false ≡ get_or members n false
+pub flag-read : (members : List Bool) (n : ℕ) → option_map_or (λ (b : Bool). b) (slice_get members n) false ≡ get_or members n false
 flag-read [] zero = refl
 flag-read [] (suc n) = refl
 flag-read (b ∷ bs) zero = refl
@@ -31,7 +32,7 @@ has_core-flag cores id lt = ap (λ b. b && option_map_or (λ (f : Bool). f) (sli
 
 -- ---- the master's flag alone
 
-no-flag : (n k : ℕ) → get_or (replicate n false) k false ≡ false
+pub no-flag : (n k : ℕ) → get_or (replicate n false) k false ≡ false
 no-flag zero k = refl
 no-flag (suc n) zero = refl
 no-flag (suc n) (suc k) = no-flag n k
@@ -51,9 +52,6 @@ flags-more f members n flag len lt here below =
     (λ k h. let ne : k ≢ n = omega arith in get_or-set_other members n k flag false ne ∙ below k h)
     (let inside : n < length members = omega arith in get_or-set_same members n flag false inside ∙ here)
 
-pub same_core-true : (a b : CoreId) → same_core a b ≡ true → a ≡ b
-same_core-true a b e = ap (λ (n : ℕ). let id : CoreId = record { number = n } in id) (eqb-true a.number b.number e)
-
 -- ---- what a round keeps
 
 -- The started cores within n rounds are the configured cores that are flagged.
@@ -70,7 +68,7 @@ is_known plan core = nat_lt core.id.number 16 && is_among (configured_ids plan) 
 all-among : (cores : List Core) → list_all (λ (c : Core). is_among (map (λ (d : Core). d.id) cores) c.id) cores ≡ true
 all-among [] = refl
 all-among (c ∷ cs) =
-    and_from _ _ (ap (λ b. b || is_among (map (λ (d : Core). d.id) cs) c.id) (eq-eqb c.id.number c.id.number refl))
+    and_from _ _ (ap (λ b. b || is_among (map (λ (d : Core). d.id) cs) c.id) (same_core-refl c.id))
     (all-weaker (λ (d : Core). is_among (map (λ (e : Core). e.id) cs) d.id) (λ (d : Core). is_among (map (λ (e : Core). e.id) (c ∷ cs)) d.id) (λ d h. or_right (same_core c.id d.id) _ h) cs (all-among cs))
 
 number-low : (plan : Plan) (core : Core) → is_core_within plan core ≡ true → nat_lt core.id.number 16 ≡ true
@@ -94,7 +92,8 @@ number-found (c ∷ cs) id low found =
       | inr later ↦ number-found cs id parts.1 later
     ]
 
-configured-low : (plan : Plan) (id : CoreId) → IsTrue (is_within_limits plan) → is_some (core_of plan id) ≡ true → id.number < 16
+-- a configured core's number is below 16
+pub configured-low : (plan : Plan) (id : CoreId) → IsTrue (is_within_limits plan) → is_some (core_of plan id) ≡ true → id.number < 16
 configured-low plan id limits found =
     number-found plan.cores id
     (all-weaker (is_core_within plan) (λ (c : Core). nat_lt c.id.number 16) (number-low plan) plan.cores (and_parts _ (list_all (is_core_within plan) plan.cores) limits).1)
@@ -116,7 +115,7 @@ round-same false true n = refl
 round-same false false true = refl
 round-same false false false = refl
 
-and-true : (b : Bool) → (b && true) ≡ b
+pub and-true : (b : Bool) → (b && true) ≡ b
 and-true true = refl
 and-true false = refl
 

@@ -1,9 +1,10 @@
 -- Tests over lists.
-use Rattle.std.proofs.Common.{◌≡◌, Bool, true, false, ◌&&◌, ◌||◌, cond, List, [], ◌∷◌, Option, Some, None, is_some, refl, ap, ◌∙◌, subst}
-use Rattle.std.specs.List.{list_all, list_any, find}
+use Rattle.std.proofs.Common.{◌≡◌, ℕ, zero, suc, ◌≤◌, ◌<◌, Bool, true, false, not, ◌&&◌, ◌||◌, nat_eq, cond, List, [], ◌∷◌, length, filter, Option, Some, None, is_some, refl, sym, ap, ◌∙◌, subst, arith}
+use Rattle.std.specs.List.{list_all, list_any, find, slice_get}
 use Rattle.std.specs.Option.{option_copied}
 use Rattle.std.specs.Borrow.{Bor}
-use Rattle.std.proofs.lemmas.Bool.{and_parts, and_from}
+use Rattle.std.proofs.lemmas.Bool.{and_parts, and_from, eqb-true, not-true, not_from_false, or_left, or_parts, or_right}
+use Rattle.std.proofs.lemmas.List.{nil_from_length}
 
 pub all-weaker : {X : Type 0} (p q : X → Bool) → ((x : X) → p x ≡ true → q x ≡ true) → (xs : List X) → list_all p xs ≡ true → list_all q xs ≡ true
 all-weaker p q imply [] a = refl
@@ -55,3 +56,52 @@ find-passes p q [] x a e = cc
 find-passes p q (y ∷ ys) x a e =
     let parts = and_parts (q y) (list_all q ys) a in
     find-passes-if q y x (find p ys) (p y) parts.0 e (find-passes p q ys x parts.1)
+
+-- A test that one found element passes.
+pub any-found : {X : Type 0} (p q : X → Bool) (xs : List X) (x : X) → find p xs ≡ Some x → q x ≡ true → list_any q xs ≡ true
+any-found p q [] x e h = cc
+any-found {X} p q (y ∷ ys) x e h = by (p y) e (λ f. any-found p q ys x f h)
+  where
+    by : (b : Bool) → cond b (Some y) (find p ys) ≡ Some x → (find p ys ≡ Some x → list_any q ys ≡ true) → (q y || list_any q ys) ≡ true
+    by true f rest = let same : x ≡ y = cc in or_left (q y) _ (ap q (sym same) ∙ h)
+    by false f rest = or_right (q y) _ (rest f)
+
+-- What all elements pass passes each, by its place.
+pub passes-at : {X : Type 0} (p : X → Bool) (xs : List X) (i : ℕ) (x : X) → list_all p xs ≡ true → slice_get xs i ≡ Some x → p x ≡ true
+passes-at p [] i x all e = cc
+passes-at p (y ∷ ys) zero x all e =
+    let same : y ≡ x = cc in
+    subst (λ z. p z ≡ true) same (and_parts (p y) (list_all p ys) all).0
+passes-at p (y ∷ ys) (suc i) x all e = passes-at p ys i x (and_parts (p y) (list_all p ys) all).1 e
+
+-- A test that no element passes: all fail it, and so does each, by its place or as the found one.
+pub all-not : {X : Type 0} (p : X → Bool) (xs : List X) → list_any p xs ≡ false → list_all (λ x. not (p x)) xs ≡ true
+all-not p [] e = refl
+all-not p (x ∷ xs) e =
+    let parts = or_parts (p x) (list_any p xs) e in
+    and_from (not (p x)) _ (not_from_false (p x) parts.0) (all-not p xs parts.1)
+
+pub fails-at : {X : Type 0} (p : X → Bool) (xs : List X) (i : ℕ) (x : X) → list_any p xs ≡ false → slice_get xs i ≡ Some x → p x ≡ false
+fails-at p xs i x none e = not-true (p x) (passes-at (λ y. not (p y)) xs i x (all-not p xs none) e)
+
+pub find-fails : {X : Type 0} (p q : X → Bool) (xs : List X) (x : X) → list_any q xs ≡ false → find p xs ≡ Some x → q x ≡ false
+find-fails p q xs x none e = not-true (q x) (find-passes p (λ y. not (q y)) xs x (all-not q xs none) e)
+
+-- A place within a list has an element.
+pub get-within : {X : Type 0} (xs : List X) (i : ℕ) → i < length xs → is_some (slice_get xs i) ≡ true
+get-within [] i h = absurd (omega (arith, h))
+get-within (x ∷ xs) zero h = refl
+get-within (x ∷ xs) (suc i) h = get-within xs i (omega (arith, h))
+
+-- A filter keeps no more than there were.
+pub length-filter-le : {X : Type 0} (p : X → Bool) (xs : List X) → length (filter p xs) ≤ length xs
+length-filter-le p [] = omega arith
+length-filter-le {X} p (x ∷ xs) = by (p x) (length-filter-le p xs)
+  where
+    by : (b : Bool) → length (filter p xs) ≤ length xs → length (cond b (x ∷ filter p xs) (filter p xs)) ≤ suc (length xs)
+    by true rest = omega arith
+    by false rest = omega arith
+
+-- A list of length 0 is empty.
+pub none-from : {X : Type 0} (xs : List X) → nat_eq (length xs) 0 ≡ true → xs ≡ []
+none-from xs e = nil_from_length xs (eqb-true (length xs) 0 e)

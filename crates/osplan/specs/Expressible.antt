@@ -1,26 +1,17 @@
 -- What a text can say of a configuration so far, beside its limits: names in form and all different, one mode, at
 -- most one task a core, and no ISR, alarm or table. [own]
 -- Each is a test, so that a literal configuration passes it by computation.
-use Rattle.std.specs.Prelude.{ℕ, ◌==◌, ◌&&◌, ◌||◌, nat_le, Bool, true, false, not, List, [], ◌∷◌, length, codes}
-use Rattle.std.specs.Char.{is_ascii_alphabetic, is_ascii_alphanumeric}
+use Rattle.std.specs.Prelude.{ℕ, ◌==◌, ◌&&◌, nat_le, Bool, true, false, not, List, [], ◌∷◌, length, codes}
 use Rattle.std.specs.List.{list_all, list_any}
 use Rattle.std.specs.Str.{bytes_eq}
 use Rattle.osbase.specs.declared.references.CoreId.{CoreId}
 use Rattle.osbase.specs.declared.references.ModeId.{ModeId}
+use Rattle.osbase.specs.Names.{is_name}
 use Rattle.osplan.specs.declared.plans.Plan.{Plan}
 use Rattle.osplan.specs.declared.plans.Core.{Core}
 use Rattle.osplan.specs.declared.plans.Task.{Task}
 use Rattle.osplan.specs.declared.plans.CoreMode.{CoreMode}
 use Rattle.osplan.specs.declared.plans.CoreMode.TheVariants.{Named, DontCare}
-
--- A name's first character is a letter, and the others are letters, digits and underscores, all of ASCII.
-abbrev pub is_name_part : ℕ → Bool
-is_name_part c = is_ascii_alphanumeric c || (c == 95)
-
--- A name has 1 to 128 characters.
-abbrev pub is_name : List ℕ → Bool
-is_name [] = false
-is_name (c ∷ cs) = is_ascii_alphabetic c && nat_le (length cs) 127 && list_all is_name_part cs
 
 -- The name of the only mode.
 abbrev pub mode_name : List ℕ

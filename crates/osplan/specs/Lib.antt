@@ -1,3 +1,4 @@
+pub mod Objects
 pub mod View
 pub mod Limits
 pub mod Expressible

@@ -1,30 +1,28 @@
 -- The limits of a configuration, and that each of its references names an object. [own]
 -- Each is a test, so that a literal configuration is within them by computation.
-use Rattle.std.specs.Prelude.{◌&&◌, nat_le, nat_lt, Bool, true, false, not, is_some, Some, None, List, [], ◌∷◌, length, sum_by}
+use Rattle.std.specs.Prelude.{◌&&◌, nat_le, nat_lt, Bool, true, false, not, is_some, List, [], ◌∷◌, length, sum_by}
 use Rattle.std.specs.List.{list_all}
 use Rattle.std.specs.Option.{option_map_or}
 use Rattle.osbase.specs.declared.references.ModeId.{ModeId}
-use Rattle.osbase.specs.declared.references.TaskRef.{TaskRef}
+use Rattle.osbase.specs.declared.objects.Object.{Object}
 use Rattle.osbase.specs.History.{same_core}
 use Rattle.oscript.specs.declared.Op.{Op}
-use Rattle.oscript.specs.declared.Op.TheVariants.{Work, ActivateTask, TerminateTask}
+use Rattle.oscript.specs.Rows.{objects_of}
 use Rattle.osplan.specs.declared.plans.Plan.{Plan}
 use Rattle.osplan.specs.declared.plans.Core.{Core}
 use Rattle.osplan.specs.declared.plans.Task.{Task}
 use Rattle.osplan.specs.declared.plans.CoreMode.{CoreMode}
 use Rattle.osplan.specs.declared.plans.CoreMode.TheVariants.{Named, DontCare}
+use Rattle.osplan.specs.Objects.{object_count}
 use Rattle.osplan.specs.View.{core_of}
 
--- The reference names a task of the configuration.
-abbrev pub is_task : Plan → TaskRef → Bool
-is_task plan t = option_map_or (λ (c : Core). nat_lt t.index (length c.tasks)) (core_of plan t.core) false
+-- The object is one of the configuration.
+abbrev pub is_object : Plan → Object → Bool
+is_object plan object = option_map_or (λ (c : Core). nat_lt object.place.index (object_count object.kind c)) (core_of plan object.place.core) false
 
 -- What an operation names is there; the invalid identifier names nothing.
 abbrev pub is_op_known : Plan → Op → Bool
-is_op_known plan Work = true
-is_op_known plan (ActivateTask None) = true
-is_op_known plan (ActivateTask (Some t)) = is_task plan t
-is_op_known plan TerminateTask = true
+is_op_known plan op = list_all (is_object plan) (objects_of op)
 
 abbrev pub is_mode : Plan → ModeId → Bool
 is_mode plan m = nat_lt m.index (length plan.modes)

@@ -1,11 +1,12 @@
 -- When a core is separate, so that no other core has a say in what it prints, and its configuration by itself.
-use Rattle.std.specs.Prelude.{ℕ, zero, suc, ◌==◌, ◌&&◌, ◌||◌, not, Bool, true, false, if◌then◌else◌, Some, None, List, [], ◌∷◌, length, map, filter}
+use Rattle.std.specs.Prelude.{ℕ, zero, suc, ◌==◌, ◌&&◌, ◌||◌, not, Bool, true, false, if◌then◌else◌, List, [], ◌∷◌, length, map, filter}
 use Rattle.std.specs.List.{list_all, list_any}
 use Rattle.std.specs.Option.{option_map_or}
 use Rattle.osbase.specs.declared.references.CoreId.{CoreId}
+use Rattle.osbase.specs.declared.objects.Object.{Object}
 use Rattle.osbase.specs.History.{same_core}
 use Rattle.oscript.specs.declared.Op.{Op}
-use Rattle.oscript.specs.declared.Op.TheVariants.{Work, ActivateTask, TerminateTask}
+use Rattle.oscript.specs.Rows.{objects_of}
 use Rattle.osplan.specs.declared.plans.Plan.{Plan}
 use Rattle.osplan.specs.declared.plans.Core.{Core}
 use Rattle.osplan.specs.declared.plans.Task.{Task}
@@ -63,19 +64,16 @@ is_agreed_mode plan mode = list_all (λ (c : Core). not (is_started plan c.id) |
 
 -- ---- what scripts name
 
+-- The object stands on this core.
+abbrev pub is_on : CoreId → Object → Bool
+is_on id object = same_core object.place.core id
+
 -- The operation names an object of this core. The invalid identifier names nothing.
 abbrev pub names_own : CoreId → Op → Bool
-names_own id Work = false
-names_own id (ActivateTask None) = false
-names_own id (ActivateTask (Some t)) = same_core t.core id
-names_own id TerminateTask = false
+names_own id op = list_any (is_on id) (objects_of op)
 
--- The operation names an object of a core other than this one.
 abbrev pub names_other : CoreId → Op → Bool
-names_other id Work = false
-names_other id (ActivateTask None) = false
-names_other id (ActivateTask (Some t)) = not (same_core t.core id)
-names_other id TerminateTask = false
+names_other id op = list_any (λ object. not (is_on id object)) (objects_of op)
 
 -- A script of the core has such an operation.
 abbrev pub has_operation : (Op → Bool) → Core → Bool

@@ -1,11 +1,12 @@
 //! The parts of a configuration, and the configuration that keeps its limits.
 
 ghost use Rattle.std.specs.Prelude.{◌≡◌, ◌↔◌, IsTrue, Option, option_copied};
+ghost use Rattle.osplan.specs.Objects.{is_own_object, object_count};
 ghost use Rattle.osplan.specs.View.{core_of};
 ghost use Rattle.osplan.specs.Limits.{is_within_limits};
 ghost use Rattle.osplan.specs.Expressible.{is_expressible};
 
-use osbase::{CoreId, List, ModeId, Name};
+use osbase::{CoreId, List, ModeId, Name, Object, ObjectKind};
 use oscript::Script;
 use std::marker::Model;
 
@@ -109,6 +110,25 @@ impl Config {
         ensures expressible { IsTrue (is_expressible self.now) }
     {
         &self.plan
+    }
+}
+
+impl Core {
+    /// Whether the object is one of the core's own.
+    pub fn has(&self, object: Object) -> bool
+        ensures { result ≡ is_own_object self.now object }
+    {
+        object.place.core.number == self.id.number
+            && usize::from(object.place.index) < self.count(object.kind)
+    }
+
+    fn count(&self, kind: ObjectKind) -> usize
+        ensures { result ≡ object_count kind self.now }
+    {
+        match kind {
+            ObjectKind::Task => self.tasks.len(),
+            ObjectKind::Alarm => self.alarms.len(),
+        }
     }
 }
 

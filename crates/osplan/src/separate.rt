@@ -1,22 +1,21 @@
 //! Separate cores: no other core has a say in what they print. And the configuration of one alone.
 
-ghost use Rattle.std.specs.Prelude.{◌≡◌, ◌<◌, ◌⊎◌, ◌↔◌, false, IsTrue, IfOk, IfErr, Err};
+ghost use Rattle.std.specs.Prelude.{◌≡◌, ◌<◌, ◌⊎◌, ◌↔◌, false, not, IsTrue, IfOk, IfErr, Err};
 ghost use Rattle.std.specs.List.{list_any};
+ghost use Rattle.std.specs.Option.{option_map_or};
 ghost use Rattle.osbase.specs.History.{same_core};
 ghost use Rattle.osbase.specs.Sets.{has_core};
+ghost use Rattle.osbase.specs.declared.turns.TheConstants.{CORES};
 ghost use Rattle.osplan.specs.Limits.{is_within_limits};
 ghost use Rattle.osplan.specs.Expressible.{is_core_expressible};
 ghost use Rattle.osplan.specs.Flags.{is_named_by_one_of, is_next, AreStarted};
-ghost use Rattle.osplan.specs.Separate.{agree, alone_of, cut_of, has_operation, is_among, is_named_elsewhere, is_agreed_mode, is_separate, is_separate_core, is_started, names_mode, names_other, names_own, standing_of};
+ghost use Rattle.osplan.specs.Separate.{agree, alone_of, cut_of, has_operation, is_among, is_named_elsewhere, is_agreed_mode, is_on, is_separate, is_separate_core, is_started, names_mode, names_other, names_own, standing_of};
 
 use crate::faults::ConfFault;
 use crate::plans::{Config, Core, CoreMode, Plan, Task};
-use osbase::{CoreId, CoreSet, List, Name};
+use osbase::{CORE_NUMBERS, CORES, CoreId, CoreSet, List, Name, Object};
 use oscript::Op;
 use std::alloc::{AllocError, Global};
-
-/// One past the greatest number that a set holds.
-const NUMBERS: u8 = 16;
 
 fn is_among(ids: &[CoreId], id: CoreId) -> bool
     ensures { result ≡ is_among ids.now id }
@@ -38,10 +37,10 @@ fn is_next(cores: &[Core], started: &CoreSet, id: CoreId) -> bool
 
 // The cores that are started after one more round of start lists.
 fn after_round(cores: &[Core], started: &CoreSet) -> CoreSet
-    ensures { (id : CoreId) → id.number < 16 → has_core result id ≡ is_next cores.now started.now id }
+    ensures { (id : CoreId) → id.number < CORES → has_core result id ≡ is_next cores.now started.now id }
 {
-    let mut members = [false; 16];
-    for number in 0..NUMBERS {
+    let mut members = [false; CORES];
+    for number in 0..CORE_NUMBERS {
         members[usize::from(number)] = is_next(cores, started, CoreId { number });
     }
     CoreSet { members }
@@ -49,10 +48,10 @@ fn after_round(cores: &[Core], started: &CoreSet) -> CoreSet
 
 // The master alone.
 fn at_first(master: CoreId) -> CoreSet
-    requires { master.number < 16 }
-    ensures { (id : CoreId) → id.number < 16 → has_core result id ≡ same_core id master }
+    requires { master.number < CORES }
+    ensures { (id : CoreId) → id.number < CORES → has_core result id ≡ same_core id master }
 {
-    let mut members = [false; 16];
+    let mut members = [false; CORES];
     members[usize::from(master.number)] = true;
     CoreSet { members }
 }
@@ -103,26 +102,46 @@ fn is_agreed_mode(plan: &Plan, started: &CoreSet, mode: CoreMode) -> bool
         || agree(mode, core.mode))
 }
 
+fn is_on(id: CoreId, object: Option<Object>) -> bool
+    ensures { result ≡ option_map_or (is_on id) object false }
+{
+    match object {
+        Some(object) => object.place.core.number == id.number,
+        None => false,
+    }
+}
+
+fn is_off(id: CoreId, object: Option<Object>) -> bool
+    ensures { result ≡ option_map_or (λ o. not (is_on id o)) object false }
+{
+    match object {
+        Some(object) => object.place.core.number != id.number,
+        None => false,
+    }
+}
+
+fn is_any_on(id: CoreId, objects: &[Option<Object>]) -> bool
+    ensures { result ≡ list_any (λ object. option_map_or (is_on id) object false) objects.now }
+{
+    objects.iter().any(|object| is_on(id, *object))
+}
+
+fn is_any_off(id: CoreId, objects: &[Option<Object>]) -> bool
+    ensures { result ≡ list_any (λ object. option_map_or (λ o. not (is_on id o)) object false) objects.now }
+{
+    objects.iter().any(|object| is_off(id, *object))
+}
+
 fn names_own(id: CoreId, op: Op) -> bool
     ensures { result ≡ names_own id op }
 {
-    match op {
-        Op::ActivateTask(Some(task)) => task.core.number == id.number,
-        Op::ActivateTask(None) => false,
-        Op::Work => false,
-        Op::TerminateTask => false,
-    }
+    is_any_on(id, &op.objects())
 }
 
 fn names_other(id: CoreId, op: Op) -> bool
     ensures { result ≡ names_other id op }
 {
-    match op {
-        Op::ActivateTask(Some(task)) => task.core.number != id.number,
-        Op::ActivateTask(None) => false,
-        Op::Work => false,
-        Op::TerminateTask => false,
-    }
+    is_any_off(id, &op.objects())
 }
 
 fn is_script_outward(id: CoreId, task: &Task) -> bool

@@ -1,6 +1,7 @@
-//! Worked examples as theorems: what the definitions say of them, by computation.
+//! Worked examples as theorems: what the definitions say of them, by computation. And laws of every history.
 #![tactic(auto)]
 
 pub mod border;
+pub mod laws;
 pub mod limit;
 pub mod refusals;

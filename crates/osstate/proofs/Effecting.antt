@@ -1,16 +1,16 @@
 -- How effects compose.
-use Rattle.std.proofs.Common.{◌≡◌, ℕ, ◌+◌, ◌≤◌, Bool, true, List, [], ◌∷◌, ◌++◌, length, refl, ap, sym, subst, ◌∙◌, arith, add-one, append_assoc, length-append, Vec, Global, vec_len, vec_capacity}
+use Rattle.std.proofs.Common.{◌≡◌, ℕ, ◌+◌, ◌≤◌, ◌<◌, List, [], ◌∷◌, ◌++◌, refl, ap, sym, subst, ◌∙◌, arith, append_assoc, length-append, Vec, Global, vec_len, vec_capacity}
 use Rattle.std.proofs.lemmas.List.{append-nil}
-use Rattle.osbase.specs.declared.references.TaskRef.{TaskRef}
-use Rattle.osbase.specs.declared.references.Runner.{Runner}
+use Rattle.osbase.specs.declared.references.CoreId.{CoreId}
+use Rattle.osbase.specs.declared.messages.Message.{Message}
 use Rattle.osbase.specs.declared.marks.Mark.{Mark}
-use Rattle.osbase.specs.History.{History, Entry, Printed, Noted, marks_of}
+use Rattle.osbase.specs.declared.turns.TheConstants.{CORES}
+use Rattle.osbase.specs.History.{History, Entry, Note, Printed, Noted, Queued, marks_of, queued_count}
 use Rattle.osplan.specs.View.{View}
 use Rattle.osstate.specs.State.{KernelState, Stands, state_of}
-use Rattle.osstate.specs.Steps.{state_after}
-use Rattle.osstate.specs.Sound.{is_own_runner, is_plain}
-use Rattle.osstate.specs.Does.{Adds, Does, Effects, Notes, Remarks, StaysInItem, Tracks}
-use Rattle.osstate.proofs.Histories.{printed, terminated}
+use Rattle.osstate.specs.Steps.{next_envelope, state_after}
+use Rattle.osstate.specs.Does.{Adds, Effects, Remarks, StaysInItem}
+use Rattle.osstate.proofs.Histories.{notes, notes_queued}
 
 adds-then : {m n : ℕ} {a b c : List Mark} → Adds m a b → Adds n b c → Adds (m + n) a c
 adds-then {a = a} e d = record {
@@ -61,10 +61,10 @@ stays_in : (s s' : KernelState) (e : Entry) → s' ≡ state_after e s → Stays
 stays_in s s' e is stays = subst (λ (q : KernelState). StaysInItem 1 s q) (sym is) stays
 
 -- One mark more.
-pub printing : {m : Mark} {s s' : KernelState} {x x' : Vec Mark Global} → Notes (λ v h. Printed m ∷ h) s s' → s' ≡ state_after (Printed m) s → x'.items ≡ x.items ++ m ∷ [] → vec_len x' ≤ vec_len x + 1 → vec_capacity x' ≡ vec_capacity x → Effects 1 1 (λ v h. Printed m ∷ h) s s' x x'
-printing {m} {s} {s'} notes is more len capacity = record {
+pub printing : {m : Mark} {s s' : KernelState} {x x' : Vec Mark Global} → s' ≡ state_after (Printed m) s → ((v : View) (h : History) → s.view ≡ v → state_after (Printed m) (state_of v h) ≡ state_of v (Printed m ∷ h)) → x'.items ≡ x.items ++ m ∷ [] → vec_len x' ≤ vec_len x + 1 → vec_capacity x' ≡ vec_capacity x → Effects 1 1 (λ v h. Printed m ∷ h) s s' x x'
+printing {m} {s} {s'} is step more len capacity = record {
   does = (λ v h earlier base tracks. record {
-    stands = notes v h tracks.stands;
+    stands = notes is step v h tracks.stands;
     added = tracks.added ++ m ∷ [];
     behind = more ∙ ap (λ (ms : List Mark). ms ++ m ∷ []) tracks.behind ∙ append_assoc base tracks.added (m ∷ []);
     shows = sym (append_assoc earlier tracks.added (m ∷ [])) ∙ ap (λ (ms : List Mark). ms ++ m ∷ []) tracks.shows;
@@ -75,11 +75,20 @@ printing {m} {s} {s'} notes is more len capacity = record {
   capacity = capacity;
 }
 
-pub plainly : (m : Mark) (s s' : KernelState) → is_plain m ≡ true → s' ≡ state_after (Printed m) s → Notes (λ v h. Printed m ∷ h) s s'
-plainly m s s' plain is v h stands = record { is = is ∙ ap (state_after (Printed m)) stands.is ∙ printed m v h plain }
+-- One note more.
+pub noting : {n : Note} {s s' : KernelState} → s' ≡ state_after (Noted n) s → ((v : View) (h : History) → s.view ≡ v → state_after (Noted n) (state_of v h) ≡ state_of v (Noted n ∷ h)) → Remarks 1 (λ v h. Noted n ∷ h) s s'
+noting {n} {s} {s'} is step = record {
+  notes = notes is step;
+  silent = (λ v h. refl);
+  stays = stays_in s s' (Noted n) is (record { view = refl; phase = refl; items = refl; entries = omega arith });
+}
 
-pub ending : (t : TaskRef) (s s' : KernelState) → is_own_runner s.view (Runner.Task t) ≡ true → s' ≡ state_after (Printed (Mark.Terminated t)) s → Notes (λ v h. Printed (Mark.Terminated t) ∷ h) s s'
-ending t s s' own is v h stands = record { is = is ∙ ap (state_after (Printed (Mark.Terminated t))) stands.is ∙ terminated v h t (subst (λ (q : KernelState). is_own_runner q.view (Runner.Task t) ≡ true) stands.is own) }
+pub queueing : {to : CoreId} {message : Message} {s s' : KernelState} → to.number < CORES → s' ≡ state_after (Noted (Queued to (next_envelope s to message))) s → Remarks 1 (λ v h. Noted (Queued to (record { number = queued_count to h; message = message })) ∷ h) s s'
+queueing {to} {message} {s} {s'} known is = record {
+  notes = notes_queued known is;
+  silent = (λ v h. refl);
+  stays = stays_in s s' (Noted (Queued to (next_envelope s to message))) is (record { view = refl; phase = refl; items = refl; entries = omega arith });
+}
 
 -- The marks added are those of the effect, whatever stood in the vector.
 pub added_are : {a m : ℕ} {f : View → History → History} {s s' : KernelState} {x x' : Vec Mark Global} → Effects a m f s s' x x' → (v : View) (h : History) → Stands v h s → (ms : List Mark) × (x'.items ≡ x.items ++ ms) × (marks_of h ++ ms ≡ marks_of (f v h))

@@ -4,7 +4,7 @@ use Rattle.std.specs.List.{remove}
 use Rattle.osbase.specs.declared.references.Runner.{Runner}
 use Rattle.osbase.specs.declared.histories.Job.{Job}
 use Rattle.osbase.specs.History.{same_runner, without_oldest, job_count}
-use Rattle.osstate.proofs.Same.{same_runner-true}
+use Rattle.osbase.proofs.Same.{same_runner-true}
 
 -- one job more counts for its runner
 pub job_count-append : (r : Runner) (js : List Job) (j : Job) → job_count r (js ++ j ∷ []) ≡ cond (same_runner j.runner r) (suc (job_count r js)) (job_count r js)

@@ -9,14 +9,11 @@ use Rattle.osbase.specs.declared.references.TaskRef.{TaskRef}
 use Rattle.osbase.specs.declared.references.Runner.{Runner}
 use Rattle.osbase.specs.declared.histories.Job.{Job}
 use Rattle.osbase.specs.History.{same_core, same_runner, job_count, oldest, oldest_of}
-use Rattle.osplan.specs.declared.plans.Plan.{Plan}
 use Rattle.osplan.specs.declared.plans.Core.{Core}
 use Rattle.osplan.specs.declared.plans.Task.{Task}
-use Rattle.osplan.specs.View.{View}
-use Rattle.osstate.specs.Readings.{own_task}
-use Rattle.osstate.specs.Steps.{is_runner_in, view_from}
+use Rattle.osplan.specs.View.{own_task}
 use Rattle.osstate.specs.Sound.{activation_limit, is_current, is_own_runner}
-use Rattle.osstate.proofs.Same.{same_core-true, same_core-refl, same_task-refl}
+use Rattle.osbase.proofs.Same.{same_core-true, same_core-refl, same_runner-refl, same_task-refl}
 use Rattle.osstate.proofs.JobLists.{job_count-rest}
 
 abbrev at : CoreId → ℕ → Runner
@@ -38,10 +35,6 @@ live_total-rest core i (t ∷ ts) j js = omega (arith, live_total-rest core (suc
 job_count-same : (r : Runner) (j : Job) (js : List Job) → same_runner j.runner r ≡ true → job_count r (j ∷ js) ≡ suc (job_count r js)
 job_count-same r j js e = rw e
 
-same_runner-refl : (r : Runner) → same_runner r r ≡ true
-same_runner-refl (Runner.Task t) = same_task-refl t
-same_runner-refl (Runner.Isr i) = same_task-refl (record { core = i.core; index = i.index })
-
 -- a job of one of the tasks makes the sum greater
 live_total-more : (core : CoreId) (i k n : ℕ) (ts : List Task) (j : Job) (js : List Job) → n ≡ i + k → k < length ts → j.runner ≡ at core n → suc (live_total core i ts js) ≤ live_total core i ts (j ∷ js)
 live_total-more core i k n [] j js e h r = absurd (omega (arith, h))
@@ -53,27 +46,27 @@ live_total-more core i (suc k) n (t ∷ ts) j js e h r =
     omega (arith, live_total-more core (suc i) k n ts j js (omega (arith, e)) (omega (arith, h)) r, job_count-rest (at core i) j js)
 
 -- a runner with a place for a job is one of the tasks
-pub own_from_limit : (v : View) (r : Runner) → 0 < activation_limit v r → (n : ℕ) × (n < length v.tasks) × (r ≡ at v.core n)
-own_from_limit v (Runner.Isr i) h = absurd (omega (arith, h))
-own_from_limit v (Runner.Task t) h = cases (same_core t.core v.core) refl h
+pub own_from_limit : (core : Core) (r : Runner) → 0 < activation_limit core r → (n : ℕ) × (n < length core.tasks) × (r ≡ at core.id n)
+own_from_limit core (Runner.Isr i) h = absurd (omega (arith, h))
+own_from_limit core (Runner.Task t) h = cases (same_core t.core core.id) refl h
   where
     inside : (xs : List Task) (i : ℕ) → 0 < option_map_or (λ (task : Task). task.activations) (slice_get xs i) 0 → i < length xs
     inside [] i h = absurd (omega (arith, h))
     inside (x ∷ xs) zero h = omega arith
     inside (x ∷ xs) (suc i) h = omega (arith, inside xs i h)
 
-    cases : (b : Bool) → same_core t.core v.core ≡ b → 0 < option_map_or (λ (task : Task). task.activations) (cond b (slice_get v.tasks t.index) None) 0 → (n : ℕ) × (n < length v.tasks) × (Runner.Task t ≡ at v.core n)
-    cases true e h = (t.index, inside v.tasks t.index h, ap (λ (c : CoreId). at c t.index) (same_core-true t.core v.core e))
+    cases : (b : Bool) → same_core t.core core.id ≡ b → 0 < option_map_or (λ (task : Task). task.activations) (cond b (slice_get core.tasks t.index) None) 0 → (n : ℕ) × (n < length core.tasks) × (Runner.Task t ≡ at core.id n)
+    cases true e h = (t.index, inside core.tasks t.index h, ap (λ (c : CoreId). at c t.index) (same_core-true t.core core.id e))
     cases false e h = absurd (omega (arith, h))
 
 -- jobs within the limits are jobs of the tasks
-length-live_total : (v : View) (js : List Job) → ((r : Runner) → job_count r js ≤ activation_limit v r) → length js ≤ live_total v.core 0 v.tasks js
-length-live_total v [] within = omega arith
-length-live_total v (j ∷ js) within =
-    let some : 0 < activation_limit v j.runner = omega (arith, within j.runner, job_count-same j.runner j js (same_runner-refl j.runner)) in
-    let own = own_from_limit v j.runner some in
-    let rest = length-live_total v js (λ r. omega (arith, within r, job_count-rest r j js)) in
-    omega (arith, rest, live_total-more v.core 0 own.0 own.0 v.tasks j js (omega arith) own.1 own.2)
+length-live_total : (core : Core) (js : List Job) → ((r : Runner) → job_count r js ≤ activation_limit core r) → length js ≤ live_total core.id 0 core.tasks js
+length-live_total core [] within = omega arith
+length-live_total core (j ∷ js) within =
+    let some : 0 < activation_limit core j.runner = omega (arith, within j.runner, job_count-same j.runner j js (same_runner-refl j.runner)) in
+    let own = own_from_limit core j.runner some in
+    let rest = length-live_total core js (λ r. omega (arith, within r, job_count-rest r j js)) in
+    omega (arith, rest, live_total-more core.id 0 own.0 own.0 core.tasks j js (omega arith) own.1 own.2)
 
 -- and each task's are at most its limit
 live_total-le : (core : CoreId) (i : ℕ) (ts : List Task) (js : List Job) → ((n k : ℕ) (t : Task) → n ≡ i + k → slice_get ts k ≡ Some t → job_count (at core n) js ≤ t.activations) → live_total core i ts js ≤ sum_by (λ (t : Task). t.activations) ts
@@ -87,39 +80,34 @@ live_total-le core i (t ∷ ts) js within =
     )
 
 -- at most as many jobs as the limits sum to
-pub length_within : (v : View) (js : List Job) → ((r : Runner) → job_count r js ≤ activation_limit v r) → length js ≤ sum_by (λ (t : Task). t.activations) v.tasks
-length_within v js within =
-    omega (arith, length-live_total v js within, live_total-le v.core 0 v.tasks js (λ n k t e g. each n k t e g))
+pub length_within : (core : Core) (js : List Job) → ((r : Runner) → job_count r js ≤ activation_limit core r) → length js ≤ sum_by (λ (t : Task). t.activations) core.tasks
+length_within core js within =
+    omega (arith, length-live_total core js within, live_total-le core.id 0 core.tasks js (λ n k t e g. each n k t e g))
   where
-    limit_at : (n : ℕ) (t : Task) → slice_get v.tasks n ≡ Some t → activation_limit v (at v.core n) ≡ t.activations
-    limit_at n t g = rw (same_core-refl v.core, g)
+    limit_at : (n : ℕ) (t : Task) → slice_get core.tasks n ≡ Some t → activation_limit core (at core.id n) ≡ t.activations
+    limit_at n t g = rw (same_core-refl core.id, g)
 
-    each : (n k : ℕ) (t : Task) → n ≡ 0 + k → slice_get v.tasks k ≡ Some t → job_count (at v.core n) js ≤ t.activations
+    each : (n k : ℕ) (t : Task) → n ≡ 0 + k → slice_get core.tasks k ≡ Some t → job_count (at core.id n) js ≤ t.activations
     each n k t e g =
         let n_is_k : n ≡ k = omega (arith, e) in
-        let g' : slice_get v.tasks n ≡ Some t = ap (slice_get v.tasks) n_is_k ∙ g in
-        omega (arith, within (at v.core n), limit_at n t g')
+        let g' : slice_get core.tasks n ≡ Some t = ap (slice_get core.tasks) n_is_k ∙ g in
+        omega (arith, within (at core.id n), limit_at n t g')
 
 -- a runner with a place for a job is an own one
-own_from_place : (v : View) (r : Runner) → 0 < activation_limit v r → is_own_runner v r ≡ true
-own_from_place v (Runner.Isr i) h = absurd (omega (arith, h))
-own_from_place v (Runner.Task t) h = cases (own_task v t) h
+own_from_place : (core : Core) (r : Runner) → 0 < activation_limit core r → is_own_runner core r ≡ true
+own_from_place core (Runner.Isr i) h = absurd (omega (arith, h))
+own_from_place core (Runner.Task t) h = cases (own_task core t) h
   where
     cases : (o : Option Task) → 0 < option_map_or (λ (task : Task). task.activations) o 0 → is_some o ≡ true
     cases None h = absurd (omega (arith, h))
     cases (Some x) h = refl
 
--- what the core's own part says of a runner is what its view says
-pub runner_in : (plan : Plan) (core : Core) (r : Runner) → is_own_runner (view_from plan core) r ≡ is_runner_in core r
-runner_in plan core (Runner.Task t) = refl
-runner_in plan core (Runner.Isr i) = refl
-
 -- each live job is one of the core's own
-pub all_own : (v : View) (js : List Job) → ((r : Runner) → job_count r js ≤ activation_limit v r) → All (λ (j : Job). is_own_runner v j.runner ≡ true) js
-all_own v [] within = All-nil (λ (j : Job). is_own_runner v j.runner ≡ true)
-all_own v (j ∷ js) within =
-    let some : 0 < activation_limit v j.runner = omega (arith, within j.runner, job_count-same j.runner j js (same_runner-refl j.runner)) in
-    All-cons (λ (j : Job). is_own_runner v j.runner ≡ true) j js (own_from_place v j.runner some) (all_own v js (λ r. omega (arith, within r, job_count-rest r j js)))
+pub all_own : (core : Core) (js : List Job) → ((r : Runner) → job_count r js ≤ activation_limit core r) → All (λ (j : Job). is_own_runner core j.runner ≡ true) js
+all_own core [] within = All-nil (λ (j : Job). is_own_runner core j.runner ≡ true)
+all_own core (j ∷ js) within =
+    let some : 0 < activation_limit core j.runner = omega (arith, within j.runner, job_count-same j.runner j js (same_runner-refl j.runner)) in
+    All-cons (λ (j : Job). is_own_runner core j.runner ≡ true) j js (own_from_place core j.runner some) (all_own core js (λ r. omega (arith, within r, job_count-rest r j js)))
 
 -- the oldest job of a runner is live
 oldest_counted : (r : Runner) (js : List Job) (j : Job) → oldest r js ≡ Some j → 0 < job_count j.runner js
@@ -134,9 +122,9 @@ oldest_counted r (x ∷ js) j e = cases (same_runner x.runner r) e (λ later. ol
     cases false e rest = omega (arith, rest e, job_count-rest j.runner x js)
 
 -- so it is one of the core's own
-pub own_oldest : (v : View) (current : Option TaskRef) (js : List Job) (j : Job) → ((r : Runner) → job_count r js ≤ activation_limit v r) → oldest_of current js ≡ Some j → is_own_runner v j.runner ≡ true
-own_oldest v None js j within e = cc
-own_oldest v (Some t) js j within e = own_from_place v j.runner (omega (arith, within j.runner, oldest_counted (Runner.Task t) js j e))
+pub own_oldest : (core : Core) (current : Option TaskRef) (js : List Job) (j : Job) → ((r : Runner) → job_count r js ≤ activation_limit core r) → oldest_of current js ≡ Some j → is_own_runner core j.runner ≡ true
+own_oldest core None js j within e = cc
+own_oldest core (Some t) js j within e = own_from_place core j.runner (omega (arith, within j.runner, oldest_counted (Runner.Task t) js j e))
 
 -- and it is live
 pub live_current : (current : Option TaskRef) (js : List Job) (o : Option Job) → o ≡ oldest_of current js → IfSome o (λ j. 0 < job_count j.runner js)
@@ -144,9 +132,9 @@ live_current current js None e = tt
 live_current None js (Some j) e = cc
 live_current (Some t) js (Some j) e = oldest_counted (Runner.Task t) js j (sym e)
 
-pub own_current : (v : View) (current : Option TaskRef) (js : List Job) (o : Option Job) → ((r : Runner) → job_count r js ≤ activation_limit v r) → o ≡ oldest_of current js → IfSome o (λ j. is_own_runner v j.runner ≡ true)
-own_current v current js None within e = tt
-own_current v current js (Some j) within e = own_oldest v current js j within (sym e)
+pub own_current : (core : Core) (current : Option TaskRef) (js : List Job) (o : Option Job) → ((r : Runner) → job_count r js ≤ activation_limit core r) → o ≡ oldest_of current js → IfSome o (λ j. is_own_runner core j.runner ≡ true)
+own_current core current js None within e = tt
+own_current core current js (Some j) within e = own_oldest core current js j within (sym e)
 
 -- and it is the current task's
 pub runs_current : (current : Option TaskRef) (js : List Job) (o : Option Job) → o ≡ oldest_of current js → IfSome o (λ j. IsTrue (is_current current j.runner))

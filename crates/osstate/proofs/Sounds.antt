@@ -1,26 +1,35 @@
 -- What holds of every state holds again after an entry.
-use Rattle.std.proofs.Common.{◌≡◌, ℕ, ◌<◌, false, [], ◌∷◌, ◌++◌, length, ap, sym, ◌∙◌, arith, length-append}
+use Rattle.std.proofs.Common.{◌≡◌, ◌||◌, ℕ, zero, suc, ◌+◌, ◌≤◌, ◌<◌, slice_index, List, Bool, true, false, cond, Option, Some, None, IsTrue, IfSome, [], ◌∷◌, ◌++◌, length, refl, ap, sym, ◌∙◌, arith, length-append}
+use Rattle.std.specs.List.{slice_set}
 use Rattle.std.proofs.lemmas.List.{length-set}
 use Rattle.std.proofs.lemmas.Bool.{false≢true}
+use Rattle.osbase.specs.declared.references.CoreId.{CoreId}
 use Rattle.osbase.specs.declared.references.TaskRef.{TaskRef}
+use Rattle.osbase.specs.declared.items.Item.{Item}
+use Rattle.osbase.specs.declared.items.Agreement.{Agreement}
+use Rattle.osbase.specs.declared.histories.Phase.{Phase}
+use Rattle.osbase.specs.declared.histories.Sent.{Sent}
 use Rattle.osbase.specs.declared.references.Runner.{Runner}
 use Rattle.osbase.specs.declared.marks.Mark.TheVariants as Mark
 use Rattle.osbase.specs.declared.histories.Job.{Job}
-use Rattle.osbase.specs.History.{Printed, job_count, without_oldest}
+use Rattle.osbase.specs.declared.histories.OpenCall.{OpenCall}
+use Rattle.osbase.specs.History.{Printed, Took, agreement_after, began_after, closed_by, job_count, same_runner, without_oldest, phase_on}
 use Rattle.osstate.specs.State.{KernelState}
-use Rattle.osstate.specs.Steps.{state_after}
-use Rattle.osstate.specs.Sound.{IsSound, activation_limit, is_before_live}
+use Rattle.osstate.specs.Steps.{one_more, progress_after, received_after, state_after, tasks_after}
+use Rattle.osbase.specs.Phases.{is_before_live, is_past_first_gate}
+use Rattle.osstate.specs.Sound.{IsSound, activation_limit, is_agreed, is_first_gate, is_own_runner}
 use Rattle.osstate.proofs.JobLists.{within_append, job_count-without_oldest}
 use Rattle.osstate.proofs.Room.{length_within}
 
-pub activated : (room : ℕ) (t : TaskRef) (s : KernelState) → IsSound room s → job_count (Runner.Task t) s.jobs < activation_limit s.view (Runner.Task t) → is_before_live s.phase ≡ false → IsSound room (state_after (Printed (Mark.Activated t)) s)
-activated room t s sound below live = record {
+pub activated : (priorities room : ℕ) (t : TaskRef) (s : KernelState) → IsSound priorities room s → job_count (Runner.Task t) s.tasks.jobs < activation_limit s.view.own (Runner.Task t) → is_before_live s.progress.phase ≡ false → IsSound priorities room (state_after (Printed (Mark.Activated t)) s)
+activated priorities room t s sound below live = record {
   tasks = sound.tasks;
   frames = sound.frames;
+  bounded = sound.bounded;
   limits = sound.limits;
   some = sound.some;
   scripts = sound.scripts;
-  jobs = within_append (activation_limit s.view) s.jobs (record { runner = Runner.Task t; stamp = s.entries }) sound.jobs below;
+  jobs = within_append (activation_limit s.view.own) s.tasks.jobs (record { runner = Runner.Task t; stamp = s.progress.entries }) sound.jobs below;
   idle = (λ e. absurd (false≢true (sym live ∙ e)));
   agreed = sound.agreed;
   caller = sound.caller;
@@ -30,17 +39,24 @@ activated room t s sound below live = record {
   received = (λ k. omega (arith, sound.received k));
 }
 
-pub terminated : (room : ℕ) (t : TaskRef) (s : KernelState) → IsSound room s → IsSound room (state_after (Printed (Mark.Terminated t)) s)
-terminated room t s sound = record {
+-- a call that is open after its own runner's entries were told is the one that was open
+pub still_own : (test : Runner → Bool) (r : Runner) (open_call : Option OpenCall) → IfSome open_call (λ call. IsTrue (test call.runner)) → IfSome (closed_by r open_call) (λ call. IsTrue (test call.runner))
+still_own test r None own = tt
+still_own test r (Some call) own = elim (same_runner call.runner r) as (λ b. IfSome (cond b None (Some call)) (λ call. IsTrue (test call.runner))) [ true ↦ tt | false ↦ own ]
+
+-- whatever task is in the running state, which is told by the marks of its hooks
+pub terminated : (priorities room : ℕ) (t : TaskRef) (current : Option TaskRef) (s : KernelState) → IsSound priorities room s → IsSound priorities room (record (state_after (Printed (Mark.Terminated t)) s) { tasks = record (tasks_after s.view.own (Printed (Mark.Terminated t)) s.progress.entries s.tasks) { current = current } })
+terminated priorities room t current s sound = record {
   tasks = sound.tasks;
-  frames = length-set s.frames t.index _ ∙ sound.frames;
+  frames = length-set s.tasks.frames t.index _ ∙ sound.frames;
+  bounded = sound.bounded;
   limits = sound.limits;
   some = sound.some;
   scripts = sound.scripts;
-  jobs = (λ r. omega (arith, sound.jobs r, job_count-without_oldest r (Runner.Task t) s.jobs));
+  jobs = (λ r. omega (arith, sound.jobs r, job_count-without_oldest r (Runner.Task t) s.tasks.jobs));
   idle = (λ e. ap (without_oldest (Runner.Task t)) (sound.idle e));
   agreed = sound.agreed;
-  caller = sound.caller;
+  caller = still_own (is_own_runner s.view.own) (Runner.Task t) s.border.open_call sound.caller;
   began = omega (arith, sound.began);
   items = omega (arith, sound.items);
   queued = (λ k. omega (arith, sound.queued k));
@@ -48,8 +64,56 @@ terminated room t s sound = record {
 }
 
 -- there is a place for one job more
-pub place : (room : ℕ) (t : TaskRef) (s : KernelState) → IsSound room s → job_count (Runner.Task t) s.jobs < activation_limit s.view (Runner.Task t) → length s.jobs < room
-place room t s sound below =
+pub place : (priorities room : ℕ) (t : TaskRef) (s : KernelState) → IsSound priorities room s → job_count (Runner.Task t) s.tasks.jobs < activation_limit s.view.own (Runner.Task t) → length s.tasks.jobs < room
+place priorities room t s sound below =
     let job : Job = record { runner = Runner.Task t; stamp = 0 } in
-    let more = length_within s.view (s.jobs ++ job ∷ []) (within_append (activation_limit s.view) s.jobs job sound.jobs below) in
-    omega (arith, sound.limits, more, length-append s.jobs (job ∷ []))
+    let more = length_within s.view.own (s.tasks.jobs ++ job ∷ []) (within_append (activation_limit s.view.own) s.tasks.jobs job sound.jobs below) in
+    omega (arith, sound.limits, more, length-append s.tasks.jobs (job ∷ []))
+
+-- one more at a place exceeds no bound but by one
+pub one_more-within : (counts : List ℕ) (c : CoreId) (most : ℕ) → ((k : ℕ) → slice_index counts k ≤ most) → (k : ℕ) → slice_index (one_more c counts) k ≤ most + 1
+one_more-within counts c most within k = at counts c.number k (omega (arith, within c.number)) within
+  where
+    at : (xs : List ℕ) (i k : ℕ) {v : ℕ} → v ≤ most + 1 → ((j : ℕ) → slice_index xs j ≤ most) → slice_index (slice_set xs i v) k ≤ most + 1
+    at [] i k h all = omega (arith, all k)
+    at (x ∷ xs) zero zero h all = h
+    at (x ∷ xs) zero (suc k) h all = omega (arith, all (suc k))
+    at (x ∷ xs) (suc i) zero h all = omega (arith, all zero)
+    at (x ∷ xs) (suc i) (suc k) h all = at xs i k h (λ j. all (suc j))
+
+pub received-within : (item : Item) (counts : List ℕ) (most : ℕ) → ((k : ℕ) → slice_index counts k ≤ most) → (k : ℕ) → slice_index (received_after (Took item) counts) k ≤ most + 1
+received-within (Item.Received from number m) counts most within k = one_more-within counts from most within k
+received-within item counts most within k = omega (arith, within k)
+
+began-within : (item : Item) (began most : ℕ) → began ≤ most → began_after (Took item) began ≤ most + 1
+began-within (Item.Began core status) began most h = omega (arith, h)
+began-within item began most h = omega (arith, h)
+
+agreed-on : (item : Item) (p : Phase) (agreement : Option Agreement) → (is_past_first_gate (phase_on item p) ≡ true → (is_first_gate item || is_past_first_gate p) ≡ true) → (is_past_first_gate p ≡ true → is_agreed agreement ≡ true)
+    → is_past_first_gate (phase_on item p) ≡ true → is_agreed (agreement_after (Took item) agreement) ≡ true
+agreed-on (Item.Pass1 Agreement.Conflict) p agreement onward agreed past = absurd (false≢true past)
+agreed-on (Item.Pass1 (Agreement.Mode m)) p agreement onward agreed past = refl
+agreed-on (Item.Pass1 Agreement.NoMode) p agreement onward agreed past = refl
+agreed-on item p agreement onward agreed past = agreed (onward past)
+
+-- an item leads neither back before the second gate nor past the first one but by its own
+pub taken : (priorities room : ℕ) (item : Item) (outbox : List Sent) (s : KernelState) → IsSound priorities room s
+    → (is_before_live (phase_on item s.progress.phase) ≡ true → is_before_live s.progress.phase ≡ true)
+    → (is_past_first_gate (phase_on item s.progress.phase) ≡ true → (is_first_gate item || is_past_first_gate s.progress.phase) ≡ true)
+    → IsSound priorities room (record s { progress = progress_after (Took item) s.progress; border = record s.border { outbox = outbox; received = received_after (Took item) s.border.received } })
+taken priorities room item outbox s sound forward onward = record {
+  tasks = sound.tasks;
+  frames = sound.frames;
+  bounded = sound.bounded;
+  limits = sound.limits;
+  some = sound.some;
+  scripts = sound.scripts;
+  jobs = sound.jobs;
+  idle = (λ e. sound.idle (forward e));
+  agreed = agreed-on item s.progress.phase s.progress.agreement onward sound.agreed;
+  caller = sound.caller;
+  began = began-within item s.progress.began s.progress.entries sound.began;
+  items = omega (arith, sound.items);
+  queued = (λ k. omega (arith, sound.queued k));
+  received = received-within item s.border.received s.progress.entries sound.received;
+}

@@ -39,13 +39,27 @@ pub record Adds (most : ℕ) (old new : List Mark) : Type 0 where
 -- history grows by at most so many entries. [own]
 pub record StaysInItem (most : ℕ) (old new : KernelState) : Type 0 where
   pub view : new.view ≡ old.view
-  pub phase : new.phase ≡ old.phase
-  pub items : new.items ≡ old.items
-  pub entries : new.entries ≤ old.entries + most
+  pub phase : new.progress.phase ≡ old.progress.phase
+  pub items : new.progress.items ≡ old.progress.items
+  pub entries : new.progress.entries ≤ old.progress.entries + most
+
+-- What one item adds at most, and what one service does. The worst item is a tick, with all alarms and schedule tables
+-- of a core. A function of a service asks for this room and promises no more, so that a later service changes no bound. [own]
+abbrev pub item_entries : ℕ
+item_entries = 1000
+
+abbrev pub item_marks : ℕ
+item_marks = 500
+
+abbrev pub service_entries : ℕ
+service_entries = 16
+
+abbrev pub service_marks : ℕ
+service_marks = 8
 
 -- There is room for so many entries of the history and so many marks. [own]
 pub record HasRoom (entries marks : ℕ) (s : KernelState) (vec : Vec Mark Global) : Type 0 where
-  pub count : s.entries + entries ≤ 2 ^ 63
+  pub count : s.progress.entries + entries ≤ 2 ^ 63
   pub place : vec_len vec + marks ≤ vec_capacity vec
 
 -- What a function within an item does, with at most so many entries and marks. [own]

@@ -7,34 +7,18 @@ use Rattle.osbase.specs.declared.references.TaskRef.{TaskRef}
 use Rattle.osbase.specs.declared.items.Agreement.{Agreement}
 use Rattle.osbase.specs.declared.items.Item.{Item}
 use Rattle.osbase.specs.declared.marks.Mark.{Mark}
-use Rattle.osbase.specs.declared.histories.Phase.{Phase}
-use Rattle.osbase.specs.History.{job_count, same_runner}
+use Rattle.osbase.specs.declared.turns.TheConstants.{CORES}
+use Rattle.osbase.specs.History.{job_count, same_core, same_runner}
+use Rattle.osbase.specs.Phases.{is_before_live, is_past_first_gate}
 use Rattle.oscript.specs.declared.Op.{Op}
-use Rattle.oscript.specs.declared.Op.TheVariants.{ActivateTask}
+use Rattle.oscript.specs.Rows.{objects_of}
 use Rattle.oscript.specs.declared.Action.{Action}
 use Rattle.oscript.specs.declared.Action.TheVariants.{Perform, End}
+use Rattle.osplan.specs.declared.plans.Core.{Core}
 use Rattle.osplan.specs.declared.plans.Task.{Task}
-use Rattle.osplan.specs.View.{View}
-use Rattle.osstate.specs.Readings.{is_own, own_task}
+use Rattle.osplan.specs.Objects.{is_own_object}
+use Rattle.osplan.specs.View.{own_task}
 use Rattle.osstate.specs.State.{KernelState}
-
--- The core does not schedule yet.
-abbrev pub is_before_live : Phase → Bool
-is_before_live Phase.Off = true
-is_before_live Phase.Boot = true
-is_before_live Phase.FirstGate = true
-is_before_live Phase.BetweenGates = true
-is_before_live Phase.SecondGate = true
-is_before_live p = false
-
--- The core is past the first gate, and goes on.
-abbrev pub is_past_first_gate : Phase → Bool
-is_past_first_gate Phase.BetweenGates = true
-is_past_first_gate Phase.SecondGate = true
-is_past_first_gate Phase.Live = true
-is_past_first_gate Phase.Drained = true
-is_past_first_gate Phase.Closing = true
-is_past_first_gate p = false
 
 -- The first gate came to a mode or to none, and not to a conflict.
 abbrev pub is_agreed : Option Agreement → Bool
@@ -43,9 +27,9 @@ is_agreed (Some Agreement.NoMode) = true
 is_agreed other = false
 
 -- The runner is one of the core's own tasks.
-abbrev pub is_own_runner : View → Runner → Bool
-is_own_runner v (Runner.Task t) = is_some (own_task v t)
-is_own_runner v (Runner.Isr i) = false
+abbrev pub is_own_runner : Core → Runner → Bool
+is_own_runner core (Runner.Task t) = is_some (own_task core t)
+is_own_runner core (Runner.Isr i) = false
 
 -- The runner is the task in the running state.
 abbrev pub is_current : Option TaskRef → Runner → Bool
@@ -53,35 +37,27 @@ is_current None r = false
 is_current (Some t) r = same_runner r (Runner.Task t)
 
 -- How many jobs of a runner may be live at once; none of what is not the core's own.
-abbrev pub activation_limit : View → Runner → ℕ
-activation_limit v (Runner.Task t) = option_map_or (λ (task : Task). task.activations) (own_task v t) 0
-activation_limit v (Runner.Isr i) = 0
+abbrev pub activation_limit : Core → Runner → ℕ
+activation_limit core (Runner.Task t) = option_map_or (λ (task : Task). task.activations) (own_task core t) 0
+activation_limit core (Runner.Isr i) = 0
 
--- What an operation names on this core is one of the core's tasks.
-abbrev pub is_op_known : View → Op → Bool
-is_op_known v (ActivateTask (Some t)) = not (is_own v t.core) || is_some (own_task v t)
-is_op_known v op = true
+-- What an operation names on this core is one of the core's own objects.
+abbrev pub has_objects_of : Core → Op → Bool
+has_objects_of core op = list_all (λ object. not (same_core object.place.core core.id) || is_own_object core object) (objects_of op)
 
--- What a job does next names no other task of this core either.
-abbrev pub is_action_known : View → Action → Bool
-is_action_known v (Perform op) = is_op_known v op
-is_action_known v End = true
+-- What a job does next names no other object of this core either.
+abbrev pub is_action_known : Core → Action → Bool
+is_action_known core (Perform op) = has_objects_of core op
+is_action_known core End = true
 
 -- A mark that changes nothing of the state but how many entries the history has.
 abbrev pub is_plain : Mark → Bool
 is_plain (Mark.Activated t) = false
 is_plain (Mark.Terminated t) = false
+is_plain (Mark.IsrLeft i) = false
 is_plain (Mark.PreTaskHook t) = false
 is_plain (Mark.PostTaskHook t) = false
 is_plain m = true
-
--- The items that are taken so far: none of a spinlock, and no halt.
-abbrev pub is_taken : Item → Bool
-is_taken (Item.Granted spinlock) = false
-is_taken (Item.Tried spinlock taken) = false
-is_taken (Item.Freed spinlock) = false
-is_taken (Item.Halt core status) = false
-is_taken item = true
 
 -- A post takes the front of the outbox.
 abbrev pub is_posted : Item → Bool
@@ -93,29 +69,32 @@ abbrev pub is_first_gate : Item → Bool
 is_first_gate (Item.Pass1 agreement) = true
 is_first_gate item = false
 
--- An envelope's sender has one of the 16 core numbers.
+-- An envelope's sender has a core number.
 abbrev pub is_sender_known : Item → Bool
-is_sender_known (Item.Received from number m) = nat_lt from.number 16
+is_sender_known (Item.Received from number m) = nat_lt from.number CORES
 is_sender_known item = true
 
--- What holds of every kernel's state; `room` is how many jobs it has places for.
-pub record IsSound (room : ℕ) (s : KernelState) : Type 0 where
-  -- at most 32 tasks, each with a frame, whose activation limits are at least 1 and sum to at most the places for jobs
-  pub tasks : length s.view.tasks ≤ 32
-  pub frames : length s.frames ≡ length s.view.tasks
-  pub limits : sum_by (λ (t : Task). t.activations) s.view.tasks ≤ room
-  pub some : IsTrue (list_all (λ (t : Task). nat_le 1 t.activations) s.view.tasks)
+-- What holds of every kernel's state; `priorities` bounds the priorities of its tasks, `room` is how many jobs it has
+-- places for.
+pub record IsSound (priorities room : ℕ) (s : KernelState) : Type 0 where
+  -- at most 32 tasks, each with a frame and a priority below the bound, whose activation limits are at least 1 and sum to
+  -- at most the places for jobs
+  pub tasks : length s.view.own.tasks ≤ 32
+  pub frames : length s.tasks.frames ≡ length s.view.own.tasks
+  pub bounded : IsTrue (list_all (λ (t : Task). nat_lt t.priority priorities) s.view.own.tasks)
+  pub limits : sum_by (λ (t : Task). t.activations) s.view.own.tasks ≤ room
+  pub some : IsTrue (list_all (λ (t : Task). nat_le 1 t.activations) s.view.own.tasks)
   -- and whose scripts name on this core only these
-  pub scripts : IsTrue (list_all (λ (t : Task). list_all (is_op_known s.view) t.script) s.view.tasks)
+  pub scripts : IsTrue (list_all (λ (t : Task). list_all (has_objects_of s.view.own) t.script) s.view.own.tasks)
   -- no runner has more live jobs than it may have, and none before the core schedules
-  pub jobs : (r : Runner) → job_count r s.jobs ≤ activation_limit s.view r
-  pub idle : IsTrue (is_before_live s.phase) → s.jobs ≡ []
+  pub jobs : (r : Runner) → job_count r s.tasks.jobs ≤ activation_limit s.view.own r
+  pub idle : IsTrue (is_before_live s.progress.phase) → s.tasks.jobs ≡ []
   -- a core that goes on past the first gate met no conflict of modes there
-  pub agreed : IsTrue (is_past_first_gate s.phase) → IsTrue (is_agreed s.agreement)
+  pub agreed : IsTrue (is_past_first_gate s.progress.phase) → IsTrue (is_agreed s.progress.agreement)
   -- a call that awaits its reply is one of an own task
-  pub caller : IfSome s.open_call (λ call. IsTrue (is_own_runner s.view call.runner))
+  pub caller : IfSome s.border.open_call (λ call. IsTrue (is_own_runner s.view.own call.runner))
   -- nothing is counted more often than the history has entries
-  pub began : s.began ≤ s.entries
-  pub items : s.items ≤ s.entries
-  pub queued : (k : ℕ) → slice_index s.queued k ≤ s.entries
-  pub received : (k : ℕ) → slice_index s.received k ≤ s.entries
+  pub began : s.progress.began ≤ s.progress.entries
+  pub items : s.progress.items ≤ s.progress.entries
+  pub queued : (k : ℕ) → slice_index s.border.queued k ≤ s.progress.entries
+  pub received : (k : ℕ) → slice_index s.border.received k ≤ s.progress.entries

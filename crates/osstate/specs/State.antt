@@ -2,56 +2,63 @@
 use Rattle.std.specs.Prelude.{◌≡◌, ℕ, Option, List, length, map}
 use Rattle.osbase.specs.declared.references.CoreId.{CoreId}
 use Rattle.osbase.specs.declared.references.TaskRef.{TaskRef}
-use Rattle.osbase.specs.declared.references.Runner.TheVariants as Runner
-use Rattle.osbase.specs.declared.items.CoreSet.{CoreSet}
-use Rattle.osbase.specs.declared.items.Agreement.{Agreement}
 use Rattle.osbase.specs.declared.histories.Job.{Job}
 use Rattle.osbase.specs.declared.histories.OpenCall.{OpenCall}
 use Rattle.osbase.specs.declared.histories.Sent.{Sent}
-use Rattle.osbase.specs.declared.histories.Phase.{Phase}
 use Rattle.osbase.specs.History.{History, began_count, agreement_of, started_cores, live_jobs, current_task, open_call, outbox, queued_count, received_count, item_count}
-use Rattle.oscript.specs.declared.Frame.{Frame}
-use Rattle.osplan.specs.declared.plans.Task.{Task}
-use Rattle.osplan.specs.View.{View}
 use Rattle.osbase.specs.Sets.{core_ids}
-use Rattle.osstate.specs.Readings.{phase_at, task_refs, frame_at}
+use Rattle.oscript.specs.declared.Frame.{Frame}
+use Rattle.osplan.specs.View.{View}
+use Rattle.osstate.specs.declared.progress.Progress.{Progress}
+use Rattle.osstate.specs.Readings.{phase_at, frames_at}
 
--- What a kernel keeps: each field is one reading of the core's history. The frames are those of the
--- tasks in index order; the counts are by core number.
-pub record KernelState : Type 0 where
-  pub view : View
-  pub phase : Phase
-  pub began : ℕ
-  pub agreement : Option Agreement
-  pub started : CoreSet
+-- The core's tasks: the live jobs in the order of their stamps, the task in the running state, and where the oldest job
+-- of each task stands, in index order.
+pub record TaskState : Type 0 where
   pub jobs : List Job
   pub current : Option TaskRef
   pub frames : List Frame
+
+-- What crosses the core's border: the call that awaits its reply, the envelopes that wait to be posted, and how many were
+-- queued for each core and received from it, by core number.
+pub record BorderState : Type 0 where
   pub open_call : Option OpenCall
   pub outbox : List Sent
   pub queued : List ℕ
   pub received : List ℕ
-  pub items : ℕ
-  pub entries : ℕ
 
--- The record of all readings of a history.
-abbrev pub state_of : View → History → KernelState
-state_of v h = record {
-  view = v;
+-- What a kernel keeps, in groups: each field is one reading of the core's history.
+pub record KernelState : Type 0 where
+  pub view : View
+  pub progress : Progress
+  pub tasks : TaskState
+  pub border : BorderState
+
+-- What is read off a history, group by group.
+abbrev pub progress_of : View → History → Progress
+progress_of v h = record {
   phase = phase_at v h;
   began = began_count h;
   agreement = agreement_of h;
   started = started_cores h;
-  jobs = live_jobs h;
-  current = current_task h;
-  frames = map (λ (p : TaskRef × Task). frame_at v (Runner.Task p.0) h) (task_refs v);
+  items = item_count h;
+  entries = length h;
+}
+
+abbrev pub tasks_of : View → History → TaskState
+tasks_of v h = record { jobs = live_jobs h; current = current_task h; frames = frames_at v h }
+
+abbrev pub border_of : History → BorderState
+border_of h = record {
   open_call = open_call h;
   outbox = outbox h;
   queued = map (λ (d : CoreId). queued_count d h) core_ids;
   received = map (λ (s : CoreId). received_count s h) core_ids;
-  items = item_count h;
-  entries = length h;
 }
+
+-- The record of all readings of a history.
+abbrev pub state_of : View → History → KernelState
+state_of v h = record { view = v; progress = progress_of v h; tasks = tasks_of v h; border = border_of h }
 
 -- The kernel stands for this history of this core: each of its fields equals what it is for. A relation,
 -- so that the kernel needs to store no history. [own]

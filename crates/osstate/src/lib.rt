@@ -3,11 +3,12 @@
 //! No function here takes memory.
 #![tactic(auto)]
 
+mod border;
 pub mod equality;
-mod parts;
 pub mod progress;
 mod slots;
 pub mod state;
+mod tasks;
 
 pub use progress::Progress;
 pub use state::CoreState;

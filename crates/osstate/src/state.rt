@@ -1,26 +1,31 @@
 //! The state of a core.
 
-ghost use Rattle.std.specs.Prelude.{◌≡◌, ◌==◌, ◌||◌, ◌∷◌, ◌<◌, ◌≤◌, ◌^◌, [], nat_lt, IsTrue, IsSome, IfSome, false, length, nat_le, option_copied, slice_get, slice_index, sum_by};
+ghost use Rattle.std.specs.Prelude.{◌≡◌, ◌==◌, ◌||◌, ◌∷◌, ◌<◌, ◌≤◌, ◌^◌, [], nat_lt, IsTrue, IsSome, IfSome, false, length, nat_le, slice_get, slice_index, sum_by};
 ghost use Rattle.std.specs.List.{list_all};
-ghost use Rattle.osbase.specs.History.{Took, Printed, Noted, Opened, Queued, Done, agreement_of, began_count, current_job, current_task, item_count, job_count, oldest_of, open_call, outbox, phase_after, queued_count, received_count};
-ghost use Rattle.osplan.specs.declared.plans.Task.{Task as TaskValue};
-ghost use Rattle.oscript.specs.Frames.{action_at};
-ghost use Rattle.osplan.specs.View.{core_of, is_configured, view_of};
-ghost use Rattle.osstate.specs.Does.{Effects, HasRoom, Notes, Reads, Remarks};
+ghost use Rattle.osbase.specs.declared.turns.TheConstants.{CORES};
+ghost use Rattle.osbase.specs.History.{Took, Printed, Noted, Opened, Queued, Done, job_count, phase_after, queued_count, same_core};
+ghost use Rattle.osbase.specs.Phases.{is_before_live, is_past_first_gate};
 ghost use Rattle.osbase.specs.Sets.{has_core};
-ghost use Rattle.osstate.specs.Readings.{best_job, frame_at, is_at_limit, is_own, is_started, next_start, own_task, phase_at, script_of};
+ghost use Rattle.osplan.specs.declared.plans.Task.{Task as TaskValue};
+ghost use Rattle.osplan.specs.Objects.{is_own_object};
+ghost use Rattle.osplan.specs.View.{core_of, is_configured, own_task, view_of};
+ghost use Rattle.osstate.specs.Does.{Effects, HasRoom, Notes, Reads, Remarks};
+ghost use Rattle.osstate.specs.Queries.{best_in, is_at_limit_in, next_action_in, running_in};
+ghost use Rattle.osstate.specs.Readings.{best_job, frame_at, is_own, next_start, script_of};
+ghost use Rattle.oscript.specs.Frames.{action_at};
+ghost use Rattle.osstate.specs.Sound.{activation_limit, is_action_known, is_agreed, is_current, is_first_gate, is_own_runner, is_plain, is_posted, is_sender_known};
 ghost use Rattle.osstate.specs.State.{state_of};
-ghost use Rattle.osstate.specs.Sound.{activation_limit, is_action_known, is_agreed, is_before_live, is_current, is_first_gate, is_own_runner, is_past_first_gate, is_plain, is_posted, is_sender_known, is_taken};
-ghost use Rattle.osstate.specs.Steps.{best_in, frame_in, next_envelope, state_after};
+ghost use Rattle.osstate.specs.Steps.{next_envelope, state_after};
 
+use crate::border::{self, Border};
 use crate::equality::is_same_core;
-use crate::parts;
 use crate::progress::Progress;
-use crate::slots::{FrameSlot, JobSlot, SentSlot};
+use crate::slots::{JobSlot, SentSlot};
+use crate::tasks::{self, Tasks};
 use arrayvec::ArrayVec;
 use osbase::{
-    Agreement, CoreId, Envelope, Item, Job, Mark, Message, OpenCall, Phase, Runner, Sent, Status,
-    TaskRef,
+    Agreement, CORES, CoreId, Envelope, Item, Job, Mark, Message, Object, OpenCall, Phase, Runner,
+    Sent, Status, TaskRef,
 };
 use oscript::Action;
 use osplan::{Config, Core, CoreMode, Task};
@@ -33,14 +38,8 @@ pub struct CoreState<'a, const P: usize, const J: usize, const OUT: usize> {
     // The core's own part of the configuration, so that no step looks it up.
     core: &'a Core,
     progress: Progress,
-    // In the order of their stamps.
-    jobs: ArrayVec<JobSlot, J>,
-    // Those of the tasks, in index order.
-    frames: ArrayVec<FrameSlot, 32>,
-    outbox: ArrayVec<SentSlot, OUT>,
-    // How many envelopes were queued for each core, and received from it.
-    queued: [u64; 16],
-    received: [u64; 16],
+    tasks: Tasks<J>,
+    border: Border<OUT>,
 }
 
 impl<'a, const P: usize, const J: usize, const OUT: usize> Model for CoreState<'a, P, J, OUT> {
@@ -51,17 +50,17 @@ impl<'a, const P: usize, const J: usize, const OUT: usize> Model for CoreState<'
     ghost use Rattle.osstate.specs.Steps.{state_from};
     ghost use Rattle.osstate.specs.Sound.{IsSound};
 
-    ghost view = { λ s. state_from s.config.now s.core.now s.progress s.jobs.items s.frames.items s.outbox.items s.queued s.received };
+    ghost view = { λ s. state_from s.config.now s.core.now s.progress (record { jobs = s.tasks.jobs.items; current = s.tasks.current; frames = s.tasks.frames.items }) (record { open_call = s.border.open_call; outbox = s.border.outbox.items; queued = s.border.queued; received = s.border.received }) };
 
-    ghost invariant = { λ s. IsSound J (state_from s.config.now s.core.now s.progress s.jobs.items s.frames.items s.outbox.items s.queued s.received) };
+    ghost invariant = { λ s. IsSound P J (state_from s.config.now s.core.now s.progress (record { jobs = s.tasks.jobs.items; current = s.tasks.current; frames = s.tasks.frames.items }) (record { open_call = s.border.open_call; outbox = s.border.outbox.items; queued = s.border.queued; received = s.border.received })) };
 }
 
 impl<'a, const P: usize, const J: usize, const OUT: usize> CoreState<'a, P, J, OUT> {
     /// The state of a core that took no item.
     pub fn new(config: &'a Config, id: CoreId) -> Self
         requires configured { IsSome (core_of config.now id) }
-        requires priorities { IsTrue (list_all (λ (t : TaskValue). nat_lt t.priority P) (view_of config.now id).tasks) }
-        requires activations { sum_by (λ (t : TaskValue). t.activations) (view_of config.now id).tasks ≤ J }
+        requires priorities { IsTrue (list_all (λ (t : TaskValue). nat_lt t.priority P) (view_of config.now id).own.tasks) }
+        requires activations { sum_by (λ (t : TaskValue). t.activations) (view_of config.now id).own.tasks ≤ J }
         ensures { result ≡ state_of (view_of config.now id) [] }
     {
         let plan = config.plan();
@@ -69,40 +68,45 @@ impl<'a, const P: usize, const J: usize, const OUT: usize> CoreState<'a, P, J, O
             Some(core) => core,
             None => unreachable!(),
         };
-        let frames = parts::new_frames(core.tasks.len());
+        let frames = tasks::new_frames(core.tasks.len());
         CoreState {
             config,
             core,
             progress: Progress::new(is_same_core(core.id, plan.master)),
-            jobs: ArrayVec::new(),
-            frames,
-            outbox: ArrayVec::new(),
-            queued: [0; 16],
-            received: [0; 16],
+            tasks: Tasks {
+                jobs: ArrayVec::new(),
+                current: None,
+                frames,
+            },
+            border: Border {
+                open_call: None,
+                outbox: ArrayVec::new(),
+                queued: [0; CORES],
+                received: [0; CORES],
+            },
         }
     }
 
     /// The entry of an item that the core takes.
     pub fn take_item(&mut self, item: &Item)
-        requires taken { IsTrue (is_taken item.now) }
         requires sender { IsTrue (is_sender_known item.now) }
-        requires forward { IsTrue (is_before_live (phase_after (Took item.now) self.old.phase)) → IsTrue (is_before_live self.old.phase) }
-        requires onward { IsTrue (is_past_first_gate (phase_after (Took item.now) self.old.phase)) → IsTrue (is_first_gate item.now || is_past_first_gate self.old.phase) }
-        requires front { IsTrue (is_posted item.now) → 0 < length self.old.outbox }
-        requires count { self.old.entries < 2 ^ 63 }
+        requires forward { IsTrue (is_before_live (phase_after (Took item.now) self.old.progress.phase)) → IsTrue (is_before_live self.old.progress.phase) }
+        requires onward { IsTrue (is_past_first_gate (phase_after (Took item.now) self.old.progress.phase)) → IsTrue (is_first_gate item.now || is_past_first_gate self.old.progress.phase) }
+        requires front { IsTrue (is_posted item.now) → 0 < length self.old.border.outbox }
+        requires count { self.old.progress.entries < 2 ^ 63 }
         ensures state { self.new ≡ state_after (Took item.now) self.old }
         ensures notes { Notes (λ v h. Took item.now ∷ h) self.old self.new }
-        ensures idle { IsTrue (is_before_live self.old.phase) → self.old.jobs ≡ [] }
+        ensures idle { IsTrue (is_before_live self.old.progress.phase) → self.old.tasks.jobs ≡ [] }
     {
         self.progress.take_item(item);
-        parts::post_by(&mut self.outbox, item);
-        parts::receive_by(&mut self.received, item);
+        border::post_by(&mut self.border.outbox, item);
+        border::receive_by(&mut self.border.received, item);
     }
 
     /// A job of the task begins (OSEK/VDX OS 2.2.3, section 4.3).
     pub fn activate(&mut self, task: TaskRef, marks: &mut Vec<Mark>)
-        requires limit { job_count (Runner.Task task) self.old.jobs < activation_limit self.old.view (Runner.Task task) }
-        requires live { is_before_live self.old.phase ≡ false }
+        requires limit { job_count (Runner.Task task) self.old.tasks.jobs < activation_limit self.old.view.own (Runner.Task task) }
+        requires live { is_before_live self.old.progress.phase ≡ false }
         requires room { HasRoom 1 1 self.old marks.old }
         ensures state { self.new ≡ state_after (Printed (Mark.Activated task)) self.old }
         ensures effects { Effects 1 1 (λ v h. Printed (Mark.Activated task) ∷ h) self.old self.new marks.old marks.new }
@@ -111,45 +115,48 @@ impl<'a, const P: usize, const J: usize, const OUT: usize> CoreState<'a, P, J, O
             runner: Runner::Task(task),
             stamp: self.progress.entries,
         };
-        self.jobs.push(JobSlot { job });
+        self.tasks.jobs.push(JobSlot { job });
         self.progress.entries += 1;
         marks.push_reserved(Mark::Activated(task));
     }
 
     /// The oldest job of one of the core's tasks has ended, which left the running state.
     pub fn terminate(&mut self, task: TaskRef, marks: &mut Vec<Mark>)
-        requires own { IsTrue (is_own_runner self.old.view (Runner.Task task)) }
-        requires job { 0 < job_count (Runner.Task task) self.old.jobs }
-        requires left { self.old.current ≡ None }
+        requires own { IsTrue (is_own_runner self.old.view.own (Runner.Task task)) }
+        requires job { 0 < job_count (Runner.Task task) self.old.tasks.jobs }
+        requires left { self.old.tasks.current ≡ None }
         requires room { HasRoom 1 1 self.old marks.old }
         ensures state { self.new ≡ state_after (Printed (Mark.Terminated task)) self.old }
         ensures effects { Effects 1 1 (λ v h. Printed (Mark.Terminated task) ∷ h) self.old self.new marks.old marks.new }
     {
-        parts::remove_oldest(&mut self.jobs, Runner::Task(task));
-        parts::rewind_frame(&mut self.frames, task);
-        self.progress.terminate(task);
+        tasks::remove_oldest(&mut self.tasks.jobs, Runner::Task(task));
+        tasks::rewind_frame(&mut self.tasks.frames, task);
+        self.border.open_call = border::closed_by(Runner::Task(task), self.border.open_call);
+        self.progress.entries += 1;
         marks.push_reserved(Mark::Terminated(task));
     }
 
     /// A task enters the running state, and PreTaskHook is called (OSEK/VDX OS 2.2.3, section 11.5).
     pub fn enter(&mut self, task: TaskRef, marks: &mut Vec<Mark>)
-        requires room { HasRoom 1 1 self.old marks.old }
+        requires { HasRoom 1 1 self.old marks.old }
         ensures state { self.new ≡ state_after (Printed (Mark.PreTaskHook task)) self.old }
         ensures effects { Effects 1 1 (λ v h. Printed (Mark.PreTaskHook task) ∷ h) self.old self.new marks.old marks.new }
     {
-        self.progress.enter(task);
+        self.tasks.current = Some(task);
+        self.progress.entries += 1;
         marks.push_reserved(Mark::PreTaskHook(task));
     }
 
     /// PostTaskHook is called, and the task in the running state leaves it (OSEK/VDX OS 2.2.3, section 11.5).
     pub fn leave(&mut self, task: TaskRef, marks: &mut Vec<Mark>)
-        requires current { IsTrue (is_current self.old.current (Runner.Task task)) }
+        requires current { IsTrue (is_current self.old.tasks.current (Runner.Task task)) }
         requires room { HasRoom 1 1 self.old marks.old }
         ensures state { self.new ≡ state_after (Printed (Mark.PostTaskHook task)) self.old }
         ensures effects { Effects 1 1 (λ v h. Printed (Mark.PostTaskHook task) ∷ h) self.old self.new marks.old marks.new }
-        ensures left { self.new.current ≡ None }
+        ensures left { self.new.tasks.current ≡ None }
     {
-        self.progress.leave(task);
+        self.tasks.current = None;
+        self.progress.entries += 1;
         marks.push_reserved(Mark::PostTaskHook(task));
     }
 
@@ -166,162 +173,152 @@ impl<'a, const P: usize, const J: usize, const OUT: usize> CoreState<'a, P, J, O
 
     /// A message for this core joins the outbox, with the next number on the way there.
     pub fn queue(&mut self, to: CoreId, message: Message)
-        requires receiver { to.number < 16 }
-        requires room { length self.old.outbox < OUT }
-        requires count { self.old.entries < 2 ^ 63 }
+        requires receiver { to.number < CORES }
+        requires room { length self.old.border.outbox < OUT }
+        requires count { self.old.progress.entries < 2 ^ 63 }
         ensures state { self.new ≡ state_after (Noted (Queued to (next_envelope self.old to message))) self.old }
         ensures remarks { Remarks 1 (λ v h. Noted (Queued to (record { number = queued_count to h; message = message })) ∷ h) self.old self.new }
     {
-        let number = self.queued[usize::from(to.number)];
+        let number = self.border.queued[usize::from(to.number)];
         let envelope = Envelope { number, message };
-        self.outbox.push(SentSlot {
+        self.border.outbox.push(SentSlot {
             sent: Sent { to, envelope },
         });
-        parts::count_one(&mut self.queued, to);
+        border::count_one(&mut self.border.queued, to);
         self.progress.entries += 1;
     }
 
     /// A service of a job of one of the core's tasks awaits another core's reply.
     pub fn open_call(&mut self, call: OpenCall)
-        requires own { IsTrue (is_own_runner self.old.view call.runner) }
-        requires count { self.old.entries < 2 ^ 63 }
+        requires own { IsTrue (is_own_runner self.old.view.own call.runner) }
+        requires count { self.old.progress.entries < 2 ^ 63 }
         ensures state { self.new ≡ state_after (Noted (Opened call)) self.old }
         ensures remarks { Remarks 1 (λ v h. Noted (Opened call) ∷ h) self.old self.new }
     {
-        self.progress.open_call = Some(call);
+        self.border.open_call = Some(call);
         self.progress.entries += 1;
     }
 
     /// An operation of the oldest live job of one of the core's tasks is done.
     pub fn complete(&mut self, runner: Runner, status: Status, value: Option<i64>)
-        requires own { IsTrue (is_own_runner self.old.view runner) }
-        requires count { self.old.entries < 2 ^ 63 }
+        requires own { IsTrue (is_own_runner self.old.view.own runner) }
+        requires count { self.old.progress.entries < 2 ^ 63 }
         ensures state { self.new ≡ state_after (Noted (Done runner status value)) self.old }
         ensures remarks { Remarks 1 (λ v h. Noted (Done runner status value) ∷ h) self.old self.new }
     {
         match runner {
             Runner::Task(task) => {
-                parts::complete_frame(self.core, &mut self.frames, task, status, value);
+                tasks::complete_frame(self.core, &mut self.tasks.frames, task, status, value);
             }
             Runner::Isr(_) => unreachable!(),
         }
+        self.border.open_call = border::closed_by(runner, self.border.open_call);
         self.progress.entries += 1;
     }
 
     /// The phase.
     pub fn phase(&self) -> Phase
-        ensures state { result ≡ self.now.phase }
-        ensures reads { Reads (λ v h. phase_at v h) self.now result }
+        ensures { result ≡ self.now.progress.phase }
     {
         self.progress.phase
     }
 
     /// How many items were taken.
     pub fn items(&self) -> u64
-        ensures state { result ≡ self.now.items }
-        ensures reads { Reads (λ v h. item_count h) self.now result }
+        ensures { result ≡ self.now.progress.items }
     {
         self.progress.items
     }
 
     /// The next core of the start list, if one is left (AUTOSAR SWS OS 4.x, StartCore).
     pub fn next_start(&self) -> Option<CoreId>
-        ensures state { result ≡ next_start self.now.view self.now.began }
-        ensures reads { Reads (λ v h. next_start v (began_count h)) self.now result }
+        ensures { result ≡ next_start self.now.view self.now.progress.began }
     {
         self.core.start.as_slice().get(self.progress.began).copied()
     }
 
     /// What the first gate came to, once it is passed.
     pub fn agreement(&self) -> Option<Agreement>
-        ensures state { result ≡ self.now.agreement }
-        ensures reads { Reads (λ v h. agreement_of h) self.now result }
-        ensures agreed { IsTrue (is_past_first_gate self.now.phase) → IsTrue (is_agreed result) }
+        ensures value { result ≡ self.now.progress.agreement }
+        ensures agreed { IsTrue (is_past_first_gate self.now.progress.phase) → IsTrue (is_agreed result) }
     {
         self.progress.agreement
     }
 
     /// The service that awaits another core's reply.
     pub fn awaited_call(&self) -> Option<OpenCall>
-        ensures state { result ≡ self.now.open_call }
-        ensures reads { Reads (λ v h. open_call h) self.now result }
-        ensures own { IfSome result (λ call. IsTrue (is_own_runner self.now.view call.runner)) }
+        ensures value { result ≡ self.now.border.open_call }
+        ensures own { IfSome result (λ call. IsTrue (is_own_runner self.now.view.own call.runner)) }
     {
-        self.progress.open_call
+        self.border.open_call
     }
 
     /// The task in the running state.
     pub fn current(&self) -> Option<TaskRef>
-        ensures state { result ≡ self.now.current }
-        ensures reads { Reads (λ v h. current_task h) self.now result }
-        ensures current { IfSome result (λ task. IsTrue (is_current self.now.current (Runner.Task task))) }
+        ensures value { result ≡ self.now.tasks.current }
+        ensures current { IfSome result (λ task. IsTrue (is_current self.now.tasks.current (Runner.Task task))) }
     {
-        self.progress.current
+        self.tasks.current
     }
 
     /// The front of the outbox.
     pub fn front(&self) -> Option<Sent>
-        ensures state { result ≡ slice_get self.now.outbox 0 }
-        ensures reads { Reads (λ v h. slice_get (outbox h) 0) self.now result }
+        ensures { result ≡ slice_get self.now.border.outbox 0 }
     {
-        let slot = self.outbox.as_slice().first()?;
+        let slot = self.border.outbox.as_slice().first()?;
         Some(slot.sent)
     }
 
     /// Whether the outbox holds nothing.
     pub fn is_outbox_empty(&self) -> bool
-        ensures state { result ≡ (length self.now.outbox == 0) }
-        ensures reads { Reads (λ v h. length (outbox h) == 0) self.now result }
+        ensures { result ≡ (length self.now.border.outbox == 0) }
     {
-        self.outbox.is_empty()
+        self.border.outbox.is_empty()
     }
 
     /// Whether the outbox holds fewer envelopes than it has places.
-    pub fn has_room(&self) -> bool
-        ensures state { result ≡ nat_lt (length self.now.outbox) OUT }
-        ensures reads { Reads (λ v h. nat_lt (length (outbox h)) OUT) self.now result }
+    pub fn has_place(&self) -> bool
+        ensures { result ≡ nat_lt (length self.now.border.outbox) OUT }
     {
-        self.outbox.len() < OUT
+        self.border.outbox.len() < OUT
     }
 
     /// How many envelopes were received from this core.
     pub fn received_from(&self, id: CoreId) -> u64
-        requires { id.number < 16 }
-        ensures state { result ≡ slice_index self.now.received id.number }
-        ensures reads { Reads (λ v h. received_count id h) self.now result }
+        requires { id.number < CORES }
+        ensures { result ≡ slice_index self.now.border.received id.number }
     {
-        self.received[usize::from(id.number)]
+        self.border.received[usize::from(id.number)]
     }
 
     /// Whether the core was started, as far as this core learned at the second gate.
-    pub fn is_started(&self, id: CoreId) -> bool
-        ensures state { result ≡ has_core self.now.started id }
-        ensures reads { Reads (λ v h. is_started h id) self.now result }
-        ensures number { IsTrue result → id.number < 16 }
+    pub fn knows_started(&self, id: CoreId) -> bool
+        ensures value { result ≡ has_core self.now.progress.started id }
+        ensures number { IsTrue result → id.number < CORES }
     {
         self.progress.started.contains(id)
     }
 
     /// Whether the object is one of this core's.
     pub fn is_own(&self, id: CoreId) -> bool
-        ensures state { result ≡ is_own self.now.view id }
-        ensures reads { Reads (λ v h. is_own v id) self.now result }
+        ensures value { result ≡ is_own self.now.view id }
+        ensures own { result ≡ same_core id self.now.view.own.id }
     {
         is_same_core(id, self.core.id)
     }
 
-    /// The task of this reference, if it is one of this core's.
-    pub fn own_task(&self, task: TaskRef) -> Option<&Task>
-        ensures { option_copied result ≡ own_task self.now.view task }
+    /// Whether the object is there among this core's.
+    pub fn has(&self, object: Object) -> bool
+        ensures { result ≡ is_own_object self.now.view.own object }
     {
-        parts::task_of(self.core, task)
+        self.core.has(object)
     }
 
     /// The core's tasks, in index order.
     pub fn tasks(&self) -> &'a [Task]
-        ensures value { result.now ≡ self.now.view.tasks }
+        ensures value { result.now ≡ self.now.view.own.tasks }
         ensures few { length result.now ≤ 32 }
-        ensures some { IsTrue (list_all (λ (t : TaskValue). nat_le 1 t.activations) self.now.view.tasks) }
+        ensures some { IsTrue (list_all (λ (t : TaskValue). nat_le 1 t.activations) self.now.view.own.tasks) }
     {
         let core = self.core;
         core.tasks.as_slice()
@@ -329,22 +326,22 @@ impl<'a, const P: usize, const J: usize, const OUT: usize> CoreState<'a, P, J, O
 
     /// This core's number.
     pub fn id(&self) -> CoreId
-        ensures { result ≡ self.now.view.core }
+        ensures own { result ≡ self.now.view.own.id }
+        ensures core { result ≡ self.now.view.core }
     {
         self.core.id
     }
 
     /// Whether a core with this number is configured.
     pub fn is_configured(&self, id: CoreId) -> bool
-        ensures state { result ≡ is_configured self.now.view id }
-        ensures reads { Reads (λ v h. is_configured v id) self.now result }
+        ensures { result ≡ is_configured self.now.view id }
     {
         self.config.plan().core(id).is_some()
     }
 
     /// The application mode with which the core calls StartOS.
     pub fn mode(&self) -> CoreMode
-        ensures { result ≡ self.now.view.mode }
+        ensures { result ≡ self.now.view.own.mode }
     {
         self.core.mode
     }
@@ -356,46 +353,44 @@ impl<'a, const P: usize, const J: usize, const OUT: usize> CoreState<'a, P, J, O
         self.config.plan().modes.len()
     }
 
-    /// The oldest live job of the task in the running state.
-    pub fn current_job(&self) -> Option<Job>
-        ensures state { result ≡ oldest_of self.now.current self.now.jobs }
-        ensures reads { Reads (λ v h. current_job h) self.now result }
-        ensures live { IfSome result (λ job. 0 < job_count job.runner self.now.jobs) }
-        ensures own { IfSome result (λ job. IsTrue (is_own_runner self.now.view job.runner)) }
-        ensures current { IfSome result (λ job. IsTrue (is_current self.now.current job.runner)) }
+    /// The running job: the oldest live job of the task in the running state.
+    pub fn running_job(&self) -> Option<Job>
+        ensures value { result ≡ running_in self.now }
+        ensures live { IfSome result (λ job. 0 < job_count job.runner self.now.tasks.jobs) }
+        ensures own { IfSome result (λ job. IsTrue (is_own_runner self.now.view.own job.runner)) }
+        ensures current { IfSome result (λ job. IsTrue (is_current self.now.tasks.current job.runner)) }
     {
-        let task = self.progress.current?;
-        parts::oldest_job(self.jobs.as_slice(), Runner::Task(task))
+        let task = self.tasks.current?;
+        tasks::oldest_job(self.tasks.jobs.as_slice(), Runner::Task(task))
     }
 
     /// The job to run: of the live jobs of greatest priority the oldest (OSEK/VDX OS 2.2.3, section 4.4 and 4.5).
     pub fn best_job(&self) -> Option<Job>
-        ensures state { result ≡ best_in self.now }
+        ensures value { result ≡ best_in self.now }
         ensures reads { Reads (λ v h. best_job v h) self.now result }
-        ensures own { IfSome result (λ job. IsTrue (is_own_runner self.now.view job.runner)) }
+        ensures own { IfSome result (λ job. IsTrue (is_own_runner self.now.view.own job.runner)) }
     {
-        parts::first_greatest(self.core, self.jobs.as_slice())
+        tasks::first_greatest(self.core, self.tasks.jobs.as_slice())
     }
 
     /// Whether as many jobs of one of the core's tasks are live as it may have.
     pub fn is_at_limit(&self, task: TaskRef) -> bool
-        requires own { IsTrue (is_own_runner self.now.view (Runner.Task task)) }
-        ensures state { result ≡ nat_le (activation_limit self.now.view (Runner.Task task)) (job_count (Runner.Task task) self.now.jobs) }
-        ensures reads { Reads (λ v h. is_at_limit v task h) self.now result }
+        requires own { IsTrue (is_own_runner self.now.view.own (Runner.Task task)) }
+        ensures { result ≡ is_at_limit_in task self.now }
     {
-        let limit = match parts::task_of(self.core, task) {
+        let limit = match tasks::task_of(self.core, task) {
             Some(own) => usize::from(own.activations),
             None => unreachable!(),
         };
-        limit <= parts::count_jobs(self.jobs.as_slice(), Runner::Task(task))
+        limit <= tasks::count_jobs(self.tasks.jobs.as_slice(), Runner::Task(task))
     }
 
     /// What the oldest live job of one of the core's tasks does next.
     pub fn next_action(&self, runner: Runner) -> Action
-        requires own { IsTrue (is_own_runner self.now.view runner) }
-        ensures state { result ≡ action_at (script_of self.now.view runner) (frame_in runner self.now.frames) }
-        ensures reads { Reads (λ v h. action_at (script_of v runner) (frame_at v runner h)) self.now result }
-        ensures known { IsTrue (is_action_known self.now.view result) }
+        requires own { IsTrue (is_own_runner self.now.view.own runner) }
+        ensures value { result ≡ next_action_in runner self.now }
+        ensures reads { Reads (λ v h. action_at (script_of v.own runner) (frame_at v runner h)) self.now result }
+        ensures known { IsTrue (is_action_known self.now.view.own result) }
     {
         match runner {
             Runner::Task(task) => self.next_action_of(task),
@@ -404,13 +399,13 @@ impl<'a, const P: usize, const J: usize, const OUT: usize> CoreState<'a, P, J, O
     }
 
     fn next_action_of(&self, task: TaskRef) -> Action
-        requires { IsSome (own_task self.now.view task) }
-        ensures state { result ≡ action_at (script_of self.now.view (Runner.Task task)) (frame_in (Runner.Task task) self.now.frames) }
-        ensures known { IsTrue (is_action_known self.now.view result) }
+        requires { IsSome (own_task self.now.view.own task) }
+        ensures value { result ≡ next_action_in (Runner.Task task) self.now }
+        ensures known { IsTrue (is_action_known self.now.view.own result) }
     {
-        match parts::task_of(self.core, task) {
+        match tasks::task_of(self.core, task) {
             Some(own) => {
-                let slot = &self.frames.as_slice()[usize::from(task.index)];
+                let slot = &self.tasks.frames.as_slice()[usize::from(task.index)];
                 oscript::next(&own.script, &slot.frame)
             }
             None => unreachable!(),

@@ -14,12 +14,14 @@ use Rattle.osbase.specs.declared.references.TableRef.{TableRef}
 use Rattle.osbase.specs.declared.references.Variable.{Variable}
 use Rattle.osbase.specs.declared.references.Runner.{Runner}
 use Rattle.osbase.specs.declared.messages.RemoteCall.{RemoteCall}
-use Rattle.osbase.specs.declared.messages.RemoteCall.TheVariants as Call
+use Rattle.osbase.specs.declared.objects.ObjectKind.{ObjectKind}
+use Rattle.osbase.specs.declared.objects.ObjectKind.TheVariants as ObjectKind
+use Rattle.osbase.specs.declared.objects.Place.{Place}
 use Rattle.osbase.specs.declared.marks.Mark.{Mark}
 use Rattle.osbase.specs.declared.statuses.Status.{Status}
-use Rattle.osbase.specs.declared.statuses.ServiceId.TheVariants as Service
 use Rattle.osbase.specs.declared.turns.Report.{Report}
 use Rattle.osbase.specs.Words.{status_name, service_name}
+use Rattle.osforms.specs.Call as forms
 use Rattle.osplan.specs.declared.plans.Plan.{Plan}
 use Rattle.osplan.specs.declared.plans.Core.{Core}
 use Rattle.osplan.specs.declared.plans.Task.{Task}
@@ -53,16 +55,14 @@ runner_name plan (Runner.Isr i) = isr_name plan i
 abbrev pub variable_name : Variable → List ℕ
 variable_name x = codes "v" ++ decimal x.index
 
+-- The name of an object of any kind.
+abbrev pub name_of : Plan → ObjectKind → Place → List ℕ
+name_of plan ObjectKind.Task place = object_name (λ (c : Core). c.tasks) (λ (x : Task). x.name) plan place.core place.index
+name_of plan ObjectKind.Alarm place = object_name (λ (c : Core). c.alarms) (λ (x : Alarm). x.name) plan place.core place.index
+
 -- The words of a call that goes to another core: the operation as a script has it. [own]
 abbrev pub call_words : Plan → RemoteCall → List (List ℕ)
-call_words plan (Call.ActivateTask t) = service_name Service.ActivateTask ∷ task_name plan t ∷ []
-call_words plan (Call.SetEvent t mask) = service_name Service.SetEvent ∷ task_name plan t ∷ decimal mask ∷ []
-call_words plan (Call.SetRelAlarm a increment cycle) =
-    service_name Service.SetRelAlarm ∷ alarm_name plan a ∷ decimal increment ∷ decimal cycle ∷ []
-call_words plan (Call.SetAbsAlarm a start cycle) =
-    service_name Service.SetAbsAlarm ∷ alarm_name plan a ∷ decimal start ∷ decimal cycle ∷ []
-call_words plan (Call.CancelAlarm a) = service_name Service.CancelAlarm ∷ alarm_name plan a ∷ []
-call_words plan (Call.GetAlarm a x) = service_name Service.GetAlarm ∷ alarm_name plan a ∷ variable_name x ∷ []
+call_words plan call = forms.call_words (name_of plan) call
 
 -- A value that is there is a word.
 abbrev pub value_words : Option ℤ → List (List ℕ)

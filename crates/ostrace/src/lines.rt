@@ -1,15 +1,25 @@
 //! The lines of a trace.
 
-ghost use Rattle.std.specs.Prelude.{◌≡◌, ◌^◌, ◌<◌, ◌++◌, ◌∷◌, [], codes};
+ghost use Rattle.std.specs.Prelude.{◌≡◌, ◌^◌, ◌<◌, ◌++◌, ◌∷◌, [], codes, map};
 ghost use Rattle.std.specs.Fmt.{decimal, signed_decimal};
 ghost use Rattle.osbase.specs.Words.{service_name, status_name};
+ghost use Rattle.oscript.specs.Rows.{items};
+ghost use Rattle.osforms.specs.Form.{arg_text};
+ghost use Rattle.osforms.specs.Operation.{named};
+ghost use Rattle.ostrace.specs.Pieces.{word_text};
 ghost use Rattle.ostrace.specs.Taken.{Writes};
-ghost use Rattle.ostrace.specs.Trace.{answer_words, call_words, isr_name, led, line_of, spaced, table_name, task_name, variable_name};
+ghost use Rattle.ostrace.specs.Trace.{answer_words, call_words, isr_name, led, line_of, name_of, spaced, table_name, task_name, variable_name};
 
-use crate::names::{name_of_alarm, name_of_isr, name_of_runner, name_of_table, name_of_task};
+use crate::names::{
+    name_of, name_of_alarm, name_of_isr, name_of_runner, name_of_table, name_of_task,
+};
 use crate::sinks::{Sink, WriteFailed};
 use crate::words::{Word, write_led, write_words};
-use osbase::{CoreId, IsrRef, Mark, RemoteCall, ServiceId, Status, TableRef, TaskRef, Variable};
+use osbase::{
+    CoreId, IsrRef, Mark, Place, RemoteCall, ServiceId, Status, TableRef, TaskRef, Variable,
+};
+use oscript::{Arg, Args};
+use osforms::form_of_call;
 use osplan::Plan;
 
 fn write_word_alone<S: Sink>(out: &mut S, word: &str) -> Result<(), WriteFailed>
@@ -140,20 +150,16 @@ fn write_answer<S: Sink>(out: &mut S, status: Status, value: Option<i64>) -> Res
     }
 }
 
-fn write_alarm_call<S: Sink>(
-    out: &mut S,
-    service: ServiceId,
-    alarm: &str,
-    first: u32,
-    cycle: u32,
-) -> Result<(), WriteFailed>
-    requires { S.failed out.old < 2 ^ 48 }
-    ensures { Writes S.taken S.failed out.old out.new
-        (led (service_name service ∷ alarm.now ∷ decimal first ∷ decimal cycle ∷ [])) result }
+fn word_of(plan: &Plan, arg: Arg<Place>) -> Word<'_>
+    ensures { word_text result ≡ arg_text (named (name_of plan.now) arg) }
 {
-    let service = Word::Text(service.name());
-    let (first, cycle) = (Word::Whole(first), Word::Whole(cycle));
-    write_led(out, &[service, Word::Text(alarm), first, cycle])
+    match arg {
+        Arg::Object(kind, Some(place)) => Word::Text(name_of(plan, kind, place)),
+        Arg::Object(_, None) => Word::Text("?"),
+        Arg::Number(n) => Word::Whole(n),
+        Arg::Int(n) => Word::Signed(n),
+        Arg::Variable(x) => Word::Variable(x),
+    }
 }
 
 // The words of a call, each after a space.
@@ -161,40 +167,34 @@ fn write_call<S: Sink>(plan: &Plan, out: &mut S, call: RemoteCall) -> Result<(),
     requires { S.failed out.old < 2 ^ 48 }
     ensures { Writes S.taken S.failed out.old out.new (led (call_words plan.now call)) result }
 {
-    match call {
-        RemoteCall::ActivateTask(task) => {
-            let name = Word::Text(name_of_task(plan, task));
-            write_led(out, &[Word::Text(ServiceId::ActivateTask.name()), name])
-        }
-        RemoteCall::SetEvent { task, mask } => {
-            let name = Word::Text(name_of_task(plan, task));
-            let service = Word::Text(ServiceId::SetEvent.name());
-            write_led(out, &[service, name, Word::Whole(mask)])
-        }
-        RemoteCall::SetRelAlarm {
-            alarm,
-            increment,
-            cycle,
-        } => {
-            let name = name_of_alarm(plan, alarm);
-            write_alarm_call(out, ServiceId::SetRelAlarm, name, increment, cycle)
-        }
-        RemoteCall::SetAbsAlarm {
-            alarm,
-            start,
-            cycle,
-        } => {
-            let name = name_of_alarm(plan, alarm);
-            write_alarm_call(out, ServiceId::SetAbsAlarm, name, start, cycle)
-        }
-        RemoteCall::CancelAlarm(alarm) => {
-            let name = Word::Text(name_of_alarm(plan, alarm));
-            write_led(out, &[Word::Text(ServiceId::CancelAlarm.name()), name])
-        }
-        RemoteCall::GetAlarm { alarm, variable } => {
-            let name = Word::Text(name_of_alarm(plan, alarm));
-            let service = Word::Text(ServiceId::GetAlarm.name());
-            write_led(out, &[service, name, Word::Variable(variable.index)])
+    let form = form_of_call(call);
+    write_asked(plan, out, form.service, form.args)
+}
+
+// No call is in sight here, so that no goal is split by calls.
+fn write_asked<S: Sink>(
+    plan: &Plan,
+    out: &mut S,
+    service: ServiceId,
+    args: Args<Arg<Place>>,
+) -> Result<(), WriteFailed>
+    requires { S.failed out.old < 2 ^ 48 }
+    ensures { Writes S.taken S.failed out.old out.new
+        (led (service_name service ∷ map (λ a. arg_text (named (name_of plan.now) a)) (items args))) result }
+{
+    let service = Word::Text(service.name());
+    match args {
+        Args::Zero => write_led(out, &[service]),
+        Args::One(a) => write_led(out, &[service, word_of(plan, a)]),
+        Args::Two(a, b) => write_led(out, &[service, word_of(plan, a), word_of(plan, b)]),
+        Args::Three(a, b, c) => {
+            let words = [
+                service,
+                word_of(plan, a),
+                word_of(plan, b),
+                word_of(plan, c),
+            ];
+            write_led(out, &words)
         }
     }
 }

@@ -1,9 +1,9 @@
 //! The names of objects, by their places among their core's objects.
 
 ghost use Rattle.std.specs.Prelude.{◌≡◌};
-ghost use Rattle.ostrace.specs.Trace.{alarm_name, isr_name, runner_name, table_name, task_name};
+ghost use Rattle.ostrace.specs.Trace.{alarm_name, isr_name, name_of, runner_name, table_name, task_name};
 
-use osbase::{AlarmRef, IsrRef, Runner, TableRef, TaskRef};
+use osbase::{AlarmRef, IsrRef, ObjectKind, Place, Runner, TableRef, TaskRef};
 use osplan::Plan;
 
 /// The name of a task, or the empty text where the plan lacks it.
@@ -65,5 +65,16 @@ pub fn name_of_runner(plan: &Plan, runner: Runner) -> &str
     match runner {
         Runner::Task(task) => name_of_task(plan, task),
         Runner::Isr(isr) => name_of_isr(plan, isr),
+    }
+}
+
+/// The name of the object of this kind at this place, or the empty text where the plan lacks it.
+pub fn name_of(plan: &Plan, kind: ObjectKind, place: Place) -> &str
+    ensures { result.now ≡ name_of plan.now kind place }
+{
+    let Place { core, index } = place;
+    match kind {
+        ObjectKind::Task => name_of_task(plan, TaskRef { core, index }),
+        ObjectKind::Alarm => name_of_alarm(plan, AlarmRef { core, index }),
     }
 }

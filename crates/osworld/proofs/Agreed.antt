@@ -1,5 +1,5 @@
 -- What a turn names by what a run holds is what the world's definition names.
-use Rattle.std.proofs.Common.{◌≡◌, ℕ, zero, suc, ◌+◌, ◌-◌, ◌<◌, ◌≤◌, Bool, true, false, ◌&&◌, cond, Option, Some, None, option_map, is_some, List, [], ◌∷◌, length, drop, refl, sym, ap, ◌∙◌, arith, nat_lt, length-drop}
+use Rattle.std.proofs.Common.{◌≡◌, ℕ, ◌+◌, ◌-◌, ◌<◌, ◌≤◌, Bool, true, false, ◌&&◌, cond, Option, Some, None, option_map, is_some, List, [], ◌∷◌, length, drop, refl, sym, ap, ◌∙◌, arith, nat_lt, length-drop}
 use Rattle.std.specs.Option.{option_map_or}
 use Rattle.std.specs.List.{slice_get}
 use Rattle.std.proofs.lemmas.Bool.{ltb-true, eqb-true}
@@ -22,15 +22,15 @@ use Rattle.osstate.specs.State.{KernelState, state_of}
 use Rattle.osstate.proofs.Begun.{is_some-core_of}
 use Rattle.oskernel.specs.declared.wants.Want.{Want}
 use Rattle.oskernel.specs.Step.{history_from}
-use Rattle.oskernel.specs.Wants.{want_of}
+use Rattle.oskernel.specs.Wants.{want_in, want_of}
 use Rattle.osworld.specs.declared.boards.Board.{Board}
 use Rattle.osworld.specs.declared.seats.Seat.{Seat}
 use Rattle.osworld.specs.Board.{start_answer}
 use Rattle.osworld.specs.World.{World, board_in, going_on, history_in, items_in, look_named, named, own_named, receiving, serve_named, stimulus_count}
-use Rattle.osworld.specs.Naming.{named_by, own_by, post_named, serve_by, want_by}
+use Rattle.osworld.specs.Naming.{named_by, own_by, post_named, serve_by}
 use Rattle.osworld.specs.Playing.{IsMail, lists_of}
 use Rattle.osworld.proofs.Listed.{is_seat_of, list_of}
-use Rattle.osworld.proofs.Streams.{waiting-front}
+use Rattle.osworld.proofs.Streams.{front-drop}
 
 -- no seat is of a core that is numbered 16 or above
 pub list_of-beyond : (id : CoreId) (seats : List Seat) → nat_lt id.number CORES ≡ false → list_of id (lists_of seats) ≡ None
@@ -70,19 +70,13 @@ module _ (plan : Plan) (stimuli : List CoreStimuli) (w : World) (core : CoreId) 
           ∙ ap (λ (n : ℕ). nat_lt (length (box_of mail core to)) n) (sym m.cap))
       by false e = refl
 
-  stimulus-front : (n : ℕ) (xs : List Stimulus) → slice_get xs n ≡ slice_get (drop n xs) 0
-  stimulus-front zero [] = refl
-  stimulus-front zero (x ∷ xs) = refl
-  stimulus-front (suc n) [] = refl
-  stimulus-front (suc n) (x ∷ xs) = stimulus-front n xs
-
   own-agrees : (want : Want) → own_named plan stimuli w core want ≡ own_by plan board mail core left want
   own-agrees (Want.Start k) = start-agrees k
   own-agrees Want.Enter = refl
   own-agrees Want.Ready = refl
   own-agrees (Want.Post to) = post-agrees to
   own-agrees Want.GoOn =
-      ap (λ (o : Option Stimulus). Some (going_on o)) (stimulus-front (stimulus_count (items_in w core)) (stimuli_of stimuli core) ∙ ap (λ (xs : List Stimulus). slice_get xs 0) (sym kept))
+      ap (λ (o : Option Stimulus). Some (going_on o)) (sym (front-drop (stimulus_count (items_in w core)) (stimuli_of stimuli core)) ∙ ap (λ (xs : List Stimulus). slice_get xs 0) (sym kept))
   own-agrees Want.Nothing = refl
 
   serve-agrees : (seats : List Seat) → w.items ≡ lists_of seats → (from : CoreId) → serve_named plan w core from ≡ serve_by mail core from
@@ -91,7 +85,7 @@ module _ (plan : Plan) (stimuli : List CoreStimuli) (w : World) (core : CoreId) 
       by : (b : Bool) → nat_lt from.number CORES ≡ b → serve_named plan w core from ≡ cond b (option_map (receiving from) (oldest_of mail from core)) None
       by true e =
           ap (option_map (receiving from))
-          (sym (waiting-front (received_count from (history_in plan w core)) (posted core (history_in plan w from)))
+          (sym (front-drop (received_count from (history_in plan w core)) (posted core (history_in plan w from)))
           ∙ ap (λ (xs : List Envelope). slice_get xs 0) (sym (m.boxes from core (ltb-true from.number CORES e) known)))
       by false e =
           ap (λ (o : Option (CoreId × List Item)). option_map (receiving from) (slice_get (posted core (history_from (view_of plan from) [] (option_map_or (λ (p : CoreId × List Item). p.1) o []))) (received_count from (history_in plan w core))))
@@ -99,7 +93,7 @@ module _ (plan : Plan) (stimuli : List CoreStimuli) (w : World) (core : CoreId) 
 
   pub named-agrees : (seats : List Seat) → w.items ≡ lists_of seats → (kernel : KernelState) → kernel ≡ state_of (view_of plan core) (history_in plan w core) → (choice : Choice) → named plan stimuli w core choice ≡ named_by plan board mail core left kernel choice
   named-agrees seats lists kernel stands Own =
-      own-agrees (want_of (view_of plan core) (history_in plan w core)) ∙ ap (λ (s : KernelState). own_by plan board mail core left (want_by s)) (sym stands)
+      own-agrees (want_of (view_of plan core) (history_in plan w core)) ∙ ap (λ (s : KernelState). own_by plan board mail core left (want_in s)) (sym stands)
   named-agrees seats lists kernel stands (Serve from) = serve-agrees seats lists from
   named-agrees seats lists kernel stands Look =
-      ap (λ (b : Board). look_named core b (state_of (view_of plan core) (history_in plan w core)).phase) (sym shown) ∙ ap (λ (s : KernelState). look_named core board s.phase) (sym stands)
+      ap (λ (b : Board). look_named core b (state_of (view_of plan core) (history_in plan w core)).progress.phase) (sym shown) ∙ ap (λ (s : KernelState). look_named core board s.progress.phase) (sym stands)

@@ -1,7 +1,8 @@
 -- The histories and the mailboxes after a turn that appends an item.
 use Rattle.std.proofs.Common.{◌≡◌, ℕ, suc, ◌<◌, ◌≤◌, Bool, true, false, ◌&&◌, cond, Option, Some, None, IsSome, List, [], ◌∷◌, ◌++◌, length, drop, refl, sym, ap, subst, ◌∙◌, arith, append-nil, length-append, length-set}
-use Rattle.std.specs.Option.{option_map_or}
 use Rattle.std.specs.List.{slice_get}
+use Rattle.std.proofs.lemmas.List.{drop-append-le}
+use Rattle.std.proofs.lemmas.Option.{slice_get_within}
 use Rattle.osbase.specs.declared.references.CoreId.{CoreId}
 use Rattle.osbase.specs.declared.messages.Envelope.{Envelope}
 use Rattle.osbase.specs.declared.messages.Message.{Message}
@@ -12,18 +13,15 @@ use Rattle.osbase.specs.History.{front_envelope, outbox, posted, received_count,
 use Rattle.osmail.specs.Mail.{Mail, after_take, box_of, oldest_of, with_box}
 use Rattle.osplan.specs.declared.plans.Plan.{Plan}
 use Rattle.osplan.specs.View.{view_of}
-use Rattle.osstate.proofs.Same.{same_core-true}
+use Rattle.osplan.proofs.Starting.{and-true}
+use Rattle.osbase.proofs.Same.{same_core-true}
 use Rattle.oskernel.specs.Step.{after, history_from}
-use Rattle.oskernel.specs.Admission.{front_in}
+use Rattle.oskernel.specs.Wants.{front_of}
 use Rattle.osworld.specs.World.{World, appends, history_in}
 use Rattle.osworld.specs.Naming.{carried, IsPlaced}
 use Rattle.osworld.specs.Playing.{IsMail, waiting}
-use Rattle.osworld.proofs.Listed.{list_of, list_of-same, list_of-other, history_from-push}
-use Rattle.osworld.proofs.Streams.{is_post_to, is_from, posted-after, received-after, box-changed, waiting-longer, waiting-shorter, waiting-front, some_waits}
-
-pub and_true : (b : Bool) → b ≡ (b && true)
-and_true true = refl
-and_true false = refl
+use Rattle.osworld.proofs.Listed.{items_by, list_of, list_of-same, list_of-other, history_from-push}
+use Rattle.osworld.proofs.Streams.{is_post_to, is_from, posted-after, received-after, box-changed, front-drop, waiting-shorter}
 
 pub and_false : {A : Type 0} (b : Bool) (x y : A) → cond (b && false) x y ≡ y
 and_false true x y = refl
@@ -32,9 +30,6 @@ and_false false x y = refl
 module _ (plan : Plan) (w : World) (core : CoreId) (item : Item) (p : CoreId × List Item) (listed : list_of core w.items ≡ Some p) where
   abbrev pub next : World
   next = appends plan w core item
-
-  abbrev items_by : Option (CoreId × List Item) → List Item
-  items_by o = option_map_or (λ (q : CoreId × List Item). q.1) o []
 
   pub history-same : history_in plan next core ≡ after (view_of plan core) (history_in plan w core) item
   history-same =
@@ -70,7 +65,7 @@ module _ (plan : Plan) (w : World) (core : CoreId) (item : Item) (p : CoreId × 
       by true e =
           subst (λ (c : CoreId). received_count from (history_in plan next c) ≡ cond (is_from item from && true) (suc (takes_in from c)) (takes_in from c)) (same_core-true core to e)
           (ap (received_count from) history-same ∙ received-after (view_of plan core) from item (history_in plan w core)
-          ∙ ap (λ (b : Bool). cond b (suc (takes_in from core)) (takes_in from core)) (and_true (is_from item from)))
+          ∙ ap (λ (b : Bool). cond b (suc (takes_in from core)) (takes_in from core)) (sym (and-true (is_from item from))))
       by false e = ap (received_count from) (history-other to e) ∙ sym (and_false (is_from item from) (suc (takes_in from to)) (takes_in from to))
 
   -- nothing is on its way that was not, and nothing was received
@@ -115,7 +110,7 @@ module _ (plan : Plan) (w : World) (core to : CoreId) (p : CoreId × List Item) 
             subst (λ (x : CoreId). box_of mail core to ++ e ∷ [] ≡ drop (received_count x (history_in plan w d)) (posted d (history_in plan w x) ++ e ∷ [])) (same_core-true core c same_c)
             (subst (λ (y : CoreId). box_of mail core to ++ e ∷ [] ≡ drop (received_count core (history_in plan w y)) (posted y (history_in plan w core) ++ e ∷ [])) (same_core-true to d same_d)
             (ap (λ (xs : List Envelope). xs ++ e ∷ []) (m.boxes core to known placed.0)
-            ∙ sym (waiting-longer (received_count core (history_in plan w to)) (posted to (history_in plan w core)) (e ∷ []) (m.order core to))))
+            ∙ sym (drop-append-le (received_count core (history_in plan w to)) (posted to (history_in plan w core)) (e ∷ []) (m.order core to))))
         by true false same_c same_d = m.boxes c d c-known d-known
         by false b same_c same_d = m.boxes c d c-known d-known
 
@@ -131,10 +126,10 @@ module _ (plan : Plan) (w : World) (core to : CoreId) (p : CoreId × List Item) 
     sends_on : IsMail plan posts (with_front e)
     sends_on = record { cap = m.cap; places = length-set mail.boxes _ _ ∙ m.places; boxes = box; order = order }
 
-  pub posting_on : IsMail plan posts (carried core (front_in (outbox (history_in plan w core))) (Item.Posted to) mail)
+  pub posting_on : IsMail plan posts (carried core (front_of (outbox (history_in plan w core))) (Item.Posted to) mail)
   posting_on = by (outbox (history_in plan w core)) refl
     where
-      by : (out : List Sent) → outbox (history_in plan w core) ≡ out → IsMail plan posts (carried core (front_in out) (Item.Posted to) mail)
+      by : (out : List Sent) → outbox (history_in plan w core) ≡ out → IsMail plan posts (carried core (front_of out) (Item.Posted to) mail)
       by [] e =
           unmoved plan w core (Item.Posted to) p listed mail m
           (λ c d. posted-in plan w core (Item.Posted to) p listed c d
@@ -159,9 +154,10 @@ module _ (plan : Plan) (w : World) (core from : CoreId) (number : ℕ) (message 
       by : (o : Option Envelope) → oldest_of mail from core ≡ o → IsSome o → suc (received_count from (history_in plan w core)) ≤ length (posted core (history_in plan w from))
       by None e x = cc
       by (Some envelope) e x =
-          some_waits (received_count from (history_in plan w core)) (posted core (history_in plan w from)) envelope
-          (sym (waiting-front (received_count from (history_in plan w core)) (posted core (history_in plan w from)))
-          ∙ ap (λ (xs : List Envelope). slice_get xs 0) (sym (m.boxes from core placed.0 known)) ∙ e)
+          let inside = slice_get_within (posted core (history_in plan w from)) (received_count from (history_in plan w core)) envelope
+          (sym (front-drop (received_count from (history_in plan w core)) (posted core (history_in plan w from)))
+          ∙ ap (λ (xs : List Envelope). slice_get xs 0) (sym (m.boxes from core placed.0 known)) ∙ e) in
+          omega arith
 
   sent_as_before : (c d : CoreId) → posted d (history_in plan receives c) ≡ posted d (history_in plan w c)
   sent_as_before c d = posted-in plan w core (Item.Received from number message) p listed c d ∙ and_false (same_core core c) _ _
@@ -201,20 +197,7 @@ module _ (plan : Plan) (w : World) (core from : CoreId) (number : ℕ) (message 
   receiving_on = record { cap = m.cap; places = length-set mail.boxes _ _ ∙ m.places; boxes = box_after; order = order_after }
 
 -- whatever the item is, the mailboxes hold what is on its way
-pub carries_on : (plan : Plan) (w : World) (core : CoreId) (item : Item) (p : CoreId × List Item) → list_of core w.items ≡ Some p → (mail : Mail) → IsMail plan w mail → core.number < CORES → IsPlaced mail core item → IsMail plan (appends plan w core item) (carried core (front_in (outbox (history_in plan w core))) item mail)
-carries_on plan w core Item.On p listed mail m known placed = aside plan w core Item.On p listed mail m (λ d. refl) (λ s. refl)
-carries_on plan w core (Item.Began k s) p listed mail m known placed = aside plan w core (Item.Began k s) p listed mail m (λ d. refl) (λ s. refl)
-carries_on plan w core Item.Entered p listed mail m known placed = aside plan w core Item.Entered p listed mail m (λ d. refl) (λ s. refl)
-carries_on plan w core (Item.Pass1 a) p listed mail m known placed = aside plan w core (Item.Pass1 a) p listed mail m (λ d. refl) (λ s. refl)
-carries_on plan w core Item.Readied p listed mail m known placed = aside plan w core Item.Readied p listed mail m (λ d. refl) (λ s. refl)
-carries_on plan w core (Item.Pass2 cores) p listed mail m known placed = aside plan w core (Item.Pass2 cores) p listed mail m (λ d. refl) (λ s. refl)
-carries_on plan w core (Item.Stim s) p listed mail m known placed = aside plan w core (Item.Stim s) p listed mail m (λ d. refl) (λ s. refl)
+pub carries_on : (plan : Plan) (w : World) (core : CoreId) (item : Item) (p : CoreId × List Item) → list_of core w.items ≡ Some p → (mail : Mail) → IsMail plan w mail → core.number < CORES → IsPlaced mail core item → IsMail plan (appends plan w core item) (carried core (front_of (outbox (history_in plan w core))) item mail)
 carries_on plan w core (Item.Posted to) p listed mail m known placed = posting_on plan w core to p listed mail m known placed
 carries_on plan w core (Item.Received from number message) p listed mail m known placed = receiving_on plan w core from number message p listed mail m known placed
-carries_on plan w core (Item.Granted l) p listed mail m known placed = aside plan w core (Item.Granted l) p listed mail m (λ d. refl) (λ s. refl)
-carries_on plan w core (Item.Tried l taken) p listed mail m known placed = aside plan w core (Item.Tried l taken) p listed mail m (λ d. refl) (λ s. refl)
-carries_on plan w core (Item.Freed l) p listed mail m known placed = aside plan w core (Item.Freed l) p listed mail m (λ d. refl) (λ s. refl)
-carries_on plan w core (Item.Halt k s) p listed mail m known placed = aside plan w core (Item.Halt k s) p listed mail m (λ d. refl) (λ s. refl)
-carries_on plan w core Item.Drained p listed mail m known placed = aside plan w core Item.Drained p listed mail m (λ d. refl) (λ s. refl)
-carries_on plan w core Item.PassEnd p listed mail m known placed = aside plan w core Item.PassEnd p listed mail m (λ d. refl) (λ s. refl)
-carries_on plan w core (Item.Last shutdown) p listed mail m known placed = aside plan w core (Item.Last shutdown) p listed mail m (λ d. refl) (λ s. refl)
+carries_on plan w core item p listed mail m known placed = aside plan w core item p listed mail m (λ d. refl) (λ s. refl)

@@ -26,13 +26,13 @@ use Rattle.osworld.proofs.Short.{world-bounded}
 
 -- Whether all have ended, read off the seats.
 abbrev pub seats_over : Board → List Seat → Bool
-seats_over board seats = list_all (λ (s : Seat). not (has_core board.started s.id) || is_ended_phase s.kernel.phase) seats
+seats_over board seats = list_all (λ (s : Seat). not (has_core board.started s.id) || is_ended_phase s.kernel.progress.phase) seats
 
 over-each : (plan : Plan) (stimuli : List CoreStimuli) (board : Board) (seats : List Seat) → All (IsSeated plan stimuli) seats → seats_over board seats ≡ list_all (λ (p : CoreId × List Item). not (has_core board.started p.0) || has_ended plan p) (lists_of seats)
 over-each plan stimuli board [] seated = refl
 over-each plan stimuli board (s ∷ ss) seated =
     let here : IsSeated plan stimuli s = All-head (IsSeated plan stimuli) s ss seated in
-    rw (over-each plan stimuli board ss (All-tail (IsSeated plan stimuli) s ss seated), ap (λ (k : KernelState). is_ended_phase k.phase) here.tracks.stands.is) refl
+    rw (over-each plan stimuli board ss (All-tail (IsSeated plan stimuli) s ss seated), ap (λ (k : KernelState). is_ended_phase k.progress.phase) here.tracks.stands.is) refl
 
 pub over-agrees : (plan : Plan) (stimuli : List CoreStimuli) (w : World) (seats : List Seat) (mail : Mail) (board : Board) → Plays plan stimuli w seats mail board → seats_over board seats ≡ is_over plan w
 over-agrees plan stimuli w seats mail board plays =

@@ -1,9 +1,9 @@
 -- Every world fits: what it was before a turn did, and so does what the turn appends.
-use Rattle.std.proofs.Common.{◌≡◌, Bool, true, false, ◌&&◌, ◌||◌, cond, Option, Some, None, is_some, List, [], ◌∷◌, ◌++◌, length, refl, sym, ap, subst, ◌∙◌, append_assoc, append-nil}
+use Rattle.std.proofs.Common.{◌≡◌, Bool, true, false, ◌&&◌, ◌||◌, cond, Option, Some, None, is_some, List, [], ◌∷◌, ◌++◌, length, refl, sym, ap, subst, ◌∙◌, arith, append-nil}
 use Rattle.std.specs.List.{slice_get}
-use Rattle.std.specs.Option.{option_map_or}
 use Rattle.std.proofs.lemmas.Bool.{false≢true}
 use Rattle.std.proofs.lemmas.List.Elements.{filter-append}
+use Rattle.std.proofs.lemmas.Option.{slice_get_past}
 use Rattle.osbase.specs.declared.references.CoreId.{CoreId}
 use Rattle.osbase.specs.declared.messages.Envelope.{Envelope}
 use Rattle.osbase.specs.declared.items.Item.{Item}
@@ -15,17 +15,19 @@ use Rattle.osbase.specs.Runs.{stimuli_of}
 use Rattle.osplan.specs.declared.plans.Plan.{Plan}
 use Rattle.osplan.specs.declared.plans.CoreMode.{CoreMode}
 use Rattle.osplan.specs.View.{view_of}
-use Rattle.osstate.proofs.Same.{same_core-true, same_core-refl}
+use Rattle.osplan.proofs.Starting.{and-true}
+use Rattle.osbase.proofs.Same.{same_core-true, same_core-refl}
 use Rattle.oskernel.specs.Step.{takes, outbox_size}
 use Rattle.osworld.specs.declared.boards.Board.{Board}
 use Rattle.osworld.specs.Board.{BoardCall, BoardEntry, board_after, board_from, first_board, reply_of}
 use Rattle.osworld.specs.World.{World, appends, board_in, call_of, first_world, history_in, ids_of, items_in, named, stimulus_count, turn, turn_by, with_call, world, world_from}
 use Rattle.osworld.specs.Fits.{Allows, AreAnswered, asking, calls_by, Fits, FitsCore, has_drained, IsBeginning, is_drain, Replays, stimuli_in}
-use Rattle.osworld.proofs.Listed.{list_of, list_of-same, list_of-other, history_from-push}
+use Rattle.osworld.proofs.Beginnings.{begins-longer, begins-next, begins-through, begins-whole}
+use Rattle.osworld.proofs.Listed.{items_by, list_of, list_of-same, list_of-other, history_from-push}
 use Rattle.osworld.proofs.Streams.{is_from, is_post_to}
-use Rattle.osworld.proofs.Carrying.{and_false, and_true, history-same, history-other, posted-in}
+use Rattle.osworld.proofs.Carrying.{and_false, history-same, history-other, posted-in}
 use Rattle.osworld.proofs.Started.{no_history, nothing_of}
-use Rattle.osworld.proofs.Fitting.{begins-all, begins-next, envelope_in, has_drained-push, IsNext, Known, length-received, length-stimuli_in, named-known, past_all, received-is, solo-push, stimuli_in-push}
+use Rattle.osworld.proofs.Fitting.{envelope_in, has_drained-push, IsNext, Known, length-received, length-stimuli_in, named-known, received-is, solo-push, stimuli_in-push}
 
 -- the board's calls, and one more
 replays-push : (first : Board) (es : List BoardEntry) (core : CoreId) (call : BoardCall) → Replays first es → Replays first (es ++ record { core = core; call = call; reply = reply_of call (board_from first es) } ∷ [])
@@ -43,21 +45,7 @@ next-envelope : (plan : Plan) (stimuli : List CoreStimuli) (w : World) (core fro
     → (e : Envelope) × (envelope_in i ≡ e ∷ []) × (slice_get (posted core (history_in plan w from)) (received_count from (history_in plan w core)) ≡ Some e) × ((d : CoreId) → is_post_to i d ≡ false)
 next-envelope plan stimuli w core from (Item.Received f number m) is next =
     (record { number = number; message = m }, refl, subst (λ (c : CoreId). slice_get (posted core (history_in plan w c)) (received_count c (history_in plan w core)) ≡ Some (record { number = number; message = m })) (same_core-true f from is) next, λ d. refl)
-next-envelope plan stimuli w core from Item.On is next = absurd (false≢true is)
-next-envelope plan stimuli w core from (Item.Began k s) is next = absurd (false≢true is)
-next-envelope plan stimuli w core from Item.Entered is next = absurd (false≢true is)
-next-envelope plan stimuli w core from (Item.Pass1 a) is next = absurd (false≢true is)
-next-envelope plan stimuli w core from Item.Readied is next = absurd (false≢true is)
-next-envelope plan stimuli w core from (Item.Pass2 cores) is next = absurd (false≢true is)
-next-envelope plan stimuli w core from (Item.Stim s) is next = absurd (false≢true is)
-next-envelope plan stimuli w core from (Item.Posted to) is next = absurd (false≢true is)
-next-envelope plan stimuli w core from (Item.Granted l) is next = absurd (false≢true is)
-next-envelope plan stimuli w core from (Item.Tried l taken) is next = absurd (false≢true is)
-next-envelope plan stimuli w core from (Item.Freed l) is next = absurd (false≢true is)
-next-envelope plan stimuli w core from (Item.Halt k s) is next = absurd (false≢true is)
-next-envelope plan stimuli w core from Item.Drained is next = absurd (false≢true is)
-next-envelope plan stimuli w core from Item.PassEnd is next = absurd (false≢true is)
-next-envelope plan stimuli w core from (Item.Last shutdown) is next = absurd (false≢true is)
+next-envelope plan stimuli w core from i is next = absurd (false≢true is)
 
 -- the stimuli of a core that took one item more
 module _ (plan : Plan) (stimuli : List CoreStimuli) (w : World) (core : CoreId) (fits : FitsCore plan stimuli core (items_in w core)) where
@@ -79,13 +67,13 @@ module _ (plan : Plan) (stimuli : List CoreStimuli) (w : World) (core : CoreId) 
       none_left : (b : Bool) → has_drained past ≡ b → (b || false) ≡ true → stimuli_in past ++ s ∷ [] ≡ listed_stimuli
       none_left true e drained =
           let whole : stimuli_in past ≡ listed_stimuli = fits.drains e in
-          let clash : None ≡ Some s = sym (past_all listed_stimuli) ∙ ap (λ (xs : List Stimulus). slice_get listed_stimuli (length xs)) (sym whole) ∙ at_count (Some s) next in
+          let clash : None ≡ Some s = sym (slice_get_past listed_stimuli (length listed_stimuli) (omega arith)) ∙ ap (λ (xs : List Stimulus). slice_get listed_stimuli (length xs)) (sym whole) ∙ at_count (Some s) next in
           cc
       none_left false e drained = absurd (false≢true drained)
 
   by_drain : slice_get listed_stimuli (stimulus_count past) ≡ None → BeginsOn Item.Drained
   by_drain none =
-      let whole : stimuli_in past ≡ listed_stimuli = begins-all (stimuli_in past) listed_stimuli fits.begins (at_count None none) in
+      let whole : stimuli_in past ≡ listed_stimuli = begins-whole (stimuli_in past) listed_stimuli fits.begins (at_count None none) in
       (([], append-nil (stimuli_in past ++ []) ∙ append-nil (stimuli_in past) ∙ whole), λ drained. append-nil (stimuli_in past) ∙ whole)
 
   plainly : (item : Item) → stimuli_in (item ∷ []) ≡ [] → is_drain item ≡ false → BeginsOn item
@@ -101,20 +89,7 @@ module _ (plan : Plan) (stimuli : List CoreStimuli) (w : World) (core : CoreId) 
   begins_on : (item : Item) → IsNext plan stimuli w core item → BeginsOn item
   begins_on (Item.Stim s) next = by_stimulus s next
   begins_on Item.Drained next = by_drain next
-  begins_on Item.On next = plainly Item.On refl refl
-  begins_on (Item.Began k s) next = plainly (Item.Began k s) refl refl
-  begins_on Item.Entered next = plainly Item.Entered refl refl
-  begins_on (Item.Pass1 a) next = plainly (Item.Pass1 a) refl refl
-  begins_on Item.Readied next = plainly Item.Readied refl refl
-  begins_on (Item.Pass2 cores) next = plainly (Item.Pass2 cores) refl refl
-  begins_on (Item.Posted to) next = plainly (Item.Posted to) refl refl
-  begins_on (Item.Received from number m) next = plainly (Item.Received from number m) refl refl
-  begins_on (Item.Granted l) next = plainly (Item.Granted l) refl refl
-  begins_on (Item.Tried l taken) next = plainly (Item.Tried l taken) refl refl
-  begins_on (Item.Freed l) next = plainly (Item.Freed l) refl refl
-  begins_on (Item.Halt k s) next = plainly (Item.Halt k s) refl refl
-  begins_on Item.PassEnd next = plainly Item.PassEnd refl refl
-  begins_on (Item.Last shutdown) next = plainly (Item.Last shutdown) refl refl
+  begins_on item next = plainly item refl refl
 
   core_on : (item : Item) → IsNext plan stimuli w core item → takes outbox_size (view_of plan core) (history_in plan w core) item ≡ true → FitsCore plan stimuli core (past ++ item ∷ [])
   core_on item next taken =
@@ -129,9 +104,6 @@ module _ (plan : Plan) (stimuli : List CoreStimuli) (w : World) (core : CoreId) 
 module _ (plan : Plan) (stimuli : List CoreStimuli) (w : World) (fits : Fits plan stimuli w) (core : CoreId) (item : Item) (p : CoreId × List Item) (listed : list_of core w.items ≡ Some p) (known : Known plan stimuli w core item) (taken : takes outbox_size (view_of plan core) (history_in plan w core) item ≡ true) where
   abbrev next : World
   next = appends plan w core item
-
-  abbrev items_by : Option (CoreId × List Item) → List Item
-  items_by o = option_map_or (λ (q : CoreId × List Item). q.1) o []
 
   items-same : items_in next core ≡ items_in w core ++ item ∷ []
   items-same = ap items_by (list_of-same core item w.items p listed) ∙ ap (λ (o : Option (CoreId × List Item)). items_by o ++ item ∷ []) (sym listed)
@@ -155,7 +127,7 @@ module _ (plan : Plan) (stimuli : List CoreStimuli) (w : World) (fits : Fits pla
       by true e =
           subst (λ (c : CoreId). received from (history_in plan next c) ≡ cond (is_from item from && true) (received from (history_in plan w c) ++ envelope_in item) (received from (history_in plan w c))) (same_core-true core to e)
           (ap (received from) (history-same plan w core item p listed) ∙ received-is (view_of plan core) from item (history_in plan w core)
-          ∙ ap (λ (b : Bool). cond b (received from (history_in plan w core) ++ envelope_in item) (received from (history_in plan w core))) (and_true (is_from item from)))
+          ∙ ap (λ (b : Bool). cond b (received from (history_in plan w core) ++ envelope_in item) (received from (history_in plan w core))) (sym (and-true (is_from item from))))
       by false e = ap (received from) (history-other plan w core item p listed to e) ∙ sym (and_false (is_from item from) _ _)
 
   streams-on : (from to : CoreId) → IsBeginning (received from (history_in plan next to)) (posted to (history_in plan next from))
@@ -168,7 +140,7 @@ module _ (plan : Plan) (stimuli : List CoreStimuli) (w : World) (fits : Fits pla
       front = front_envelope (outbox (history_in plan w core))
 
       longer : (b : Bool) → IsBeginning (received from (history_in plan w to)) (cond b (posted to (history_in plan w from) ++ front) (posted to (history_in plan w from)))
-      longer true = let begins = fits.streams from to in (begins.0 ++ front, sym (append_assoc (received from (history_in plan w to)) begins.0 front) ∙ ap (λ (xs : List Envelope). xs ++ front) begins.1)
+      longer true = begins-through _ _ _ (fits.streams from to) (begins-longer (posted to (history_in plan w from)) front)
       longer false = fits.streams from to
 
       got : (c : CoreId) → same_core core c ≡ true → is_from item from ≡ true → IsBeginning (received from (history_in plan w c) ++ envelope_in item) (cond (same_core core from && is_post_to item c) (posted c (history_in plan w from) ++ front) (posted c (history_in plan w from)))
@@ -192,7 +164,7 @@ module _ (plan : Plan) (stimuli : List CoreStimuli) (w : World) (fits : Fits pla
 
   -- the call of an item is behind those of the core's earlier items, and aside for every other core
   abbrev mode : CoreMode
-  mode = (view_of plan core).mode
+  mode = (view_of plan core).own.mode
 
   answers-here : (o : Option BoardCall) → call_of mode item ≡ o → AreAnswered core mode (asking mode (items_in w core) ++ cond (is_some o) (item ∷ []) []) (calls_by core (with_call core (board_in plan w) o w.calls))
   answers-here None e = subst (λ (xs : List Item). AreAnswered core mode xs (calls_by core w.calls)) (sym (append-nil (asking mode (items_in w core)))) (fits.answers core)
@@ -212,17 +184,17 @@ module _ (plan : Plan) (stimuli : List CoreStimuli) (w : World) (fits : Fits pla
       entry : BoardEntry
       entry = record { core = core; call = call; reply = reply_of call (board_in plan w) }
 
-  answers-on : (id : CoreId) → AreAnswered id (view_of plan id).mode (asking (view_of plan id).mode (items_in next id)) (calls_by id next.calls)
+  answers-on : (id : CoreId) → AreAnswered id (view_of plan id).own.mode (asking (view_of plan id).own.mode (items_in next id)) (calls_by id next.calls)
   answers-on id = by (same_core core id) refl
     where
-      by : (b : Bool) → same_core core id ≡ b → AreAnswered id (view_of plan id).mode (asking (view_of plan id).mode (items_in next id)) (calls_by id next.calls)
+      by : (b : Bool) → same_core core id ≡ b → AreAnswered id (view_of plan id).own.mode (asking (view_of plan id).own.mode (items_in next id)) (calls_by id next.calls)
       by true e =
-          subst (λ (c : CoreId). AreAnswered c (view_of plan c).mode (asking (view_of plan c).mode (items_in next c)) (calls_by c next.calls)) (same_core-true core id e)
+          subst (λ (c : CoreId). AreAnswered c (view_of plan c).own.mode (asking (view_of plan c).own.mode (items_in next c)) (calls_by c next.calls)) (same_core-true core id e)
           (subst (λ (xs : List Item). AreAnswered core mode xs (calls_by core next.calls)) (sym (ap (asking mode) items-same ∙ filter-append (λ (i : Item). is_some (call_of mode i)) (items_in w core) (item ∷ [])))
           (answers-here (call_of mode item) refl))
       by false e =
-          subst (λ (xs : List Item). AreAnswered id (view_of plan id).mode (asking (view_of plan id).mode xs) (calls_by id next.calls)) (sym (items-other id e))
-          (subst (λ (es : List BoardEntry). AreAnswered id (view_of plan id).mode (asking (view_of plan id).mode (items_in w id)) es) (sym (answers-there id e (call_of mode item))) (fits.answers id))
+          subst (λ (xs : List Item). AreAnswered id (view_of plan id).own.mode (asking (view_of plan id).own.mode xs) (calls_by id next.calls)) (sym (items-other id e))
+          (subst (λ (es : List BoardEntry). AreAnswered id (view_of plan id).own.mode (asking (view_of plan id).own.mode (items_in w id)) es) (sym (answers-there id e (call_of mode item))) (fits.answers id))
 
   fits_on : Fits plan stimuli next
   fits_on = record { cores = cores-on; streams = streams-on; board = board-on (call_of mode item); answers = answers-on }
@@ -252,7 +224,7 @@ first-fits plan stimuli = record {
   cores = λ id. subst (FitsCore plan stimuli id) (sym (nothing_of plan id (ids_of plan))) (record { alone = refl; begins = (stimuli_of stimuli id, refl); drains = λ drained. absurd (false≢true drained) });
   streams = λ from to. subst (λ (h : History). IsBeginning (received from h) (posted to (history_in plan (first_world plan) from))) (sym (no_history plan to)) (posted to (history_in plan (first_world plan) from), refl);
   board = tt;
-  answers = λ id. subst (λ (xs : List Item). AreAnswered id (view_of plan id).mode (asking (view_of plan id).mode xs) []) (sym (nothing_of plan id (ids_of plan))) tt;
+  answers = λ id. subst (λ (xs : List Item). AreAnswered id (view_of plan id).own.mode (asking (view_of plan id).own.mode xs) []) (sym (nothing_of plan id (ids_of plan))) tt;
 }
 
 -- every world fits

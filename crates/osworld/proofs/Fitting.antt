@@ -1,6 +1,7 @@
 -- Every world fits: what a turn names fits what the cores and the board came to.
-use Rattle.std.proofs.Common.{◌≡◌, suc, Bool, true, false, ◌||◌, cond, Option, Some, None, option_map, List, [], ◌∷◌, ◌++◌, length, refl, sym, ap, subst, ◌∙◌, arith, append_assoc, append-nil, length-append}
+use Rattle.std.proofs.Common.{◌≡◌, suc, Bool, true, false, ◌||◌, cond, Option, Some, None, option_map, List, [], ◌∷◌, ◌++◌, length, refl, ap, subst, ◌∙◌, arith, length-append}
 use Rattle.std.specs.List.{slice_get}
+use Rattle.std.proofs.lemmas.Option.{same_Some}
 use Rattle.osbase.specs.declared.statuses.Status.{Status}
 use Rattle.osbase.specs.declared.references.CoreId.{CoreId}
 use Rattle.osbase.specs.declared.messages.Envelope.{Envelope}
@@ -23,8 +24,8 @@ use Rattle.oskernel.specs.Wants.{want_of}
 use Rattle.osworld.specs.declared.boards.Board.{Board}
 use Rattle.osworld.specs.Board.{BoardCall, agreement_in, have_all, reply_of, start_answer}
 use Rattle.osworld.specs.World.{World, board_in, call_of, going_on, has_room, history_in, items_in, look_named, named, own_named, receiving, serve_named, start_call, starting, stimulus_count}
-use Rattle.osworld.specs.Fits.{Allows, has_drained, IsBeginning, is_drain, stimuli_in}
-use Rattle.osworld.proofs.Quiet.{quiet_after}
+use Rattle.osworld.specs.Fits.{Allows, has_drained, is_drain, stimuli_in}
+use Rattle.oskernel.proofs.Holding.{quiet_after}
 use Rattle.osworld.proofs.Streams.{is_from}
 
 -- What is known of an item that a turn of this core names.
@@ -40,10 +41,7 @@ Answers board id mode item = (call : BoardCall) → call_of mode item ≡ Some c
 
 pub record Known (plan : Plan) (stimuli : List CoreStimuli) (w : World) (id : CoreId) (item : Item) : Type 0 where
   pub follows : IsNext plan stimuli w id item
-  pub answered : Answers (board_in plan w) id (view_of plan id).mode item
-
-some-is : {A : Type 0} {x y : A} → Some x ≡ Some y → x ≡ y
-some-is e = cc
+  pub answered : Answers (board_in plan w) id (view_of plan id).own.mode item
 
 module _ (plan : Plan) (stimuli : List CoreStimuli) (w : World) (id : CoreId) where
   abbrev NamedOnly : Option Item → Type 0
@@ -53,7 +51,7 @@ module _ (plan : Plan) (stimuli : List CoreStimuli) (w : World) (id : CoreId) wh
   nothing item e = cc
 
   just : (i : Item) → Known plan stimuli w id i → NamedOnly (Some i)
-  just i known item e = subst (Known plan stimuli w id) (some-is e) known
+  just i known item e = subst (Known plan stimuli w id) (same_Some _ _ e) known
 
   gate : (b : Bool) (i : Item) → (b ≡ true → Known plan stimuli w id i) → NamedOnly (cond b (Some i) None)
   gate true i known = just i (known refl)
@@ -66,8 +64,8 @@ module _ (plan : Plan) (stimuli : List CoreStimuli) (w : World) (id : CoreId) wh
   starts k = by (is_configured (view_of plan id) k)
     where
       told : (b : Bool) → (call : BoardCall) → start_call k (cond b Status.EOsState Status.EOk) ≡ Some call → cond b Status.EOsState Status.EOk ≡ start_answer (board_in plan w) k → Allows id (reply_of call (board_in plan w)) (Item.Began k (cond b Status.EOsState Status.EOk))
-      told true call e is = subst (λ (c : BoardCall). Allows id (reply_of c (board_in plan w)) (Item.Began k Status.EOsState)) (some-is e) is
-      told false call e is = subst (λ (c : BoardCall). Allows id (reply_of c (board_in plan w)) (Item.Began k Status.EOk)) (some-is e) is
+      told true call e is = subst (λ (c : BoardCall). Allows id (reply_of c (board_in plan w)) (Item.Began k Status.EOsState)) (same_Some _ _ e) is
+      told false call e is = subst (λ (c : BoardCall). Allows id (reply_of c (board_in plan w)) (Item.Began k Status.EOk)) (same_Some _ _ e) is
 
       by : (b : Bool) → NamedOnly (Some (Item.Began k (cond b (start_answer (board_in plan w) k) Status.EOsId)))
       by true = just (Item.Began k (start_answer (board_in plan w) k)) (started k (start_answer (board_in plan w) k) (λ call e. told (has_core (board_in plan w).started k) call e refl))
@@ -75,12 +73,12 @@ module _ (plan : Plan) (stimuli : List CoreStimuli) (w : World) (id : CoreId) wh
 
   goes : (o : Option Stimulus) → slice_get (stimuli_of stimuli id) (stimulus_count (items_in w id)) ≡ o → NamedOnly (Some (going_on o))
   goes (Some s) e = just (Item.Stim s) (record { follows = e; answered = λ call f. cc })
-  goes None e = just Item.Drained (record { follows = e; answered = λ call f. subst (λ (c : BoardCall). Allows id (reply_of c (board_in plan w)) Item.Drained) (some-is f) tt })
+  goes None e = just Item.Drained (record { follows = e; answered = λ call f. subst (λ (c : BoardCall). Allows id (reply_of c (board_in plan w)) Item.Drained) (same_Some _ _ f) tt })
 
   owns : (want : Want) → NamedOnly (own_named plan stimuli w id want)
   owns (Want.Start k) = starts k
-  owns Want.Enter = just Item.Entered (record { follows = tt; answered = λ call f. subst (λ (c : BoardCall). Allows id (reply_of c (board_in plan w)) Item.Entered) (some-is f) tt })
-  owns Want.Ready = just Item.Readied (record { follows = tt; answered = λ call f. subst (λ (c : BoardCall). Allows id (reply_of c (board_in plan w)) Item.Readied) (some-is f) tt })
+  owns Want.Enter = just Item.Entered (record { follows = tt; answered = λ call f. subst (λ (c : BoardCall). Allows id (reply_of c (board_in plan w)) Item.Entered) (same_Some _ _ f) tt })
+  owns Want.Ready = just Item.Readied (record { follows = tt; answered = λ call f. subst (λ (c : BoardCall). Allows id (reply_of c (board_in plan w)) Item.Readied) (same_Some _ _ f) tt })
   owns (Want.Post to) = gate (has_room plan w id to) (Item.Posted to) (λ e. record { follows = tt; answered = λ call f. cc })
   owns Want.GoOn = goes (slice_get (stimuli_of stimuli id) (stimulus_count (items_in w id))) refl
   owns Want.Nothing = nothing
@@ -93,11 +91,11 @@ module _ (plan : Plan) (stimuli : List CoreStimuli) (w : World) (id : CoreId) wh
       by None is = nothing
 
   looks : (phase : Phase) → NamedOnly (look_named id (board_in plan w) phase)
-  looks Phase.Off = gate (has_core (board_in plan w).started id) Item.On (λ e. record { follows = tt; answered = λ call f. subst (λ (c : BoardCall). Allows id (reply_of c (board_in plan w)) Item.On) (some-is f) e })
-  looks Phase.FirstGate = gate (have_all (board_in plan w).started (board_in plan w).entered) (Item.Pass1 (agreement_in (board_in plan w).modes)) (λ e. record { follows = tt; answered = λ call f. subst (λ (c : BoardCall). Allows id (reply_of c (board_in plan w)) (Item.Pass1 (agreement_in (board_in plan w).modes))) (some-is f) (e, refl) })
-  looks Phase.SecondGate = gate (have_all (board_in plan w).started (board_in plan w).ready) (Item.Pass2 (board_in plan w).started) (λ e. record { follows = tt; answered = λ call f. subst (λ (c : BoardCall). Allows id (reply_of c (board_in plan w)) (Item.Pass2 (board_in plan w).started)) (some-is f) (e, refl) })
-  looks Phase.Drained = gate (have_all (board_in plan w).started (board_in plan w).drained) Item.PassEnd (λ e. record { follows = tt; answered = λ call f. subst (λ (c : BoardCall). Allows id (reply_of c (board_in plan w)) Item.PassEnd) (some-is f) e })
-  looks Phase.Closing = just (Item.Last None) (record { follows = tt; answered = λ call f. subst (λ (c : BoardCall). Allows id (reply_of c (board_in plan w)) (Item.Last None)) (some-is f) tt })
+  looks Phase.Off = gate (has_core (board_in plan w).started id) Item.On (λ e. record { follows = tt; answered = λ call f. subst (λ (c : BoardCall). Allows id (reply_of c (board_in plan w)) Item.On) (same_Some _ _ f) e })
+  looks Phase.FirstGate = gate (have_all (board_in plan w).started (board_in plan w).entered) (Item.Pass1 (agreement_in (board_in plan w).modes)) (λ e. record { follows = tt; answered = λ call f. subst (λ (c : BoardCall). Allows id (reply_of c (board_in plan w)) (Item.Pass1 (agreement_in (board_in plan w).modes))) (same_Some _ _ f) (e, refl) })
+  looks Phase.SecondGate = gate (have_all (board_in plan w).started (board_in plan w).ready) (Item.Pass2 (board_in plan w).started) (λ e. record { follows = tt; answered = λ call f. subst (λ (c : BoardCall). Allows id (reply_of c (board_in plan w)) (Item.Pass2 (board_in plan w).started)) (same_Some _ _ f) (e, refl) })
+  looks Phase.Drained = gate (have_all (board_in plan w).started (board_in plan w).drained) Item.PassEnd (λ e. record { follows = tt; answered = λ call f. subst (λ (c : BoardCall). Allows id (reply_of c (board_in plan w)) Item.PassEnd) (same_Some _ _ f) e })
+  looks Phase.Closing = just (Item.Last None) (record { follows = tt; answered = λ call f. subst (λ (c : BoardCall). Allows id (reply_of c (board_in plan w)) (Item.Last None)) (same_Some _ _ f) tt })
   looks Phase.Boot = nothing
   looks Phase.BetweenGates = nothing
   looks Phase.Live = nothing
@@ -108,44 +106,16 @@ module _ (plan : Plan) (stimuli : List CoreStimuli) (w : World) (id : CoreId) wh
   named-known (Serve from) = serves from
   named-known Look = looks (phase_at (view_of plan id) (history_in plan w id))
 
--- a list's stimuli, and one more item
+-- A list's stimuli, and one more item.
 pub stimuli_in-push : (items : List Item) (item : Item) → stimuli_in (items ++ item ∷ []) ≡ stimuli_in items ++ stimuli_in (item ∷ [])
 stimuli_in-push [] item = refl
-stimuli_in-push (Item.On ∷ items) item = stimuli_in-push items item
-stimuli_in-push (Item.Began k s ∷ items) item = stimuli_in-push items item
-stimuli_in-push (Item.Entered ∷ items) item = stimuli_in-push items item
-stimuli_in-push (Item.Pass1 a ∷ items) item = stimuli_in-push items item
-stimuli_in-push (Item.Readied ∷ items) item = stimuli_in-push items item
-stimuli_in-push (Item.Pass2 cores ∷ items) item = stimuli_in-push items item
 stimuli_in-push (Item.Stim s ∷ items) item = ap (λ (xs : List Stimulus). s ∷ xs) (stimuli_in-push items item)
-stimuli_in-push (Item.Posted to ∷ items) item = stimuli_in-push items item
-stimuli_in-push (Item.Received from number m ∷ items) item = stimuli_in-push items item
-stimuli_in-push (Item.Granted l ∷ items) item = stimuli_in-push items item
-stimuli_in-push (Item.Tried l taken ∷ items) item = stimuli_in-push items item
-stimuli_in-push (Item.Freed l ∷ items) item = stimuli_in-push items item
-stimuli_in-push (Item.Halt k s ∷ items) item = stimuli_in-push items item
-stimuli_in-push (Item.Drained ∷ items) item = stimuli_in-push items item
-stimuli_in-push (Item.PassEnd ∷ items) item = stimuli_in-push items item
-stimuli_in-push (Item.Last shutdown ∷ items) item = stimuli_in-push items item
+stimuli_in-push (i ∷ items) item = stimuli_in-push items item
 
 pub length-stimuli_in : (items : List Item) → length (stimuli_in items) ≡ stimulus_count items
 length-stimuli_in [] = refl
-length-stimuli_in (Item.On ∷ items) = length-stimuli_in items
-length-stimuli_in (Item.Began k s ∷ items) = length-stimuli_in items
-length-stimuli_in (Item.Entered ∷ items) = length-stimuli_in items
-length-stimuli_in (Item.Pass1 a ∷ items) = length-stimuli_in items
-length-stimuli_in (Item.Readied ∷ items) = length-stimuli_in items
-length-stimuli_in (Item.Pass2 cores ∷ items) = length-stimuli_in items
 length-stimuli_in (Item.Stim s ∷ items) = ap suc (length-stimuli_in items)
-length-stimuli_in (Item.Posted to ∷ items) = length-stimuli_in items
-length-stimuli_in (Item.Received from number m ∷ items) = length-stimuli_in items
-length-stimuli_in (Item.Granted l ∷ items) = length-stimuli_in items
-length-stimuli_in (Item.Tried l taken ∷ items) = length-stimuli_in items
-length-stimuli_in (Item.Freed l ∷ items) = length-stimuli_in items
-length-stimuli_in (Item.Halt k s ∷ items) = length-stimuli_in items
-length-stimuli_in (Item.Drained ∷ items) = length-stimuli_in items
-length-stimuli_in (Item.PassEnd ∷ items) = length-stimuli_in items
-length-stimuli_in (Item.Last shutdown ∷ items) = length-stimuli_in items
+length-stimuli_in (i ∷ items) = length-stimuli_in items
 
 pub has_drained-push : (items : List Item) (item : Item) → has_drained (items ++ item ∷ []) ≡ (has_drained items || is_drain item)
 has_drained-push [] item = or_false (is_drain item)
@@ -159,30 +129,7 @@ has_drained-push (i ∷ items) item = by (is_drain i) (has_drained-push items it
     by true rest = refl
     by false rest = rest
 
--- a beginning that goes on by what comes next, or that is the whole
-seam : {A : Type 0} (xs rest : List A) → slice_get (xs ++ rest) (length xs) ≡ slice_get rest 0
-seam [] rest = refl
-seam (x ∷ xs) rest = seam xs rest
-
-pub begins-next : {A : Type 0} (xs ys : List A) (y : A) → IsBeginning xs ys → slice_get ys (length xs) ≡ Some y → IsBeginning (xs ++ y ∷ []) ys
-begins-next {A} xs ys y begins next = by begins.0 begins.1 (sym (seam xs begins.0) ∙ ap (λ (zs : List A). slice_get zs (length xs)) begins.1 ∙ next)
-  where
-    by : (rest : List A) → xs ++ rest ≡ ys → slice_get rest 0 ≡ Some y → IsBeginning (xs ++ y ∷ []) ys
-    by [] e front = cc
-    by (r ∷ rs) e front = (rs, append_assoc xs (y ∷ []) rs ∙ ap (λ (z : A). xs ++ z ∷ rs) (sym (some-is front)) ∙ e)
-
-pub begins-all : {A : Type 0} (xs ys : List A) → IsBeginning xs ys → slice_get ys (length xs) ≡ None → xs ≡ ys
-begins-all {A} xs ys begins none = by begins.0 begins.1 (sym (seam xs begins.0) ∙ ap (λ (zs : List A). slice_get zs (length xs)) begins.1 ∙ none)
-  where
-    by : (rest : List A) → xs ++ rest ≡ ys → slice_get rest 0 ≡ None → xs ≡ ys
-    by [] e front = sym (append-nil xs) ∙ e
-    by (r ∷ rs) e front = cc
-
-pub past_all : {A : Type 0} (xs : List A) → slice_get xs (length xs) ≡ None
-past_all [] = refl
-past_all (x ∷ xs) = past_all xs
-
--- each item in turn may be taken
+-- Each item in turn may be taken.
 pub solo-push : (v : View) (h : History) (items : List Item) (item : Item) → solo_from v h items ≡ Some (history_from v h items) → takes outbox_size v (history_from v h items) item ≡ true → solo_from v h (items ++ item ∷ []) ≡ Some (after v (history_from v h items) item)
 solo-push v h [] item so_far taken = rw taken refl
 solo-push v h (i ∷ items) item so_far taken = by (takes outbox_size v h i) so_far (λ later. solo-push v (after v h i) items item later taken)
@@ -192,28 +139,14 @@ solo-push v h (i ∷ items) item so_far taken = by (takes outbox_size v h i) so_
     by true e rest = rest e
     by false e rest = cc
 
--- what was received, and one item more
+-- What was received, and one item more.
 abbrev pub envelope_in : Item → List Envelope
 envelope_in (Item.Received from number m) = record { number = number; message = m } ∷ []
 envelope_in item = []
 
 received-took : (s : CoreId) (item : Item) (h : History) → received s (Took item ∷ h) ≡ cond (is_from item s) (received s h ++ envelope_in item) (received s h)
-received-took c Item.On h = refl
-received-took c (Item.Began k s) h = refl
-received-took c Item.Entered h = refl
-received-took c (Item.Pass1 a) h = refl
-received-took c Item.Readied h = refl
-received-took c (Item.Pass2 cores) h = refl
-received-took c (Item.Stim s) h = refl
-received-took c (Item.Posted to) h = refl
 received-took c (Item.Received from number m) h = refl
-received-took c (Item.Granted l) h = refl
-received-took c (Item.Tried l taken) h = refl
-received-took c (Item.Freed l) h = refl
-received-took c (Item.Halt k s) h = refl
-received-took c Item.Drained h = refl
-received-took c Item.PassEnd h = refl
-received-took c (Item.Last shutdown) h = refl
+received-took c i h = refl
 
 pub received-is : (v : View) (s : CoreId) (item : Item) (h : History) → received s (after v h item) ≡ cond (is_from item s) (received s h ++ envelope_in item) (received s h)
 received-is v s item h = quiet_after (received s) (λ m k. refl) (λ n k. refl) v h item ∙ received-took s item h
@@ -225,23 +158,9 @@ length-received s (Noted n ∷ h) = length-received s h
 length-received s (Took i ∷ h) = by i (length-received s h)
   where
     by : (i : Item) → length (received s h) ≡ received_count s h → length (received s (Took i ∷ h)) ≡ received_count s (Took i ∷ h)
-    by Item.On rest = rest
-    by (Item.Began k status) rest = rest
-    by Item.Entered rest = rest
-    by (Item.Pass1 a) rest = rest
-    by Item.Readied rest = rest
-    by (Item.Pass2 cores) rest = rest
-    by (Item.Stim stimulus) rest = rest
-    by (Item.Posted to) rest = rest
     by (Item.Received from number m) rest = here (same_core from s) rest
       where
         here : (b : Bool) → length (received s h) ≡ received_count s h → length (cond b (received s h ++ record { number = number; message = m } ∷ []) (received s h)) ≡ cond b (suc (received_count s h)) (received_count s h)
         here true rest = let longer = length-append (received s h) (record { number = number; message = m } ∷ []) in omega arith
         here false rest = rest
-    by (Item.Granted l) rest = rest
-    by (Item.Tried l taken) rest = rest
-    by (Item.Freed l) rest = rest
-    by (Item.Halt k status) rest = rest
-    by Item.Drained rest = rest
-    by Item.PassEnd rest = rest
-    by (Item.Last shutdown) rest = rest
+    by i rest = rest

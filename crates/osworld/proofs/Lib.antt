@@ -1,6 +1,6 @@
+pub mod Beginnings
+pub mod Members
 pub mod Sizes
-pub mod Kept
-pub mod Quiet
 pub mod Listed
 pub mod Streams
 pub mod Carrying
@@ -12,12 +12,11 @@ pub mod Played
 pub mod Started
 pub mod Fitting
 pub mod Fitted
-pub mod Among
 pub mod Idling
-pub mod Stepping
+pub mod Relying
+pub mod Sane
+pub mod Mailed
 pub mod Ahead
-pub mod Agreeing
-pub mod Apart
 pub mod Alone
 pub mod Reported
 pub mod Rounds

@@ -1,5 +1,6 @@
 -- The item lists of a world, and those of the seats of a run.
 use Rattle.std.proofs.Common.{◌≡◌, ℕ, zero, suc, ◌+◌, ◌<◌, ◌≤◌, Bool, true, false, not, cond, Option, Some, None, List, [], ◌∷◌, ◌++◌, length, get_or, set, refl, sym, ap, subst, ◌∙◌, arith, nat_lt, sum_by, length-append}
+use Rattle.std.specs.Option.{option_map_or}
 use Rattle.std.specs.List.{find, position, position_or_len}
 use Rattle.std.proofs.lemmas.Bool.{ltb-true}
 use Rattle.std.proofs.lemmas.Bool.Decides.{nat_tests}
@@ -8,7 +9,7 @@ use Rattle.osbase.specs.declared.references.CoreId.{CoreId}
 use Rattle.osbase.specs.declared.items.Item.{Item}
 use Rattle.osbase.specs.History.{History, same_core}
 use Rattle.osplan.specs.View.{View}
-use Rattle.osstate.proofs.Same.{same_core-true}
+use Rattle.osbase.proofs.Same.{same_core-true}
 use Rattle.oskernel.specs.Step.{after, history_from}
 use Rattle.osworld.specs.declared.seats.Seat.{Seat}
 use Rattle.osworld.specs.World.{with_item}
@@ -22,6 +23,9 @@ is_of id p = same_core p.0 id
 
 abbrev pub list_of : CoreId → Lists → Option (CoreId × List Item)
 list_of id lists = find (is_of id) lists
+
+abbrev pub items_by : Option (CoreId × List Item) → List Item
+items_by o = option_map_or (λ (p : CoreId × List Item). p.1) o []
 
 abbrev pub is_seat_of : CoreId → Seat → Bool
 is_seat_of id seat = same_core seat.id id

@@ -1,8 +1,10 @@
 -- Where the cores sit.
-use Rattle.std.proofs.Common.{◌≡◌, ℕ, zero, suc, nat_eq, ◌+◌, ◌<◌, ◌≤◌, Bool, true, false, Option, Some, None, List, [], ◌∷◌, cond, nat_lt, not, map, length, get_or, set, slice_get, refl, sym, ap, ◌∙◌, arith}
+use Rattle.std.proofs.Common.{◌≡◌, ℕ, zero, suc, nat_eq, ◌+◌, ◌<◌, ◌≤◌, Bool, true, false, Option, Some, None, List, [], ◌∷◌, cond, nat_lt, not, map, length, get_or, set, slice_get, refl, sym, ap, ◌∙◌, arith, get_or-set_same, length-set}
 use Rattle.std.specs.List.{position, position_or_len}
+use Rattle.std.proofs.lemmas.Bool.{eqb-false, eqb-true}
 use Rattle.std.proofs.lemmas.Bool.Decides.{nat_tests}
 use Rattle.std.proofs.lemmas.List.{length-map}
+use Rattle.std.proofs.lemmas.Option.{slice_get_read}
 use Rattle.std.proofs.Math.Seq.{map-set_same}
 use Rattle.osbase.specs.declared.references.CoreId.{CoreId}
 use Rattle.osbase.specs.declared.turns.TheConstants.{CORES}
@@ -48,11 +50,10 @@ place-nowhere core seats big = rw (past seats) (rw (not_below (length seats)) re
     past [] = refl
     past (s ∷ ss) = rw (apart s.id s.known) (ap (λ (n : ℕ). 1 + n) (past ss) ∙ omega arith)
 
--- the table of places, one number more
+-- The table of places, one number more.
 set-same : {A : Type 0} (xs : List A) (i : ℕ) (v : A) → i < length xs → slice_get (set xs i v) i ≡ Some v
-set-same [] i v lt = absurd (omega arith)
-set-same (x ∷ xs) zero v lt = refl
-set-same (x ∷ xs) (suc i) v lt = set-same xs i v (omega arith)
+set-same xs i v lt =
+    slice_get_read (set xs i v) (length xs) i v (sym (length-set xs i v)) lt (sym (get_or-set_same xs i v v lt))
 
 set-other : {A : Type 0} (xs : List A) (i k : ℕ) (v : A) → (k ≡ i → ⊥) → slice_get (set xs i v) k ≡ slice_get xs k
 set-other [] i k v ne = refl
@@ -61,12 +62,7 @@ set-other (x ∷ xs) zero (suc k) v ne = refl
 set-other (x ∷ xs) (suc i) zero v ne = refl
 set-other (x ∷ xs) (suc i) (suc k) v ne = set-other xs i k v (λ e. ne (ap suc e))
 
-same_number : (a b : ℕ) → nat_eq a b ≡ true → a ≡ b
-same_number a b e = grind (arith, nat_tests)
-
-other_number : (a b : ℕ) → nat_eq a b ≡ false → a ≡ b → ⊥
-other_number a b e same = grind (arith, nat_tests)
-
+-- Below a number each core's place is in the table.
 abbrev pub ArePlaces : ℕ → List (Option ℕ) → List Seat → Type 0
 ArePlaces below places seats = (core : CoreId) → core.number < below → slice_get places core.number ≡ Some (place_by seats core)
 
@@ -75,8 +71,8 @@ places-more places seats n i place at within is are core below = by (nat_eq core
   where
     by : (b : Bool) → nat_eq core.number n ≡ b → slice_get (set places i place) core.number ≡ Some (place_by seats core)
     by true e =
-        let same = same_number core.number n e in
+        let same = eqb-true core.number n e in
         ap (slice_get (set places i place)) (same ∙ sym at) ∙ set-same places i place (omega arith) ∙ ap Some (is ∙ ap (λ (k : ℕ). place_by seats (record { number = k })) (sym same))
     by false e =
-        let other = other_number core.number n e in
+        let other = eqb-false core.number n e in
         set-other places i core.number place (λ here. other (here ∙ at)) ∙ are core (omega arith)

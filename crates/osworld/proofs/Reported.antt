@@ -20,8 +20,8 @@ use Rattle.osworld.specs.Playing.{AreReports, IsCutShort, IsPlayed, IsSeated, li
 
 one : (plan : Plan) (stimuli : List CoreStimuli) (seat : Seat) → IsSeated plan stimuli seat → report_of seat ≡ report_in plan (seat.id, seat.items.items)
 one plan stimuli seat seated =
-    ap (λ (marks : List Mark). let r : Report = record { core = seat.id; items = seat.items.items; marks = marks; ended = is_ended_phase seat.kernel.phase } in r) (seated.tracks.behind ∙ seated.tracks.shows)
-    ∙ ap (λ (s : KernelState). let r : Report = record { core = seat.id; items = seat.items.items; marks = (report_in plan (seat.id, seat.items.items)).marks; ended = is_ended_phase s.phase } in r) seated.tracks.stands.is
+    ap (λ (marks : List Mark). let r : Report = record { core = seat.id; items = seat.items.items; marks = marks; ended = is_ended_phase seat.kernel.progress.phase } in r) (seated.tracks.behind ∙ seated.tracks.shows)
+    ∙ ap (λ (s : KernelState). let r : Report = record { core = seat.id; items = seat.items.items; marks = (report_in plan (seat.id, seat.items.items)).marks; ended = is_ended_phase s.progress.phase } in r) seated.tracks.stands.is
 
 each : (plan : Plan) (stimuli : List CoreStimuli) (seats : List Seat) → All (IsSeated plan stimuli) seats → map report_of seats ≡ map (report_in plan) (lists_of seats)
 each plan stimuli [] seated = refl

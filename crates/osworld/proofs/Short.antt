@@ -1,7 +1,8 @@
 -- No core takes more than 2 ^ 48 items, so a world's items are bounded.
-use Rattle.std.proofs.Common.{◌≡◌, ℕ, suc, ◌+◌, ◌*◌, ◌^◌, ◌<◌, ◌≤◌, Bool, true, false, cond, Option, Some, None, is_some, List, [], ◌∷◌, ◌++◌, length, map, refl, ap, sym, subst, ◌∙◌, arith, filter, nat_lt, sum_by, length-append}
+use Rattle.std.proofs.Common.{◌≡◌, ℕ, suc, ◌+◌, ◌*◌, ◌^◌, ◌<◌, ◌≤◌, Bool, true, false, cond, Option, Some, None, is_some, List, [], ◌∷◌, ◌++◌, length, map, refl, ap, sym, subst, ◌∙◌, arith, nat_lt, sum_by, length-append}
 use Rattle.std.specs.Option.{option_map_or}
 use Rattle.std.proofs.lemmas.Bool.{and_parts, ltb-true}
+use Rattle.std.proofs.lemmas.List.{length-map}
 use Rattle.std.proofs.lemmas.List.Sums.{sum_by-cons}
 use Rattle.osbase.specs.declared.references.CoreId.{CoreId}
 use Rattle.osbase.specs.declared.items.Item.{Item}
@@ -10,10 +11,13 @@ use Rattle.osbase.specs.declared.turns.CoreStimuli.{CoreStimuli}
 use Rattle.osbase.specs.History.{History, item_count}
 use Rattle.osplan.specs.declared.plans.Plan.{Plan}
 use Rattle.osplan.specs.View.{View, core_of, view_of}
+use Rattle.osplan.proofs.Tests.{length-filter-le}
 use Rattle.osbase.specs.Sets.{core_ids}
-use Rattle.oskernel.specs.Step.{after, history_from, may_take, takes, outbox_size}
+use Rattle.osstate.specs.State.{state_of}
+use Rattle.oskernel.specs.Admission.{admits}
+use Rattle.oskernel.specs.Step.{after, history_from, takes, outbox_size}
 use Rattle.osworld.specs.World.{World, appends, first_world, history_in, ids_of, item_total, named, turn, turn_by, with_item, world, world_from}
-use Rattle.osworld.proofs.Quiet.{quiet_after}
+use Rattle.oskernel.proofs.Holding.{quiet_after}
 use Rattle.osworld.proofs.Listed.{Lists, is_of, list_of}
 
 -- Each list has at most 2 ^ 48 items.
@@ -65,7 +69,7 @@ module _ (plan : Plan) (stimuli : List CoreStimuli) (w : World) (bounded : Bound
   taken-bounded core item None e there taken = cc
   taken-bounded core item (Some p) e there taken =
       let items : history_in plan w core ≡ history_from (view_of plan core) [] p.1 = ap (λ (o : Option (CoreId × List Item)). history_from (view_of plan core) [] (option_map_or (λ (q : CoreId × List Item). q.1) o [])) e in
-      let few : item_count (history_in plan w core) < 2 ^ 48 = ltb-true (item_count (history_in plan w core)) (2 ^ 48) (and_parts (nat_lt (item_count (history_in plan w core)) (2 ^ 48)) (may_take outbox_size (view_of plan core) (history_in plan w core) item) taken).0 in
+      let few : item_count (history_in plan w core) < 2 ^ 48 = ltb-true (item_count (history_in plan w core)) (2 ^ 48) (and_parts (nat_lt (item_count (history_in plan w core)) (2 ^ 48)) (admits outbox_size (state_of (view_of plan core) (history_in plan w core)) item) taken).0 in
       let all : item_count (history_in plan w core) ≡ item_count [] + length p.1 = ap item_count items ∙ counted (view_of plan core) [] p.1 in
       let same = length-with_item core item w.items in let before = bounded.1 in
       (short-push core item w.items p e (omega arith) bounded.0, omega arith)
@@ -93,21 +97,12 @@ empty-short : (ids : List CoreId) → are_short (map (λ (id : CoreId). (id, [])
 empty-short [] = tt
 empty-short (i ∷ is) = (omega arith, empty-short is)
 
-length-filter : (p : CoreId → Bool) (ids : List CoreId) → length (filter p ids) ≤ length ids
-length-filter p [] = omega arith
-length-filter p (i ∷ is) = by (p i) (length-filter p is)
-  where
-    by : (b : Bool) → length (filter p is) ≤ length is → length (cond b (i ∷ filter p is) (filter p is)) ≤ suc (length is)
-    by true rest = omega arith
-    by false rest = omega arith
-
 as_many : (ids : List CoreId) → length (map {B = CoreId × List Item} (λ (id : CoreId). (id, [])) ids) ≡ length ids
-as_many [] = refl
-as_many (i ∷ is) = ap suc (as_many is)
+as_many ids = length-map ids (λ (id : CoreId). let p : CoreId × List Item = (id, []) in p)
 
 first-bounded : (plan : Plan) → Bounded (first_world plan)
 first-bounded plan =
-    let few = length-filter (λ (id : CoreId). is_some (core_of plan id)) core_ids in let same = as_many (ids_of plan) in
+    let few = length-filter-le (λ (id : CoreId). is_some (core_of plan id)) core_ids in let same = as_many (ids_of plan) in
     (empty-short (ids_of plan), omega arith)
 
 -- a world has at most 2 ^ 52 items

@@ -1,14 +1,13 @@
 -- A configured core fits the largest kernel.
-use Rattle.std.proofs.Common.{◌≡◌, ℕ, ◌≤◌, Bool, true, IsTrue, Option, Some, None, IsSome, List, [], ◌∷◌, length, refl, arith, nat_le, nat_lt, sum_by}
+use Rattle.std.proofs.Common.{◌≡◌, ℕ, ◌≤◌, Bool, true, IsTrue, Option, Some, None, IsSome, List, [], ◌∷◌, length, refl, arith, nat_le, nat_lt, sum_by, unwrap_or}
 use Rattle.std.specs.List.{list_all}
-use Rattle.std.specs.Option.{option_map_or}
 use Rattle.std.proofs.lemmas.Bool.{leb-true, and_parts, and_from}
 use Rattle.std.proofs.lemmas.Bool.Decides.{nat_tests}
 use Rattle.osbase.specs.declared.references.CoreId.{CoreId}
 use Rattle.osplan.specs.declared.plans.Plan.{Plan}
 use Rattle.osplan.specs.declared.plans.Core.{Core}
 use Rattle.osplan.specs.declared.plans.Task.{Task}
-use Rattle.osplan.specs.View.{core_of, view_of}
+use Rattle.osplan.specs.View.{core_of, no_core, view_of}
 use Rattle.osplan.specs.Limits.{is_within_limits, is_core_within, is_task_within}
 use Rattle.osstate.proofs.Begun.{core_within}
 
@@ -34,16 +33,16 @@ activations plan core within =
     leb-true (sum_by (λ (t : Task). t.activations) core.tasks) 64 (and_parts _ (nat_le (sum_by (λ (t : Task). t.activations) core.tasks) 64) front).1
 
 module _ (plan : Plan) (id : CoreId) (limits : IsTrue (is_within_limits plan)) where
-  some-priorities : (o : Option Core) → core_of plan id ≡ o → IsSome o → list_all (λ (t : Task). nat_lt t.priority 32) (option_map_or (λ (c : Core). c.tasks) o []) ≡ true
+  some-priorities : (o : Option Core) → core_of plan id ≡ o → IsSome o → list_all (λ (t : Task). nat_lt t.priority 32) (unwrap_or o (no_core id)).tasks ≡ true
   some-priorities None found some = refl
   some-priorities (Some core) found some = priorities plan core (core_within plan id core limits found)
 
-  some-activations : (o : Option Core) → core_of plan id ≡ o → IsSome o → sum_by (λ (t : Task). t.activations) (option_map_or (λ (c : Core). c.tasks) o []) ≤ 64
+  some-activations : (o : Option Core) → core_of plan id ≡ o → IsSome o → sum_by (λ (t : Task). t.activations) (unwrap_or o (no_core id)).tasks ≤ 64
   some-activations None found some = omega arith
   some-activations (Some core) found some = activations plan core (core_within plan id core limits found)
 
-  pub view-priorities : IsSome (core_of plan id) → list_all (λ (t : Task). nat_lt t.priority 32) (view_of plan id).tasks ≡ true
+  pub view-priorities : IsSome (core_of plan id) → list_all (λ (t : Task). nat_lt t.priority 32) (view_of plan id).own.tasks ≡ true
   view-priorities some = some-priorities (core_of plan id) refl some
 
-  pub view-activations : IsSome (core_of plan id) → sum_by (λ (t : Task). t.activations) (view_of plan id).tasks ≤ 64
+  pub view-activations : IsSome (core_of plan id) → sum_by (λ (t : Task). t.activations) (view_of plan id).own.tasks ≤ 64
   view-activations some = some-activations (core_of plan id) refl some

@@ -1,5 +1,5 @@
 -- The seats, the mailboxes and the board before the first turn.
-use Rattle.std.proofs.Common.{◌≡◌, ℕ, zero, suc, ◌+◌, ◌*◌, ◌<◌, ◌≤◌, Bool, true, false, cond, Option, Some, None, is_some, List, [], ◌∷◌, ◌++◌, map, get_or, take, drop, refl, sym, ap, ◌∙◌, arith, filter, append-nil, Bor, option_copied}
+use Rattle.std.proofs.Common.{◌≡◌, ℕ, ◌+◌, ◌*◌, ◌<◌, ◌≤◌, Bool, true, false, cond, Option, Some, None, is_some, List, [], ◌∷◌, ◌++◌, map, take, drop, refl, sym, ap, ◌∙◌, arith, filter, append-nil, unwrap_or}
 use Rattle.std.specs.List.{All}
 use Rattle.std.specs.Option.{option_map_or}
 use Rattle.std.proofs.lemmas.List.{take_more, map-append, length-replicate}
@@ -15,9 +15,9 @@ use Rattle.osmail.specs.Mail.{Mail, empty_mail}
 use Rattle.osmail.proofs.Boxes.{box_of-empty}
 use Rattle.osplan.specs.declared.plans.Plan.{Plan}
 use Rattle.osplan.specs.declared.plans.Core.{Core}
-use Rattle.osplan.specs.declared.plans.CoreMode.{CoreMode}
-use Rattle.osplan.specs.View.{core_of, view_of}
+use Rattle.osplan.specs.View.{core_of, no_core, view_of}
 use Rattle.osbase.specs.Sets.{core_ids}
+use Rattle.osbase.proofs.Tables.{table-at}
 use Rattle.osstate.specs.State.{state_of}
 use Rattle.oskernel.specs.Step.{history_from}
 use Rattle.osworld.specs.declared.seats.Seat.{Seat}
@@ -41,26 +41,7 @@ abbrev pub lists_below : Plan → ℕ → Lists
 lists_below plan n = map (λ (id : CoreId). (id, [])) (ids_below plan n)
 
 pub one_more_id : (n : ℕ) → n < 16 → take (n + 1) core_ids ≡ take n core_ids ++ id_at n ∷ []
-one_more_id n lt = take_more core_ids n (id_at n) lt ∙ ap (λ (id : CoreId). take n core_ids ++ id ∷ []) (at n lt)
-  where
-    at : (n : ℕ) → n < 16 → get_or core_ids n (id_at n) ≡ id_at n
-    at zero lt = refl
-    at (suc zero) lt = refl
-    at (suc (suc zero)) lt = refl
-    at (suc (suc (suc zero))) lt = refl
-    at (suc (suc (suc (suc zero)))) lt = refl
-    at (suc (suc (suc (suc (suc zero))))) lt = refl
-    at (suc (suc (suc (suc (suc (suc zero)))))) lt = refl
-    at (suc (suc (suc (suc (suc (suc (suc zero))))))) lt = refl
-    at (suc (suc (suc (suc (suc (suc (suc (suc zero)))))))) lt = refl
-    at (suc (suc (suc (suc (suc (suc (suc (suc (suc zero))))))))) lt = refl
-    at (suc (suc (suc (suc (suc (suc (suc (suc (suc (suc zero)))))))))) lt = refl
-    at (suc (suc (suc (suc (suc (suc (suc (suc (suc (suc (suc zero))))))))))) lt = refl
-    at (suc (suc (suc (suc (suc (suc (suc (suc (suc (suc (suc (suc zero)))))))))))) lt = refl
-    at (suc (suc (suc (suc (suc (suc (suc (suc (suc (suc (suc (suc (suc zero))))))))))))) lt = refl
-    at (suc (suc (suc (suc (suc (suc (suc (suc (suc (suc (suc (suc (suc (suc zero)))))))))))))) lt = refl
-    at (suc (suc (suc (suc (suc (suc (suc (suc (suc (suc (suc (suc (suc (suc (suc zero))))))))))))))) lt = refl
-    at (suc (suc (suc (suc (suc (suc (suc (suc (suc (suc (suc (suc (suc (suc (suc (suc n)))))))))))))))) lt = absurd (omega arith)
+one_more_id n lt = take_more core_ids n (id_at n) lt ∙ ap (λ (id : CoreId). take n core_ids ++ id ∷ []) (table-at id_at 0 CORES n n (id_at n) (omega arith) lt)
 
 -- one number more, of a core that is configured or not
 pub ids_below-more : (plan : Plan) (n : ℕ) → n < 16 → ids_below plan (n + 1) ≡ ids_below plan n ++ cond (is_there plan (id_at n)) (id_at n ∷ []) []
@@ -71,10 +52,6 @@ ids_below-skip plan n lt nobody = ids_below-more plan n lt ∙ ap (λ (b : Bool)
 
 pub ids_below-push : (plan : Plan) (n : ℕ) → n < 16 → is_there plan (id_at n) ≡ true → ids_below plan (n + 1) ≡ ids_below plan n ++ id_at n ∷ []
 ids_below-push plan n lt there = ids_below-more plan n lt ∙ ap (λ (b : Bool). ids_below plan n ++ cond b (id_at n ∷ []) []) there
-
-pub is_some_copied : (o : Option (Bor Core)) → is_some (option_copied o) ≡ is_some o
-is_some_copied None = refl
-is_some_copied (Some x) = refl
 
 pub ids_below-all : (plan : Plan) (n : ℕ) → 16 ≤ n → n ≤ 16 → ids_below plan n ≡ ids_of plan
 ids_below-all plan n low high = let whole : n ≡ 16 = omega arith in ap (ids_below plan) whole
@@ -92,7 +69,7 @@ lists_below-push plan n core lt somebody =
 pub seated-first : (plan : Plan) (stimuli : List CoreStimuli) (seat : Seat) (id : CoreId) (core : Core) → core_of plan id ≡ Some core → seat.id ≡ id → seat.kernel ≡ state_of (view_of plan id) [] → seat.mode ≡ core.mode → seat.stimuli.now ≡ stimuli_of stimuli id → seat.items.items ≡ [] → seat.marks.items ≡ [] → IsSeated plan stimuli seat
 seated-first plan stimuli seat id core found is_id is_kernel is_mode is_left no_items no_marks = record {
   tracks = rw (is_id, no_items, no_marks) (record { stands = record { is = is_kernel }; added = []; behind = refl; shows = refl });
-  mode = is_mode ∙ ap (λ (o : Option Core). option_map_or (λ (c : Core). c.mode) o CoreMode.DontCare) (sym found) ∙ ap (λ (i : CoreId). (view_of plan i).mode) (sym is_id);
+  mode = is_mode ∙ ap (λ (o : Option Core). (unwrap_or o (no_core id)).mode) (sym found) ∙ ap (λ (i : CoreId). (view_of plan i).own.mode) (sym is_id);
   left = rw (is_id, no_items) is_left;
 }
 

@@ -1,6 +1,6 @@
 -- What a turn's item does to the streams between the cores, and to the mailboxes that hold what is on its way.
-use Rattle.std.proofs.Common.{◌≡◌, ℕ, zero, suc, ◌*◌, ◌<◌, ◌≤◌, Bool, true, false, ◌&&◌, cond, Some, List, [], ◌∷◌, ◌++◌, length, drop, refl, sym, subst, ◌∙◌, arith}
-use Rattle.std.proofs.lemmas.List.{drop-append-le}
+use Rattle.std.proofs.Common.{◌≡◌, ℕ, zero, suc, ◌+◌, ◌*◌, ◌<◌, Bool, true, false, ◌&&◌, cond, List, [], ◌∷◌, ◌++◌, length, drop, refl, sym, ap, subst, ◌∙◌, arith}
+use Rattle.std.proofs.lemmas.List.{drop-drop}
 use Rattle.std.specs.List.{slice_get}
 use Rattle.std.proofs.lemmas.Bool.{false≢true}
 use Rattle.osbase.specs.declared.references.CoreId.{CoreId}
@@ -11,9 +11,9 @@ use Rattle.osbase.specs.History.{History, Took, front_envelope, outbox, posted, 
 use Rattle.osmail.specs.Mail.{Mail, box_of, with_box}
 use Rattle.osmail.proofs.Boxes.{box_of-with_box_same, box_of-with_box_other}
 use Rattle.osplan.specs.View.{View}
-use Rattle.osstate.proofs.Same.{same_core-true, same_core-refl}
+use Rattle.osbase.proofs.Same.{same_core-true, same_core-refl}
 use Rattle.oskernel.specs.Step.{after}
-use Rattle.osworld.proofs.Quiet.{quiet_after}
+use Rattle.oskernel.proofs.Holding.{quiet_after}
 
 -- The item posts to this core, or is received from it.
 abbrev pub is_post_to : Item → CoreId → Bool
@@ -25,40 +25,12 @@ is_from (Item.Received from number m) s = same_core from s
 is_from item s = false
 
 posted-took : (d : CoreId) (item : Item) (h : History) → posted d (Took item ∷ h) ≡ cond (is_post_to item d) (posted d h ++ front_envelope (outbox h)) (posted d h)
-posted-took d Item.On h = refl
-posted-took d (Item.Began core s) h = refl
-posted-took d Item.Entered h = refl
-posted-took d (Item.Pass1 a) h = refl
-posted-took d Item.Readied h = refl
-posted-took d (Item.Pass2 cores) h = refl
-posted-took d (Item.Stim s) h = refl
 posted-took d (Item.Posted core) h = refl
-posted-took d (Item.Received from number m) h = refl
-posted-took d (Item.Granted l) h = refl
-posted-took d (Item.Tried l taken) h = refl
-posted-took d (Item.Freed l) h = refl
-posted-took d (Item.Halt core s) h = refl
-posted-took d Item.Drained h = refl
-posted-took d Item.PassEnd h = refl
-posted-took d (Item.Last shutdown) h = refl
+posted-took d i h = refl
 
 received-took : (s : CoreId) (item : Item) (h : History) → received_count s (Took item ∷ h) ≡ cond (is_from item s) (suc (received_count s h)) (received_count s h)
-received-took s Item.On h = refl
-received-took s (Item.Began core t) h = refl
-received-took s Item.Entered h = refl
-received-took s (Item.Pass1 a) h = refl
-received-took s Item.Readied h = refl
-received-took s (Item.Pass2 cores) h = refl
-received-took s (Item.Stim t) h = refl
-received-took s (Item.Posted core) h = refl
 received-took s (Item.Received from number m) h = refl
-received-took s (Item.Granted l) h = refl
-received-took s (Item.Tried l taken) h = refl
-received-took s (Item.Freed l) h = refl
-received-took s (Item.Halt core t) h = refl
-received-took s Item.Drained h = refl
-received-took s Item.PassEnd h = refl
-received-took s (Item.Last shutdown) h = refl
+received-took s i h = refl
 
 pub posted-after : (v : View) (d : CoreId) (item : Item) (h : History) → posted d (after v h item) ≡ cond (is_post_to item d) (posted d h ++ front_envelope (outbox h)) (posted d h)
 posted-after v d item h = quiet_after (posted d) (λ m k. refl) (λ n k. refl) v h item ∙ posted-took d item h
@@ -77,23 +49,13 @@ box-changed mail a b xs from to a-known b-known to-known places = by (same_core 
     by true false e f = box_of-with_box_other mail a b from to xs b-known to-known (λ one two. false≢true (sym f ∙ subst (λ (n : ℕ). same_core b (record { number = n }) ≡ true) (sym two) (same_core-refl b)))
     by false q e f = box_of-with_box_other mail a b from to xs b-known to-known (λ one two. false≢true (sym e ∙ subst (λ (n : ℕ). same_core a (record { number = n }) ≡ true) (sym one) (same_core-refl a)))
 
--- A stream that is longer by one envelope, or shorter by the oldest one.
-pub waiting-longer : (n : ℕ) (xs ys : List Envelope) → n ≤ length xs → drop n (xs ++ ys) ≡ drop n xs ++ ys
-waiting-longer n xs ys le = drop-append-le n xs ys le
-
+-- A stream that is shorter by the oldest one.
 pub waiting-shorter : (n : ℕ) (xs : List Envelope) → drop (suc n) xs ≡ drop 1 (drop n xs)
-waiting-shorter zero [] = refl
-waiting-shorter zero (x ∷ xs) = refl
-waiting-shorter (suc n) [] = refl
-waiting-shorter (suc n) (x ∷ xs) = waiting-shorter n xs
+waiting-shorter n xs = let one_more : n + 1 ≡ suc n = omega arith in sym (drop-drop 1 n xs ∙ ap (λ (k : ℕ). drop k xs) one_more)
 
-pub waiting-front : (n : ℕ) (xs : List Envelope) → slice_get (drop n xs) 0 ≡ slice_get xs n
-waiting-front zero [] = refl
-waiting-front zero (x ∷ xs) = refl
-waiting-front (suc n) [] = refl
-waiting-front (suc n) (x ∷ xs) = waiting-front n xs
-
-pub some_waits : (n : ℕ) (xs : List Envelope) (x : Envelope) → slice_get xs n ≡ Some x → suc n ≤ length xs
-some_waits n [] x e = cc
-some_waits zero (y ∷ ys) x e = omega arith
-some_waits (suc n) (y ∷ ys) x e = let rest = some_waits n ys x e in omega arith
+-- What is in front of a rest.
+pub front-drop : {A : Type 0} (n : ℕ) (xs : List A) → slice_get (drop n xs) 0 ≡ slice_get xs n
+front-drop zero [] = refl
+front-drop zero (x ∷ xs) = refl
+front-drop (suc n) [] = refl
+front-drop (suc n) (x ∷ xs) = front-drop n xs

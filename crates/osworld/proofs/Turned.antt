@@ -17,9 +17,9 @@ use Rattle.osmail.specs.Mail.{Mail}
 use Rattle.osplan.specs.declared.plans.Plan.{Plan}
 use Rattle.osplan.specs.View.{view_of}
 use Rattle.osstate.specs.Does.{Reads}
-use Rattle.osstate.proofs.Same.{same_core-true}
+use Rattle.osbase.proofs.Same.{same_core-true}
 use Rattle.oskernel.specs.Step.{takes}
-use Rattle.oskernel.specs.Admission.{front_in}
+use Rattle.oskernel.specs.Wants.{front_of}
 use Rattle.osworld.specs.declared.boards.Board.{Board}
 use Rattle.osworld.specs.declared.seats.Seat.{Seat}
 use Rattle.osworld.specs.World.{World, history_by, is_unchanged, item_total, turn}
@@ -111,13 +111,13 @@ module _ (plan : Plan) (stimuli : List CoreStimuli) (w : World) (seats : List Se
           }
 
       -- the core takes it, once there is room
-      pub taken-played : may ≡ true → (roomy new : Seat) → Keeps seat roomy → Took roomy new item → IsPlaced mail seat.id item → (front : Option (CoreId × Envelope)) (next_mail : Mail) (next_board : Board) → front ≡ front_in roomy.kernel.outbox → next_mail ≡ carried roomy.id front item mail → next_board ≡ told roomy.id roomy.mode item board
+      pub taken-played : may ≡ true → (roomy new : Seat) → Keeps seat roomy → Took roomy new item → IsPlaced mail seat.id item → (front : Option (CoreId × Envelope)) (next_mail : Mail) (next_board : Board) → front ≡ front_of roomy.kernel.border.outbox → next_mail ≡ carried roomy.id front item mail → next_board ≡ told roomy.id roomy.mode item board
           → IsPlayed plan stimuli w ((core, choice) ∷ []) true (set seats at new) next_mail next_board
       taken-played taken roomy new keeps took placed front next_mail next_board fronts carried_on told_on =
           let takes_it = sym admitted ∙ taken in
           record {
             plays = rw (carried_on, told_on, fronts, keeps.id, keeps.mode, keeps.kernel)
-                (subst (λ (c : CoreId). Plays plan stimuli (turn plan stimuli w (c, choice)) (set seats at new) (carried seat.id (front_in seat.kernel.outbox) item mail) (told seat.id seat.mode item board)) at_core
+                (subst (λ (c : CoreId). Plays plan stimuli (turn plan stimuli w (c, choice)) (set seats at new) (carried seat.id (front_of seat.kernel.border.outbox) item mail) (told seat.id seat.mode item board)) at_core
                 (turn-taken plan stimuli w seats mail board plays choice at seat here within (sym is) item names new (took_after roomy new keeps took) placed takes_it));
             tells = subst (λ (c : CoreId). true ≡ not (is_unchanged w (turn plan stimuli w (c, choice)))) at_core
                 (one_more-differs (item_total w) ∙ ap (λ (n : ℕ). not (nat_eq (item_total w) n)) (sym (turn-appends plan stimuli w seats mail board plays choice at seat here within (sym is) item names takes_it)));

@@ -1,7 +1,8 @@
 -- A turn of a run is a turn of the world.
-use Rattle.std.proofs.Common.{◌≡◌, ℕ, zero, suc, ◌+◌, ◌<◌, ◌≤◌, Bool, true, false, cond, Option, Some, None, is_some, List, [], ◌∷◌, ◌++◌, length, drop, get_or, set, refl, sym, ap, subst, ◌∙◌, arith}
+use Rattle.std.proofs.Common.{◌≡◌, ℕ, suc, ◌+◌, ◌<◌, ◌≤◌, Bool, true, false, cond, Option, Some, None, is_some, List, [], ◌∷◌, ◌++◌, length, drop, get_or, set, refl, sym, ap, subst, ◌∙◌, arith}
 use Rattle.std.specs.List.{All, position_or_len}
 use Rattle.std.specs.Option.{option_map_or}
+use Rattle.std.proofs.lemmas.List.{drop-drop}
 use Rattle.std.proofs.lemmas.List.Elements.{All-get_or, All-set}
 use Rattle.osbase.specs.declared.references.CoreId.{CoreId}
 use Rattle.osbase.specs.declared.items.Item.{Item}
@@ -17,14 +18,14 @@ use Rattle.osplan.specs.View.{View, view_of}
 use Rattle.osstate.specs.State.{KernelState, state_of}
 use Rattle.osstate.specs.Does.{Does, Tracks}
 use Rattle.oskernel.specs.Step.{after, takes, outbox_size}
-use Rattle.oskernel.specs.Admission.{front_in}
+use Rattle.oskernel.specs.Wants.{front_of}
 use Rattle.osworld.specs.declared.boards.Board.{Board}
 use Rattle.osworld.specs.declared.seats.Seat.{Seat}
 use Rattle.osworld.specs.Board.{BoardCall, BoardEntry, board_after, board_from, first_board, reply_of}
 use Rattle.osworld.specs.World.{World, history_by, appends, board_in, call_of, history_in, items_in, item_total, named, stimulus_count, turn, turn_by, with_call, with_item}
 use Rattle.osworld.specs.Naming.{carried, IsPlaced, left_after, named_by, told}
 use Rattle.osworld.specs.Playing.{IsMail, IsSeated, lists_of, Plays}
-use Rattle.osworld.proofs.Listed.{is_seat_of, list_of, list_of-nobody, list_of-seat, lists_of-set, history_from-push, total-push}
+use Rattle.osworld.proofs.Listed.{is_seat_of, items_by, list_of, list_of-nobody, list_of-seat, lists_of-set, history_from-push, total-push}
 use Rattle.osworld.proofs.Carrying.{carries_on}
 use Rattle.osworld.proofs.Agreed.{named-agrees}
 
@@ -41,45 +42,11 @@ told-on first es core (Some call) = sym (board_from-push first es (record { core
 stimulus_count-push : (items : List Item) (item : Item) → stimulus_count (items ++ item ∷ []) ≡ stimulus_count items + stimulus_count (item ∷ [])
 stimulus_count-push [] item = omega arith
 stimulus_count-push (Item.Stim s ∷ items) item = let rest = stimulus_count-push items item in omega arith
-stimulus_count-push (Item.On ∷ items) item = stimulus_count-push items item
-stimulus_count-push (Item.Began k s ∷ items) item = stimulus_count-push items item
-stimulus_count-push (Item.Entered ∷ items) item = stimulus_count-push items item
-stimulus_count-push (Item.Pass1 a ∷ items) item = stimulus_count-push items item
-stimulus_count-push (Item.Readied ∷ items) item = stimulus_count-push items item
-stimulus_count-push (Item.Pass2 cores ∷ items) item = stimulus_count-push items item
-stimulus_count-push (Item.Posted to ∷ items) item = stimulus_count-push items item
-stimulus_count-push (Item.Received from number m ∷ items) item = stimulus_count-push items item
-stimulus_count-push (Item.Granted l ∷ items) item = stimulus_count-push items item
-stimulus_count-push (Item.Tried l taken ∷ items) item = stimulus_count-push items item
-stimulus_count-push (Item.Freed l ∷ items) item = stimulus_count-push items item
-stimulus_count-push (Item.Halt k s ∷ items) item = stimulus_count-push items item
-stimulus_count-push (Item.Drained ∷ items) item = stimulus_count-push items item
-stimulus_count-push (Item.PassEnd ∷ items) item = stimulus_count-push items item
-stimulus_count-push (Item.Last s ∷ items) item = stimulus_count-push items item
-
-drop-one_more : (n : ℕ) (xs : List Stimulus) → drop 1 (drop n xs) ≡ drop (suc n) xs
-drop-one_more zero [] = refl
-drop-one_more zero (x ∷ xs) = refl
-drop-one_more (suc n) [] = refl
-drop-one_more (suc n) (x ∷ xs) = drop-one_more n xs
+stimulus_count-push (i ∷ items) item = stimulus_count-push items item
 
 left-on : (item : Item) (n : ℕ) (xs : List Stimulus) → left_after item (drop n xs) ≡ drop (n + stimulus_count (item ∷ [])) xs
-left-on (Item.Stim s) n xs = let one_more : suc n ≡ n + stimulus_count (Item.Stim s ∷ []) = omega arith in drop-one_more n xs ∙ ap (λ (k : ℕ). drop k xs) one_more
-left-on Item.On n xs = ap (λ (k : ℕ). drop k xs) (omega arith)
-left-on (Item.Began k s) n xs = ap (λ (k : ℕ). drop k xs) (omega arith)
-left-on Item.Entered n xs = ap (λ (k : ℕ). drop k xs) (omega arith)
-left-on (Item.Pass1 a) n xs = ap (λ (k : ℕ). drop k xs) (omega arith)
-left-on Item.Readied n xs = ap (λ (k : ℕ). drop k xs) (omega arith)
-left-on (Item.Pass2 cores) n xs = ap (λ (k : ℕ). drop k xs) (omega arith)
-left-on (Item.Posted to) n xs = ap (λ (k : ℕ). drop k xs) (omega arith)
-left-on (Item.Received from number m) n xs = ap (λ (k : ℕ). drop k xs) (omega arith)
-left-on (Item.Granted l) n xs = ap (λ (k : ℕ). drop k xs) (omega arith)
-left-on (Item.Tried l taken) n xs = ap (λ (k : ℕ). drop k xs) (omega arith)
-left-on (Item.Freed l) n xs = ap (λ (k : ℕ). drop k xs) (omega arith)
-left-on (Item.Halt k s) n xs = ap (λ (k : ℕ). drop k xs) (omega arith)
-left-on Item.Drained n xs = ap (λ (k : ℕ). drop k xs) (omega arith)
-left-on Item.PassEnd n xs = ap (λ (k : ℕ). drop k xs) (omega arith)
-left-on (Item.Last s) n xs = ap (λ (k : ℕ). drop k xs) (omega arith)
+left-on (Item.Stim s) n xs = drop-drop 1 n xs
+left-on i n xs = ap (λ (k : ℕ). drop k xs) (omega arith)
 
 -- What a seat is after it took an item.
 pub record Took (old new : Seat) (item : Item) : Type 0 where
@@ -96,7 +63,7 @@ seated-on plan stimuli old new item seated took =
           (subst (λ (items : List Item). Tracks v (history_by plan old.id items) [] [] new.kernel new.marks.items) (sym took.items)
           (subst (λ (h : History). Tracks v h [] [] new.kernel new.marks.items) (sym (history_from-push v [] old.items.items item))
           (took.does v (history_by plan old.id old.items.items) [] [] seated.tracks)));
-      mode = took.mode ∙ seated.mode ∙ ap (λ (i : CoreId). (view_of plan i).mode) (sym took.id);
+      mode = took.mode ∙ seated.mode ∙ ap (λ (i : CoreId). (view_of plan i).own.mode) (sym took.id);
       left = took.left ∙ ap (left_after item) seated.left ∙ left-on item (stimulus_count old.items.items) (stimuli_of stimuli old.id)
           ∙ ap (λ (n : ℕ). drop n (stimuli_of stimuli old.id)) (sym (stimulus_count-push old.items.items item))
           ∙ ap (λ (items : List Item). drop (stimulus_count items) (stimuli_of stimuli old.id)) (sym took.items)
@@ -124,9 +91,6 @@ module _ (plan : Plan) (stimuli : List CoreStimuli) (w : World) (seats : List Se
 
   listed : list_of seat.id w.items ≡ Some (seat.id, seat.items.items)
   listed = ap (list_of seat.id) plays.lists ∙ list_of-seat seat.id seats at seat here within ∙ ap (λ (s : Seat). Some (s.id, s.items.items)) is
-
-  abbrev items_by : Option (CoreId × List Item) → List Item
-  items_by o = option_map_or (λ (p : CoreId × List Item). p.1) o []
 
   items : items_in w seat.id ≡ seat.items.items
   items = ap items_by listed
@@ -172,19 +136,19 @@ module _ (plan : Plan) (stimuli : List CoreStimuli) (w : World) (seats : List Se
           ap (with_item seat.id item) plays.lists
           ∙ lists_of-set seat.id item seats at new seat here within (took.id ∙ ap (λ (s : Seat). s.id) (sym is)) (took.items ∙ ap (λ (s : Seat). s.items.items ++ item ∷ []) (sym is))
 
-      carries-on : IsMail plan (appends plan w seat.id item) (carried seat.id (front_in seat.kernel.outbox) item mail)
+      carries-on : IsMail plan (appends plan w seat.id item) (carried seat.id (front_of seat.kernel.border.outbox) item mail)
       carries-on =
-          subst (λ (s : KernelState). IsMail plan (appends plan w seat.id item) (carried seat.id (front_in s.outbox) item mail)) (sym kernel)
+          subst (λ (s : KernelState). IsMail plan (appends plan w seat.id item) (carried seat.id (front_of s.border.outbox) item mail)) (sym kernel)
           (carries_on plan w seat.id item (seat.id, seat.items.items) listed mail plays.carries seat.known placed)
 
       board-on : told seat.id seat.mode item board ≡ board_in plan (appends plan w seat.id item)
       board-on =
           ap (told seat.id seat.mode item) plays.shown
           ∙ ap (λ (mode : CoreMode). told seat.id mode item (board_in plan w)) seated.mode
-          ∙ told-on (first_board plan.master) w.calls seat.id (call_of (view_of plan seat.id).mode item)
+          ∙ told-on (first_board plan.master) w.calls seat.id (call_of (view_of plan seat.id).own.mode item)
 
-      pub turn-taken : takes outbox_size (view_of plan seat.id) past item ≡ true → Plays plan stimuli (turn plan stimuli w (seat.id, choice)) (set seats at new) (carried seat.id (front_in seat.kernel.outbox) item mail) (told seat.id seat.mode item board)
+      pub turn-taken : takes outbox_size (view_of plan seat.id) past item ≡ true → Plays plan stimuli (turn plan stimuli w (seat.id, choice)) (set seats at new) (carried seat.id (front_of seat.kernel.border.outbox) item mail) (told seat.id seat.mode item board)
       turn-taken taken =
-          subst (λ (next : World). Plays plan stimuli next (set seats at new) (carried seat.id (front_in seat.kernel.outbox) item mail) (told seat.id seat.mode item board))
+          subst (λ (next : World). Plays plan stimuli next (set seats at new) (carried seat.id (front_of seat.kernel.border.outbox) item mail) (told seat.id seat.mode item board))
           (sym (by_taking ∙ ap (λ (b : Bool). cond b (appends plan w seat.id item) w) taken))
           (record { seated = seats-on; lists = lists-on; carries = carries-on; shown = board-on })

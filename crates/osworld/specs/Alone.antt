@@ -13,7 +13,8 @@ use Rattle.osplan.specs.declared.plans.CoreMode.{CoreMode}
 use Rattle.osplan.specs.declared.plans.CoreMode.TheVariants.{Named, DontCare}
 use Rattle.osplan.specs.Separate.{cut_of, is_separate}
 use Rattle.osplan.specs.View.{view_of}
-use Rattle.oskernel.specs.Step.{is_stimulus, solo}
+use Rattle.oskernel.specs.Admission.{is_stimulus}
+use Rattle.oskernel.specs.Step.{solo}
 use Rattle.osworld.specs.Board.{with_core}
 use Rattle.osworld.specs.Fits.{IsBeginning, has_drained}
 use Rattle.osworld.specs.World.{World, history_by, items_in}
@@ -27,7 +28,7 @@ own_agreement DontCare = Agreement.NoMode
 -- order, and that it has drained. [own]
 abbrev pub alone_items : Plan → List CoreStimuli → CoreId → List Item
 alone_items plan stimuli id =
-    Item.Entered ∷ Item.Pass1 (own_agreement (view_of plan id).mode) ∷ Item.Readied ∷ Item.Pass2 (with_core id no_cores)
+    Item.Entered ∷ Item.Pass1 (own_agreement (view_of plan id).own.mode) ∷ Item.Readied ∷ Item.Pass2 (with_core id no_cores)
     ∷ map Item.Stim (stimuli_of stimuli id) ++ Item.Drained ∷ []
 
 -- The trace of the core's own configuration by them. [own]

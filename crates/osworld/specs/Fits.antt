@@ -77,4 +77,4 @@ pub record Fits (plan : Plan) (stimuli : List CoreStimuli) (w : World) : Type 0 
   pub cores : (id : CoreId) → FitsCore plan stimuli id (items_in w id)
   pub streams : (from to : CoreId) → IsBeginning (received from (history_in plan w to)) (posted to (history_in plan w from))
   pub board : Replays (first_board plan.master) w.calls
-  pub answers : (id : CoreId) → AreAnswered id (view_of plan id).mode (asking (view_of plan id).mode (items_in w id)) (calls_by id w.calls)
+  pub answers : (id : CoreId) → AreAnswered id (view_of plan id).own.mode (asking (view_of plan id).own.mode (items_in w id)) (calls_by id w.calls)

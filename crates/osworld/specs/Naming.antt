@@ -15,16 +15,11 @@ use Rattle.osplan.specs.declared.plans.Plan.{Plan}
 use Rattle.osplan.specs.declared.plans.CoreMode.{CoreMode}
 use Rattle.osplan.specs.View.{core_of}
 use Rattle.osstate.specs.State.{KernelState}
-use Rattle.osstate.specs.Readings.{next_start}
 use Rattle.oskernel.specs.declared.wants.Want.{Want}
 use Rattle.oskernel.specs.Wants.{want_in}
 use Rattle.osworld.specs.declared.boards.Board.{Board}
 use Rattle.osworld.specs.Board.{board_after, start_answer}
 use Rattle.osworld.specs.World.{call_of, going_on, look_named, receiving}
-
--- What the core's own turn would do, by its kernel's state.
-abbrev pub want_by : KernelState → Want
-want_by s = want_in s.phase (next_start s.view s.began) s.outbox
 
 -- What `Own`, `Serve` and `Look` name.
 abbrev pub start_named : Plan → Board → CoreId → Item
@@ -45,9 +40,9 @@ abbrev pub serve_by : Mail → CoreId → CoreId → Option Item
 serve_by mail id from = if nat_lt from.number CORES then option_map (receiving from) (oldest_of mail from id) else None
 
 abbrev pub named_by : Plan → Board → Mail → CoreId → List Stimulus → KernelState → Choice → Option Item
-named_by plan board mail id stimuli s Own = own_by plan board mail id stimuli (want_by s)
+named_by plan board mail id stimuli s Own = own_by plan board mail id stimuli (want_in s)
 named_by plan board mail id stimuli s (Serve from) = serve_by mail id from
-named_by plan board mail id stimuli s Look = look_named id board s.phase
+named_by plan board mail id stimuli s Look = look_named id board s.progress.phase
 
 -- The mailbox that an item uses is there, with room for what is posted, and with something to be received.
 abbrev pub IsPlaced : Mail → CoreId → Item → Type 0

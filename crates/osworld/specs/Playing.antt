@@ -29,7 +29,7 @@ report_of seat = record {
   core = seat.id;
   items = seat.items.items;
   marks = seat.marks.items;
-  ended = is_ended_phase seat.kernel.phase;
+  ended = is_ended_phase seat.kernel.progress.phase;
 }
 
 abbrev pub report_in : Plan → CoreId × List Item → Report
@@ -48,7 +48,7 @@ reports_of plan w = map (report_in plan) w.items
 -- A seat is where its core comes to by the items that it took.
 pub record IsSeated (plan : Plan) (stimuli : List CoreStimuli) (seat : Seat) : Type 0 where
   pub tracks : Tracks (view_of plan seat.id) (history_by plan seat.id seat.items.items) [] [] seat.kernel seat.marks.items
-  pub mode : seat.mode ≡ (view_of plan seat.id).mode
+  pub mode : seat.mode ≡ (view_of plan seat.id).own.mode
   pub left : seat.stimuli.now ≡ drop (stimulus_count seat.items.items) (stimuli_of stimuli seat.id)
 
 abbrev pub lists_of : List Seat → List (CoreId × List Item)

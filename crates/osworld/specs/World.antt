@@ -136,7 +136,7 @@ with_call id board (Some call) calls = calls ++ record { core = id; call = call;
 abbrev pub appends : Plan → World → CoreId → Item → World
 appends plan w id item = record {
   items = with_item id item w.items;
-  calls = with_call id (board_in plan w) (call_of (view_of plan id).mode item) w.calls;
+  calls = with_call id (board_in plan w) (call_of (view_of plan id).own.mode item) w.calls;
 }
 
 -- A turn appends the one item that it names, if the core takes it, or changes nothing. [own]

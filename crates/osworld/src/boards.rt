@@ -15,7 +15,7 @@ pub const MODES: usize = 8;
 /// A set of application modes: a flag for each mode.
 #[derive(Clone, Copy, Debug, PartialEq, Eq)]
 pub struct ModeSet {
-    pub members: [bool; 8],
+    pub members: [bool; MODES],
 }
 
 /// The board of a listed run: the cores that were started, that have entered StartOS, that are ready,
@@ -35,7 +35,7 @@ impl Board {
         ensures { result ≡ first_board master }
     {
         let none = CoreSet {
-            members: [false; 16],
+            members: [false; CORES],
         };
         Board {
             started: with_member(none, master),
@@ -43,7 +43,7 @@ impl Board {
             ready: none,
             drained: none,
             modes: ModeSet {
-                members: [false; 8],
+                members: [false; MODES],
             },
         }
     }

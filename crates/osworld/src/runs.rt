@@ -6,7 +6,7 @@ ghost use Rattle.osworld.specs.World.{first_world, ids_of, round_of, rounds as r
 ghost use Rattle.osworld.specs.Playing.{AreReports, HasNoSchedule, IsBegun, IsBrokenOff, IsDefaultBrokenOff, IsDefaultRun, IsDefaultSchedule, IsRound, Plays, PlaysDefault, StopsDefaultShort};
 
 use crate::worlds::{World, either};
-use osbase::{Choice, CoreId, List, Report, Schedule, Stimuli, Turn};
+use osbase::{CORE_NUMBERS, Choice, CoreId, List, Report, Schedule, Stimuli, Turn};
 use osplan::{Config, Plan};
 use std::alloc::{AllocError, Global};
 use thiserror::Error;
@@ -154,7 +154,7 @@ fn ids_of(alloc: Global, plan: &Plan) -> Result<Vec<CoreId>, AllocError>
     ensures { IfOk result (λ ids. ids.items ≡ ids_of plan.now) }
 {
     let mut ids = Vec::new(alloc);
-    for number in 0..16 {
+    for number in 0..CORE_NUMBERS {
         if plan.core(CoreId { number }).is_some() {
             ids.push(CoreId { number })?;
         }

@@ -6,7 +6,7 @@ ghost use Rattle.osplan.specs.View.{core_of, view_of};
 ghost use Rattle.osplan.specs.Limits.{is_within_limits};
 ghost use Rattle.osstate.specs.Does.{Does};
 ghost use Rattle.osstate.specs.State.{state_of};
-ghost use Rattle.oskernel.specs.Admission.{may_take_of};
+ghost use Rattle.oskernel.specs.Admission.{takes_in};
 ghost use Rattle.oskernel.specs.Step.{after};
 ghost use Rattle.osbase.specs.Runs.{stimuli_of};
 ghost use Rattle.osworld.specs.World.{is_ended_phase};
@@ -115,7 +115,7 @@ impl<'a> Seat<'a> {
     pub fn take(&mut self, item: Item)
         requires items { vec_len self.old.items < vec_capacity self.old.items }
         requires marks { vec_len self.old.marks + MARKS ≤ vec_capacity self.old.marks }
-        requires taken { IsTrue (may_take_of 64 self.old.kernel item) }
+        requires taken { IsTrue (takes_in 64 self.old.kernel item) }
         ensures id { self.new.id ≡ self.old.id }
         ensures mode { self.new.mode ≡ self.old.mode }
         ensures stimuli { self.new.stimuli.now ≡ left_after item self.old.stimuli.now }
@@ -133,14 +133,14 @@ impl<'a> Seat<'a> {
 
     /// Whether the core has come to its end.
     pub fn has_ended(&self) -> bool
-        ensures { result ≡ is_ended_phase self.now.kernel.phase }
+        ensures { result ≡ is_ended_phase self.now.kernel.progress.phase }
     {
         matches!(self.kernel.phase(), Phase::Ended)
     }
 
     /// What the run came to for this core.
     pub fn report(self) -> Report
-        ensures { result ≡ record { core = self.entry.id; items = self.entry.items.items; marks = self.entry.marks.items; ended = is_ended_phase self.entry.kernel.phase } }
+        ensures { result ≡ record { core = self.entry.id; items = self.entry.items.items; marks = self.entry.marks.items; ended = is_ended_phase self.entry.kernel.progress.phase } }
     {
         let ended = self.has_ended();
         let Seat {

@@ -14,7 +14,7 @@ ghost use Rattle.osworld.specs.World.{first_world, is_ended_phase};
 use crate::boards::Board;
 use crate::naming::{Mailboxes, carry, tell};
 use crate::seats::Seat;
-use osbase::{CORES, Choice, CoreId, CoreStimuli, Item, Report, Turn};
+use osbase::{CORE_NUMBERS, CORES, Choice, CoreId, CoreStimuli, Item, Report, Turn};
 use osplan::Config;
 use std::alloc::{AllocError, Global};
 
@@ -48,7 +48,7 @@ impl<'a> World<'a> {
     {
         let plan = config.plan();
         let mut seats = Vec::with_capacity(alloc, CORES)?;
-        for number in 0..16 {
+        for number in 0..CORE_NUMBERS {
             let id = CoreId { number };
             if let Some(core) = plan.core(id) {
                 seats.push(Seat::new(alloc, config, id, core.mode, stimuli)?)?;
@@ -107,7 +107,7 @@ impl<'a> World<'a> {
 
     /// Whether every started core has ended.
     pub fn is_over(&self) -> bool
-        ensures { result ≡ list_all (λ (s : SeatValue). not (has_core self.now.board.started s.id) || is_ended_phase s.kernel.phase) self.now.seats.items }
+        ensures { result ≡ list_all (λ (s : SeatValue). not (has_core self.now.board.started s.id) || is_ended_phase s.kernel.progress.phase) self.now.seats.items }
     {
         self.seats
             .iter()
@@ -150,7 +150,7 @@ fn places_of(seats: &[Seat]) -> [Option<usize>; CORES]
     ensures { (core : CoreIdValue) → core.number < CORES → slice_get result core.number ≡ Some (position (λ (s : SeatValue). same_core s.id core) seats.now) }
 {
     let mut places = [None; CORES];
-    for number in 0..16 {
+    for number in 0..CORE_NUMBERS {
         places[usize::from(number)] = place_in(seats, CoreId { number });
     }
     places

@@ -1,7 +1,7 @@
 use Rattle.std.proofs.Common.{lit<, rules, tests}
 use Rattle.std.proofs.lemmas.Iterator.Search.{all_from_yields_List}
 use Rattle.std.proofs.lemmas.Iterator.Splits.{YieldsList-from_str_split}
-use Rattle.osconf.specs.Check.{is_operation_known}
+use Rattle.osconf.specs.Operation.{is_operation_known}
 use Rattle.osconf.proofs.checks.are_parts_known.Goals as goal
 
 pub returns : goal.returns

@@ -9,9 +9,6 @@ use Rattle.osconf.proofs.Bounds.{bounds-of}
 use Rattle.osconf.proofs.Sayings.{config-named, expressible-of}
 use Rattle.osconf.proofs.configs.read_config.Goals as goal
 
-pub plan_if_faultless-requires : goal.plan_if_faultless-requires
-plan_if_faultless-requires c = record { named = config-named _ c.in_ok-text.text c.in_ok-text.ensures }
-
 pub returns-in_err-plan_if_faultless-clause-fault : goal.returns-in_err-plan_if_faultless-clause-fault
 returns-in_err-plan_if_faultless-clause-fault c =
     let faults : faults_of c.args.text.now ≡ failing (tests_of c.in_ok-text.text) = ap faults_of_data c.in_ok-value.ensures ∙ ap faults_of_shape c.in_ok-text.ensures in

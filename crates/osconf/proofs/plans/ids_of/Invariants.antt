@@ -1,5 +1,5 @@
 use Rattle.std.proofs.Common.{◌≡◌, map, take}
-use Rattle.osconf.specs.Meaning.{number_id}
+use Rattle.osconf.specs.Operation.{number_id}
 use Rattle.osconf.proofs.plans.ids_of.Given as goal
 
 abbrev pub invariant-loop-number : goal.invariant-loop-number

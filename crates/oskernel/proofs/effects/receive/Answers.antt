@@ -1,9 +1,7 @@
-use Rattle.std.proofs.Common.{refl, lit≤}
-use Rattle.osstate.proofs.Effecting.{as_effect}
 use Rattle.oskernel.proofs.effects.receive.Goals as goal
 
 pub returns-in-Action : goal.returns-in-Action
 returns-in-Action g c = rw c.in-Action.is c.serve_action.ensures
 
 pub returns-in-Reply : goal.returns-in-Reply
-returns-in-Reply g c = rw c.in-Reply.is (as_effect (λ v h stands. refl) (lit≤ tt) (lit≤ tt) c.close.ensures)
+returns-in-Reply g c = rw c.in-Reply.is c.close.ensures

@@ -1,9 +1,9 @@
 use Rattle.oskernel.proofs.Phases.{forward, onward}
-use Rattle.oskernel.proofs.Taken.{acting, among_taken, past, fresh, front, filling, known}
+use Rattle.oskernel.proofs.Taken.{acting, past, fresh, front, filling, known, sender}
 use Rattle.oskernel.proofs.effects.show_admitted.Goals as goal
 
-pub returns-clause-taken : goal.returns-clause-taken
-returns-clause-taken g c = among_taken g.row.OUT c.args.state.now c.args.item.now c.requires.admitted
+pub returns-clause-sender : goal.returns-clause-sender
+returns-clause-sender g c = sender g.row.OUT c.args.state.now c.args.item.now c.requires.admitted
 
 pub returns-clause-forward : goal.returns-clause-forward
 returns-clause-forward g c = forward g.row.OUT c.args.state.now c.args.item.now c.requires.admitted
@@ -15,7 +15,7 @@ pub returns-clause-live : goal.returns-clause-live
 returns-clause-live g c = acting g.row.OUT c.args.state.now c.args.item.now c.requires.admitted
 
 pub returns-clause-past : goal.returns-clause-past
-returns-clause-past g c = past c.args.state.now.phase c.args.item.now
+returns-clause-past g c = past c.args.state.now.progress.phase c.args.item.now
 
 pub returns-clause-fresh : goal.returns-clause-fresh
 returns-clause-fresh g c = fresh g.row.OUT c.args.state.now c.args.item.now c.requires.admitted

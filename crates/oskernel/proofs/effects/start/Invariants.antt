@@ -11,6 +11,6 @@ use Rattle.oskernel.proofs.effects.start.Given as goal
 abbrev pub invariant-loop-task : goal.invariant-loop-task
 invariant-loop-task g l = record {
   place : l.index ≡ l.task-index;
-  none : (k : ℕ) → l.task-index ≤ k → job_count (Runner.Task (ref_at l.core k)) l.state.jobs ≡ 0;
-  effects : Effects l.task-index l.task-index (λ v h. autostarts (Some (agreement_on l.mode)) (take l.task-index (task_refs v)) h) l.initial.state l.state l.initial.marks l.marks;
+  none : (k : ℕ) → l.task-index ≤ k → job_count (Runner.Task (ref_at l.core k)) l.state.tasks.jobs ≡ 0;
+  effects : Effects l.task-index l.task-index (λ v h. autostarts (Some (agreement_on l.mode)) (take l.task-index (task_refs v.own)) h) l.initial.state l.state l.initial.marks l.marks;
 }

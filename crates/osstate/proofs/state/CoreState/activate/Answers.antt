@@ -1,21 +1,24 @@
-use Rattle.std.proofs.Common.{◌≡◌, ◌<◌, false, rules, arith, sym, subst}
+use Rattle.std.proofs.Common.{◌≡◌, ◌<◌, false, rules, arith, refl, sym, subst}
 use Rattle.osbase.specs.declared.references.Runner.TheVariants as Runner
+use Rattle.osbase.specs.declared.marks.Mark.TheVariants as Mark
 use Rattle.osbase.specs.History.{job_count}
-use Rattle.osstate.specs.Sound.{activation_limit, is_before_live}
+use Rattle.osbase.specs.Phases.{is_before_live}
+use Rattle.osstate.specs.Sound.{activation_limit}
 use Rattle.osstate.specs.State.{KernelState}
 use Rattle.osstate.proofs.Sounds.{activated, place}
 use Rattle.osstate.proofs.Effecting.{printing}
+use Rattle.osstate.proofs.Histories.{printed}
 use Rattle.osstate.proofs.state.CoreState.activate.Goals as goal
 
 pub push-requires : goal.push-requires
 push-requires g c =
-    (search rules, place g.row.J c.args.task _ c.self.invariant (subst (λ (s : KernelState). job_count (Runner.Task c.args.task) s.jobs < activation_limit s.view (Runner.Task c.args.task)) (sym c.self.view_is) c.requires.limit))
+    (search rules, place g.row.P g.row.J c.args.task _ c.self.invariant (subst (λ (s : KernelState). job_count (Runner.Task c.args.task) s.tasks.jobs < activation_limit s.view.own (Runner.Task c.args.task)) (sym c.self.view_is) c.requires.limit))
 
 pub invariant_of-self : goal.invariant_of-self
 invariant_of-self g c =
-    rw c.push.ensures.items (activated g.row.J c.args.task _ c.self.invariant
-    (subst (λ (s : KernelState). job_count (Runner.Task c.args.task) s.jobs < activation_limit s.view (Runner.Task c.args.task)) (sym c.self.view_is) c.requires.limit)
-    (subst (λ (s : KernelState). is_before_live s.phase ≡ false) (sym c.self.view_is) c.requires.live))
+    rw c.push.ensures.items (activated g.row.P g.row.J c.args.task _ c.self.invariant
+    (subst (λ (s : KernelState). job_count (Runner.Task c.args.task) s.tasks.jobs < activation_limit s.view.own (Runner.Task c.args.task)) (sym c.self.view_is) c.requires.limit)
+    (subst (λ (s : KernelState). is_before_live s.progress.phase ≡ false) (sym c.self.view_is) c.requires.live))
 
 pub returns-clause-effects : goal.returns-clause-effects
-returns-clause-effects g c = printing (search rules) (search rules) (search rules) (omega arith) (search rules)
+returns-clause-effects g c = printing (search rules) (λ v h same. printed (Mark.Activated c.args.task) refl v h) (search rules) (omega arith) (search rules)

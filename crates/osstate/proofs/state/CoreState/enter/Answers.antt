@@ -1,6 +1,8 @@
-use Rattle.std.proofs.Common.{rules, arith}
-use Rattle.osstate.proofs.Effecting.{plainly, printing}
+use Rattle.std.proofs.Common.{rules, arith, refl}
+use Rattle.osbase.specs.declared.marks.Mark.TheVariants as Mark
+use Rattle.osstate.proofs.Effecting.{printing}
+use Rattle.osstate.proofs.Histories.{printed}
 use Rattle.osstate.proofs.state.CoreState.enter.Goals as goal
 
 pub returns-clause-effects : goal.returns-clause-effects
-returns-clause-effects g c = printing (search rules) (search rules) (search rules) (omega arith) (search rules)
+returns-clause-effects g c = printing (search rules) (λ v h same. printed (Mark.PreTaskHook c.args.task) refl v h) (search rules) (omega arith) (search rules)

@@ -10,16 +10,9 @@ copied : (o : Option (Bor Core)) → is_some o ≡ is_some (option_copied o)
 copied None = refl
 copied (Some x) = refl
 
-pub returns-clause-state : goal.returns-clause-state
-returns-clause-state g c =
+pub returns : goal.returns
+returns g c =
     c.is_some.ensures ∙ copied c.core.result
     ∙ ap (λ (o : Option Core). is_some o) (c.core.ensures ∙ ap (λ (p : Plan). core_of p c.args.id) c.plan.ensures.value)
     ∙ is_some-core_of c.args.id c.self.inside.config.now.cores
     ∙ ap (λ (s : KernelState). is_configured s.view c.args.id) c.self.view_is
-
-pub returns-clause-reads : goal.returns-clause-reads
-returns-clause-reads g c v h stands =
-    c.is_some.ensures ∙ copied c.core.result
-    ∙ ap (λ (o : Option Core). is_some o) (c.core.ensures ∙ ap (λ (p : Plan). core_of p c.args.id) c.plan.ensures.value)
-    ∙ is_some-core_of c.args.id c.self.inside.config.now.cores
-    ∙ ap (λ (s : KernelState). is_configured s.view c.args.id) (c.self.view_is ∙ stands.is)

@@ -1,11 +1,25 @@
-use Rattle.std.proofs.Common.{rules, refl}
-use Rattle.std.proofs.lemmas.Bool.{lt-ltb}
-use Rattle.osstate.proofs.Histories.{notes_queued}
+use Rattle.std.proofs.Common.{rules, arith}
+use Rattle.osstate.proofs.Effecting.{queueing}
+use Rattle.osstate.proofs.Sounds.{one_more-within}
 use Rattle.osstate.proofs.state.CoreState.queue.Goals as goal
 
+pub invariant_of-self : goal.invariant_of-self
+invariant_of-self g c = rw c.count_one.ensures (record {
+  tasks = c.self.invariant.tasks;
+  frames = c.self.invariant.frames;
+  bounded = c.self.invariant.bounded;
+  limits = c.self.invariant.limits;
+  some = c.self.invariant.some;
+  scripts = c.self.invariant.scripts;
+  jobs = c.self.invariant.jobs;
+  idle = c.self.invariant.idle;
+  agreed = c.self.invariant.agreed;
+  caller = c.self.invariant.caller;
+  began = omega (arith, c.self.invariant.began);
+  items = omega (arith, c.self.invariant.items);
+  queued = one_more-within _ c.args.to _ c.self.invariant.queued;
+  received = (λ k. omega (arith, c.self.invariant.received k));
+})
+
 pub returns-clause-remarks : goal.returns-clause-remarks
-returns-clause-remarks g c = record {
-  notes = notes_queued c.args.to c.args.message c.args.self.now _ (lt-ltb c.args.to.number 16 c.requires.receiver) (search rules);
-  silent = (λ v h. refl);
-  stays = search rules;
-}
+returns-clause-remarks g c = queueing c.requires.receiver (search rules)

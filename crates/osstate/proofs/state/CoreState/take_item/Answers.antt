@@ -1,6 +1,17 @@
-use Rattle.std.proofs.Common.{rules}
-use Rattle.osstate.proofs.Histories.{notes_took}
+use Rattle.std.proofs.Common.{◌≡◌, ◌||◌, true, rules, sym, subst}
+use Rattle.osbase.specs.History.{phase_on}
+use Rattle.osbase.specs.Phases.{is_before_live, is_past_first_gate}
+use Rattle.osstate.specs.Sound.{is_first_gate}
+use Rattle.osstate.specs.State.{KernelState}
+use Rattle.osstate.proofs.Histories.{notes, took}
+use Rattle.osstate.proofs.Sounds.{taken}
 use Rattle.osstate.proofs.state.CoreState.take_item.Goals as goal
 
+pub invariant_of-self : goal.invariant_of-self
+invariant_of-self g c =
+    rw (c.take_item.ensures, c.receive_by.ensures) (taken g.row.P g.row.J c.args.item.now _ _ c.self.invariant
+    (subst (λ (s : KernelState). is_before_live (phase_on c.args.item.now s.progress.phase) ≡ true → is_before_live s.progress.phase ≡ true) (sym c.self.view_is) c.requires.forward)
+    (subst (λ (s : KernelState). is_past_first_gate (phase_on c.args.item.now s.progress.phase) ≡ true → (is_first_gate c.args.item.now || is_past_first_gate s.progress.phase) ≡ true) (sym c.self.view_is) c.requires.onward))
+
 pub returns-clause-notes : goal.returns-clause-notes
-returns-clause-notes g c = notes_took c.args.item.now c.args.self.now _ c.requires.sender (search rules)
+returns-clause-notes g c = notes (search rules) (λ v h same. took c.args.item.now c.requires.sender v h)

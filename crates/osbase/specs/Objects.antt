@@ -1,0 +1,33 @@
+-- Objects of every kind, and which of them a call across cores names.
+use Rattle.osbase.specs.declared.references.TaskRef.{TaskRef}
+use Rattle.osbase.specs.declared.references.AlarmRef.{AlarmRef}
+use Rattle.osbase.specs.declared.objects.ObjectKind.TheVariants.{Task, Alarm}
+use Rattle.osbase.specs.declared.objects.Place.{Place}
+use Rattle.osbase.specs.declared.objects.Object.{Object}
+use Rattle.osbase.specs.declared.messages.RemoteCall.{RemoteCall}
+use Rattle.osbase.specs.declared.messages.RemoteCall.TheVariants.{ActivateTask, SetEvent, SetRelAlarm, SetAbsAlarm, CancelAlarm, GetAlarm}
+
+-- Where a reference's object stands, and the reference of a place. [own]
+abbrev pub task_place : TaskRef → Place
+task_place t = record { core = t.core; index = t.index }
+
+abbrev pub task_of : Place → TaskRef
+task_of p = record { core = p.core; index = p.index }
+
+abbrev pub alarm_place : AlarmRef → Place
+alarm_place a = record { core = a.core; index = a.index }
+
+abbrev pub task_object : TaskRef → Object
+task_object t = record { kind = Task; place = task_place t }
+
+abbrev pub alarm_object : AlarmRef → Object
+alarm_object a = record { kind = Alarm; place = alarm_place a }
+
+-- The object that a call across cores is for. [AUTOSAR SWS OS 4.x, SWS_Os_00596 and SWS_Os_00602]
+abbrev pub object_of_call : RemoteCall → Object
+object_of_call (ActivateTask t) = task_object t
+object_of_call (SetEvent t mask) = task_object t
+object_of_call (SetRelAlarm a increment cycle) = alarm_object a
+object_of_call (SetAbsAlarm a start cycle) = alarm_object a
+object_of_call (CancelAlarm a) = alarm_object a
+object_of_call (GetAlarm a variable) = alarm_object a

@@ -1,0 +1,81 @@
+//! Objects of every kind, as the operations of scripts and the calls across cores name them.
+
+ghost use Rattle.std.specs.Prelude.{◌≡◌};
+ghost use Rattle.osbase.specs.Objects.{alarm_object, alarm_place, task_object, task_of, task_place};
+
+use crate::references::{AlarmRef, CoreId, TaskRef};
+
+/// The kinds of objects that operations and calls can name so far.
+#[derive(Clone, Copy, Debug, PartialEq, Eq)]
+pub enum ObjectKind {
+    Task,
+    Alarm,
+}
+
+/// Where an object stands: its core, and its place among that core's objects of its kind.
+#[derive(Clone, Copy, Debug, PartialEq, Eq)]
+pub struct Place {
+    pub core: CoreId,
+    pub index: u8,
+}
+
+/// An object of any kind.
+#[derive(Clone, Copy, Debug, PartialEq, Eq)]
+pub struct Object {
+    pub kind: ObjectKind,
+    pub place: Place,
+}
+
+impl TaskRef {
+    /// The task that stands at this place.
+    pub fn at(place: Place) -> Self
+        ensures { result ≡ task_of place }
+    {
+        TaskRef {
+            core: place.core,
+            index: place.index,
+        }
+    }
+
+    /// Where the task stands.
+    pub fn place(self) -> Place
+        ensures { result ≡ task_place self }
+    {
+        Place {
+            core: self.core,
+            index: self.index,
+        }
+    }
+
+    /// The task as an object of its kind.
+    pub fn object(self) -> Object
+        ensures { result ≡ task_object self }
+    {
+        Object {
+            kind: ObjectKind::Task,
+            place: self.place(),
+        }
+    }
+}
+
+impl AlarmRef {
+    /// Where the alarm stands.
+    pub fn place(self) -> Place
+        ensures { result ≡ alarm_place self }
+    {
+        Place {
+            core: self.core,
+            index: self.index,
+        }
+    }
+
+    /// The alarm as an object of its kind.
+    pub fn object(self) -> Object
+        ensures { result ≡ alarm_object self }
+    {
+        Object {
+            kind: ObjectKind::Alarm,
+            place: self.place(),
+        }
+    }
+}

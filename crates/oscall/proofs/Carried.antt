@@ -1,0 +1,183 @@
+-- One fact for each service: what it does to one history it does to every history that reads the same to it.
+use Rattle.std.proofs.Common.{◌≡◌, ◌||◌, Bool, true, false, not, cond, Option, Some, None, List, [], ◌∷◌, refl, ap, subst, ℤ}
+use Rattle.std.specs.List.{list_all}
+use Rattle.std.proofs.lemmas.Bool.{and_parts}
+use Rattle.osbase.specs.declared.statuses.Status.{Status}
+use Rattle.osbase.specs.declared.statuses.ServiceId.{ServiceId}
+use Rattle.osbase.specs.declared.references.CoreId.{CoreId}
+use Rattle.osbase.specs.declared.references.TaskRef.{TaskRef}
+use Rattle.osbase.specs.declared.references.Runner.{Runner}
+use Rattle.osbase.specs.declared.objects.Object.{Object}
+use Rattle.osbase.specs.declared.messages.RemoteCall.{RemoteCall}
+use Rattle.osbase.specs.declared.messages.RemoteCall.TheVariants as Remote
+use Rattle.osbase.specs.declared.messages.Message.{Message}
+use Rattle.osbase.specs.declared.marks.Mark.{Mark}
+use Rattle.osbase.specs.declared.histories.OpenCall.{OpenCall}
+use Rattle.osbase.specs.History.{Entry, History, Took, Printed, Noted, Opened, Queued, Done}
+use Rattle.oscript.specs.declared.Op.{Op}
+use Rattle.oscript.specs.declared.Op.TheVariants.{Work, ActivateTask, TerminateTask}
+use Rattle.oscript.specs.Rows.{objects_of}
+use Rattle.osplan.specs.View.{View}
+use Rattle.osstate.specs.Queries.{is_at_limit}
+use Rattle.osstate.specs.Readings.{is_own, knows_started}
+use Rattle.oscall.specs.declared.returning.Answer.{Answer}
+use Rattle.oscall.specs.Border.{answer_to, border_checks, calls, core_of_call, crosses, effect_of, replies, reports_served, returns_with, serves_action, serves_request}
+use Rattle.oscall.specs.Checks.{Check, first_failing, is_ok_status}
+use Rattle.oscall.specs.Operations.{operates}
+use Rattle.oscall.specs.Returning.{answers, asks, queues, reports, returns}
+use Rattle.oscall.specs.Tasks.{activates, ends, ends_unasked, termination_checks}
+
+-- Which cores one asks, or answers: every one, and none.
+abbrev pub anybody : CoreId → Bool
+anybody core = true
+
+abbrev pub nobody : CoreId → Bool
+nobody core = false
+
+-- The core of each object that an operation names is the own core, or one that may be asked.
+abbrev pub IsAllowed : View → (CoreId → Bool) → Op → Type 0
+IsAllowed v may op = list_all (λ (object : Object). is_own v object.place.core || may object.place.core) (objects_of op) ≡ true
+
+-- What a core sees that differs only in who is the master and which cores there are.
+abbrev pub seen_as : View → Bool → List CoreId → View
+seen_as v master ids = record v { is_master = master; cores = ids }
+
+-- The readings that services look at are the same.
+pub record ServesSame (v : View) (may : CoreId → Bool) (h k : History) : Type 0 where
+  pub started : (core : CoreId) → (is_own v core || may core) ≡ true → knows_started h core ≡ knows_started k core
+  pub limit : (t : TaskRef) → is_at_limit v t h ≡ is_at_limit v t k
+
+-- A mark, or a note of the core itself: neither an item nor what goes to another core.
+abbrev pub is_local : Entry → Bool
+is_local (Took item) = false
+is_local (Noted (Opened call)) = false
+is_local (Noted (Queued core envelope)) = false
+is_local entry = true
+
+-- A relation of histories that each kind of entry keeps which a service may add: one of the core itself, an envelope
+-- to a core that may be asked, a reply to one that may be answered, and a call that is open there. Where it holds,
+-- services read the same.
+pub record IsKept (v : View) (may answered : CoreId → Bool) (R : History → History → Type 0) : Type 0 where
+  pub local : (e : Entry) (h k : History) → is_local e ≡ true → R h k → R (e ∷ h) (e ∷ k)
+  pub asked : (core : CoreId) (message : Message) (h k : History) → may core ≡ true → R h k → R (queues core message h) (queues core message k)
+  pub replied : (core : CoreId) (s : Status) (value : Option ℤ) (h k : History) → answered core ≡ true → R h k → R (queues core (Message.Reply s value) h) (queues core (Message.Reply s value) k)
+  pub opened : (call : OpenCall) (h k : History) → may call.core ≡ true → R h k → R (Noted (Opened call) ∷ h) (Noted (Opened call) ∷ k)
+  pub reads : (h k : History) → R h k → ServesSame v may h k
+
+-- Each function of a service carries such a relation: related before, related after. The second history is that of a
+-- core that sees another master and other cores.
+module _ (v : View) (master : Bool) (ids : List CoreId) (may answered : CoreId → Bool) (R : History → History → Type 0) (kept : IsKept v may answered R) where
+  abbrev other : View
+  other = seen_as v master ids
+
+  -- ---- the parts of a service
+
+  pub either-carried : (b : Bool) (h h' k k' : History) → R h k → R h' k' → R (cond b h h') (cond b k k')
+  either-carried true h h' k k' p q = p
+  either-carried false h h' k k' p q = q
+
+  pub printed-carried : (m : Mark) (h k : History) → R h k → R (Printed m ∷ h) (Printed m ∷ k)
+  printed-carried m h k p = kept.local (Printed m) h k refl p
+
+  reports-carried : (s : Status) (h k : History) → R h k → R (reports s h) (reports s k)
+  reports-carried s h k p = either-carried (is_ok_status s) h _ k _ p (printed-carried (Mark.ErrorHook s) h k p)
+
+  pub returns-carried : (r : Runner) (service : ServiceId) (s : Status) (value : Option ℤ) (h k : History) → R h k → R (returns r service s value h) (returns r service s value k)
+  returns-carried r service s value h k p =
+      kept.local (Noted (Done r s value)) _ _ refl (reports-carried s _ _ (printed-carried (Mark.ServiceReturned r service s value) h k p))
+
+  asks-carried : (r : Runner) (service : ServiceId) (core : CoreId) (call : RemoteCall) (h k : History) → may core ≡ true → R h k → R (asks r service core call h) (asks r service core call k)
+  asks-carried r service core call h k allowed p =
+      kept.opened _ _ _ allowed (kept.asked core (Message.Request call) _ _ allowed (printed-carried (Mark.CallQueued core call) h k p))
+
+  ends-carried : (r : Runner) (h k : History) → R h k → R (ends r h) (ends r k)
+  ends-carried (Runner.Task t) h k p = printed-carried _ _ _ (printed-carried _ h k p)
+  ends-carried (Runner.Isr i) h k p = printed-carried _ h k p
+
+  pub ends_unasked-carried : (r : Runner) (h k : History) → R h k → R (ends_unasked r h) (ends_unasked r k)
+  ends_unasked-carried (Runner.Task t) h k p = ends-carried (Runner.Task t) _ _ (printed-carried _ h k p)
+  ends_unasked-carried (Runner.Isr i) h k p = ends-carried (Runner.Isr i) h k p
+
+  -- A service whose checks come to the same status, and whose effect carries the relation.
+  answers-carried : (r : Runner) (service : ServiceId) (checks checks' : List Check) → first_failing checks ≡ first_failing checks' → (does does' : History → History) (h k : History) → R h k → R (does h) (does' k) → R (answers r service checks does h) (answers r service checks' does' k)
+  answers-carried r service checks checks' same does does' h k p q =
+      subst (λ (s : Status). R (answers r service checks does h) (cond (is_ok_status s) (does' k) (returns r service s None k))) same
+      (either-carried (is_ok_status (first_failing checks)) (does h) _ (does' k) _ q (returns-carried r service (first_failing checks) None h k p))
+
+  -- ---- one fact for each call that is served
+
+  answer-same : (call : RemoteCall) (h k : History) → R h k → answer_to call v h ≡ answer_to call other k
+  answer-same (Remote.ActivateTask t) h k p =
+      ap (λ (b : Bool). let answer : Answer = record { status = first_failing ((b, Status.EOsLimit) ∷ []); value = cond (is_ok_status (first_failing ((b, Status.EOsLimit) ∷ []))) None None } in Some answer) ((kept.reads h k p).limit t)
+  answer-same call h k p = refl
+
+  effect-carried : (call : RemoteCall) (h k : History) → R h k → R (effect_of call v h) (effect_of call other k)
+  effect-carried (Remote.ActivateTask t) h k p =
+      subst (λ (b : Bool). R (effect_of (Remote.ActivateTask t) v h) (cond (is_ok_status (first_failing ((b, Status.EOsLimit) ∷ []))) (activates t k) k)) ((kept.reads h k p).limit t)
+      (either-carried (is_ok_status (first_failing ((is_at_limit v t h, Status.EOsLimit) ∷ []))) (activates t h) h (activates t k) k (printed-carried _ h k p) p)
+  effect-carried call h k p = p
+
+  -- ---- calls across cores
+
+  -- A function of the answer and of the history with the effect, which carries the relation for each answer.
+  answered-carried : (f f' : Option Answer → History → History) → ((answer : Option Answer) (h k : History) → R h k → R (f answer h) (f' answer k)) → (call : RemoteCall) (h k : History) → R h k → R (f (answer_to call v h) (effect_of call v h)) (f' (answer_to call other k) (effect_of call other k))
+  answered-carried f f' carries call h k p =
+      subst (λ (answer : Option Answer). R (f (answer_to call v h) (effect_of call v h)) (f' answer (effect_of call other k))) (answer-same call h k p)
+      (carries (answer_to call v h) _ _ (effect-carried call h k p))
+
+  returns_with-carried : (r : Runner) (service : ServiceId) (answer : Option Answer) (h k : History) → R h k → R (returns_with r service answer h) (returns_with r service answer k)
+  returns_with-carried r service None h k p = p
+  returns_with-carried r service (Some answer) h k p = returns-carried r service answer.status answer.value h k p
+
+  crosses-carried : (r : Runner) (service : ServiceId) (call : RemoteCall) (h k : History) → (is_own v (core_of_call call) || may (core_of_call call)) ≡ true → R h k → R (crosses v r service (Some call) h) (crosses other r service (Some call) k)
+  crosses-carried r service call h k allowed p = by (is_own v (core_of_call call)) allowed
+    where
+      by : (b : Bool) → (b || may (core_of_call call)) ≡ true
+          → R (cond b (returns_with r service (answer_to call v h) (effect_of call v h)) (asks r service (core_of_call call) call h)) (cond b (returns_with r service (answer_to call other k) (effect_of call other k)) (asks r service (core_of_call call) call k))
+      by true m = answered-carried (returns_with r service) (returns_with r service) (returns_with-carried r service) call h k p
+      by false m = asks-carried r service (core_of_call call) call h k m p
+
+  -- The core of a call's object is the own core, or one that may be asked.
+  abbrev MayCall : Option RemoteCall → Type 0
+  MayCall None = Unit {0}
+  MayCall (Some call) = (is_own v (core_of_call call) || may (core_of_call call)) ≡ true
+
+  calls-carried : (r : Runner) (service : ServiceId) (target : Option RemoteCall) (h k : History) → MayCall target → R h k → R (calls v r service target h) (calls other r service target k)
+  calls-carried r service None h k allowed p = returns-carried r service Status.EOsId None h k p
+  calls-carried r service (Some call) h k allowed p =
+      answers-carried r service (border_checks (Some call) h) (border_checks (Some call) k) (ap (λ (b : Bool). first_failing ((false, Status.EOsId) ∷ (not b, Status.EOsCore) ∷ [])) ((kept.reads h k p).started (core_of_call call) allowed))
+      (crosses v r service (Some call)) (crosses other r service (Some call)) h k p (crosses-carried r service call h k allowed p)
+
+  replies-carried : (from : CoreId) (call : RemoteCall) → answered from ≡ true → (answer : Option Answer) (h k : History) → R h k → R (replies from call answer h) (replies from call answer k)
+  replies-carried from call may_answer None h k p = p
+  replies-carried from call may_answer (Some answer) h k p = kept.replied from answer.status answer.value _ _ may_answer (printed-carried _ h k p)
+
+  pub request-carried : (from : CoreId) (call : RemoteCall) (h k : History) → answered from ≡ true → R h k → R (serves_request v from call h) (serves_request other from call k)
+  request-carried from call h k may_answer p = answered-carried (replies from call) (replies from call) (replies-carried from call may_answer) call h k p
+
+  reports_served-carried : (from : CoreId) (call : RemoteCall) (answer : Option Answer) (h k : History) → R h k → R (reports_served from call answer h) (reports_served from call answer k)
+  reports_served-carried from call None h k p = p
+  reports_served-carried from call (Some answer) h k p = reports-carried answer.status _ _ (printed-carried _ h k p)
+
+  pub action-carried : (from : CoreId) (call : RemoteCall) (h k : History) → R h k → R (serves_action v from call h) (serves_action other from call k)
+  action-carried from call h k p = answered-carried (reports_served from call) (reports_served from call) (reports_served-carried from call) call h k p
+
+  -- ---- one fact for each operation
+
+  abbrev Carried : Op → Type 0
+  Carried op = (r : Runner) (h k : History) → IsAllowed v may op → R h k → R (operates v r op h) (operates other r op k)
+
+  work-carried : Carried Work
+  work-carried r h k allowed p = kept.local (Noted (Done r Status.EOk None)) h k refl p
+
+  activate-carried : (target : Option TaskRef) → Carried (ActivateTask target)
+  activate-carried None r h k allowed p = calls-carried r ServiceId.ActivateTask None h k tt p
+  activate-carried (Some t) r h k allowed p = calls-carried r ServiceId.ActivateTask (Some (Remote.ActivateTask t)) h k (and_parts _ true allowed).0 p
+
+  terminate-carried : Carried TerminateTask
+  terminate-carried r h k allowed p = answers-carried r ServiceId.TerminateTask (termination_checks r) (termination_checks r) refl (ends r) (ends r) h k p (ends-carried r h k p)
+
+  pub operates-carried : (op : Op) → Carried op
+  operates-carried Work = work-carried
+  operates-carried (ActivateTask target) = activate-carried target
+  operates-carried TerminateTask = terminate-carried

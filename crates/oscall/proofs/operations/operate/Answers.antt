@@ -1,0 +1,19 @@
+use Rattle.std.proofs.Common.{◌≡◌, true, Option, Some, None, IfSome, IsTrue, option_map, rules, subst, sym}
+use Rattle.std.proofs.lemmas.Bool.{and_parts}
+use Rattle.osbase.specs.declared.references.TaskRef.{TaskRef}
+use Rattle.osbase.specs.declared.messages.RemoteCall.{RemoteCall}
+use Rattle.osbase.specs.declared.messages.RemoteCall.TheVariants as Remote
+use Rattle.oscript.specs.declared.Op.{Op}
+use Rattle.osplan.specs.declared.plans.Core.{Core}
+use Rattle.osstate.specs.Sound.{has_objects_of}
+use Rattle.oscall.specs.Border.{is_known_call}
+use Rattle.oscall.proofs.operations.operate.Goals as goal
+
+known : (core : Core) (target : Option TaskRef) → has_objects_of core (Op.ActivateTask target) ≡ true → IfSome (option_map Remote.ActivateTask target) (λ call. IsTrue (is_known_call core call))
+known core None h = tt
+known core (Some t) h = (and_parts _ true h).0
+
+pub call-requires : goal.call-requires
+call-requires g c =
+    let named : has_objects_of c.args.state.now.view.own (Op.ActivateTask c.in-ActivateTask.target) ≡ true = subst (λ (op : Op). has_objects_of c.args.state.now.view.own op ≡ true) c.in-ActivateTask.is c.requires.known in
+    (search rules, (search rules, (subst (λ (o : Option RemoteCall). IfSome o (λ call. IsTrue (is_known_call c.args.state.now.view.own call))) (sym c.activation_of-target.ensures) (known c.args.state.now.view.own c.in-ActivateTask.target named), search rules)))

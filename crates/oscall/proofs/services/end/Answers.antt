@@ -1,5 +1,0 @@
-use Rattle.osstate.proofs.Effecting.{then}
-use Rattle.oscall.proofs.services.end.Goals as goal
-
-pub returns : goal.returns
-returns g c = rw c.in-Task.is (then c.leave.ensures.effects c.terminate.ensures.effects)

@@ -1,0 +1,46 @@
+-- The services of tasks.
+use Rattle.std.specs.Prelude.{Bool, true, false, List, [], ◌∷◌}
+use Rattle.osbase.specs.declared.statuses.Status.TheVariants.{EOsCallevel, EOsLimit, EOsMissingend}
+use Rattle.osbase.specs.declared.statuses.ServiceId.TheVariants as ServiceId
+use Rattle.osbase.specs.declared.references.TaskRef.{TaskRef}
+use Rattle.osbase.specs.declared.references.Runner.{Runner}
+use Rattle.osbase.specs.declared.marks.Mark.TheVariants as Mark
+use Rattle.osbase.specs.History.{History}
+use Rattle.osplan.specs.View.{View}
+use Rattle.osstate.specs.Queries.{is_at_limit}
+use Rattle.oscall.specs.Checks.{Check}
+use Rattle.oscall.specs.Returning.{answers, prints}
+use Rattle.oscall.specs.Service.{Service, no_value}
+
+-- A job of the task begins. [OSEK/VDX OS 2.2.3, section 4.3]
+abbrev pub activates : TaskRef → History → History
+activates t h = prints (Mark.Activated t) h
+
+-- A task is activated where it stands: no more jobs than allowed. [OSEK/VDX OS 2.2.3, section 13.2.3.1]
+abbrev pub activation_checks : TaskRef → View → History → List Check
+activation_checks t v h = (is_at_limit v t h, EOsLimit) ∷ []
+
+abbrev pub activation : TaskRef → Service
+activation t = record { checks = activation_checks t; effect = activates t; value = no_value }
+
+-- The runner's oldest job ends by its own act: PostTaskHook comes first. [OSEK/VDX OS 2.2.3, section 11.5]
+abbrev pub ends : Runner → History → History
+ends (Runner.Task t) h = prints (Mark.Terminated t) (prints (Mark.PostTaskHook t) h)
+ends (Runner.Isr i) h = prints (Mark.IsrLeft i) h
+
+-- A job that comes to the end of its script: a task is ended by the OS with E_OS_MISSINGEND.
+-- [AUTOSAR SWS OS 4.x, SWS_Os_00069, SWS_Os_00052]
+abbrev pub ends_unasked : Runner → History → History
+ends_unasked (Runner.Task t) h = ends (Runner.Task t) (prints (Mark.ErrorHook EOsMissingend) h)
+ends_unasked (Runner.Isr i) h = ends (Runner.Isr i) h
+
+-- A job ends itself: for tasks only. [OSEK/VDX OS 2.2.3, section 13.2.3.2]
+abbrev pub is_isr : Runner → Bool
+is_isr (Runner.Task t) = false
+is_isr (Runner.Isr i) = true
+
+abbrev pub termination_checks : Runner → List Check
+termination_checks r = (is_isr r, EOsCallevel) ∷ []
+
+abbrev pub terminates : Runner → History → History
+terminates r h = answers r ServiceId.TerminateTask (termination_checks r) (ends r) h

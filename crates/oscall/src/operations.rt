@@ -1,0 +1,47 @@
+//! The operations of a running job.
+
+ghost use Rattle.std.specs.Prelude.{◌≡◌, ◌<◌, IsTrue, false, length, option_map};
+ghost use Rattle.osbase.specs.History.{job_count};
+ghost use Rattle.osbase.specs.Phases.{is_before_live};
+ghost use Rattle.osstate.specs.Does.{Effects, HasRoom, service_entries, service_marks};
+ghost use Rattle.osstate.specs.Sound.{is_current, has_objects_of, is_own_runner};
+ghost use Rattle.oscall.specs.Operations.{operates};
+
+use crate::border::call;
+use crate::tasks::terminate;
+use osbase::{Mark, RemoteCall, Runner, ServiceId, Status, TaskRef};
+use oscript::Op;
+use osstate::CoreState;
+
+/// One operation of the running job of one of the core's tasks.
+pub fn operate<const P: usize, const J: usize, const OUT: usize>(
+    state: &mut CoreState<'_, P, J, OUT>,
+    runner: Runner,
+    op: Op,
+    marks: &mut Vec<Mark>,
+)
+    requires own { IsTrue (is_own_runner state.old.view.own runner) }
+    requires job { 0 < job_count runner state.old.tasks.jobs }
+    requires current { IsTrue (is_current state.old.tasks.current runner) }
+    requires known { IsTrue (has_objects_of state.old.view.own op) }
+    requires live { is_before_live state.old.progress.phase ≡ false }
+    requires outbox { length state.old.border.outbox < OUT }
+    requires room { HasRoom service_entries service_marks state.old marks.old }
+    ensures { Effects service_entries service_marks (λ v h. operates v runner op h) state.old state.new marks.old marks.new }
+{
+    match op {
+        Op::Work => state.complete(runner, Status::EOk, None),
+        Op::ActivateTask(target) => {
+            let target = activation_of(target);
+            call(state, runner, ServiceId::ActivateTask, target, marks);
+        }
+        Op::TerminateTask => terminate(state, runner, marks),
+    }
+}
+
+// The call that ActivateTask of this task is; the invalid identifier is for none.
+fn activation_of(target: Option<TaskRef>) -> Option<RemoteCall>
+    ensures { result ≡ option_map RemoteCall.ActivateTask target }
+{
+    Some(RemoteCall::ActivateTask(target?))
+}

@@ -1,0 +1,104 @@
+//! The services of tasks.
+
+ghost use Rattle.std.specs.Prelude.{◌≡◌, ◌<◌, IsTrue, false};
+ghost use Rattle.osbase.specs.History.{job_count};
+ghost use Rattle.osbase.specs.Phases.{is_before_live};
+ghost use Rattle.osstate.specs.Does.{Effects, HasRoom, Reads};
+ghost use Rattle.osstate.specs.Sound.{is_current, is_own_runner};
+ghost use Rattle.oscall.specs.Service.{answer_by, effect_by};
+ghost use Rattle.oscall.specs.Tasks.{activation, ends, ends_unasked, terminates};
+
+use crate::returning::Answer;
+use osbase::{Mark, Runner, Status, TaskRef};
+use osstate::CoreState;
+
+/// A task is activated where it stands, which is where the number of its live jobs is known
+/// (OSEK/VDX OS 2.2.3, section 13.2.3.1). A task with as many jobs as it may have answers E_OS_LIMIT, and
+/// nothing is activated.
+pub fn activate<const P: usize, const J: usize, const OUT: usize>(
+    state: &mut CoreState<'_, P, J, OUT>,
+    task: TaskRef,
+    marks: &mut Vec<Mark>,
+) -> Answer
+    requires own { IsTrue (is_own_runner state.old.view.own (Runner.Task task)) }
+    requires live { is_before_live state.old.progress.phase ≡ false }
+    requires room { HasRoom 1 1 state.old marks.old }
+    ensures answer { Reads (λ v h. answer_by (activation task) v h) state.old result }
+    ensures effects { Effects 1 1 (λ v h. effect_by (activation task) v h) state.old state.new marks.old marks.new }
+    ensures border { state.new.border ≡ state.old.border }
+{
+    if state.is_at_limit(task) {
+        return Answer {
+            status: Status::EOsLimit,
+            value: None,
+        };
+    }
+    state.activate(task, marks);
+    Answer {
+        status: Status::EOk,
+        value: None,
+    }
+}
+
+/// The oldest job of one of the core's tasks ends by its own act: PostTaskHook comes first
+/// (OSEK/VDX OS 2.2.3, section 11.5).
+pub fn end<const P: usize, const J: usize, const OUT: usize>(
+    state: &mut CoreState<'_, P, J, OUT>,
+    runner: Runner,
+    marks: &mut Vec<Mark>,
+)
+    requires own { IsTrue (is_own_runner state.old.view.own runner) }
+    requires job { 0 < job_count runner state.old.tasks.jobs }
+    requires current { IsTrue (is_current state.old.tasks.current runner) }
+    requires room { HasRoom 2 2 state.old marks.old }
+    ensures { Effects 2 2 (λ v h. ends runner h) state.old state.new marks.old marks.new }
+{
+    match runner {
+        Runner::Task(task) => {
+            state.leave(task, marks);
+            state.terminate(task, marks);
+        }
+        Runner::Isr(_) => unreachable!(),
+    }
+}
+
+/// A job of one of the core's tasks that comes to the end of its script: the OS ends it with
+/// E_OS_MISSINGEND (AUTOSAR SWS OS 4.x, SWS_Os_00052 and SWS_Os_00069).
+pub fn end_unasked<const P: usize, const J: usize, const OUT: usize>(
+    state: &mut CoreState<'_, P, J, OUT>,
+    runner: Runner,
+    marks: &mut Vec<Mark>,
+)
+    requires own { IsTrue (is_own_runner state.old.view.own runner) }
+    requires job { 0 < job_count runner state.old.tasks.jobs }
+    requires current { IsTrue (is_current state.old.tasks.current runner) }
+    requires room { HasRoom 3 3 state.old marks.old }
+    ensures { Effects 3 3 (λ v h. ends_unasked runner h) state.old state.new marks.old marks.new }
+{
+    match runner {
+        Runner::Task(_) => {
+            state.print(Mark::ErrorHook(Status::EOsMissingend), marks);
+            end(state, runner, marks);
+        }
+        Runner::Isr(_) => unreachable!(),
+    }
+}
+
+/// A running job of one of the core's tasks ends itself, which has no check that could fail
+/// (OSEK/VDX OS 2.2.3, section 13.2.3.2).
+pub fn terminate<const P: usize, const J: usize, const OUT: usize>(
+    state: &mut CoreState<'_, P, J, OUT>,
+    runner: Runner,
+    marks: &mut Vec<Mark>,
+)
+    requires own { IsTrue (is_own_runner state.old.view.own runner) }
+    requires job { 0 < job_count runner state.old.tasks.jobs }
+    requires current { IsTrue (is_current state.old.tasks.current runner) }
+    requires room { HasRoom 2 2 state.old marks.old }
+    ensures { Effects 2 2 (λ v h. terminates runner h) state.old state.new marks.old marks.new }
+{
+    match runner {
+        Runner::Task(_) => end(state, runner, marks),
+        Runner::Isr(_) => unreachable!(),
+    }
+}

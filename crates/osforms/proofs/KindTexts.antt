@@ -1,0 +1,273 @@
+-- Each kind of argument: its text, once for each kind.
+use Rattle.std.proofs.Common.{rules, inl, inr, ◌≡◌, ℕ, zero, suc, ◌-◌, ◌+◌, ◌⊎◌, lit<, ◌≤◌, ◌<◌, ◌^◌, ◌==◌, ◌&&◌, ◌||◌, ℤ, pos, negsuc, Bool, true, false, not, cond, nat_le, Option, Some, None, option_map, List, [], ◌∷◌, length, get_or, codes, refl, sym, ap, ◌∙◌, arith}
+use Rattle.std.specs.Char.{is_ascii_digit, is_ascii_alphabetic}
+use Rattle.std.specs.Fmt.{decimal, signed_decimal}
+use Rattle.std.specs.Int.{is_in_range}
+use Rattle.std.specs.List.{list_all}
+use Rattle.std.specs.Str.{bytes_eq}
+use Rattle.std.specs.Str.Parse.{digits_value}
+use Rattle.std.proofs.lemmas.Bool.{and_parts, and_from, not_from_false, cases_Bool, true≢false}
+use Rattle.std.proofs.lemmas.Fmt.{decimal_digit, decimal_nonempty, first_decimal, decimal-digits_value, digits_decimal, digits_value-decimal}
+use Rattle.std.proofs.lemmas.Slice.Eq.{bytes_eq-Decides}
+use Rattle.std.proofs.lemmas.Grind.{common_steps}
+use Rattle.oscript.specs.declared.rows.Kind.{Kind}
+use Rattle.oscript.specs.declared.rows.Kind.TheVariants as Kind
+use Rattle.osbase.specs.declared.objects.ObjectKind.{ObjectKind}
+use Rattle.oscript.specs.declared.rows.Arg.{Arg}
+use Rattle.oscript.specs.declared.rows.Arg.TheVariants.{Object, Number, Int, Variable}
+use Rattle.osbase.specs.Names.{is_name, is_name_part}
+use Rattle.osforms.specs.Word.{is_unpadded, is_decimal, bounded, number_in, int_of, variable_of, target_of}
+use Rattle.osforms.specs.Form.{arg_of, arg_text}
+use Rattle.osforms.proofs.Numerals.{own, int_of-plain, decimal-digits, decimal-some}
+use Rattle.osforms.proofs.Joining.{has_none, not-byte, all-none}
+
+-- ---- tests and options
+
+pub cond-some : {A : Type 0} (b : Bool) (x : Option A) (y : A) → cond b x None ≡ Some y → (b ≡ true) × (x ≡ Some y)
+cond-some true x y e = (refl, e)
+cond-some false x y e = cc
+
+pub mapped : {A B : Type 0} (f : A → B) (o : Option A) (b : B) → option_map f o ≡ Some b → (a : A) × (o ≡ Some a) × (f a ≡ b)
+mapped f None b e = cc
+mapped f (Some a) b e = (a, refl, cc)
+
+-- A byte that no argument has.
+pub record IsApart (byte : ℕ) : Type 0 where
+  pub digit : is_ascii_digit byte ≡ false
+  pub part : is_name_part byte ≡ false
+  pub minus : (45 == byte) ≡ false
+  pub invalid : (63 == byte) ≡ false
+  pub letter : (118 == byte) ≡ false
+
+-- ---- numbers
+
+pub record IsNumber (low high : ℕ) (word : List ℕ) (n : ℕ) : Type 0 where
+  pub decimals : is_decimal word ≡ true
+  pub value : digits_value 10 word ≡ n
+  pub least : low ≤ n
+  pub most : n ≤ high
+
+pub number-parts : (low high : ℕ) (word : List ℕ) (n : ℕ) → number_in low high word ≡ Some n → IsNumber low high word n
+number-parts low high word n e =
+    let p = cond-some (is_decimal word) (bounded low high (digits_value 10 word)) n e in
+    let q = cond-some (nat_le low (digits_value 10 word) && nat_le (digits_value 10 word) high) (Some (digits_value 10 word)) n p.1 in
+    let r = and_parts (nat_le low (digits_value 10 word)) (nat_le (digits_value 10 word) high) q.0 in
+    let v : digits_value 10 word ≡ n = cc in
+    record { decimals = p.0; value = v; least = rw (← v) (search (rules, r.0)); most = rw (← v) (search (rules, r.1)) }
+
+unpadded-lone : (word : List ℕ) → is_unpadded word ≡ true → get_or word 0 0 ≡ 48 → length word ≡ 1
+unpadded-lone [] u z = cc
+unpadded-lone (d ∷ []) u z = refl
+unpadded-lone (d ∷ e ∷ es) u z = let f : not (48 == 48) ≡ true = ap (λ x. not (x == 48)) (sym z) ∙ u in cc
+
+pub number-text : (low high : ℕ) (word : List ℕ) (n : ℕ) → high < 2 ^ 64 → number_in low high word ≡ Some n → decimal n ≡ word
+number-text low high word n lt e =
+    let p = number-parts low high word n e in
+    let short : digits_value 10 word < 2 ^ 64 = omega (arith, p.value, p.most) in
+    ap decimal (sym p.value) ∙ decimal-digits_value own word (decimal-digits word p.decimals) (decimal-some word p.decimals) (unpadded-lone word (and_parts (is_unpadded word) _ p.decimals).0) short
+
+number-none : (byte low high : ℕ) (word : List ℕ) (n : ℕ) → IsApart byte → number_in low high word ≡ Some n → has_none byte word ≡ true
+number-none byte low high word n apart e = all-none is_ascii_digit byte word apart.digit (decimal-digits word (number-parts low high word n e).decimals)
+
+-- ---- signed numbers
+
+-- whichever way it is read
+pub data IsInt (z : ℤ) (word : List ℕ) : Type 0 where
+  below : (n : ℕ) (digits : List ℕ) → word ≡ 45 ∷ digits → number_in 1 9223372036854775808 digits ≡ Some n → negsuc (n - 1) ≡ z → IsInt z word
+  plain : (n : ℕ) → number_in 0 9223372036854775807 word ≡ Some n → pos n ≡ z → IsInt z word
+
+either : {A : Type 0} (b : Bool) (x y : Option A) (z : A) → cond b x y ≡ Some z → ((b ≡ true) × (x ≡ Some z)) ⊎ ((b ≡ false) × (y ≡ Some z))
+either true x y z e = inl (refl, e)
+either false x y z e = inr (refl, e)
+
+int-parts : (word : List ℕ) (z : ℤ) → int_of word ≡ Some z → IsInt z word
+int-parts [] z e = cc
+int-parts (c ∷ cs) z e =
+    elim (either (c == 45) (option_map (λ n. negsuc (n - 1)) (number_in 1 9223372036854775808 cs)) (option_map (λ n. pos n) (number_in 0 9223372036854775807 (c ∷ cs))) z e) as (λ _. IsInt z (c ∷ cs)) [
+      | inl p ↦
+          let m = mapped (λ n. negsuc (n - 1)) (number_in 1 9223372036854775808 cs) z p.1 in
+          let is : c ≡ 45 = search (rules, p.0) in
+          below m.0 cs (ap (λ x. x ∷ cs) is) m.1 m.2
+      | inr p ↦
+          let m = mapped (λ n. pos n) (number_in 0 9223372036854775807 (c ∷ cs)) z p.1 in
+          plain m.0 m.1 m.2
+    ]
+
+is-int-text : (word : List ℕ) (z : ℤ) → IsInt z word → signed_decimal z ≡ word
+is-int-text word z (below n digits is e same) =
+    let p = number-parts 1 9223372036854775808 digits n e in
+    let least : 1 ≤ n = p.least in
+    let whole : suc (n - 1) ≡ n = omega arith in
+    ap signed_decimal (sym same) ∙ ap (λ m. 45 ∷ decimal m) whole ∙ ap (λ ds. 45 ∷ ds) (number-text 1 9223372036854775808 digits n (lit< tt) e) ∙ sym is
+is-int-text word z (plain n e same) = ap signed_decimal (sym same) ∙ number-text 0 9223372036854775807 word n (lit< tt) e
+
+is-int-none : (byte : ℕ) (word : List ℕ) (z : ℤ) → IsApart byte → IsInt z word → has_none byte word ≡ true
+is-int-none byte word z apart (below n digits is e same) = ap (has_none byte) is ∙ and_from _ _ (not_from_false _ apart.minus) (number-none byte 1 9223372036854775808 digits n apart e)
+is-int-none byte word z apart (plain n e same) = number-none byte 0 9223372036854775807 word n apart e
+
+-- ---- variables
+
+variable-text : (word : List ℕ) (x : ℕ) → variable_of word ≡ Some x → 118 ∷ (48 + x) ∷ [] ≡ word
+variable-text [] x e = cc
+variable-text (v ∷ []) x e = cc
+variable-text (v ∷ d ∷ []) x e =
+    let p = cond-some (v == 118 && (nat_le 48 d && nat_le d 55)) (Some (d - 48)) x e in
+    let q = and_parts (v == 118) (nat_le 48 d && nat_le d 55) p.0 in
+    let r = and_parts (nat_le 48 d) (nat_le d 55) q.1 in
+    let letter : 118 ≡ v = search (rules, q.0) in
+    let least : 48 ≤ d = search (rules, r.0) in
+    let value : d - 48 ≡ x = cc in
+    let digit : 48 + x ≡ d = omega arith in
+    cc
+variable-text (v ∷ d ∷ e ∷ es) x is = cc
+
+variable-most : (word : List ℕ) (x : ℕ) → variable_of word ≡ Some x → x ≤ 7
+variable-most [] x e = cc
+variable-most (v ∷ []) x e = cc
+variable-most (v ∷ d ∷ []) x e =
+    let p = cond-some (v == 118 && (nat_le 48 d && nat_le d 55)) (Some (d - 48)) x e in
+    let q = and_parts (v == 118) (nat_le 48 d && nat_le d 55) p.0 in
+    let r = and_parts (nat_le 48 d) (nat_le d 55) q.1 in
+    let most : d ≤ 55 = search (rules, r.1) in
+    let value : d - 48 ≡ x = cc in
+    omega arith
+variable-most (v ∷ d ∷ e ∷ es) x is = cc
+
+variable-decimal : (word : List ℕ) (x : ℕ) → variable_of word ≡ Some x → 118 ∷ decimal x ≡ word
+variable-decimal word x e =
+    let most = variable-most word x e in
+    ap (λ ds. 118 ∷ ds) (decimal_digit x (omega (arith, most))) ∙ variable-text word x e
+
+variable-none : (byte : ℕ) (word : List ℕ) (x : ℕ) → IsApart byte → variable_of word ≡ Some x → has_none byte word ≡ true
+variable-none byte word x apart e =
+    let most = variable-most word x e in
+    let digit : is_ascii_digit (48 + x) ≡ true = search (rules, common_steps) in
+    ap (has_none byte) (sym (variable-text word x e)) ∙ and_from _ _ (not_from_false _ apart.letter) (and_from _ _ (not-byte is_ascii_digit byte (48 + x) apart.digit digit) refl)
+
+-- ---- names
+
+target-text : (k : ObjectKind) (word : List ℕ) (t : Option (List ℕ)) → target_of word ≡ Some t → arg_text (Object k t) ≡ word
+target-text k word t e =
+    elim (either (bytes_eq word (codes "?")) (Some None) (cond (is_name word) (Some (Some word)) None) t e) as (λ _. arg_text (Object k t) ≡ word) [
+      | inl p ↦
+          let is : word ≡ codes "?" = (bytes_eq-Decides word (codes "?")).0 p.0 in
+          let none : None ≡ t = cc in
+          ap (λ x. arg_text (Object k x)) (sym none) ∙ sym is
+      | inr p ↦
+          let some : Some word ≡ t = let q = cond-some (is_name word) (Some (Some word)) t p.1 in cc in
+          ap (λ x. arg_text (Object k x)) (sym some)
+    ]
+
+letter-part : (d u l x : Bool) → (u || l) ≡ true → (((d || u) || l) || x) ≡ true
+letter-part true u l x e = refl
+letter-part false true l x e = refl
+letter-part false false true x e = refl
+letter-part false false false x e = cc
+
+name-parts : (word : List ℕ) → is_name word ≡ true → list_all is_name_part word ≡ true
+name-parts [] e = cc
+name-parts (c ∷ cs) e =
+    let p = and_parts (is_ascii_alphabetic c && nat_le (length cs) 127) (list_all is_name_part cs) e in
+    let q = and_parts (is_ascii_alphabetic c) (nat_le (length cs) 127) p.0 in
+    let first : is_name_part c ≡ true = letter-part (is_in_range 48 57 c) (is_in_range 65 90 c) (is_in_range 97 122 c) (c == 95) q.0 in
+    rw (first, p.1) refl
+
+target-none : (byte : ℕ) (word : List ℕ) (t : Option (List ℕ)) → IsApart byte → target_of word ≡ Some t → has_none byte word ≡ true
+target-none byte word t apart e =
+    elim (either (bytes_eq word (codes "?")) (Some None) (cond (is_name word) (Some (Some word)) None) t e) as (λ _. has_none byte word ≡ true) [
+      | inl p ↦ ap (has_none byte) ((bytes_eq-Decides word (codes "?")).0 p.0) ∙ and_from _ _ (not_from_false _ apart.invalid) refl
+      | inr p ↦ all-none is_name_part byte word apart.part (name-parts word (cond-some (is_name word) (Some (Some word)) t p.1).0)
+    ]
+
+-- ---- any kind
+
+-- the limits of a kind fit
+abbrev pub is_kind : Kind → Bool
+is_kind (Kind.Object k) = true
+is_kind (Kind.Number low high) = nat_le high 4294967295
+is_kind Kind.Int = true
+is_kind Kind.Variable = true
+
+-- what is read as an argument is that argument's text
+pub arg_of-text : (k : Kind) (word : List ℕ) (a : Arg (List ℕ)) → is_kind k ≡ true → arg_of k word ≡ Some a → arg_text a ≡ word
+arg_of-text (Kind.Object k) word a fits e = let m = mapped (Object k) (target_of word) a e in ap arg_text (sym m.2) ∙ target-text k word m.0 m.1
+arg_of-text (Kind.Number low high) word a fits e =
+    let m = mapped Number (number_in low high word) a e in
+    let most : high ≤ 4294967295 = search (rules, fits) in
+    ap arg_text (sym m.2) ∙ number-text low high word m.0 (omega arith) m.1
+arg_of-text Kind.Int word a fits e = let m = mapped Int (int_of word) a e in ap arg_text (sym m.2) ∙ is-int-text word m.0 (int-parts word m.0 m.1)
+arg_of-text Kind.Variable word a fits e = let m = mapped Variable (variable_of word) a e in ap arg_text (sym m.2) ∙ variable-decimal word m.0 m.1
+
+-- and has no byte that no argument has
+pub arg_of-none : (byte : ℕ) (k : Kind) (word : List ℕ) (a : Arg (List ℕ)) → IsApart byte → arg_of k word ≡ Some a → has_none byte word ≡ true
+arg_of-none byte (Kind.Object k) word a apart e = let m = mapped (Object k) (target_of word) a e in target-none byte word m.0 apart m.1
+arg_of-none byte (Kind.Number low high) word a apart e = let m = mapped Number (number_in low high word) a e in number-none byte low high word m.0 apart m.1
+arg_of-none byte Kind.Int word a apart e = let m = mapped Int (int_of word) a e in is-int-none byte word m.0 apart (int-parts word m.0 m.1)
+arg_of-none byte Kind.Variable word a apart e = let m = mapped Variable (variable_of word) a e in variable-none byte word m.0 apart m.1
+
+-- ---- which arguments read back
+
+-- the text of the argument is read as it
+abbrev pub ReadsBack : Kind → Arg (List ℕ) → Type 0
+ReadsBack k a = arg_of k (arg_text a) ≡ Some a
+
+pub invalid-back : (k : ObjectKind) → ReadsBack (Kind.Object k) (Object k None)
+invalid-back k = refl
+
+pub name-back : (k : ObjectKind) (name : List ℕ) → is_name name ≡ true → ReadsBack (Kind.Object k) (Object k (Some name))
+name-back k name named =
+    elim (cases_Bool (bytes_eq name (codes "?"))) as (λ _. ReadsBack (Kind.Object k) (Object k (Some name))) [
+      | inl same ↦ absurd (true≢false (sym named ∙ ap is_name ((bytes_eq-Decides name (codes "?")).0 same)))
+      | inr other ↦ rw (other, named) refl
+    ]
+
+unpadded-decimal : (n : ℕ) (word : List ℕ) → 0 < length word → (0 < n → 48 < get_or word 0 0) → (n ≡ 0 → length word ≡ 1) → is_unpadded word ≡ true
+unpadded-decimal n [] some first lone = absurd (omega arith)
+unpadded-decimal n (d ∷ []) some first lone = refl
+unpadded-decimal zero (d ∷ e ∷ es) some first lone = absurd (omega (arith, lone refl))
+unpadded-decimal (suc n) (d ∷ e ∷ es) some first lone =
+    elim (cases_Bool (d == 48)) as (λ _. not (d == 48) ≡ true) [
+      | inl same ↦
+          let is : d ≡ 48 = search (rules, same) in
+          let above : 48 < d = first (omega arith) in
+          absurd (omega arith)
+      | inr other ↦ rw other refl
+    ]
+
+pub number-back : (low high n : ℕ) → low ≤ n → n ≤ high → n < 2 ^ 64 → number_in low high (decimal n) ≡ Some n
+number-back low high n least most short =
+    let digits = digits_decimal own n short in
+    let value = digits_value-decimal own n short in
+    let unpadded : is_unpadded (decimal n) ≡ true = unpadded-decimal n (decimal n) (decimal_nonempty n short) (λ some. first_decimal n some short) (λ none. ap (λ m. length (decimal m)) none ∙ ap length (decimal_digit 0 (omega arith))) in
+    let low_test : nat_le low n ≡ true = search (rules, least) in
+    let high_test : nat_le n high ≡ true = search (rules, most) in
+    rw (unpadded, digits, value, low_test, high_test) refl
+
+variable-digit : (x : ℕ) → x ≤ 7 → variable_of (118 ∷ (48 + x) ∷ []) ≡ Some x
+variable-digit x most =
+    let low_test : nat_le 48 (48 + x) ≡ true = search (rules, common_steps) in
+    let high_test : nat_le (48 + x) 55 ≡ true = search (rules, common_steps) in
+    let value : 48 + x - 48 ≡ x = omega arith in
+    rw (low_test, high_test, value) refl
+
+pub variable-back : (x : ℕ) → x ≤ 7 → ReadsBack Kind.Variable (Variable x)
+variable-back x most = ap (λ ds. option_map Variable (variable_of (118 ∷ ds))) (decimal_digit x (omega arith)) ∙ ap (option_map Variable) (variable-digit x most)
+
+-- the limits of 64 bits
+abbrev pub is_int : ℤ → Bool
+is_int (pos n) = nat_le n 9223372036854775807
+is_int (negsuc n) = nat_le n 9223372036854775807
+
+minus-no-digit : (digits ys : List ℕ) → list_all is_ascii_digit digits ≡ true → digits ≡ 45 ∷ ys → ⊥
+minus-no-digit digits ys all is = let f : list_all is_ascii_digit (45 ∷ ys) ≡ true = ap (list_all is_ascii_digit) (sym is) ∙ all in cc
+
+pub int-back : (z : ℤ) → is_int z ≡ true → ReadsBack Kind.Int (Int z)
+int-back (pos n) fits =
+    let most : n ≤ 9223372036854775807 = search (rules, fits) in
+    let digits = digits_decimal own n (omega arith) in
+    ap (option_map Int) (int_of-plain (decimal n) (λ ys. minus-no-digit (decimal n) ys digits) ∙ ap (option_map (λ m. pos m)) (number-back 0 9223372036854775807 n (omega arith) most (omega arith)))
+int-back (negsuc n) fits =
+    let most : n ≤ 9223372036854775807 = search (rules, fits) in
+    let read = number-back 1 9223372036854775808 (suc n) (omega arith) (omega arith) (omega arith) in
+    let less : suc n - 1 ≡ n = omega arith in
+    ap (option_map Int) (ap (option_map (λ m. negsuc (m - 1))) read ∙ ap (λ m. Some (negsuc m)) less)

@@ -1,0 +1,9 @@
+pub mod Numerals
+pub mod Wording
+pub mod Joining
+pub mod KindTexts
+pub mod Rows
+pub mod RoundTrip
+pub mod LastWord
+pub mod ArgsTexts
+pub mod Operations

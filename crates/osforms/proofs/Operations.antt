@@ -1,0 +1,111 @@
+-- Operations and their texts, there and back, by what names stand for.
+use Rattle.std.proofs.Common.{◌≡◌, ℕ, ◌==◌, ◌≤◌, not, Bool, true, false, Option, Some, None, is_some, option_map, option_and_then, List, [], ◌∷◌, length, map, refl, ap, ◌∙◌, arith}
+use Rattle.std.specs.List.{list_all}
+use Rattle.std.specs.Option.{option_map_or}
+use Rattle.std.proofs.lemmas.Bool.{and_parts, and_from, leb-true}
+use Rattle.osbase.specs.declared.objects.ObjectKind.{ObjectKind}
+use Rattle.osbase.specs.declared.objects.Place.{Place}
+use Rattle.osbase.specs.declared.objects.Object.{Object as Named}
+use Rattle.osbase.specs.Names.{is_name}
+use Rattle.oscript.specs.declared.Op.{Op}
+use Rattle.oscript.specs.declared.rows.Kind.{Kind}
+use Rattle.oscript.specs.declared.rows.Kind.TheVariants as Kind
+use Rattle.oscript.specs.declared.rows.Arg.{Arg}
+use Rattle.oscript.specs.declared.rows.Arg.TheVariants.{Object, Number, Int, Variable}
+use Rattle.oscript.specs.Rows.{kinds_of}
+use Rattle.oscript.specs.Rows.{op_of, form_of_op, objects_in, objects_of}
+use Rattle.oscript.proofs.Arguments.{rest-pass}
+use Rattle.osforms.specs.Form.{form_of}
+use Rattle.osforms.specs.Operation.{resolve_arg, resolve_args, resolved, named, op_meant, is_formed, is_known, op_text}
+use Rattle.osforms.proofs.Joining.{has_none}
+use Rattle.osforms.proofs.KindTexts.{mapped, is_kind, ReadsBack, invalid-back, name-back, number-back, int-back, variable-back, IsApart}
+use Rattle.osforms.proofs.Rows.{IsOf, AreOf, is-row, is-op}
+use Rattle.osforms.proofs.RoundTrip.{both, chained, AreArgs, form_text-back, form_text-none, form_text-some}
+
+-- ---- what a text means
+
+module _ (place : ObjectKind → List ℕ → Option Place) (p : Named → Bool) (passes : (kind : ObjectKind) (name : List ℕ) (found : Place) → place kind name ≡ Some found → p (record { kind = kind; place = found }) ≡ true) where
+  arg-passes : (shown : Arg (List ℕ)) (arg : Arg Place) (args : List (Arg Place)) → resolve_arg place shown ≡ Some arg → list_all p (objects_in args) ≡ true → list_all p (objects_in (arg ∷ args)) ≡ true
+  arg-passes (Object kind None) arg args e all = let is : Object kind None ≡ arg = cc in rw (← is) all
+  arg-passes (Object kind (Some name)) arg args e all =
+      let m = mapped (λ found. Object kind (Some found)) (place kind name) arg e in
+      rw (← m.2) (and_from _ _ (passes kind name m.0 m.1) all)
+  arg-passes (Number n) arg args e all = let is : Number n ≡ arg = cc in rw (← is) all
+  arg-passes (Int z) arg args e all = let is : Int z ≡ arg = cc in rw (← is) all
+  arg-passes (Variable x) arg args e all = let is : Variable x ≡ arg = cc in rw (← is) all
+
+  args-pass : (shown : List (Arg (List ℕ))) (args : List (Arg Place)) → resolve_args place shown ≡ Some args → list_all p (objects_in args) ≡ true
+  args-pass [] args e = let is : [] ≡ args = cc in rw (← is) refl
+  args-pass (a ∷ shown) args e =
+      let m = both (resolve_arg place a) (resolve_args place shown) args e in
+      rw (← m.4) (arg-passes a m.0 m.1 m.2 (args-pass shown m.1 m.3))
+
+  -- Each object of the operation that a text means is one that some name stands for.
+  pub meant-passes : (text : List ℕ) (op : Op) → op_meant place text ≡ Some op → list_all p (objects_of op) ≡ true
+  meant-passes text op e =
+      let m = mapped op_of (option_and_then (resolved place) (form_of text)) op e in
+      let c = chained (resolved place) (form_of text) m.0 m.1 in
+      let r = mapped (λ args. (c.0.0, args)) (resolve_args place c.0.1) m.0 c.2 in
+      rw (← m.2, ← r.2) ((is-row c.0.0).3 p r.0 (args-pass c.0.1 r.0 r.1))
+
+-- A text that means an operation is in good form, and its names are known.
+pub meant-known : (place : ObjectKind → List ℕ → Option Place) (text : List ℕ) (op : Op) → op_meant place text ≡ Some op → (is_formed text ≡ true) × (is_known place text ≡ true)
+meant-known place text op e =
+    let m = mapped op_of (option_and_then (resolved place) (form_of text)) op e in
+    let c = chained (resolved place) (form_of text) m.0 m.1 in
+    (ap is_some c.1, ap (λ o. option_map_or (λ form. is_some (resolved place form)) o true) c.1 ∙ ap is_some c.2)
+
+-- ---- what an operation's text means
+
+-- The object's name is in form, and stands for it.
+pub record IsNamed (place : ObjectKind → List ℕ → Option Place) (name : ObjectKind → Place → List ℕ) (object : Named) : Type 0 where
+  pub in_form : is_name (name object.kind object.place) ≡ true
+  pub found : place object.kind (name object.kind object.place) ≡ Some object.place
+
+module _ (place : ObjectKind → List ℕ → Option Place) (name : ObjectKind → Place → List ℕ) (p : Named → Bool) (known : (object : Named) → p object ≡ true → IsNamed place name object) where
+  arg-back : (k : Kind) (a : Arg Place) (args : List (Arg Place)) → is_kind k ≡ true → IsOf k a → list_all p (objects_in (a ∷ args)) ≡ true → ReadsBack k (named name a)
+  arg-back (Kind.Object k) (Object j None) args fits is all = rw is (invalid-back j)
+  arg-back (Kind.Object k) (Object j (Some found)) args fits is all = rw is (name-back j (name j found) (known (record { kind = j; place = found }) (and_parts (p (record { kind = j; place = found })) _ all).0).in_form)
+  arg-back (Kind.Number low high) (Number n) args fits is all =
+      let most : high ≤ 4294967295 = leb-true high 4294967295 fits in
+      let short : n ≤ high = is.1 in
+      ap (option_map Number) (number-back low high n is.0 is.1 (omega arith))
+  arg-back Kind.Int (Int z) args fits is all = int-back z is
+  arg-back Kind.Variable (Variable x) args fits is all = variable-back x is
+  arg-back k a args fits is all = absurd is
+
+  args-back : (ks : List Kind) (args : List (Arg Place)) → list_all is_kind ks ≡ true → AreOf ks args → list_all p (objects_in args) ≡ true → AreArgs ks (map (named name) args)
+  args-back [] [] fit are all = tt
+  args-back (k ∷ ks) (a ∷ args) fit are all =
+      let fits = and_parts (is_kind k) (list_all is_kind ks) fit in
+      (arg-back k a args fits.0 are.0 all, args-back ks args fits.1 are.1 (rest-pass p a args all))
+  args-back ks args fit are all = absurd are
+
+  arg-resolved : (a : Arg Place) (args : List (Arg Place)) → list_all p (objects_in (a ∷ args)) ≡ true → resolve_arg place (named name a) ≡ Some a
+  arg-resolved (Object kind None) args all = refl
+  arg-resolved (Object kind (Some found)) args all = rw (known (record { kind = kind; place = found }) (and_parts (p (record { kind = kind; place = found })) _ all).0).found refl
+  arg-resolved (Number n) args all = refl
+  arg-resolved (Int z) args all = refl
+  arg-resolved (Variable x) args all = refl
+
+  args-resolved : (args : List (Arg Place)) → list_all p (objects_in args) ≡ true → resolve_args place (map (named name) args) ≡ Some args
+  args-resolved [] all = refl
+  args-resolved (a ∷ args) all = rw (arg-resolved a args all, args-resolved args (rest-pass p a args all)) refl
+
+  are-args : (op : Op) → list_all p (objects_of op) ≡ true → AreArgs (kinds_of (form_of_op op).0) (map (named name) (form_of_op op).1)
+  are-args op all = args-back (kinds_of (form_of_op op).0) (form_of_op op).1 (is-row (form_of_op op).0).2 (is-op op).1 all
+
+  -- It means that operation,
+  pub text-meant : (op : Op) → list_all p (objects_of op) ≡ true → op_meant place (op_text name op) ≡ Some op
+  text-meant op all =
+      let form = form_of_op op in
+      ap (λ f. option_map op_of (option_and_then (resolved place) f)) (form_text-back form.0 (map (named name) form.1) (are-args op all))
+      ∙ ap (λ args. option_map op_of (option_map (λ as_. (form.0, as_)) args)) (args-resolved form.1 all)
+      ∙ ap Some (is-op op).0
+
+  -- and has no byte that no argument has, other than the space.
+  pub text-none : (byte : ℕ) → IsApart byte → (32 == byte) ≡ false → (op : Op) → list_all p (objects_of op) ≡ true → has_none byte (op_text name op) ≡ true
+  text-none byte apart other op all = form_text-none byte apart other (form_of_op op).0 (map (named name) (form_of_op op).1) (are-args op all)
+
+pub text-some : (name : ObjectKind → Place → List ℕ) (op : Op) → not (length (op_text name op) == 0) ≡ true
+text-some name op = form_text-some (form_of_op op).0 (map (named name) (form_of_op op).1)

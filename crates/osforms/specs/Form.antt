@@ -1,0 +1,97 @@
+-- What an operation's text says: its verb and its arguments, whose names are not looked up yet. [own]
+use Rattle.std.specs.Prelude.{ℕ, ◌==◌, Option, Some, None, option_map, option_and_then, List, [], ◌∷◌, map, find, codes}
+use Rattle.std.specs.Borrow.{Bor}
+use Rattle.std.specs.List.{slice_split, join_with_byte}
+use Rattle.std.specs.Str.{bytes_eq}
+use Rattle.std.specs.Fmt.{decimal, signed_decimal}
+use Rattle.oscript.specs.declared.rows.Verb.{Verb}
+use Rattle.oscript.specs.declared.rows.Kind.{Kind}
+use Rattle.oscript.specs.declared.rows.Kind.TheVariants as Kind
+use Rattle.oscript.specs.declared.rows.Args.{Args}
+use Rattle.oscript.specs.declared.rows.TheConstants.{VERBS}
+use Rattle.oscript.specs.declared.rows.Arg.{Arg}
+use Rattle.oscript.specs.declared.rows.Arg.TheVariants.{Object, Number, Int, Variable}
+use Rattle.oscript.specs.declared.rows.Form.{Form}
+use Rattle.oscript.specs.Rows.{word_of, kinds_of, items}
+use Rattle.osforms.specs.Word.{number_in, int_of, variable_of, target_of}
+
+-- ---- what the code holds, with its texts as texts
+
+abbrev pub arg_shown : Arg (Bor (List ℕ)) → Arg (List ℕ)
+arg_shown (Object kind target) = Object kind (option_map (λ (t : Bor (List ℕ)). t.now) target)
+arg_shown (Number n) = Number n
+arg_shown (Int z) = Int z
+arg_shown (Variable x) = Variable x
+
+abbrev pub args_shown : Args (Arg (Bor (List ℕ))) → List (Arg (List ℕ))
+args_shown args = map arg_shown (items args)
+
+abbrev pub last_shown : Arg (Bor (List ℕ)) → List (Arg (List ℕ))
+last_shown a = arg_shown a ∷ []
+
+abbrev pub two_shown : Arg (Bor (List ℕ)) × Arg (Bor (List ℕ)) → List (Arg (List ℕ))
+two_shown two = arg_shown two.0 ∷ arg_shown two.1 ∷ []
+
+abbrev pub form_shown : Form (Bor (List ℕ)) → Verb × List (Arg (List ℕ))
+form_shown form = (form.verb, args_shown form.args)
+
+-- ---- reading
+
+-- An operation's words are divided by one space. The empty text has one word, which is empty.
+abbrev pub words_of : List ℕ → List (List ℕ)
+words_of text = slice_split (λ b. b == 32) text
+
+abbrev pub rest_words : Option (Bor (List ℕ)) → List (List ℕ)
+rest_words None = []
+rest_words (Some rest) = words_of rest.now
+
+-- A word as an argument of a kind.
+abbrev pub arg_of : Kind → List ℕ → Option (Arg (List ℕ))
+arg_of (Kind.Object k) word = option_map (Object k) (target_of word)
+arg_of (Kind.Number low high) word = option_map Number (number_in low high word)
+arg_of Kind.Int word = option_map Int (int_of word)
+arg_of Kind.Variable word = option_map Variable (variable_of word)
+
+abbrev pub and_then_rest : {A : Type 0} → Option A → Option (List A) → Option (List A)
+and_then_rest None rest = None
+and_then_rest (Some a) rest = option_map (λ as_. a ∷ as_) rest
+
+-- As many words as kinds, each an argument of its kind.
+abbrev pub args_of : List Kind → List (List ℕ) → Option (List (Arg (List ℕ)))
+args_of [] [] = Some []
+args_of [] (w ∷ ws) = None
+args_of (k ∷ ks) [] = None
+args_of (k ∷ ks) (w ∷ ws) = and_then_rest (arg_of k w) (args_of ks ws)
+
+-- What a first argument and what follows it make of the kinds.
+abbrev pub args_after : Option (Arg (Bor (List ℕ)) × Option (Bor (List ℕ))) → List Kind → Option (List (Arg (List ℕ)))
+args_after None kinds = None
+args_after (Some next) kinds = option_map (λ as_. arg_shown next.0 ∷ as_) (args_of kinds (rest_words next.1))
+
+-- The operation of a word.
+abbrev pub verb_of : List ℕ → Option Verb
+verb_of word = find (λ verb. bytes_eq (word_of verb) word) VERBS
+
+abbrev pub form_of_verb : List (List ℕ) → Verb → Option (Verb × List (Arg (List ℕ)))
+form_of_verb words verb = option_map (λ args. (verb, args)) (args_of (kinds_of verb) words)
+
+abbrev pub form_of_words : List (List ℕ) → Option (Verb × List (Arg (List ℕ)))
+form_of_words [] = None
+form_of_words (word ∷ words) = option_and_then (form_of_verb words) (verb_of word)
+
+-- What an operation's text says, where it is in good form.
+abbrev pub form_of : List ℕ → Option (Verb × List (Arg (List ℕ)))
+form_of text = form_of_words (words_of text)
+
+-- ---- writing
+
+abbrev pub arg_text : Arg (List ℕ) → List ℕ
+arg_text (Object k None) = codes "?"
+arg_text (Object k (Some name)) = name
+arg_text (Number n) = decimal n
+arg_text (Int z) = signed_decimal z
+arg_text (Variable x) = 118 ∷ decimal x
+
+-- The words of a form, divided by one space.
+abbrev pub form_text : Verb × List (Arg (List ℕ)) → List ℕ
+form_text form = join_with_byte 32 (word_of form.0 ∷ map arg_text form.1)

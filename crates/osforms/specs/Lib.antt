@@ -1,0 +1,4 @@
+pub mod Word
+pub mod Form
+pub mod Operation
+pub mod Call

@@ -1,0 +1,60 @@
+-- Operations and their texts, by what names stand for. [own]
+use Rattle.std.specs.Prelude.{ℕ, ◌++◌, Bool, true, Option, Some, None, is_some, option_map, option_and_then, List, [], ◌∷◌, map}
+use Rattle.std.specs.Option.{option_map_or}
+use Rattle.osbase.specs.declared.objects.ObjectKind.{ObjectKind}
+use Rattle.osbase.specs.declared.objects.Place.{Place}
+use Rattle.oscript.specs.declared.Op.{Op}
+use Rattle.oscript.specs.declared.rows.Verb.{Verb}
+use Rattle.oscript.specs.declared.rows.Arg.{Arg}
+use Rattle.oscript.specs.declared.rows.Arg.TheVariants.{Object, Number, Int, Variable}
+use Rattle.oscript.specs.Rows.{op_of, form_of_op}
+use Rattle.osforms.specs.Form.{and_then_rest, form_of, form_text, arg_text}
+
+-- ---- from names to places
+
+abbrev pub resolve_arg : (ObjectKind → List ℕ → Option Place) → Arg (List ℕ) → Option (Arg Place)
+resolve_arg place (Object kind None) = Some (Object kind None)
+resolve_arg place (Object kind (Some name)) = option_map (λ found. Object kind (Some found)) (place kind name)
+resolve_arg place (Number n) = Some (Number n)
+resolve_arg place (Int z) = Some (Int z)
+resolve_arg place (Variable x) = Some (Variable x)
+
+abbrev pub resolve_args : (ObjectKind → List ℕ → Option Place) → List (Arg (List ℕ)) → Option (List (Arg Place))
+resolve_args place [] = Some []
+resolve_args place (a ∷ args) = and_then_rest (resolve_arg place a) (resolve_args place args)
+
+-- The form with the places of its names, where each has one.
+abbrev pub resolved : (ObjectKind → List ℕ → Option Place) → Verb × List (Arg (List ℕ)) → Option (Verb × List (Arg Place))
+resolved place form = option_map (λ args. (form.0, args)) (resolve_args place form.1)
+
+-- The operation that a text means, where it is in good form and its names have places.
+abbrev pub op_meant : (ObjectKind → List ℕ → Option Place) → List ℕ → Option Op
+op_meant place text = option_map op_of (option_and_then (resolved place) (form_of text))
+
+-- The text is in good form.
+abbrev pub is_formed : List ℕ → Bool
+is_formed text = is_some (form_of text)
+
+-- Each name of a text in good form has its place. A text in another form has no names.
+abbrev pub is_known : (ObjectKind → List ℕ → Option Place) → List ℕ → Bool
+is_known place text = option_map_or (λ form. is_some (resolved place form)) (form_of text) true
+
+-- ---- from places to names
+
+abbrev pub named : (ObjectKind → Place → List ℕ) → Arg Place → Arg (List ℕ)
+named name (Object kind target) = Object kind (option_map (name kind) target)
+named name (Number n) = Number n
+named name (Int z) = Int z
+named name (Variable x) = Variable x
+
+abbrev pub named_form : (ObjectKind → Place → List ℕ) → Verb × List (Arg Place) → Verb × List (Arg (List ℕ))
+named_form name form = (form.0, map (named name) form.1)
+
+-- The text of an operation: its words, divided by one space.
+abbrev pub op_text : (ObjectKind → Place → List ℕ) → Op → List ℕ
+op_text name op = form_text (named_form name (form_of_op op))
+
+-- The arguments of a form, each after a space.
+abbrev pub args_text : (ObjectKind → Place → List ℕ) → List (Arg Place) → List ℕ
+args_text name [] = []
+args_text name (a ∷ args) = 32 ∷ arg_text (named name a) ++ args_text name args

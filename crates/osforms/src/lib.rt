@@ -1,0 +1,18 @@
+//! Operations as texts: an operation in good form, what its names stand for, and its text again.
+//!
+//! The grammar is the table of rows (`oscript`): no operation is known here. What a text says is a form,
+//! whose names are looked up by whoever knows the objects (`Places`), and written by whoever knows their
+//! names (`Names`). A call across cores has a form too, which has the words that its operation has.
+#![tactic(auto)]
+
+mod calls;
+mod numbers;
+mod parsing;
+mod resolving;
+mod words;
+mod writing;
+
+pub use calls::{CallForm, form_of_call};
+pub use parsing::form_of;
+pub use resolving::{Places, is_known, op_meant, resolved};
+pub use writing::{Names, op_text};

@@ -1,0 +1,172 @@
+-- A core's history alone, and the same where it was started by another core and passed the second gate with
+-- others: it reads the same, with each stamp later by what came before.
+use Rattle.std.proofs.Common.{◌≡◌, ℕ, suc, ◌+◌, nat_eq, nat_lt, Bool, true, false, cond, Option, Some, None, option_map, List, [], ◌∷◌, ◌++◌, length, map, refl, sym, ap, ◌∙◌, arith}
+use Rattle.std.proofs.lemmas.Bool.Decides.{nat_tests}
+use Rattle.std.proofs.lemmas.List.{map-append}
+use Rattle.osbase.specs.declared.references.TaskRef.{TaskRef}
+use Rattle.osbase.specs.declared.references.Runner.{Runner}
+use Rattle.osbase.specs.declared.items.CoreSet.{CoreSet}
+use Rattle.osbase.specs.declared.items.Item.{Item}
+use Rattle.osbase.specs.declared.marks.Mark.{Mark}
+use Rattle.osbase.specs.declared.histories.Job.{Job}
+use Rattle.osbase.specs.History.{History, Entry, Took, Printed, agreement_after, agreement_of, better_of, current_after, current_task, first_greatest, job_count, jobs_after, live_jobs, marks_of, oldest, oldest_of, open_after, open_call, phase_after, phase_of, same_runner, without_oldest}
+use Rattle.oscript.specs.declared.Op.{Op}
+use Rattle.oscript.specs.Frames.{frame_after, frame_of}
+use Rattle.osplan.specs.View.{View}
+use Rattle.osstate.specs.Readings.{best_job, running, static_priority}
+use Rattle.osstate.proofs.ReadLemmas.{filter-able}
+
+-- The set at the second gate in place of the core's own one.
+abbrev pub with_set : CoreSet → Entry → Entry
+with_set s (Took (Item.Pass2 cores)) = Took (Item.Pass2 s)
+with_set s e = e
+
+abbrev pub among : CoreSet → History → History → History
+among s base [] = base
+among s base (e ∷ k) = with_set s e ∷ among s base k
+
+-- What is before: nothing at the master, and that it was started at another core.
+abbrev pub base_of : Bool → History
+base_of true = []
+base_of false = Took Item.On ∷ []
+
+-- ---- readings that look at no stamp
+
+same-step : {A : Type 0} (step : Entry → A) → ((a b : CoreSet) → step (Took (Item.Pass2 a)) ≡ step (Took (Item.Pass2 b))) → (s : CoreSet) (e : Entry) → step (with_set s e) ≡ step e
+same-step step gate s (Took (Item.Pass2 cores)) = gate s cores
+same-step step gate s e = refl
+
+reads-same : {A : Type 0} (f : History → A) → ((e : Entry) (h k : History) → f h ≡ f k → f (e ∷ h) ≡ f (e ∷ k)) → ((a b : CoreSet) (h : History) → f (Took (Item.Pass2 a) ∷ h) ≡ f (Took (Item.Pass2 b) ∷ h)) → (s : CoreSet) (base k : History) → f base ≡ f [] → f (among s base k) ≡ f k
+reads-same f goes gate s base [] first = first
+reads-same f goes gate s base (e ∷ k) first =
+    same-step (λ (d : Entry). f (d ∷ among s base k)) (λ a b. gate a b (among s base k)) s e
+    ∙ goes e (among s base k) k (reads-same f goes gate s base k first)
+
+pub current-same : (s : CoreSet) (m : Bool) (k : History) → current_task (among s (base_of m) k) ≡ current_task k
+current-same s m k = reads-same current_task (λ e h j p. ap (current_after e) p) (λ a b h. refl) s (base_of m) k (by m)
+  where
+    by : (b : Bool) → current_task (base_of b) ≡ None
+    by true = refl
+    by false = refl
+
+pub open-same : (s : CoreSet) (m : Bool) (k : History) → open_call (among s (base_of m) k) ≡ open_call k
+open-same s m k = reads-same open_call (λ e h j p. ap (open_after e) p) (λ a b h. refl) s (base_of m) k (by m)
+  where
+    by : (b : Bool) → open_call (base_of b) ≡ None
+    by true = refl
+    by false = refl
+
+pub agreement-same : (s : CoreSet) (m : Bool) (k : History) → agreement_of (among s (base_of m) k) ≡ agreement_of k
+agreement-same s m k = reads-same agreement_of (λ e h j p. ap (agreement_after e) p) (λ a b h. refl) s (base_of m) k (by m)
+  where
+    by : (b : Bool) → agreement_of (base_of b) ≡ None
+    by true = refl
+    by false = refl
+
+marks-goes : (e : Entry) (h k : History) → marks_of h ≡ marks_of k → marks_of (e ∷ h) ≡ marks_of (e ∷ k)
+marks-goes (Printed m) h k p = ap (λ (ms : List Mark). ms ++ m ∷ []) p
+marks-goes e h k p = p
+
+pub marks-same : (s : CoreSet) (m : Bool) (k : History) → marks_of (among s (base_of m) k) ≡ marks_of k
+marks-same s m k = reads-same marks_of marks-goes (λ a b h. refl) s (base_of m) k (by m)
+  where
+    by : (b : Bool) → marks_of (base_of b) ≡ []
+    by true = refl
+    by false = refl
+
+pub frame-same : (script : List Op) (r : Runner) (s : CoreSet) (m : Bool) (k : History) → frame_of script r (among s (base_of m) k) ≡ frame_of script r k
+frame-same script r s m k = reads-same (frame_of script r) (λ e h j p. ap (frame_after script r e) p) (λ a b h. refl) s (base_of m) k (by m)
+  where
+    by : (b : Bool) → frame_of script r (base_of b) ≡ frame_of script r []
+    by true = refl
+    by false = refl
+
+pub phase-same : (s : CoreSet) (m : Bool) (k : History) → phase_of m (among s (base_of m) k) ≡ phase_of true k
+phase-same s true [] = refl
+phase-same s false [] = refl
+phase-same s m (e ∷ k) =
+    same-step (λ (d : Entry). phase_after d (phase_of m (among s (base_of m) k))) (λ a b. refl) s e
+    ∙ ap (phase_after e) (phase-same s m k)
+
+-- ---- jobs
+
+-- A job whose stamp is later.
+abbrev pub later : ℕ → Job → Job
+later d j = record j { stamp = j.stamp + d }
+
+later-without : (d : ℕ) (r : Runner) (js : List Job) → without_oldest r (map (later d) js) ≡ map (later d) (without_oldest r js)
+later-without d r [] = refl
+later-without d r (j ∷ js) = by (same_runner j.runner r) (later-without d r js)
+  where
+    by : (b : Bool) → without_oldest r (map (later d) js) ≡ map (later d) (without_oldest r js) → cond b (map (later d) js) (later d j ∷ without_oldest r (map (later d) js)) ≡ map (later d) (cond b js (j ∷ without_oldest r js))
+    by true rest = refl
+    by false rest = ap (λ (ks : List Job). later d j ∷ ks) rest
+
+later-after : (d : ℕ) (e : Entry) (n : ℕ) (js : List Job) → jobs_after e (n + d) (map (later d) js) ≡ map (later d) (jobs_after e n js)
+later-after d (Printed (Mark.Activated t)) n js = sym (map-append (later d) js (record { runner = Runner.Task t; stamp = n } ∷ []))
+later-after d (Printed (Mark.Terminated t)) n js = later-without d (Runner.Task t) js
+later-after d e n js = refl
+
+abbrev pub delay : Bool → ℕ
+delay m = length (base_of m)
+
+length-among : (s : CoreSet) (m : Bool) (k : History) → length (among s (base_of m) k) ≡ length k + delay m
+length-among s m [] = omega arith
+length-among s m (e ∷ k) = let rest = length-among s m k in omega arith
+
+pub jobs-later : (s : CoreSet) (m : Bool) (k : History) → live_jobs (among s (base_of m) k) ≡ map (later (delay m)) (live_jobs k)
+jobs-later s true [] = refl
+jobs-later s false [] = refl
+jobs-later s m (e ∷ k) =
+    same-step (λ (d : Entry). jobs_after d (length (among s (base_of m) k)) (live_jobs (among s (base_of m) k))) (λ a b. refl) s e
+    ∙ ap (λ (n : ℕ). jobs_after e n (live_jobs (among s (base_of m) k))) (length-among s m k)
+    ∙ ap (jobs_after e (length k + delay m)) (jobs-later s m k)
+    ∙ later-after (delay m) e (length k) (live_jobs k)
+
+later-count : (d : ℕ) (r : Runner) (js : List Job) → job_count r (map (later d) js) ≡ job_count r js
+later-count d r [] = refl
+later-count d r (j ∷ js) = ap (λ (n : ℕ). cond (same_runner j.runner r) (suc n) n) (later-count d r js)
+
+pub count-same : (s : CoreSet) (m : Bool) (r : Runner) (k : History) → job_count r (live_jobs (among s (base_of m) k)) ≡ job_count r (live_jobs k)
+count-same s m r k = ap (job_count r) (jobs-later s m k) ∙ later-count (delay m) r (live_jobs k)
+
+later-oldest : (d : ℕ) (r : Runner) (js : List Job) → oldest r (map (later d) js) ≡ option_map (later d) (oldest r js)
+later-oldest d r [] = refl
+later-oldest d r (j ∷ js) = by (same_runner j.runner r) (later-oldest d r js)
+  where
+    by : (b : Bool) → oldest r (map (later d) js) ≡ option_map (later d) (oldest r js) → cond b (Some (later d j)) (oldest r (map (later d) js)) ≡ option_map (later d) (cond b (Some j) (oldest r js))
+    by true rest = refl
+    by false rest = rest
+
+later-oldest_of : (d : ℕ) (o : Option TaskRef) (js : List Job) → oldest_of o (map (later d) js) ≡ option_map (later d) (oldest_of o js)
+later-oldest_of d None js = refl
+later-oldest_of d (Some t) js = later-oldest d (Runner.Task t) js
+
+pub running-later : (v : View) (s : CoreSet) (m : Bool) (k : History) → running v (among s (base_of m) k) ≡ option_map (later (delay m)) (running v k)
+running-later v s m k =
+    ap (λ (o : Option TaskRef). oldest_of o (live_jobs (among s (base_of m) k))) (current-same s m k)
+    ∙ ap (oldest_of (current_task k)) (jobs-later s m k)
+    ∙ later-oldest_of (delay m) (current_task k) (live_jobs k)
+
+later-better : (d : ℕ) (p : Runner → ℕ) (j : Job) (o : Option Job) → better_of (λ (i : Job). p i.runner) (later d j) (option_map (later d) o) ≡ later d (better_of (λ (i : Job). p i.runner) j o)
+later-better d p j None = refl
+later-better d p j (Some i) = by (nat_lt (p j.runner) (p i.runner))
+  where
+    by : (b : Bool) → cond b (later d i) (later d j) ≡ later d (cond b i j)
+    by true = refl
+    by false = refl
+
+later-greatest : (d : ℕ) (p : Runner → ℕ) (js : List Job) → first_greatest (λ (i : Job). p i.runner) (map (later d) js) ≡ option_map (later d) (first_greatest (λ (i : Job). p i.runner) js)
+later-greatest d p [] = refl
+later-greatest d p (j ∷ js) =
+    ap (λ (o : Option Job). Some (better_of (λ (i : Job). p i.runner) (later d j) o)) (later-greatest d p js)
+    ∙ ap Some (later-better d p j (first_greatest (λ (i : Job). p i.runner) js))
+
+pub best-later : (v : View) (s : CoreSet) (m : Bool) (k : History) → best_job v (among s (base_of m) k) ≡ option_map (later (delay m)) (best_job v k)
+best-later v s m k =
+    ap (first_greatest (λ (i : Job). static_priority v.own i.runner)) (filter-able v (among s (base_of m) k) (live_jobs (among s (base_of m) k)) ∙ jobs-later s m k)
+    ∙ later-greatest (delay m) (static_priority v.own) (live_jobs k)
+    ∙ ap (λ (js : List Job). option_map (later (delay m)) (first_greatest (λ (i : Job). static_priority v.own i.runner) js)) (sym (filter-able v k (live_jobs k)))
+
+pub stamp-later : (d a b : ℕ) → nat_eq (a + d) (b + d) ≡ nat_eq a b
+stamp-later d a b = grind (arith, nat_tests)

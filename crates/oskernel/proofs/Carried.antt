@@ -1,0 +1,156 @@
+-- One fact for a step: what it does to one history it does to every history that reads the same to it.
+use Rattle.std.proofs.Common.{◌≡◌, ◌&&◌, ◌||◌, ℕ, Bool, true, false, cond, Option, Some, None, is_none, option_map, List, [], ◌∷◌, refl, subst, ℤ}
+use Rattle.std.specs.List.{list_all, slice_get}
+use Rattle.std.specs.Option.{option_map_or}
+use Rattle.std.proofs.lemmas.Bool.{and_from, or_right}
+use Rattle.osbase.specs.declared.statuses.Status.{Status}
+use Rattle.osbase.specs.declared.references.CoreId.{CoreId}
+use Rattle.osbase.specs.declared.references.TaskRef.{TaskRef}
+use Rattle.osbase.specs.declared.references.Runner.{Runner}
+use Rattle.osbase.specs.declared.messages.Message.{Message}
+use Rattle.osbase.specs.declared.objects.Object.{Object}
+use Rattle.osbase.specs.declared.items.Agreement.{Agreement}
+use Rattle.osbase.specs.declared.items.Item.{Item}
+use Rattle.osbase.specs.declared.items.Stimulus.{Stimulus}
+use Rattle.osbase.specs.declared.histories.Job.{Job}
+use Rattle.osbase.specs.declared.histories.OpenCall.{OpenCall}
+use Rattle.osbase.specs.declared.histories.Phase.{Phase}
+use Rattle.osbase.specs.History.{History, Took, agreement_of, current_task, open_call}
+use Rattle.osbase.specs.Phases.{is_scheduling}
+use Rattle.oscript.specs.declared.Op.{Op}
+use Rattle.oscript.specs.declared.Action.TheVariants.{Perform, End}
+use Rattle.oscript.specs.declared.Frame.{Frame}
+use Rattle.oscript.specs.Rows.{objects_of}
+use Rattle.oscript.specs.Frames.{action_at}
+use Rattle.osplan.specs.declared.plans.Task.{Task}
+use Rattle.osplan.specs.View.{View}
+use Rattle.osstate.specs.Readings.{best_job, frame_at, is_own, phase_at, running, script_of, task_refs}
+use Rattle.oscall.specs.Tasks.{activates}
+use Rattle.oscall.proofs.Carried.{IsAllowed, IsKept, seen_as, anybody, either-carried, printed-carried, operates-carried, request-carried, action-carried, returns-carried, ends_unasked-carried}
+use Rattle.oskernel.specs.Step.{after, autostarts, closes, dispatches, effect, enters, goes_on, goes_to, leaves, starts_in, performs, same_job}
+
+-- A request comes from a core that may be answered.
+abbrev pub is_replied : (CoreId → Bool) → Item → Bool
+is_replied replies (Item.Received from number (Message.Request call)) = replies from
+is_replied replies item = true
+
+-- Each operation of the core's scripts names the own core, or one that may be asked, if it names one.
+abbrev pub ScriptsAllow : View → (CoreId → Bool) → Type 0
+ScriptsAllow v may = (r : Runner) (n : ℕ) (op : Op) → slice_get (script_of v.own r) n ≡ Some op → IsAllowed v may op
+
+-- Where every core may be asked and answered, nothing is demanded.
+pub allow-anybody : (v : View) → ScriptsAllow v anybody
+allow-anybody v r n op e = each (objects_of op)
+  where
+    each : (objects : List Object) → list_all (λ (object : Object). is_own v object.place.core || anybody object.place.core) objects ≡ true
+    each [] = refl
+    each (object ∷ objects) = and_from _ _ (or_right (is_own v object.place.core) true refl) (each objects)
+
+pub replied-anybody : (item : Item) → is_replied anybody item ≡ true
+replied-anybody (Item.Received from number (Message.Request call)) = refl
+replied-anybody item = refl
+
+abbrev pub runner_of : Option Job → Option Runner
+runner_of o = option_map (λ (j : Job). j.runner) o
+
+-- The best job is the running one.
+abbrev pub is_going : Option Job → Option Job → Bool
+is_going best runs = option_map_or (λ (j : Job). option_map_or (same_job j) runs false) best false
+
+-- The readings that steer a core are the same; of a job only its runner, and whether the best one runs.
+pub record SteersSame (v other : View) (h k : History) : Type 0 where
+  pub phase : phase_at v h ≡ phase_at other k
+  pub awaits : open_call h ≡ open_call k
+  pub agreement : agreement_of h ≡ agreement_of k
+  pub current : current_task h ≡ current_task k
+  pub runs : runner_of (running v h) ≡ runner_of (running other k)
+  pub frame : (r : Runner) → frame_at v r h ≡ frame_at other r k
+  pub best : runner_of (best_job v h) ≡ runner_of (best_job other k)
+  pub stays : is_going (best_job v h) (running v h) ≡ is_going (best_job other k) (running other k)
+
+pub steers-itself : (v : View) (h : History) → SteersSame v v h h
+steers-itself v h = record { phase = refl; awaits = refl; agreement = refl; current = refl; runs = refl; frame = λ r. refl; best = refl; stays = refl }
+
+-- Each part of a step carries a relation that services carry, and where a core is steered the same.
+module _ (v : View) (master : Bool) (ids : List CoreId) (may replies : CoreId → Bool) (R : History → History → Type 0) (kept : IsKept v may replies R) (steers : (h k : History) → R h k → SteersSame v (seen_as v master ids) h k) (scripts : ScriptsAllow v may) where
+  abbrev other : View
+  other = seen_as v master ids
+
+  abbrev either : (b : Bool) (h h' k k' : History) → R h k → R h' k' → R (cond b h h') (cond b k k')
+  either = either-carried v master ids may replies R kept
+
+  -- ---- what follows from an item
+
+  autostarts-carried : (agreement : Option Agreement) (ps : List (TaskRef × Task)) (h k : History) → R h k → R (autostarts agreement ps h) (autostarts agreement ps k)
+  autostarts-carried agreement [] h k p = p
+  autostarts-carried agreement (t ∷ ts) h k p =
+      autostarts-carried agreement ts _ _ (either (starts_in agreement t.1) (activates t.0 h) h (activates t.0 k) k (printed-carried v master ids may replies R kept _ h k p) p)
+
+  performs-carried : (r : Runner) (o : Option Op) → ((op : Op) → o ≡ Some op → IsAllowed v may op) → (h k : History) → R h k → R (performs v r (option_map_or Perform o End) h) (performs other r (option_map_or Perform o End) k)
+  performs-carried r None allowed h k p = ends_unasked-carried v master ids may replies R kept r h k p
+  performs-carried r (Some op) allowed h k p = operates-carried v master ids may replies R kept op r h k (allowed op refl) p
+
+  goes_on-carried : (o o' : Option Job) → runner_of o ≡ runner_of o' → (h k : History) → R h k → R (goes_on v o h) (goes_on other o' k)
+  goes_on-carried None None e h k p = p
+  goes_on-carried None (Some i) e h k p = cc
+  goes_on-carried (Some j) None e h k p = cc
+  goes_on-carried (Some j) (Some i) e h k p =
+      let same : j.runner ≡ i.runner = cc in
+      subst (λ (r : Runner). R (goes_on v (Some j) h) (performs other r (action_at (script_of other.own r) (frame_at other r k)) k)) same
+      (subst (λ (f : Frame). R (goes_on v (Some j) h) (performs other j.runner (action_at (script_of other.own j.runner) f) k)) ((steers h k p).frame j.runner)
+      (performs-carried j.runner (slice_get (script_of v.own j.runner) (frame_at v j.runner h).pc) (λ op f. scripts j.runner (frame_at v j.runner h).pc op f) h k p))
+
+  closes-carried : (o : Option OpenCall) (s : Status) (value : Option ℤ) (h k : History) → R h k → R (closes o s value h) (closes o s value k)
+  closes-carried None s value h k p = p
+  closes-carried (Some call) s value h k p = returns-carried v master ids may replies R kept call.runner call.service s value h k p
+
+  effect-carried : (item : Item) (h k : History) → is_replied replies item ≡ true → R h k → R (effect v item h) (effect other item k)
+  effect-carried (Item.Began core s) h k m p = printed-carried v master ids may replies R kept _ h k p
+  effect-carried (Item.Pass1 agreement) h k m p = printed-carried v master ids may replies R kept _ h k p
+  effect-carried (Item.Pass2 cores) h k m p =
+      subst (λ (a : Option Agreement). R (autostarts (agreement_of h) (task_refs v.own) h) (autostarts a (task_refs v.own) k)) (steers h k p).agreement
+      (autostarts-carried (agreement_of h) (task_refs v.own) h k p)
+  effect-carried (Item.Stim Stimulus.Op) h k m p = goes_on-carried (running v h) (running other k) (steers h k p).runs h k p
+  effect-carried (Item.Stim Stimulus.Tick) h k m p = p
+  effect-carried (Item.Stim (Stimulus.Irq isr)) h k m p = p
+  effect-carried (Item.Received from number (Message.Request call)) h k m p = request-carried v master ids may replies R kept from call h k m p
+  effect-carried (Item.Received from number (Message.Action call)) h k m p = action-carried v master ids may replies R kept from call h k p
+  effect-carried (Item.Received from number (Message.Reply s value)) h k m p =
+      subst (λ (o : Option OpenCall). R (closes (open_call h) s value h) (closes o s value k)) (steers h k p).awaits
+      (closes-carried (open_call h) s value h k p)
+  effect-carried item h k m p = p
+
+  -- ---- dispatch
+
+  leaves-carried : (o : Option TaskRef) (h k : History) → R h k → R (leaves o h) (leaves o k)
+  leaves-carried None h k p = p
+  leaves-carried (Some t) h k p = printed-carried v master ids may replies R kept _ h k p
+
+  enters-carried : (r : Runner) (h k : History) → R h k → R (enters r h) (enters r k)
+  enters-carried (Runner.Task t) h k p =
+      printed-carried v master ids may replies R kept _ _ _
+      (subst (λ (o : Option TaskRef). R (leaves (current_task h) h) (leaves o k)) (steers h k p).current (leaves-carried (current_task h) h k p))
+  enters-carried (Runner.Isr i) h k p = printed-carried v master ids may replies R kept _ h k p
+
+  goes_to-carried : (o o' : Option Job) (h k : History) → runner_of o ≡ runner_of o' → is_going o (running v h) ≡ is_going o' (running other k) → R h k → R (goes_to v o h) (goes_to other o' k)
+  goes_to-carried None None h k e f p = p
+  goes_to-carried None (Some i) h k e f p = cc
+  goes_to-carried (Some j) None h k e f p = cc
+  goes_to-carried (Some j) (Some i) h k e f p =
+      let same : j.runner ≡ i.runner = cc in
+      subst (λ (b : Bool). R (goes_to v (Some j) h) (cond b k (enters i.runner k))) f
+      (subst (λ (r : Runner). R (goes_to v (Some j) h) (cond (is_going (Some j) (running v h)) k (enters r k))) same
+      (either (is_going (Some j) (running v h)) h (enters j.runner h) k (enters j.runner k) p (enters-carried j.runner h k p)))
+
+  dispatches-carried : (h k : History) → R h k → R (dispatches v h) (dispatches other k)
+  dispatches-carried h k p =
+      let same = steers h k p in
+      subst (λ (o : Phase). R (dispatches v h) (cond (is_scheduling o && is_none (open_call k)) (goes_to other (best_job other k) k) k)) same.phase
+      (subst (λ (o : Option OpenCall). R (dispatches v h) (cond (is_scheduling (phase_at v h) && is_none o) (goes_to other (best_job other k) k) k)) same.awaits
+      (either (is_scheduling (phase_at v h) && is_none (open_call h)) (goes_to v (best_job v h) h) h (goes_to other (best_job other k) k) k (goes_to-carried (best_job v h) (best_job other k) h k same.best same.stays p) p))
+
+  -- Two items that are taken, with the same effect.
+  pub after-carried : (h k : History) (item item' : Item) → is_replied replies item ≡ true → ((n : History) → effect other item n ≡ effect other item' n) → R (Took item ∷ h) (Took item' ∷ k) → R (after v h item) (after other k item')
+  after-carried h k item item' m same p =
+      dispatches-carried (effect v item (Took item ∷ h)) (effect other item' (Took item' ∷ k))
+      (subst (λ (n : History). R (effect v item (Took item ∷ h)) n) (same (Took item' ∷ k)) (effect-carried item (Took item ∷ h) (Took item' ∷ k) m p))

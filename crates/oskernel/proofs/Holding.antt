@@ -1,0 +1,71 @@
+-- What the entries that a core may add keep holds after an item as it did with it.
+use Rattle.std.proofs.Common.{◌≡◌, Bool, true, ◌∷◌, refl, ℤ, Option, ◌∙◌}
+use Rattle.std.proofs.lemmas.Bool.{false≢true}
+use Rattle.osbase.specs.declared.statuses.Status.{Status}
+use Rattle.osbase.specs.declared.references.CoreId.{CoreId}
+use Rattle.osbase.specs.declared.messages.Message.{Message}
+use Rattle.osbase.specs.declared.items.Item.{Item}
+use Rattle.osbase.specs.declared.marks.Mark.{Mark}
+use Rattle.osbase.specs.declared.histories.OpenCall.{OpenCall}
+use Rattle.osbase.specs.History.{Entry, History, Note, Took, Printed, Noted, Opened}
+use Rattle.osplan.specs.View.{View}
+use Rattle.oscall.specs.Returning.{queues}
+use Rattle.oscall.proofs.Carried.{anybody, is_local, IsKept, ServesSame}
+use Rattle.oskernel.specs.Step.{after}
+use Rattle.oskernel.proofs.Carried.{after-carried, allow-anybody, is_replied, replied-anybody, ScriptsAllow, steers-itself, SteersSame}
+
+-- Each kind of entry that follows from an item keeps it: one of the core itself, an envelope to a core that may be
+-- asked, a reply to one that may be answered, and a call that is open there.
+pub record Holds (may replies : CoreId → Bool) (P : History → Type 0) : Type 0 where
+  pub local : (e : Entry) (h : History) → is_local e ≡ true → P h → P (e ∷ h)
+  pub asked : (core : CoreId) (message : Message) (h : History) → may core ≡ true → P h → P (queues core message h)
+  pub replied : (core : CoreId) (s : Status) (value : Option ℤ) (h : History) → replies core ≡ true → P h → P (queues core (Message.Reply s value) h)
+  pub opened : (call : OpenCall) (h : History) → may call.core ≡ true → P h → P (Noted (Opened call) ∷ h)
+
+module _ (v : View) (may replies : CoreId → Bool) (P : History → Type 0) (holds : Holds may replies P) (scripts : ScriptsAllow v may) where
+  -- One history, which has it.
+  record Same (h k : History) : Type 0 where
+    pub same : h ≡ k
+    pub has : P k
+
+  both : (f : History → History) (h k : History) → Same h k → (P k → P (f k)) → Same (f h) (f k)
+  both f h k p q = record { same = rw p.same refl; has = q p.has }
+
+  serves : (h k : History) → Same h k → ServesSame v may h k
+  serves h k p = rw p.same (record { started = λ core m. refl; limit = λ t. refl })
+
+  steers : (h k : History) → Same h k → SteersSame v v h k
+  steers h k p = rw p.same (steers-itself v k)
+
+  kept : IsKept v may replies Same
+  kept = record {
+    local = λ e h k m p. both (λ n. e ∷ n) h k p (holds.local e k m);
+    asked = λ core message h k m p. both (queues core message) h k p (holds.asked core message k m);
+    replied = λ core s value h k m p. both (queues core (Message.Reply s value)) h k p (holds.replied core s value k m);
+    opened = λ call h k m p. both (λ n. Noted (Opened call) ∷ n) h k p (holds.opened call k m);
+    reads = serves;
+  }
+
+  pub holds-after : (h : History) (item : Item) → is_replied replies item ≡ true → P (Took item ∷ h) → P (after v h item)
+  holds-after h item m p =
+      (after-carried v v.is_master v.cores may replies Same kept steers scripts h h item item m (λ n. refl) (record { same = refl; has = p })).has
+
+-- What every mark and every note keeps, whichever services there are.
+pub kept_after : (P : History → Type 0) → ((m : Mark) (h : History) → P h → P (Printed m ∷ h)) → ((n : Note) (h : History) → P h → P (Noted n ∷ h)) → (v : View) (h : History) (item : Item) → P (Took item ∷ h) → P (after v h item)
+kept_after P printed noted v h item =
+    holds-after v anybody anybody P (record {
+      local = local;
+      asked = λ core message k m p. noted _ k p;
+      replied = λ core s value k m p. noted _ k p;
+      opened = λ call k m p. noted _ k p;
+    }) (allow-anybody v) h item (replied-anybody item)
+  where
+    local : (e : Entry) (k : History) → is_local e ≡ true → P k → P (e ∷ k)
+    local (Printed m) k is p = printed m k p
+    local (Noted n) k is p = noted n k p
+    local (Took i) k is p = absurd (false≢true is)
+
+-- A reading that no mark and no note changes is after an item what it is with the item.
+pub quiet_after : {A : Type 0} (f : History → A) → ((m : Mark) (h : History) → f (Printed m ∷ h) ≡ f h) → ((n : Note) (h : History) → f (Noted n ∷ h) ≡ f h) → (v : View) (h : History) (item : Item) → f (after v h item) ≡ f (Took item ∷ h)
+quiet_after f printed noted v h item =
+    kept_after (λ (k : History). f k ≡ f (Took item ∷ h)) (λ m k p. printed m k ∙ p) (λ n k p. noted n k ∙ p) v h item refl
