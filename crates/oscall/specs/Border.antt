@@ -2,7 +2,7 @@
 --
 -- Such a service has two halves. The caller's core makes the checks up to whether the object's core was started; the
 -- object's core makes the others and has the effect, for a job of its own and for another core alike.
-use Rattle.std.specs.Prelude.{◌&&◌, ◌||◌, false, not, Bool, if◌then◌else◌, Option, Some, None, is_none, is_some, option_map, List, [], ◌∷◌}
+use Rattle.std.specs.Prelude.{◌&&◌, false, not, Bool, if◌then◌else◌, Option, Some, None, is_none, is_some, option_map, List, [], ◌∷◌}
 use Rattle.std.specs.Option.{option_map_or}
 use Rattle.osbase.specs.declared.statuses.Status.TheVariants.{EOsId, EOsCore}
 use Rattle.osbase.specs.declared.statuses.ServiceId.{ServiceId}
@@ -12,11 +12,11 @@ use Rattle.osbase.specs.declared.messages.RemoteCall.{RemoteCall}
 use Rattle.osbase.specs.declared.messages.RemoteCall.TheVariants.{ActivateTask, SetEvent, SetRelAlarm, SetAbsAlarm, CancelAlarm, GetAlarm}
 use Rattle.osbase.specs.declared.messages.Message.{Message}
 use Rattle.osbase.specs.declared.marks.Mark.TheVariants as Mark
-use Rattle.osbase.specs.History.{History, same_core}
+use Rattle.osbase.specs.History.{History}
 use Rattle.osbase.specs.Objects.{object_of_call}
 use Rattle.osplan.specs.declared.plans.Core.{Core}
 use Rattle.osplan.specs.View.{View}
-use Rattle.osplan.specs.Objects.{is_own_object}
+use Rattle.osplan.specs.Objects.{is_own_object, may_name}
 use Rattle.osstate.specs.Readings.{is_own, knows_started}
 use Rattle.oscall.specs.declared.returning.Answer.{Answer}
 use Rattle.oscall.specs.Checks.{Check}
@@ -45,9 +45,9 @@ has_service call = is_some (service_of call)
 abbrev pub is_served : View → RemoteCall → Bool
 is_served v call = has_service call && is_own_object v.own (object_of_call call)
 
--- What a script may call: a call that some core serves, whose object is there if it is one of this core's.
+-- What a script may call: a call that some core serves, on an object that it may name.
 abbrev pub is_known_call : Core → RemoteCall → Bool
-is_known_call core call = has_service call && (not (same_core (core_of_call call) core.id) || is_own_object core (object_of_call call))
+is_known_call core call = has_service call && may_name core (object_of_call call)
 
 -- What the object's core answers, and what it does.
 abbrev pub answer_to : RemoteCall → View → History → Option Answer

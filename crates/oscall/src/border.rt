@@ -13,7 +13,7 @@ use osbase::{CoreId, Mark, Message, RemoteCall, Runner, ServiceId, Status};
 use osstate::CoreState;
 
 /// Whether a core serves the call for the core of its object: so far only ActivateTask.
-pub fn is_answered(call: RemoteCall) -> bool
+pub fn has_service(call: RemoteCall) -> bool
     ensures { result ≡ has_service call }
 {
     matches!(call, RemoteCall::ActivateTask(_))

@@ -8,7 +8,7 @@ pub mod operations;
 pub mod returning;
 pub mod tasks;
 
-pub use border::{call, is_answered, serve_action, serve_request};
+pub use border::{call, has_service, serve_action, serve_request};
 pub use operations::operate;
 pub use returning::{Answer, ask, finish, is_ok, refuse, report};
 pub use tasks::{activate, end, end_unasked, terminate};

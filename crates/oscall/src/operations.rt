@@ -1,10 +1,9 @@
 //! The operations of a running job.
 
 ghost use Rattle.std.specs.Prelude.{◌≡◌, ◌<◌, IsTrue, false, length, option_map};
-ghost use Rattle.osbase.specs.History.{job_count};
 ghost use Rattle.osbase.specs.Phases.{is_before_live};
 ghost use Rattle.osstate.specs.Does.{Effects, HasRoom, service_entries, service_marks};
-ghost use Rattle.osstate.specs.Sound.{is_current, has_objects_of, is_own_runner};
+ghost use Rattle.osstate.specs.Sound.{Acts, has_objects_of};
 ghost use Rattle.oscall.specs.Operations.{operates};
 
 use crate::border::call;
@@ -20,9 +19,7 @@ pub fn operate<const P: usize, const J: usize, const OUT: usize>(
     op: Op,
     marks: &mut Vec<Mark>,
 )
-    requires own { IsTrue (is_own_runner state.old.view.own runner) }
-    requires job { 0 < job_count runner state.old.tasks.jobs }
-    requires current { IsTrue (is_current state.old.tasks.current runner) }
+    requires acts { Acts state.old runner }
     requires known { IsTrue (has_objects_of state.old.view.own op) }
     requires live { is_before_live state.old.progress.phase ≡ false }
     requires outbox { length state.old.border.outbox < OUT }

@@ -1,10 +1,9 @@
 //! The services of tasks.
 
-ghost use Rattle.std.specs.Prelude.{◌≡◌, ◌<◌, IsTrue, false};
-ghost use Rattle.osbase.specs.History.{job_count};
+ghost use Rattle.std.specs.Prelude.{◌≡◌, IsTrue, false};
 ghost use Rattle.osbase.specs.Phases.{is_before_live};
 ghost use Rattle.osstate.specs.Does.{Effects, HasRoom, Reads};
-ghost use Rattle.osstate.specs.Sound.{is_current, is_own_runner};
+ghost use Rattle.osstate.specs.Sound.{Acts, is_own_runner};
 ghost use Rattle.oscall.specs.Service.{answer_by, effect_by};
 ghost use Rattle.oscall.specs.Tasks.{activation, ends, ends_unasked, terminates};
 
@@ -47,9 +46,7 @@ pub fn end<const P: usize, const J: usize, const OUT: usize>(
     runner: Runner,
     marks: &mut Vec<Mark>,
 )
-    requires own { IsTrue (is_own_runner state.old.view.own runner) }
-    requires job { 0 < job_count runner state.old.tasks.jobs }
-    requires current { IsTrue (is_current state.old.tasks.current runner) }
+    requires acts { Acts state.old runner }
     requires room { HasRoom 2 2 state.old marks.old }
     ensures { Effects 2 2 (λ v h. ends runner h) state.old state.new marks.old marks.new }
 {
@@ -69,9 +66,7 @@ pub fn end_unasked<const P: usize, const J: usize, const OUT: usize>(
     runner: Runner,
     marks: &mut Vec<Mark>,
 )
-    requires own { IsTrue (is_own_runner state.old.view.own runner) }
-    requires job { 0 < job_count runner state.old.tasks.jobs }
-    requires current { IsTrue (is_current state.old.tasks.current runner) }
+    requires acts { Acts state.old runner }
     requires room { HasRoom 3 3 state.old marks.old }
     ensures { Effects 3 3 (λ v h. ends_unasked runner h) state.old state.new marks.old marks.new }
 {
@@ -91,9 +86,7 @@ pub fn terminate<const P: usize, const J: usize, const OUT: usize>(
     runner: Runner,
     marks: &mut Vec<Mark>,
 )
-    requires own { IsTrue (is_own_runner state.old.view.own runner) }
-    requires job { 0 < job_count runner state.old.tasks.jobs }
-    requires current { IsTrue (is_current state.old.tasks.current runner) }
+    requires acts { Acts state.old runner }
     requires room { HasRoom 2 2 state.old marks.old }
     ensures { Effects 2 2 (λ v h. terminates runner h) state.old state.new marks.old marks.new }
 {

@@ -16,7 +16,7 @@ use Rattle.serde_json.specs.Find.{get, as_str}
 use Rattle.osconf.specs.declared.shapes.ConfigText.{ConfigText}
 use Rattle.osconf.specs.declared.shapes.CoreText.{CoreText}
 use Rattle.osconf.specs.declared.shapes.TaskText.{TaskText}
-use Rattle.osconf.specs.declared.shapes.ObjectKind.TheVariants as kind
+use Rattle.osconf.specs.declared.shapes.JsonObject.TheVariants as kind
 use Rattle.osconf.specs.Fault.{failing}
 use Rattle.osconf.specs.Reading.{each, whole_of, if_name, name_of, values_of, member_of, member_or, is_object_of}
 use Rattle.osconf.specs.Shape.{is_member, only_if, each_of, task_shape, core_shape, config_shape}

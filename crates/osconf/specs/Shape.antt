@@ -6,12 +6,12 @@ use Rattle.serde_json.specs.Find.{as_str}
 use Rattle.osconf.specs.declared.shapes.ConfigText.{ConfigText}
 use Rattle.osconf.specs.declared.shapes.CoreText.{CoreText}
 use Rattle.osconf.specs.declared.shapes.TaskText.{TaskText}
-use Rattle.osconf.specs.declared.shapes.ObjectKind.{ObjectKind}
-use Rattle.osconf.specs.declared.shapes.ObjectKind.TheVariants.{Configuration, Core, Task}
+use Rattle.osconf.specs.declared.shapes.JsonObject.{JsonObject}
+use Rattle.osconf.specs.declared.shapes.JsonObject.TheVariants.{Configuration, Core, Task}
 use Rattle.osconf.specs.Reading.{◌>>=◌, each, whole_of, name_of, values_of, member_of, member_or, is_object_of}
 
 -- The members of each kind of object.
-abbrev pub is_member : ObjectKind → List ℕ → Bool
+abbrev pub is_member : JsonObject → List ℕ → Bool
 is_member Task key = bytes_eq key (codes "name") || bytes_eq key (codes "prio") || bytes_eq key (codes "auto") || bytes_eq key (codes "activations") || bytes_eq key (codes "script")
 is_member Core key = bytes_eq key (codes "id") || bytes_eq key (codes "start") || bytes_eq key (codes "tasks")
 is_member Configuration key = bytes_eq key (codes "version") || bytes_eq key (codes "cap") || bytes_eq key (codes "master") || bytes_eq key (codes "cores")

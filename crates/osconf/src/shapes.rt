@@ -46,23 +46,23 @@ pub struct ConfigText {
     pub cores: List<CoreText>,
 }
 
-/// A kind of object of a configuration.
+/// An object of the configuration's text, by what it says.
 #[derive(Clone, Copy, Debug, PartialEq, Eq)]
-pub enum ObjectKind {
+pub enum JsonObject {
     Configuration,
     Core,
     Task,
 }
 
-fn is_member(kind: ObjectKind, key: &str) -> bool
+fn is_member(kind: JsonObject, key: &str) -> bool
     ensures { result ≡ is_member kind key.now }
 {
     match kind {
-        ObjectKind::Configuration => {
+        JsonObject::Configuration => {
             key == "version" || key == "cap" || key == "master" || key == "cores"
         }
-        ObjectKind::Core => key == "id" || key == "start" || key == "tasks",
-        ObjectKind::Task => {
+        JsonObject::Core => key == "id" || key == "start" || key == "tasks",
+        JsonObject::Task => {
             key == "name"
                 || key == "prio"
                 || key == "auto"
@@ -72,13 +72,13 @@ fn is_member(kind: ObjectKind, key: &str) -> bool
     }
 }
 
-fn are_members(kind: ObjectKind, members: &Map<String, Value>) -> bool
+fn are_members(kind: JsonObject, members: &Map<String, Value>) -> bool
     ensures { result ≡ list_all (λ (key : String Global). is_member kind (string_bytes key)) (keys members.now) }
 {
     members.keys().all(|key| is_member(kind, key.as_str()))
 }
 
-fn is_object_of(kind: ObjectKind, value: &Value) -> bool
+fn is_object_of(kind: JsonObject, value: &Value) -> bool
     ensures { result ≡ is_object_of (is_member kind) (view value.now) }
 {
     match value.as_object() {
@@ -91,7 +91,7 @@ fn is_object_of(kind: ObjectKind, value: &Value) -> bool
 fn task_shape(alloc: Global, value: &Value) -> Result<TaskText, Refusal>
     ensures { Gives (λ x. x) result (task_shape (view value.now)) }
 {
-    if !is_object_of(ObjectKind::Task, value) {
+    if !is_object_of(JsonObject::Task, value) {
         return Err(Refusal::Unfit);
     }
     let name = name_at(alloc, value, "name")?;
@@ -122,7 +122,7 @@ fn task_shapes(alloc: Global, values: &[Value]) -> Result<List<TaskText>, Refusa
 fn core_shape(alloc: Global, value: &Value) -> Result<CoreText, Refusal>
     ensures { Gives (λ x. x) result (core_shape (view value.now)) }
 {
-    if !is_object_of(ObjectKind::Core, value) {
+    if !is_object_of(JsonObject::Core, value) {
         return Err(Refusal::Unfit);
     }
     let id = whole_at(value, "id")?;
@@ -146,7 +146,7 @@ fn core_shapes(alloc: Global, values: &[Value]) -> Result<List<CoreText>, Refusa
 pub fn config_shape(alloc: Global, value: &Value) -> Result<ConfigText, Refusal>
     ensures { Gives (λ x. x) result (config_shape (view value.now)) }
 {
-    if !is_object_of(ObjectKind::Configuration, value) {
+    if !is_object_of(JsonObject::Configuration, value) {
         return Err(Refusal::Unfit);
     }
     let version = whole_or(value, "version", 1)?;

@@ -9,7 +9,6 @@ use Rattle.osbase.specs.declared.objects.Object.{Object as Named}
 use Rattle.osbase.specs.Names.{is_name}
 use Rattle.oscript.specs.declared.Op.{Op}
 use Rattle.oscript.specs.declared.rows.Kind.{Kind}
-use Rattle.oscript.specs.declared.rows.Kind.TheVariants as Kind
 use Rattle.oscript.specs.declared.rows.Arg.{Arg}
 use Rattle.oscript.specs.declared.rows.Arg.TheVariants.{Object, Number, Int, Variable}
 use Rattle.oscript.specs.Rows.{kinds_of}

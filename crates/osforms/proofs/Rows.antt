@@ -6,11 +6,8 @@ use Rattle.osbase.specs.declared.objects.Place.{Place}
 use Rattle.osbase.specs.declared.objects.Object.{Object as Named}
 use Rattle.osbase.specs.Names.{is_name_part}
 use Rattle.oscript.specs.declared.Op.{Op}
-use Rattle.oscript.specs.declared.Op.TheVariants as Op
 use Rattle.oscript.specs.declared.rows.Kind.{Kind}
-use Rattle.oscript.specs.declared.rows.Kind.TheVariants as Kind
 use Rattle.oscript.specs.declared.rows.Verb.{Verb}
-use Rattle.oscript.specs.declared.rows.Verb.TheVariants as Verb
 use Rattle.oscript.specs.declared.rows.Arg.{Arg}
 use Rattle.oscript.specs.declared.rows.Arg.TheVariants.{Object, Number, Int, Variable}
 use Rattle.oscript.specs.Rows.{word_of, kinds_of}

@@ -10,7 +10,6 @@ use Rattle.osbase.specs.declared.histories.Job.{Job}
 use Rattle.osbase.specs.Sets.{has_core}
 use Rattle.osbase.specs.History.{Entry, History, Took, Printed, Noted}
 use Rattle.osbase.proofs.Same.{same_core-true}
-use Rattle.osplan.specs.declared.plans.Task.{Task}
 use Rattle.osplan.specs.View.{View}
 use Rattle.osstate.specs.Queries.{is_at_limit}
 use Rattle.osstate.specs.Readings.{best_job, is_own, knows_started, running, script_of}

@@ -2,7 +2,11 @@
 use Rattle.std.specs.Prelude.{ℕ, ◌*◌, ◌≤◌}
 use Rattle.osstate.specs.State.{KernelState}
 
--- The outbox has 8 places at least, and an item adds at most 1024 entries to the history.
+-- How many entries a step adds to the history at most: the item, what follows from it, and dispatch.
+abbrev pub step_entries : ℕ
+step_entries = 1024
+
+-- The outbox has 8 places at least, and no step added more entries than it may.
 pub record IsBounded (places : ℕ) (s : KernelState) : Type 0 where
   pub outbox : 8 ≤ places
-  pub entries : s.progress.entries ≤ 1024 * s.progress.items
+  pub entries : s.progress.entries ≤ step_entries * s.progress.items

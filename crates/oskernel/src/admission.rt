@@ -13,7 +13,7 @@ use osbase::{
     Agreement, CORE_NUMBERS, CoreId, CoreSet, Item, Message, ModeId, OpenCall, Phase, RemoteCall,
     ServiceId, Status, Stimulus,
 };
-use oscall::{is_answered, is_ok};
+use oscall::{has_service, is_ok};
 use osplan::CoreMode;
 use osstate::CoreState;
 use osstate::equality::{both, is_same_core};
@@ -253,7 +253,7 @@ fn is_own_target<const P: usize, const J: usize, const OUT: usize>(
 ) -> bool
     ensures { result ≡ is_served state.now.view call }
 {
-    both(is_answered(call), state.has(call.object()))
+    both(has_service(call), state.has(call.object()))
 }
 
 fn is_awaited_reply<const P: usize, const J: usize, const OUT: usize>(

@@ -10,9 +10,10 @@ ghost use Rattle.oscript.specs.Frames.{action_at};
 ghost use Rattle.osstate.specs.Does.{Adds, Does, Effects, HasRoom, Reads, item_entries, item_marks, service_entries, service_marks};
 ghost use Rattle.osstate.specs.Queries.{running_in};
 ghost use Rattle.osstate.specs.Readings.{frame_at, running, script_of, task_refs};
-ghost use Rattle.osstate.specs.Sound.{activation_limit, is_agreed, is_current, is_first_gate, is_own_runner, is_plain, is_posted, is_sender_known};
+ghost use Rattle.osstate.specs.Sound.{Acts, activation_limit, is_agreed, is_first_gate, is_own_runner, is_plain, is_posted, is_sender_known};
 ghost use Rattle.oscall.specs.Tasks.{activates};
 ghost use Rattle.oskernel.specs.Admission.{admits, is_stimulus};
+ghost use Rattle.oskernel.specs.Bounded.{step_entries};
 ghost use Rattle.oskernel.specs.Step.{autostarts, closes, dispatches, effect, enters, gate_mark, goes_on, goes_to, leaves, performs, receives, same_job, starts_in, stimulates};
 ghost use Rattle.oskernel.specs.Taking.{TakesItem, agreement_on, is_acting, is_answered, is_filling, is_known, is_request, is_second_gate};
 
@@ -32,7 +33,7 @@ pub(crate) fn take<const P: usize, const J: usize, const OUT: usize>(
 )
     requires admitted { IsTrue (admits OUT state.old item.now) }
     requires outbox { 1 ≤ OUT }
-    requires room { HasRoom 1024 item_marks state.old marks.old }
+    requires room { HasRoom step_entries item_marks state.old marks.old }
     ensures does { Does (λ v h. effect v item.now (Took item.now ∷ h)) state.old state.new marks.old.items marks.new.items }
     ensures takes { TakesItem (item_entries + 1) state.old state.new }
     ensures adds { Adds item_marks marks.old.items marks.new.items }
@@ -93,7 +94,15 @@ fn follow<const P: usize, const J: usize, const OUT: usize>(
             number: _,
             message,
         } => receive(state, *from, message, marks),
-        _ => {}
+        Item::On | Item::Entered | Item::Readied => {}
+        Item::Posted(_) | Item::Drained | Item::PassEnd | Item::Last(_) => {}
+        // These cannot be taken yet.
+        Item::Granted(_) | Item::Freed(_) => {}
+        Item::Tried {
+            spinlock: _,
+            taken: _,
+        } => {}
+        Item::Halt { core: _, status: _ } => {}
     }
 }
 
@@ -216,9 +225,7 @@ fn perform<const P: usize, const J: usize, const OUT: usize>(
     runner: Runner,
     marks: &mut Vec<Mark>,
 )
-    requires own { IsTrue (is_own_runner state.old.view.own runner) }
-    requires job { 0 < job_count runner state.old.tasks.jobs }
-    requires current { IsTrue (is_current state.old.tasks.current runner) }
+    requires acts { Acts state.old runner }
     requires live { is_before_live state.old.progress.phase ≡ false }
     requires outbox { length state.old.border.outbox < OUT }
     requires room { HasRoom service_entries service_marks state.old marks.old }

@@ -8,6 +8,7 @@ ghost use Rattle.osbase.specs.History.{outbox};
 ghost use Rattle.osstate.specs.Readings.{phase_at};
 ghost use Rattle.osstate.specs.State.{state_of};
 ghost use Rattle.osstate.specs.Does.{Adds, Does, Reads};
+ghost use Rattle.oskernel.specs.declared.kernel.TheConstants.{STEP_MARKS};
 ghost use Rattle.oskernel.specs.Step.{after, takes};
 ghost use Rattle.oskernel.specs.Wants.{front_of, go_on_unless, post_or as front_or, want_in, want_of};
 ghost use Rattle.oskernel.specs.Admission.{takes_in};
@@ -22,6 +23,10 @@ use std::marker::Model;
 
 // A core takes at most so many items.
 const MOST_ITEMS: u64 = 1 << 48;
+
+/// How many marks a step prints at most: the worst item is a tick, with all alarms and schedule tables of
+/// a core.
+pub const STEP_MARKS: usize = 512;
 
 /// The kernel of one core, with room for `J` live jobs and `OUT` envelopes; priorities are below `P`.
 #[derive(Drop)]
@@ -125,9 +130,9 @@ impl<'a, const P: usize, const J: usize, const OUT: usize> Kernel<'a, P, J, OUT>
     /// Takes an item that may be taken, and prints its marks.
     pub fn step(&mut self, item: Item, marks: &mut Vec<Mark>)
         requires taken { IsTrue (takes_in OUT self.old item) }
-        requires room { vec_len marks.old + 512 ≤ vec_capacity marks.old }
-        ensures adds { Adds 512 marks.old.items marks.new.items }
-        ensures len { vec_len marks.new ≤ vec_len marks.old + 512 }
+        requires room { vec_len marks.old + STEP_MARKS ≤ vec_capacity marks.old }
+        ensures adds { Adds STEP_MARKS marks.old.items marks.new.items }
+        ensures len { vec_len marks.new ≤ vec_len marks.old + STEP_MARKS }
         ensures capacity { vec_capacity marks.new ≡ vec_capacity marks.old }
         ensures items { self.new.progress.items ≡ self.old.progress.items + 1 }
         ensures does { Does (λ v h. after v h item) self.old self.new marks.old.items marks.new.items }

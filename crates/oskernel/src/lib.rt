@@ -6,7 +6,7 @@ mod effects;
 pub mod kernel;
 pub mod wants;
 
-pub use kernel::Kernel;
+pub use kernel::{Kernel, STEP_MARKS};
 pub use wants::Want;
 
 #[cfg(test)]

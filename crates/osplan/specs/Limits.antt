@@ -13,12 +13,12 @@ use Rattle.osplan.specs.declared.plans.Core.{Core}
 use Rattle.osplan.specs.declared.plans.Task.{Task}
 use Rattle.osplan.specs.declared.plans.CoreMode.{CoreMode}
 use Rattle.osplan.specs.declared.plans.CoreMode.TheVariants.{Named, DontCare}
-use Rattle.osplan.specs.Objects.{object_count}
+use Rattle.osplan.specs.Objects.{has_index}
 use Rattle.osplan.specs.View.{core_of}
 
 -- The object is one of the configuration.
 abbrev pub is_object : Plan → Object → Bool
-is_object plan object = option_map_or (λ (c : Core). nat_lt object.place.index (object_count object.kind c)) (core_of plan object.place.core) false
+is_object plan object = option_map_or (λ (c : Core). has_index c object) (core_of plan object.place.core) false
 
 -- What an operation names is there; the invalid identifier names nothing.
 abbrev pub is_op_known : Plan → Op → Bool

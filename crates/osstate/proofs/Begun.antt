@@ -21,7 +21,7 @@ use Rattle.osplan.specs.declared.plans.Core.{Core}
 use Rattle.osplan.specs.declared.plans.Task.{Task}
 use Rattle.osplan.specs.View.{View, core_of, no_core, view_from, view_of}
 use Rattle.osplan.specs.Limits.{is_within_limits, is_core_within, is_task_within, is_mode, is_object, is_op_known}
-use Rattle.osplan.specs.Objects.{is_own_object, object_count}
+use Rattle.osplan.specs.Objects.{has_index, may_name}
 use Rattle.osstate.specs.declared.progress.Progress.{Progress}
 use Rattle.osstate.specs.State.{state_of}
 use Rattle.osstate.specs.Steps.{state_from, first_border, first_progress, first_state, first_tasks}
@@ -50,17 +50,17 @@ some_activations plan core within =
 -- An operation of a configuration names objects that are there, so on this core some of its own.
 known_op : (plan : Plan) (id : CoreId) (core : Core) → core_of plan id ≡ Some core → (op : Op) → is_op_known plan op ≡ true → has_objects_of core op ≡ true
 known_op plan id core found op h =
-    all-weaker (is_object plan) (λ (object : Object). not (same_core object.place.core core.id) || is_own_object core object) known (objects_of op) h
+    all-weaker (is_object plan) (may_name core) known (objects_of op) h
   where
-    known : (object : Object) → is_object plan object ≡ true → (not (same_core object.place.core core.id) || is_own_object core object) ≡ true
+    known : (object : Object) → is_object plan object ≡ true → may_name core object ≡ true
     known object there = cases (same_core object.place.core core.id) refl
       where
-        cases : (b : Bool) → same_core object.place.core core.id ≡ b → (not b || (b && nat_lt object.place.index (object_count object.kind core))) ≡ true
+        cases : (b : Bool) → same_core object.place.core core.id ≡ b → (not b || (b && has_index core object)) ≡ true
         cases false e = refl
         cases true e =
             let here : object.place.core ≡ id = same_core-true object.place.core core.id e ∙ same_core-true core.id id (find-holds (λ (c : Core). same_core c.id id) plan.cores core found) in
             let of_core : core_of plan object.place.core ≡ Some core = ap (core_of plan) here ∙ found in
-            subst (λ (o : Option Core). option_map_or (λ (c : Core). nat_lt object.place.index (object_count object.kind c)) o false ≡ true) of_core there
+            subst (λ (o : Option Core). option_map_or (λ (c : Core). has_index c object) o false ≡ true) of_core there
 
 known_scripts : (plan : Plan) (id : CoreId) (core : Core) → is_core_within plan core ≡ true → core_of plan id ≡ Some core → list_all (λ (t : Task). list_all (has_objects_of core) t.script) core.tasks ≡ true
 known_scripts plan id core within found =

@@ -1,5 +1,5 @@
 -- What holds of the state of every kernel: that nothing runs out of its room. All of it is this project's own.
-use Rattle.std.specs.Prelude.{◌≡◌, ◌||◌, ℕ, ◌≤◌, nat_le, nat_lt, Bool, true, false, not, IsTrue, IfSome, Option, Some, None, is_some, [], length, slice_index, sum_by}
+use Rattle.std.specs.Prelude.{◌≡◌, ℕ, ◌≤◌, ◌<◌, nat_le, nat_lt, Bool, true, false, IsTrue, IfSome, Option, Some, None, is_some, [], length, slice_index, sum_by}
 use Rattle.std.specs.List.{list_all}
 use Rattle.std.specs.Option.{option_map_or}
 use Rattle.osbase.specs.declared.references.Runner.{Runner}
@@ -8,7 +8,7 @@ use Rattle.osbase.specs.declared.items.Agreement.{Agreement}
 use Rattle.osbase.specs.declared.items.Item.{Item}
 use Rattle.osbase.specs.declared.marks.Mark.{Mark}
 use Rattle.osbase.specs.declared.turns.TheConstants.{CORES}
-use Rattle.osbase.specs.History.{job_count, same_core, same_runner}
+use Rattle.osbase.specs.History.{job_count, same_runner}
 use Rattle.osbase.specs.Phases.{is_before_live, is_past_first_gate}
 use Rattle.oscript.specs.declared.Op.{Op}
 use Rattle.oscript.specs.Rows.{objects_of}
@@ -16,7 +16,7 @@ use Rattle.oscript.specs.declared.Action.{Action}
 use Rattle.oscript.specs.declared.Action.TheVariants.{Perform, End}
 use Rattle.osplan.specs.declared.plans.Core.{Core}
 use Rattle.osplan.specs.declared.plans.Task.{Task}
-use Rattle.osplan.specs.Objects.{is_own_object}
+use Rattle.osplan.specs.Objects.{may_name}
 use Rattle.osplan.specs.View.{own_task}
 use Rattle.osstate.specs.State.{KernelState}
 
@@ -36,14 +36,20 @@ abbrev pub is_current : Option TaskRef → Runner → Bool
 is_current None r = false
 is_current (Some t) r = same_runner r (Runner.Task t)
 
+-- The runner is the core's own and in the running state, with a live job: it is the one that acts.
+pub record Acts (s : KernelState) (r : Runner) : Type 0 where
+  pub own : IsTrue (is_own_runner s.view.own r)
+  pub job : 0 < job_count r s.tasks.jobs
+  pub current : IsTrue (is_current s.tasks.current r)
+
 -- How many jobs of a runner may be live at once; none of what is not the core's own.
 abbrev pub activation_limit : Core → Runner → ℕ
 activation_limit core (Runner.Task t) = option_map_or (λ (task : Task). task.activations) (own_task core t) 0
 activation_limit core (Runner.Isr i) = 0
 
--- What an operation names on this core is one of the core's own objects.
+-- The core may name whatever the operation names.
 abbrev pub has_objects_of : Core → Op → Bool
-has_objects_of core op = list_all (λ object. not (same_core object.place.core core.id) || is_own_object core object) (objects_of op)
+has_objects_of core op = list_all (may_name core) (objects_of op)
 
 -- What a job does next names no other object of this core either.
 abbrev pub is_action_known : Core → Action → Bool

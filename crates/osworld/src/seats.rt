@@ -11,7 +11,7 @@ ghost use Rattle.oskernel.specs.Step.{after};
 ghost use Rattle.osbase.specs.Runs.{stimuli_of};
 ghost use Rattle.osworld.specs.World.{is_ended_phase};
 ghost use Rattle.osworld.specs.Naming.{IsPlaced, left_after, named_by};
-ghost use Rattle.osworld.specs.declared.seats.TheConstants.{MARKS};
+ghost use Rattle.oskernel.specs.declared.kernel.TheConstants.{STEP_MARKS};
 
 use crate::boards::Board;
 use crate::naming::{Mailboxes, looked_item, own_item, served_item};
@@ -19,16 +19,13 @@ use osbase::{
     CORES, Choice, CoreId, CoreStimuli, Envelope, Item, List, Mark, Phase, Report, Stimulus,
     stimuli_for,
 };
-use oskernel::{Kernel, Want};
+use oskernel::{Kernel, STEP_MARKS, Want};
 use osplan::{Config, Core, CoreMode, Plan};
 use std::alloc::{AllocError, Global};
 
 /// A kernel of the sizes that every configuration within the limits fits: 32 priorities, 64 jobs, an
 /// outbox of 64 envelopes.
 pub type CoreKernel<'a> = Kernel<'a, 32, 64, 64>;
-
-/// How many lines one item prints at most.
-pub const MARKS: usize = 512;
 
 /// A core of a run: its kernel, the stimuli that are left, and what it took and printed so far.
 #[derive(Drop)]
@@ -63,7 +60,7 @@ impl<'a> Seat<'a> {
         ensures marks { IfOk result (λ seat. seat.marks.items ≡ []) }
     {
         let stimuli = stimuli_for(stimuli, id);
-        let ahead = stimuli.len().saturating_add(MARKS);
+        let ahead = stimuli.len().saturating_add(STEP_MARKS);
         Ok(Seat {
             id,
             mode,
@@ -99,7 +96,7 @@ impl<'a> Seat<'a> {
     /// Makes room for one more item and all lines that it may print. Without memory nothing changes.
     pub fn make_room(&mut self) -> Result<(), AllocError>
         ensures items { OnOk result (vec_len self.new.items < vec_capacity self.new.items) }
-        ensures marks { OnOk result (vec_len self.new.marks + MARKS ≤ vec_capacity self.new.marks) }
+        ensures marks { OnOk result (vec_len self.new.marks + STEP_MARKS ≤ vec_capacity self.new.marks) }
         ensures kernel { self.new.kernel ≡ self.old.kernel }
         ensures id { self.new.id ≡ self.old.id }
         ensures mode { self.new.mode ≡ self.old.mode }
@@ -108,13 +105,13 @@ impl<'a> Seat<'a> {
         ensures printed { self.new.marks.items ≡ self.old.marks.items }
     {
         self.items.reserve(1)?;
-        self.marks.reserve(MARKS)
+        self.marks.reserve(STEP_MARKS)
     }
 
     /// Takes an item: the kernel steps, and a stimulus is used up.
     pub fn take(&mut self, item: Item)
         requires items { vec_len self.old.items < vec_capacity self.old.items }
-        requires marks { vec_len self.old.marks + MARKS ≤ vec_capacity self.old.marks }
+        requires marks { vec_len self.old.marks + STEP_MARKS ≤ vec_capacity self.old.marks }
         requires taken { IsTrue (takes_in 64 self.old.kernel item) }
         ensures id { self.new.id ≡ self.old.id }
         ensures mode { self.new.mode ≡ self.old.mode }
