@@ -19,11 +19,16 @@ pub fn is_name(text: &str) -> bool
 fn are_name_parts(text: &[u8]) -> bool
     ensures { result ≡ list_all is_name_part text.now }
 {
-    text.iter().all(|c| is_name_part(*c))
+    // No early end: so the loop judges many characters at a time.
+    let mut fits = true;
+    for c in text {
+        fits &= is_name_part(*c);
+    }
+    fits
 }
 
 fn is_name_part(c: u8) -> bool
     ensures { result ≡ is_name_part c }
 {
-    c.is_ascii_alphanumeric() || c == b'_'
+    c.is_ascii_alphanumeric() | (c == b'_')
 }
