@@ -1,4 +1,4 @@
-"""What bench/run and bench/read share: programs that are built beside a copy of the crates, and their texts.
+"""What the scripts of bench share: programs that are built beside a copy of the crates, and their texts.
 
 The programs' sources lie in bench/programs under names that no crate has, since the merge gate refuses a source
 that no listed crate holds."""
@@ -6,12 +6,14 @@ import contextlib
 import json
 import os
 import shutil
+import statistics
 import subprocess
 import sys
 import tempfile
 
 CORES = 8
 ROOT = os.path.dirname(os.path.dirname(os.path.abspath(__file__)))
+PROGRAM = os.path.join(ROOT, "crates/mcos/out/mcos")
 SOURCES = os.path.join(ROOT, "bench", "programs")
 CLOCK = {"src/clock.rt": "clock.rt.txt"}
 # Of each program the libraries that it names, and its files.
@@ -103,6 +105,20 @@ def build_one(folder, name):
     if ran.returncode:
         sys.exit("%s was not built:\n%s%s" % (name, ran.stdout, ran.stderr))
     return os.path.join(crate, "out", name)
+
+
+def built(program):
+    """The path of a program that is there."""
+    if not os.path.exists(program):
+        sys.exit("no program at %s: `cd crates/mcos && rt run -- run data/config.json data/stim.json` builds it" % program)
+    return os.path.abspath(program)
+
+
+def spread(figures, form):
+    """The median of a figure's measurements, and where there are several the least and the greatest."""
+    if len(figures) == 1:
+        return form % figures[0]
+    return "%s (%s to %s)" % tuple(form % figure for figure in (statistics.median(figures), min(figures), max(figures)))
 
 
 def numbers(program, *words):
