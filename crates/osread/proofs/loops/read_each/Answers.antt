@@ -1,0 +1,23 @@
+use Rattle.std.proofs.Common.{◌+◌, drop, arith}
+use Rattle.std.proofs.lemmas.List.{drop_all}
+use Rattle.std.proofs.lemmas.Result.{err_from_is_err_and}
+use Rattle.osread.specs.Reading.{each}
+use Rattle.osread.proofs.Each.{with_front-nil, drop-here, each-more, each-stop, each-end}
+use Rattle.osread.proofs.loops.read_each.Goals as goal
+
+pub loop-element-init : goal.loop-element-init
+loop-element-init g c = rw c.new-read.ensures (with_front-nil (each (g.R.Reader.shape c.args.reader.now) c.args.elements.now))
+
+pub loop-element-preserved : goal.loop-element-preserved
+loop-element-preserved g c =
+    let here = drop-here c.args.elements.now c.loop-element.element-index c.element-item.result (omega arith) c.element-item.is in
+    rw c.in_ok-push.ensures.ok (each-more (g.R.Reader.shape c.args.reader.now) c.element-item.result (drop (c.loop-element.element-index + 1) c.args.elements.now) (drop c.loop-element.element-index c.args.elements.now) c.loop-element.read (each (g.R.Reader.shape c.args.reader.now) c.args.elements.now) c.in_ok-read.field-0 here c.in_ok-read.ensures c.loop-element.invariant)
+
+pub returns-in_err-read : goal.returns-in_err-read
+returns-in_err-read g c =
+    let here = drop-here c.args.elements.now c.loop-element.element-index c.element-item.result (omega arith) c.element-item.is in
+    let p = err_from_is_err_and c.from_residual.result c.from_residual.ensures.1 in
+    rw (p.1, p.2) (each-stop (g.R.Reader.shape c.args.reader.now) c.element-item.result (drop (c.loop-element.element-index + 1) c.args.elements.now) (drop c.loop-element.element-index c.args.elements.now) c.loop-element.read (each (g.R.Reader.shape c.args.reader.now) c.args.elements.now) c.in_err-read.field-0.0 here c.in_err-read.ensures c.loop-element.invariant)
+
+pub returns : goal.returns
+returns g c = each-end (g.R.Reader.shape c.args.reader.now) _ c.loop-element.read (each (g.R.Reader.shape c.args.reader.now) c.args.elements.now) (drop_all c.loop-element.element-index c.args.elements.now (omega arith)) c.loop-element.invariant

@@ -1,0 +1,7 @@
+use Rattle.std.proofs.Common.{map}
+use Rattle.serde_json.specs.View.{view}
+use Rattle.osread.proofs.Contents.{elements-items_of}
+use Rattle.osread.proofs.values.ListOfJsonReaderList.read.Goals as goal
+
+pub returns-in-Some : goal.returns-in-Some
+returns-in-Some g c = rw (← c.in-Some.ensures, elements-items_of (map view c.in-Some.values.now.items), ← c.as_slice.ensures.value) c.read_values.ensures

@@ -1,0 +1,34 @@
+//! The loop over the elements of a list.
+
+ghost use Rattle.std.specs.Prelude.{◌≡◌, Option};
+ghost use Rattle.osread.specs.Reading.{Gives, each};
+
+use crate::refusals::Refusal;
+use osbase::List;
+use std::alloc::Global;
+
+/// Reads one element.
+pub trait Reader<T, U> {
+    /// What an element is read as.
+    ghost shape: { Self → T → Option U };
+
+    /// The element as its shape has it. `Unfit` where it has none; `OutOfMemory` where memory runs out.
+    fn read(&self, alloc: Global, element: &T) -> Result<U, Refusal>
+        ensures { Gives (λ x. x) result (shape self.now element.now) };
+}
+
+/// Each element as the reader reads it. `Unfit` where one of them has no shape; `OutOfMemory` where memory
+/// runs out.
+pub fn read_each<T, U: Drop, R: Reader<T, U>>(
+    alloc: Global,
+    reader: &R,
+    elements: &[T],
+) -> Result<List<U>, Refusal>
+    ensures { Gives (λ x. x) result (each (R.shape reader.now) elements.now) }
+{
+    let mut read = List::new(alloc);
+    for element in elements {
+        read.push(reader.read(alloc, element)?)?;
+    }
+    Ok(read)
+}

@@ -1,0 +1,126 @@
+//! Readers of JSON values: whole numbers, names, texts, and lists of whatever is read.
+
+ghost use Rattle.std.specs.Prelude.{◌≡◌, Option, map};
+ghost use Rattle.serde_json.specs.Data.{Data};
+ghost use Rattle.serde_json.specs.Find.{as_str};
+ghost use Rattle.serde_json.specs.View.{view};
+ghost use Rattle.osread.specs.Reading.{Gives, each};
+ghost use Rattle.osread.specs.Json.{whole_of, if_name, name_of, each_of};
+
+use crate::loops::{Reader, read_each};
+use crate::refusals::Refusal;
+use osbase::{List, Name, is_name};
+use serde_json::Value;
+use std::alloc::Global;
+
+/// Reads one value.
+pub trait JsonReader<U> {
+    /// What a value is read as.
+    ghost shape: { Self → Data → Option U };
+
+    /// The value as its shape has it. `Unfit` where it has none; `OutOfMemory` where memory runs out.
+    fn read(&self, alloc: Global, value: &Value) -> Result<U, Refusal>
+        ensures { Gives (λ x. x) result (shape self.now (view value.now)) };
+}
+
+/// A whole number of a text; one below 0 is None.
+pub type Whole = Option<u64>;
+
+/// Reads a whole number.
+#[derive(Clone, Copy, Debug)]
+pub struct WholeReader;
+
+impl JsonReader<Whole> for WholeReader {
+    ghost shape = { λ _ d. whole_of d };
+
+    fn read(&self, _alloc: Global, value: &Value) -> Result<Whole, Refusal> {
+        match value.as_u64() {
+            Some(number) => Ok(Some(number)),
+            None => match value.as_i64() {
+                Some(_) => Ok(None),
+                None => Err(Refusal::Unfit),
+            },
+        }
+    }
+}
+
+/// Reads a text.
+#[derive(Clone, Copy, Debug)]
+pub struct TextReader;
+
+impl JsonReader<Name> for TextReader {
+    ghost shape = { λ _ d. as_str d };
+
+    fn read(&self, alloc: Global, value: &Value) -> Result<Name, Refusal> {
+        match value.as_str() {
+            Some(text) => Ok(Name::new(alloc, text)?),
+            None => Err(Refusal::Unfit),
+        }
+    }
+}
+
+/// Reads a text that has the form of a name.
+#[derive(Clone, Copy, Debug)]
+pub struct NameReader;
+
+impl JsonReader<Name> for NameReader {
+    ghost shape = { λ _ d. name_of d };
+
+    fn read(&self, alloc: Global, value: &Value) -> Result<Name, Refusal> {
+        match value.as_str() {
+            Some(text) => name_in(alloc, text),
+            None => Err(Refusal::Unfit),
+        }
+    }
+}
+
+fn name_in(alloc: Global, text: &str) -> Result<Name, Refusal>
+    ensures { Gives (λ x. x) result (if_name text.now) }
+{
+    if is_name(text) {
+        Ok(Name::new(alloc, text)?)
+    } else {
+        Err(Refusal::Unfit)
+    }
+}
+
+/// Reads a list of such values.
+#[derive(Clone, Copy, Debug)]
+pub struct ListOf<R> {
+    pub of: R,
+}
+
+impl<U: Drop, R: JsonReader<U>> JsonReader<List<U>> for ListOf<R> {
+    ghost shape = { λ list d. each_of (R.shape list.of) d };
+
+    fn read(&self, alloc: Global, value: &Value) -> Result<List<U>, Refusal> {
+        match value.as_array() {
+            Some(values) => read_values(alloc, &self.of, values.as_slice()),
+            None => Err(Refusal::Unfit),
+        }
+    }
+}
+
+fn read_values<U: Drop, R: JsonReader<U>>(
+    alloc: Global,
+    reader: &R,
+    values: &[Value],
+) -> Result<List<U>, Refusal>
+    ensures { Gives (λ x. x) result (each (R.shape reader.now) (map view values.now)) }
+{
+    read_each(alloc, &ElementReader { reader }, values)
+}
+
+// Reads the elements of a list as values.
+#[derive(Clone, Copy, Debug)]
+struct ElementReader<'r, R> {
+    reader: &'r R,
+}
+
+impl<U, R: JsonReader<U>> Reader<Value, U> for ElementReader<'_, R> {
+    ghost shape = { λ element value. R.shape element.reader.now (view value) };
+
+    fn read(&self, alloc: Global, value: &Value) -> Result<U, Refusal> {
+        self.reader.read(alloc, value)
+    }
+}
