@@ -4,7 +4,7 @@ use Rattle.std.specs.List.{list_all, slice_split, join_by, flat_map}
 use Rattle.std.proofs.lemmas.Bool.{and_parts, not-true}
 use Rattle.std.proofs.lemmas.List.{append-nil}
 use Rattle.osforms.proofs.Joining.{has_none, split-lone, split-cut, some-more}
-use Rattle.osconf.specs.Word.{parts_of}
+use Rattle.osread.specs.Reading.{parts_of}
 
 pub if_ok : {A E : Type 0} (P Q : A → Type 0) (r : Result A E) → IfOk r P → ((x : A) → P x → Q x) → IfOk r Q
 if_ok P Q (Ok x) p imply = imply x p

@@ -1,6 +1,4 @@
-pub mod Each
 pub mod Built
-pub mod Contents
 pub mod Placing
 pub mod Least
 pub mod Bounds

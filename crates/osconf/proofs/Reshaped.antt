@@ -15,10 +15,11 @@ use Rattle.osplan.specs.Expressible.{mode_name, are_mode_name, is_only_mode, is_
 use Rattle.osconf.specs.declared.shapes.ConfigText.{ConfigText}
 use Rattle.osconf.specs.declared.shapes.CoreText.{CoreText}
 use Rattle.osconf.specs.declared.shapes.TaskText.{TaskText}
-use Rattle.osconf.specs.Reading.{each, elements, whole_of, name_of}
+use Rattle.osread.specs.Reading.{each}
+use Rattle.osread.specs.Json.{elements, whole_of, name_of}
 use Rattle.osconf.specs.Shape.{task_shape, core_shape, config_shape}
 use Rattle.osconf.specs.Writing.{mode_text, script_text, id_data, mode_data, task_data, core_data, config_data}
-use Rattle.osconf.proofs.Contents.{elements-items_of}
+use Rattle.osread.proofs.Contents.{elements-items_of}
 
 -- ---- what the text says
 

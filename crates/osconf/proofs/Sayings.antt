@@ -16,10 +16,10 @@ use Rattle.serde_json.specs.Find.{get, as_str}
 use Rattle.osconf.specs.declared.shapes.ConfigText.{ConfigText}
 use Rattle.osconf.specs.declared.shapes.CoreText.{CoreText}
 use Rattle.osconf.specs.declared.shapes.TaskText.{TaskText}
-use Rattle.osconf.specs.declared.shapes.JsonObject.TheVariants as kind
 use Rattle.osconf.specs.Fault.{failing}
-use Rattle.osconf.specs.Reading.{each, whole_of, if_name, name_of, values_of, member_of, member_or, is_object_of}
-use Rattle.osconf.specs.Shape.{is_member, only_if, each_of, task_shape, core_shape, config_shape}
+use Rattle.osread.specs.Reading.{each}
+use Rattle.osread.specs.Json.{whole_of, if_name, name_of, values_of, each_of, member_of, member_or}
+use Rattle.osconf.specs.Shape.{task_shape, core_shape, config_shape}
 use Rattle.osconf.specs.Check.{core_has_name, has_named_tasks, is_task_within, is_core_within, is_within, same_number, is_first_named, are_tasks_distinct, is_apart, is_first_apart, are_cores_distinct, is_each_once, tests_of}
 use Rattle.osconf.specs.Operation.{byte_of, number_id}
 use Rattle.osconf.specs.Meaning.{only_mode, task_plan, core_plan, plan_of}
@@ -72,7 +72,7 @@ name-passes d name e = let step = some-step if_name (as_str d) name e in name-if
 task-named : (d : Data) (task : TaskText) → task_shape d ≡ Some task → is_name task.name ≡ true
 unfolding task_shape
 task-named d task e =
-    by-step _ (only_if (is_object_of (is_member kind.Task) d)) task e
+    by-step _ _ task e
     (λ fit _ e1. by-step _ (member_of name_of (codes "name") d) task e1
     (λ name found e2. by-step _ (member_of whole_of (codes "prio") d) task e2
     (λ prio _ e3. by-step _ (member_or (each_of name_of) [] (codes "auto") d) task e3
@@ -86,7 +86,7 @@ task-named d task e =
 core-named : (d : Data) (core : CoreText) → core_shape d ≡ Some core → has_named_tasks core ≡ true
 unfolding core_shape
 core-named d core e =
-    by-step _ (only_if (is_object_of (is_member kind.Core) d)) core e
+    by-step _ _ core e
     (λ fit _ e1. by-step _ (member_of whole_of (codes "id") d) core e1
     (λ id _ e2. by-step _ (member_or (each_of whole_of) [] (codes "start") d) core e2
     (λ start _ e3. by-step _ (member_or (each_of task_shape) [] (codes "tasks") d) core e3
@@ -99,7 +99,7 @@ core-named d core e =
 pub config-named : (d : Data) (t : ConfigText) → config_shape d ≡ Some t → list_all has_named_tasks t.cores ≡ true
 unfolding config_shape
 config-named d t e =
-    by-step _ (only_if (is_object_of (is_member kind.Configuration) d)) t e
+    by-step _ _ t e
     (λ fit _ e1. by-step _ (member_or whole_of (Some 1) (codes "version") d) t e1
     (λ version _ e2. by-step _ (member_or whole_of (Some 16) (codes "cap") d) t e2
     (λ cap _ e3. by-step _ (member_or whole_of (Some 0) (codes "master") d) t e3

@@ -7,11 +7,11 @@ use Rattle.std.proofs.lemmas.Slice.Eq.{bytes_eq-Decides}
 use Rattle.std.proofs.lemmas.List.Splits.{join_with_byte-slice_split, length-slice_split}
 use Rattle.osbase.specs.declared.items.Stimulus.{Stimulus}
 use Rattle.osbase.specs.declared.items.Stimulus.TheVariants.{Op}
-use Rattle.osconf.specs.declared.members.Refusal.{Refusal}
-use Rattle.osconf.specs.declared.members.Refusal.TheVariants.{OutOfMemory, Unfit}
-use Rattle.osconf.specs.Reading.{Refuses, each}
+use Rattle.osread.specs.declared.refusals.Refusal.{Refusal}
+use Rattle.osread.specs.declared.refusals.Refusal.TheVariants.{OutOfMemory, Unfit}
+use Rattle.osread.specs.Reading.{Refuses, each}
 use Rattle.osconf.specs.Given.{stimulus_of, after_op}
-use Rattle.osconf.proofs.Each.{with_front, with_front-cons}
+use Rattle.osread.proofs.Each.{with_front, with_front-cons}
 
 -- the parts between spaces
 abbrev words : List ℕ → List (List ℕ)

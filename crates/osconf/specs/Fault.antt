@@ -1,6 +1,7 @@
--- Tables of faults.
-use Rattle.std.specs.Prelude.{Bool, List, [], ◌∷◌, Option, Some, None, if◌then◌else◌}
+-- Tables of faults, and the fault that a step answers.
+use Rattle.std.specs.Prelude.{◌≡◌, ◌⊎◌, Bool, List, [], ◌∷◌, Option, Some, None, Result, Ok, Err, if◌then◌else◌}
 use Rattle.osplan.specs.declared.faults.ConfFault.{ConfFault}
+use Rattle.osplan.specs.declared.faults.ConfFault.TheVariants.{NoMemory}
 
 -- A table of faults, each with its test, which is true where the fault is absent. [own]
 abbrev pub Tests : Type 0
@@ -15,3 +16,11 @@ failing (row ∷ rows) = if row.1 then failing rows else row.0 ∷ failing rows
 abbrev pub first_fault : List ConfFault → Option ConfFault
 first_fault [] = None
 first_fault (fault ∷ faults) = Some fault
+
+-- What a step answered past the seam, where its fault has a name: seen by view, what the definition has, unless memory ran out.
+abbrev pub Faults : {Y : Type 0} → ConfFault → ConfFault → Option Y → Type 0
+Faults named fault read = (fault ≡ NoMemory) ⊎ ((fault ≡ named) × (read ≡ None))
+
+abbrev pub GivesOr : {X Y : Type 0} → ConfFault → (X → Y) → Result X ConfFault → Option Y → Type 0
+GivesOr named view (Ok x) read = read ≡ Some (view x)
+GivesOr named view (Err fault) read = Faults named fault read

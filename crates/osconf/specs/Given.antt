@@ -18,8 +18,9 @@ use Rattle.serde_json.specs.Find.{as_str, as_object}
 use Rattle.osplan.specs.declared.faults.ConfFault.{ConfFault}
 use Rattle.osplan.specs.declared.faults.ConfFault.TheVariants.{NotJson, Limit, BadStimulus, BadSchedule}
 use Rattle.osconf.specs.Fault.{Tests, failing}
-use Rattle.osconf.specs.Word.{parts_of, core_number}
-use Rattle.osconf.specs.Reading.{◌>>=◌, each, entries}
+use Rattle.osconf.specs.Word.{core_number}
+use Rattle.osread.specs.Reading.{◌>>=◌, each, parts_of}
+use Rattle.osread.specs.Json.{entries}
 use Rattle.osconf.specs.Meaning.{if_faultless}
 
 -- The configured core that these digits name.

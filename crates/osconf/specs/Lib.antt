@@ -1,6 +1,5 @@
 pub mod Fault
 pub mod Word
-pub mod Reading
 pub mod Shape
 pub mod Operation
 pub mod Check

@@ -1,5 +1,5 @@
 -- The configuration that a text means, and the faults that a text has. [own]
-use Rattle.std.specs.Prelude.{ℕ, ◌<◌, Option, Some, None, option_and_then, List, [], ◌∷◌, map}
+use Rattle.std.specs.Prelude.{ℕ, ◌<◌, ◌&&◌, Option, Some, None, option_and_then, List, [], ◌∷◌, map}
 use Rattle.std.specs.List.{IsAmong}
 use Rattle.osbase.specs.declared.references.ModeId.{ModeId}
 use Rattle.osplan.specs.declared.plans.Plan.{Plan}
@@ -18,7 +18,8 @@ use Rattle.osplan.specs.Expressible.{mode_name}
 use Rattle.osconf.specs.Fault.{failing}
 use Rattle.osconf.specs.Shape.{config_shape}
 use Rattle.osconf.specs.Operation.{operations_of, byte_of, number_id, id_of, op_of}
-use Rattle.osconf.specs.Check.{tests_of}
+use Rattle.osconf.specs.Check.{is_task_known, is_core_known, is_task_script, is_core_script, tests_of}
+use Rattle.osread.specs.Reading.{value_if}
 
 -- There is one mode, of number 0.
 abbrev pub only_mode : ModeId
@@ -43,6 +44,13 @@ core_plan cores core = record {
   alarms = [];
   tables = [];
 }
+
+-- The plans of a task and of a core whose names are known and whose operations are in good form.
+abbrev pub known_task : List CoreText → TaskText → Option Task
+known_task cores task = value_if (is_task_known cores task && is_task_script task) (task_plan cores task)
+
+abbrev pub known_core : List CoreText → CoreText → Option Core
+known_core cores core = value_if (is_core_known cores core && is_core_script core) (core_plan cores core)
 
 abbrev pub plan_of : ConfigText → Plan
 plan_of t = record {

@@ -10,8 +10,7 @@ use Rattle.oscript.specs.declared.Op.TheVariants.{Work}
 use Rattle.osforms.specs.Operation.{op_meant, is_formed, is_known}
 use Rattle.osconf.specs.declared.shapes.CoreText.{CoreText}
 use Rattle.osconf.specs.declared.shapes.TaskText.{TaskText}
-use Rattle.osconf.specs.Reading.{value_if}
-use Rattle.osconf.specs.Word.{parts_of}
+use Rattle.osread.specs.Reading.{value_if, parts_of}
 
 -- A script's operations are divided by `;`.
 abbrev pub operations_of : List ℕ → List (List ℕ)

@@ -1,11 +1,6 @@
--- Numbers and the parts of a text.
-use Rattle.std.specs.Prelude.{ℕ, ◌+◌, ◌*◌, ◌-◌, ◌==◌, if◌then◌else◌, Option, Some, None, option_and_then, option_map, List, [], ◌∷◌, length}
+-- Numbers.
+use Rattle.std.specs.Prelude.{ℕ, ◌+◌, ◌*◌, ◌-◌, ◌==◌, if◌then◌else◌, Option, Some, None, option_and_then, option_map, List, [], ◌∷◌}
 use Rattle.std.specs.Char.{is_ascii_digit}
-use Rattle.std.specs.List.{slice_split}
-
--- What a text has between separators of one byte. The empty text has no part. [own]
-abbrev pub parts_of : ℕ → List ℕ → List (List ℕ)
-parts_of separator text = if length text == 0 then [] else slice_split (λ b. b == separator) text
 
 -- The value of a decimal digit.
 abbrev pub digit_of : ℕ → Option ℕ

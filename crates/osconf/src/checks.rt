@@ -10,11 +10,12 @@ ghost use Rattle.osconf.specs.Operation.{has_name, is_operation_known};
 ghost use Rattle.osconf.specs.Check.{is_between, is_task_within, is_core_within, is_within, core_has_name, is_first_named, are_tasks_distinct, same_number, is_apart, is_first_apart, are_cores_distinct, is_each_once, are_operations_known, is_mode_name, is_task_known, is_core_known, are_known, are_operations, tests_of};
 
 use crate::places::{Objects, has_name};
-use crate::shapes::{ConfigText, CoreText, TaskText, Whole};
+use crate::shapes::{ConfigText, CoreText, TaskText};
 use crate::words::part_count;
 use osbase::Name;
 use osforms::is_known;
 use osplan::ConfFault;
+use osread::Whole;
 
 /// The name of the only mode.
 pub const MODE: &str = "M";

@@ -4,16 +4,15 @@ ghost use Rattle.std.specs.Prelude.{◌≡◌, ◌≢◌, IfOk, IfErr, Some, []}
 ghost use Rattle.serde_json.specs.Read.{read};
 ghost use Rattle.serde_json.specs.View.{view};
 ghost use Rattle.osconf.specs.Shape.{config_shape};
-ghost use Rattle.osconf.specs.Fault.{failing, first_fault};
+ghost use Rattle.osconf.specs.Fault.{failing, first_fault, GivesOr};
 ghost use Rattle.osconf.specs.Check.{tests_of};
 ghost use Rattle.osconf.specs.Meaning.{plan_of, config_of, IsLeastFault};
-ghost use Rattle.osconf.specs.Reading.{GivesOr};
 
 use crate::checks::{check, fault_of_names};
-use crate::members::Refusal;
 use crate::plans::plan_of;
-use crate::shapes::{ConfigText, config_shape};
+use crate::shapes::{ConfigReader, ConfigText};
 use osplan::{ConfFault, Config, Plan};
+use osread::{JsonReader, Refusal};
 use serde_json::Value;
 use std::alloc::Global;
 
@@ -36,7 +35,7 @@ pub fn value_of(alloc: Global, text: &str) -> Result<Value, ConfFault>
 fn shape_of(alloc: Global, value: &Value) -> Result<ConfigText, ConfFault>
     ensures { GivesOr ConfFault.Shape (λ x. x) result (config_shape (view value.now)) }
 {
-    match config_shape(alloc, value) {
+    match ConfigReader.read(alloc, value) {
         Ok(text) => Ok(text),
         Err(Refusal::OutOfMemory) => Err(ConfFault::NoMemory),
         Err(Refusal::Unfit) => Err(ConfFault::Shape),

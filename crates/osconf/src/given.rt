@@ -6,16 +6,17 @@ ghost use Rattle.std.specs.List.{list_all, slice_split};
 ghost use Rattle.std.specs.Borrow.{Bor};
 ghost use Rattle.std.specs.BTreeMap.{values};
 ghost use Rattle.serde_json.specs.declared.value.Value.{Value};
-ghost use Rattle.osconf.specs.Reading.{Gives, each, entries};
+ghost use Rattle.osread.specs.Reading.{Gives, each};
+ghost use Rattle.osread.specs.Json.{entries};
 ghost use Rattle.osconf.specs.Meaning.{IsLeast};
-ghost use Rattle.osconf.specs.Given.{core_named, stimulus_of, after_op, stimuli_of_text, core_stimuli_of, stimuli_of_data, has_words_within, are_stimuli_within, schedule_of_data, digits_in, served, choice_of, turn_of, turns_of_text, stimuli_meant, stimuli_faults, schedule_meant, schedule_faults};
+ghost use Rattle.osconf.specs.Given.{core_named, stimulus_of, after_op, stimuli_of_text, core_stimuli_of, stimuli_of_data, has_words_within, are_stimuli_within, schedule_of_data, digits_in, served, choice_of, turn_of, stimuli_meant, stimuli_faults, schedule_meant, schedule_faults};
 ghost use Rattle.serde_json.specs.View.{view, members_view};
 
 use crate::configs::value_of;
-use crate::members::Refusal;
 use crate::words::{core_number, part_count};
 use osbase::{Choice, CoreId, CoreStimuli, List as Items, Schedule, Stimuli, Stimulus, Turn};
 use osplan::{ConfFault, Config, Plan};
+use osread::{PartReader, Refusal, read_parts};
 use serde_json::{Map, Value};
 use std::alloc::Global;
 
@@ -206,44 +207,30 @@ fn first_other(word: &[u8]) -> Option<usize>
     word.iter().position(|b| !b.is_ascii_digit())
 }
 
-#[tactic(auto, unfolding(crate::specs::Given::turn_of))]
-fn turn_of(plan: &Plan, word: &str) -> Option<Turn>
-    ensures { result ≡ turn_of plan.now word.now }
-{
-    let bytes = word.as_bytes();
-    let digits = digits_in(bytes);
-    let core = core_named(plan, &bytes[..digits])?;
-    let choice = choice_of(plan, core, &bytes[digits..])?;
-    Some((core, choice))
+// Reads a turn.
+#[derive(Clone, Copy, Debug)]
+struct TurnReader<'p> {
+    plan: &'p Plan,
 }
 
-fn read_turn(plan: &Plan, word: &str) -> Result<Turn, Refusal>
-    ensures { Gives (λ x. x) result (turn_of plan.now word.now) }
-{
-    match turn_of(plan, word) {
-        Some(turn) => Ok(turn),
-        None => Err(Refusal::Unfit),
-    }
-}
+impl PartReader<Turn> for TurnReader<'_> {
+    ghost shape = { λ reader. turn_of reader.plan.now };
 
-fn turns_of_text(alloc: Global, plan: &Plan, text: &str) -> Result<Schedule, Refusal>
-    ensures { Gives (λ x. x) result (turns_of_text plan.now text.now) }
-{
-    let mut turns = Items::new(alloc);
-    if text.is_empty() {
-        return Ok(turns);
+    #[tactic(auto, unfolding(crate::specs::Given::turn_of))]
+    fn read(&self, part: &str) -> Option<Turn> {
+        let bytes = part.as_bytes();
+        let digits = digits_in(bytes);
+        let core = core_named(self.plan, &bytes[..digits])?;
+        let choice = choice_of(self.plan, core, &bytes[digits..])?;
+        Some((core, choice))
     }
-    for word in text.split(' ') {
-        turns.push(read_turn(plan, word)?)?;
-    }
-    Ok(turns)
 }
 
 fn schedule_of(alloc: Global, plan: &Plan, value: &Value) -> Result<Schedule, Refusal>
     ensures { Gives (λ x. x) result (schedule_of_data plan.now (view value.now)) }
 {
     match value.as_str() {
-        Some(text) => turns_of_text(alloc, plan, text),
+        Some(text) => read_parts(alloc, &TurnReader { plan }, text, ' '),
         None => Err(Refusal::Unfit),
     }
 }

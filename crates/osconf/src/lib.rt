@@ -9,7 +9,6 @@
 mod checks;
 mod configs;
 mod given;
-mod members;
 mod places;
 mod plans;
 mod shapes;

@@ -3,9 +3,10 @@
 ghost use Rattle.std.specs.Prelude.{◌≡◌, position};
 ghost use Rattle.osconf.specs.Operation.{byte_of, has_name, id_of, task_of_core, task_place};
 
-use crate::shapes::{CoreText, TaskText, Whole};
+use crate::shapes::{CoreText, TaskText};
 use osbase::{CoreId, ObjectKind, Place};
 use osforms::Places;
+use osread::Whole;
 
 /// A number as a byte: 0 where it is none, which no text within the limits has.
 pub fn byte_of(number: Whole) -> u8

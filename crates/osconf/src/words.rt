@@ -1,7 +1,8 @@
 //! Numbers and the parts of a text.
 
 ghost use Rattle.std.specs.Prelude.{◌≡◌, ◌==◌, ◌≤◌, count_by, length};
-ghost use Rattle.osconf.specs.Word.{parts_of, digit_of, two_digits, core_number};
+ghost use Rattle.osconf.specs.Word.{digit_of, two_digits, core_number};
+ghost use Rattle.osread.specs.Reading.{parts_of};
 
 /// The most bytes of a run, whose count is a byte.
 const RUN: usize = 240;

@@ -1,6 +1,6 @@
 use Rattle.std.proofs.Common.{◌∙◌}
 use Rattle.osconf.specs.Given.{has_words_within}
-use Rattle.osconf.proofs.Contents.{list_all-values}
+use Rattle.osread.proofs.Contents.{list_all-values}
 use Rattle.osconf.proofs.given.are_stimuli_within.Goals as goal
 
 pub returns-in-Some : goal.returns-in-Some

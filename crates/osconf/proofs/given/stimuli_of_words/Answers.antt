@@ -1,9 +1,9 @@
 use Rattle.std.proofs.Common.{◌==◌, sym}
 use Rattle.std.proofs.lemmas.Result.{err_from_is_err_and}
 use Rattle.std.specs.List.{slice_split}
-use Rattle.osconf.specs.Reading.{each}
+use Rattle.osread.specs.Reading.{each}
 use Rattle.osconf.specs.Given.{stimulus_of}
-use Rattle.osconf.proofs.Each.{with_front-nil}
+use Rattle.osread.proofs.Each.{with_front-nil}
 use Rattle.osconf.proofs.Walking.{walk-shorter, walk-more, walk-refused, walk-end}
 use Rattle.osconf.proofs.given.stimuli_of_words.Goals as goal
 

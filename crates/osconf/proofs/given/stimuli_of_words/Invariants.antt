@@ -1,8 +1,8 @@
 use Rattle.std.proofs.Common.{◌≡◌, ◌==◌, length}
 use Rattle.std.specs.List.{slice_split}
-use Rattle.osconf.specs.Reading.{each}
+use Rattle.osread.specs.Reading.{each}
 use Rattle.osconf.specs.Given.{stimulus_of}
-use Rattle.osconf.proofs.Each.{with_front}
+use Rattle.osread.proofs.Each.{with_front}
 use Rattle.osconf.proofs.given.stimuli_of_words.Given as goal
 
 abbrev pub invariant-loop-later : goal.invariant-loop-later
