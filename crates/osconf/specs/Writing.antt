@@ -8,7 +8,6 @@ use Rattle.serde_json.specs.Written.{compact_text}
 use Rattle.osbase.specs.declared.references.CoreId.{CoreId}
 use Rattle.osbase.specs.declared.references.ModeId.{ModeId}
 use Rattle.osbase.specs.declared.objects.ObjectKind.{ObjectKind}
-use Rattle.osbase.specs.declared.objects.ObjectKind.TheVariants as ObjectKind
 use Rattle.osbase.specs.declared.objects.Place.{Place}
 use Rattle.oscript.specs.declared.Op.{Op}
 use Rattle.osforms.specs.Operation as forms

@@ -12,10 +12,10 @@ loop-part-init g c =
     (YieldsList-at c.into_iter-part-iterator.ensures.into_iter_gives (YieldsList-from_str_split c.args.separator c.args.text.now c.requires split.text split.has_more split.pattern)))
 
 pub loop-part-preserved : goal.loop-part-preserved
-loop-part-preserved g c = rw c.in_ok-push.ensures.ok (reads-more c.next.new.self c.in-Some.part c.in-Some-read.item c.loop-part.invariant c.in-Some.ensures.steps (sym c.in-Some-read.ensures))
+loop-part-preserved g c = rw c.in_ok-push.ensures.ok (reads-more _ _ _ c.next.new.self _ _ c.in-Some.part c.in-Some-read.item c.loop-part.invariant c.in-Some.ensures.steps (sym c.in-Some-read.ensures))
 
 pub returns-in_default : goal.returns-in_default
-returns-in_default g c = rw (← c.if-is_empty.ensures) (reads-stop c.next.new.self c.in-Some.part c.loop-part.invariant c.in-Some.ensures.steps (sym c.in_default.ensures))
+returns-in_default g c = rw (← c.if-is_empty.ensures) (reads-stop _ _ _ c.next.new.self _ _ c.in-Some.part c.loop-part.invariant c.in-Some.ensures.steps (sym c.in_default.ensures))
 
 pub returns : goal.returns
-returns g c = rw (← c.if-is_empty.ensures) (reads-end c.next.new.self c.loop-part.invariant c.in-None.ensures.steps)
+returns g c = rw (← c.if-is_empty.ensures) (reads-end _ _ _ c.next.new.self _ _ c.loop-part.invariant c.in-None.ensures.steps)
