@@ -1,0 +1,31 @@
+-- Histories of an object: the calls of all cores with their answers, the oldest first. [own; no code keeps one]
+use Rattle.std.specs.Prelude.{◌≡◌, ◌==◌, ◌⊎◌, if◌then◌else◌, List, [], ◌∷◌}
+use Rattle.osbase.specs.declared.references.CoreId.{CoreId}
+use Rattle.osseat.specs.declared.histories.Entry.{Entry}
+use Rattle.osseat.specs.Objects.{Object}
+
+abbrev pub entry : {C R : Type 0} → CoreId → C → R → Entry C R
+entry core call reply = record { core = core; call = call; reply = reply }
+
+-- The object after a history.
+abbrev pub state_after : {A S C R : Type 0} → Object A S C R → S → List (Entry C R) → S
+state_after o s [] = s
+state_after o s (e ∷ es) = state_after o (o.after e.core e.call s) es
+
+-- Each call was answered what the object answers there.
+abbrev pub IsLegalFrom : {A S C R : Type 0} → Object A S C R → S → List (Entry C R) → Type 0
+IsLegalFrom o s [] = Unit {0}
+IsLegalFrom o s (e ∷ es) = (e.reply ≡ o.reply e.core e.call s) × IsLegalFrom o (o.after e.core e.call s) es
+
+abbrev pub IsLegal : {A S C R : Type 0} → Object A S C R → A → List (Entry C R) → Type 0
+IsLegal o about log = IsLegalFrom o (o.first about) log
+
+-- The calls of one core, in order.
+abbrev pub calls_by : {C R : Type 0} → CoreId → List (Entry C R) → List (Entry C R)
+calls_by c [] = []
+calls_by c (e ∷ es) = if c.number == e.core.number then e ∷ calls_by c es else calls_by c es
+
+-- The second history is the first, less some calls that may go.
+abbrev pub Thinned : {C R : Type 0} → (Entry C R → Type 0) → List (Entry C R) → List (Entry C R) → Type 0
+Thinned idle [] ys = ys ≡ []
+Thinned idle (x ∷ xs) ys = ((rest : List _) × (ys ≡ x ∷ rest) × Thinned idle xs rest) ⊎ (idle x × Thinned idle xs ys)

@@ -1,0 +1,4 @@
+pub mod Objects
+pub mod Histories
+pub mod Seats
+pub mod Views

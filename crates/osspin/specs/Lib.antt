@@ -1,0 +1,2 @@
+pub mod Spins
+pub mod Words

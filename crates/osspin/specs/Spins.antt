@@ -1,0 +1,69 @@
+-- One spinlock, and all of them.
+use Rattle.std.specs.Prelude.{Bool, true, false, if◌then◌else◌, Option, Some, None, List, replicate, slice_index_or, slice_set}
+use Rattle.osbase.specs.declared.references.CoreId.{CoreId}
+use Rattle.osbase.specs.declared.references.SpinlockId.{SpinlockId}
+use Rattle.osbase.specs.History.{same_core}
+use Rattle.osseat.specs.declared.histories.Entry.{Entry}
+use Rattle.osseat.specs.Objects.{Object}
+use Rattle.osseat.specs.Histories.{entry}
+use Rattle.osspin.specs.declared.calls.TheConstants.{SPINLOCKS}
+use Rattle.osspin.specs.declared.calls.SpinAction.{SpinAction}
+use Rattle.osspin.specs.declared.calls.SpinAction.TheVariants.{Take, Free, Look}
+use Rattle.osspin.specs.declared.calls.SpinCall.{SpinCall}
+use Rattle.osspin.specs.declared.calls.SpinReply.{SpinReply}
+use Rattle.osspin.specs.declared.calls.SpinReply.TheVariants.{Answered, Seen}
+
+-- Whether a core may take a lock that this holder has: only where none has it. Its holder may not either.
+-- [AUTOSAR SWS OS 4.x, TryToGetSpinlock]
+abbrev pub is_free : Option CoreId → Bool
+is_free None = true
+is_free (Some holder) = false
+
+-- Whether the core holds the lock.
+abbrev pub is_held_by : CoreId → Option CoreId → Bool
+is_held_by core None = false
+is_held_by core (Some holder) = same_core holder core
+
+-- One lock: who holds it after a call. It goes to a core that takes it while it is free, and from a core that
+-- frees it while it holds it; every other call leaves it. [AUTOSAR SWS OS 4.x, TryToGetSpinlock and
+-- ReleaseSpinlock; the code has a word]
+abbrev pub lock_after : CoreId → SpinAction → Option CoreId → Option CoreId
+lock_after core Take holder = if is_free holder then Some core else holder
+lock_after core Free holder = if is_held_by core holder then None else holder
+lock_after core Look holder = holder
+
+-- One lock: what a call is answered.
+abbrev pub lock_reply : CoreId → SpinAction → Option CoreId → SpinReply
+lock_reply core Take holder = Answered (is_free holder)
+lock_reply core Free holder = Answered (is_held_by core holder)
+lock_reply core Look holder = Seen holder
+
+-- Who holds a lock, by the holders of all.
+abbrev pub holder_of : List (Option CoreId) → SpinlockId → Option CoreId
+holder_of holders lock = slice_index_or holders lock.index None
+
+abbrev pub no_holders : List (Option CoreId)
+no_holders = replicate SPINLOCKS None
+
+abbrev pub holders_after : CoreId → SpinCall → List (Option CoreId) → List (Option CoreId)
+holders_after core call holders = slice_set holders call.lock.index (lock_after core call.action (holder_of holders call.lock))
+
+abbrev pub spin_reply : CoreId → SpinCall → List (Option CoreId) → SpinReply
+spin_reply core call holders = lock_reply core call.action (holder_of holders call.lock)
+
+-- All spinlocks, each one lock that is free at first. [own; the code has a word for each]
+abbrev pub spinlocks : Object Unit (List (Option CoreId)) SpinCall SpinReply
+spinlocks = record { first = λ about. no_holders; after = holders_after; reply = spin_reply }
+
+abbrev pub spin_call : SpinlockId → SpinAction → SpinCall
+spin_call lock action = record { lock = lock; action = action }
+
+-- The three calls of a core, each with its answer.
+abbrev pub try_take_call : CoreId → SpinlockId → Bool → Entry SpinCall SpinReply
+try_take_call core lock taken = entry core (spin_call lock Take) (Answered taken)
+
+abbrev pub free_call : CoreId → SpinlockId → Bool → Entry SpinCall SpinReply
+free_call core lock freed = entry core (spin_call lock Free) (Answered freed)
+
+abbrev pub look_call : CoreId → SpinlockId → Option CoreId → Entry SpinCall SpinReply
+look_call core lock holder = entry core (spin_call lock Look) (Seen holder)

@@ -1,0 +1,38 @@
+-- The words of the spinlocks.
+use Rattle.std.specs.Prelude.{◌≡◌, ◌==◌, ℕ, ◌+◌, ◌-◌, ◌<◌, nat_lt, if◌then◌else◌, Option, Some, None, List, All, length, map}
+use Rattle.osbase.specs.declared.references.CoreId.{CoreId}
+use Rattle.osspin.specs.declared.calls.TheConstants.{SPINLOCKS}
+use Rattle.osspin.specs.declared.calls.SpinAction.{SpinAction}
+use Rattle.osspin.specs.declared.calls.SpinAction.TheVariants.{Take, Free, Look}
+use Rattle.osspin.specs.declared.calls.SpinCall.{SpinCall}
+use Rattle.osspin.specs.declared.calls.SpinReply.{SpinReply}
+use Rattle.osspin.specs.declared.calls.SpinReply.TheVariants.{Answered, Seen}
+
+-- A lock's word: 0, or one more than the number of the core that holds it. [own]
+abbrev pub word_of : Option CoreId → ℕ
+word_of None = 0
+word_of (Some core) = core.number + 1
+
+-- The core that a word names.
+abbrev pub holder_in : ℕ → Option CoreId
+holder_in word = if word == 0 then None else (if nat_lt (word - 1) 256 then Some (record { number = word - 1 }) else None)
+
+-- A core's number fits its type.
+abbrev pub FitsByte : Option CoreId → Type 0
+FitsByte None = Unit {0}
+FitsByte (Some core) = core.number < 256
+
+-- The words stand for these holders.
+pub record Stands (holders : List (Option CoreId)) (words : List ℕ) : Type 0 where
+  pub words_are : words ≡ map word_of holders
+  pub count : length holders ≡ SPINLOCKS
+  pub fit : All FitsByte holders
+
+-- What a call is answered where its step finds this word.
+abbrev pub answer_to : CoreId → SpinAction → ℕ → SpinReply
+answer_to core Take word = Answered (word == 0)
+answer_to core Free word = Answered (word == core.number + 1)
+answer_to core Look word = Seen (holder_in word)
+
+abbrev pub answer : CoreId → SpinCall → ℕ → SpinReply
+answer core call word = answer_to core call.action word

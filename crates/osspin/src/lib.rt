@@ -1,0 +1,10 @@
+//! Spinlocks: which core holds each, for cores on threads of their own and for listed runs.
+//!
+//! Both forms answer what one lock answers to one caller after another.
+#![tactic(auto)]
+
+pub mod bank;
+pub mod calls;
+
+pub use bank::{SpinBank, SpinSeat};
+pub use calls::{SPINLOCKS, SpinAction, SpinCall, SpinReply, Spinlocks};
