@@ -1,0 +1,225 @@
+-- Each of the seven kinds of step is one call of the board.
+use Rattle.std.proofs.Common.{◌≡◌, ◌==◌, ◌≢◌, ℕ, ◌+◌, ◌-◌, ◌*◌, ◌/◌, ◌%◌, ◌^◌, ◌<◌, ◌≤◌, Bool, true, false, [], ◌∷◌, Option, Some, None, set, get_or, max, bit_or, sym, refl, ap, ◌∙◌, subst, arith, length-set}
+use Rattle.std.proofs.lemmas.List.{get_or-set_same, get_or-set_other}
+use Rattle.std.proofs.lemmas.Bool.{ne_eqb, cond-true, cond-false, lt-ltb, both_ways}
+use Rattle.std.proofs.lemmas.Nat.Bits.{bit_at_or, bit_at-pow_same, bit_at-pow_other, bit_at-zero}
+use Rattle.std.specs.Int.{bit_at}
+use Rattle.std.specs.Int.Bits.{or_zero_l}
+use Rattle.std.specs.Option.{is_some}
+use prog.Atomic.{either}
+use Rattle.osbase.specs.declared.references.CoreId.{CoreId}
+use Rattle.osbase.specs.declared.statuses.Status.{Status}
+use Rattle.osbase.specs.declared.statuses.Status.TheVariants.{EOk, EOsAccess, EOsCallevel, EOsId, EOsLimit, EOsNofunc, EOsResource, EOsState, EOsValue, EOsMissingend, EOsDisabledint, EOsProtectionTime, EOsCore, EOsSpinlock, EOsInterferenceDeadlock, EOsNestingDeadlock}
+use Rattle.osbase.specs.Words.{status_number}
+use Rattle.osplan.specs.declared.plans.CoreMode.{CoreMode}
+use Rattle.osplan.specs.declared.plans.CoreMode.TheVariants.{Named, DontCare}
+use Rattle.osseat.specs.Views.{IsStep}
+use Rattle.osboard.specs.declared.calls.BoardView.{BoardView}
+use Rattle.osboard.specs.declared.calls.BoardState.{BoardState}
+use Rattle.osboard.specs.declared.calls.BoardCall.{BoardCall}
+use Rattle.osboard.specs.declared.calls.BoardCall.TheVariants.{Start, Enter, MakeReady, Drain, Look, AskHalt, LookHalt}
+use Rattle.osboard.specs.declared.calls.BoardReply.TheVariants.{Started, Shown, Decided, Halting}
+use Rattle.osboard.specs.Boards.{IsMode, first_board, with_mode, view_after, halt_after, first_asked, board_reply, one_board, start_answer}
+use Rattle.osboard.specs.Words.{flags_in, view_in, mode_bits, status_numbered, halt_word, asked_by, halt_in, Stands, answer}
+use Rattle.osboard.proofs.Flags.{flags_stay, flag_comes}
+
+-- a step on the phase word that does what the call does to the sets
+phase_steps : (core : CoreId) (call : BoardCall) (f : ℕ → ℕ)
+    → ((n : ℕ) → view_in (f n) ≡ view_after core call (view_in n))
+    → ((halt : Option (CoreId × Status)) → halt_after core call halt ≡ halt)
+    → ((board : BoardState) (n : ℕ) → board.view ≡ view_in n → answer core call n ≡ board_reply core call board)
+    → IsStep one_board Stands answer core call 0 f
+phase_steps core call f moves stays replies s words st small =
+    let n : ℕ = get_or words 0 0 in
+    let other : get_or (set words 0 (f n)) 1 0 ≡ get_or words 1 0 = get_or-set_other words 0 1 (f n) 0 (λ e. omega arith) in (
+      record {
+        count = length-set words 0 (f n) ∙ st.count;
+        view = ap (view_after core call) st.view ∙ (sym (moves n) ∙ ap view_in (sym (get_or-set_same words 0 (f n) 0 (omega (arith, st.count)))));
+        halt = stays s.halt ∙ (st.halt ∙ ap halt_in (sym other));
+        asked = subst (λ (w : ℕ). (w == 0) ≡ false → is_some (halt_in w) ≡ true) (sym other) st.asked;
+      },
+      replies s n st.view,
+    )
+
+-- a step on the halt word that does what the call does to who asked
+halt_steps : (core : CoreId) (call : BoardCall) (f : ℕ → ℕ)
+    → ((n : ℕ) → ((n == 0) ≡ false → is_some (halt_in n) ≡ true) → halt_in (f n) ≡ halt_after core call (halt_in n))
+    → ((n : ℕ) → ((n == 0) ≡ false → is_some (halt_in n) ≡ true) → (f n == 0) ≡ false → is_some (halt_in (f n)) ≡ true)
+    → ((view : BoardView) → view_after core call view ≡ view)
+    → ((board : BoardState) (n : ℕ) → board.halt ≡ halt_in n → answer core call n ≡ board_reply core call board)
+    → IsStep one_board Stands answer core call 1 f
+halt_steps core call f moves told stays replies s words st small =
+    let n : ℕ = get_or words 1 0 in
+    let other : get_or (set words 1 (f n)) 0 0 ≡ get_or words 0 0 = get_or-set_other words 1 0 (f n) 0 (λ e. omega arith) in
+    let same : get_or (set words 1 (f n)) 1 0 ≡ f n = get_or-set_same words 1 (f n) 0 (omega (arith, st.count)) in (
+      record {
+        count = length-set words 1 (f n) ∙ st.count;
+        view = stays s.view ∙ (st.view ∙ ap view_in (sym other));
+        halt = ap (halt_after core call) st.halt ∙ (sym (moves n st.asked) ∙ ap halt_in (sym same));
+        asked = subst (λ (w : ℕ). (w == 0) ≡ false → is_some (halt_in w) ≡ true) (sym same) (told n st.asked);
+      },
+      replies s n st.halt,
+    )
+
+-- one bit of the phase word
+module _ (n p : ℕ) where
+  away : (count first : ℕ) → ((i : ℕ) → i < 8 → first + i ≢ p) → flags_in count first (bit_or n (2 ^ p)) ≡ flags_in count first n
+  away count first ne = flags_stay count first n (2 ^ p) (λ i l. bit_at-pow_other p (first + i) (ne i l))
+
+  here : (count first k : ℕ) → p ≡ first + k → k < 8 → k < count → flags_in count first (bit_or n (2 ^ p)) ≡ set (flags_in count first n) k true
+  here count first k e low lt = flag_comes count first n (2 ^ p) k low lt
+      (ap (bit_at (2 ^ p)) (sym e) ∙ bit_at-pow_same p)
+      (λ i l ne. bit_at-pow_other p (first + i) (λ same. ne (omega (arith, e, same))))
+
+start_moves : (core k : CoreId) → k.number < 8 → (n : ℕ) → view_in (bit_or n (2 ^ (0 + k.number))) ≡ view_after core (Start k) (view_in n)
+start_moves core k low n = let c : ℕ = k.number in λ i. record {
+  started = record { members = here n (0 + c) 16 0 c refl low (omega (arith, low)) i };
+  entered = record { members = away n (0 + c) 16 8 (λ j l e. omega arith) i };
+  ready = record { members = away n (0 + c) 16 16 (λ j l e. omega arith) i };
+  drained = record { members = away n (0 + c) 16 24 (λ j l e. omega arith) i };
+  modes = record { members = away n (0 + c) 8 32 (λ j l e. omega arith) i };
+}
+
+pub start_steps : (core k : CoreId) → k.number < 8 → IsStep one_board Stands answer core (Start k) 0 (λ n. bit_or n (2 ^ (0 + k.number)))
+start_steps core k low = phase_steps core (Start k) (λ n. bit_or n (2 ^ (0 + k.number))) (start_moves core k low) (λ halt. refl)
+    (λ board n is. ap (λ (v : BoardView). Started (start_answer v k)) (sym is))
+
+-- the words at first
+pub begins : (master : CoreId) → master.number < 8 → Stands (first_board master) (2 ^ (0 + master.number) ∷ 0 ∷ [])
+begins master low = record {
+  count = refl;
+  view = sym (start_moves master master low 0) ∙ ap view_in (or_zero_l (2 ^ (0 + master.number)));
+  halt = refl;
+  asked = λ e. absurd (both_ways true e refl);
+}
+
+pub ready_steps : (core : CoreId) → core.number < 8 → IsStep one_board Stands answer core MakeReady 0 (λ n. bit_or n (2 ^ (16 + core.number)))
+ready_steps core low = let c : ℕ = core.number in phase_steps core MakeReady (λ n. bit_or n (2 ^ (16 + c)))
+    (λ n i. record {
+      started = record { members = away n (16 + c) 16 0 (λ j l e. omega arith) i };
+      entered = record { members = away n (16 + c) 16 8 (λ j l e. omega arith) i };
+      ready = record { members = here n (16 + c) 16 16 c refl low (omega (arith, low)) i };
+      drained = record { members = away n (16 + c) 16 24 (λ j l e. omega arith) i };
+      modes = record { members = away n (16 + c) 8 32 (λ j l e. omega arith) i };
+    })
+    (λ halt. refl)
+    (λ board n is. refl)
+
+pub drain_steps : (core : CoreId) → core.number < 8 → IsStep one_board Stands answer core Drain 0 (λ n. bit_or n (2 ^ (24 + core.number)))
+drain_steps core low = let c : ℕ = core.number in phase_steps core Drain (λ n. bit_or n (2 ^ (24 + c)))
+    (λ n i. record {
+      started = record { members = away n (24 + c) 16 0 (λ j l e. omega arith) i };
+      entered = record { members = away n (24 + c) 16 8 (λ j l e. omega arith) i };
+      ready = record { members = away n (24 + c) 16 16 (λ j l e. omega arith) i };
+      drained = record { members = here n (24 + c) 16 24 c refl low (omega (arith, low)) i };
+      modes = record { members = away n (24 + c) 8 32 (λ j l e. omega arith) i };
+    })
+    (λ halt. refl)
+    (λ board n is. refl)
+
+-- the bits of a core that enters, at each place
+enter_bits : (c : ℕ) (mode : CoreMode) (j : ℕ) → bit_at (bit_or (2 ^ (8 + c)) (mode_bits mode)) j ≡ max (bit_at (2 ^ (8 + c)) j) (bit_at (mode_bits mode) j)
+enter_bits c mode j = bit_at_or (2 ^ (8 + c)) (mode_bits mode) j
+
+low_of_mode : (mode : CoreMode) (j : ℕ) → j < 32 → bit_at (mode_bits mode) j ≡ 0
+low_of_mode (Named m) j lt = bit_at-pow_other (32 + m.index) j (λ e. omega arith)
+low_of_mode DontCare j lt = bit_at-zero j
+
+low_bit : (c : ℕ) (mode : CoreMode) (j : ℕ) → j < 32 → bit_at (bit_or (2 ^ (8 + c)) (mode_bits mode)) j ≡ bit_at (2 ^ (8 + c)) j
+low_bit c mode j lt = let a : ℕ = bit_at (2 ^ (8 + c)) j in let e : max a 0 ≡ a = omega arith in enter_bits c mode j ∙ (ap (max a) (low_of_mode mode j lt) ∙ e)
+
+high_bit : (c : ℕ) (mode : CoreMode) (j : ℕ) → c < 8 → 32 ≤ j → bit_at (bit_or (2 ^ (8 + c)) (mode_bits mode)) j ≡ bit_at (mode_bits mode) j
+high_bit c mode j low ge = let a : ℕ = bit_at (mode_bits mode) j in let e : max 0 a ≡ a = omega arith in enter_bits c mode j ∙ (ap (λ x. max x a) (bit_at-pow_other (8 + c) j (λ e. omega arith)) ∙ e)
+
+modes_come : (c n : ℕ) (mode : CoreMode) → c < 8 → IsMode mode → flags_in 8 32 (bit_or n (bit_or (2 ^ (8 + c)) (mode_bits mode))) ≡ (with_mode mode (record { members = flags_in 8 32 n })).members
+modes_come c n (Named m) low fits = flag_comes 8 32 n (bit_or (2 ^ (8 + c)) (2 ^ (32 + m.index))) m.index fits fits
+    (high_bit c (Named m) (32 + m.index) low (omega arith) ∙ bit_at-pow_same (32 + m.index))
+    (λ i l ne. high_bit c (Named m) (32 + i) low (omega arith) ∙ bit_at-pow_other (32 + m.index) (32 + i) (λ e. ne (omega arith)))
+modes_come c n DontCare low fits = flags_stay 8 32 n (bit_or (2 ^ (8 + c)) 0) (λ i l. high_bit c DontCare (32 + i) low (omega arith) ∙ bit_at-zero (32 + i))
+
+pub enter_steps : (core : CoreId) (mode : CoreMode) → core.number < 8 → IsMode mode → IsStep one_board Stands answer core (Enter mode) 0 (λ n. bit_or n (bit_or (2 ^ (8 + core.number)) (mode_bits mode)))
+enter_steps core mode low fits = let c : ℕ = core.number in let m : ℕ = bit_or (2 ^ (8 + c)) (mode_bits mode) in phase_steps core (Enter mode) (λ n. bit_or n m)
+    (λ n i. record {
+      started = record { members = flags_stay 16 0 n m (λ j l. low_bit c mode (0 + j) (omega (arith, l)) ∙ bit_at-pow_other (8 + c) (0 + j) (λ e. omega arith)) i };
+      entered = record { members = flag_comes 16 8 n m c low (omega (arith, low)) (low_bit c mode (8 + c) (omega (arith, low)) ∙ bit_at-pow_same (8 + c)) (λ j l ne. low_bit c mode (8 + j) (omega (arith, l)) ∙ bit_at-pow_other (8 + c) (8 + j) (λ e. ne (omega arith))) i };
+      ready = record { members = flags_stay 16 16 n m (λ j l. low_bit c mode (16 + j) (omega (arith, l)) ∙ bit_at-pow_other (8 + c) (16 + j) (λ e. omega arith)) i };
+      drained = record { members = flags_stay 16 24 n m (λ j l. low_bit c mode (24 + j) (omega (arith, l)) ∙ bit_at-pow_other (8 + c) (24 + j) (λ e. omega arith)) i };
+      modes = record { members = modes_come c n mode low fits i };
+    })
+    (λ halt. refl)
+    (λ board n is. refl)
+
+pub look_steps : (core : CoreId) → IsStep one_board Stands answer core Look 0 (λ n. n)
+look_steps core = phase_steps core Look (λ n. n) (λ n. refl) (λ halt. refl) (λ board n is. ap Shown (sym is))
+
+pub look_halt_steps : (core : CoreId) → IsStep one_board Stands answer core LookHalt 1 (λ n. n)
+look_halt_steps core = halt_steps core LookHalt (λ n. n) (λ n told. refl) (λ n told. told) (λ view. refl) (λ board n is. ap Halting (sym is))
+
+-- who asks is read back from the halt word
+status_back : (status : Status) → status_numbered (status_number status) ≡ Some status
+status_back EOk = refl
+status_back EOsAccess = refl
+status_back EOsCallevel = refl
+status_back EOsId = refl
+status_back EOsLimit = refl
+status_back EOsNofunc = refl
+status_back EOsResource = refl
+status_back EOsState = refl
+status_back EOsValue = refl
+status_back EOsMissingend = refl
+status_back EOsDisabledint = refl
+status_back EOsProtectionTime = refl
+status_back EOsCore = refl
+status_back EOsSpinlock = refl
+status_back EOsInterferenceDeadlock = refl
+status_back EOsNestingDeadlock = refl
+
+status_low : (status : Status) → status_number status < 256
+status_low EOk = omega arith
+status_low EOsAccess = omega arith
+status_low EOsCallevel = omega arith
+status_low EOsId = omega arith
+status_low EOsLimit = omega arith
+status_low EOsNofunc = omega arith
+status_low EOsResource = omega arith
+status_low EOsState = omega arith
+status_low EOsValue = omega arith
+status_low EOsMissingend = omega arith
+status_low EOsDisabledint = omega arith
+status_low EOsProtectionTime = omega arith
+status_low EOsCore = omega arith
+status_low EOsSpinlock = omega arith
+status_low EOsInterferenceDeadlock = omega arith
+status_low EOsNestingDeadlock = omega arith
+
+halt_back : (core : CoreId) (status : Status) → core.number < 256 → halt_in (halt_word core status) ≡ Some (core, status)
+halt_back core status low =
+    let k : ℕ = core.number in let s : ℕ = status_number status in let small : s < 256 = status_low status in
+    let first : (k * 256 + s + 1 - 1) / 256 ≡ k = omega arith in
+    let second : (k * 256 + s + 1 - 1) % 256 ≡ s = omega arith in
+    cond-false _ _ _ (ne_eqb (k * 256 + s + 1) 0 (λ h. omega arith))
+    ∙ (ap (λ (x : ℕ). asked_by x (status_numbered ((k * 256 + s + 1 - 1) % 256))) first ∙ (ap (λ (x : ℕ). asked_by k (status_numbered x)) second ∙ (ap (asked_by k) (status_back status) ∙ cond-true _ _ _ (lt-ltb k 256 low))))
+
+first_some : (halt : Option (CoreId × Status)) (asked : CoreId × Status) → is_some halt ≡ true → halt ≡ Some (first_asked halt asked)
+first_some None asked e = absurd (both_ways false refl e)
+first_some (Some before) asked e = refl
+
+-- asking: 0 becomes the word of who asks
+module _ (core : CoreId) (status : Status) (low : core.number < 256) where
+  abbrev word : ℕ
+  word = halt_word core status
+
+  ask_moves_at : (n : ℕ) (b : Bool) → (n == 0) ≡ b → ((n == 0) ≡ false → is_some (halt_in n) ≡ true) → halt_in (either b word n) ≡ Some (first_asked (halt_in n) (core, status))
+  ask_moves_at n true e told = halt_back core status low ∙ ap (λ (h : Option (CoreId × Status)). Some (first_asked h (core, status))) (sym (cond-true _ _ _ e))
+  ask_moves_at n false e told = first_some (halt_in n) (core, status) (told e)
+
+  ask_told_at : (n : ℕ) (b : Bool) → (n == 0) ≡ b → ((n == 0) ≡ false → is_some (halt_in n) ≡ true) → is_some (halt_in (either b word n)) ≡ true
+  ask_told_at n true e told = ap is_some (halt_back core status low)
+  ask_told_at n false e told = told e
+
+  pub ask_steps : IsStep one_board Stands answer core (AskHalt status) 1 (λ n. either (n == 0) (halt_word core status) n)
+  ask_steps = halt_steps core (AskHalt status) (λ n. either (n == 0) word n)
+      (λ n told. ask_moves_at n (n == 0) refl told)
+      (λ n told ne. ask_told_at n (n == 0) refl told)
+      (λ view. refl)
+      (λ board n is. ap (λ (h : Option (CoreId × Status)). Decided (first_asked h (core, status))) (sym is))

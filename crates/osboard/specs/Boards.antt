@@ -1,0 +1,117 @@
+-- One board: the sets of started, entered, ready and drained cores and of named modes, and who asked first for a
+-- shutdown of all cores. Each call of a core is answered at once. [own; the code has two words]
+use Rattle.std.specs.Prelude.{◌<◌, Option, Some, None, true, false, if◌then◌else◌, replicate, slice_set}
+use Rattle.osbase.specs.declared.statuses.Status.{Status}
+use Rattle.osbase.specs.declared.statuses.Status.TheVariants.{EOk, EOsState}
+use Rattle.osbase.specs.declared.references.CoreId.{CoreId}
+use Rattle.osbase.specs.declared.items.CoreSet.{CoreSet}
+use Rattle.osbase.specs.History.{no_cores}
+use Rattle.osbase.specs.Sets.{has_core}
+use Rattle.osplan.specs.declared.plans.CoreMode.{CoreMode}
+use Rattle.osplan.specs.declared.plans.CoreMode.TheVariants.{Named, DontCare}
+use Rattle.osseat.specs.declared.histories.Entry.{Entry}
+use Rattle.osseat.specs.Objects.{Object}
+use Rattle.osseat.specs.Histories.{entry}
+use Rattle.osboard.specs.declared.calls.TheConstants.{MODES}
+use Rattle.osboard.specs.declared.calls.ModeSet.{ModeSet}
+use Rattle.osboard.specs.declared.calls.BoardView.{BoardView}
+use Rattle.osboard.specs.declared.calls.BoardState.{BoardState}
+use Rattle.osboard.specs.declared.calls.BoardCall.{BoardCall}
+use Rattle.osboard.specs.declared.calls.BoardCall.TheVariants.{Start, Enter, MakeReady, Drain, Look, AskHalt, LookHalt}
+use Rattle.osboard.specs.declared.calls.BoardReply.{BoardReply}
+use Rattle.osboard.specs.declared.calls.BoardReply.TheVariants.{Started, Acknowledged, Shown, Decided, Halting}
+
+abbrev pub with_core : CoreId → CoreSet → CoreSet
+with_core id cores = record { members = slice_set cores.members id.number true }
+
+abbrev pub no_modes : ModeSet
+no_modes = record { members = replicate MODES false }
+
+-- DONOTCARE names no mode. [AUTOSAR SWS OS 4.x, SWS_Os_00608 to SWS_Os_00610]
+abbrev pub with_mode : CoreMode → ModeSet → ModeSet
+with_mode (Named m) modes = record { members = slice_set modes.members m.index true }
+with_mode DontCare modes = modes
+
+-- The mode is DONOTCARE or one of those that there may be.
+abbrev pub IsMode : CoreMode → Type 0
+IsMode (Named m) = m.index < MODES
+IsMode DontCare = Unit {0}
+
+-- At first the master alone is started. [AUTOSAR SWS OS 4.x, StartCore: a core starts others before StartOS]
+abbrev pub first_view : CoreId → BoardView
+first_view master = record {
+  started = with_core master no_cores;
+  entered = no_cores;
+  ready = no_cores;
+  drained = no_cores;
+  modes = no_modes;
+}
+
+abbrev pub first_board : CoreId → BoardState
+first_board master = record { view = first_view master; halt = None }
+
+-- A core that starts, enters, is ready or has drained is one more of its set; the other calls leave the sets.
+abbrev pub view_after : CoreId → BoardCall → BoardView → BoardView
+view_after core (Start k) view = record view { started = with_core k view.started }
+view_after core (Enter mode) view = record view { entered = with_core core view.entered; modes = with_mode mode view.modes }
+view_after core MakeReady view = record view { ready = with_core core view.ready }
+view_after core Drain view = record view { drained = with_core core view.drained }
+view_after core Look view = view
+view_after core (AskHalt status) view = view
+view_after core LookHalt view = view
+
+-- The first to ask decides who and which status all cores see.
+-- [AUTOSAR SWS OS 4.x, ShutdownAllCores; that the first decides is this project's own]
+abbrev pub first_asked : Option (CoreId × Status) → CoreId × Status → CoreId × Status
+first_asked None asked = asked
+first_asked (Some before) asked = before
+
+abbrev pub halt_after : CoreId → BoardCall → Option (CoreId × Status) → Option (CoreId × Status)
+halt_after core (Start k) halt = halt
+halt_after core (Enter mode) halt = halt
+halt_after core MakeReady halt = halt
+halt_after core Drain halt = halt
+halt_after core Look halt = halt
+halt_after core (AskHalt status) halt = Some (first_asked halt (core, status))
+halt_after core LookHalt halt = halt
+
+abbrev pub board_after : CoreId → BoardCall → BoardState → BoardState
+board_after core call board = record { view = view_after core call board.view; halt = halt_after core call board.halt }
+
+-- A core that is started already is answered E_OS_STATE. [AUTOSAR SWS OS 4.x, StartCore]
+abbrev pub start_answer : BoardView → CoreId → Status
+start_answer view k = if has_core view.started k then EOsState else EOk
+
+abbrev pub board_reply : CoreId → BoardCall → BoardState → BoardReply
+board_reply core (Start k) board = Started (start_answer board.view k)
+board_reply core (Enter mode) board = Acknowledged
+board_reply core MakeReady board = Acknowledged
+board_reply core Drain board = Acknowledged
+board_reply core Look board = Shown board.view
+board_reply core (AskHalt status) board = Decided (first_asked board.halt (core, status))
+board_reply core LookHalt board = Halting board.halt
+
+abbrev pub one_board : Object CoreId BoardState BoardCall BoardReply
+one_board = record { first = first_board; after = board_after; reply = board_reply }
+
+-- The seven calls of a core, each with its answer.
+abbrev pub start_call : CoreId → CoreId → Status → Entry BoardCall BoardReply
+start_call core k status = entry core (Start k) (Started status)
+
+abbrev pub enter_call : CoreId → CoreMode → Entry BoardCall BoardReply
+enter_call core mode = entry core (Enter mode) Acknowledged
+
+abbrev pub ready_call : CoreId → Entry BoardCall BoardReply
+ready_call core = entry core MakeReady Acknowledged
+
+abbrev pub drain_call : CoreId → Entry BoardCall BoardReply
+drain_call core = entry core Drain Acknowledged
+
+abbrev pub look_call : CoreId → BoardView → Entry BoardCall BoardReply
+look_call core view = entry core Look (Shown view)
+
+abbrev pub ask_halt_call : CoreId → Status → CoreId × Status → Entry BoardCall BoardReply
+ask_halt_call core status decided = entry core (AskHalt status) (Decided decided)
+
+abbrev pub look_halt_call : CoreId → Option (CoreId × Status) → Entry BoardCall BoardReply
+look_halt_call core halt = entry core LookHalt (Halting halt)

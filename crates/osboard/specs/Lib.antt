@@ -1,0 +1,2 @@
+pub mod Boards
+pub mod Words

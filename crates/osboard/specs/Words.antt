@@ -1,0 +1,80 @@
+-- The two words of the board. [own]
+use Rattle.std.specs.Prelude.{◌≡◌, ◌==◌, ◌&&◌, ℕ, ◌+◌, ◌-◌, ◌*◌, ◌/◌, ◌%◌, ◌^◌, nat_lt, Bool, true, false, if◌then◌else◌, Option, Some, None, List, [], ◌∷◌, length, map, slice_get, slice_index}
+use Rattle.std.specs.List.{range_with_len}
+use Rattle.std.specs.Int.{bit_at}
+use Rattle.std.specs.Option.{is_some}
+use Rattle.osbase.specs.declared.statuses.Status.{Status}
+use Rattle.osbase.specs.declared.statuses.Status.TheVariants.{EOk, EOsAccess, EOsCallevel, EOsId, EOsLimit, EOsNofunc, EOsResource, EOsState, EOsValue, EOsMissingend, EOsDisabledint, EOsProtectionTime, EOsCore, EOsSpinlock, EOsInterferenceDeadlock, EOsNestingDeadlock}
+use Rattle.osbase.specs.declared.references.CoreId.{CoreId}
+use Rattle.osbase.specs.declared.items.CoreSet.{CoreSet}
+use Rattle.osbase.specs.declared.turns.TheConstants.{CORES}
+use Rattle.osbase.specs.Words.{status_number}
+use Rattle.osplan.specs.declared.plans.CoreMode.{CoreMode}
+use Rattle.osplan.specs.declared.plans.CoreMode.TheVariants.{Named, DontCare}
+use Rattle.osboard.specs.declared.calls.TheConstants.{BOARD_CORES, MODES}
+use Rattle.osboard.specs.declared.calls.BoardView.{BoardView}
+use Rattle.osboard.specs.declared.calls.BoardState.{BoardState}
+use Rattle.osboard.specs.declared.calls.BoardCall.{BoardCall}
+use Rattle.osboard.specs.declared.calls.BoardCall.TheVariants.{Start, Enter, MakeReady, Drain, Look, AskHalt, LookHalt}
+use Rattle.osboard.specs.declared.calls.BoardReply.{BoardReply}
+use Rattle.osboard.specs.declared.calls.BoardReply.TheVariants.{Started, Acknowledged, Shown, Decided, Halting}
+use Rattle.osboard.specs.Boards.{first_asked, start_answer}
+
+abbrev pub has_bit : ℕ → ℕ → Bool
+has_bit word place = bit_at word place == 1
+
+-- Flag k of a set is bit first + k of the phase word; there are bits for BOARD_CORES flags.
+abbrev pub flags_in : ℕ → ℕ → ℕ → List Bool
+flags_in count first word = map (λ (k : ℕ). nat_lt k BOARD_CORES && has_bit word (first + k)) (range_with_len 0 count)
+
+abbrev pub cores_in : ℕ → ℕ → CoreSet
+cores_in first word = record { members = flags_in CORES first word }
+
+-- The phase word: a byte each for the started, entered, ready and drained cores and for the named modes.
+abbrev pub view_in : ℕ → BoardView
+view_in word = record {
+  started = cores_in 0 word;
+  entered = cores_in 8 word;
+  ready = cores_in 16 word;
+  drained = cores_in 24 word;
+  modes = record { members = flags_in MODES 32 word };
+}
+
+abbrev pub mode_bits : CoreMode → ℕ
+mode_bits (Named mode) = 2 ^ (32 + mode.index)
+mode_bits DontCare = 0
+
+abbrev pub statuses : List Status
+statuses = EOk ∷ EOsAccess ∷ EOsCallevel ∷ EOsId ∷ EOsLimit ∷ EOsNofunc ∷ EOsResource ∷ EOsState ∷ EOsValue ∷ EOsMissingend ∷ EOsDisabledint ∷ EOsProtectionTime ∷ EOsCore ∷ EOsSpinlock ∷ EOsInterferenceDeadlock ∷ EOsNestingDeadlock ∷ []
+
+-- The status of a number.
+abbrev pub status_numbered : ℕ → Option Status
+status_numbered number = slice_get statuses number
+
+-- The halt word: 0, or one more than 256 times the number of the core that asked, and the status' number.
+abbrev pub halt_word : CoreId → Status → ℕ
+halt_word core status = core.number * 256 + status_number status + 1
+
+abbrev pub asked_by : ℕ → Option Status → Option (CoreId × Status)
+asked_by number None = None
+asked_by number (Some status) = if nat_lt number 256 then Some (record { number = number }, status) else None
+
+abbrev pub halt_in : ℕ → Option (CoreId × Status)
+halt_in word = if word == 0 then None else asked_by ((word - 1) / 256) (status_numbered ((word - 1) % 256))
+
+-- The words stand for this board. A halt word other than 0 names who asked.
+pub record Stands (board : BoardState) (words : List ℕ) : Type 0 where
+  pub count : length words ≡ 2
+  pub view : board.view ≡ view_in (slice_index words 0)
+  pub halt : board.halt ≡ halt_in (slice_index words 1)
+  pub asked : (slice_index words 1 == 0) ≡ false → is_some (halt_in (slice_index words 1)) ≡ true
+
+-- What a call is answered where its step finds this word.
+abbrev pub answer : CoreId → BoardCall → ℕ → BoardReply
+answer core (Start k) word = Started (start_answer (view_in word) k)
+answer core (Enter mode) word = Acknowledged
+answer core MakeReady word = Acknowledged
+answer core Drain word = Acknowledged
+answer core Look word = Shown (view_in word)
+answer core (AskHalt status) word = Decided (first_asked (halt_in word) (core, status))
+answer core LookHalt word = Halting (halt_in word)

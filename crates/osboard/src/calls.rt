@@ -1,0 +1,92 @@
+//! What cores ask of the board, and what it answers.
+
+use osbase::{CORES, CoreId, CoreSet, Status};
+use osplan::CoreMode;
+use osseat::SharedObject;
+
+/// How many application modes there are at most.
+pub const MODES: usize = 8;
+
+/// The words of the board have room for the cores numbered below this.
+pub const BOARD_CORES: usize = 8;
+
+/// A set of application modes: a flag for each mode.
+#[derive(Clone, Copy, Debug, PartialEq, Eq)]
+pub struct ModeSet {
+    pub members: [bool; MODES],
+}
+
+/// The cores that were started, that have entered StartOS, that are ready, and that have drained, and the modes
+/// that were named.
+#[derive(Clone, Copy, Debug, PartialEq, Eq)]
+pub struct BoardView {
+    pub started: CoreSet,
+    pub entered: CoreSet,
+    pub ready: CoreSet,
+    pub drained: CoreSet,
+    pub modes: ModeSet,
+}
+
+/// All that stands on the board.
+#[derive(Clone, Copy, Debug, PartialEq, Eq)]
+pub struct BoardState {
+    pub view: BoardView,
+    /// Who asked first for a shutdown of all cores, and with which status.
+    pub halt: Option<(CoreId, Status)>,
+}
+
+/// What a core asks of the board.
+#[derive(Clone, Copy, Debug, PartialEq, Eq)]
+pub enum BoardCall {
+    /// Starts the core that is named.
+    Start(CoreId),
+    /// Has entered StartOS, with this mode.
+    Enter(CoreMode),
+    /// Is ready.
+    MakeReady,
+    /// Has drained.
+    Drain,
+    /// Looks at the sets.
+    Look,
+    /// Asks for a shutdown of all cores.
+    AskHalt(Status),
+    /// Looks who asked for one.
+    LookHalt,
+}
+
+/// What it is answered.
+#[derive(Clone, Copy, Debug, PartialEq, Eq)]
+pub enum BoardReply {
+    Started(Status),
+    Acknowledged,
+    Shown(BoardView),
+    /// Who asked first, and with which status.
+    Decided((CoreId, Status)),
+    Halting(Option<(CoreId, Status)>),
+}
+
+/// The board as an object whose state lies in shared words: one for the sets, and one for who asked for a
+/// shutdown of all cores.
+pub struct BoardWords;
+
+impl SharedObject for BoardWords {
+    /// The master core.
+    type About = CoreId;
+
+    type State = BoardState;
+
+    type Call = BoardCall;
+
+    type Reply = BoardReply;
+
+    ghost use Rattle.osboard.specs.Boards.{one_board};
+    ghost use Rattle.osboard.specs.Words.{Stands, answer};
+
+    ghost object = { one_board };
+
+    ghost stands = { Stands };
+
+    ghost answer = { answer };
+
+    ghost blank = { record { number = 0 } };
+}
