@@ -6,9 +6,11 @@
 
 pub mod board;
 pub mod calls;
+pub mod list;
 mod words;
 
 pub use board::{Board, BoardSeat};
 pub use calls::{
     BOARD_CORES, BoardCall, BoardReply, BoardState, BoardView, BoardWords, MODES, ModeSet,
 };
+pub use list::BoardList;

@@ -5,6 +5,8 @@
 
 pub mod bank;
 pub mod calls;
+pub mod list;
 
 pub use bank::{SpinBank, SpinSeat};
 pub use calls::{SPINLOCKS, SpinAction, SpinCall, SpinReply, Spinlocks};
+pub use list::SpinList;

@@ -1,0 +1,145 @@
+//! The board of a listed run, in which one thread plays all cores.
+
+ghost use Rattle.std.specs.Prelude.{◌≡◌, Some};
+ghost use Rattle.osboard.specs.declared.calls.BoardCall.{BoardCall};
+ghost use Rattle.osboard.specs.Boards.{board_after, first_asked, first_board, start_answer, with_core, with_mode};
+
+use crate::calls::{BoardState, BoardView, MODES, ModeSet};
+use osbase::{CORES, CoreId, CoreSet, Status};
+use osplan::CoreMode;
+use std::marker::Model;
+
+/// The board by what stands on it. It answers as `Board` does, by the same definition.
+#[derive(Clone, Copy)]
+pub struct BoardList {
+    state: BoardState,
+}
+
+impl Model for BoardList {
+    ghost use Rattle.osboard.specs.declared.calls.BoardState.{BoardState};
+
+    ghost Value = { BoardState };
+
+    ghost view = { λ b. b.state };
+
+    ghost inverse = { λ state. record { state = state } };
+}
+
+impl BoardList {
+    /// The board at first: the master alone is started.
+    pub fn new(master: CoreId) -> Self
+        ensures { result ≡ first_board master }
+    {
+        let none = CoreSet {
+            members: [false; CORES],
+        };
+        let view = BoardView {
+            started: with_core(none, master),
+            entered: none,
+            ready: none,
+            drained: none,
+            modes: ModeSet {
+                members: [false; MODES],
+            },
+        };
+        BoardList {
+            state: BoardState { view, halt: None },
+        }
+    }
+
+    /// Starts a core, or answers E_OS_STATE for one that is started already and changes nothing
+    /// (AUTOSAR SWS OS 4.x, StartCore).
+    pub fn start(&mut self, caller: CoreId, core: CoreId) -> Status
+        ensures answer { result ≡ start_answer self.old.view core }
+        ensures after { self.new ≡ board_after caller (BoardCall.Start core) self.old }
+    {
+        let _ = caller;
+        let view = &mut self.state.view;
+        let answer = start_answer(view, core);
+        view.started = with_core(view.started, core);
+        answer
+    }
+
+    /// The caller has entered StartOS with this mode.
+    pub fn enter(&mut self, caller: CoreId, mode: CoreMode)
+        ensures { self.new ≡ board_after caller (BoardCall.Enter mode) self.old }
+    {
+        let view = &mut self.state.view;
+        view.entered = with_core(view.entered, caller);
+        view.modes = with_mode(view.modes, mode);
+    }
+
+    /// The caller is ready.
+    pub fn ready(&mut self, caller: CoreId)
+        ensures { self.new ≡ board_after caller BoardCall.MakeReady self.old }
+    {
+        let view = &mut self.state.view;
+        view.ready = with_core(view.ready, caller);
+    }
+
+    /// The caller has drained.
+    pub fn drain(&mut self, caller: CoreId)
+        ensures { self.new ≡ board_after caller BoardCall.Drain self.old }
+    {
+        let view = &mut self.state.view;
+        view.drained = with_core(view.drained, caller);
+    }
+
+    /// The sets.
+    pub fn look(&self) -> BoardView
+        ensures { result ≡ self.now.view }
+    {
+        self.state.view
+    }
+
+    /// Asks for a shutdown of all cores with a status, and gives who asked first and with which status, which
+    /// all cores see (AUTOSAR SWS OS 4.x, ShutdownAllCores; that the first decides is this project's own).
+    pub fn ask_halt(&mut self, caller: CoreId, status: Status) -> (CoreId, Status)
+        ensures answer { result ≡ first_asked self.old.halt (caller, status) }
+        ensures after { self.new ≡ board_after caller (BoardCall.AskHalt status) self.old }
+    {
+        let decided = self.state.halt.unwrap_or((caller, status));
+        self.state.halt = Some(decided);
+        decided
+    }
+
+    /// Who asked first for a shutdown of all cores, and with which status; none where no core has.
+    pub fn look_halt(&self) -> Option<(CoreId, Status)>
+        ensures { result ≡ self.now.halt }
+    {
+        self.state.halt
+    }
+}
+
+// What a start of the core is answered.
+fn start_answer(view: &BoardView, core: CoreId) -> Status
+    ensures { result ≡ start_answer view.now core }
+{
+    if view.started.contains(core) {
+        Status::EOsState
+    } else {
+        Status::EOk
+    }
+}
+
+// The set with one more core.
+fn with_core(mut cores: CoreSet, core: CoreId) -> CoreSet
+    ensures { result ≡ with_core core cores }
+{
+    if usize::from(core.number) < CORES {
+        cores.members[usize::from(core.number)] = true;
+    }
+    cores
+}
+
+// The set with the mode that is named, if one is.
+fn with_mode(mut modes: ModeSet, mode: CoreMode) -> ModeSet
+    ensures { result ≡ with_mode mode modes }
+{
+    if let CoreMode::Named(named) = mode
+        && usize::from(named.index) < MODES
+    {
+        modes.members[usize::from(named.index)] = true;
+    }
+    modes
+}
