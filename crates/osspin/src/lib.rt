@@ -10,3 +10,6 @@ pub mod list;
 pub use bank::{SpinBank, SpinSeat};
 pub use calls::{SPINLOCKS, SpinAction, SpinCall, SpinReply, Spinlocks};
 pub use list::SpinList;
+
+#[cfg(test)]
+mod tests;
