@@ -1,3 +1,4 @@
 mod Steps
 mod Moves
 mod Gathers
+pub mod Thins
