@@ -14,3 +14,6 @@ pub use calls::{
     BOARD_CORES, BoardCall, BoardReply, BoardState, BoardView, BoardWords, MODES, ModeSet,
 };
 pub use list::BoardList;
+
+#[cfg(test)]
+mod tests;
