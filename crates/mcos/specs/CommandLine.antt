@@ -33,12 +33,15 @@ check_command = with_rule (new_app (codes "check")) config_rule
 abbrev pub cut_command : App
 cut_command = with_rule (with_rule (new_app (codes "cut")) config_rule) core_rule
 
--- `mcos` with one of its subcommands
+-- `mcos --version`, or one of its subcommands
 abbrev pub requires_subcommand : App → App
 requires_subcommand app = record app { top = record app.top { subcommand_required = true } }
 
+abbrev pub tells_version : App → App
+tells_version app = record app { top = record app.top { has_version = true } }
+
 abbrev pub command_line : App
-command_line = with_subcommand (with_subcommand (with_subcommand (requires_subcommand (new_app (codes "mcos"))) run_command.top) check_command.top) cut_command.top
+command_line = with_subcommand (with_subcommand (with_subcommand (requires_subcommand (tells_version (new_app (codes "mcos")))) run_command.top) check_command.top) cut_command.top
 
 -- A text that is there says this number.
 pub record SaysNumber (entry : Option (List ℕ)) (number : ℕ) : Type 0 where

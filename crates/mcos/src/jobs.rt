@@ -11,6 +11,31 @@ use osbase::CoreId;
 use std::alloc::{AllocError, Global};
 use std::convert::AsStr;
 
+/// What `mcos --version` prints behind the name.
+const VERSION: &str = "0.1.0";
+
+const RUN_HELP: &str = "\
+Reads a configuration, the stimuli of its cores and, with --schedule, the turns in order.
+Prints a block of lines for each core, and then `ended`, or `stalled` where a core did not end.
+
+Exit status: 0 ended, 1 a fault (`fault N Name`), 2 wrong usage, 3 stalled.
+
+Example: mcos run config.json stimuli.json";
+
+const CHECK_HELP: &str = "\
+Reads a configuration. Prints `ok`, and a line for each core.
+
+Exit status: 0 done, 1 a fault (`fault N Name`), 2 wrong usage.
+
+Example: mcos check config.json";
+
+const CUT_HELP: &str = "\
+Reads a configuration. Prints one on a single line, which has this core alone.
+
+Exit status: 0 done, 1 a fault (`fault N Name`; 20 where the core is not separate), 2 wrong usage.
+
+Example: mcos cut config.json 2";
+
 /// What the program is asked to do, with the paths of its files.
 #[derive(Clone, Copy, Debug, PartialEq, Eq)]
 pub enum Job<'a> {
@@ -125,6 +150,7 @@ fn command<'a>(alloc: Global) -> Result<Command<'a>, AllocError>
     ensures { IfOk result (λ command. app_of command ≡ command_line) }
 {
     Command::new(alloc, "mcos")
+        .version(VERSION)
         .about("A multicore AUTOSAR OS kernel, simulated")
         .subcommand_required(true)
         .subcommand(run_command(alloc)?)?
@@ -145,6 +171,7 @@ fn run_command<'a>(alloc: Global) -> Result<Command<'a>, AllocError>
         .help("the turns in order, a JSON file; without it the default schedule runs");
     Command::new(alloc, "run")
         .about("Runs the cores turn by turn, and prints each core's trace")
+        .after_help(RUN_HELP)
         .arg(config_arg(alloc))?
         .arg(stimuli)?
         .arg(schedule)
@@ -155,6 +182,7 @@ fn check_command<'a>(alloc: Global) -> Result<Command<'a>, AllocError>
 {
     Command::new(alloc, "check")
         .about("Prints for each core whether it is separate, bound to others or off")
+        .after_help(CHECK_HELP)
         .arg(config_arg(alloc))
 }
 
@@ -167,6 +195,7 @@ fn cut_command<'a>(alloc: Global) -> Result<Command<'a>, AllocError>
         .help("the core's number");
     Command::new(alloc, "cut")
         .about("Prints the configuration of a separate core alone")
+        .after_help(CUT_HELP)
         .arg(config_arg(alloc))?
         .arg(core)
 }

@@ -16,7 +16,7 @@ returns c =
     let stimuli_own : c.help-stimuli.result.global ≡ false =
     ap (λ (a : Arg). a.global) c.help-stimuli.ensures ∙ ap (λ (a : Arg). a.global) c.required.ensures ∙ c.new.ensures.optional.1 in
     let schedule_is : rule_of c.help-schedule.result ≡ schedule_rule = search rules in
-    let new_run : app_of c.about.result ≡ new_app (codes "run") = ap app_of_fields c.about.ensures ∙ c.new-3.ensures.app in
+    let new_run : app_of c.after_help.result ≡ new_app (codes "run") = ap app_of_fields c.after_help.ensures ∙ ap app_of_fields c.about.ensures ∙ c.new-3.ensures.app in
     IfOk-weaker c.arg-3.result _ _ (λ r h. h.shape (search rules)
     ∙ ap₂ with_rule (c.in_ok-arg-2.ensures.shape stimuli_own
     ∙ ap₂ with_rule (c.in_ok-arg.ensures.shape c.config_arg.ensures.own ∙ ap₂ with_rule new_run c.config_arg.ensures.rule) stimuli_is) schedule_is) c.arg-3.ensures
