@@ -21,7 +21,8 @@ use Rattle.osconf.specs.declared.shapes.TaskText.{TaskText}
 use Rattle.osconf.specs.Fault.{failing}
 use Rattle.osconf.specs.Operation.{operations_of, has_name, place_of, is_operation_known, is_operation}
 use Rattle.osconf.specs.Check.{is_between, is_task_within, is_core_within, is_within, core_has_name, are_tasks_distinct, same_number, is_apart, are_cores_distinct, is_each_once, is_mode_name, is_task_known, is_core_known, are_known, is_task_script, is_core_script, are_operations, tests_of}
-use Rattle.osconf.specs.Writing.{config_data, mode_text, op_text, script_text}
+use Rattle.osplan.specs.Names.{name_of_mode}
+use Rattle.osconf.specs.Writing.{config_data, op_text, script_text}
 use Rattle.osconf.proofs.Bounds.{list_all-by, list_all-both}
 use Rattle.osconf.proofs.Sayings.{any-map}
 use Rattle.osconf.proofs.Reshaped.{number_said, task_said, core_said, config_said, mode-text, config-shape}
@@ -110,7 +111,7 @@ module _ (plan : Plan) (kept : Kept plan) where
   task-known : (task : Task) → both_task task ≡ true → is_task_known texts (task_said plan task) ≡ true
   task-known task h =
       let k = kept-task plan task h in
-      and_from _ _ (list_all-by said.is_only_mode is_mode_name (mode_text plan) (λ m e. mode-known (mode_text plan m) (mode-text plan kept.mode m e)) task.auto k.auto)
+      and_from _ _ (list_all-by said.is_only_mode is_mode_name (name_of_mode plan) (λ m e. mode-known (name_of_mode plan m) (mode-text plan kept.mode m e)) task.auto k.auto)
       (rw (script-back plan kept task.script k.known) (list_all-by (limits.is_op_known plan) (is_operation_known texts) (op_text plan) op-known task.script k.known))
 
   core-known : (core : Core) → both_core core ≡ true → is_core_known texts (core_said plan core) ≡ true

@@ -15,7 +15,7 @@ use Rattle.osplan.specs.View.{core_of}
 use Rattle.osplan.specs.Limits.{is_object}
 use Rattle.osplan.specs.Expressible.{is_task_expressible, is_core_expressible}
 use Rattle.osplan.proofs.Tests.{find-passes}
-use Rattle.osconf.specs.Writing.{name_in, object_name}
+use Rattle.osplan.specs.Names.{name_in, name_of}
 
 -- the task at this place
 abbrev pub task_at : Place → Object
@@ -25,7 +25,7 @@ task_at place = record { kind = ObjectKind.Task; place = place }
 pub record Names (plan : Plan) (target : Place) (core : Core) (task : Task) : Type 0 where
   pub core_is : core_of plan target.core ≡ Some core
   pub task_is : slice_get core.tasks target.index ≡ Some task
-  pub name_is : object_name plan ObjectKind.Task target ≡ task.name
+  pub name_is : name_of plan ObjectKind.Task target ≡ task.name
 
 pub get-passes : {X : Type 0} (q : X → Bool) (xs : List X) (i : ℕ) (x : X) → list_all q xs ≡ true → slice_get xs i ≡ Some x → q x ≡ true
 get-passes q [] i x a e = cc
@@ -61,7 +61,7 @@ pub found-passes : (plan : Plan) (target : Place) (core : Core) (task : Task) (q
 found-passes plan target core task q names all = find-passes (λ (c : Core). same_core c.id target.core) q plan.cores core all names.core_is
 
 -- a task that is named has a name in form
-pub named-form : (plan : Plan) → list_all is_core_expressible plan.cores ≡ true → (target : Place) → is_object plan (task_at target) ≡ true → is_name (object_name plan ObjectKind.Task target) ≡ true
+pub named-form : (plan : Plan) → list_all is_core_expressible plan.cores ≡ true → (target : Place) → is_object plan (task_at target) ≡ true → is_name (name_of plan ObjectKind.Task target) ≡ true
 named-form plan said target known =
     let found = names-task plan target known in
     let core = found.0 in

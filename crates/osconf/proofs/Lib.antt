@@ -1,3 +1,4 @@
+pub mod Naming
 pub mod Built
 pub mod Placing
 pub mod Least

@@ -18,7 +18,8 @@ use Rattle.osconf.specs.declared.shapes.TaskText.{TaskText}
 use Rattle.osread.specs.Reading.{each}
 use Rattle.osread.specs.Json.{elements, whole_of, name_of}
 use Rattle.osconf.specs.Shape.{task_shape, core_shape, config_shape}
-use Rattle.osconf.specs.Writing.{mode_text, script_text, id_data, mode_data, task_data, core_data, config_data}
+use Rattle.osplan.specs.Names.{name_of_mode}
+use Rattle.osconf.specs.Writing.{script_text, id_data, mode_data, task_data, core_data, config_data}
 use Rattle.osread.proofs.Contents.{elements-items_of}
 
 -- ---- what the text says
@@ -27,7 +28,7 @@ abbrev pub number_said : CoreId → Option ℕ
 number_said id = Some id.number
 
 abbrev pub task_said : Plan → Task → TaskText
-task_said plan task = record { name = task.name; prio = Some task.priority; auto = map (mode_text plan) task.auto; activations = Some task.activations; script = script_text plan task.script }
+task_said plan task = record { name = task.name; prio = Some task.priority; auto = map (name_of_mode plan) task.auto; activations = Some task.activations; script = script_text plan task.script }
 
 abbrev pub core_said : Plan → Core → CoreText
 core_said plan core = record { id = number_said core.id; start = map number_said core.start; tasks = map (task_said plan) core.tasks }
@@ -45,7 +46,7 @@ modes-are (name ∷ other ∷ names) h = absurd (true≢false (sym h))
 pub mode-is : (mode : ModeId) → is_only_mode mode ≡ true → mode ≡ record { index = 0 }
 mode-is mode h = ap (λ (n : ℕ). let m : ModeId = record { index = n } in m) (eqb-true mode.index 0 h)
 
-pub mode-text : (plan : Plan) → are_mode_name plan.modes ≡ true → (mode : ModeId) → is_only_mode mode ≡ true → mode_text plan mode ≡ mode_name
+pub mode-text : (plan : Plan) → are_mode_name plan.modes ≡ true → (mode : ModeId) → is_only_mode mode ≡ true → name_of_mode plan mode ≡ mode_name
 mode-text plan modes mode h = rw (mode-is mode h, modes-are plan.modes modes) refl
 
 -- ---- lists
@@ -66,14 +67,14 @@ always (x ∷ xs) = always xs
 -- ---- objects
 
 module _ (plan : Plan) (modes : are_mode_name plan.modes ≡ true) where
-  mode-shape : (mode : ModeId) → is_only_mode mode ≡ true → name_of (mode_data plan mode) ≡ Some (mode_text plan mode)
+  mode-shape : (mode : ModeId) → is_only_mode mode ≡ true → name_of (mode_data plan mode) ≡ Some (name_of_mode plan mode)
   mode-shape mode h = rw (mode-text plan modes mode h) refl
 
   task-shape : (task : Task) → is_task_expressible task ≡ true → task_shape (task_data plan task) ≡ Some (task_said plan task)
   unfolding task_shape
   task-shape task h =
       let parts = and_parts (is_name task.name) (list_all is_only_mode task.auto) h in
-      rw (parts.0, each-items name_of (mode_data plan) (mode_text plan) is_only_mode mode-shape task.auto parts.1) refl
+      rw (parts.0, each-items name_of (mode_data plan) (name_of_mode plan) is_only_mode mode-shape task.auto parts.1) refl
 
   core-shape : (core : Core) → is_core_expressible core ≡ true → core_shape (core_data plan core) ≡ Some (core_said plan core)
   unfolding core_shape

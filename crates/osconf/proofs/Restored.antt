@@ -26,7 +26,8 @@ use Rattle.osplan.proofs.Tests.{all-weaker, any-find, find-holds, find-passes}
 use Rattle.osplan.proofs.Cutting.{no_isrs, no_alarms, no_tables}
 use Rattle.osconf.specs.Operation.{operations_of, byte_of, number_id, task_place, place_of, op_of}
 use Rattle.osconf.specs.Meaning.{only_mode, task_plan, core_plan, plan_of}
-use Rattle.osconf.specs.Writing.{mode_text, object_name, op_text, script_text}
+use Rattle.osplan.specs.Names.{name_of, name_of_mode}
+use Rattle.osconf.specs.Writing.{op_text, script_text}
 use Rattle.osconf.specs.declared.shapes.CoreText.{CoreText}
 use Rattle.osconf.proofs.Bounds.{byte-small, list_all-both}
 use Rattle.osconf.proofs.Joining.{parts-pieces}
@@ -178,7 +179,7 @@ module _ (plan : Plan) (kept : Kept plan) where
   abbrev texts : List CoreText
   texts = map (core_said plan) plan.cores
 
-  target-back : (target : Place) → limits.is_object plan (task_at target) ≡ true → task_place texts (object_name plan ObjectKind.Task target) ≡ Some target
+  target-back : (target : Place) → limits.is_object plan (task_at target) ≡ true → task_place texts (name_of plan ObjectKind.Task target) ≡ Some target
   target-back target known =
       let found = names-task plan target known in
       let core = kept-core plan found.0 (found-passes plan target found.0 found.1 (λ (c : Core). limits.is_core_within plan c && said.is_core_expressible c) found.2 (cores-both plan kept)) in
@@ -198,15 +199,15 @@ module _ (plan : Plan) (kept : Kept plan) where
       omega arith
 
   -- Each object of the configuration has a name in form, which stands for it.
-  object-named : (object : Object) → limits.is_object plan object ≡ true → IsNamed (place_of texts) (object_name plan) object
+  object-named : (object : Object) → limits.is_object plan object ≡ true → IsNamed (place_of texts) (name_of plan) object
   object-named object known = by object.kind object.place known
     where
-      by : (kind : ObjectKind) (place : Place) → limits.is_object plan (record { kind = kind; place = place }) ≡ true → IsNamed (place_of texts) (object_name plan) (record { kind = kind; place = place })
+      by : (kind : ObjectKind) (place : Place) → limits.is_object plan (record { kind = kind; place = place }) ≡ true → IsNamed (place_of texts) (name_of plan) (record { kind = kind; place = place })
       by ObjectKind.Task place there = record { in_form = named-form plan kept.said_cores place there; found = target-back place there }
       by ObjectKind.Alarm place there = absurd (no-alarm place (core_of plan place.core) refl there)
 
   pub op-meant : (op : Op) → limits.is_op_known plan op ≡ true → op_meant (place_of texts) (op_text plan op) ≡ Some op
-  op-meant = text-meant (place_of texts) (object_name plan) (limits.is_object plan) object-named
+  op-meant = text-meant (place_of texts) (name_of plan) (limits.is_object plan) object-named
 
   op-back : (op : Op) → limits.is_op_known plan op ≡ true → op_of texts (op_text plan op) ≡ op
   op-back op known = ap (λ o. unwrap_or o Work) (op-meant op known)
@@ -215,17 +216,17 @@ module _ (plan : Plan) (kept : Kept plan) where
   pub script-back : (script : List Op) → list_all (limits.is_op_known plan) script ≡ true → operations_of (script_text plan script) ≡ map (op_text plan) script
   script-back script known =
       parts-pieces (op_text plan) 59 script refl
-      (all-weaker (limits.is_op_known plan) _ (text-none (place_of texts) (object_name plan) (limits.is_object plan) object-named 59 (record { digit = refl; part = refl; minus = refl; invalid = refl; letter = refl }) refl) script known)
-      (all-weaker (limits.is_op_known plan) _ (λ op h. text-some (object_name plan) op) script known)
+      (all-weaker (limits.is_op_known plan) _ (text-none (place_of texts) (name_of plan) (limits.is_object plan) object-named 59 (record { digit = refl; part = refl; minus = refl; invalid = refl; letter = refl }) refl) script known)
+      (all-weaker (limits.is_op_known plan) _ (λ op h. text-some (name_of plan) op) script known)
 
   task-back : (task : Task) → (limits.is_task_within plan task && said.is_task_expressible task) ≡ true → task_plan texts (task_said plan task) ≡ task
   task-back task h =
       let kept_task = kept-task plan task h in
       let prio : task.priority ≤ 31 = kept_task.priority in
       let activations : task.activations ≤ 64 = kept_task.activations_high in
-      task-parts task (byte_of (Some task.priority)) (byte_of (Some task.activations)) (map (λ (name : List ℕ). only_mode) (map (mode_text plan) task.auto)) (map (op_of texts) (operations_of (script_text plan task.script)))
+      task-parts task (byte_of (Some task.priority)) (byte_of (Some task.activations)) (map (λ (name : List ℕ). only_mode) (map (name_of_mode plan) task.auto)) (map (op_of texts) (operations_of (script_text plan task.script)))
       (byte-small task.priority (omega arith))
-      (map-back (λ (name : List ℕ). only_mode) (mode_text plan) said.is_only_mode (λ m e. sym (mode-is m e)) task.auto kept_task.auto)
+      (map-back (λ (name : List ℕ). only_mode) (name_of_mode plan) said.is_only_mode (λ m e. sym (mode-is m e)) task.auto kept_task.auto)
       (byte-small task.activations (omega arith))
       (ap (map (op_of texts)) (script-back task.script kept_task.known) ∙ map-back (op_of texts) (op_text plan) (limits.is_op_known plan) op-back task.script kept_task.known)
 

@@ -7,35 +7,18 @@ use Rattle.serde_json.specs.View.{items_of}
 use Rattle.serde_json.specs.Written.{compact_text}
 use Rattle.osbase.specs.declared.references.CoreId.{CoreId}
 use Rattle.osbase.specs.declared.references.ModeId.{ModeId}
-use Rattle.osbase.specs.declared.objects.ObjectKind.{ObjectKind}
-use Rattle.osbase.specs.declared.objects.Place.{Place}
 use Rattle.oscript.specs.declared.Op.{Op}
 use Rattle.osforms.specs.Operation as forms
 use Rattle.osplan.specs.declared.plans.Plan.{Plan}
 use Rattle.osplan.specs.declared.plans.Core.{Core}
 use Rattle.osplan.specs.declared.plans.Task.{Task}
-use Rattle.osplan.specs.declared.plans.Alarm.{Alarm}
-use Rattle.osplan.specs.View.{core_of}
-
--- ---- names
-
--- The name of a mode; of one that there is not, the empty text.
-abbrev pub mode_text : Plan → ModeId → List ℕ
-mode_text plan mode = option_map_or (λ (name : List ℕ). name) (slice_get plan.modes mode.index) []
-
--- The name of an object; of one that there is not, the empty text.
-abbrev pub name_in : ObjectKind → Core → ℕ → List ℕ
-name_in ObjectKind.Task core index = option_map_or (λ (task : Task). task.name) (slice_get core.tasks index) []
-name_in ObjectKind.Alarm core index = option_map_or (λ (alarm : Alarm). alarm.name) (slice_get core.alarms index) []
-
-abbrev pub object_name : Plan → ObjectKind → Place → List ℕ
-object_name plan kind place = option_map_or (λ (core : Core). name_in kind core place.index) (core_of plan place.core) []
+use Rattle.osplan.specs.Names.{name_of_mode, name_of}
 
 -- ---- scripts
 
 -- The words of an operation, divided by one space.
 abbrev pub op_text : Plan → Op → List ℕ
-op_text plan op = forms.op_text (object_name plan) op
+op_text plan op = forms.op_text (name_of plan) op
 
 -- The operations of a script, divided by `;`.
 abbrev pub script_text : Plan → List Op → List ℕ
@@ -53,7 +36,7 @@ abbrev pub id_data : CoreId → Data
 id_data id = whole_data id.number
 
 abbrev pub mode_data : Plan → ModeId → Data
-mode_data plan mode = string (mode_text plan mode)
+mode_data plan mode = string (name_of_mode plan mode)
 
 -- A task: its activation limit, the modes of its autostart, its name, priority and script.
 abbrev pub task_data : Plan → Task → Data

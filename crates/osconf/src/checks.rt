@@ -1,21 +1,20 @@
 //! The tests of a configuration's text, one for each fault past its shape, in ascending order.
 
-ghost use Rattle.std.specs.Prelude.{◌≡◌, ◌==◌, ◌&&◌, true, false, not, MatchResult, Some};
+ghost use Rattle.std.specs.Prelude.{◌≡◌, ◌==◌, ◌&&◌, true, false, not, IsTrue, MatchResult, Some};
 ghost use Rattle.std.specs.List.{list_all, list_any, slice_split};
 ghost use Rattle.osconf.specs.declared.shapes.CoreText.{CoreText as Core};
 ghost use Rattle.osconf.specs.declared.shapes.TaskText.{TaskText as Task};
 ghost use Rattle.osplan.specs.Expressible.{mode_name};
 ghost use Rattle.osconf.specs.Fault.{failing, first_fault};
 ghost use Rattle.osconf.specs.Operation.{has_name, is_operation_known};
-ghost use Rattle.osconf.specs.Check.{is_between, is_task_within, is_core_within, is_within, core_has_name, is_first_named, are_tasks_distinct, same_number, is_apart, is_first_apart, are_cores_distinct, is_each_once, are_operations_known, is_mode_name, is_task_known, is_core_known, are_known, are_operations, tests_of};
+ghost use Rattle.osconf.specs.Check.{is_between, is_task_within, is_core_within, is_within, core_has_name, is_first_named, are_tasks_distinct, same_number, is_apart, is_first_apart, are_cores_distinct, is_each_once, has_named_tasks, are_operations_known, is_mode_name, is_task_known, is_core_known, are_known, are_operations, tests_of};
 
 use crate::places::{Objects, has_name};
 use crate::shapes::{ConfigText, CoreText, TaskText};
 use crate::words::part_count;
-use osbase::Name;
 use osforms::is_known;
 use osplan::ConfFault;
-use osread::Whole;
+use osread::{Text, Whole};
 
 /// The name of the only mode.
 pub const MODE: &str = "M";
@@ -178,24 +177,24 @@ fn is_each_once(text: &ConfigText) -> bool
     are_cores_distinct(cores) && has_no_mode_name(cores)
 }
 
-fn is_operation_known(cores: &[CoreText], text: &str) -> bool
-    ensures { result ≡ is_operation_known cores.now text.now }
+fn is_operation_known(objects: &Objects, text: &str) -> bool
+    ensures { result ≡ is_operation_known objects.now.cores.now text.now }
 {
-    is_known(&Objects { cores }, text)
+    is_known(objects, text)
 }
 
-fn are_parts_known(cores: &[CoreText], script: &str) -> bool
-    ensures { result ≡ list_all (is_operation_known cores.now) (slice_split (λ b. b == 59) script.now) }
+fn are_parts_known(objects: &Objects, script: &str) -> bool
+    ensures { result ≡ list_all (is_operation_known objects.now.cores.now) (slice_split (λ b. b == 59) script.now) }
 {
     script
         .split(';')
-        .all(|text| is_operation_known(cores, text))
+        .all(|text| is_operation_known(objects, text))
 }
 
-fn are_operations_known(cores: &[CoreText], script: &str) -> bool
-    ensures { result ≡ are_operations_known cores.now script.now }
+fn are_operations_known(objects: &Objects, script: &str) -> bool
+    ensures { result ≡ are_operations_known objects.now.cores.now script.now }
 {
-    script.is_empty() || are_parts_known(cores, script)
+    script.is_empty() || are_parts_known(objects, script)
 }
 
 fn is_mode_name(name: &str) -> bool
@@ -205,25 +204,25 @@ fn is_mode_name(name: &str) -> bool
 }
 
 /// Whether each name is the only mode's.
-pub fn are_mode_names(names: &[Name]) -> bool
+pub fn are_mode_names(names: &[Text]) -> bool
     ensures { result ≡ list_all is_mode_name names.now }
 {
     names.iter().all(|name| is_mode_name(name.as_str()))
 }
 
-fn is_task_known(cores: &[CoreText], task: &TaskText) -> bool
-    ensures { result ≡ is_task_known cores.now task.now }
+fn is_task_known(objects: &Objects, task: &TaskText) -> bool
+    ensures { result ≡ is_task_known objects.now.cores.now task.now }
 {
-    are_mode_names(task.auto.as_slice()) && are_operations_known(cores, task.script.as_str())
+    are_mode_names(task.auto.as_slice()) && are_operations_known(objects, task.script.as_str())
 }
 
-fn is_core_known(cores: &[CoreText], core: &CoreText) -> bool
-    ensures { result ≡ is_core_known cores.now core.now }
+fn is_core_known(objects: &Objects, core: &CoreText) -> bool
+    ensures { result ≡ is_core_known objects.now.cores.now core.now }
 {
     core.tasks
         .as_slice()
         .iter()
-        .all(|task| is_task_known(cores, task))
+        .all(|task| is_task_known(objects, task))
 }
 
 /// Whether a core has this number.
@@ -233,17 +232,18 @@ pub fn has_core(cores: &[CoreText], number: Whole) -> bool
     cores.iter().any(|core| same_number(core.id, number))
 }
 
-fn are_cores_known(all: &[CoreText], cores: &[CoreText]) -> bool
-    ensures { result ≡ list_all (is_core_known all.now) cores.now }
+fn are_cores_known(objects: &Objects, cores: &[CoreText]) -> bool
+    ensures { result ≡ list_all (is_core_known objects.now.cores.now) cores.now }
 {
-    cores.iter().all(|core| is_core_known(all, core))
+    cores.iter().all(|core| is_core_known(objects, core))
 }
 
 fn are_known(text: &ConfigText) -> bool
+    requires named { IsTrue (list_all has_named_tasks text.now.cores) }
     ensures { result ≡ are_known text.now }
 {
     let cores = text.cores.as_slice();
-    has_core(cores, text.master) && are_cores_known(cores, cores)
+    has_core(cores, text.master) && are_cores_known(&Objects::of(cores), cores)
 }
 
 /// The text has neither fault of its limits and of what stands twice, or the smaller of those that it has.
@@ -263,6 +263,7 @@ pub fn check(text: &ConfigText) -> Result<(), ConfFault>
 /// The fault of a text without those, some name of which names nothing or some operation of which is not
 /// in good form.
 pub fn fault_of_names(text: &ConfigText) -> ConfFault
+    requires named { IsTrue (list_all has_named_tasks text.now.cores) }
     requires checked { (is_within text.now && is_each_once text.now) ≡ true }
     requires faulty { (are_known text.now && are_operations text.now) ≡ false }
     ensures { first_fault (failing (tests_of text.now)) ≡ Some result }

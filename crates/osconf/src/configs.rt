@@ -1,11 +1,12 @@
 //! Reading a configuration.
 
-ghost use Rattle.std.specs.Prelude.{◌≡◌, ◌≢◌, IfOk, IfErr, Some, []};
+ghost use Rattle.std.specs.Prelude.{◌≡◌, ◌≢◌, IfOk, IfErr, IsTrue, Some, []};
+ghost use Rattle.std.specs.List.{list_all};
 ghost use Rattle.serde_json.specs.Read.{read};
 ghost use Rattle.serde_json.specs.View.{view};
 ghost use Rattle.osconf.specs.Shape.{config_shape};
 ghost use Rattle.osconf.specs.Fault.{failing, first_fault, GivesOr};
-ghost use Rattle.osconf.specs.Check.{tests_of};
+ghost use Rattle.osconf.specs.Check.{has_named_tasks, tests_of};
 ghost use Rattle.osconf.specs.Meaning.{plan_of, config_of, IsLeastFault};
 
 use crate::checks::{check, fault_of_names};
@@ -32,8 +33,9 @@ pub fn value_of(alloc: Global, text: &str) -> Result<Value, ConfFault>
     }
 }
 
-fn shape_of(alloc: Global, value: &Value) -> Result<ConfigText, ConfFault>
-    ensures { GivesOr ConfFault.Shape (λ x. x) result (config_shape (view value.now)) }
+fn shape_of(alloc: Global, value: &Value) -> Result<ConfigText<'_>, ConfFault>
+    ensures shape { GivesOr ConfFault.Shape (λ x. x) result (config_shape (view value.now)) }
+    ensures named { IfOk result (λ text. IsTrue (list_all has_named_tasks text.cores)) }
 {
     match ConfigReader.read(alloc, value) {
         Ok(text) => Ok(text),
@@ -44,6 +46,7 @@ fn shape_of(alloc: Global, value: &Value) -> Result<ConfigText, ConfFault>
 
 // Names and operations are judged while the plan is made, and again where it cannot be.
 fn plan_if_faultless(alloc: Global, text: &ConfigText) -> Result<Plan, ConfFault>
+    requires named { IsTrue (list_all has_named_tasks text.now.cores) }
     ensures ok { IfOk result (λ plan. (failing (tests_of text.now) ≡ []) × (plan ≡ plan_of text.now)) }
     ensures fault { IfErr result (λ fault. fault ≢ ConfFault.NoMemory → first_fault (failing (tests_of text.now)) ≡ Some fault) }
 {

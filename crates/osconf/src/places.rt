@@ -1,6 +1,8 @@
 //! Where the objects of a configuration's text stand, by their names.
 
-ghost use Rattle.std.specs.Prelude.{◌≡◌, position};
+ghost use Rattle.std.specs.Prelude.{◌≡◌, IsTrue, position};
+ghost use Rattle.std.specs.List.{list_all};
+ghost use Rattle.osconf.specs.Check.{has_named_tasks};
 ghost use Rattle.osconf.specs.Operation.{byte_of, has_name, id_of, task_of_core, task_place};
 
 use crate::shapes::{CoreText, TaskText};
@@ -63,9 +65,20 @@ fn task_place(cores: &[CoreText], name: &str) -> Option<Place>
 }
 
 /// The objects of a text's cores.
-#[derive(Clone, Copy, Debug)]
+#[derive(Debug, Drop)]
 pub struct Objects<'t> {
-    pub cores: &'t [CoreText],
+    cores: &'t [CoreText<'t>],
+    ghost named: { IsTrue (list_all has_named_tasks cores.now) },
+}
+
+impl<'t> Objects<'t> {
+    /// The objects of these cores, whose names are in form, as in every shape.
+    pub fn of(cores: &'t [CoreText<'t>]) -> Self
+        requires named { IsTrue (list_all has_named_tasks cores.now) }
+        ensures { result.cores.now ≡ cores.now }
+    {
+        Objects { cores }
+    }
 }
 
 impl Places for Objects<'_> {

@@ -1,10 +1,11 @@
-//! The shape of a configuration: its members and their types. Limits and names are judged later.
+//! The shape of a configuration: its members and their types. Limits and names are judged later. Texts are
+//! borrowed from the value that is read.
 
 ghost use Rattle.osconf.specs.Shape.{task_shape, core_shape, config_shape};
 
-use osbase::{List, Name};
+use osbase::List;
 use osread::{
-    JsonReader, ListOf, NameReader, Refusal, TextReader, Whole, WholeReader, at, at_or,
+    JsonReader, ListOf, NameReader, Refusal, Text, TextReader, Whole, WholeReader, at, at_or,
     only_members,
 };
 use serde_json::Value;
@@ -12,41 +13,40 @@ use std::alloc::Global;
 
 /// A task as a text has it.
 #[derive(Debug, Drop)]
-pub struct TaskText {
-    pub name: Name,
+pub struct TaskText<'v> {
+    pub name: Text<'v>,
     pub prio: Whole,
-    pub auto: List<Name>,
+    pub auto: List<Text<'v>>,
     pub activations: Whole,
-    /// The script's text.
-    pub script: Name,
+    pub script: Text<'v>,
 }
 
 /// A core as a text has it.
 #[derive(Debug, Drop)]
-pub struct CoreText {
+pub struct CoreText<'v> {
     pub id: Whole,
     pub start: List<Whole>,
-    pub tasks: List<TaskText>,
+    pub tasks: List<TaskText<'v>>,
 }
 
 /// A configuration as a text has it.
 #[derive(Debug, Drop)]
-pub struct ConfigText {
+pub struct ConfigText<'v> {
     pub version: Whole,
     pub cap: Whole,
     pub master: Whole,
-    pub cores: List<CoreText>,
+    pub cores: List<CoreText<'v>>,
 }
 
 // Reads a task.
 #[derive(Clone, Copy, Debug)]
 struct TaskReader;
 
-impl JsonReader<TaskText> for TaskReader {
+impl<'v> JsonReader<'v, TaskText<'v>> for TaskReader {
     ghost shape = { λ _ d. task_shape d };
 
     #[tactic(auto, unfolding(crate::specs::Shape::task_shape))]
-    fn read(&self, alloc: Global, value: &Value) -> Result<TaskText, Refusal> {
+    fn read(&self, alloc: Global, value: &'v Value) -> Result<TaskText<'v>, Refusal> {
         only_members(value, &["name", "prio", "auto", "activations", "script"])?;
         Ok(TaskText {
             name: at(alloc, value, "name", &NameReader)?,
@@ -68,11 +68,11 @@ impl JsonReader<TaskText> for TaskReader {
 #[derive(Clone, Copy, Debug)]
 struct CoreReader;
 
-impl JsonReader<CoreText> for CoreReader {
+impl<'v> JsonReader<'v, CoreText<'v>> for CoreReader {
     ghost shape = { λ _ d. core_shape d };
 
     #[tactic(auto, unfolding(crate::specs::Shape::core_shape))]
-    fn read(&self, alloc: Global, value: &Value) -> Result<CoreText, Refusal> {
+    fn read(&self, alloc: Global, value: &'v Value) -> Result<CoreText<'v>, Refusal> {
         only_members(value, &["id", "start", "tasks"])?;
         Ok(CoreText {
             id: at(alloc, value, "id", &WholeReader)?,
@@ -98,11 +98,11 @@ impl JsonReader<CoreText> for CoreReader {
 #[derive(Clone, Copy, Debug)]
 pub struct ConfigReader;
 
-impl JsonReader<ConfigText> for ConfigReader {
+impl<'v> JsonReader<'v, ConfigText<'v>> for ConfigReader {
     ghost shape = { λ _ d. config_shape d };
 
     #[tactic(auto, unfolding(crate::specs::Shape::config_shape))]
-    fn read(&self, alloc: Global, value: &Value) -> Result<ConfigText, Refusal> {
+    fn read(&self, alloc: Global, value: &'v Value) -> Result<ConfigText<'v>, Refusal> {
         only_members(value, &["version", "cap", "master", "cores"])?;
         Ok(ConfigText {
             version: at_or(alloc, value, "version", &WholeReader, Some(1))?,

@@ -3,7 +3,7 @@
 ghost use Rattle.std.specs.Prelude.{◌≡◌, IfOk, Some, string_bytes};
 ghost use Rattle.serde_json.specs.View.{view};
 ghost use Rattle.osconf.specs.Meaning.{config_of};
-ghost use Rattle.osconf.specs.Writing.{mode_text, name_in, object_name, script_text, id_data, mode_data, list_data, task_data, core_data, config_data, config_text};
+ghost use Rattle.osconf.specs.Writing.{script_text, id_data, mode_data, list_data, task_data, core_data, config_data, config_text};
 
 use osbase::{CoreId, ModeId, ObjectKind, Place};
 use oscript::Op;
@@ -12,40 +12,6 @@ use osplan::{Config, Core, Plan, Task};
 use serde_json::{Value, json};
 use std::alloc::{AllocError, Global};
 
-fn mode_text(plan: &Plan, mode: ModeId) -> &str
-    ensures { result.now ≡ mode_text plan.now mode }
-{
-    match plan.modes.as_slice().get(usize::from(mode.index)) {
-        Some(name) => name.as_str(),
-        None => "",
-    }
-}
-
-fn name_in(kind: ObjectKind, core: &Core, index: u8) -> &str
-    ensures { result.now ≡ name_in kind core.now index }
-{
-    let index = usize::from(index);
-    match kind {
-        ObjectKind::Task => match core.tasks.as_slice().get(index) {
-            Some(task) => task.name.as_str(),
-            None => "",
-        },
-        ObjectKind::Alarm => match core.alarms.as_slice().get(index) {
-            Some(alarm) => alarm.name.as_str(),
-            None => "",
-        },
-    }
-}
-
-fn object_name(plan: &Plan, kind: ObjectKind, place: Place) -> &str
-    ensures { result.now ≡ object_name plan.now kind place }
-{
-    match plan.core(place.core) {
-        Some(core) => name_in(kind, core, place.index),
-        None => "",
-    }
-}
-
 // The names of a plan's objects.
 #[derive(Clone, Copy, Debug)]
 struct ObjectNames<'p> {
@@ -53,12 +19,12 @@ struct ObjectNames<'p> {
 }
 
 impl Names for ObjectNames<'_> {
-    ghost use Rattle.osconf.specs.Writing.{object_name};
+    ghost use Rattle.osplan.specs.Names.{name_of};
 
-    ghost name = { λ names. object_name names.plan.now };
+    ghost name = { λ names. name_of names.plan.now };
 
     fn name(&self, kind: ObjectKind, place: Place) -> &str {
-        object_name(self.plan, kind, place)
+        self.plan.name_of(kind, place)
     }
 }
 
@@ -78,7 +44,7 @@ fn modes_value(alloc: Global, plan: &Plan, modes: &[ModeId]) -> Result<Value, Al
 {
     let mut values = Vec::new(alloc);
     for mode in modes {
-        values.push(Value::String(String::from_str(alloc, mode_text(plan, *mode))?))?;
+        values.push(Value::String(String::from_str(alloc, plan.name_of_mode(*mode))?))?;
     }
     Ok(Value::Array(values))
 }

@@ -1,12 +1,11 @@
 -- What is left of a text for a last argument is one word, since no argument has a space.
 use Rattle.std.proofs.Common.{inl, inr, ◌≡◌, ℕ, ◌<◌, ◌==◌, ◌&&◌, not, false, Option, Some, None, option_map, List, [], ◌∷◌, length, refl, sym, ap, ◌∙◌, arith}
-use Rattle.std.specs.Borrow.{Bor}
 use Rattle.std.specs.List.{onto_first}
 use Rattle.std.proofs.lemmas.Bool.{cases_Bool, true≢false}
 use Rattle.std.proofs.lemmas.List.Splits.{length-slice_split}
 use Rattle.oscript.specs.declared.rows.Kind.{Kind}
 use Rattle.oscript.specs.declared.rows.Arg.{Arg}
-use Rattle.osforms.specs.Form.{arg_shown, last_shown, words_of, arg_of, and_then_rest, args_of}
+use Rattle.osforms.specs.Form.{words_of, arg_of, and_then_rest, args_of}
 use Rattle.osforms.proofs.Joining.{has_none, split-lone}
 use Rattle.osforms.proofs.KindTexts.{arg_of-none}
 use Rattle.osforms.proofs.RoundTrip.{space-apart}
@@ -24,11 +23,11 @@ words-many (x ∷ xs) spaced =
       | inr other ↦ rw other (onto-many x (words_of xs) (words-many xs (ap (λ b. not b && has_none 32 xs) (sym other) ∙ spaced)))
     ]
 
-rest-none : (o : Option (Arg (List ℕ))) → and_then_rest o None ≡ None
+pub rest-none : {A : Type 0} (o : Option A) → and_then_rest o None ≡ None
 rest-none None = refl
 rest-none (Some a) = refl
 
-lone-rest : (o : Option (Arg (List ℕ))) → and_then_rest o (Some []) ≡ option_map (λ a. a ∷ []) o
+pub lone-rest : {A : Type 0} (o : Option A) → and_then_rest o (Some []) ≡ option_map (λ a. a ∷ []) o
 lone-rest None = refl
 lone-rest (Some a) = refl
 
@@ -41,14 +40,9 @@ spaced-none : (k : Kind) (text : List ℕ) (o : Option (Arg (List ℕ))) → arg
 spaced-none k text None e spaced = refl
 spaced-none k text (Some a) e spaced = absurd (true≢false (sym (arg_of-none 32 k text a space-apart e) ∙ spaced))
 
-last-word : (k : Kind) (text : List ℕ) → args_of (k ∷ []) (words_of text) ≡ option_map (λ a. a ∷ []) (arg_of k text)
+pub last-word : (k : Kind) (text : List ℕ) → args_of (k ∷ []) (words_of text) ≡ option_map (λ a. a ∷ []) (arg_of k text)
 last-word k text =
     elim (cases_Bool (has_none 32 text)) as (λ _. args_of (k ∷ []) (words_of text) ≡ option_map (λ a. a ∷ []) (arg_of k text)) [
       | inl none ↦ ap (args_of (k ∷ [])) (split-lone 32 text none) ∙ lone-rest (arg_of k text)
       | inr spaced ↦ args-many k (words_of text) (words-many text spaced) ∙ ap (option_map (λ a. a ∷ [])) (sym (spaced-none k text (arg_of k text) refl spaced))
     ]
-
--- as the code has it
-pub last-arg : (o : Option (Arg (Bor (List ℕ)))) (k : Kind) (text : List ℕ) → option_map arg_shown o ≡ arg_of k text → option_map last_shown o ≡ args_of (k ∷ []) (words_of text)
-last-arg None k text e = ap (option_map (λ a. a ∷ [])) e ∙ sym (last-word k text)
-last-arg (Some a) k text e = ap (option_map (λ a. a ∷ [])) e ∙ sym (last-word k text)

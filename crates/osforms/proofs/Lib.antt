@@ -5,5 +5,6 @@ pub mod KindTexts
 pub mod Rows
 pub mod RoundTrip
 pub mod LastWord
+pub mod Meant
 pub mod ArgsTexts
 pub mod Operations

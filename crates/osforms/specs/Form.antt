@@ -6,33 +6,11 @@ use Rattle.std.specs.Str.{bytes_eq}
 use Rattle.std.specs.Fmt.{decimal, signed_decimal}
 use Rattle.oscript.specs.declared.rows.Verb.{Verb}
 use Rattle.oscript.specs.declared.rows.Kind.{Kind}
-use Rattle.oscript.specs.declared.rows.Args.{Args}
 use Rattle.oscript.specs.declared.rows.TheConstants.{VERBS}
 use Rattle.oscript.specs.declared.rows.Arg.{Arg}
 use Rattle.oscript.specs.declared.rows.Arg.TheVariants.{Object, Number, Int, Variable}
-use Rattle.oscript.specs.declared.rows.Form.{Form}
-use Rattle.oscript.specs.Rows.{word_of, kinds_of, items}
+use Rattle.oscript.specs.Rows.{word_of, kinds_of}
 use Rattle.osforms.specs.Word.{number_in, int_of, variable_of, target_of}
-
--- ---- what the code holds, with its texts as texts
-
-abbrev pub arg_shown : Arg (Bor (List ℕ)) → Arg (List ℕ)
-arg_shown (Object kind target) = Object kind (option_map (λ (t : Bor (List ℕ)). t.now) target)
-arg_shown (Number n) = Number n
-arg_shown (Int z) = Int z
-arg_shown (Variable x) = Variable x
-
-abbrev pub args_shown : Args (Arg (Bor (List ℕ))) → List (Arg (List ℕ))
-args_shown args = map arg_shown (items args)
-
-abbrev pub last_shown : Arg (Bor (List ℕ)) → List (Arg (List ℕ))
-last_shown a = arg_shown a ∷ []
-
-abbrev pub two_shown : Arg (Bor (List ℕ)) × Arg (Bor (List ℕ)) → List (Arg (List ℕ))
-two_shown two = arg_shown two.0 ∷ arg_shown two.1 ∷ []
-
-abbrev pub form_shown : Form (Bor (List ℕ)) → Verb × List (Arg (List ℕ))
-form_shown form = (form.verb, args_shown form.args)
 
 -- ---- reading
 
@@ -61,11 +39,6 @@ args_of [] [] = Some []
 args_of [] (w ∷ ws) = None
 args_of (k ∷ ks) [] = None
 args_of (k ∷ ks) (w ∷ ws) = and_then_rest (arg_of k w) (args_of ks ws)
-
--- What a first argument and what follows it make of the kinds.
-abbrev pub args_after : Option (Arg (Bor (List ℕ)) × Option (Bor (List ℕ))) → List Kind → Option (List (Arg (List ℕ)))
-args_after None kinds = None
-args_after (Some next) kinds = option_map (λ as_. arg_shown next.0 ∷ as_) (args_of kinds (rest_words next.1))
 
 -- The operation of a word.
 abbrev pub verb_of : List ℕ → Option Verb

@@ -1,14 +1,17 @@
 -- Operations and their texts, by what names stand for. [own]
-use Rattle.std.specs.Prelude.{ℕ, ◌++◌, Bool, true, Option, Some, None, is_some, option_map, option_and_then, List, [], ◌∷◌, map}
+use Rattle.std.specs.Prelude.{ℕ, ◌++◌, if◌then◌else◌, Bool, true, Option, Some, None, is_some, option_map, option_and_then, List, [], ◌∷◌, map}
+use Rattle.std.specs.Borrow.{Bor}
 use Rattle.std.specs.Option.{option_map_or}
+use Rattle.osbase.specs.Names.{is_name}
 use Rattle.osbase.specs.declared.objects.ObjectKind.{ObjectKind}
 use Rattle.osbase.specs.declared.objects.Place.{Place}
 use Rattle.oscript.specs.declared.Op.{Op}
 use Rattle.oscript.specs.declared.rows.Verb.{Verb}
 use Rattle.oscript.specs.declared.rows.Arg.{Arg}
+use Rattle.oscript.specs.declared.rows.Kind.{Kind}
 use Rattle.oscript.specs.declared.rows.Arg.TheVariants.{Object, Number, Int, Variable}
-use Rattle.oscript.specs.Rows.{op_of, form_of_op}
-use Rattle.osforms.specs.Form.{and_then_rest, form_of, form_text, arg_text}
+use Rattle.oscript.specs.Rows.{op_of, form_of_op, kinds_of}
+use Rattle.osforms.specs.Form.{and_then_rest, arg_of, form_of, form_text, arg_text, rest_words}
 
 -- ---- from names to places
 
@@ -30,6 +33,36 @@ resolved place form = option_map (λ args. (form.0, args)) (resolve_args place f
 -- The operation that a text means, where it is in good form and its names have places.
 abbrev pub op_meant : (ObjectKind → List ℕ → Option Place) → List ℕ → Option Op
 op_meant place text = option_map op_of (option_and_then (resolved place) (form_of text))
+
+-- A word as an argument of a kind, with the place of its name.
+abbrev pub arg_meant : (ObjectKind → List ℕ → Option Place) → Kind → List ℕ → Option (Arg Place)
+arg_meant place kind word = option_and_then (resolve_arg place) (arg_of kind word)
+
+-- As many words as kinds, each such an argument.
+abbrev pub args_meant : (ObjectKind → List ℕ → Option Place) → List Kind → List (List ℕ) → Option (List (Arg Place))
+args_meant place [] [] = Some []
+args_meant place [] (w ∷ ws) = None
+args_meant place (k ∷ ks) [] = None
+args_meant place (k ∷ ks) (w ∷ ws) = and_then_rest (arg_meant place k w) (args_meant place ks ws)
+
+-- What a first argument and what follows it make of the kinds.
+abbrev pub args_after : (ObjectKind → List ℕ → Option Place) → Option (Arg Place × Option (Bor (List ℕ))) → List Kind → Option (List (Arg Place))
+args_after place None kinds = None
+args_after place (Some next) kinds = option_map (λ as_. next.0 ∷ as_) (args_meant place kinds (rest_words next.1))
+
+abbrev pub last_of : Arg Place → List (Arg Place)
+last_of a = a ∷ []
+
+abbrev pub two_of : Arg Place × Arg Place → List (Arg Place)
+two_of two = two.0 ∷ two.1 ∷ []
+
+-- The operation of a verb and the words of its arguments.
+abbrev pub verb_meant : (ObjectKind → List ℕ → Option Place) → List (List ℕ) → Verb → Option Op
+verb_meant place words verb = option_map (λ args. op_of (verb, args)) (args_meant place (kinds_of verb) words)
+
+-- Every name has the same place, where all that is asked is whether a text is in good form.
+abbrev pub place_of_any : ObjectKind → List ℕ → Option Place
+place_of_any kind name = if is_name name then Some (record { core = record { number = 0 }; index = 0 }) else None
 
 -- The text is in good form.
 abbrev pub is_formed : List ℕ → Bool

@@ -8,11 +8,11 @@
 mod calls;
 mod numbers;
 mod parsing;
-mod resolving;
+mod places;
 mod words;
 mod writing;
 
 pub use calls::{CallForm, form_of_call};
-pub use parsing::form_of;
-pub use resolving::{Places, is_known, op_meant, resolved};
+pub use parsing::{is_known, op_meant};
+pub use places::Places;
 pub use writing::{Names, op_text};

@@ -1,20 +1,37 @@
-//! Reading: operations in good form, whose names are not looked up yet.
+//! Reading: operations in good form, with the places of their names.
 
-ghost use Rattle.std.specs.Prelude.{◌≡◌, ◌∷◌, [], map, find, option_map, if◌then◌else◌, List};
+ghost use Rattle.std.specs.Prelude.{◌≡◌, ◌∷◌, [], option_map, if◌then◌else◌, List};
 ghost use Rattle.std.specs.Str.{bytes_eq};
 ghost use Rattle.oscript.specs.declared.rows.Kind.{Kind};
 ghost use Rattle.oscript.specs.Rows.{word_of, items};
-ghost use Rattle.osforms.specs.Form.{arg_shown, args_shown, form_shown, arg_of, args_of, args_after, last_shown, two_shown, rest_words, verb_of, form_of};
+ghost use Rattle.osforms.specs.Form.{rest_words, verb_of};
+ghost use Rattle.osforms.specs.Operation.{arg_meant, args_after, args_meant, is_formed, is_known, last_of, op_meant, two_of, verb_meant};
 
-use crate::numbers::{int_of, number_in, target_of, variable_of};
+use crate::numbers::{int_of, number_in, variable_of};
+use crate::places::{AnyName, Places};
 use crate::words::cut;
-use oscript::{Arg, Args, Form, Kind, VERBS, Verb, row_of};
+use osbase::{ObjectKind, Place};
+use oscript::{Arg, Args, Form, Kind, Op, VERBS, Verb, op_of, row_of};
 
-fn arg_of(kind: Kind, word: &str) -> Option<Arg<&str>>
-    ensures { option_map arg_shown result ≡ arg_of kind word.now }
+// A place's name is in form, so it is not judged again.
+fn object_meant<P: Places>(places: &P, kind: ObjectKind, word: &str) -> Option<Arg<Place>>
+    ensures { result ≡ arg_meant (P.place places.now) (Kind.Object kind) word.now }
+{
+    if let Some(place) = places.place(kind, word) {
+        return Some(Arg::Object(kind, Some(place)));
+    }
+    if word == "?" {
+        Some(Arg::Object(kind, None))
+    } else {
+        None
+    }
+}
+
+fn arg_meant<P: Places>(places: &P, kind: Kind, word: &str) -> Option<Arg<Place>>
+    ensures { result ≡ arg_meant (P.place places.now) kind word.now }
 {
     match kind {
-        Kind::Object(kind) => Some(Arg::Object(kind, target_of(word)?)),
+        Kind::Object(kind) => object_meant(places, kind, word),
         Kind::Number(low, high) => {
             let n = number_in(u64::from(low), u64::from(high), word)?;
             Some(Arg::Number(n as u32))
@@ -25,17 +42,21 @@ fn arg_of(kind: Kind, word: &str) -> Option<Arg<&str>>
 }
 
 // The next word as an argument of the kind, and what follows it.
-fn next_arg<'a>(kind: Kind, rest: Option<&'a str>) -> Option<(Arg<&'a str>, Option<&'a str>)>
-    ensures { (kinds : List Kind) → args_of (kind ∷ kinds) (rest_words rest.entry) ≡ args_after result kinds }
+fn next_arg<'a, P: Places>(
+    places: &P,
+    kind: Kind,
+    rest: Option<&'a str>,
+) -> Option<(Arg<Place>, Option<&'a str>)>
+    ensures { (kinds : List Kind) → args_meant (P.place places.now) (kind ∷ kinds) (rest_words rest.entry) ≡ args_after (P.place places.now) result kinds }
 {
     let (word, rest) = cut(rest?);
-    Some((arg_of(kind, word)?, rest))
+    Some((arg_meant(places, kind, word)?, rest))
 }
 
-#[tactic(auto, using(crate::proofs::Wording::args_left))]
-fn is_end(rest: Option<&str>) -> bool
-    ensures { args_of [] (rest_words rest.entry) ≡ (if result then Some [] else None) }
+fn is_end<P: Places>(places: &P, rest: Option<&str>) -> bool
+    ensures { args_meant (P.place places.now) [] (rest_words rest.entry) ≡ (if result then Some [] else None) }
 {
+    let _ = places;
     match rest {
         Some(_) => false,
         None => true,
@@ -43,24 +64,26 @@ fn is_end(rest: Option<&str>) -> bool
 }
 
 // The last word as an argument of the kind. No argument has a space, so all that is left is that word.
-fn last_arg(kind: Kind, rest: Option<&str>) -> Option<Arg<&str>>
-    ensures { option_map last_shown result ≡ args_of (kind ∷ []) (rest_words rest.entry) }
+#[tactic(auto, using(crate::proofs::Meant::last_meant))]
+fn last_arg<P: Places>(places: &P, kind: Kind, rest: Option<&str>) -> Option<Arg<Place>>
+    ensures { option_map last_of result ≡ args_meant (P.place places.now) (kind ∷ []) (rest_words rest.entry) }
 {
     match rest {
-        Some(word) => arg_of(kind, word),
+        Some(word) => arg_meant(places, kind, word),
         None => None,
     }
 }
 
-fn last_two<'a>(
+fn last_two<P: Places>(
+    places: &P,
     kind: Kind,
     last: Kind,
-    rest: Option<&'a str>,
-) -> Option<(Arg<&'a str>, Arg<&'a str>)>
-    ensures { option_map two_shown result ≡ args_of (kind ∷ last ∷ []) (rest_words rest.entry) }
+    rest: Option<&str>,
+) -> Option<(Arg<Place>, Arg<Place>)>
+    ensures { option_map two_of result ≡ args_meant (P.place places.now) (kind ∷ last ∷ []) (rest_words rest.entry) }
 {
-    match next_arg(kind, rest) {
-        Some((a, rest)) => match last_arg(last, rest) {
+    match next_arg(places, kind, rest) {
+        Some((a, rest)) => match last_arg(places, last, rest) {
             Some(b) => Some((a, b)),
             None => None,
         },
@@ -68,21 +91,31 @@ fn last_two<'a>(
     }
 }
 
-fn args_of(kinds: Args<Kind>, rest: Option<&str>) -> Option<Args<Arg<&str>>>
-    ensures { option_map args_shown result ≡ args_of (items kinds) (rest_words rest.entry) }
+fn args_meant<P: Places>(
+    places: &P,
+    kinds: Args<Kind>,
+    rest: Option<&str>,
+) -> Option<Args<Arg<Place>>>
+    ensures { option_map items result ≡ args_meant (P.place places.now) (items kinds) (rest_words rest.entry) }
 {
     match kinds {
-        Args::Zero => { if is_end(rest) { Some(Args::Zero) } else { None } }
-        Args::One(last) => match last_arg(last, rest) {
+        Args::Zero => {
+            if is_end(places, rest) {
+                Some(Args::Zero)
+            } else {
+                None
+            }
+        }
+        Args::One(last) => match last_arg(places, last, rest) {
             Some(a) => Some(Args::One(a)),
             None => None,
         },
-        Args::Two(kind, last) => match last_two(kind, last, rest) {
+        Args::Two(kind, last) => match last_two(places, kind, last, rest) {
             Some((a, b)) => Some(Args::Two(a, b)),
             None => None,
         },
-        Args::Three(kind, next, last) => match next_arg(kind, rest) {
-            Some((a, rest)) => match last_two(next, last, rest) {
+        Args::Three(kind, next, last) => match next_arg(places, kind, rest) {
+            Some((a, rest)) => match last_two(places, next, last, rest) {
                 Some((b, c)) => Some(Args::Three(a, b, c)),
                 None => None,
             },
@@ -103,12 +136,39 @@ fn verb_of(word: &str) -> Option<Verb>
     VERBS.iter().copied().find(|verb| is_word(*verb, word))
 }
 
-/// The operation that a text says; None where it is not in good form, as an empty one.
-pub fn form_of(text: &str) -> Option<Form<&str>>
-    ensures { option_map form_shown result ≡ form_of text.now }
+fn verb_meant<P: Places>(places: &P, verb: Verb, rest: Option<&str>) -> Option<Op>
+    ensures { result ≡ verb_meant (P.place places.now) (rest_words rest.entry) verb }
+{
+    match args_meant(places, row_of(verb).kinds, rest) {
+        Some(args) => Some(op_of(Form { verb, args })),
+        None => None,
+    }
+}
+
+/// The operation that a text means; None where it is not in good form, as an empty one, or where a name in it
+/// has no place.
+pub fn op_meant<P: Places>(places: &P, text: &str) -> Option<Op>
+    ensures { result ≡ op_meant (P.place places.now) text.now }
 {
     let (word, rest) = cut(text);
-    let verb = verb_of(word)?;
-    let args = args_of(row_of(verb).kinds, rest)?;
-    Some(Form { verb, args })
+    match verb_of(word) {
+        Some(verb) => verb_meant(places, verb, rest),
+        None => None,
+    }
+}
+
+fn is_formed(text: &str) -> bool
+    ensures { result ≡ is_formed text.now }
+{
+    op_meant(&AnyName, text).is_some()
+}
+
+/// Whether each name of a text in good form has its place. A text in another form has no names.
+pub fn is_known<P: Places>(places: &P, text: &str) -> bool
+    ensures { result ≡ is_known (P.place places.now) text.now }
+{
+    match op_meant(places, text) {
+        Some(_) => true,
+        None => !is_formed(text),
+    }
 }

@@ -9,48 +9,35 @@ use thiserror::Error;
 
 /// Why a text was not read, or a core's configuration not cut from the whole.
 #[derive(Clone, Copy, Debug, PartialEq, Eq, Error)]
+#[error("fault {} {}", self.number(), self.name())]
 pub enum ConfFault {
     /// The text is not JSON.
-    #[error("fault 1 NotJson")]
     NotJson,
     /// A member is missing, unknown or of another type, or a fixed word is unknown.
-    #[error("fault 2 Shape")]
     Shape,
     /// A count or a number is outside its limit.
-    #[error("fault 3 Limit")]
     Limit,
     /// A name or a core number stands twice.
-    #[error("fault 4 DuplicateName")]
     DuplicateName,
     /// There is no such object of the wanted kind, mode or core.
-    #[error("fault 5 UnknownName")]
     UnknownName,
     /// An object of another core, where none is allowed.
-    #[error("fault 6 WrongCore")]
     WrongCore,
     /// The spinlocks' successors have a cycle.
-    #[error("fault 7 SpinOrder")]
     SpinOrder,
     /// An event mask that is not 1 to 4294967295.
-    #[error("fault 8 BadMask")]
     BadMask,
     /// The points or the duration of a schedule table.
-    #[error("fault 9 BadTable")]
     BadTable,
     /// An operation, or its numbers.
-    #[error("fault 10 BadScript")]
     BadScript,
     /// Memory ran out while reading or cutting.
-    #[error("fault 11 NoMemory")]
     NoMemory,
     /// The stimuli.
-    #[error("fault 12 BadStimulus")]
     BadStimulus,
     /// The listed turns.
-    #[error("fault 13 BadSchedule")]
     BadSchedule,
     /// The core is not separate.
-    #[error("fault 20 NotSeparate")]
     NotSeparate,
 }
 

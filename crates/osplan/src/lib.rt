@@ -5,6 +5,7 @@
 #![tactic(auto)]
 
 pub mod faults;
+mod names;
 pub mod plans;
 pub mod separate;
 

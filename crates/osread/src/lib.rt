@@ -16,4 +16,4 @@ pub use loops::{Reader, read_each};
 pub use members::{at, at_or, only_members};
 pub use parts::{PartReader, read_parts};
 pub use refusals::Refusal;
-pub use values::{JsonReader, ListOf, NameReader, TextReader, Whole, WholeReader};
+pub use values::{JsonReader, ListOf, NameReader, Text, TextReader, Whole, WholeReader};

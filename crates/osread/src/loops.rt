@@ -8,21 +8,21 @@ use osbase::List;
 use std::alloc::Global;
 
 /// Reads one element.
-pub trait Reader<T, U> {
+pub trait Reader<'e, T, U> {
     /// What an element is read as.
     ghost shape: { Self → T → Option U };
 
     /// The element as its shape has it. `Unfit` where it has none; `OutOfMemory` where memory runs out.
-    fn read(&self, alloc: Global, element: &T) -> Result<U, Refusal>
+    fn read(&self, alloc: Global, element: &'e T) -> Result<U, Refusal>
         ensures { Gives (λ x. x) result (shape self.now element.now) };
 }
 
 /// Each element as the reader reads it. `Unfit` where one of them has no shape; `OutOfMemory` where memory
 /// runs out.
-pub fn read_each<T, U: Drop, R: Reader<T, U>>(
+pub fn read_each<'e, T, U: Drop, R: Reader<'e, T, U>>(
     alloc: Global,
     reader: &R,
-    elements: &[T],
+    elements: &'e [T],
 ) -> Result<List<U>, Refusal>
     ensures { Gives (λ x. x) result (each (R.shape reader.now) elements.now) }
 {

@@ -14,9 +14,9 @@ use serde_json::{Map, Value};
 use std::alloc::Global;
 
 /// The member that has to be there. `Unfit` where it is missing, or its value has no shape.
-pub fn at<U, R: JsonReader<U>>(
+pub fn at<'v, U, R: JsonReader<'v, U>>(
     alloc: Global,
-    value: &Value,
+    value: &'v Value,
     key: &str,
     reader: &R,
 ) -> Result<U, Refusal>
@@ -29,9 +29,9 @@ pub fn at<U, R: JsonReader<U>>(
 }
 
 /// The member, or its default. `Unfit` where the member is there, and its value has no shape.
-pub fn at_or<U: Drop, R: JsonReader<U>>(
+pub fn at_or<'v, U: Drop, R: JsonReader<'v, U>>(
     alloc: Global,
-    value: &Value,
+    value: &'v Value,
     key: &str,
     reader: &R,
     default: U,

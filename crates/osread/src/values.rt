@@ -9,17 +9,18 @@ ghost use Rattle.osread.specs.Json.{whole_of, if_name, name_of, each_of};
 
 use crate::loops::{Reader, read_each};
 use crate::refusals::Refusal;
-use osbase::{List, Name, is_name};
+use osbase::{List, is_name};
 use serde_json::Value;
 use std::alloc::Global;
+use std::marker::Model;
 
-/// Reads one value.
-pub trait JsonReader<U> {
+/// Reads one value, which what is read may borrow.
+pub trait JsonReader<'v, U> {
     /// What a value is read as.
     ghost shape: { Self → Data → Option U };
 
     /// The value as its shape has it. `Unfit` where it has none; `OutOfMemory` where memory runs out.
-    fn read(&self, alloc: Global, value: &Value) -> Result<U, Refusal>
+    fn read(&self, alloc: Global, value: &'v Value) -> Result<U, Refusal>
         ensures { Gives (λ x. x) result (shape self.now (view value.now)) };
 }
 
@@ -30,10 +31,10 @@ pub type Whole = Option<u64>;
 #[derive(Clone, Copy, Debug)]
 pub struct WholeReader;
 
-impl JsonReader<Whole> for WholeReader {
+impl<'v> JsonReader<'v, Whole> for WholeReader {
     ghost shape = { λ _ d. whole_of d };
 
-    fn read(&self, _alloc: Global, value: &Value) -> Result<Whole, Refusal> {
+    fn read(&self, _alloc: Global, value: &'v Value) -> Result<Whole, Refusal> {
         match value.as_u64() {
             Some(number) => Ok(Some(number)),
             None => match value.as_i64() {
@@ -44,16 +45,38 @@ impl JsonReader<Whole> for WholeReader {
     }
 }
 
+/// A text of a value, which it borrows.
+#[derive(Debug, Drop)]
+pub struct Text<'v> {
+    text: &'v str,
+}
+
+impl<'v> Model for Text<'v> {
+    ghost use Rattle.std.specs.Prelude.{List as Items, ℕ};
+
+    ghost Value = { Items ℕ };
+
+    ghost view = { λ t. t.text.now };
+}
+
+impl<'v> Text<'v> {
+    pub fn as_str(&self) -> &'v str
+        ensures { result.now ≡ self.now }
+    {
+        self.text
+    }
+}
+
 /// Reads a text.
 #[derive(Clone, Copy, Debug)]
 pub struct TextReader;
 
-impl JsonReader<Name> for TextReader {
+impl<'v> JsonReader<'v, Text<'v>> for TextReader {
     ghost shape = { λ _ d. as_str d };
 
-    fn read(&self, alloc: Global, value: &Value) -> Result<Name, Refusal> {
+    fn read(&self, _alloc: Global, value: &'v Value) -> Result<Text<'v>, Refusal> {
         match value.as_str() {
-            Some(text) => Ok(Name::new(alloc, text)?),
+            Some(text) => Ok(Text { text }),
             None => Err(Refusal::Unfit),
         }
     }
@@ -63,22 +86,22 @@ impl JsonReader<Name> for TextReader {
 #[derive(Clone, Copy, Debug)]
 pub struct NameReader;
 
-impl JsonReader<Name> for NameReader {
+impl<'v> JsonReader<'v, Text<'v>> for NameReader {
     ghost shape = { λ _ d. name_of d };
 
-    fn read(&self, alloc: Global, value: &Value) -> Result<Name, Refusal> {
+    fn read(&self, _alloc: Global, value: &'v Value) -> Result<Text<'v>, Refusal> {
         match value.as_str() {
-            Some(text) => name_in(alloc, text),
+            Some(text) => name_in(text),
             None => Err(Refusal::Unfit),
         }
     }
 }
 
-fn name_in(alloc: Global, text: &str) -> Result<Name, Refusal>
+fn name_in(text: &str) -> Result<Text<'_>, Refusal>
     ensures { Gives (λ x. x) result (if_name text.now) }
 {
     if is_name(text) {
-        Ok(Name::new(alloc, text)?)
+        Ok(Text { text })
     } else {
         Err(Refusal::Unfit)
     }
@@ -90,10 +113,10 @@ pub struct ListOf<R> {
     pub of: R,
 }
 
-impl<U: Drop, R: JsonReader<U>> JsonReader<List<U>> for ListOf<R> {
+impl<'v, U: Drop, R: JsonReader<'v, U>> JsonReader<'v, List<U>> for ListOf<R> {
     ghost shape = { λ list d. each_of (R.shape list.of) d };
 
-    fn read(&self, alloc: Global, value: &Value) -> Result<List<U>, Refusal> {
+    fn read(&self, alloc: Global, value: &'v Value) -> Result<List<U>, Refusal> {
         match value.as_array() {
             Some(values) => read_values(alloc, &self.of, values.as_slice()),
             None => Err(Refusal::Unfit),
@@ -101,10 +124,10 @@ impl<U: Drop, R: JsonReader<U>> JsonReader<List<U>> for ListOf<R> {
     }
 }
 
-fn read_values<U: Drop, R: JsonReader<U>>(
+fn read_values<'v, U: Drop, R: JsonReader<'v, U>>(
     alloc: Global,
     reader: &R,
-    values: &[Value],
+    values: &'v [Value],
 ) -> Result<List<U>, Refusal>
     ensures { Gives (λ x. x) result (each (R.shape reader.now) (map view values.now)) }
 {
@@ -117,10 +140,10 @@ struct ElementReader<'r, R> {
     reader: &'r R,
 }
 
-impl<U, R: JsonReader<U>> Reader<Value, U> for ElementReader<'_, R> {
+impl<'v, U, R: JsonReader<'v, U>> Reader<'v, Value, U> for ElementReader<'_, R> {
     ghost shape = { λ element value. R.shape element.reader.now (view value) };
 
-    fn read(&self, alloc: Global, value: &Value) -> Result<U, Refusal> {
+    fn read(&self, alloc: Global, value: &'v Value) -> Result<U, Refusal> {
         self.reader.read(alloc, value)
     }
 }

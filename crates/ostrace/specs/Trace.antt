@@ -22,42 +22,11 @@ use Rattle.osbase.specs.declared.turns.Report.{Report}
 use Rattle.osbase.specs.Words.{status_name, service_name}
 use Rattle.osforms.specs.Call as forms
 use Rattle.osplan.specs.declared.plans.Plan.{Plan}
-use Rattle.osplan.specs.declared.plans.Core.{Core}
-use Rattle.osplan.specs.declared.plans.Task.{Task}
-use Rattle.osplan.specs.declared.plans.Isr.{Isr}
-use Rattle.osplan.specs.declared.plans.Alarm.{Alarm}
-use Rattle.osplan.specs.declared.plans.Table.{Table}
-use Rattle.osplan.specs.View.{core_of}
-
--- The name of an object: that of its place among its core's objects of its kind. [own]
-abbrev pub object_name : {A : Type 0} → (Core → List A) → (A → List ℕ) → Plan → CoreId → ℕ → List ℕ
-object_name objects name plan core index =
-    option_map_or (λ (c : Core). option_map_or name (slice_get (objects c) index) []) (core_of plan core) []
-
-abbrev pub task_name : Plan → TaskRef → List ℕ
-task_name plan t = object_name (λ (c : Core). c.tasks) (λ (x : Task). x.name) plan t.core t.index
-
-abbrev pub isr_name : Plan → IsrRef → List ℕ
-isr_name plan i = object_name (λ (c : Core). c.isrs) (λ (x : Isr). x.name) plan i.core i.index
-
-abbrev pub alarm_name : Plan → AlarmRef → List ℕ
-alarm_name plan a = object_name (λ (c : Core). c.alarms) (λ (x : Alarm). x.name) plan a.core a.index
-
-abbrev pub table_name : Plan → TableRef → List ℕ
-table_name plan s = object_name (λ (c : Core). c.tables) (λ (x : Table). x.name) plan s.core s.index
-
-abbrev pub runner_name : Plan → Runner → List ℕ
-runner_name plan (Runner.Task t) = task_name plan t
-runner_name plan (Runner.Isr i) = isr_name plan i
+use Rattle.osplan.specs.Names.{alarm_name, isr_name, name_of, runner_name, table_name, task_name}
 
 -- A variable is `v` and its number. [own]
 abbrev pub variable_name : Variable → List ℕ
 variable_name x = codes "v" ++ decimal x.index
-
--- The name of an object of any kind.
-abbrev pub name_of : Plan → ObjectKind → Place → List ℕ
-name_of plan ObjectKind.Task place = object_name (λ (c : Core). c.tasks) (λ (x : Task). x.name) plan place.core place.index
-name_of plan ObjectKind.Alarm place = object_name (λ (c : Core). c.alarms) (λ (x : Alarm). x.name) plan place.core place.index
 
 -- The words of a call that goes to another core: the operation as a script has it. [own]
 abbrev pub call_words : Plan → RemoteCall → List (List ℕ)

@@ -2,7 +2,6 @@
 #![tactic(auto)]
 
 mod lines;
-mod names;
 pub mod reports;
 pub mod sinks;
 mod words;

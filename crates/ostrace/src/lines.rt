@@ -8,11 +8,9 @@ ghost use Rattle.osforms.specs.Form.{arg_text};
 ghost use Rattle.osforms.specs.Operation.{named};
 ghost use Rattle.ostrace.specs.Pieces.{word_text};
 ghost use Rattle.ostrace.specs.Taken.{Writes};
-ghost use Rattle.ostrace.specs.Trace.{answer_words, call_words, isr_name, led, line_of, name_of, spaced, table_name, task_name, variable_name};
+ghost use Rattle.osplan.specs.Names.{isr_name, name_of, table_name, task_name};
+ghost use Rattle.ostrace.specs.Trace.{answer_words, call_words, led, line_of, spaced, variable_name};
 
-use crate::names::{
-    name_of, name_of_alarm, name_of_isr, name_of_runner, name_of_table, name_of_task,
-};
 use crate::sinks::{Sink, WriteFailed};
 use crate::words::{Word, write_led, write_words};
 use osbase::{
@@ -81,7 +79,7 @@ fn write_task<S: Sink>(
     ensures { Writes S.taken S.failed out.old out.new
         (spaced (verb.now ∷ task_name plan.now task ∷ [])) result }
 {
-    write_name(out, verb, name_of_task(plan, task))
+    write_name(out, verb, plan.task_name(task))
 }
 
 fn write_isr<S: Sink>(plan: &Plan, out: &mut S, verb: &str, isr: IsrRef) -> Result<(), WriteFailed>
@@ -89,7 +87,7 @@ fn write_isr<S: Sink>(plan: &Plan, out: &mut S, verb: &str, isr: IsrRef) -> Resu
     ensures { Writes S.taken S.failed out.old out.new
         (spaced (verb.now ∷ isr_name plan.now isr ∷ [])) result }
 {
-    write_name(out, verb, name_of_isr(plan, isr))
+    write_name(out, verb, plan.isr_name(isr))
 }
 
 fn write_events<S: Sink>(
@@ -103,7 +101,7 @@ fn write_events<S: Sink>(
     ensures { Writes S.taken S.failed out.old out.new
         (spaced (verb.now ∷ task_name plan.now task ∷ decimal mask ∷ [])) result }
 {
-    write_number(out, verb, name_of_task(plan, task), mask)
+    write_number(out, verb, plan.task_name(task), mask)
 }
 
 fn write_point<S: Sink>(
@@ -116,7 +114,7 @@ fn write_point<S: Sink>(
     ensures { Writes S.taken S.failed out.old out.new
         (spaced (codes "point" ∷ table_name plan.now table ∷ decimal offset ∷ [])) result }
 {
-    write_number(out, "point", name_of_table(plan, table), offset)
+    write_number(out, "point", plan.table_name(table), offset)
 }
 
 fn write_variable<S: Sink>(
@@ -154,7 +152,7 @@ fn word_of(plan: &Plan, arg: Arg<Place>) -> Word<'_>
     ensures { word_text result ≡ arg_text (named (name_of plan.now) arg) }
 {
     match arg {
-        Arg::Object(kind, Some(place)) => Word::Text(name_of(plan, kind, place)),
+        Arg::Object(kind, Some(place)) => Word::Text(plan.name_of(kind, place)),
         Arg::Object(_, None) => Word::Text("?"),
         Arg::Number(n) => Word::Whole(n),
         Arg::Int(n) => Word::Signed(n),
@@ -292,10 +290,10 @@ pub fn write_line<S: Sink>(plan: &Plan, out: &mut S, mark: &Mark) -> Result<(), 
         Mark::IsrEntered(isr) => write_isr(plan, out, "enter", isr),
         Mark::IsrLeft(isr) => write_isr(plan, out, "leave", isr),
         Mark::Tick => write_word_alone(out, "tick"),
-        Mark::AlarmExpired(alarm) => write_name(out, "alarm", name_of_alarm(plan, alarm)),
+        Mark::AlarmExpired(alarm) => write_name(out, "alarm", plan.alarm_name(alarm)),
         Mark::ExpiryPoint { table, offset } => write_point(plan, out, table, offset),
-        Mark::TableStopped(table) => write_name(out, "stop", name_of_table(plan, table)),
-        Mark::TableBegun(table) => write_name(out, "begin", name_of_table(plan, table)),
+        Mark::TableStopped(table) => write_name(out, "stop", plan.table_name(table)),
+        Mark::TableBegun(table) => write_name(out, "begin", plan.table_name(table)),
         Mark::CallQueued { core, call } => write_remote(plan, out, "out", core, call),
         Mark::CallServed {
             core,
@@ -308,12 +306,12 @@ pub fn write_line<S: Sink>(plan: &Plan, out: &mut S, mark: &Mark) -> Result<(), 
             service,
             status,
             value,
-        } => write_returned(out, name_of_runner(plan, runner), service, status, value),
+        } => write_returned(out, plan.runner_name(runner), service, status, value),
         Mark::VariableSet {
             runner,
             variable,
             value,
-        } => write_variable(out, name_of_runner(plan, runner), variable, value),
+        } => write_variable(out, plan.runner_name(runner), variable, value),
         Mark::Halted { core, status } => write_core(out, "halt", core, status),
     }
 }

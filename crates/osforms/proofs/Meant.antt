@@ -1,0 +1,142 @@
+-- Arguments with the places of their names, word by word.
+use Rattle.std.proofs.Common.{inl, inr, ◌≡◌, ℕ, ◌||◌, not, Bool, true, false, Option, Some, None, is_some, option_map, option_and_then, List, [], ◌∷◌, codes, refl, sym, ap, ◌∙◌}
+use Rattle.std.specs.Option.{option_map_or}
+use Rattle.std.specs.Str.{bytes_eq}
+use Rattle.std.proofs.lemmas.Bool.{cases_Bool, true≢false}
+use Rattle.std.proofs.lemmas.Slice.Eq.{bytes_eq-Decides}
+use Rattle.osbase.specs.declared.objects.ObjectKind.{ObjectKind}
+use Rattle.osbase.specs.declared.objects.Place.{Place}
+use Rattle.osbase.specs.Names.{is_name}
+use Rattle.oscript.specs.Rows.{kinds_of, op_of}
+use Rattle.oscript.specs.declared.rows.Kind.{Kind}
+use Rattle.oscript.specs.declared.rows.Verb.{Verb}
+use Rattle.oscript.specs.declared.rows.Arg.{Arg}
+use Rattle.oscript.specs.declared.rows.Arg.TheVariants.{Object, Number, Int, Variable}
+use Rattle.osforms.specs.Word.{number_in, int_of, variable_of}
+use Rattle.osforms.specs.Form.{words_of, arg_of, args_of, and_then_rest, verb_of, form_of_verb, form_of_words, form_of}
+use Rattle.osforms.specs.Operation.{resolve_arg, resolve_args, resolved, arg_meant, args_meant, place_of_any, last_of, verb_meant, op_meant, is_formed, is_known}
+use Rattle.osforms.proofs.LastWord.{last-word, lone-rest, rest-none}
+use Rattle.osforms.proofs.Wording.{args_left}
+
+-- the invalid identifier is no name
+pub valid : (word : List ℕ) → is_name word ≡ true → bytes_eq word (codes "?") ≡ false
+valid word named =
+    elim (cases_Bool (bytes_eq word (codes "?"))) as (λ _. bytes_eq word (codes "?") ≡ false) [
+      | inl same ↦ absurd (true≢false (sym named ∙ ap is_name ((bytes_eq-Decides word (codes "?")).0 same)))
+      | inr other ↦ other
+    ]
+
+module _ (place : ObjectKind → List ℕ → Option Place) where
+  pair : (o : Option (Arg (List ℕ))) (r : Option (List (Arg (List ℕ)))) → option_and_then (resolve_args place) (and_then_rest o r) ≡ and_then_rest (option_and_then (resolve_arg place) o) (option_and_then (resolve_args place) r)
+  pair None r = refl
+  pair (Some a) None = sym (rest-none (resolve_arg place a))
+  pair (Some a) (Some r) = refl
+
+  -- To look up the names of all arguments is to look them up one by one.
+  pub meant-args : (ks : List Kind) (ws : List (List ℕ)) → option_and_then (resolve_args place) (args_of ks ws) ≡ args_meant place ks ws
+  meant-args [] [] = refl
+  meant-args [] (w ∷ ws) = refl
+  meant-args (k ∷ ks) [] = refl
+  meant-args (k ∷ ks) (w ∷ ws) = pair (arg_of k w) (args_of ks ws) ∙ ap (and_then_rest (arg_meant place k w)) (meant-args ks ws)
+
+  lone : (o : Option (Arg (List ℕ))) → option_and_then (resolve_args place) (option_map (λ a. a ∷ []) o) ≡ option_map last_of (option_and_then (resolve_arg place) o)
+  lone None = refl
+  lone (Some a) = lone-rest (resolve_arg place a)
+
+  -- What is left of a text for a last argument is one word, since no argument has a space.
+  pub last_meant : (k : Kind) (text : List ℕ) → option_map last_of (arg_meant place k text) ≡ args_meant place (k ∷ []) (words_of text)
+  last_meant k text =
+      sym (lone (arg_of k text)) ∙ ap (option_and_then (resolve_args place)) (sym (last-word k text)) ∙ meant-args (k ∷ []) (words_of text)
+
+  -- Where a text is left, an argument is too many.
+  pub none_left : (text : List ℕ) → args_meant place [] (words_of text) ≡ None
+  none_left text = sym (meant-args [] (words_of text)) ∙ ap (option_and_then (resolve_args place)) (args_left text)
+
+  with-args : (verb : Verb) (o : Option (List (Arg (List ℕ)))) → option_and_then (resolved place) (option_map (λ args. (verb, args)) o) ≡ option_map (λ args. (verb, args)) (option_and_then (resolve_args place) o)
+  with-args verb None = refl
+  with-args verb (Some args) = refl
+
+  mapped-twice : (verb : Verb) (o : Option (List (Arg Place))) → option_map op_of (option_map (λ args. (verb, args)) o) ≡ option_map (λ args. op_of (verb, args)) o
+  mapped-twice verb None = refl
+  mapped-twice verb (Some args) = refl
+
+  by-verb : (words : List (List ℕ)) (o : Option Verb) → option_map op_of (option_and_then (resolved place) (option_and_then (form_of_verb words) o)) ≡ option_and_then (verb_meant place words) o
+  by-verb words None = refl
+  by-verb words (Some verb) =
+      ap (option_map op_of) (with-args verb (args_of (kinds_of verb) words))
+      ∙ mapped-twice verb (option_and_then (resolve_args place) (args_of (kinds_of verb) words))
+      ∙ ap (option_map (λ args. op_of (verb, args))) (meant-args (kinds_of verb) words)
+
+  -- An operation by its words.
+  pub words_meant : (text word : List ℕ) (words : List (List ℕ)) → words_of text ≡ word ∷ words → op_meant place text ≡ option_and_then (verb_meant place words) (verb_of word)
+  words_meant text word words are =
+      ap (λ ws. option_map op_of (option_and_then (resolved place) (form_of_words ws))) are ∙ by-verb words (verb_of word)
+
+-- ---- where every name has a place, a text in good form means an operation
+
+kept : {A : Type 0} (f : A → Arg (List ℕ)) → ((a : A) → is_some (resolve_arg place_of_any (f a)) ≡ true) → (o : Option A) → is_some (option_and_then (resolve_arg place_of_any) (option_map f o)) ≡ is_some (option_map f o)
+kept f all None = refl
+kept f all (Some a) = all a
+
+any-object : (k : ObjectKind) (w : List ℕ) → is_name w ≡ true → is_some (resolve_arg place_of_any (Object k (Some w))) ≡ true
+any-object k w named = rw named refl
+
+any-arg : (k : Kind) (w : List ℕ) → is_some (arg_meant place_of_any k w) ≡ is_some (arg_of k w)
+any-arg (Kind.Object k) w =
+    elim (cases_Bool (bytes_eq w (codes "?"))) as (λ _. is_some (arg_meant place_of_any (Kind.Object k) w) ≡ is_some (arg_of (Kind.Object k) w)) [
+      | inl same ↦ rw same refl
+      | inr other ↦
+          elim (cases_Bool (is_name w)) as (λ _. is_some (arg_meant place_of_any (Kind.Object k) w) ≡ is_some (arg_of (Kind.Object k) w)) [
+            | inl named ↦ rw (other, named) (any-object k w named)
+            | inr unnamed ↦ rw (other, unnamed) refl
+          ]
+    ]
+any-arg (Kind.Number low high) w = kept Number (λ n. refl) (number_in low high w)
+any-arg Kind.Int w = kept Int (λ z. refl) (int_of w)
+any-arg Kind.Variable w = kept Variable (λ x. refl) (variable_of w)
+
+any-two : (o : Option (Arg Place)) (p : Option (Arg (List ℕ))) (r : Option (List (Arg Place))) (q : Option (List (Arg (List ℕ)))) → is_some o ≡ is_some p → is_some r ≡ is_some q → is_some (and_then_rest o r) ≡ is_some (and_then_rest p q)
+any-two None None r q e f = refl
+any-two None (Some b) r q e f = cc
+any-two (Some a) None r q e f = cc
+any-two (Some a) (Some b) None None e f = refl
+any-two (Some a) (Some b) None (Some y) e f = cc
+any-two (Some a) (Some b) (Some x) None e f = cc
+any-two (Some a) (Some b) (Some x) (Some y) e f = refl
+
+any-args : (ks : List Kind) (ws : List (List ℕ)) → is_some (args_meant place_of_any ks ws) ≡ is_some (args_of ks ws)
+any-args [] [] = refl
+any-args [] (w ∷ ws) = refl
+any-args (k ∷ ks) [] = refl
+any-args (k ∷ ks) (w ∷ ws) =
+    any-two (arg_meant place_of_any k w) (arg_of k w) (args_meant place_of_any ks ws) (args_of ks ws) (any-arg k w) (any-args ks ws)
+
+is-mapped : {A B : Type 0} (f : A → B) (o : Option A) → is_some (option_map f o) ≡ is_some o
+is-mapped f None = refl
+is-mapped f (Some a) = refl
+
+any-verb : (words : List (List ℕ)) (o : Option Verb) → is_some (option_and_then (verb_meant place_of_any words) o) ≡ is_some (option_and_then (form_of_verb words) o)
+any-verb words None = refl
+any-verb words (Some verb) =
+    is-mapped (λ args. op_of (verb, args)) (args_meant place_of_any (kinds_of verb) words)
+    ∙ any-args (kinds_of verb) words
+    ∙ sym (is-mapped (λ args. (verb, args)) (args_of (kinds_of verb) words))
+
+any-words : (words : List (List ℕ)) → is_some (option_map op_of (option_and_then (resolved place_of_any) (form_of_words words))) ≡ is_some (form_of_words words)
+any-words [] = refl
+any-words (word ∷ words) = ap is_some (by-verb place_of_any words (verb_of word)) ∙ any-verb words (verb_of word)
+
+pub any_meant : (text : List ℕ) → is_some (op_meant place_of_any text) ≡ is_formed text
+any_meant text = any-words (words_of text)
+
+or-false : (b : Bool) → (b || false) ≡ b
+or-false true = refl
+or-false false = refl
+
+-- A text whose names are known means an operation, or is not in good form.
+known : (place : ObjectKind → List ℕ → Option Place) (o : Option (Verb × List (Arg (List ℕ)))) → (is_some (option_map op_of (option_and_then (resolved place) o)) || not (is_some o)) ≡ option_map_or (λ form. is_some (resolved place form)) o true
+known place None = refl
+known place (Some form) = or-false (is_some (option_map op_of (resolved place form))) ∙ is-mapped op_of (resolved place form)
+
+pub known_meant : (place : ObjectKind → List ℕ → Option Place) (text : List ℕ) → (is_some (op_meant place text) || not (is_formed text)) ≡ is_known place text
+known_meant place text = known place (form_of text)

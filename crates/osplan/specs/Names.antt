@@ -1,0 +1,50 @@
+-- The names of modes and objects, by their places. What the configuration lacks has the empty name. [own]
+use Rattle.std.specs.Prelude.{ℕ, List, [], slice_get}
+use Rattle.std.specs.Option.{option_map_or}
+use Rattle.osbase.specs.declared.objects.ObjectKind.{ObjectKind}
+use Rattle.osbase.specs.declared.objects.Place.{Place}
+use Rattle.osbase.specs.declared.references.AlarmRef.{AlarmRef}
+use Rattle.osbase.specs.declared.references.IsrRef.{IsrRef}
+use Rattle.osbase.specs.declared.references.ModeId.{ModeId}
+use Rattle.osbase.specs.declared.references.Runner.{Runner}
+use Rattle.osbase.specs.declared.references.TableRef.{TableRef}
+use Rattle.osbase.specs.declared.references.TaskRef.{TaskRef}
+use Rattle.osbase.specs.Objects.{alarm_place, task_place}
+use Rattle.osplan.specs.declared.plans.Alarm.{Alarm}
+use Rattle.osplan.specs.declared.plans.Core.{Core}
+use Rattle.osplan.specs.declared.plans.Isr.{Isr}
+use Rattle.osplan.specs.declared.plans.Plan.{Plan}
+use Rattle.osplan.specs.declared.plans.Table.{Table}
+use Rattle.osplan.specs.declared.plans.Task.{Task}
+use Rattle.osplan.specs.View.{core_of}
+
+abbrev pub name_of_mode : Plan → ModeId → List ℕ
+name_of_mode plan mode = option_map_or (λ (name : List ℕ). name) (slice_get plan.modes mode.index) []
+
+-- ---- objects that operations name
+
+-- The name of a core's object of a kind.
+abbrev pub name_in : ObjectKind → Core → ℕ → List ℕ
+name_in ObjectKind.Task core index = option_map_or (λ (task : Task). task.name) (slice_get core.tasks index) []
+name_in ObjectKind.Alarm core index = option_map_or (λ (alarm : Alarm). alarm.name) (slice_get core.alarms index) []
+
+abbrev pub name_of : Plan → ObjectKind → Place → List ℕ
+name_of plan kind place = option_map_or (λ (core : Core). name_in kind core place.index) (core_of plan place.core) []
+
+abbrev pub task_name : Plan → TaskRef → List ℕ
+task_name plan task = name_of plan ObjectKind.Task (task_place task)
+
+abbrev pub alarm_name : Plan → AlarmRef → List ℕ
+alarm_name plan alarm = name_of plan ObjectKind.Alarm (alarm_place alarm)
+
+-- ---- objects that no operation names yet
+
+abbrev pub isr_name : Plan → IsrRef → List ℕ
+isr_name plan isr = option_map_or (λ (core : Core). option_map_or (λ (i : Isr). i.name) (slice_get core.isrs isr.index) []) (core_of plan isr.core) []
+
+abbrev pub table_name : Plan → TableRef → List ℕ
+table_name plan table = option_map_or (λ (core : Core). option_map_or (λ (t : Table). t.name) (slice_get core.tables table.index) []) (core_of plan table.core) []
+
+abbrev pub runner_name : Plan → Runner → List ℕ
+runner_name plan (Runner.Task task) = task_name plan task
+runner_name plan (Runner.Isr isr) = isr_name plan isr

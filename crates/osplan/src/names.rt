@@ -1,0 +1,94 @@
+//! The names of modes and objects, by their places.
+
+ghost use Rattle.std.specs.Prelude.{◌≡◌};
+ghost use Rattle.osplan.specs.Names.{alarm_name, isr_name, name_of_mode, name_in, name_of, runner_name, table_name, task_name};
+
+use crate::plans::{Core, Plan};
+use osbase::{AlarmRef, IsrRef, ModeId, ObjectKind, Place, Runner, TableRef, TaskRef};
+
+impl Core {
+    fn name_in(&self, kind: ObjectKind, index: u8) -> &str
+        ensures { result.now ≡ name_in kind self.now index }
+    {
+        let index = usize::from(index);
+        match kind {
+            ObjectKind::Task => match self.tasks.as_slice().get(index) {
+                Some(task) => task.name.as_str(),
+                None => "",
+            },
+            ObjectKind::Alarm => match self.alarms.as_slice().get(index) {
+                Some(alarm) => alarm.name.as_str(),
+                None => "",
+            },
+        }
+    }
+}
+
+/// Each name is the empty text where the plan lacks the mode or the object.
+impl Plan {
+    /// The name of an application mode.
+    pub fn name_of_mode(&self, mode: ModeId) -> &str
+        ensures { result.now ≡ name_of_mode self.now mode }
+    {
+        match self.modes.as_slice().get(usize::from(mode.index)) {
+            Some(name) => name.as_str(),
+            None => "",
+        }
+    }
+
+    /// The name of the object of this kind at this place.
+    pub fn name_of(&self, kind: ObjectKind, place: Place) -> &str
+        ensures { result.now ≡ name_of self.now kind place }
+    {
+        match self.core(place.core) {
+            Some(core) => core.name_in(kind, place.index),
+            None => "",
+        }
+    }
+
+    pub fn task_name(&self, task: TaskRef) -> &str
+        ensures { result.now ≡ task_name self.now task }
+    {
+        self.name_of(ObjectKind::Task, task.place())
+    }
+
+    pub fn alarm_name(&self, alarm: AlarmRef) -> &str
+        ensures { result.now ≡ alarm_name self.now alarm }
+    {
+        self.name_of(ObjectKind::Alarm, alarm.place())
+    }
+
+    pub fn isr_name(&self, isr: IsrRef) -> &str
+        ensures { result.now ≡ isr_name self.now isr }
+    {
+        let Some(core) = self.core(isr.core) else {
+            return "";
+        };
+        match core.isrs.as_slice().get(usize::from(isr.index)) {
+            Some(isr) => isr.name.as_str(),
+            None => "",
+        }
+    }
+
+    pub fn table_name(&self, table: TableRef) -> &str
+        ensures { result.now ≡ table_name self.now table }
+    {
+        let Some(core) = self.core(table.core) else {
+            return "";
+        };
+        match core.tables.as_slice().get(usize::from(table.index)) {
+            Some(table) => table.name.as_str(),
+            None => "",
+        }
+    }
+
+    /// The name of a task or an ISR.
+    pub fn runner_name(&self, runner: Runner) -> &str
+        ensures { result.now ≡ runner_name self.now runner }
+    {
+        match runner {
+            Runner::Task(task) => self.task_name(task),
+            Runner::Isr(isr) => self.isr_name(isr),
+        }
+    }
+}
