@@ -6,8 +6,9 @@ use Rattle.osbase.specs.declared.turns.CoreStimuli.{CoreStimuli}
 use Rattle.osplan.specs.declared.plans.Plan.{Plan}
 use Rattle.osplan.specs.declared.faults.ConfFault.{ConfFault}
 use Rattle.osplan.specs.declared.faults.ConfFault.TheVariants.{NoMemory}
-use Rattle.osconf.specs.Given.{stimuli_meant}
-use Rattle.osconf.specs.Meaning.{IsLeast, config_of}
+use Rattle.osgiven.specs.Given.{stimuli_meant}
+use Rattle.osread.specs.Faults.{IsLeast}
+use Rattle.osdraft.specs.Meaning.{config_of}
 use Rattle.mcos.specs.declared.faults.Fault.{Fault}
 use Rattle.mcos.specs.declared.faults.Fault.TheVariants.{Text}
 use Rattle.mcos.specs.Runs.{IsGiven}

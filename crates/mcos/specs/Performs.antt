@@ -6,8 +6,8 @@ use Rattle.osbase.specs.declared.turns.Report.{Report}
 use Rattle.osplan.specs.declared.plans.Plan.{Plan}
 use Rattle.osplan.specs.declared.faults.ConfFault.TheVariants.{NoMemory, NotSeparate}
 use Rattle.osplan.specs.Separate.{cut_of, is_separate}
-use Rattle.osconf.specs.Meaning.{config_of, faults_of}
-use Rattle.osconf.specs.Given.{schedule_faults, stimuli_faults}
+use Rattle.osdraft.specs.Meaning.{config_of, faults_of}
+use Rattle.osgiven.specs.Given.{schedule_faults, stimuli_faults}
 use Rattle.ostrace.specs.declared.sinks.WriteFailed.{WriteFailed as SinkFailed}
 use Rattle.ostrace.specs.Taken.{Writes}
 use Rattle.osworld.specs.Ends.{have_all_ended}
@@ -17,7 +17,7 @@ use Rattle.mcos.specs.declared.jobs.Job.{Job}
 use Rattle.mcos.specs.declared.jobs.Job.TheVariants.{Run, Check, Cut}
 use Rattle.mcos.specs.declared.outcomes.Outcome.{Outcome}
 use Rattle.mcos.specs.declared.outcomes.Outcome.TheVariants.{Done, Stalled}
-use Rattle.osconf.specs.Writing.{config_text}
+use Rattle.oswrite.specs.Writing.{config_text}
 use Rattle.mcos.specs.Checks.{check_text, cut_text}
 use Rattle.mcos.specs.Faults.{fault_text}
 use Rattle.mcos.specs.Jobs.{path_in}

@@ -5,8 +5,8 @@ use Rattle.osbase.specs.declared.turns.Choice.{Choice}
 use Rattle.osbase.specs.declared.turns.CoreStimuli.{CoreStimuli}
 use Rattle.osbase.specs.declared.turns.Report.{Report}
 use Rattle.osplan.specs.declared.plans.Plan.{Plan}
-use Rattle.osconf.specs.Meaning.{config_of}
-use Rattle.osconf.specs.Given.{schedule_meant, stimuli_meant}
+use Rattle.osdraft.specs.Meaning.{config_of}
+use Rattle.osgiven.specs.Given.{schedule_meant, stimuli_meant}
 use Rattle.ostrace.specs.Trace.{text_of}
 use Rattle.osworld.specs.Ends.{have_all_ended}
 use Rattle.osworld.specs.Playing.{AreReports, IsDefaultRun}

@@ -3,8 +3,8 @@
 ghost use Rattle.std.specs.Prelude.{◌≡◌, ◌≢◌, ◌≤◌, IfOk, IfErr, length, max};
 ghost use Rattle.std.specs.Result.{result_map_both};
 ghost use Rattle.osplan.specs.declared.faults.ConfFault.TheVariants.{NoMemory};
-ghost use Rattle.osconf.specs.Given.{schedule_faults, schedule_meant, stimuli_faults, stimuli_meant};
-ghost use Rattle.osconf.specs.Meaning.{config_of, faults_of};
+ghost use Rattle.osgiven.specs.Given.{schedule_faults, schedule_meant, stimuli_faults, stimuli_meant};
+ghost use Rattle.osdraft.specs.Meaning.{config_of, faults_of};
 ghost use Rattle.mcos.specs.Texts.{IsFaultOf, KeepsBelow, Means, text_at};
 
 use crate::faults::Fault;

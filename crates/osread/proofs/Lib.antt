@@ -1,3 +1,4 @@
 pub mod Each
 pub mod Contents
 pub mod Splitting
+pub mod Least

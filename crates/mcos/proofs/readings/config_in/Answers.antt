@@ -1,5 +1,5 @@
 use Rattle.std.proofs.lemmas.Result.{err_from_is_err_and}
-use Rattle.osconf.specs.Meaning.{faults_of}
+use Rattle.osdraft.specs.Meaning.{faults_of}
 use Rattle.mcos.proofs.Reading.{IsFaultOf-read}
 use Rattle.mcos.proofs.readings.config_in.Goals as goal
 

@@ -1,5 +1,5 @@
 use Rattle.std.proofs.lemmas.Result.{err_from_is_err_and}
-use Rattle.osconf.specs.Given.{schedule_faults}
+use Rattle.osgiven.specs.Given.{schedule_faults}
 use Rattle.mcos.proofs.Reading.{IsFaultOf-read}
 use Rattle.mcos.proofs.readings.schedule_in.Goals as goal
 

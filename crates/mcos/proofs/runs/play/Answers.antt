@@ -3,8 +3,8 @@ use Rattle.std.specs.Prelude.{IsSome}
 use Rattle.std.proofs.lemmas.Result.{err_from_is_err_and}
 use Rattle.mcos.specs.Jobs.{path_in}
 use Rattle.mcos.specs.Performs.{broken_off, in_schedule, in_stimuli}
-use Rattle.osconf.specs.Given.{stimuli_meant}
-use Rattle.osconf.specs.Meaning.{config_of}
+use Rattle.osgiven.specs.Given.{stimuli_meant}
+use Rattle.osdraft.specs.Meaning.{config_of}
 use Rattle.mcos.specs.Runs.{at_config, at_schedule, at_stimuli}
 use Rattle.mcos.proofs.Reading.{IsGiven-kept, IsGiven-read, Means-there, config-kept}
 use Rattle.mcos.proofs.runs.play.Goals as goal

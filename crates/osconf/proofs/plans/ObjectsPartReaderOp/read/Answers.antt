@@ -1,6 +1,0 @@
-use Rattle.std.proofs.Common.{◌∙◌}
-use Rattle.osconf.proofs.Known.{meant}
-use Rattle.osconf.proofs.plans.ObjectsPartReaderOp.read.Goals as goal
-
-pub returns : goal.returns
-returns c = c.op_meant.ensures ∙ meant c.args.self.now.cores.now c.args.part.now

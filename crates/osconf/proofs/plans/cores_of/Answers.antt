@@ -1,7 +1,0 @@
-use Rattle.osconf.specs.Check.{is_core_known, is_core_script}
-use Rattle.osconf.specs.Meaning.{core_plan}
-use Rattle.osconf.proofs.Known.{each_if}
-use Rattle.osconf.proofs.plans.cores_of.Goals as goal
-
-pub returns : goal.returns
-returns c = rw (← each_if (is_core_known c.args.objects.now.cores.now) is_core_script (core_plan c.args.objects.now.cores.now) c.args.cores.now) c.read_each.ensures

@@ -1,6 +1,0 @@
-use Rattle.osconf.specs.Operation.{operations_of, is_operation_known, is_operation, op_of}
-use Rattle.osconf.proofs.Known.{each_if}
-use Rattle.osconf.proofs.plans.script_of.Goals as goal
-
-pub returns : goal.returns
-returns c = rw (← each_if (is_operation_known c.args.objects.now.cores.now) is_operation (op_of c.args.objects.now.cores.now) (operations_of c.args.script.now)) c.read_parts.ensures

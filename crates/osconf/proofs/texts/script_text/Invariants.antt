@@ -1,6 +1,0 @@
-use Rattle.std.proofs.Common.{◌≡◌, map, take, string_bytes}
-use Rattle.osconf.specs.Writing.{op_text}
-use Rattle.osconf.proofs.texts.script_text.Given as goal
-
-abbrev pub invariant-loop-op : goal.invariant-loop-op
-invariant-loop-op l = map string_bytes l.texts.items ≡ map (op_text l.plan) (take l.op-index l.script)

@@ -1,0 +1,14 @@
+-- Of a configuration's text the first test that fails has the least fault.
+use Rattle.std.proofs.Common.{◌≡◌, ℕ, zero, suc, ◌<◌, Bool, true, false, cond, List, [], ◌∷◌, length, get_or, Some, sym, ap, arith}
+use Rattle.osplan.specs.declared.faults.ConfFault.{ConfFault}
+use Rattle.osdraft.specs.declared.shapes.ConfigText.{ConfigText}
+use Rattle.osplan.specs.Fault.{fault_number}
+use Rattle.osread.specs.Faults.{IsLeast, failing, first_fault}
+use Rattle.osread.proofs.Least.{least}
+use Rattle.osdraft.specs.Check.{tests_of}
+
+pub least-tests_of : (t : ConfigText) (found : ConfFault) → first_fault (failing (tests_of t)) ≡ Some found → IsLeast found (failing (tests_of t))
+least-tests_of t found first =
+    least (tests_of t) found
+    (let a : 3 < 4 = omega arith in let b : 3 < 5 = omega arith in let c : 3 < 10 = omega arith in let d : 4 < 5 = omega arith in let e : 4 < 10 = omega arith in let f : 5 < 10 = omega arith in ((a, (b, (c, tt))), ((d, (e, tt)), ((f, tt), (tt, tt)))))
+    first

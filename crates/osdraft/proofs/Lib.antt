@@ -1,0 +1,6 @@
+pub mod Naming
+pub mod Placing
+pub mod Least
+pub mod Bounds
+pub mod Sayings
+pub mod Known

@@ -1,0 +1,4 @@
+pub mod Operation
+pub mod Shape
+pub mod Check
+pub mod Meaning

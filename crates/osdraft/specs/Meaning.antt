@@ -1,0 +1,88 @@
+-- The configuration that a text means, and the faults that a text has. [own]
+use Rattle.std.specs.Prelude.{ℕ, ◌<◌, ◌&&◌, Option, Some, None, option_and_then, List, [], ◌∷◌, map}
+use Rattle.std.specs.List.{IsAmong}
+use Rattle.osbase.specs.declared.references.ModeId.{ModeId}
+use Rattle.osplan.specs.declared.plans.Plan.{Plan}
+use Rattle.osplan.specs.declared.plans.Core.{Core}
+use Rattle.osplan.specs.declared.plans.Task.{Task}
+use Rattle.osplan.specs.declared.plans.CoreMode.TheVariants.{Named}
+use Rattle.serde_json.specs.Data.{Data}
+use Rattle.serde_json.specs.Read.{read}
+use Rattle.osplan.specs.declared.faults.ConfFault.{ConfFault}
+use Rattle.osplan.specs.declared.faults.ConfFault.TheVariants.{NotJson, Shape}
+use Rattle.osdraft.specs.declared.shapes.ConfigText.{ConfigText}
+use Rattle.osdraft.specs.declared.shapes.CoreText.{CoreText}
+use Rattle.osdraft.specs.declared.shapes.TaskText.{TaskText}
+use Rattle.osplan.specs.Fault.{fault_number}
+use Rattle.osplan.specs.Expressible.{mode_name}
+use Rattle.osread.specs.Faults.{IsLeast, failing, if_faultless}
+use Rattle.osdraft.specs.Shape.{config_shape}
+use Rattle.osdraft.specs.Operation.{operations_of, byte_of, number_id, id_of, op_of}
+use Rattle.osdraft.specs.Check.{is_task_known, is_core_known, is_task_script, is_core_script, tests_of}
+use Rattle.osread.specs.Reading.{value_if}
+
+-- There is one mode, of number 0.
+abbrev pub only_mode : ModeId
+only_mode = record { index = 0 }
+
+abbrev pub task_plan : List CoreText → TaskText → Task
+task_plan cores task = record {
+  name = task.name;
+  priority = byte_of task.prio;
+  auto = map (λ (name : List ℕ). only_mode) task.auto;
+  activations = byte_of task.activations;
+  script = map (op_of cores) (operations_of task.script);
+}
+
+abbrev pub core_plan : List CoreText → CoreText → Core
+core_plan cores core = record {
+  id = id_of core;
+  mode = Named only_mode;
+  start = map number_id core.start;
+  tasks = map (task_plan cores) core.tasks;
+  isrs = [];
+  alarms = [];
+  tables = [];
+}
+
+-- The plans of a task and of a core whose names are known and whose operations are in good form.
+abbrev pub known_task : List CoreText → TaskText → Option Task
+known_task cores task = value_if (is_task_known cores task && is_task_script task) (task_plan cores task)
+
+abbrev pub known_core : List CoreText → CoreText → Option Core
+known_core cores core = value_if (is_core_known cores core && is_core_script core) (core_plan cores core)
+
+abbrev pub plan_of : ConfigText → Plan
+plan_of t = record {
+  cap = byte_of t.cap;
+  master = number_id t.master;
+  modes = mode_name ∷ [];
+  cores = map (core_plan t.cores) t.cores;
+}
+
+-- ---- a text's faults, in ascending order: past the first or the second nothing more is judged
+
+abbrev pub faults_of_shape : Option ConfigText → List ConfFault
+faults_of_shape None = Shape ∷ []
+faults_of_shape (Some t) = failing (tests_of t)
+
+abbrev pub faults_of_data : Option Data → List ConfFault
+faults_of_data None = NotJson ∷ []
+faults_of_data (Some d) = faults_of_shape (config_shape d)
+
+abbrev pub faults_of : List ℕ → List ConfFault
+faults_of text = faults_of_data (read text)
+
+abbrev pub HasFault : ConfFault → List ℕ → Type 0
+HasFault fault text = IsAmong (faults_of text) fault
+
+abbrev pub IsLeastFault : ConfFault → List ℕ → Type 0
+IsLeastFault fault text = IsLeast fault (faults_of text)
+
+-- ---- the configuration of a text without a fault
+
+abbrev pub config_of_shape : ConfigText → Option Plan
+config_of_shape t = if_faultless (failing (tests_of t)) (plan_of t)
+
+abbrev pub config_of : List ℕ → Option Plan
+config_of text = option_and_then config_of_shape (option_and_then config_shape (read text))

@@ -1,0 +1,39 @@
+-- The shape of a configuration: the members and their types, before any limit or name is judged. [own]
+use Rattle.std.specs.Prelude.{Option, Some, [], ◌∷◌, codes}
+use Rattle.serde_json.specs.Data.{Data}
+use Rattle.serde_json.specs.Find.{as_str}
+use Rattle.osdraft.specs.declared.shapes.ConfigText.{ConfigText}
+use Rattle.osdraft.specs.declared.shapes.CoreText.{CoreText}
+use Rattle.osdraft.specs.declared.shapes.TaskText.{TaskText}
+use Rattle.osread.specs.Reading.{◌>>=◌}
+use Rattle.osread.specs.Json.{whole_of, name_of, each_of, member_of, member_or, only_members}
+
+-- A task: its name, priority and script; the modes of its autostart, none by default; its activation limit, 1 by default.
+unfoldable pub task_shape : Data → Option TaskText
+task_shape d = do
+  _ ← only_members (codes "name" ∷ codes "prio" ∷ codes "auto" ∷ codes "activations" ∷ codes "script" ∷ []) d
+  name ← member_of name_of (codes "name") d
+  prio ← member_of whole_of (codes "prio") d
+  auto ← member_or (each_of name_of) [] (codes "auto") d
+  activations ← member_or whole_of (Some 1) (codes "activations") d
+  script ← member_of as_str (codes "script") d
+  Some (record { name = name; prio = prio; auto = auto; activations = activations; script = script })
+
+-- A core: its number; the cores that it starts and its tasks, none by default.
+unfoldable pub core_shape : Data → Option CoreText
+core_shape d = do
+  _ ← only_members (codes "id" ∷ codes "start" ∷ codes "tasks" ∷ []) d
+  id ← member_of whole_of (codes "id") d
+  start ← member_or (each_of whole_of) [] (codes "start") d
+  tasks ← member_or (each_of task_shape) [] (codes "tasks") d
+  Some (record { id = id; start = start; tasks = tasks })
+
+-- A configuration: its version, 1 by default; the size of a mailbox, 16 by default; the master core, 0 by default; its cores.
+unfoldable pub config_shape : Data → Option ConfigText
+config_shape d = do
+  _ ← only_members (codes "version" ∷ codes "cap" ∷ codes "master" ∷ codes "cores" ∷ []) d
+  version ← member_or whole_of (Some 1) (codes "version") d
+  cap ← member_or whole_of (Some 16) (codes "cap") d
+  master ← member_or whole_of (Some 0) (codes "master") d
+  cores ← member_of (each_of core_shape) (codes "cores") d
+  Some (record { version = version; cap = cap; master = master; cores = cores })

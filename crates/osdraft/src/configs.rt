@@ -1,0 +1,56 @@
+//! Reading a configuration.
+
+ghost use Rattle.std.specs.Prelude.{◌≡◌, ◌≢◌, IfOk, IfErr, IsTrue, Some, []};
+ghost use Rattle.std.specs.List.{list_all};
+ghost use Rattle.serde_json.specs.View.{view};
+ghost use Rattle.osdraft.specs.Shape.{config_shape};
+ghost use Rattle.osread.specs.Faults.{failing, first_fault, GivesOr};
+ghost use Rattle.osdraft.specs.Check.{has_named_tasks, tests_of};
+ghost use Rattle.osdraft.specs.Meaning.{plan_of, config_of, IsLeastFault};
+
+use crate::checks::{check, fault_of_names};
+use crate::plans::plan_of;
+use crate::shapes::{ConfigReader, ConfigText};
+use osplan::{ConfFault, Config, Plan};
+use osread::{JsonReader, Refusal, value_of};
+use serde_json::Value;
+use std::alloc::Global;
+
+fn shape_of(alloc: Global, value: &Value) -> Result<ConfigText<'_>, ConfFault>
+    ensures shape { GivesOr ConfFault.Shape (λ x. x) result (config_shape (view value.now)) }
+    ensures named { IfOk result (λ text. IsTrue (list_all has_named_tasks text.cores)) }
+{
+    match ConfigReader.read(alloc, value) {
+        Ok(text) => Ok(text),
+        Err(Refusal::OutOfMemory) => Err(ConfFault::NoMemory),
+        Err(Refusal::Unfit) => Err(ConfFault::Shape),
+    }
+}
+
+// Names and operations are judged while the plan is made, and again where it cannot be.
+fn plan_if_faultless(alloc: Global, text: &ConfigText) -> Result<Plan, ConfFault>
+    requires named { IsTrue (list_all has_named_tasks text.now.cores) }
+    ensures ok { IfOk result (λ plan. (failing (tests_of text.now) ≡ []) × (plan ≡ plan_of text.now)) }
+    ensures fault { IfErr result (λ fault. fault ≢ ConfFault.NoMemory → first_fault (failing (tests_of text.now)) ≡ Some fault) }
+{
+    check(text)?;
+    match plan_of(alloc, text) {
+        Ok(plan) => Ok(plan),
+        Err(Refusal::OutOfMemory) => Err(ConfFault::NoMemory),
+        Err(Refusal::Unfit) => Err(fault_of_names(text)),
+    }
+}
+
+/// The configuration that a JSON text means, version 1 of the format. Of several faults the one of
+/// smallest number is answered; past `NotJson` and `Shape` nothing more is judged. `NoMemory` where
+/// memory runs out, and never another answer in its place.
+pub fn read_config(alloc: Global, text: &str) -> Result<Config, ConfFault>
+    // The configuration is the text's.
+    ensures ok { IfOk result (λ config. config_of text.now ≡ Some config) }
+    // The fault is the least that the text has.
+    ensures fault { IfErr result (λ fault. fault ≢ ConfFault.NoMemory → IsLeastFault fault text.now) }
+{
+    let value = value_of(alloc, text)?;
+    let text = shape_of(alloc, &value)?;
+    Ok(Config::new(plan_if_faultless(alloc, &text)?))
+}

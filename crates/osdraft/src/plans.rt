@@ -1,0 +1,135 @@
+//! The configuration that a text without a fault means.
+
+ghost use Rattle.std.specs.Prelude.{◌≡◌, ◌&&◌, ℕ, IfOk, IsTrue, List as Items, map};
+ghost use Rattle.std.specs.List.{list_all};
+ghost use Rattle.osread.specs.Reading.{Gives, value_if};
+ghost use Rattle.osdraft.specs.Operation.{number_id, is_operation, known_op, op_of, operations_of};
+ghost use Rattle.osdraft.specs.Check.{has_named_tasks, are_operations_known, is_task_known, is_core_known, are_known, is_task_script, is_core_script, are_operations};
+ghost use Rattle.osdraft.specs.Meaning.{only_mode, task_plan, core_plan, known_task, known_core, plan_of};
+
+use crate::checks::{MODE, are_mode_names, has_core};
+use crate::places::{Objects, byte_of, id_of};
+use crate::shapes::{ConfigText, CoreText, TaskText};
+use osbase::{CoreId, List, ModeId, Name};
+use oscript::{Op, Script};
+use osforms::op_meant;
+use osplan::{Core, CoreMode, Plan, Task};
+use osread::{PartReader, Reader, Refusal, Text, Whole, read_each, read_parts};
+use std::alloc::{AllocError, Global};
+
+/// The only mode.
+const ONLY_MODE: ModeId = ModeId { index: 0 };
+
+impl PartReader<Op> for Objects<'_> {
+    ghost shape = { λ objects. known_op objects.cores.now };
+
+    fn read(&self, part: &str) -> Option<Op> {
+        op_meant(self, part)
+    }
+}
+
+fn script_of(alloc: Global, objects: &Objects, script: &str) -> Result<Script, Refusal>
+    ensures { Gives (λ x. x) result (value_if (are_operations_known objects.now.cores.now script.now && list_all is_operation (operations_of script.now)) (map (op_of objects.now.cores.now) (operations_of script.now))) }
+{
+    read_parts(alloc, objects, script, ';')
+}
+
+fn modes_of(alloc: Global, names: &[Text]) -> Result<List<ModeId>, AllocError>
+    ensures { IfOk result (λ modes. modes ≡ map (λ (name : Items ℕ). only_mode) names.now) }
+{
+    let mut modes = List::new(alloc);
+    for _name in names {
+        modes.push(ONLY_MODE)?;
+    }
+    Ok(modes)
+}
+
+// Makes the plan of a task.
+#[derive(Clone, Copy, Debug)]
+struct TaskPlanner<'t> {
+    objects: &'t Objects<'t>,
+}
+
+impl<'e> Reader<'e, TaskText<'e>, Task> for TaskPlanner<'_> {
+    ghost shape = { λ planner. known_task planner.objects.now.cores.now };
+
+    fn read(&self, alloc: Global, task: &'e TaskText<'e>) -> Result<Task, Refusal> {
+        if !are_mode_names(task.auto.as_slice()) {
+            return Err(Refusal::Unfit);
+        }
+        Ok(Task {
+            name: Name::new(alloc, task.name.as_str())?,
+            priority: byte_of(task.prio),
+            auto: modes_of(alloc, task.auto.as_slice())?,
+            activations: byte_of(task.activations),
+            script: script_of(alloc, self.objects, task.script.as_str())?,
+        })
+    }
+}
+
+fn tasks_of(alloc: Global, objects: &Objects, tasks: &[TaskText]) -> Result<List<Task>, Refusal>
+    ensures { Gives (λ x. x) result (value_if (list_all (is_task_known objects.now.cores.now) tasks.now && list_all is_task_script tasks.now) (map (task_plan objects.now.cores.now) tasks.now)) }
+{
+    read_each(alloc, &TaskPlanner { objects }, tasks)
+}
+
+fn ids_of(alloc: Global, numbers: &[Whole]) -> Result<List<CoreId>, AllocError>
+    ensures { IfOk result (λ ids. ids ≡ map number_id numbers.now) }
+{
+    let mut ids = List::new(alloc);
+    for number in numbers {
+        ids.push(CoreId {
+            number: byte_of(*number),
+        })?;
+    }
+    Ok(ids)
+}
+
+// Makes the plan of a core.
+#[derive(Clone, Copy, Debug)]
+struct CorePlanner<'t> {
+    objects: &'t Objects<'t>,
+}
+
+impl<'e> Reader<'e, CoreText<'e>, Core> for CorePlanner<'_> {
+    ghost shape = { λ planner. known_core planner.objects.now.cores.now };
+
+    fn read(&self, alloc: Global, core: &'e CoreText<'e>) -> Result<Core, Refusal> {
+        Ok(Core {
+            id: id_of(core),
+            mode: CoreMode::Named(ONLY_MODE),
+            start: ids_of(alloc, core.start.as_slice())?,
+            tasks: tasks_of(alloc, self.objects, core.tasks.as_slice())?,
+            isrs: List::new(alloc),
+            alarms: List::new(alloc),
+            tables: List::new(alloc),
+        })
+    }
+}
+
+fn cores_of(alloc: Global, objects: &Objects, cores: &[CoreText]) -> Result<List<Core>, Refusal>
+    ensures { Gives (λ x. x) result (value_if (list_all (is_core_known objects.now.cores.now) cores.now && list_all is_core_script cores.now) (map (core_plan objects.now.cores.now) cores.now)) }
+{
+    read_each(alloc, &CorePlanner { objects }, cores)
+}
+
+/// The plan of a text. `Unfit` where a name in it names nothing, or an operation is not in good form.
+pub fn plan_of(alloc: Global, text: &ConfigText) -> Result<Plan, Refusal>
+    requires named { IsTrue (list_all has_named_tasks text.now.cores) }
+    ensures { Gives (λ x. x) result (value_if (are_known text.now && are_operations text.now) (plan_of text.now)) }
+{
+    let cores = text.cores.as_slice();
+    if !has_core(cores, text.master) {
+        return Err(Refusal::Unfit);
+    }
+    let mut modes = List::new(alloc);
+    modes.push(Name::new(alloc, MODE)?)?;
+    Ok(Plan {
+        cap: byte_of(text.cap),
+        master: CoreId {
+            number: byte_of(text.master),
+        },
+        modes,
+        cores: cores_of(alloc, &Objects::of(cores), cores)?,
+    })
+}

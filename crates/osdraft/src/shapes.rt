@@ -1,0 +1,114 @@
+//! The shape of a configuration: its members and their types. Limits and names are judged later. Texts are
+//! borrowed from the value that is read.
+
+ghost use Rattle.osdraft.specs.Shape.{task_shape, core_shape, config_shape};
+
+use osbase::List;
+use osread::{
+    JsonReader, ListOf, NameReader, Refusal, Text, TextReader, Whole, WholeReader, at, at_or,
+    only_members,
+};
+use serde_json::Value;
+use std::alloc::Global;
+
+/// A task as a text has it.
+#[derive(Debug, Drop)]
+pub struct TaskText<'v> {
+    pub name: Text<'v>,
+    pub prio: Whole,
+    pub auto: List<Text<'v>>,
+    pub activations: Whole,
+    pub script: Text<'v>,
+}
+
+/// A core as a text has it.
+#[derive(Debug, Drop)]
+pub struct CoreText<'v> {
+    pub id: Whole,
+    pub start: List<Whole>,
+    pub tasks: List<TaskText<'v>>,
+}
+
+/// A configuration as a text has it.
+#[derive(Debug, Drop)]
+pub struct ConfigText<'v> {
+    pub version: Whole,
+    pub cap: Whole,
+    pub master: Whole,
+    pub cores: List<CoreText<'v>>,
+}
+
+// Reads a task.
+#[derive(Clone, Copy, Debug)]
+struct TaskReader;
+
+impl<'v> JsonReader<'v, TaskText<'v>> for TaskReader {
+    ghost shape = { λ _ d. task_shape d };
+
+    #[tactic(auto, unfolding(crate::specs::Shape::task_shape))]
+    fn read(&self, alloc: Global, value: &'v Value) -> Result<TaskText<'v>, Refusal> {
+        only_members(value, &["name", "prio", "auto", "activations", "script"])?;
+        Ok(TaskText {
+            name: at(alloc, value, "name", &NameReader)?,
+            prio: at(alloc, value, "prio", &WholeReader)?,
+            auto: at_or(
+                alloc,
+                value,
+                "auto",
+                &ListOf { of: NameReader },
+                List::new(alloc),
+            )?,
+            activations: at_or(alloc, value, "activations", &WholeReader, Some(1))?,
+            script: at(alloc, value, "script", &TextReader)?,
+        })
+    }
+}
+
+// Reads a core.
+#[derive(Clone, Copy, Debug)]
+struct CoreReader;
+
+impl<'v> JsonReader<'v, CoreText<'v>> for CoreReader {
+    ghost shape = { λ _ d. core_shape d };
+
+    #[tactic(auto, unfolding(crate::specs::Shape::core_shape))]
+    fn read(&self, alloc: Global, value: &'v Value) -> Result<CoreText<'v>, Refusal> {
+        only_members(value, &["id", "start", "tasks"])?;
+        Ok(CoreText {
+            id: at(alloc, value, "id", &WholeReader)?,
+            start: at_or(
+                alloc,
+                value,
+                "start",
+                &ListOf { of: WholeReader },
+                List::new(alloc),
+            )?,
+            tasks: at_or(
+                alloc,
+                value,
+                "tasks",
+                &ListOf { of: TaskReader },
+                List::new(alloc),
+            )?,
+        })
+    }
+}
+
+/// Reads a configuration. `Unfit` where a member is missing, unknown or of another type.
+#[derive(Clone, Copy, Debug)]
+pub struct ConfigReader;
+
+impl<'v> JsonReader<'v, ConfigText<'v>> for ConfigReader {
+    ghost shape = { λ _ d. config_shape d };
+
+    #[tactic(auto, unfolding(crate::specs::Shape::config_shape))]
+    fn read(&self, alloc: Global, value: &'v Value) -> Result<ConfigText<'v>, Refusal> {
+        only_members(value, &["version", "cap", "master", "cores"])?;
+        Ok(ConfigText {
+            version: at_or(alloc, value, "version", &WholeReader, Some(1))?,
+            cap: at_or(alloc, value, "cap", &WholeReader, Some(16))?,
+            master: at_or(alloc, value, "master", &WholeReader, Some(0))?,
+            cores: at(alloc, value, "cores", &ListOf { of: CoreReader })?,
+        })
+    }
+}

@@ -1,0 +1,121 @@
+-- The stimuli and the schedule that texts mean for a configuration, and the faults that they have. [own]
+use Rattle.std.specs.Prelude.{ℕ, ◌==◌, nat_le, Bool, true, not, is_some, Option, Some, None, option_and_then, unwrap_or, if◌then◌else◌, List, [], ◌∷◌, length, take, drop, position, codes}
+use Rattle.std.specs.Char.{is_ascii_digit}
+use Rattle.std.specs.Option.{option_map_or}
+use Rattle.std.specs.List.{list_all}
+use Rattle.std.specs.Str.{bytes_eq}
+use Rattle.osbase.specs.declared.references.CoreId.{CoreId}
+use Rattle.osbase.specs.declared.items.Stimulus.{Stimulus}
+use Rattle.osbase.specs.declared.items.Stimulus.TheVariants.{Op}
+use Rattle.osbase.specs.declared.turns.CoreStimuli.{CoreStimuli}
+use Rattle.osbase.specs.declared.turns.Choice.{Choice}
+use Rattle.osbase.specs.declared.turns.Choice.TheVariants.{Own, Serve, Look}
+use Rattle.osplan.specs.declared.plans.Plan.{Plan}
+use Rattle.osplan.specs.View.{core_of}
+use Rattle.serde_json.specs.Data.{Data}
+use Rattle.serde_json.specs.Read.{read}
+use Rattle.serde_json.specs.Find.{as_str, as_object}
+use Rattle.osplan.specs.declared.faults.ConfFault.{ConfFault}
+use Rattle.osplan.specs.declared.faults.ConfFault.TheVariants.{NotJson, Limit, BadStimulus, BadSchedule}
+use Rattle.osread.specs.Faults.{Tests, failing}
+use Rattle.osgiven.specs.Word.{core_number}
+use Rattle.osread.specs.Reading.{◌>>=◌, each, parts_of}
+use Rattle.osread.specs.Json.{entries}
+use Rattle.osread.specs.Faults.{if_faultless}
+
+-- The configured core that these digits name.
+abbrev pub core_named : Plan → List ℕ → Option CoreId
+core_named plan digits = do
+  number ← core_number digits
+  core ← core_of plan (record { number = number })
+  Some core.id
+
+-- ---- stimuli: an object from core numbers to words
+
+abbrev pub stimulus_of : List ℕ → Option Stimulus
+stimulus_of word = if bytes_eq word (codes "op") then Some Op else None
+
+-- What follows the word `op` and a space.
+abbrev pub after_op : List ℕ → Option (List ℕ)
+after_op [] = None
+after_op (a ∷ []) = None
+after_op (a ∷ b ∷ []) = None
+after_op (a ∷ b ∷ c ∷ later) = if a == 111 then (if b == 112 then (if c == 32 then Some later else None) else None) else None
+
+abbrev pub stimuli_of_text : List ℕ → Option (List Stimulus)
+stimuli_of_text text = each stimulus_of (parts_of 32 text)
+
+unfoldable pub core_stimuli_of : Plan → List ℕ × Data → Option CoreStimuli
+core_stimuli_of plan entry = do
+  core ← core_named plan entry.0
+  text ← as_str entry.1
+  words ← stimuli_of_text text
+  Some (record { core = core; words = words })
+
+abbrev pub stimuli_of_data : Plan → Data → Option (List CoreStimuli)
+stimuli_of_data plan d = option_and_then (λ ms. each (core_stimuli_of plan) (entries ms)) (as_object d)
+
+-- At most so many words, which are counted by their spaces, whatever they are. What is no text has none.
+abbrev pub has_words_within : ℕ → Data → Bool
+has_words_within most d = option_map_or (λ text. nat_le (length (parts_of 32 text)) most) (as_str d) true
+
+-- A core has at most 100,000 stimuli.
+abbrev pub are_stimuli_within : Data → Bool
+are_stimuli_within d = option_map_or (λ ms. list_all (λ (entry : List ℕ × Data). has_words_within 100000 entry.1) (entries ms)) (as_object d) true
+
+abbrev pub stimuli_tests : Plan → Data → Tests
+stimuli_tests plan d = (Limit, are_stimuli_within d) ∷ (BadStimulus, is_some (stimuli_of_data plan d)) ∷ []
+
+-- ---- a schedule: a text of turns
+
+-- The digits at the front of a word, and what follows them.
+abbrev pub digits_in : List ℕ → ℕ
+digits_in word = unwrap_or (position (λ b. not (is_ascii_digit b)) word) (length word)
+
+-- `o` is Own, `l` is Look, and `s` with a core other than the turn's own is Serve.
+abbrev pub served : Plan → CoreId → List ℕ → Option Choice
+served plan core digits = option_and_then (λ (from : CoreId). if from.number == core.number then None else Some (Serve from)) (core_named plan digits)
+
+unfoldable pub choice_of : Plan → CoreId → List ℕ → Option Choice
+choice_of plan core [] = None
+choice_of plan core (letter ∷ digits) =
+    if letter == 115
+    then served plan core digits
+    else (if length digits == 0 then (if letter == 111 then Some Own else (if letter == 108 then Some Look else None)) else None)
+
+unfoldable pub turn_of : Plan → List ℕ → Option (CoreId × Choice)
+turn_of plan word = do
+  core ← core_named plan (take (digits_in word) word)
+  choice ← choice_of plan core (drop (digits_in word) word)
+  Some (core, choice)
+
+abbrev pub turns_of_text : Plan → List ℕ → Option (List (CoreId × Choice))
+turns_of_text plan text = each (turn_of plan) (parts_of 32 text)
+
+abbrev pub schedule_of_data : Plan → Data → Option (List (CoreId × Choice))
+schedule_of_data plan d = option_and_then (turns_of_text plan) (as_str d)
+
+-- A schedule has at most 1,000,000 turns.
+abbrev pub schedule_tests : Plan → Data → Tests
+schedule_tests plan d = (Limit, has_words_within 1000000 d) ∷ (BadSchedule, is_some (schedule_of_data plan d)) ∷ []
+
+-- ---- the faults and the meaning of a text
+
+abbrev pub faults_by : (Data → Tests) → Option Data → List ConfFault
+faults_by tests None = NotJson ∷ []
+faults_by tests (Some d) = failing (tests d)
+
+abbrev pub stimuli_faults : Plan → List ℕ → List ConfFault
+stimuli_faults plan text = faults_by (stimuli_tests plan) (read text)
+
+abbrev pub schedule_faults : Plan → List ℕ → List ConfFault
+schedule_faults plan text = faults_by (schedule_tests plan) (read text)
+
+abbrev pub meaning_by : {A : Type 0} → (Data → Tests) → (Data → Option A) → Data → Option A
+meaning_by tests mean d = option_and_then (if_faultless (failing (tests d))) (mean d)
+
+abbrev pub stimuli_meant : Plan → List ℕ → Option (List CoreStimuli)
+stimuli_meant plan text = option_and_then (meaning_by (stimuli_tests plan) (stimuli_of_data plan)) (read text)
+
+abbrev pub schedule_meant : Plan → List ℕ → Option (List (CoreId × Choice))
+schedule_meant plan text = option_and_then (meaning_by (schedule_tests plan) (schedule_of_data plan)) (read text)

@@ -1,0 +1,253 @@
+//! Reading what a run is given: stimuli and turns.
+
+ghost use Rattle.std.specs.Prelude.{◌≡◌, ◌≢◌, ◌≤◌, ◌<◌, ◌==◌, not, length, position, IfOk, IfErr, IfSome, Some, option_map, ℕ, List};
+ghost use Rattle.std.specs.Char.{is_ascii_digit};
+ghost use Rattle.std.specs.List.{list_all, slice_split};
+ghost use Rattle.std.specs.Borrow.{Bor};
+ghost use Rattle.std.specs.BTreeMap.{values};
+ghost use Rattle.serde_json.specs.declared.value.Value.{Value};
+ghost use Rattle.osread.specs.Reading.{Gives, each};
+ghost use Rattle.osread.specs.Json.{entries};
+ghost use Rattle.osread.specs.Faults.{IsLeast};
+ghost use Rattle.osgiven.specs.Given.{core_named, stimulus_of, after_op, stimuli_of_text, core_stimuli_of, stimuli_of_data, has_words_within, are_stimuli_within, schedule_of_data, digits_in, served, choice_of, turn_of, stimuli_meant, stimuli_faults, schedule_meant, schedule_faults};
+ghost use Rattle.serde_json.specs.View.{view, members_view};
+
+use crate::words::core_number;
+use osbase::{Choice, CoreId, CoreStimuli, List as Items, Schedule, Stimuli, Stimulus, Turn};
+use osplan::{ConfFault, Config, Plan};
+use osread::{PartReader, Refusal, part_count, read_parts, value_of};
+use serde_json::{Map, Value};
+use std::alloc::Global;
+
+/// The most stimuli of a core.
+const STIMULI: usize = 100_000;
+
+/// The most turns of a schedule.
+const TURNS: usize = 1_000_000;
+
+/// The configured core that these digits name.
+fn core_named(plan: &Plan, digits: &[u8]) -> Option<CoreId>
+    ensures { result ≡ core_named plan.now digits.now }
+{
+    let number = core_number(digits)?;
+    let core = plan.core(CoreId { number })?;
+    Some(core.id)
+}
+
+fn stimulus_of(word: &[u8]) -> Option<Stimulus>
+    ensures { result ≡ stimulus_of word.now }
+{
+    match word {
+        [b'o', b'p'] => Some(Stimulus::Op),
+        _ => None,
+    }
+}
+
+fn read_stimulus(word: &[u8]) -> Result<Stimulus, Refusal>
+    ensures { Gives (λ x. x) result (stimulus_of word.now) }
+{
+    match stimulus_of(word) {
+        Some(stimulus) => Ok(stimulus),
+        None => Err(Refusal::Unfit),
+    }
+}
+
+/// What follows the word `op` and a space.
+fn after_op(text: &[u8]) -> Option<&[u8]>
+    ensures { option_map (λ (later : Bor (List ℕ)). later.now) result ≡ after_op text.now }
+{
+    match text {
+        [b'o', b'p', b' ', later @ ..] => Some(later),
+        _ => None,
+    }
+}
+
+// `op` is the only word so far, so the words are walked by it, and none is collected.
+fn stimuli_of_words(alloc: Global, text: &[u8]) -> Result<Items<Stimulus>, Refusal>
+    ensures { Gives (λ x. x) result (each stimulus_of (slice_split (λ b. b == 32) text.now)) }
+{
+    let mut stimuli = Vec::with_capacity(alloc, text.len() / 3 + 1)?;
+    let mut rest = text;
+    while let Some(later) = after_op(rest) {
+        stimuli.push(Stimulus::Op)?;
+        rest = later;
+    }
+    stimuli.push(read_stimulus(rest)?)?;
+    Ok(Items::from_vec(stimuli))
+}
+
+fn stimuli_of_text(alloc: Global, text: &str) -> Result<Items<Stimulus>, Refusal>
+    ensures { Gives (λ x. x) result (stimuli_of_text text.now) }
+{
+    if text.is_empty() {
+        return Ok(Items::new(alloc));
+    }
+    stimuli_of_words(alloc, text.as_bytes())
+}
+
+#[tactic(auto, unfolding(crate::specs::Given::core_stimuli_of))]
+fn core_stimuli_of(
+    alloc: Global,
+    plan: &Plan,
+    key: &str,
+    value: &Value,
+) -> Result<CoreStimuli, Refusal>
+    ensures { Gives (λ x. x) result (core_stimuli_of plan.now (key.now, view value.now)) }
+{
+    let core = core_named(plan, key.as_bytes()).ok_or(Refusal::Unfit)?;
+    let text = value.as_str().ok_or(Refusal::Unfit)?;
+    let words = stimuli_of_text(alloc, text)?;
+    Ok(CoreStimuli { core, words })
+}
+
+fn stimuli_of_members(
+    alloc: Global,
+    plan: &Plan,
+    members: &Map<String, Value>,
+) -> Result<Stimuli, Refusal>
+    ensures { Gives (λ x. x) result (each (core_stimuli_of plan.now) (entries (members_view members.now.entries))) }
+{
+    let mut stimuli = Items::new(alloc);
+    for (key, value) in members {
+        stimuli.push(core_stimuli_of(alloc, plan, key.as_str(), value)?)?;
+    }
+    Ok(stimuli)
+}
+
+fn has_words_within(most: usize, value: &Value) -> bool
+    ensures { result ≡ has_words_within most (view value.now) }
+{
+    match value.as_str() {
+        Some(text) => part_count(text, b' ') <= most,
+        None => true,
+    }
+}
+
+fn are_values_within(most: usize, members: &Map<String, Value>) -> bool
+    ensures { result ≡ list_all (λ (value : Value). has_words_within most (view value)) (values members.now) }
+{
+    members.values().all(|words| has_words_within(most, words))
+}
+
+fn are_stimuli_within(value: &Value) -> bool
+    ensures { result ≡ are_stimuli_within (view value.now) }
+{
+    match value.as_object() {
+        Some(members) => are_values_within(STIMULI, members),
+        None => true,
+    }
+}
+
+fn stimuli_of(alloc: Global, plan: &Plan, value: &Value) -> Result<Stimuli, Refusal>
+    ensures { Gives (λ x. x) result (stimuli_of_data plan.now (view value.now)) }
+{
+    match value.as_object() {
+        Some(members) => stimuli_of_members(alloc, plan, members),
+        None => Err(Refusal::Unfit),
+    }
+}
+
+/// The stimuli that a JSON text means for a configuration: an object from core numbers to words, which
+/// are divided by one space. `NotJson` where the text is not JSON; `Limit` where a member has more than
+/// 100,000 words; else `BadStimulus` where it is anything else. `NoMemory` where memory runs out.
+pub fn read_stimuli(alloc: Global, config: &Config, text: &str) -> Result<Stimuli, ConfFault>
+    ensures ok { IfOk result (λ stimuli. stimuli_meant config.now text.now ≡ Some stimuli) }
+    ensures fault { IfErr result (λ fault. fault ≢ ConfFault.NoMemory → IsLeast fault (stimuli_faults config.now text.now)) }
+{
+    let value = value_of(alloc, text)?;
+    if !are_stimuli_within(&value) {
+        return Err(ConfFault::Limit);
+    }
+    match stimuli_of(alloc, config.plan(), &value) {
+        Ok(stimuli) => Ok(stimuli),
+        Err(Refusal::OutOfMemory) => Err(ConfFault::NoMemory),
+        Err(Refusal::Unfit) => Err(ConfFault::BadStimulus),
+    }
+}
+
+#[tactic(auto, unfolding(crate::specs::Given::choice_of))]
+fn choice_of(plan: &Plan, core: CoreId, word: &[u8]) -> Option<Choice>
+    ensures { result ≡ choice_of plan.now core word.now }
+{
+    match word {
+        [b'o'] => Some(Choice::Own),
+        [b'l'] => Some(Choice::Look),
+        [b's', digits @ ..] => served(plan, core, digits),
+        _ => None,
+    }
+}
+
+fn served(plan: &Plan, core: CoreId, digits: &[u8]) -> Option<Choice>
+    ensures { result ≡ served plan.now core digits.now }
+{
+    let from = core_named(plan, digits)?;
+    if from.number == core.number {
+        None
+    } else {
+        Some(Choice::Serve(from))
+    }
+}
+
+/// How many digits stand at the front of a word.
+fn digits_in(word: &[u8]) -> usize
+    ensures exact { result ≡ digits_in word.now }
+    ensures within { result ≤ length word.now }
+{
+    match first_other(word) {
+        Some(index) => index,
+        None => word.len(),
+    }
+}
+
+fn first_other(word: &[u8]) -> Option<usize>
+    ensures exact { result ≡ position (λ b. not (is_ascii_digit b)) word.now }
+    ensures within { IfSome result (λ index. index < length word.now) }
+{
+    word.iter().position(|b| !b.is_ascii_digit())
+}
+
+// Reads a turn.
+#[derive(Clone, Copy, Debug)]
+struct TurnReader<'p> {
+    plan: &'p Plan,
+}
+
+impl PartReader<Turn> for TurnReader<'_> {
+    ghost shape = { λ reader. turn_of reader.plan.now };
+
+    #[tactic(auto, unfolding(crate::specs::Given::turn_of))]
+    fn read(&self, part: &str) -> Option<Turn> {
+        let bytes = part.as_bytes();
+        let digits = digits_in(bytes);
+        let core = core_named(self.plan, &bytes[..digits])?;
+        let choice = choice_of(self.plan, core, &bytes[digits..])?;
+        Some((core, choice))
+    }
+}
+
+fn schedule_of(alloc: Global, plan: &Plan, value: &Value) -> Result<Schedule, Refusal>
+    ensures { Gives (λ x. x) result (schedule_of_data plan.now (view value.now)) }
+{
+    match value.as_str() {
+        Some(text) => read_parts(alloc, &TurnReader { plan }, text, ' '),
+        None => Err(Refusal::Unfit),
+    }
+}
+
+/// The turns that a JSON text means for a configuration: words, which are divided by one space. `NotJson`
+/// where the text is not JSON; `Limit` where it has more than 1,000,000 words; else `BadSchedule` where it
+/// is anything else. `NoMemory` where memory runs out.
+pub fn read_schedule(alloc: Global, config: &Config, text: &str) -> Result<Schedule, ConfFault>
+    ensures ok { IfOk result (λ turns. schedule_meant config.now text.now ≡ Some turns) }
+    ensures fault { IfErr result (λ fault. fault ≢ ConfFault.NoMemory → IsLeast fault (schedule_faults config.now text.now)) }
+{
+    let value = value_of(alloc, text)?;
+    if !has_words_within(TURNS, &value) {
+        return Err(ConfFault::Limit);
+    }
+    match schedule_of(alloc, config.plan(), &value) {
+        Ok(turns) => Ok(turns),
+        Err(Refusal::OutOfMemory) => Err(ConfFault::NoMemory),
+        Err(Refusal::Unfit) => Err(ConfFault::BadSchedule),
+    }
+}

@@ -1,0 +1,38 @@
+-- The data of a configuration has no float, and does not nest deeply.
+use Rattle.std.proofs.Common.{◌≡◌, ℕ, ◌≤◌, false, List, [], ◌∷◌, map, refl, arith}
+use Rattle.serde_json.specs.Data.{Data, depth, items_depth}
+use Rattle.serde_json.specs.View.{items_of}
+use Rattle.serde_json.specs.Written.{has_float, items_have_float}
+use Rattle.osplan.specs.declared.plans.Plan.{Plan}
+use Rattle.osplan.specs.declared.plans.Core.{Core}
+use Rattle.osplan.specs.declared.plans.Task.{Task}
+use Rattle.oswrite.specs.Writing.{id_data, mode_data, task_data, core_data, config_data}
+
+no-item-float : {X : Type 0} (f : X → Data) → ((x : X) → has_float (f x) ≡ false) → (xs : List X) → items_have_float (items_of (map f xs)) ≡ false
+no-item-float f none [] = refl
+no-item-float f none (x ∷ xs) = rw (none x, no-item-float f none xs) refl
+
+task-float : (plan : Plan) (task : Task) → has_float (task_data plan task) ≡ false
+task-float plan task = rw (no-item-float (mode_data plan) (λ m. refl) task.auto) refl
+
+core-float : (plan : Plan) (core : Core) → has_float (core_data plan core) ≡ false
+core-float plan core = rw (no-item-float id_data (λ id. refl) core.start, no-item-float (task_data plan) (task-float plan) core.tasks) refl
+
+pub config-float : (plan : Plan) → has_float (config_data plan) ≡ false
+config-float plan = rw (no-item-float (core_data plan) (core-float plan) plan.cores) refl
+
+items-depth : {X : Type 0} (f : X → Data) (n : ℕ) → ((x : X) → depth (f x) ≤ n) → (xs : List X) → items_depth (items_of (map f xs)) ≤ n
+items-depth f n low [] = omega arith
+items-depth f n low (x ∷ xs) = let first : depth (f x) ≤ n = low x in let rest : items_depth (items_of (map f xs)) ≤ n = items-depth f n low xs in omega arith
+
+task-depth : (plan : Plan) (task : Task) → depth (task_data plan task) ≤ 2
+task-depth plan task = let auto : items_depth (items_of (map (mode_data plan) task.auto)) ≤ 0 = items-depth (mode_data plan) 0 (λ m. omega arith) task.auto in omega arith
+
+core-depth : (plan : Plan) (core : Core) → depth (core_data plan core) ≤ 4
+core-depth plan core =
+    let start : items_depth (items_of (map id_data core.start)) ≤ 0 = items-depth id_data 0 (λ id. omega arith) core.start in
+    let tasks : items_depth (items_of (map (task_data plan) core.tasks)) ≤ 2 = items-depth (task_data plan) 2 (task-depth plan) core.tasks in
+    omega arith
+
+pub config-depth : (plan : Plan) → depth (config_data plan) ≤ 127
+config-depth plan = let cores : items_depth (items_of (map (core_data plan) plan.cores)) ≤ 4 = items-depth (core_data plan) 4 (core-depth plan) plan.cores in omega arith

@@ -1,0 +1,8 @@
+pub mod Built
+pub mod Joining
+pub mod Formed
+pub mod Reshaped
+pub mod Placed
+pub mod Restored
+pub mod Faultless
+pub mod Flat

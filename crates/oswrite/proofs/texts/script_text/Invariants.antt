@@ -1,0 +1,6 @@
+use Rattle.std.proofs.Common.{◌≡◌, map, take, string_bytes}
+use Rattle.oswrite.specs.Writing.{op_text}
+use Rattle.oswrite.proofs.texts.script_text.Given as goal
+
+abbrev pub invariant-loop-op : goal.invariant-loop-op
+invariant-loop-op l = map string_bytes l.texts.items ≡ map (op_text l.plan) (take l.op-index l.script)
