@@ -1,8 +1,7 @@
 -- Of a configuration's text the first test that fails has the least fault.
-use Rattle.std.proofs.Common.{◌≡◌, ℕ, zero, suc, ◌<◌, Bool, true, false, cond, List, [], ◌∷◌, length, get_or, Some, sym, ap, arith}
+use Rattle.std.proofs.Common.{◌≡◌, ◌<◌, Some, arith}
 use Rattle.osplan.specs.declared.faults.ConfFault.{ConfFault}
 use Rattle.osdraft.specs.declared.shapes.ConfigText.{ConfigText}
-use Rattle.osplan.specs.Fault.{fault_number}
 use Rattle.osread.specs.Faults.{IsLeast, failing, first_fault}
 use Rattle.osread.proofs.Least.{least}
 use Rattle.osdraft.specs.Check.{tests_of}

@@ -1,5 +1,5 @@
 -- The configuration that a text means, and the faults that a text has. [own]
-use Rattle.std.specs.Prelude.{ℕ, ◌<◌, ◌&&◌, Option, Some, None, option_and_then, List, [], ◌∷◌, map}
+use Rattle.std.specs.Prelude.{ℕ, ◌&&◌, Option, Some, None, option_and_then, List, [], ◌∷◌, map}
 use Rattle.std.specs.List.{IsAmong}
 use Rattle.osbase.specs.declared.references.ModeId.{ModeId}
 use Rattle.osplan.specs.declared.plans.Plan.{Plan}
@@ -13,7 +13,6 @@ use Rattle.osplan.specs.declared.faults.ConfFault.TheVariants.{NotJson, Shape}
 use Rattle.osdraft.specs.declared.shapes.ConfigText.{ConfigText}
 use Rattle.osdraft.specs.declared.shapes.CoreText.{CoreText}
 use Rattle.osdraft.specs.declared.shapes.TaskText.{TaskText}
-use Rattle.osplan.specs.Fault.{fault_number}
 use Rattle.osplan.specs.Expressible.{mode_name}
 use Rattle.osread.specs.Faults.{IsLeast, failing, if_faultless}
 use Rattle.osdraft.specs.Shape.{config_shape}

@@ -1,6 +1,6 @@
 //! The configuration that a text without a fault means.
 
-ghost use Rattle.std.specs.Prelude.{◌≡◌, ◌&&◌, ℕ, IfOk, IsTrue, List as Items, map};
+ghost use Rattle.std.specs.Prelude.{◌≡◌, ◌&&◌, ℕ, IfOk, IsTrue, List as Items, map, true};
 ghost use Rattle.std.specs.List.{list_all};
 ghost use Rattle.osread.specs.Reading.{Gives, value_if};
 ghost use Rattle.osdraft.specs.Operation.{number_id, is_operation, known_op, op_of, operations_of};
@@ -53,6 +53,8 @@ struct TaskPlanner<'t> {
 impl<'e> Reader<'e, TaskText<'e>, Task> for TaskPlanner<'_> {
     ghost shape = { λ planner. known_task planner.objects.now.cores.now };
 
+    ghost passes = { λ _ _. true };
+
     fn read(&self, alloc: Global, task: &'e TaskText<'e>) -> Result<Task, Refusal> {
         if !are_mode_names(task.auto.as_slice()) {
             return Err(Refusal::Unfit);
@@ -93,6 +95,8 @@ struct CorePlanner<'t> {
 
 impl<'e> Reader<'e, CoreText<'e>, Core> for CorePlanner<'_> {
     ghost shape = { λ planner. known_core planner.objects.now.cores.now };
+
+    ghost passes = { λ _ _. true };
 
     fn read(&self, alloc: Global, core: &'e CoreText<'e>) -> Result<Core, Refusal> {
         Ok(Core {

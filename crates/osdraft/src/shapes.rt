@@ -1,6 +1,9 @@
 //! The shape of a configuration: its members and their types. Limits and names are judged later. Texts are
 //! borrowed from the value that is read.
 
+ghost use Rattle.std.specs.List.{list_all};
+ghost use Rattle.osbase.specs.Names.{is_name};
+ghost use Rattle.osdraft.specs.Check.{has_named_tasks};
 ghost use Rattle.osdraft.specs.Shape.{task_shape, core_shape, config_shape};
 
 use osbase::List;
@@ -45,6 +48,8 @@ struct TaskReader;
 impl<'v> JsonReader<'v, TaskText<'v>> for TaskReader {
     ghost shape = { λ _ d. task_shape d };
 
+    ghost passes = { λ _ task. is_name task.name };
+
     #[tactic(auto, unfolding(crate::specs::Shape::task_shape))]
     fn read(&self, alloc: Global, value: &'v Value) -> Result<TaskText<'v>, Refusal> {
         only_members(value, &["name", "prio", "auto", "activations", "script"])?;
@@ -70,6 +75,8 @@ struct CoreReader;
 
 impl<'v> JsonReader<'v, CoreText<'v>> for CoreReader {
     ghost shape = { λ _ d. core_shape d };
+
+    ghost passes = { λ _ core. has_named_tasks core };
 
     #[tactic(auto, unfolding(crate::specs::Shape::core_shape))]
     fn read(&self, alloc: Global, value: &'v Value) -> Result<CoreText<'v>, Refusal> {
@@ -100,6 +107,8 @@ pub struct ConfigReader;
 
 impl<'v> JsonReader<'v, ConfigText<'v>> for ConfigReader {
     ghost shape = { λ _ d. config_shape d };
+
+    ghost passes = { λ _ config. list_all has_named_tasks config.cores };
 
     #[tactic(auto, unfolding(crate::specs::Shape::config_shape))]
     fn read(&self, alloc: Global, value: &'v Value) -> Result<ConfigText<'v>, Refusal> {

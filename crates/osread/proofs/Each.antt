@@ -1,5 +1,8 @@
 -- Reading each element of a list, as a loop does: what was read goes before what is still to read.
-use Rattle.std.proofs.Common.{◌≡◌, ℕ, ◌+◌, ◌<◌, List, [], ◌∷◌, ◌++◌, length, get_or, drop, Option, Some, None, option_map, option_and_then, map, refl, sym, ap, ◌∙◌, append_assoc}
+use Rattle.std.proofs.Common.{◌≡◌, ℕ, ◌+◌, ◌<◌, List, [], ◌∷◌, ◌++◌, length, get_or, drop, Option, Some, None, option_map, option_and_then, map, refl, sym, ap, ◌∙◌, append_assoc, Bool, true}
+use Rattle.std.specs.List.{list_all}
+use Rattle.std.proofs.lemmas.Bool.{and_from}
+use Rattle.std.proofs.lemmas.List.Folds.{list_all-append}
 use Rattle.std.proofs.lemmas.List.{append-nil, drop_more}
 use Rattle.osread.specs.declared.refusals.Refusal.{Refusal}
 use Rattle.osread.specs.declared.refusals.Refusal.TheVariants.{OutOfMemory, Unfit}
@@ -39,3 +42,6 @@ each-end f whole front total is so_far = sym so_far ∙ ap (λ xs. with_front fr
 pub each-map : {V X Y : Type 0} (f : X → Option Y) (g : V → X) (vs : List V) → each f (map g vs) ≡ each (λ v. f (g v)) vs
 each-map f g [] = refl
 each-map f g (v ∷ vs) = ap (λ read. option_and_then (λ y. option_map (λ ys. y ∷ ys) read) (f (g v))) (each-map f g vs)
+
+pub all-more : {Y : Type 0} (p : Y → Bool) (front : List Y) (y : Y) → list_all p front ≡ true → p y ≡ true → list_all p (front ++ y ∷ []) ≡ true
+all-more p front y all passes = list_all-append p front (y ∷ []) ∙ and_from (list_all p front) _ all (and_from (p y) true passes refl)

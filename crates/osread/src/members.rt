@@ -1,6 +1,6 @@
 //! Members of JSON objects, each by its reader.
 
-ghost use Rattle.std.specs.Prelude.{◌≡◌, string_bytes, String};
+ghost use Rattle.std.specs.Prelude.{◌≡◌, IfOk, IsTrue, string_bytes, String};
 ghost use Rattle.std.specs.List.{list_all};
 ghost use Rattle.std.specs.BTreeMap.{keys};
 ghost use Rattle.std.specs.declared.alloc.Global.{Global};
@@ -20,7 +20,8 @@ pub fn at<'v, U, R: JsonReader<'v, U>>(
     key: &str,
     reader: &R,
 ) -> Result<U, Refusal>
-    ensures { Gives (λ x. x) result (member_of (R.shape reader.now) key.now (view value.now)) }
+    ensures shape { Gives (λ x. x) result (member_of (R.shape reader.now) key.now (view value.now)) }
+    ensures passes { IfOk result (λ x. IsTrue (R.passes reader.now x)) }
 {
     match value.get(key) {
         Some(found) => reader.read(alloc, found),
@@ -36,7 +37,9 @@ pub fn at_or<'v, U: Drop, R: JsonReader<'v, U>>(
     reader: &R,
     default: U,
 ) -> Result<U, Refusal>
-    ensures { Gives (λ x. x) result (member_or (R.shape reader.now) default key.now (view value.now)) }
+    requires passes { IsTrue (R.passes reader.now default) }
+    ensures shape { Gives (λ x. x) result (member_or (R.shape reader.now) default key.now (view value.now)) }
+    ensures passes { IfOk result (λ x. IsTrue (R.passes reader.now x)) }
 {
     match value.get(key) {
         Some(found) => reader.read(alloc, found),

@@ -1,6 +1,8 @@
 //! Readers of JSON values: whole numbers, names, texts, and lists of whatever is read.
 
-ghost use Rattle.std.specs.Prelude.{◌≡◌, Option, map};
+ghost use Rattle.std.specs.Prelude.{◌≡◌, Bool, true, IfOk, IsTrue, Option, map};
+ghost use Rattle.std.specs.List.{list_all};
+ghost use Rattle.osbase.specs.Names.{is_name};
 ghost use Rattle.serde_json.specs.Data.{Data};
 ghost use Rattle.serde_json.specs.Find.{as_str};
 ghost use Rattle.serde_json.specs.View.{view};
@@ -19,9 +21,13 @@ pub trait JsonReader<'v, U> {
     /// What a value is read as.
     ghost shape: { Self → Data → Option U };
 
+    /// A test that whatever is read passes.
+    ghost passes: { Self → U → Bool };
+
     /// The value as its shape has it. `Unfit` where it has none; `OutOfMemory` where memory runs out.
     fn read(&self, alloc: Global, value: &'v Value) -> Result<U, Refusal>
-        ensures { Gives (λ x. x) result (shape self.now (view value.now)) };
+        ensures shape { Gives (λ x. x) result (shape self.now (view value.now)) }
+        ensures passes { IfOk result (λ x. IsTrue (passes self.now x)) };
 }
 
 /// A whole number of a text; one below 0 is None.
@@ -33,6 +39,8 @@ pub struct WholeReader;
 
 impl<'v> JsonReader<'v, Whole> for WholeReader {
     ghost shape = { λ _ d. whole_of d };
+
+    ghost passes = { λ _ _. true };
 
     fn read(&self, _alloc: Global, value: &'v Value) -> Result<Whole, Refusal> {
         match value.as_u64() {
@@ -74,6 +82,8 @@ pub struct TextReader;
 impl<'v> JsonReader<'v, Text<'v>> for TextReader {
     ghost shape = { λ _ d. as_str d };
 
+    ghost passes = { λ _ _. true };
+
     fn read(&self, _alloc: Global, value: &'v Value) -> Result<Text<'v>, Refusal> {
         match value.as_str() {
             Some(text) => Ok(Text { text }),
@@ -89,6 +99,8 @@ pub struct NameReader;
 impl<'v> JsonReader<'v, Text<'v>> for NameReader {
     ghost shape = { λ _ d. name_of d };
 
+    ghost passes = { λ _ name. is_name name };
+
     fn read(&self, _alloc: Global, value: &'v Value) -> Result<Text<'v>, Refusal> {
         match value.as_str() {
             Some(text) => name_in(text),
@@ -98,7 +110,8 @@ impl<'v> JsonReader<'v, Text<'v>> for NameReader {
 }
 
 fn name_in(text: &str) -> Result<Text<'_>, Refusal>
-    ensures { Gives (λ x. x) result (if_name text.now) }
+    ensures shape { Gives (λ x. x) result (if_name text.now) }
+    ensures passes { IfOk result (λ name. IsTrue (is_name name)) }
 {
     if is_name(text) {
         Ok(Text { text })
@@ -116,6 +129,8 @@ pub struct ListOf<R> {
 impl<'v, U: Drop, R: JsonReader<'v, U>> JsonReader<'v, List<U>> for ListOf<R> {
     ghost shape = { λ list d. each_of (R.shape list.of) d };
 
+    ghost passes = { λ list xs. list_all (R.passes list.of) xs };
+
     fn read(&self, alloc: Global, value: &'v Value) -> Result<List<U>, Refusal> {
         match value.as_array() {
             Some(values) => read_values(alloc, &self.of, values.as_slice()),
@@ -129,7 +144,8 @@ fn read_values<'v, U: Drop, R: JsonReader<'v, U>>(
     reader: &R,
     values: &'v [Value],
 ) -> Result<List<U>, Refusal>
-    ensures { Gives (λ x. x) result (each (R.shape reader.now) (map view values.now)) }
+    ensures shape { Gives (λ x. x) result (each (R.shape reader.now) (map view values.now)) }
+    ensures passes { IfOk result (λ xs. IsTrue (list_all (R.passes reader.now) xs)) }
 {
     read_each(alloc, &ElementReader { reader }, values)
 }
@@ -142,6 +158,8 @@ struct ElementReader<'r, R> {
 
 impl<'v, U, R: JsonReader<'v, U>> Reader<'v, Value, U> for ElementReader<'_, R> {
     ghost shape = { λ element value. R.shape element.reader.now (view value) };
+
+    ghost passes = { λ element x. R.passes element.reader.now x };
 
     fn read(&self, alloc: Global, value: &'v Value) -> Result<U, Refusal> {
         self.reader.read(alloc, value)

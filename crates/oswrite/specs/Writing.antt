@@ -1,7 +1,6 @@
 -- The JSON data that a configuration is written as: every member, in ascending order of names. [own]
-use Rattle.std.specs.Prelude.{ℕ, List, [], map, codes, slice_get}
+use Rattle.std.specs.Prelude.{ℕ, List, map, codes}
 use Rattle.std.specs.List.{join_by}
-use Rattle.std.specs.Option.{option_map_or}
 use Rattle.serde_json.specs.Data.{unsigned, Data, number, string, array, object, no_members, member}
 use Rattle.serde_json.specs.View.{items_of}
 use Rattle.serde_json.specs.Written.{compact_text}

@@ -7,7 +7,7 @@ use Rattle.osread.specs.Faults.{IsLeast}
 use Rattle.osdraft.specs.Meaning.{faults_of, faults_of_data, faults_of_shape}
 use Rattle.osdraft.proofs.Least.{least-tests_of}
 use Rattle.osdraft.proofs.Bounds.{bounds-of}
-use Rattle.osdraft.proofs.Sayings.{config-named, expressible-of}
+use Rattle.osdraft.proofs.Sayings.{expressible-of}
 use Rattle.osdraft.proofs.configs.read_config.Goals as goal
 
 pub returns-in_err-plan_if_faultless-clause-fault : goal.returns-in_err-plan_if_faultless-clause-fault
