@@ -15,7 +15,7 @@ use Rattle.osbase.specs.declared.marks.Mark.{Mark}
 use Rattle.osbase.specs.declared.histories.OpenCall.{OpenCall}
 use Rattle.osbase.specs.History.{Entry, History, Took, Printed, Noted, Opened, Queued, Done}
 use Rattle.oscript.specs.declared.Op.{Op}
-use Rattle.oscript.specs.declared.Op.TheVariants.{Work, ActivateTask, TerminateTask}
+use Rattle.oscript.specs.declared.Op.TheVariants as Op
 use Rattle.oscript.specs.Rows.{objects_of}
 use Rattle.osplan.specs.View.{View}
 use Rattle.osstate.specs.Queries.{is_at_limit}
@@ -167,17 +167,17 @@ module _ (v : View) (master : Bool) (ids : List CoreId) (may answered : CoreId �
   abbrev Carried : Op → Type 0
   Carried op = (r : Runner) (h k : History) → IsAllowed v may op → R h k → R (operates v r op h) (operates other r op k)
 
-  work-carried : Carried Work
+  work-carried : Carried Op.Work
   work-carried r h k allowed p = kept.local (Noted (Done r Status.EOk None)) h k refl p
 
-  activate-carried : (target : Option TaskRef) → Carried (ActivateTask target)
+  activate-carried : (target : Option TaskRef) → Carried (Op.ActivateTask target)
   activate-carried None r h k allowed p = calls-carried r ServiceId.ActivateTask None h k tt p
   activate-carried (Some t) r h k allowed p = calls-carried r ServiceId.ActivateTask (Some (Remote.ActivateTask t)) h k (and_parts _ true allowed).0 p
 
-  terminate-carried : Carried TerminateTask
+  terminate-carried : Carried Op.TerminateTask
   terminate-carried r h k allowed p = answers-carried r ServiceId.TerminateTask (termination_checks r) (termination_checks r) refl (ends r) (ends r) h k p (ends-carried r h k p)
 
   pub operates-carried : (op : Op) → Carried op
-  operates-carried Work = work-carried
-  operates-carried (ActivateTask target) = activate-carried target
-  operates-carried TerminateTask = terminate-carried
+  operates-carried Op.Work = work-carried
+  operates-carried (Op.ActivateTask target) = activate-carried target
+  operates-carried Op.TerminateTask = terminate-carried
