@@ -9,7 +9,7 @@ use Rattle.osdraft.specs.Meaning.{config_of}
 use Rattle.osgiven.specs.Given.{schedule_meant, stimuli_meant}
 use Rattle.ostrace.specs.Trace.{text_of}
 use Rattle.osworld.specs.Ends.{have_all_ended}
-use Rattle.osworld.specs.Playing.{AreReports, IsDefaultRun}
+use Rattle.osworld.specs.Runs.{AreReports, IsDefaultRun}
 use Rattle.mcos.specs.Texts.{File, Means, text_at}
 
 -- The files mean this configuration and these stimuli for it. [own]

@@ -3,7 +3,8 @@
 ghost use Rattle.std.specs.Prelude.{◌≡◌, IsTrue, Option, Some, [], ◌∷◌};
 ghost use Rattle.osrows.specs.Parts.{core, marks_alone};
 ghost use Rattle.osrows.specs.Border.{plan, stimuli, first_items, second_items, first_marks, second_marks, first_items_unmoved, second_items_unmoved, first_marks_unmoved, second_marks_unmoved};
-ghost use Rattle.osworld.specs.World.{world, default_turns, is_default};
+ghost use Rattle.osworld.specs.World.{world};
+ghost use Rattle.osworld.specs.Runs.{default_turns, is_default};
 
 /// What each core prints for its own items.
 pub fn prints_each_block()

@@ -29,6 +29,7 @@ use Rattle.oskernel.proofs.Stages.{is_mail, solo-parts, stage, stage_of}
 use Rattle.oskernel.proofs.Stepping.{alone_view, same-drained, same-gate, same-operation}
 use Rattle.osworld.specs.Fits.{IsBeginning, has_drained, stimuli_in}
 use Rattle.osworld.proofs.Beginnings.{begins-itself, begins-longer, begins-through}
+use Rattle.osworld.proofs.Ending.{phase-after}
 use Rattle.osworld.proofs.Idling.{Idle, drained-idle, end-idle}
 use Rattle.osworld.proofs.Sane.{AreAgreed, is_conflict}
 
@@ -84,10 +85,7 @@ drained v h idle p (i ∷ is) taken = let e : Some Phase.Drained ≡ stage_of i 
 
 -- ---- what an item leaves
 
--- The phase, and who is started, are read off the items alone; and marks are never taken back.
-phase-after : (v : View) (h : History) (i : Item) → phase_at v (after v h i) ≡ phase_at v (Took i ∷ h)
-phase-after v h i = quiet_after (phase_at v) (λ m k. refl) (λ n k. refl) v h i
-
+-- Who is started is read off the items alone; and marks are never taken back.
 started-after : (core : CoreId) (v : View) (h : History) (i : Item) → knows_started (after v h i) core ≡ knows_started (Took i ∷ h) core
 started-after core v h i = quiet_after (λ (k : History). knows_started k core) (λ m k. refl) (λ n k. refl) v h i
 

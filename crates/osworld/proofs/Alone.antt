@@ -1,4 +1,4 @@
--- In every world of an accepted configuration a separate core prints what its configuration alone prints.
+-- Where the items of all cores fit, a separate core prints what its configuration alone prints.
 use Rattle.std.proofs.Common.{◌≡◌, ℕ, ◌+◌, ◌^◌, ◌<◌, ◌≤◌, Bool, true, false, not, ◌||◌, cond, Option, Some, None, is_some, IsTrue, List, [], ◌∷◌, ◌++◌, length, map, inl, inr, refl, sym, ap, subst, ◌∙◌, arith, length-append, unwrap_or}
 use Rattle.std.specs.List.{list_all}
 use Rattle.std.specs.Option.{option_map_or}
@@ -10,7 +10,6 @@ use Rattle.osbase.specs.declared.items.CoreSet.{CoreSet}
 use Rattle.osbase.specs.declared.items.Item.{Item}
 use Rattle.osbase.specs.declared.items.Stimulus.{Stimulus}
 use Rattle.osbase.specs.declared.marks.Mark.{Mark}
-use Rattle.osbase.specs.declared.turns.Choice.{Choice}
 use Rattle.osbase.specs.declared.turns.CoreStimuli.{CoreStimuli}
 use Rattle.osbase.specs.History.{marks_of, no_cores, received, same_core}
 use Rattle.osbase.specs.Runs.{stimuli_of}
@@ -33,13 +32,11 @@ use Rattle.oskernel.proofs.Carried.{ScriptsAllow}
 use Rattle.oskernel.proofs.Scripts.{other-allow, own-allow}
 use Rattle.oskernel.proofs.Stages.{is_mail}
 use Rattle.oskernel.proofs.Stepping.{alone_view}
-use Rattle.osworld.specs.Alone.{alone_items, ArePrintedAlone, IsAlone, own_agreement}
-use Rattle.osworld.specs.Board.{with_core}
-use Rattle.osworld.specs.Fits.{Fits, IsBeginning}
-use Rattle.osworld.specs.World.{World, history_in, items_in, world}
+use Rattle.osworld.specs.Sound.{alone_items, ArePrintedAlone, IsAlone, own_agreement}
+use Rattle.osworld.specs.Board.{BoardEntry, with_core}
+use Rattle.osworld.specs.Fits.{Fits, FitsBy, IsBeginning, history_by, items_of}
 use Rattle.osworld.proofs.Ahead.{boot_items, Goes, goes-alone, solo-alone}
 use Rattle.osworld.proofs.Beginnings.{begins-all_pass}
-use Rattle.osworld.proofs.Fitted.{world_fits}
 use Rattle.osworld.proofs.Mailed.{is_reply, posts-replies, takes-no-mail}
 use Rattle.osworld.proofs.Members.{has_core-more, nobody-there, only-own}
 use Rattle.osworld.proofs.Sane.{AreAgreed, never-conflict}
@@ -70,7 +67,7 @@ only-known v low =
 
 -- ---- the configuration alone
 
-module _ (plan : Plan) (stimuli : List CoreStimuli) (w : World) (fits : Fits plan stimuli w) (limits : IsTrue (is_within_limits plan)) (id : CoreId) (core : Core) (found : core_of plan id ≡ Some core) (separate : is_separate_core plan core ≡ true) where
+module _ (plan : Plan) (stimuli : List CoreStimuli) (lists : List (CoreId × List Item)) (calls : List BoardEntry) (fits : FitsBy plan stimuli lists calls) (limits : IsTrue (is_within_limits plan)) (id : CoreId) (core : Core) (found : core_of plan id ≡ Some core) (separate : is_separate_core plan core ≡ true) where
   abbrev v : View
   v = view_of plan id
 
@@ -128,16 +125,16 @@ module _ (plan : Plan) (stimuli : List CoreStimuli) (w : World) (fits : Fits pla
     agreed = subst (λ (k : CoreMode). is_agreed_mode plan k ≡ true) mode parts.agreed
 
     -- Only replies come from every other core, by that core's items alone; so it takes no mail.
-    replies : (from : CoreId) → same_core from id ≡ false → list_all is_reply (received from (history_in plan w id)) ≡ true
+    replies : (from : CoreId) → same_core from id ≡ false → list_all is_reply (received from (history_by plan id (items_of lists id))) ≡ true
     replies from other =
         begins-all_pass is_reply _ _ (fits.streams from id)
-        (posts-replies id (view_of plan from) (other-allow plan id from unnamed other) (items_in w from) [] (fits.cores from).alone refl refl)
+        (posts-replies id (view_of plan from) (other-allow plan id from unnamed other) (items_of lists from) [] (fits.cores from).alone refl refl)
 
-    no_mail : list_all (λ (i : Item). not (is_mail i)) (items_in w id) ≡ true
-    no_mail = takes-no-mail v scripts (items_in w id) [] (fits.cores id).alone (record { closed = refl; empty = refl }) replies
+    no_mail : list_all (λ (i : Item). not (is_mail i)) (items_of lists id) ≡ true
+    no_mail = takes-no-mail v scripts (items_of lists id) [] (fits.cores id).alone (record { closed = refl; empty = refl }) replies
 
-    no_conflict : AreAgreed (items_in w id)
-    no_conflict = never-conflict plan m agreed configured w.calls fits.board (items_in w) (λ d. (fits.cores d).alone) fits.answers id
+    no_conflict : AreAgreed (items_of lists id)
+    no_conflict = never-conflict plan m agreed configured calls fits.board (items_of lists) (λ d. (fits.cores d).alone) fits.answers id
 
     abbrev listed : List Stimulus
     listed = stimuli_of stimuli id
@@ -145,8 +142,8 @@ module _ (plan : Plan) (stimuli : List CoreStimuli) (w : World) (fits : Fits pla
     items_alone : alone_items plan stimuli id ≡ boot_items m (only id) listed
     items_alone = ap (λ (k : CoreMode). Item.Entered ∷ Item.Pass1 (own_agreement k) ∷ Item.Readied ∷ Item.Pass2 (only id) ∷ map Item.Stim listed ++ Item.Drained ∷ []) in_mode
 
-    goes : Goes v (alone_view v (id ∷ [])) [] [] (items_in w id) (boot_items m (only id) listed)
-    goes = goes-alone v (id ∷ []) scripts m in_mode no_start (only id) (only-own id low) (items_in w id) listed
+    goes : Goes v (alone_view v (id ∷ [])) [] [] (items_of lists id) (boot_items m (only id) listed)
+    goes = goes-alone v (id ∷ []) scripts m in_mode no_start (only id) (only-own id low) (items_of lists id) listed
         (record { each = (fits.cores id).alone; no_mail = no_mail; agreed = no_conflict }) ((fits.cores id).begins, (fits.cores id).drains)
 
     takes_alone : list_all is_stimulus listed ≡ true → length (boot_items m (only id) listed) ≤ 2 ^ 48 → solo (alone_view v (id ∷ [])) (boot_items m (only id) listed) ≡ Some (history_from (alone_view v (id ∷ [])) [] (boot_items m (only id) listed))
@@ -154,27 +151,23 @@ module _ (plan : Plan) (stimuli : List CoreStimuli) (w : World) (fits : Fits pla
         let size : length (map Item.Stim listed ++ Item.Drained ∷ []) ≡ length listed + 1 = length-append (map Item.Stim listed) (Item.Drained ∷ []) ∙ ap (λ (n : ℕ). n + 1) (length-map listed Item.Stim) in
         solo-alone v (id ∷ []) scripts m in_mode no_start (only id) (only-own id low) (only-known v low) listed all (omega arith)
 
-    is_alone : IsAlone plan stimuli id (items_in w id)
+    is_alone : IsAlone plan stimuli id (items_of lists id)
     is_alone = record {
-      begins = subst (λ (view : View). IsBeginning (Trace v (items_in w id)) (Trace view (alone_items plan stimuli id))) (sym view_alone)
-          (subst (λ (items : List Item). IsBeginning (Trace v (items_in w id)) (Trace (alone_view v (id ∷ [])) items)) (sym items_alone) goes.0);
+      begins = subst (λ (view : View). IsBeginning (Trace v (items_of lists id)) (Trace view (alone_items plan stimuli id))) (sym view_alone)
+          (subst (λ (items : List Item). IsBeginning (Trace v (items_of lists id)) (Trace (alone_view v (id ∷ [])) items)) (sym items_alone) goes.0);
       whole = λ drained. goes.1 drained ∙ ap (Trace (alone_view v (id ∷ []))) (sym items_alone) ∙ ap (λ (view : View). Trace view (alone_items plan stimuli id)) (sym view_alone);
       alone = λ all few. subst (λ (view : View). solo view (alone_items plan stimuli id) ≡ Some (history_from view [] (alone_items plan stimuli id))) (sym view_alone)
           (subst (λ (items : List Item). length items ≤ 2 ^ 48 → solo (alone_view v (id ∷ [])) items ≡ Some (history_from (alone_view v (id ∷ [])) [] items)) (sym items_alone) (takes_alone all) few);
     }
 
 -- Where the items of all cores fit, each separate core is alone.
-pub fits-alone : (plan : Plan) (stimuli : List CoreStimuli) (w : World) → Fits plan stimuli w → IsTrue (is_within_limits plan) → ArePrintedAlone plan stimuli w
-fits-alone plan stimuli w fits limits id separate = by (core_of plan id) refl separate
+pub fits-alone : (plan : Plan) (stimuli : List CoreStimuli) (lists : List (CoreId × List Item)) → Fits plan stimuli lists → IsTrue (is_within_limits plan) → ArePrintedAlone plan stimuli lists
+fits-alone plan stimuli lists fits limits id separate = by (core_of plan id) refl separate
   where
-    by : (o : Option Core) → core_of plan id ≡ o → option_map_or (is_separate_core plan) o false ≡ true → IsAlone plan stimuli id (items_in w id)
+    by : (o : Option Core) → core_of plan id ≡ o → option_map_or (is_separate_core plan) o false ≡ true → IsAlone plan stimuli id (items_of lists id)
     by None found passes = absurd (false≢true passes)
     by (Some core) found passes = in_mode core.mode refl (separate-parts plan core passes).names
       where
-        in_mode : (mode : CoreMode) → core.mode ≡ mode → names_mode mode ≡ true → IsAlone plan stimuli id (items_in w id)
-        in_mode (Named m) mode is = is_alone plan stimuli w fits limits id core found passes m mode
+        in_mode : (mode : CoreMode) → core.mode ≡ mode → names_mode mode ≡ true → IsAlone plan stimuli id (items_of lists id)
+        in_mode (Named m) mode is = is_alone plan stimuli lists fits.0 fits.1 limits id core found passes m mode
         in_mode DontCare mode is = absurd (false≢true is)
-
--- In every world of a configuration within the limits each separate core is alone.
-pub world-alone : (plan : Plan) (stimuli : List CoreStimuli) (turns : List (CoreId × Choice)) → IsTrue (is_within_limits plan) → ArePrintedAlone plan stimuli (world plan stimuli turns)
-world-alone plan stimuli turns limits = fits-alone plan stimuli (world plan stimuli turns) (world_fits plan stimuli turns) limits

@@ -18,8 +18,9 @@ use Rattle.osbase.specs.declared.turns.Report.{Report}
 use Rattle.osworld.specs.declared.runs.RunFault.TheVariants.{NoMemory}
 use Rattle.osworld.specs.declared.boards.Board.{Board}
 use Rattle.osworld.specs.declared.seats.Seat.{Seat}
-use Rattle.osworld.specs.World.{World, board_in, default_turns, first_world, has_ended, is_default, is_default_from, is_ended_phase, is_over, is_unchanged, item_total, round_of, world, world_from}
-use Rattle.osworld.specs.Playing.{AreReports, IsBegun, IsCutShort, IsDefaultBrokenOff, IsDefaultCutShort, IsDefaultPlayed, IsDefaultRun, IsDefaultSchedule, IsPlayed, IsSeated, lists_of, Plays, report_of}
+use Rattle.osworld.specs.World.{World, board_in, first_world, world, world_from}
+use Rattle.osworld.specs.Runs.{default_turns, has_ended, is_default, is_default_from, is_ended_phase, is_over, is_unchanged, item_total, round_of, AreReports, IsDefaultBrokenOff, IsDefaultRun, IsDefaultSchedule}
+use Rattle.osworld.specs.Playing.{IsBegun, IsCutShort, IsDefaultCutShort, IsDefaultPlayed, IsPlayed, IsSeated, lists_of, Plays, report_of}
 use Rattle.osworld.proofs.Played.{world_from-append, world_from-grows}
 use Rattle.osworld.proofs.Reported.{reports-played}
 use Rattle.osworld.proofs.Short.{world-bounded}

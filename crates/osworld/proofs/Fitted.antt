@@ -19,15 +19,20 @@ use Rattle.osplan.proofs.Starting.{and-true}
 use Rattle.osbase.proofs.Same.{same_core-true, same_core-refl}
 use Rattle.oskernel.specs.Step.{takes, outbox_size}
 use Rattle.osworld.specs.declared.boards.Board.{Board}
-use Rattle.osworld.specs.Board.{BoardCall, BoardEntry, board_after, board_from, first_board, reply_of}
-use Rattle.osworld.specs.World.{World, appends, board_in, call_of, first_world, history_in, ids_of, items_in, named, stimulus_count, turn, turn_by, with_call, world, world_from}
-use Rattle.osworld.specs.Fits.{Allows, AreAnswered, asking, calls_by, Fits, FitsCore, has_drained, IsBeginning, is_drain, Replays, stimuli_in}
+use Rattle.osworld.specs.Board.{BoardCall, BoardEntry, board_after, board_from, first_board, reply_of, call_of}
+use Rattle.osworld.specs.Fits.{FitsBy, ids_of, Allows, AreAnswered, asking, calls_by, Fits, FitsCore, has_drained, IsBeginning, is_drain, Replays, stimuli_in}
+use Rattle.osworld.specs.World.{World, appends, board_in, first_world, history_in, items_in, stimulus_count, with_call, world}
 use Rattle.osworld.proofs.Beginnings.{begins-longer, begins-next, begins-through, begins-whole}
 use Rattle.osworld.proofs.Listed.{items_by, list_of, list_of-same, list_of-other, history_from-push}
 use Rattle.osworld.proofs.Streams.{is_from, is_post_to}
 use Rattle.osworld.proofs.Carrying.{and_false, history-same, history-other, posted-in}
 use Rattle.osworld.proofs.Started.{no_history, nothing_of}
+use Rattle.osworld.proofs.Turns.{turns-keep}
 use Rattle.osworld.proofs.Fitting.{envelope_in, has_drained-push, IsNext, Known, length-received, length-stimuli_in, named-known, received-is, solo-push, stimuli_in-push}
+
+-- the world's lists fit by its own calls of the board
+abbrev WorldFits : Plan → List CoreStimuli → World → Type 0
+WorldFits plan stimuli w = FitsBy plan stimuli w.items w.calls
 
 -- the board's calls, and one more
 replays-push : (first : Board) (es : List BoardEntry) (core : CoreId) (call : BoardCall) → Replays first es → Replays first (es ++ record { core = core; call = call; reply = reply_of call (board_from first es) } ∷ [])
@@ -101,7 +106,7 @@ module _ (plan : Plan) (stimuli : List CoreStimuli) (w : World) (core : CoreId) 
       }
 
 -- a world in which a turn appended an item
-module _ (plan : Plan) (stimuli : List CoreStimuli) (w : World) (fits : Fits plan stimuli w) (core : CoreId) (item : Item) (p : CoreId × List Item) (listed : list_of core w.items ≡ Some p) (known : Known plan stimuli w core item) (taken : takes outbox_size (view_of plan core) (history_in plan w core) item ≡ true) where
+module _ (plan : Plan) (stimuli : List CoreStimuli) (w : World) (fits : WorldFits plan stimuli w) (core : CoreId) (item : Item) (p : CoreId × List Item) (listed : list_of core w.items ≡ Some p) (known : Known plan stimuli w core item) (taken : takes outbox_size (view_of plan core) (history_in plan w core) item ≡ true) where
   abbrev next : World
   next = appends plan w core item
 
@@ -196,30 +201,10 @@ module _ (plan : Plan) (stimuli : List CoreStimuli) (w : World) (fits : Fits pla
           subst (λ (xs : List Item). AreAnswered id (view_of plan id).own.mode (asking (view_of plan id).own.mode xs) (calls_by id next.calls)) (sym (items-other id e))
           (subst (λ (es : List BoardEntry). AreAnswered id (view_of plan id).own.mode (asking (view_of plan id).own.mode (items_in w id)) es) (sym (answers-there id e (call_of mode item))) (fits.answers id))
 
-  fits_on : Fits plan stimuli next
+  fits_on : WorldFits plan stimuli next
   fits_on = record { cores = cores-on; streams = streams-on; board = board-on (call_of mode item); answers = answers-on }
 
-turn_by-fits : (plan : Plan) (stimuli : List CoreStimuli) (w : World) → Fits plan stimuli w → (core : CoreId) (o : Option Item) → ((item : Item) → o ≡ Some item → Known plan stimuli w core item) → (q : Option (CoreId × List Item)) → list_of core w.items ≡ q → is_some q ≡ true → Fits plan stimuli (turn_by plan w core o)
-turn_by-fits plan stimuli w fits core None known q e there = fits
-turn_by-fits plan stimuli w fits core (Some item) known None e there = absurd (false≢true there)
-turn_by-fits plan stimuli w fits core (Some item) known (Some p) e there = by (takes outbox_size (view_of plan core) (history_in plan w core) item) refl
-  where
-    by : (b : Bool) → takes outbox_size (view_of plan core) (history_in plan w core) item ≡ b → Fits plan stimuli (cond b (appends plan w core item) w)
-    by true taken = fits_on plan stimuli w fits core item p e (known item refl) taken
-    by false taken = fits
-
-turn-fits : (plan : Plan) (stimuli : List CoreStimuli) (w : World) → Fits plan stimuli w → (t : CoreId × Choice) → Fits plan stimuli (turn plan stimuli w t)
-turn-fits plan stimuli w fits t = by (is_some (list_of t.0 w.items)) refl
-  where
-    by : (b : Bool) → is_some (list_of t.0 w.items) ≡ b → Fits plan stimuli (cond b (turn_by plan w t.0 (named plan stimuli w t.0 t.1)) w)
-    by true there = turn_by-fits plan stimuli w fits t.0 (named plan stimuli w t.0 t.1) (λ item. named-known plan stimuli w t.0 t.1 item) (list_of t.0 w.items) refl there
-    by false there = fits
-
-world_from-fits : (plan : Plan) (stimuli : List CoreStimuli) (w : World) → Fits plan stimuli w → (ts : List (CoreId × Choice)) → Fits plan stimuli (world_from plan stimuli w ts)
-world_from-fits plan stimuli w fits [] = fits
-world_from-fits plan stimuli w fits (t ∷ ts) = world_from-fits plan stimuli (turn plan stimuli w t) (turn-fits plan stimuli w fits t) ts
-
-first-fits : (plan : Plan) (stimuli : List CoreStimuli) → Fits plan stimuli (first_world plan)
+first-fits : (plan : Plan) (stimuli : List CoreStimuli) → WorldFits plan stimuli (first_world plan)
 first-fits plan stimuli = record {
   cores = λ id. subst (FitsCore plan stimuli id) (sym (nothing_of plan id (ids_of plan))) (record { alone = refl; begins = (stimuli_of stimuli id, refl); drains = λ drained. absurd (false≢true drained) });
   streams = λ from to. subst (λ (h : History). IsBeginning (received from h) (posted to (history_in plan (first_world plan) from))) (sym (no_history plan to)) (posted to (history_in plan (first_world plan) from), refl);
@@ -228,5 +213,5 @@ first-fits plan stimuli = record {
 }
 
 -- every world fits
-pub world_fits : (plan : Plan) (stimuli : List CoreStimuli) (turns : List (CoreId × Choice)) → Fits plan stimuli (world plan stimuli turns)
-world_fits plan stimuli turns = world_from-fits plan stimuli (first_world plan) (first-fits plan stimuli) turns
+pub world_fits : (plan : Plan) (stimuli : List CoreStimuli) (turns : List (CoreId × Choice)) → Fits plan stimuli (world plan stimuli turns).items
+world_fits plan stimuli turns = ((world plan stimuli turns).calls, turns-keep plan stimuli (WorldFits plan stimuli) (λ w core item p turn fits. fits_on plan stimuli w fits core item p turn.listed (named-known plan stimuli w core turn.choice item turn.names) turn.taken) (first_world plan) turns (first-fits plan stimuli))

@@ -22,8 +22,8 @@ use Rattle.oskernel.specs.declared.wants.Want.{Want}
 use Rattle.oskernel.specs.Step.{after, history_from, solo_from, takes, outbox_size}
 use Rattle.oskernel.specs.Wants.{want_of}
 use Rattle.osworld.specs.declared.boards.Board.{Board}
-use Rattle.osworld.specs.Board.{BoardCall, agreement_in, have_all, reply_of, start_answer}
-use Rattle.osworld.specs.World.{World, board_in, call_of, going_on, has_room, history_in, items_in, look_named, named, own_named, receiving, serve_named, start_call, starting, stimulus_count}
+use Rattle.osworld.specs.Board.{BoardCall, agreement_in, have_all, reply_of, start_answer, call_of, start_call}
+use Rattle.osworld.specs.World.{World, board_in, going_on, has_room, history_in, items_in, look_named, named, own_named, receiving, serve_named, starting, stimulus_count}
 use Rattle.osworld.specs.Fits.{Allows, has_drained, is_drain, stimuli_in}
 use Rattle.oskernel.proofs.Holding.{quiet_after}
 use Rattle.osworld.proofs.Streams.{is_from}

@@ -2,6 +2,7 @@ pub mod Beginnings
 pub mod Members
 pub mod Sizes
 pub mod Listed
+pub mod Turns
 pub mod Streams
 pub mod Carrying
 pub mod Agreed
@@ -12,6 +13,7 @@ pub mod Played
 pub mod Started
 pub mod Fitting
 pub mod Fitted
+pub mod Ending
 pub mod Idling
 pub mod Relying
 pub mod Sane

@@ -1,49 +1,28 @@
 -- Turn by turn: what was played before, and one turn more.
-use Rattle.std.proofs.Common.{◌≡◌, ℕ, ◌+◌, ◌<◌, ◌≤◌, Bool, true, false, not, ◌||◌, cond, Option, Some, None, is_some, List, [], ◌∷◌, ◌++◌, length, get_or, take, refl, sym, subst, arith, nat_eq}
+use Rattle.std.proofs.Common.{◌≡◌, ℕ, ◌+◌, ◌<◌, ◌≤◌, Bool, true, false, not, ◌||◌, List, [], ◌∷◌, ◌++◌, length, get_or, take, refl, sym, subst, arith, nat_eq}
 use Rattle.std.proofs.lemmas.Bool.Decides.{nat_tests}
 use Rattle.std.proofs.lemmas.List.{take_more, take_all}
 use Rattle.osbase.specs.declared.references.CoreId.{CoreId}
-use Rattle.osbase.specs.declared.items.Item.{Item}
 use Rattle.osbase.specs.declared.turns.Choice.{Choice}
 use Rattle.osbase.specs.declared.turns.CoreStimuli.{CoreStimuli}
 use Rattle.osmail.specs.Mail.{Mail}
 use Rattle.osplan.specs.declared.plans.Plan.{Plan}
-use Rattle.osplan.specs.View.{view_of}
-use Rattle.oskernel.specs.Step.{takes, outbox_size}
 use Rattle.osworld.specs.declared.boards.Board.{Board}
 use Rattle.osworld.specs.declared.seats.Seat.{Seat}
-use Rattle.osworld.specs.World.{World, appends, history_in, item_total, named, turn, turn_by, world_from}
+use Rattle.osworld.specs.World.{World, turn, world_from}
+use Rattle.osworld.specs.Runs.{item_total}
 use Rattle.osworld.specs.Playing.{IsCutShort, IsPlayed, Plays}
-use Rattle.osworld.proofs.Listed.{list_of, total-push}
+use Rattle.osworld.proofs.Listed.{total-push}
+use Rattle.osworld.proofs.Turns.{turns-keep}
 
 abbrev Turns : Type 0
 Turns = List (CoreId × Choice)
 
 -- a turn takes no item back
-module _ (plan : Plan) (w : World) (core : CoreId) where
-  grows-by : (o : Option Item) → is_some (list_of core w.items) ≡ true → item_total w ≤ item_total (turn_by plan w core o)
-  grows-by None there = omega arith
-  grows-by (Some item) there = by (takes outbox_size (view_of plan core) (history_in plan w core) item)
-    where
-      listed : (o : Option (CoreId × List Item)) → list_of core w.items ≡ o → is_some o ≡ true → item_total w ≤ item_total (appends plan w core item)
-      listed None e some = cc
-      listed (Some p) e some = let more = total-push core item w.items p e in omega arith
-
-      by : (b : Bool) → item_total w ≤ item_total (cond b (appends plan w core item) w)
-      by true = listed (list_of core w.items) refl there
-      by false = omega arith
-
-pub turn-grows : (plan : Plan) (stimuli : List CoreStimuli) (w : World) (t : CoreId × Choice) → item_total w ≤ item_total (turn plan stimuli w t)
-turn-grows plan stimuli w t = by (is_some (list_of t.0 w.items)) refl
-  where
-    by : (b : Bool) → is_some (list_of t.0 w.items) ≡ b → item_total w ≤ item_total (cond b (turn_by plan w t.0 (named plan stimuli w t.0 t.1)) w)
-    by true there = grows-by plan w t.0 (named plan stimuli w t.0 t.1) there
-    by false there = omega arith
-
 pub world_from-grows : (plan : Plan) (stimuli : List CoreStimuli) (w : World) (ts : Turns) → item_total w ≤ item_total (world_from plan stimuli w ts)
-world_from-grows plan stimuli w [] = omega arith
-world_from-grows plan stimuli w (t ∷ ts) =
-    let first = turn-grows plan stimuli w t in let rest = world_from-grows plan stimuli (turn plan stimuli w t) ts in omega arith
+world_from-grows plan stimuli w ts =
+    turns-keep plan stimuli (λ (next : World). item_total w ≤ item_total next)
+    (λ v core item p turn le. let more = total-push core item v.items p turn.listed in omega (arith, more, le)) w ts (omega arith)
 
 pub world_from-append : (plan : Plan) (stimuli : List CoreStimuli) (w : World) (ts us : Turns) → world_from plan stimuli w (ts ++ us) ≡ world_from plan stimuli (world_from plan stimuli w ts) us
 world_from-append plan stimuli w [] us = refl

@@ -1,44 +1,78 @@
--- The reports of a run that stands for a world are the world's reports.
-use Rattle.std.proofs.Common.{◌≡◌, ◌<◌, ℕ, List, [], ◌∷◌, map, take, length, Bool, IsTrue, refl, ap, sym, subst, ◌∙◌}
-use Rattle.std.specs.List.{All}
+-- The reports of a run that stands for a world are sound, and have the world's items.
+use Rattle.std.proofs.Common.{◌≡◌, ◌<◌, ℕ, List, [], ◌∷◌, ◌++◌, map, take, length, Bool, true, false, cond, IsTrue, refl, ap, sym, subst, ◌∙◌}
+use Rattle.std.specs.List.{All, AllByRecursion}
 use Rattle.std.proofs.lemmas.List.Elements.{All-head, All-tail}
-use Rattle.osbase.specs.declared.marks.Mark.{Mark}
+use Rattle.std.proofs.lemmas.Simd.{map-map}
 use Rattle.osbase.specs.declared.references.CoreId.{CoreId}
+use Rattle.osbase.specs.declared.items.Item.{Item}
 use Rattle.osbase.specs.declared.turns.Choice.{Choice}
 use Rattle.osbase.specs.declared.turns.CoreStimuli.{CoreStimuli}
 use Rattle.osbase.specs.declared.turns.Report.{Report}
 use Rattle.osmail.specs.Mail.{Mail}
 use Rattle.osplan.specs.declared.plans.Plan.{Plan}
 use Rattle.osplan.specs.Limits.{is_within_limits}
+use Rattle.osplan.specs.View.{view_of}
 use Rattle.osstate.specs.State.{KernelState}
 use Rattle.osworld.specs.declared.boards.Board.{Board}
 use Rattle.osworld.specs.declared.seats.Seat.{Seat}
-use Rattle.osworld.proofs.Alone.{world-alone}
+use Rattle.osworld.specs.Fits.{Fits, ids_of}
+use Rattle.osworld.specs.Sound.{IsOwn, lists_in}
+use Rattle.osworld.specs.World.{World, first_world, with_item, world}
+use Rattle.osworld.specs.Runs.{is_ended_phase, AreReports}
+use Rattle.osworld.specs.Playing.{IsCutShort, IsPlayed, IsSeated, Plays, report_of}
+use Rattle.osworld.proofs.Alone.{fits-alone}
+use Rattle.osworld.proofs.Ending.{ended-by}
 use Rattle.osworld.proofs.Fitted.{world_fits}
-use Rattle.osworld.specs.World.{World, first_world, is_ended_phase, world}
-use Rattle.osworld.specs.Playing.{AreReports, IsCutShort, IsPlayed, IsSeated, lists_of, Plays, report_in, report_of, reports_of}
+use Rattle.osworld.proofs.Listed.{Lists, is_of}
+use Rattle.osworld.proofs.Turns.{turns-keep}
 
-one : (plan : Plan) (stimuli : List CoreStimuli) (seat : Seat) → IsSeated plan stimuli seat → report_of seat ≡ report_in plan (seat.id, seat.items.items)
-one plan stimuli seat seated =
-    ap (λ (marks : List Mark). let r : Report = record { core = seat.id; items = seat.items.items; marks = marks; ended = is_ended_phase seat.kernel.progress.phase } in r) (seated.tracks.behind ∙ seated.tracks.shows)
-    ∙ ap (λ (s : KernelState). let r : Report = record { core = seat.id; items = seat.items.items; marks = (report_in plan (seat.id, seat.items.items)).marks; ended = is_ended_phase s.progress.phase } in r) seated.tracks.stands.is
+-- a turn leaves the cores that have lists
+abbrev ids : Lists → List CoreId
+ids ls = map (λ (p : CoreId × List Item). p.0) ls
 
-each : (plan : Plan) (stimuli : List CoreStimuli) (seats : List Seat) → All (IsSeated plan stimuli) seats → map report_of seats ≡ map (report_in plan) (lists_of seats)
-each plan stimuli [] seated = refl
-each plan stimuli (s ∷ ss) seated =
-    ap (λ (r : Report). r ∷ map report_of ss) (one plan stimuli s (All-head (IsSeated plan stimuli) s ss seated))
-    ∙ ap (λ (rs : List Report). report_in plan (s.id, s.items.items) ∷ rs) (each plan stimuli ss (All-tail (IsSeated plan stimuli) s ss seated))
+same-ids : (id : CoreId) (item : Item) (ls : Lists) → ids (with_item id item ls) ≡ ids ls
+same-ids id item [] = refl
+same-ids id item (q ∷ qs) = by (is_of id q) (same-ids id item qs)
+  where
+    by : (b : Bool) → ids (with_item id item qs) ≡ ids qs → ids (cond b ((q.0, q.1 ++ item ∷ []) ∷ qs) (q ∷ with_item id item qs)) ≡ q.0 ∷ ids qs
+    by true rest = refl
+    by false rest = ap (λ (cores : List CoreId). q.0 ∷ cores) rest
 
-pub reported : (plan : Plan) (stimuli : List CoreStimuli) (w : World) (seats : List Seat) (mail : Mail) (board : Board) → Plays plan stimuli w seats mail board → map report_of seats ≡ reports_of plan w
-reported plan stimuli w seats mail board plays = each plan stimuli seats plays.seated ∙ ap (map (report_in plan)) (sym plays.lists)
+ids-world : (plan : Plan) (stimuli : List CoreStimuli) (turns : List (CoreId × Choice)) → ids (world plan stimuli turns).items ≡ ids_of plan
+ids-world plan stimuli turns =
+    turns-keep plan stimuli (λ (w : World). ids w.items ≡ ids_of plan) (λ w core item p turn same. same-ids core item w.items ∙ same) (first_world plan) turns
+    (map-map (λ (p : CoreId × List Item). p.0) (λ (id : CoreId). let p : CoreId × List Item = (id, []) in p) (ids_of plan) ∙ itself (ids_of plan))
+  where
+    itself : (xs : List CoreId) → map (λ (id : CoreId). id) xs ≡ xs
+    itself [] = refl
+    itself (x ∷ xs) = ap (λ (ys : List CoreId). x ∷ ys) (itself xs)
 
--- the same of turns from the beginning
+-- each seat's report is its items' own
+each-own : (plan : Plan) (stimuli : List CoreStimuli) (seats : List Seat) → All (IsSeated plan stimuli) seats → AllByRecursion (IsOwn plan) (map report_of seats)
+each-own plan stimuli [] seated = tt
+each-own plan stimuli (s ∷ ss) seated =
+    let here : IsSeated plan stimuli s = All-head (IsSeated plan stimuli) s ss seated in (
+      record {
+        marks = here.tracks.behind ∙ here.tracks.shows;
+        ended = ap (λ (k : KernelState). is_ended_phase k.progress.phase) here.tracks.stands.is ∙ ended-by (view_of plan s.id) s.items.items here.alone;
+      },
+      each-own plan stimuli ss (All-tail (IsSeated plan stimuli) s ss seated),
+    )
+
+-- turns from the beginning
 pub reports-played : (plan : Plan) → IsTrue (is_within_limits plan) → (stimuli : List CoreStimuli) (turns : List (CoreId × Choice)) (seats : List Seat) (mail : Mail) (board : Board) → Plays plan stimuli (world plan stimuli turns) seats mail board → AreReports plan stimuli turns (map report_of seats)
-reports-played plan limits stimuli turns seats mail board plays = record {
-  are = reported plan stimuli (world plan stimuli turns) seats mail board plays;
-  fit = world_fits plan stimuli turns;
-  separate = world-alone plan stimuli turns limits;
-}
+reports-played plan limits stimuli turns seats mail board plays =
+    let lists : lists_in (map report_of seats) ≡ (world plan stimuli turns).items = map-map (λ (r : Report). (r.core, r.items)) report_of seats ∙ sym plays.lists in
+    let fits : Fits plan stimuli (lists_in (map report_of seats)) = subst (Fits plan stimuli) (sym lists) (world_fits plan stimuli turns) in
+    record {
+      items = lists;
+      sound = record {
+        cores = sym (map-map (λ (p : CoreId × List Item). p.0) (λ (r : Report). let p : CoreId × List Item = (r.core, r.items) in p) (map report_of seats)) ∙ ap ids lists ∙ ids-world plan stimuli turns;
+        own = each-own plan stimuli seats plays.seated;
+        fit = fits;
+        separate = fits-alone plan stimuli (lists_in (map report_of seats)) fits limits;
+      };
+    }
 
 -- turns that were played from the beginning, and turns before which memory was wanting
 module _ (plan plan' : Plan) (same : plan' ≡ plan) (limits : IsTrue (is_within_limits plan)) (stimuli : List CoreStimuli) (turns : List (CoreId × Choice)) (seats seats' : List Seat) (mail mail' : Mail) (board board' : Board) (begun : Plays plan stimuli (first_world plan) seats mail board) where

@@ -29,8 +29,7 @@ use Rattle.oskernel.specs.Admission.{admits, is_for, is_start_answer, is_started
 use Rattle.oskernel.specs.Step.{after, history_from, outbox_size, solo_from}
 use Rattle.oskernel.proofs.Stages.{only-on, solo-parts, stage}
 use Rattle.osworld.specs.declared.boards.Board.{Board}
-use Rattle.osworld.specs.Board.{BoardCall, BoardEntry, BoardReply, StartCore, LookAt, Shown, agreement_by, agreement_in, board_after, first_board, with_mode}
-use Rattle.osworld.specs.World.{call_of}
+use Rattle.osworld.specs.Board.{BoardCall, BoardEntry, BoardReply, StartCore, LookAt, Shown, agreement_by, agreement_in, board_after, first_board, with_mode, call_of}
 use Rattle.osworld.specs.Fits.{Allows, AreAnswered, Replays, asking, calls_by}
 use Rattle.osworld.proofs.Members.{has_core-more, nobody-there}
 use Rattle.osworld.proofs.Relying.{AllSee, Relies, board-seen}

@@ -1,5 +1,5 @@
 -- No core takes more than 2 ^ 48 items, so a world's items are bounded.
-use Rattle.std.proofs.Common.{◌≡◌, ℕ, suc, ◌+◌, ◌*◌, ◌^◌, ◌<◌, ◌≤◌, Bool, true, false, cond, Option, Some, None, is_some, List, [], ◌∷◌, ◌++◌, length, map, refl, ap, sym, subst, ◌∙◌, arith, nat_lt, sum_by, length-append}
+use Rattle.std.proofs.Common.{◌≡◌, ℕ, suc, ◌+◌, ◌*◌, ◌^◌, ◌<◌, ◌≤◌, Bool, true, false, cond, Option, Some, is_some, List, [], ◌∷◌, ◌++◌, length, map, refl, ap, sym, subst, ◌∙◌, arith, nat_lt, sum_by, length-append}
 use Rattle.std.specs.Option.{option_map_or}
 use Rattle.std.proofs.lemmas.Bool.{and_parts, ltb-true}
 use Rattle.std.proofs.lemmas.List.{length-map}
@@ -15,10 +15,13 @@ use Rattle.osplan.proofs.Tests.{length-filter-le}
 use Rattle.osbase.specs.Sets.{core_ids}
 use Rattle.osstate.specs.State.{state_of}
 use Rattle.oskernel.specs.Admission.{admits}
-use Rattle.oskernel.specs.Step.{after, history_from, takes, outbox_size}
-use Rattle.osworld.specs.World.{World, appends, first_world, history_in, ids_of, item_total, named, turn, turn_by, with_item, world, world_from}
+use Rattle.oskernel.specs.Step.{after, history_from, outbox_size}
+use Rattle.osworld.specs.Fits.{ids_of}
+use Rattle.osworld.specs.World.{World, appends, first_world, history_in, turn, with_item, world}
+use Rattle.osworld.specs.Runs.{item_total}
 use Rattle.oskernel.proofs.Holding.{quiet_after}
 use Rattle.osworld.proofs.Listed.{Lists, is_of, list_of}
+use Rattle.osworld.proofs.Turns.{Appends, turns-keep}
 
 -- Each list has at most 2 ^ 48 items.
 abbrev are_short : Lists → Type 0
@@ -64,34 +67,13 @@ length-with_item id item (q ∷ qs) = by (is_of id q) (length-with_item id item 
 abbrev Bounded : World → Type 0
 Bounded w = are_short w.items × (length w.items ≤ 16)
 
-module _ (plan : Plan) (stimuli : List CoreStimuli) (w : World) (bounded : Bounded w) where
-  taken-bounded : (core : CoreId) (item : Item) (o : Option (CoreId × List Item)) → list_of core w.items ≡ o → is_some o ≡ true → takes outbox_size (view_of plan core) (history_in plan w core) item ≡ true → Bounded (appends plan w core item)
-  taken-bounded core item None e there taken = cc
-  taken-bounded core item (Some p) e there taken =
-      let items : history_in plan w core ≡ history_from (view_of plan core) [] p.1 = ap (λ (o : Option (CoreId × List Item)). history_from (view_of plan core) [] (option_map_or (λ (q : CoreId × List Item). q.1) o [])) e in
-      let few : item_count (history_in plan w core) < 2 ^ 48 = ltb-true (item_count (history_in plan w core)) (2 ^ 48) (and_parts (nat_lt (item_count (history_in plan w core)) (2 ^ 48)) (admits outbox_size (state_of (view_of plan core) (history_in plan w core)) item) taken).0 in
-      let all : item_count (history_in plan w core) ≡ item_count [] + length p.1 = ap item_count items ∙ counted (view_of plan core) [] p.1 in
-      let same = length-with_item core item w.items in let before = bounded.1 in
-      (short-push core item w.items p e (omega arith) bounded.0, omega arith)
-
-  turn_by-bounded : (core : CoreId) (o : Option Item) → is_some (list_of core w.items) ≡ true → Bounded (turn_by plan w core o)
-  turn_by-bounded core None there = bounded
-  turn_by-bounded core (Some item) there = by (takes outbox_size (view_of plan core) (history_in plan w core) item) refl
-    where
-      by : (b : Bool) → takes outbox_size (view_of plan core) (history_in plan w core) item ≡ b → Bounded (cond b (appends plan w core item) w)
-      by true taken = taken-bounded core item (list_of core w.items) refl there taken
-      by false taken = bounded
-
-  turn-bounded : (t : CoreId × Choice) → Bounded (turn plan stimuli w t)
-  turn-bounded t = by (is_some (list_of t.0 w.items)) refl
-    where
-      by : (b : Bool) → is_some (list_of t.0 w.items) ≡ b → Bounded (cond b (turn_by plan w t.0 (named plan stimuli w t.0 t.1)) w)
-      by true there = turn_by-bounded t.0 (named plan stimuli w t.0 t.1) there
-      by false there = bounded
-
-world_from-bounded : (plan : Plan) (stimuli : List CoreStimuli) (w : World) (ts : List (CoreId × Choice)) → Bounded w → Bounded (world_from plan stimuli w ts)
-world_from-bounded plan stimuli w [] bounded = bounded
-world_from-bounded plan stimuli w (t ∷ ts) bounded = world_from-bounded plan stimuli (turn plan stimuli w t) ts (turn-bounded plan stimuli w bounded t)
+bounded-on : (plan : Plan) (stimuli : List CoreStimuli) (w : World) (core : CoreId) (item : Item) (p : CoreId × List Item) → Appends plan stimuli w core item p → Bounded w → Bounded (appends plan w core item)
+bounded-on plan stimuli w core item p turn bounded =
+    let items : history_in plan w core ≡ history_from (view_of plan core) [] p.1 = ap (λ (o : Option (CoreId × List Item)). history_from (view_of plan core) [] (option_map_or (λ (q : CoreId × List Item). q.1) o [])) turn.listed in
+    let few : item_count (history_in plan w core) < 2 ^ 48 = ltb-true (item_count (history_in plan w core)) (2 ^ 48) (and_parts (nat_lt (item_count (history_in plan w core)) (2 ^ 48)) (admits outbox_size (state_of (view_of plan core) (history_in plan w core)) item) turn.taken).0 in
+    let all : item_count (history_in plan w core) ≡ item_count [] + length p.1 = ap item_count items ∙ counted (view_of plan core) [] p.1 in
+    let same = length-with_item core item w.items in let before = bounded.1 in
+    (short-push core item w.items p turn.listed (omega arith) bounded.0, omega arith)
 
 empty-short : (ids : List CoreId) → are_short (map (λ (id : CoreId). (id, [])) ids)
 empty-short [] = tt
@@ -108,6 +90,6 @@ first-bounded plan =
 -- a world has at most 2 ^ 52 items
 pub world-bounded : (plan : Plan) (stimuli : List CoreStimuli) (ts : List (CoreId × Choice)) → item_total (world plan stimuli ts) ≤ 2 ^ 52
 world-bounded plan stimuli ts =
-    let bounded = world_from-bounded plan stimuli (first_world plan) ts (first-bounded plan) in
+    let bounded = turns-keep plan stimuli Bounded (bounded-on plan stimuli) (first_world plan) ts (first-bounded plan) in
     let total = total-bounded (world plan stimuli ts).items bounded.0 in let few = bounded.1 in
     omega arith

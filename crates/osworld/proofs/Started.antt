@@ -23,7 +23,8 @@ use Rattle.oskernel.specs.Step.{history_from}
 use Rattle.osworld.specs.declared.seats.Seat.{Seat}
 use Rattle.osworld.specs.declared.boards.Board.{Board}
 use Rattle.osworld.specs.Board.{first_board}
-use Rattle.osworld.specs.World.{first_world, history_in, ids_of}
+use Rattle.osworld.specs.Fits.{ids_of}
+use Rattle.osworld.specs.World.{first_world, history_in}
 use Rattle.osworld.specs.Playing.{IsMail, IsSeated, lists_of, Plays}
 use Rattle.osworld.proofs.Listed.{Lists, is_of, list_of}
 
@@ -69,6 +70,7 @@ lists_below-push plan n core lt somebody =
 pub seated-first : (plan : Plan) (stimuli : List CoreStimuli) (seat : Seat) (id : CoreId) (core : Core) → core_of plan id ≡ Some core → seat.id ≡ id → seat.kernel ≡ state_of (view_of plan id) [] → seat.mode ≡ core.mode → seat.stimuli.now ≡ stimuli_of stimuli id → seat.items.items ≡ [] → seat.marks.items ≡ [] → IsSeated plan stimuli seat
 seated-first plan stimuli seat id core found is_id is_kernel is_mode is_left no_items no_marks = record {
   tracks = rw (is_id, no_items, no_marks) (record { stands = record { is = is_kernel }; added = []; behind = refl; shows = refl });
+  alone = rw (is_id, no_items) refl;
   mode = is_mode ∙ ap (λ (o : Option Core). (unwrap_or o (no_core id)).mode) (sym found) ∙ ap (λ (i : CoreId). (view_of plan i).own.mode) (sym is_id);
   left = rw (is_id, no_items) is_left;
 }

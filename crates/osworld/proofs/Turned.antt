@@ -22,7 +22,9 @@ use Rattle.oskernel.specs.Step.{takes}
 use Rattle.oskernel.specs.Wants.{front_of}
 use Rattle.osworld.specs.declared.boards.Board.{Board}
 use Rattle.osworld.specs.declared.seats.Seat.{Seat}
-use Rattle.osworld.specs.World.{World, history_by, is_unchanged, item_total, turn}
+use Rattle.osworld.specs.Fits.{history_by}
+use Rattle.osworld.specs.World.{World, turn}
+use Rattle.osworld.specs.Runs.{is_unchanged, item_total}
 use Rattle.osworld.specs.Naming.{carried, IsPlaced, left_after, named_by, told}
 use Rattle.osworld.specs.Playing.{IsPlayed, IsSeated, Plays}
 use Rattle.osworld.proofs.Listed.{is_seat_of, seat_is_of, seat_nowhere, seat_place}
@@ -81,6 +83,7 @@ module _ (plan : Plan) (stimuli : List CoreStimuli) (w : World) (seats : List Se
         again : IsSeated plan stimuli seat → IsSeated plan stimuli new
         again seated = record {
           tracks = rw (keeps.id, keeps.items, keeps.marks, keeps.kernel) seated.tracks;
+          alone = rw (keeps.id, keeps.items) seated.alone;
           mode = rw (keeps.id, keeps.mode) seated.mode;
           left = rw (keeps.id, keeps.items, keeps.left) seated.left;
         }

@@ -17,16 +17,19 @@ use Rattle.osplan.specs.declared.plans.CoreMode.{CoreMode}
 use Rattle.osplan.specs.View.{View, view_of}
 use Rattle.osstate.specs.State.{KernelState, state_of}
 use Rattle.osstate.specs.Does.{Does, Tracks}
-use Rattle.oskernel.specs.Step.{after, takes, outbox_size}
+use Rattle.oskernel.specs.Step.{after, solo, takes, outbox_size}
 use Rattle.oskernel.specs.Wants.{front_of}
 use Rattle.osworld.specs.declared.boards.Board.{Board}
 use Rattle.osworld.specs.declared.seats.Seat.{Seat}
-use Rattle.osworld.specs.Board.{BoardCall, BoardEntry, board_after, board_from, first_board, reply_of}
-use Rattle.osworld.specs.World.{World, history_by, appends, board_in, call_of, history_in, items_in, item_total, named, stimulus_count, turn, turn_by, with_call, with_item}
+use Rattle.osworld.specs.Board.{BoardCall, BoardEntry, board_after, board_from, first_board, reply_of, call_of}
+use Rattle.osworld.specs.Fits.{history_by}
+use Rattle.osworld.specs.World.{World, appends, board_in, history_in, items_in, named, stimulus_count, turn, turn_by, with_call, with_item}
+use Rattle.osworld.specs.Runs.{item_total}
 use Rattle.osworld.specs.Naming.{carried, IsPlaced, left_after, named_by, told}
 use Rattle.osworld.specs.Playing.{IsMail, IsSeated, lists_of, Plays}
 use Rattle.osworld.proofs.Listed.{is_seat_of, items_by, list_of, list_of-nobody, list_of-seat, lists_of-set, history_from-push, total-push}
 use Rattle.osworld.proofs.Carrying.{carries_on}
+use Rattle.osworld.proofs.Fitting.{solo-push}
 use Rattle.osworld.proofs.Agreed.{named-agrees}
 
 -- the board after one more call
@@ -56,13 +59,16 @@ pub record Took (old new : Seat) (item : Item) : Type 0 where
   pub items : new.items.items ≡ old.items.items ++ item ∷ []
   pub does : Does (λ v h. after v h item) old.kernel new.kernel old.marks.items new.marks.items
 
-pub seated-on : (plan : Plan) (stimuli : List CoreStimuli) (old new : Seat) (item : Item) → IsSeated plan stimuli old → Took old new item → IsSeated plan stimuli new
-seated-on plan stimuli old new item seated took =
+pub seated-on : (plan : Plan) (stimuli : List CoreStimuli) (old new : Seat) (item : Item) → IsSeated plan stimuli old → takes outbox_size (view_of plan old.id) (history_by plan old.id old.items.items) item ≡ true → Took old new item → IsSeated plan stimuli new
+seated-on plan stimuli old new item seated taken took =
     record {
       tracks = subst (λ (i : CoreId). Tracks (view_of plan i) (history_by plan i new.items.items) [] [] new.kernel new.marks.items) (sym took.id)
           (subst (λ (items : List Item). Tracks v (history_by plan old.id items) [] [] new.kernel new.marks.items) (sym took.items)
           (subst (λ (h : History). Tracks v h [] [] new.kernel new.marks.items) (sym (history_from-push v [] old.items.items item))
           (took.does v (history_by plan old.id old.items.items) [] [] seated.tracks)));
+      alone = subst (λ (i : CoreId). solo (view_of plan i) new.items.items ≡ Some (history_by plan i new.items.items)) (sym took.id)
+          (subst (λ (items : List Item). solo v items ≡ Some (history_by plan old.id items)) (sym took.items)
+          (solo-push v [] old.items.items item seated.alone taken ∙ ap Some (sym (history_from-push v [] old.items.items item))));
       mode = took.mode ∙ seated.mode ∙ ap (λ (i : CoreId). (view_of plan i).own.mode) (sym took.id);
       left = took.left ∙ ap (left_after item) seated.left ∙ left-on item (stimulus_count old.items.items) (stimuli_of stimuli old.id)
           ∙ ap (λ (n : ℕ). drop n (stimuli_of stimuli old.id)) (sym (stimulus_count-push old.items.items item))
@@ -128,8 +134,8 @@ module _ (plan : Plan) (stimuli : List CoreStimuli) (w : World) (seats : List Se
         ∙ total-push seat.id item w.items (seat.id, seat.items.items) listed
 
     module _ (new : Seat) (took : Took seat new item) (placed : IsPlaced mail seat.id item) where
-      seats-on : All (IsSeated plan stimuli) (set seats at new)
-      seats-on = All-set (IsSeated plan stimuli) seats at new (seated-on plan stimuli seat new item seated took) plays.seated
+      seats-on : takes outbox_size (view_of plan seat.id) past item ≡ true → All (IsSeated plan stimuli) (set seats at new)
+      seats-on taken = All-set (IsSeated plan stimuli) seats at new (seated-on plan stimuli seat new item seated taken took) plays.seated
 
       lists-on : (appends plan w seat.id item).items ≡ lists_of (set seats at new)
       lists-on =
@@ -151,4 +157,4 @@ module _ (plan : Plan) (stimuli : List CoreStimuli) (w : World) (seats : List Se
       turn-taken taken =
           subst (λ (next : World). Plays plan stimuli next (set seats at new) (carried seat.id (front_of seat.kernel.border.outbox) item mail) (told seat.id seat.mode item board))
           (sym (by_taking ∙ ap (λ (b : Bool). cond b (appends plan w seat.id item) w) taken))
-          (record { seated = seats-on; lists = lists-on; carries = carries-on; shown = board-on })
+          (record { seated = seats-on taken; lists = lists-on; carries = carries-on; shown = board-on })

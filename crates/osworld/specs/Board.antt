@@ -3,10 +3,11 @@
 use Rattle.std.specs.Prelude.{Option, Some, None, zero, position, count_by, ℕ, suc, ◌||◌, Bool, true, false, not, if◌then◌else◌, List, [], ◌∷◌, slice_set, replicate}
 use Rattle.std.specs.List.{list_all, zip}
 use Rattle.osbase.specs.declared.statuses.Status.{Status}
-use Rattle.osbase.specs.declared.statuses.Status.TheVariants.{EOk, EOsState}
+use Rattle.osbase.specs.declared.statuses.Status.TheVariants.{EOk, EOsId, EOsState}
 use Rattle.osbase.specs.declared.references.CoreId.{CoreId}
 use Rattle.osbase.specs.declared.items.CoreSet.{CoreSet}
 use Rattle.osbase.specs.declared.items.Agreement.{Agreement}
+use Rattle.osbase.specs.declared.items.Item.{Item}
 use Rattle.osbase.specs.History.{no_cores}
 use Rattle.osplan.specs.declared.plans.CoreMode.{CoreMode}
 use Rattle.osplan.specs.declared.plans.CoreMode.TheVariants.{Named, DontCare}
@@ -87,6 +88,23 @@ reply_of LookHalt board = NoHalt
 abbrev pub board_from : Board → List BoardEntry → Board
 board_from board [] = board
 board_from board (e ∷ es) = board_from (board_after e.core e.call board) es
+
+-- The call of the board by which a core comes to an item, if there is one. [own]
+abbrev pub start_call : CoreId → Status → Option BoardCall
+start_call k EOsId = None
+start_call k status = Some (StartCore k)
+
+abbrev pub call_of : CoreMode → Item → Option BoardCall
+call_of mode Item.On = Some LookAt
+call_of mode (Item.Began k status) = start_call k status
+call_of mode Item.Entered = Some (Enter mode)
+call_of mode (Item.Pass1 agreement) = Some LookAt
+call_of mode Item.Readied = Some MakeReady
+call_of mode (Item.Pass2 cores) = Some LookAt
+call_of mode Item.Drained = Some Drain
+call_of mode Item.PassEnd = Some LookAt
+call_of mode (Item.Last shutdown) = Some LookHalt
+call_of mode item = None
 
 -- Every started core is in the set: what a synchronisation point waits for.
 -- [AUTOSAR SWS OS 4.x, SWS_Os_00579 and SWS_Os_00580]

@@ -1,19 +1,32 @@
--- The items of all cores fit one another and what the run was given. [own]
-use Rattle.std.specs.Prelude.{◌≡◌, Bool, true, false, ◌||◌, Some, None, is_some, List, [], ◌∷◌, ◌++◌, filter}
+-- The items of all cores fit one another and what the run was given. It is said of the cores' item lists alone:
+-- nothing is said of turns, and nothing of how the cores were run. [own]
+use Rattle.std.specs.Prelude.{◌≡◌, Bool, true, false, ◌||◌, Some, None, is_some, List, [], ◌∷◌, ◌++◌, filter, find}
+use Rattle.std.specs.Option.{option_map_or}
 use Rattle.osbase.specs.declared.references.CoreId.{CoreId}
 use Rattle.osbase.specs.declared.items.Item.{Item}
 use Rattle.osbase.specs.declared.items.Stimulus.{Stimulus}
 use Rattle.osbase.specs.declared.turns.CoreStimuli.{CoreStimuli}
-use Rattle.osbase.specs.History.{posted, received, same_core}
+use Rattle.osbase.specs.History.{History, posted, received, same_core}
 use Rattle.osbase.specs.Runs.{stimuli_of}
 use Rattle.osplan.specs.declared.plans.Plan.{Plan}
 use Rattle.osplan.specs.declared.plans.CoreMode.{CoreMode}
-use Rattle.osplan.specs.View.{view_of}
-use Rattle.osbase.specs.Sets.{has_core}
-use Rattle.oskernel.specs.Step.{solo}
+use Rattle.osplan.specs.View.{core_of, view_of}
+use Rattle.osbase.specs.Sets.{core_ids, has_core}
+use Rattle.oskernel.specs.Step.{history_from, solo}
 use Rattle.osworld.specs.declared.boards.Board.{Board}
-use Rattle.osworld.specs.Board.{BoardEntry, BoardReply, Started, Acknowledged, Shown, NoHalt, agreement_in, board_after, first_board, have_all, reply_of}
-use Rattle.osworld.specs.World.{World, call_of, history_by, history_in, items_in}
+use Rattle.osworld.specs.Board.{BoardEntry, BoardReply, Started, Acknowledged, Shown, NoHalt, agreement_in, board_after, call_of, first_board, have_all, reply_of}
+
+-- The configured cores, ascending. [own]
+abbrev pub ids_of : Plan → List CoreId
+ids_of plan = filter (λ id. is_some (core_of plan id)) core_ids
+
+-- The items of a core in the lists of all, the oldest first; none of a core that has no list.
+abbrev pub items_of : List (CoreId × List Item) → CoreId → List Item
+items_of lists id = option_map_or (λ (p : CoreId × List Item). p.1) (find (λ p. same_core p.0 id) lists) []
+
+-- Where a core comes to by its items, by its own view of the configuration.
+abbrev pub history_by : Plan → CoreId → List Item → History
+history_by plan id items = history_from (view_of plan id) [] items
 
 -- The first list is a beginning of the second one.
 abbrev pub IsBeginning : {A : Type 0} → List A → List A → Type 0
@@ -71,10 +84,14 @@ AreAnswered id mode [] (e ∷ es) = ⊥
 AreAnswered id mode (i ∷ is) [] = ⊥
 AreAnswered id mode (i ∷ is) (e ∷ es) = (call_of mode i ≡ Some e.call) × Allows id e.reply i × AreAnswered id mode is es
 
--- A world fits: each core's items do; what one core received from another begins what that one posted; one history of
--- the board replays, in which each core's calls stand once each, in its order.
-pub record Fits (plan : Plan) (stimuli : List CoreStimuli) (w : World) : Type 0 where
-  pub cores : (id : CoreId) → FitsCore plan stimuli id (items_in w id)
-  pub streams : (from to : CoreId) → IsBeginning (received from (history_in plan w to)) (posted to (history_in plan w from))
-  pub board : Replays (first_board plan.master) w.calls
-  pub answers : (id : CoreId) → AreAnswered id (view_of plan id).own.mode (asking (view_of plan id).own.mode (items_in w id)) (calls_by id w.calls)
+-- The lists fit by this one history of the board: each core's items do; what one core received from another begins what
+-- that one posted; the history replays, and in it each core's calls stand once each, in its order.
+pub record FitsBy (plan : Plan) (stimuli : List CoreStimuli) (lists : List (CoreId × List Item)) (calls : List BoardEntry) : Type 0 where
+  pub cores : (id : CoreId) → FitsCore plan stimuli id (items_of lists id)
+  pub streams : (from to : CoreId) → IsBeginning (received from (history_by plan to (items_of lists to))) (posted to (history_by plan from (items_of lists from)))
+  pub board : Replays (first_board plan.master) calls
+  pub answers : (id : CoreId) → AreAnswered id (view_of plan id).own.mode (asking (view_of plan id).own.mode (items_of lists id)) (calls_by id calls)
+
+-- The lists fit: there is such a history.
+abbrev pub Fits : Plan → List CoreStimuli → List (CoreId × List Item) → Type 0
+Fits plan stimuli lists = (calls : List BoardEntry) × FitsBy plan stimuli lists calls

@@ -1,7 +1,8 @@
 pub mod Board
-pub mod Ends
+pub mod Fits
+pub mod Sound
 pub mod World
+pub mod Runs
+pub mod Ends
 pub mod Naming
 pub mod Playing
-pub mod Fits
-pub mod Alone

@@ -18,8 +18,8 @@ use Rattle.osstate.specs.State.{KernelState}
 use Rattle.oskernel.specs.declared.wants.Want.{Want}
 use Rattle.oskernel.specs.Wants.{want_in}
 use Rattle.osworld.specs.declared.boards.Board.{Board}
-use Rattle.osworld.specs.Board.{board_after, start_answer}
-use Rattle.osworld.specs.World.{call_of, going_on, look_named, receiving}
+use Rattle.osworld.specs.Board.{board_after, call_of, start_answer}
+use Rattle.osworld.specs.World.{going_on, look_named, receiving}
 
 -- What `Own`, `Serve` and `Look` name.
 abbrev pub start_named : Plan → Board → CoreId → Item

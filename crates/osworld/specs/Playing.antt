@@ -1,5 +1,5 @@
--- What a listed run holds in memory, beside the world's definition. [own]
-use Rattle.std.specs.Prelude.{◌≡◌, ◌⊎◌, ℕ, ◌*◌, ◌<◌, ◌≤◌, Bool, false, not, IsTrue, List, [], length, drop, take, map}
+-- What a listed run holds in memory, beside the world's definition. Who reads what a run promises needs none of it. [own]
+use Rattle.std.specs.Prelude.{◌≡◌, ℕ, ◌*◌, ◌<◌, ◌≤◌, Bool, not, IsTrue, Some, List, [], length, drop, take, map}
 use Rattle.std.specs.List.{All}
 use Rattle.osbase.specs.declared.references.CoreId.{CoreId}
 use Rattle.osbase.specs.declared.messages.Envelope.{Envelope}
@@ -8,22 +8,21 @@ use Rattle.osbase.specs.declared.turns.Choice.{Choice}
 use Rattle.osbase.specs.declared.turns.CoreStimuli.{CoreStimuli}
 use Rattle.osbase.specs.declared.turns.Report.{Report}
 use Rattle.osbase.specs.declared.turns.TheConstants.{CORES}
-use Rattle.osbase.specs.History.{marks_of, posted, received_count}
+use Rattle.osbase.specs.History.{posted, received_count}
 use Rattle.osbase.specs.Runs.{stimuli_of}
 use Rattle.osmail.specs.Mail.{Mail, box_of}
 use Rattle.osplan.specs.declared.plans.Plan.{Plan}
 use Rattle.osplan.specs.View.{view_of}
 use Rattle.osstate.specs.Does.{Tracks}
+use Rattle.oskernel.specs.Step.{solo}
 use Rattle.osworld.specs.declared.boards.Board.{Board}
 use Rattle.osworld.specs.declared.seats.Seat.{Seat}
 use Rattle.osworld.specs.declared.worlds.World.{World as Run}
-use Rattle.osworld.specs.Alone.{ArePrintedAlone}
-use Rattle.osworld.specs.Fits.{Fits}
-use Rattle.osworld.specs.declared.runs.RunFault.{RunFault}
-use Rattle.osworld.specs.declared.runs.RunFault.TheVariants.{NotBegun, NoMemory}
-use Rattle.osworld.specs.World.{World, board_in, default_turns, first_world, has_ended, history_by, history_in, is_default, is_ended_phase, is_unchanged, round_of, stimulus_count, world, world_from}
+use Rattle.osworld.specs.Fits.{history_by}
+use Rattle.osworld.specs.Runs.{HasAtLeast, default_turns, is_default, is_ended_phase, is_unchanged, round_of}
+use Rattle.osworld.specs.World.{World, board_in, first_world, history_in, stimulus_count, world, world_from}
 
--- The report of a seat, and that of a core which took these items.
+-- The report of a seat.
 abbrev pub report_of : Seat → Report
 report_of seat = record {
   core = seat.id;
@@ -32,22 +31,10 @@ report_of seat = record {
   ended = is_ended_phase seat.kernel.progress.phase;
 }
 
-abbrev pub report_in : Plan → CoreId × List Item → Report
-report_in plan p = record {
-  core = p.0;
-  items = p.1;
-  marks = marks_of (history_by plan p.0 p.1);
-  ended = has_ended plan p;
-}
-
--- The reports of a world: one for each configured core, in ascending order, with its items, the marks that
--- it prints by them alone, and whether it ended.
-abbrev pub reports_of : Plan → World → List Report
-reports_of plan w = map (report_in plan) w.items
-
--- A seat is where its core comes to by the items that it took.
+-- A seat is where its core comes to by the items that it took, each of which could be taken in turn.
 pub record IsSeated (plan : Plan) (stimuli : List CoreStimuli) (seat : Seat) : Type 0 where
   pub tracks : Tracks (view_of plan seat.id) (history_by plan seat.id seat.items.items) [] [] seat.kernel seat.marks.items
+  pub alone : solo (view_of plan seat.id) seat.items.items ≡ Some (history_by plan seat.id seat.items.items)
   pub mode : seat.mode ≡ (view_of plan seat.id).own.mode
   pub left : seat.stimuli.now ≡ drop (stimulus_count seat.items.items) (stimuli_of stimuli seat.id)
 
@@ -100,52 +87,11 @@ pub record IsDefaultPlayed (plan : Plan) (stimuli : List CoreStimuli) (rounds : 
   pub least : IsTrue (is_default plan stimuli rounds)
   pub plays : Plays plan stimuli (world plan stimuli (default_turns plan rounds)) seats mail board
 
--- The default schedule has no fewer rounds than these.
-abbrev pub HasAtLeast : Plan → List CoreStimuli → ℕ → Type 0
-HasAtLeast plan stimuli rounds = (fewer : ℕ) → fewer < rounds → is_default plan stimuli fewer ≡ false
-
 -- Memory was wanting before a turn of the default schedule.
 pub record IsDefaultCutShort (plan : Plan) (stimuli : List CoreStimuli) (seats : List Seat) (mail : Mail) (board : Board) : Type 0 where
   pub rounds : ℕ
   pub goes_on : HasAtLeast plan stimuli rounds
   pub cut : IsCutShort plan stimuli (first_world plan) (default_turns plan rounds) seats mail board
-
--- The reports are those of the world after these turns, which fits; each separate core prints what its
--- configuration alone prints.
-pub record AreReports (plan : Plan) (stimuli : List CoreStimuli) (turns : List (CoreId × Choice)) (reports : List Report) : Type 0 where
-  pub are : reports ≡ reports_of plan (world plan stimuli turns)
-  pub fit : Fits plan stimuli (world plan stimuli turns)
-  pub separate : ArePrintedAlone plan stimuli (world plan stimuli turns)
-
--- A run did not begin, or broke off before one of its turns, and these are the reports of the turns before it.
-abbrev pub IsBrokenOff : Plan → List CoreStimuli → List (CoreId × Choice) → RunFault → Type 0
-IsBrokenOff plan stimuli turns NotBegun = Unit {0}
-IsBrokenOff plan stimuli turns (NoMemory reports) =
-    (before : ℕ) × (before < length turns) × AreReports plan stimuli (take before turns) reports.items
-
--- The same of the turns of the default schedule.
-abbrev pub IsDefaultBrokenOff : Plan → List CoreStimuli → RunFault → Type 0
-IsDefaultBrokenOff plan stimuli NotBegun = Unit {0}
-IsDefaultBrokenOff plan stimuli (NoMemory reports) =
-    (rounds : ℕ) × HasAtLeast plan stimuli rounds × IsBrokenOff plan stimuli (default_turns plan rounds) (NoMemory reports)
-
--- The reports are those of the default schedule, whose rounds are as many as these.
-pub record IsDefaultRun (plan : Plan) (stimuli : List CoreStimuli) (reports : List Report) : Type 0 where
-  pub rounds : ℕ
-  pub least : IsTrue (is_default plan stimuli rounds)
-  pub are : AreReports plan stimuli (default_turns plan rounds) reports
-
--- The turns are those of the default schedule.
-pub record IsDefaultSchedule (plan : Plan) (stimuli : List CoreStimuli) (turns : List (CoreId × Choice)) : Type 0 where
-  pub rounds : ℕ
-  pub least : IsTrue (is_default plan stimuli rounds)
-  pub is : turns ≡ default_turns plan rounds
-
--- The default schedule was not found, since its run broke off, or was not written down.
-abbrev pub HasNoSchedule : Plan → List CoreStimuli → RunFault → Type 0
-HasNoSchedule plan stimuli NotBegun = Unit {0}
-HasNoSchedule plan stimuli (NoMemory reports) =
-    IsDefaultBrokenOff plan stimuli (NoMemory reports) ⊎ IsDefaultRun plan stimuli reports.items
 
 -- What a function that plays turns does, whatever world the run stood for.
 abbrev pub PlaysTurns : List (CoreId × Choice) → Run → Bool → Run → Type 0

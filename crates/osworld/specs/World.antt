@@ -1,9 +1,6 @@
 -- The world: all cores of a configuration, turn by turn. It is the cores' item lists and the board's calls,
 -- and nothing else: where a core stands is read off its own items.
-use Rattle.std.specs.Prelude.{ℕ, zero, suc, ◌+◌, ◌==◌, ◌&&◌, ◌||◌, nat_lt, Bool, true, false, not, if◌then◌else◌, Option, Some, None, is_some, option_map, List, [], ◌∷◌, ◌++◌, length, map, filter, find, slice_get, sum_by}
-use Rattle.std.specs.List.{list_all, flat_map}
-use Rattle.std.specs.Option.{option_map_or}
-use Rattle.osbase.specs.declared.statuses.Status.{Status}
+use Rattle.std.specs.Prelude.{ℕ, suc, ◌+◌, ◌&&◌, nat_lt, Bool, if◌then◌else◌, Option, Some, None, is_some, option_map, List, [], ◌∷◌, ◌++◌, length, map, find, slice_get}
 use Rattle.osbase.specs.declared.statuses.Status.TheVariants.{EOsId}
 use Rattle.osbase.specs.declared.references.CoreId.{CoreId}
 use Rattle.osbase.specs.declared.items.Item.{Item}
@@ -17,24 +14,20 @@ use Rattle.osbase.specs.History.{History, same_core, posted, received_count}
 use Rattle.osbase.specs.Runs.{stimuli_of}
 use Rattle.osbase.specs.declared.turns.TheConstants.{CORES}
 use Rattle.osplan.specs.declared.plans.Plan.{Plan}
-use Rattle.osplan.specs.declared.plans.CoreMode.{CoreMode}
-use Rattle.osplan.specs.View.{View, view_of, core_of, is_configured}
-use Rattle.osbase.specs.Sets.{has_core, core_ids}
+use Rattle.osplan.specs.View.{View, view_of, is_configured}
+use Rattle.osbase.specs.Sets.{has_core}
 use Rattle.osstate.specs.Readings.{phase_at}
 use Rattle.oskernel.specs.declared.wants.Want.{Want}
-use Rattle.oskernel.specs.Step.{takes, history_from, outbox_size}
+use Rattle.oskernel.specs.Step.{takes, outbox_size}
 use Rattle.oskernel.specs.Wants.{want_of}
 use Rattle.osworld.specs.declared.boards.Board.{Board}
-use Rattle.osworld.specs.Board.{BoardCall, StartCore, Enter, MakeReady, Drain, LookAt, LookHalt, BoardEntry, first_board, reply_of, start_answer, board_from, have_all, agreement_in}
+use Rattle.osworld.specs.Board.{BoardCall, BoardEntry, first_board, reply_of, start_answer, board_from, call_of, have_all, agreement_in}
+use Rattle.osworld.specs.Fits.{history_by, ids_of, items_of}
 
 -- The items of each configured core, the oldest first, and the calls of the board that became items. [own]
 pub record World : Type 0 where
   pub items : List (CoreId × List Item)
   pub calls : List BoardEntry
-
--- The configured cores, ascending. [own]
-abbrev pub ids_of : Plan → List CoreId
-ids_of plan = filter (λ id. is_some (core_of plan id)) core_ids
 
 -- At first no configured core has taken anything. [own]
 abbrev pub first_world : Plan → World
@@ -42,10 +35,10 @@ first_world plan = record { items = map (λ (id : CoreId). (id, [])) (ids_of pla
 
 -- The items of a core, and where it stands.
 abbrev pub items_in : World → CoreId → List Item
-items_in w id = option_map_or (λ (p : CoreId × List Item). p.1) (find (λ p. same_core p.0 id) w.items) []
+items_in w id = items_of w.items id
 
 abbrev pub history_in : Plan → World → CoreId → History
-history_in plan w id = history_from (view_of plan id) [] (items_in w id)
+history_in plan w id = history_by plan id (items_in w id)
 
 abbrev pub board_in : Plan → World → Board
 board_in plan w = board_from (first_board plan.master) w.calls
@@ -107,23 +100,6 @@ named plan stimuli w id Own = own_named plan stimuli w id (want_of (view_of plan
 named plan stimuli w id (Serve from) = serve_named plan w id from
 named plan stimuli w id Look = look_named id (board_in plan w) (phase_at (view_of plan id) (history_in plan w id))
 
--- The call of the board by which a core comes to an item, if there is one. [own]
-abbrev pub start_call : CoreId → Status → Option BoardCall
-start_call k EOsId = None
-start_call k status = Some (StartCore k)
-
-abbrev pub call_of : CoreMode → Item → Option BoardCall
-call_of mode Item.On = Some LookAt
-call_of mode (Item.Began k status) = start_call k status
-call_of mode Item.Entered = Some (Enter mode)
-call_of mode (Item.Pass1 agreement) = Some LookAt
-call_of mode Item.Readied = Some MakeReady
-call_of mode (Item.Pass2 cores) = Some LookAt
-call_of mode Item.Drained = Some Drain
-call_of mode Item.PassEnd = Some LookAt
-call_of mode (Item.Last shutdown) = Some LookHalt
-call_of mode item = None
-
 -- The item is appended to its core's list, and its call to the board's.
 abbrev pub with_item : CoreId → Item → List (CoreId × List Item) → List (CoreId × List Item)
 with_item id item [] = []
@@ -158,54 +134,3 @@ world_from plan stimuli w (t ∷ ts) = world_from plan stimuli (turn plan stimul
 
 abbrev pub world : Plan → List CoreStimuli → List (CoreId × Choice) → World
 world plan stimuli turns = world_from plan stimuli (first_world plan) turns
-
--- One round: each core by ascending number serves every other core by ascending number, goes on with its own
--- work, and looks at the board. [own]
-abbrev pub turns_in_round : List CoreId → CoreId → List (CoreId × Choice)
-turns_in_round ids id =
-    map (λ from. (id, Serve from)) (filter (λ from. not (same_core from id)) ids) ++ (id, Own) ∷ (id, Look) ∷ []
-
-abbrev pub round_of : Plan → List (CoreId × Choice)
-round_of plan = flat_map (turns_in_round (ids_of plan)) (ids_of plan)
-
-abbrev pub rounds : ℕ → List (CoreId × Choice) → List (CoreId × Choice)
-rounds zero round = []
-rounds (suc n) round = rounds n round ++ round
-
--- A core has ended.
-abbrev pub is_ended_phase : Phase → Bool
-is_ended_phase Phase.Ended = true
-is_ended_phase p = false
-
--- Where a core comes to by its items.
-abbrev pub history_by : Plan → CoreId → List Item → History
-history_by plan id items = history_from (view_of plan id) [] items
-
-abbrev pub has_ended : Plan → CoreId × List Item → Bool
-has_ended plan p = is_ended_phase (phase_at (view_of plan p.0) (history_by plan p.0 p.1))
-
--- Every started core has ended. [own]
-abbrev pub is_over : Plan → World → Bool
-is_over plan w = list_all (λ (p : CoreId × List Item). not (has_core (board_in plan w).started p.0) || has_ended plan p) w.items
-
--- Turns append items or change nothing, so a world is as it was where it has as many items.
-abbrev pub item_total : World → ℕ
-item_total w = sum_by (λ (p : CoreId × List Item). length p.1) w.items
-
-abbrev pub is_unchanged : World → World → Bool
-is_unchanged old new = item_total old == item_total new
-
--- The default schedule is n whole rounds, for the least n of at least 1 at whose end every started core has ended
--- or in whose last round nothing changed. [own]
-abbrev pub is_default_from : Plan → List CoreStimuli → World → ℕ → Bool
-is_default_from plan stimuli w zero = false
-is_default_from plan stimuli w (suc n) =
-    let next = world_from plan stimuli w (round_of plan) in
-    if is_over plan next || is_unchanged w next then n == 0 else is_default_from plan stimuli next n
-
-abbrev pub is_default : Plan → List CoreStimuli → ℕ → Bool
-is_default plan stimuli n = is_default_from plan stimuli (first_world plan) n
-
--- The turns of the default schedule, which has n rounds.
-abbrev pub default_turns : Plan → ℕ → List (CoreId × Choice)
-default_turns plan n = rounds n (round_of plan)

@@ -2,8 +2,10 @@
 
 ghost use Rattle.std.specs.Prelude.{IsTrue, ◌≡◌, ◌++◌, ◌≤◌, ◌||◌, [], IfOk, IfErr, OnErr, OnOk, true, vec_len, vec_capacity};
 ghost use Rattle.osplan.specs.Limits.{is_within_limits};
-ghost use Rattle.osworld.specs.World.{first_world, ids_of, round_of, rounds as rounds_of, turns_in_round};
-ghost use Rattle.osworld.specs.Playing.{AreReports, HasNoSchedule, IsBegun, IsBrokenOff, IsDefaultBrokenOff, IsDefaultRun, IsDefaultSchedule, IsRound, Plays, PlaysDefault, StopsDefaultShort};
+ghost use Rattle.osworld.specs.Fits.{ids_of};
+ghost use Rattle.osworld.specs.World.{first_world};
+ghost use Rattle.osworld.specs.Runs.{round_of, rounds as rounds_of, turns_in_round, AreReports, HasNoSchedule, IsBrokenOff, IsDefaultBrokenOff, IsDefaultRun, IsDefaultSchedule};
+ghost use Rattle.osworld.specs.Playing.{IsBegun, IsRound, Plays, PlaysDefault, StopsDefaultShort};
 
 use crate::worlds::{World, either};
 use osbase::{CORE_NUMBERS, Choice, CoreId, List, Report, Schedule, Stimuli, Turn};

@@ -9,7 +9,7 @@ ghost use Rattle.osstate.specs.State.{state_of};
 ghost use Rattle.oskernel.specs.Admission.{takes_in};
 ghost use Rattle.oskernel.specs.Step.{after};
 ghost use Rattle.osbase.specs.Runs.{stimuli_of};
-ghost use Rattle.osworld.specs.World.{is_ended_phase};
+ghost use Rattle.osworld.specs.Runs.{is_ended_phase};
 ghost use Rattle.osworld.specs.Naming.{IsPlaced, left_after, named_by};
 ghost use Rattle.oskernel.specs.declared.kernel.TheConstants.{STEP_MARKS};
 

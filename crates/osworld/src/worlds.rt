@@ -9,7 +9,8 @@ ghost use Rattle.osbase.specs.History.{same_core};
 ghost use Rattle.osplan.specs.Limits.{is_within_limits};
 ghost use Rattle.osworld.specs.declared.seats.Seat.{Seat as SeatValue};
 ghost use Rattle.osbase.specs.Sets.{has_core};
-ghost use Rattle.osworld.specs.World.{first_world, is_ended_phase};
+ghost use Rattle.osworld.specs.World.{first_world};
+ghost use Rattle.osworld.specs.Runs.{is_ended_phase};
 
 use crate::boards::Board;
 use crate::naming::{Mailboxes, carry, tell};

@@ -1,5 +1,5 @@
 use Rattle.std.proofs.Common.{◌≡◌}
-use Rattle.osworld.specs.World.{rounds}
+use Rattle.osworld.specs.Runs.{rounds}
 use Rattle.osworld.proofs.runs.repeated.Given as goal
 
 abbrev pub invariant-loop : goal.invariant-loop

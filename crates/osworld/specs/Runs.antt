@@ -1,0 +1,110 @@
+-- What a run of listed turns promises, and the default schedule.
+use Rattle.std.specs.Prelude.{◌≡◌, ◌⊎◌, ℕ, zero, suc, ◌<◌, ◌==◌, ◌||◌, Bool, true, false, not, if◌then◌else◌, IsTrue, List, [], ◌∷◌, ◌++◌, length, map, filter, sum_by, take}
+use Rattle.std.specs.List.{list_all, flat_map}
+use Rattle.osbase.specs.declared.references.CoreId.{CoreId}
+use Rattle.osbase.specs.declared.items.Item.{Item}
+use Rattle.osbase.specs.declared.turns.CoreStimuli.{CoreStimuli}
+use Rattle.osbase.specs.declared.turns.Choice.{Choice}
+use Rattle.osbase.specs.declared.turns.Choice.TheVariants.{Own, Serve, Look}
+use Rattle.osbase.specs.declared.turns.Report.{Report}
+use Rattle.osbase.specs.declared.histories.Phase.{Phase}
+use Rattle.osbase.specs.History.{same_core}
+use Rattle.osbase.specs.Sets.{has_core}
+use Rattle.osplan.specs.declared.plans.Plan.{Plan}
+use Rattle.osplan.specs.View.{view_of}
+use Rattle.osstate.specs.Readings.{phase_at}
+use Rattle.osworld.specs.declared.runs.RunFault.{RunFault}
+use Rattle.osworld.specs.declared.runs.RunFault.TheVariants.{NotBegun, NoMemory}
+use Rattle.osworld.specs.Fits.{history_by, ids_of}
+use Rattle.osworld.specs.Sound.{AreSound, lists_in}
+use Rattle.osworld.specs.World.{World, board_in, first_world, world, world_from}
+
+-- ---- listed turns
+
+-- The reports have the items of the world after these turns, each configured core its whole list; and they are sound.
+pub record AreReports (plan : Plan) (stimuli : List CoreStimuli) (turns : List (CoreId × Choice)) (reports : List Report) : Type 0 where
+  pub items : lists_in reports ≡ (world plan stimuli turns).items
+  pub sound : AreSound plan stimuli reports
+
+-- A run did not begin, or broke off before one of its turns, and these are the reports of the turns before it.
+abbrev pub IsBrokenOff : Plan → List CoreStimuli → List (CoreId × Choice) → RunFault → Type 0
+IsBrokenOff plan stimuli turns NotBegun = Unit {0}
+IsBrokenOff plan stimuli turns (NoMemory reports) =
+    (before : ℕ) × (before < length turns) × AreReports plan stimuli (take before turns) reports.items
+
+-- ---- the default schedule
+
+-- One round: each core by ascending number serves every other core by ascending number, goes on with its own
+-- work, and looks at the board. [own]
+abbrev pub turns_in_round : List CoreId → CoreId → List (CoreId × Choice)
+turns_in_round ids id =
+    map (λ from. (id, Serve from)) (filter (λ from. not (same_core from id)) ids) ++ (id, Own) ∷ (id, Look) ∷ []
+
+abbrev pub round_of : Plan → List (CoreId × Choice)
+round_of plan = flat_map (turns_in_round (ids_of plan)) (ids_of plan)
+
+abbrev pub rounds : ℕ → List (CoreId × Choice) → List (CoreId × Choice)
+rounds zero round = []
+rounds (suc n) round = rounds n round ++ round
+
+-- A core has ended.
+abbrev pub is_ended_phase : Phase → Bool
+is_ended_phase Phase.Ended = true
+is_ended_phase p = false
+
+abbrev pub has_ended : Plan → CoreId × List Item → Bool
+has_ended plan p = is_ended_phase (phase_at (view_of plan p.0) (history_by plan p.0 p.1))
+
+-- Every started core has ended. [own]
+abbrev pub is_over : Plan → World → Bool
+is_over plan w = list_all (λ (p : CoreId × List Item). not (has_core (board_in plan w).started p.0) || has_ended plan p) w.items
+
+-- Turns append items or change nothing, so a world is as it was where it has as many items.
+abbrev pub item_total : World → ℕ
+item_total w = sum_by (λ (p : CoreId × List Item). length p.1) w.items
+
+abbrev pub is_unchanged : World → World → Bool
+is_unchanged old new = item_total old == item_total new
+
+-- The default schedule is n whole rounds, for the least n of at least 1 at whose end every started core has ended
+-- or in whose last round nothing changed. [own]
+abbrev pub is_default_from : Plan → List CoreStimuli → World → ℕ → Bool
+is_default_from plan stimuli w zero = false
+is_default_from plan stimuli w (suc n) =
+    let next = world_from plan stimuli w (round_of plan) in
+    if is_over plan next || is_unchanged w next then n == 0 else is_default_from plan stimuli next n
+
+abbrev pub is_default : Plan → List CoreStimuli → ℕ → Bool
+is_default plan stimuli n = is_default_from plan stimuli (first_world plan) n
+
+-- The turns of the default schedule, which has n rounds.
+abbrev pub default_turns : Plan → ℕ → List (CoreId × Choice)
+default_turns plan n = rounds n (round_of plan)
+
+-- The default schedule has no fewer rounds than these.
+abbrev pub HasAtLeast : Plan → List CoreStimuli → ℕ → Type 0
+HasAtLeast plan stimuli rounds = (fewer : ℕ) → fewer < rounds → is_default plan stimuli fewer ≡ false
+
+-- The same of the turns of the default schedule.
+abbrev pub IsDefaultBrokenOff : Plan → List CoreStimuli → RunFault → Type 0
+IsDefaultBrokenOff plan stimuli NotBegun = Unit {0}
+IsDefaultBrokenOff plan stimuli (NoMemory reports) =
+    (rounds : ℕ) × HasAtLeast plan stimuli rounds × IsBrokenOff plan stimuli (default_turns plan rounds) (NoMemory reports)
+
+-- The reports are those of the default schedule, whose rounds are as many as these.
+pub record IsDefaultRun (plan : Plan) (stimuli : List CoreStimuli) (reports : List Report) : Type 0 where
+  pub rounds : ℕ
+  pub least : IsTrue (is_default plan stimuli rounds)
+  pub are : AreReports plan stimuli (default_turns plan rounds) reports
+
+-- The turns are those of the default schedule.
+pub record IsDefaultSchedule (plan : Plan) (stimuli : List CoreStimuli) (turns : List (CoreId × Choice)) : Type 0 where
+  pub rounds : ℕ
+  pub least : IsTrue (is_default plan stimuli rounds)
+  pub is : turns ≡ default_turns plan rounds
+
+-- The default schedule was not found, since its run broke off, or was not written down.
+abbrev pub HasNoSchedule : Plan → List CoreStimuli → RunFault → Type 0
+HasNoSchedule plan stimuli NotBegun = Unit {0}
+HasNoSchedule plan stimuli (NoMemory reports) =
+    IsDefaultBrokenOff plan stimuli (NoMemory reports) ⊎ IsDefaultRun plan stimuli reports.items
