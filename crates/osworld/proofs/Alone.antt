@@ -1,9 +1,8 @@
 -- Where the items of all cores fit, a separate core prints what its configuration alone prints.
-use Rattle.std.proofs.Common.{◌≡◌, ℕ, ◌+◌, ◌^◌, ◌<◌, ◌≤◌, Bool, true, false, not, ◌||◌, cond, Option, Some, None, is_some, IsTrue, List, [], ◌∷◌, ◌++◌, length, map, inl, inr, refl, sym, ap, subst, ◌∙◌, arith, length-append, unwrap_or}
+use Rattle.std.proofs.Common.{◌≡◌, ◌<◌, Bool, true, false, not, ◌||◌, cond, Option, Some, None, is_some, IsTrue, List, [], ◌∷◌, ◌++◌, map, inl, inr, refl, sym, ap, subst, ◌∙◌, arith, unwrap_or}
 use Rattle.std.specs.List.{list_all}
 use Rattle.std.specs.Option.{option_map_or}
 use Rattle.std.proofs.lemmas.Bool.{and_parts, and_from, false≢true}
-use Rattle.std.proofs.lemmas.List.{length-map}
 use Rattle.osbase.specs.declared.references.CoreId.{CoreId}
 use Rattle.osbase.specs.declared.references.ModeId.{ModeId}
 use Rattle.osbase.specs.declared.items.CoreSet.{CoreSet}
@@ -26,13 +25,13 @@ use Rattle.osplan.proofs.Separating.{SeparateParts, separate-parts}
 use Rattle.osplan.proofs.Starting.{configured-low}
 use Rattle.osplan.proofs.Tests.{all-weaker, find-holds}
 use Rattle.oscall.proofs.Carried.{nobody}
-use Rattle.oskernel.specs.Admission.{are_started_cores, is_stimulus}
+use Rattle.oskernel.specs.Admission.{are_started_cores}
 use Rattle.oskernel.specs.Step.{history_from, solo}
 use Rattle.oskernel.proofs.Carried.{ScriptsAllow}
 use Rattle.oskernel.proofs.Scripts.{other-allow, own-allow}
 use Rattle.oskernel.proofs.Stages.{is_mail}
 use Rattle.oskernel.proofs.Stepping.{alone_view}
-use Rattle.osworld.specs.Sound.{alone_items, ArePrintedAlone, IsAlone, own_agreement}
+use Rattle.osworld.specs.Sound.{AreKnown, alone_items, ArePrintedAlone, IsAlone, own_agreement}
 use Rattle.osworld.specs.Board.{BoardEntry, with_core}
 use Rattle.osworld.specs.Fits.{Fits, FitsBy, IsBeginning, history_by, items_of}
 use Rattle.osworld.proofs.Ahead.{boot_items, Goes, goes-alone, solo-alone}
@@ -67,7 +66,7 @@ only-known v low =
 
 -- ---- the configuration alone
 
-module _ (plan : Plan) (stimuli : List CoreStimuli) (lists : List (CoreId × List Item)) (calls : List BoardEntry) (fits : FitsBy plan stimuli lists calls) (limits : IsTrue (is_within_limits plan)) (id : CoreId) (core : Core) (found : core_of plan id ≡ Some core) (separate : is_separate_core plan core ≡ true) where
+module _ (plan : Plan) (stimuli : List CoreStimuli) (lists : List (CoreId × List Item)) (calls : List BoardEntry) (fits : FitsBy plan stimuli lists calls) (limits : IsTrue (is_within_limits plan)) (known : AreKnown stimuli) (id : CoreId) (core : Core) (found : core_of plan id ≡ Some core) (separate : is_separate_core plan core ≡ true) where
   abbrev v : View
   v = view_of plan id
 
@@ -146,28 +145,28 @@ module _ (plan : Plan) (stimuli : List CoreStimuli) (lists : List (CoreId × Lis
     goes = goes-alone v (id ∷ []) scripts m in_mode no_start (only id) (only-own id low) (items_of lists id) listed
         (record { each = (fits.cores id).alone; no_mail = no_mail; agreed = no_conflict }) ((fits.cores id).begins, (fits.cores id).drains)
 
-    takes_alone : list_all is_stimulus listed ≡ true → length (boot_items m (only id) listed) ≤ 2 ^ 48 → solo (alone_view v (id ∷ [])) (boot_items m (only id) listed) ≡ Some (history_from (alone_view v (id ∷ [])) [] (boot_items m (only id) listed))
-    takes_alone all few =
-        let size : length (map Item.Stim listed ++ Item.Drained ∷ []) ≡ length listed + 1 = length-append (map Item.Stim listed) (Item.Drained ∷ []) ∙ ap (λ (n : ℕ). n + 1) (length-map listed Item.Stim) in
-        solo-alone v (id ∷ []) scripts m in_mode no_start (only id) (only-own id low) (only-known v low) listed all (omega arith)
+    takes_alone : solo (alone_view v (id ∷ [])) (boot_items m (only id) listed) ≡ Some (history_from (alone_view v (id ∷ [])) [] (boot_items m (only id) listed))
+    takes_alone =
+        let few = known.few id in
+        solo-alone v (id ∷ []) scripts m in_mode no_start (only id) (only-own id low) (only-known v low) listed (known.there id) (omega arith)
 
     is_alone : IsAlone plan stimuli id (items_of lists id)
     is_alone = record {
       begins = subst (λ (view : View). IsBeginning (Trace v (items_of lists id)) (Trace view (alone_items plan stimuli id))) (sym view_alone)
           (subst (λ (items : List Item). IsBeginning (Trace v (items_of lists id)) (Trace (alone_view v (id ∷ [])) items)) (sym items_alone) goes.0);
       whole = λ drained. goes.1 drained ∙ ap (Trace (alone_view v (id ∷ []))) (sym items_alone) ∙ ap (λ (view : View). Trace view (alone_items plan stimuli id)) (sym view_alone);
-      alone = λ all few. subst (λ (view : View). solo view (alone_items plan stimuli id) ≡ Some (history_from view [] (alone_items plan stimuli id))) (sym view_alone)
-          (subst (λ (items : List Item). length items ≤ 2 ^ 48 → solo (alone_view v (id ∷ [])) items ≡ Some (history_from (alone_view v (id ∷ [])) [] items)) (sym items_alone) (takes_alone all) few);
+      alone = subst (λ (view : View). solo view (alone_items plan stimuli id) ≡ Some (history_from view [] (alone_items plan stimuli id))) (sym view_alone)
+          (subst (λ (items : List Item). solo (alone_view v (id ∷ [])) items ≡ Some (history_from (alone_view v (id ∷ [])) [] items)) (sym items_alone) takes_alone);
     }
 
 -- Where the items of all cores fit, each separate core is alone.
-pub fits-alone : (plan : Plan) (stimuli : List CoreStimuli) (lists : List (CoreId × List Item)) → Fits plan stimuli lists → IsTrue (is_within_limits plan) → ArePrintedAlone plan stimuli lists
-fits-alone plan stimuli lists fits limits id separate = by (core_of plan id) refl separate
+pub fits-alone : (plan : Plan) (stimuli : List CoreStimuli) (lists : List (CoreId × List Item)) → Fits plan stimuli lists → IsTrue (is_within_limits plan) → AreKnown stimuli → ArePrintedAlone plan stimuli lists
+fits-alone plan stimuli lists fits limits known id separate = by (core_of plan id) refl separate
   where
     by : (o : Option Core) → core_of plan id ≡ o → option_map_or (is_separate_core plan) o false ≡ true → IsAlone plan stimuli id (items_of lists id)
     by None found passes = absurd (false≢true passes)
     by (Some core) found passes = in_mode core.mode refl (separate-parts plan core passes).names
       where
         in_mode : (mode : CoreMode) → core.mode ≡ mode → names_mode mode ≡ true → IsAlone plan stimuli id (items_of lists id)
-        in_mode (Named m) mode is = is_alone plan stimuli lists fits.0 fits.1 limits id core found passes m mode
+        in_mode (Named m) mode is = is_alone plan stimuli lists fits.0 fits.1 limits known id core found passes m mode
         in_mode DontCare mode is = absurd (false≢true is)

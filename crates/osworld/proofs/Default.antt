@@ -18,6 +18,7 @@ use Rattle.osbase.specs.declared.turns.Report.{Report}
 use Rattle.osworld.specs.declared.runs.RunFault.TheVariants.{NoMemory}
 use Rattle.osworld.specs.declared.boards.Board.{Board}
 use Rattle.osworld.specs.declared.seats.Seat.{Seat}
+use Rattle.osworld.specs.Sound.{AreKnown}
 use Rattle.osworld.specs.World.{World, board_in, first_world, world, world_from}
 use Rattle.osworld.specs.Runs.{default_turns, has_ended, is_default, is_default_from, is_ended_phase, is_over, is_unchanged, item_total, round_of, AreReports, IsDefaultBrokenOff, IsDefaultRun, IsDefaultSchedule}
 use Rattle.osworld.specs.Playing.{IsBegun, IsCutShort, IsDefaultCutShort, IsDefaultPlayed, IsPlayed, IsSeated, lists_of, Plays, report_of}
@@ -162,16 +163,16 @@ module _ (plan plan' : Plan) (same : plan' ≡ plan) (stimuli : List CoreStimuli
   played-here : (rounds : ℕ) → ((given : List CoreStimuli) → Plays plan' given (first_world plan') seats mail board → IsDefaultPlayed plan' given rounds seats' mail' board') → IsDefaultPlayed plan stimuli rounds seats' mail' board'
   played-here rounds played = subst (λ (p : Plan). (given : List CoreStimuli) → Plays p given (first_world p) seats mail board → IsDefaultPlayed p given rounds seats' mail' board') same played stimuli begun
 
-  pub default-reported : IsTrue (is_within_limits plan) → (rounds : ℕ) → ((given : List CoreStimuli) → Plays plan' given (first_world plan') seats mail board → IsDefaultPlayed plan' given rounds seats' mail' board') → IsDefaultRun plan stimuli (map report_of seats')
-  default-reported limits rounds played =
+  pub default-reported : IsTrue (is_within_limits plan) → AreKnown stimuli → (rounds : ℕ) → ((given : List CoreStimuli) → Plays plan' given (first_world plan') seats mail board → IsDefaultPlayed plan' given rounds seats' mail' board') → IsDefaultRun plan stimuli (map report_of seats')
+  default-reported limits known rounds played =
       let here = played-here rounds played in
-      record { rounds = rounds; least = here.least; are = reports-played plan limits stimuli (default_turns plan rounds) seats' mail' board' here.plays }
+      record { rounds = rounds; least = here.least; are = reports-played plan limits stimuli known (default_turns plan rounds) seats' mail' board' here.plays }
 
   pub default-scheduled : (rounds : ℕ) (turns : List (CoreId × Choice)) → turns ≡ default_turns plan rounds → ((given : List CoreStimuli) → Plays plan' given (first_world plan') seats mail board → IsDefaultPlayed plan' given rounds seats' mail' board') → IsDefaultSchedule plan stimuli turns
   default-scheduled rounds turns is played = record { rounds = rounds; least = (played-here rounds played).least; is = is }
 
-  pub default-broken_off : IsTrue (is_within_limits plan) → ((given : List CoreStimuli) → Plays plan' given (first_world plan') seats mail board → IsDefaultCutShort plan' given seats' mail' board') → (reports : Vec Report Global) → reports.items ≡ map report_of seats' → IsDefaultBrokenOff plan stimuli (NoMemory reports)
-  default-broken_off limits cut reports are =
+  pub default-broken_off : IsTrue (is_within_limits plan) → AreKnown stimuli → ((given : List CoreStimuli) → Plays plan' given (first_world plan') seats mail board → IsDefaultCutShort plan' given seats' mail' board') → (reports : Vec Report Global) → reports.items ≡ map report_of seats' → IsDefaultBrokenOff plan stimuli (NoMemory reports)
+  default-broken_off limits known cut reports are =
       let here = subst (λ (p : Plan). (given : List CoreStimuli) → Plays p given (first_world p) seats mail board → IsDefaultCutShort p given seats' mail' board') same cut stimuli begun in
       let turns = take here.cut.before (default_turns plan here.rounds) in
-      (here.rounds, here.goes_on, (here.cut.before, here.cut.within, subst (AreReports plan stimuli turns) (sym are) (reports-played plan limits stimuli turns seats' mail' board' here.cut.plays)))
+      (here.rounds, here.goes_on, (here.cut.before, here.cut.within, subst (AreReports plan stimuli turns) (sym are) (reports-played plan limits stimuli known turns seats' mail' board' here.cut.plays)))

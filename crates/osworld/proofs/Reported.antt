@@ -16,7 +16,7 @@ use Rattle.osstate.specs.State.{KernelState}
 use Rattle.osworld.specs.declared.boards.Board.{Board}
 use Rattle.osworld.specs.declared.seats.Seat.{Seat}
 use Rattle.osworld.specs.Fits.{Fits, ids_of}
-use Rattle.osworld.specs.Sound.{IsOwn, lists_in}
+use Rattle.osworld.specs.Sound.{AreKnown, IsOwn, lists_in}
 use Rattle.osworld.specs.World.{World, first_world, with_item, world}
 use Rattle.osworld.specs.Runs.{is_ended_phase, AreReports}
 use Rattle.osworld.specs.Playing.{IsCutShort, IsPlayed, IsSeated, Plays, report_of}
@@ -60,8 +60,8 @@ each-own plan stimuli (s ∷ ss) seated =
     )
 
 -- turns from the beginning
-pub reports-played : (plan : Plan) → IsTrue (is_within_limits plan) → (stimuli : List CoreStimuli) (turns : List (CoreId × Choice)) (seats : List Seat) (mail : Mail) (board : Board) → Plays plan stimuli (world plan stimuli turns) seats mail board → AreReports plan stimuli turns (map report_of seats)
-reports-played plan limits stimuli turns seats mail board plays =
+pub reports-played : (plan : Plan) → IsTrue (is_within_limits plan) → (stimuli : List CoreStimuli) → AreKnown stimuli → (turns : List (CoreId × Choice)) (seats : List Seat) (mail : Mail) (board : Board) → Plays plan stimuli (world plan stimuli turns) seats mail board → AreReports plan stimuli turns (map report_of seats)
+reports-played plan limits stimuli known turns seats mail board plays =
     let lists : lists_in (map report_of seats) ≡ (world plan stimuli turns).items = map-map (λ (r : Report). (r.core, r.items)) report_of seats ∙ sym plays.lists in
     let fits : Fits plan stimuli (lists_in (map report_of seats)) = subst (Fits plan stimuli) (sym lists) (world_fits plan stimuli turns) in
     record {
@@ -70,18 +70,18 @@ reports-played plan limits stimuli turns seats mail board plays =
         cores = sym (map-map (λ (p : CoreId × List Item). p.0) (λ (r : Report). let p : CoreId × List Item = (r.core, r.items) in p) (map report_of seats)) ∙ ap ids lists ∙ ids-world plan stimuli turns;
         own = each-own plan stimuli seats plays.seated;
         fit = fits;
-        separate = fits-alone plan stimuli (lists_in (map report_of seats)) fits limits;
+        separate = fits-alone plan stimuli (lists_in (map report_of seats)) fits limits known;
       };
     }
 
 -- turns that were played from the beginning, and turns before which memory was wanting
-module _ (plan plan' : Plan) (same : plan' ≡ plan) (limits : IsTrue (is_within_limits plan)) (stimuli : List CoreStimuli) (turns : List (CoreId × Choice)) (seats seats' : List Seat) (mail mail' : Mail) (board board' : Board) (begun : Plays plan stimuli (first_world plan) seats mail board) where
+module _ (plan plan' : Plan) (same : plan' ≡ plan) (limits : IsTrue (is_within_limits plan)) (stimuli : List CoreStimuli) (known : AreKnown stimuli) (turns : List (CoreId × Choice)) (seats seats' : List Seat) (mail mail' : Mail) (board board' : Board) (begun : Plays plan stimuli (first_world plan) seats mail board) where
   pub reported-played : (changed : Bool) → ((w : World) → Plays plan' stimuli w seats mail board → IsPlayed plan' stimuli w turns changed seats' mail' board') → AreReports plan stimuli turns (map report_of seats')
   reported-played changed played =
-      reports-played plan limits stimuli turns seats' mail' board'
+      reports-played plan limits stimuli known turns seats' mail' board'
       (subst (λ (p : Plan). (w : World) → Plays p stimuli w seats mail board → IsPlayed p stimuli w turns changed seats' mail' board') same played (first_world plan) begun).plays
 
   pub reported-cut : ((w : World) → Plays plan' stimuli w seats mail board → IsCutShort plan' stimuli w turns seats' mail' board') → (before : ℕ) × (before < length turns) × AreReports plan stimuli (take before turns) (map report_of seats')
   reported-cut cut =
       let short = subst (λ (p : Plan). (w : World) → Plays p stimuli w seats mail board → IsCutShort p stimuli w turns seats' mail' board') same cut (first_world plan) begun in
-      (short.before, short.within, reports-played plan limits stimuli (take short.before turns) seats' mail' board' short.plays)
+      (short.before, short.within, reports-played plan limits stimuli known (take short.before turns) seats' mail' board' short.plays)

@@ -20,6 +20,13 @@ use Rattle.oskernel.specs.Step.{solo}
 use Rattle.osworld.specs.Board.{with_core}
 use Rattle.osworld.specs.Fits.{Fits, IsBeginning, has_drained, history_by, ids_of, items_of}
 
+-- ---- what is given
+
+-- The stimuli are such as there are so far, and of each core no more than it could take. Who plays them sees to it.
+pub record AreKnown (stimuli : List CoreStimuli) : Type 0 where
+  pub there : (id : CoreId) → list_all is_stimulus (stimuli_of stimuli id) ≡ true
+  pub few : (id : CoreId) → length (stimuli_of stimuli id) ≤ 2 ^ 47
+
 -- ---- a report by itself
 
 -- The item ends its core: the end of a shutdown, or a first gate that came to a conflict.
@@ -60,12 +67,11 @@ abbrev pub alone_marks : Plan → List CoreStimuli → CoreId → List Mark
 alone_marks plan stimuli id = marks_of (history_by (cut_of plan id) id (alone_items plan stimuli id))
 
 -- A separate core that took these items prints a beginning of what its configuration alone prints, and all of it once it
--- has drained. By itself it may take each of those items in turn, where each of its stimuli is one that there
--- is so far, and they are no more than a core takes. [own]
+-- has drained. By itself it may take each of those items in turn. [own]
 pub record IsAlone (plan : Plan) (stimuli : List CoreStimuli) (id : CoreId) (items : List Item) : Type 0 where
   pub begins : IsBeginning (marks_of (history_by plan id items)) (alone_marks plan stimuli id)
   pub whole : has_drained items ≡ true → marks_of (history_by plan id items) ≡ alone_marks plan stimuli id
-  pub alone : list_all is_stimulus (stimuli_of stimuli id) ≡ true → length (alone_items plan stimuli id) ≤ 2 ^ 48 → solo (view_of (cut_of plan id) id) (alone_items plan stimuli id) ≡ Some (history_by (cut_of plan id) id (alone_items plan stimuli id))
+  pub alone : solo (view_of (cut_of plan id) id) (alone_items plan stimuli id) ≡ Some (history_by (cut_of plan id) id (alone_items plan stimuli id))
 
 -- Each separate core of these lists is.
 abbrev pub ArePrintedAlone : Plan → List CoreStimuli → List (CoreId × List Item) → Type 0

@@ -3,6 +3,7 @@
 ghost use Rattle.std.specs.Prelude.{IsTrue, ◌≡◌, ◌++◌, ◌≤◌, ◌||◌, [], IfOk, IfErr, OnErr, OnOk, true, vec_len, vec_capacity};
 ghost use Rattle.osplan.specs.Limits.{is_within_limits};
 ghost use Rattle.osworld.specs.Fits.{ids_of};
+ghost use Rattle.osworld.specs.Sound.{AreKnown};
 ghost use Rattle.osworld.specs.World.{first_world};
 ghost use Rattle.osworld.specs.Runs.{round_of, rounds as rounds_of, turns_in_round, AreReports, HasNoSchedule, IsBrokenOff, IsDefaultBrokenOff, IsDefaultRun, IsDefaultSchedule};
 ghost use Rattle.osworld.specs.Playing.{IsBegun, IsRound, Plays, PlaysDefault, StopsDefaultShort};
@@ -33,6 +34,7 @@ pub fn run_world(
     stimuli: &Stimuli,
     turns: &[Turn],
 ) -> Result<Vec<Report>, RunFault>
+    requires { AreKnown stimuli.now }
     ensures world { IfOk result (λ reports. AreReports config.now stimuli.now turns.now reports.items) }
     ensures broken_off { IfErr result (IsBrokenOff config.now stimuli.now turns.now) }
 {
@@ -51,6 +53,7 @@ pub fn run_default(
     config: &Config,
     stimuli: &Stimuli,
 ) -> Result<Vec<Report>, RunFault>
+    requires { AreKnown stimuli.now }
     ensures default { IfOk result (λ reports. IsDefaultRun config.now stimuli.now reports.items) }
     ensures broken_off { IfErr result (IsDefaultBrokenOff config.now stimuli.now) }
 {
@@ -75,6 +78,7 @@ pub fn default_schedule(
     config: &Config,
     stimuli: &Stimuli,
 ) -> Result<Schedule, RunFault>
+    requires { AreKnown stimuli.now }
     ensures default { IfOk result (λ schedule. IsDefaultSchedule config.now stimuli.now schedule) }
     ensures broken_off { IfErr result (HasNoSchedule config.now stimuli.now) }
 {

@@ -18,8 +18,8 @@ returns-in-Ok-repeated c = record {
 
 pub returns-in_default-play_rounds-clause-broken_off : goal.returns-in_default-play_rounds-clause-broken_off
 returns-in_default-play_rounds-clause-broken_off c =
-    inl (default-broken_off c.args.config.now c.in_ok-world.world.config.now c.in_ok-world.ensures.config c.args.stimuli.now _ _ _ _ _ _ c.in_ok-world.ensures.plays c.plan.ensures.limits c.in_default-play_rounds.ensures.err c.finish.result c.finish.ensures)
+    inl (default-broken_off c.args.config.now c.in_ok-world.world.config.now c.in_ok-world.ensures.config c.args.stimuli.now _ _ _ _ _ _ c.in_ok-world.ensures.plays c.plan.ensures.limits c.requires c.in_default-play_rounds.ensures.err c.finish.result c.finish.ensures)
 
 pub returns-clause-broken_off : goal.returns-clause-broken_off
 returns-clause-broken_off c =
-    inr (rw (c.finish-in-Err.ensures) (default-reported c.args.config.now c.in_ok-world.world.config.now c.in_ok-world.ensures.config c.args.stimuli.now _ _ _ _ _ _ c.in_ok-world.ensures.plays c.plan.ensures.limits c.in-Ok-play_rounds.rounds c.in-Ok-play_rounds.ensures.ok))
+    inr (rw (c.finish-in-Err.ensures) (default-reported c.args.config.now c.in_ok-world.world.config.now c.in_ok-world.ensures.config c.args.stimuli.now _ _ _ _ _ _ c.in_ok-world.ensures.plays c.plan.ensures.limits c.requires c.in-Ok-play_rounds.rounds c.in-Ok-play_rounds.ensures.ok))

@@ -1,0 +1,90 @@
+-- The stimuli that a text means are such as there are so far, and of each core not too many.
+use Rattle.std.proofs.Common.{◌≡◌, ℕ, ◌≤◌, ◌^◌, Bool, true, false, nat_le, cond, Option, Some, None, is_some, option_map, Result, Ok, Err, List, [], ◌∷◌, length, refl, sym, ap, subst, ◌∙◌, arith}
+use Rattle.std.specs.List.{list_all}
+use Rattle.std.specs.Option.{option_map_or}
+use Rattle.std.specs.Str.{bytes_eq}
+use Rattle.std.specs.Prelude.{codes, find}
+use Rattle.std.proofs.lemmas.Bool.{and_parts, leb-true}
+use Rattle.std.proofs.lemmas.Option.{option_and_then_some, same_Some}
+use Rattle.osbase.specs.declared.references.CoreId.{CoreId}
+use Rattle.osbase.specs.declared.items.Stimulus.{Stimulus}
+use Rattle.osbase.specs.declared.turns.CoreStimuli.{CoreStimuli}
+use Rattle.osbase.specs.History.{same_core}
+use Rattle.osbase.specs.Runs.{stimuli_of}
+use Rattle.osplan.specs.declared.plans.Plan.{Plan}
+use Rattle.osplan.specs.declared.faults.ConfFault.TheVariants.{Limit, BadStimulus}
+use Rattle.serde_json.specs.Data.{Data}
+use Rattle.serde_json.specs.Read.{read}
+use Rattle.serde_json.specs.Find.{as_str, as_object}
+use Rattle.oskernel.specs.Admission.{is_stimulus}
+use Rattle.osread.specs.Faults.{failing}
+use Rattle.osgiven.specs.Given.{are_stimuli_within, core_named, core_stimuli_of, has_words_within, meaning_by, stimuli_meant, stimuli_of_data, stimuli_of_text, stimuli_tests, stimulus_of}
+use Rattle.osread.specs.Faults.{if_faultless}
+use Rattle.osread.specs.Reading.{each, parts_of}
+use Rattle.osread.specs.Json.{entries}
+use Rattle.osworld.specs.Sound.{AreKnown}
+use Rattle.mcos.specs.declared.faults.Fault.{Fault}
+use Rattle.mcos.specs.Texts.{Means}
+
+-- each element was read
+each-parts : {X Y P : Type 0} (f : X → Option Y) (x : X) (xs : List X) (ys : List Y) → each f (x ∷ xs) ≡ Some ys → ((z : Y) (zs : List Y) → f x ≡ Some z → each f xs ≡ Some zs → ys ≡ z ∷ zs → P) → P
+each-parts {X} {Y} {P} f x xs ys e then = option_and_then_some (λ (y : Y). option_map (λ (zs : List Y). y ∷ zs) (each f xs)) (f x) ys e (λ z first rest. by z first (each f xs) refl rest)
+  where
+    by : (z : Y) → f x ≡ Some z → (o : Option (List Y)) → each f xs ≡ o → option_map (λ (zs : List Y). z ∷ zs) o ≡ Some ys → P
+    by z first None others rest = cc
+    by z first (Some zs) others rest = then z zs first others (sym (same_Some _ _ rest))
+
+known-word : (word : List ℕ) (s : Stimulus) → stimulus_of word ≡ Some s → is_stimulus s ≡ true
+known-word word s = by (bytes_eq word (codes "op"))
+  where
+    by : (b : Bool) → cond b (Some Stimulus.Op) None ≡ Some s → is_stimulus s ≡ true
+    by true e = ap is_stimulus (sym (same_Some _ _ e))
+    by false e = cc
+
+abbrev AreWords : List Stimulus → ℕ → Type 0
+AreWords ss n = (list_all is_stimulus ss ≡ true) × (length ss ≡ n)
+
+known-words : (words : List (List ℕ)) (ss : List Stimulus) → each stimulus_of words ≡ Some ss → AreWords ss (length words)
+known-words [] ss e = subst (λ (xs : List Stimulus). AreWords xs 0) (same_Some _ _ e) (refl, refl)
+known-words (w ∷ ws) ss e = each-parts stimulus_of w ws ss e (λ z zs first others is.
+    let rest = known-words ws zs others in
+    rw is (rw (known-word w z first, rest.0, rest.1) (refl, refl)))
+
+abbrev AreFew : List Stimulus → Type 0
+AreFew ss = (list_all is_stimulus ss ≡ true) × (length ss ≤ 2 ^ 47)
+
+entry-few : (plan : Plan) (entry : List ℕ × Data) (s : CoreStimuli) → has_words_within 100000 entry.1 ≡ true → core_stimuli_of plan entry ≡ Some s → AreFew s.words
+unfolding core_stimuli_of
+entry-few plan entry s within e =
+    option_and_then_some _ (core_named plan entry.0) s e (λ core c e1. option_and_then_some _ (as_str entry.1) s e1 (λ text t e2. option_and_then_some _ (stimuli_of_text text) s e2 (λ words w e3.
+    let known = known-words (parts_of 32 text) words w in
+    let few = leb-true (length (parts_of 32 text)) 100000 (sym (ap (λ (o : Option (List ℕ)). option_map_or (λ (x : List ℕ). nat_le (length (parts_of 32 x)) 100000) o true) t) ∙ within) in
+    subst (λ (x : CoreStimuli). AreFew x.words) (same_Some _ _ e3) (known.0, omega (arith, known.1, few)))))
+
+entries-few : (plan : Plan) (ms : List (List ℕ × Data)) (ss : List CoreStimuli) → list_all (λ (entry : List ℕ × Data). has_words_within 100000 entry.1) ms ≡ true → each (core_stimuli_of plan) ms ≡ Some ss → (id : CoreId) → AreFew (stimuli_of ss id)
+entries-few plan [] ss within e id = subst (λ (xs : List CoreStimuli). AreFew (stimuli_of xs id)) (same_Some _ _ e) (refl, omega arith)
+entries-few plan (m ∷ ms) ss within e id = each-parts (core_stimuli_of plan) m ms ss e (λ z zs first others is.
+    let parts = and_parts (has_words_within 100000 m.1) (list_all (λ (entry : List ℕ × Data). has_words_within 100000 entry.1) ms) within in
+    rw is (by z zs (same_core z.core id) (entry-few plan m z parts.0 first) (entries-few plan ms zs parts.1 others id)))
+  where
+    by : (z : CoreStimuli) (zs : List CoreStimuli) (b : Bool) → AreFew z.words → AreFew (stimuli_of zs id) → AreFew (option_map_or (λ (entry : CoreStimuli). entry.words) (cond b (Some z) (find (λ (entry : CoreStimuli). same_core entry.core id) zs)) [])
+    by z zs true here rest = here
+    by z zs false here rest = rest
+
+known-data : (plan : Plan) (d : Data) (ss : List CoreStimuli) → meaning_by (stimuli_tests plan) (stimuli_of_data plan) d ≡ Some ss → (id : CoreId) → AreFew (stimuli_of ss id)
+known-data plan d ss e id = option_and_then_some (if_faultless (failing (stimuli_tests plan d))) (stimuli_of_data plan d) ss e (λ given is faultless. by given is (are_stimuli_within d) refl faultless)
+  where
+    by : (given : List CoreStimuli) → stimuli_of_data plan d ≡ Some given → (b : Bool) → are_stimuli_within d ≡ b → if_faultless (cond b (cond (is_some (stimuli_of_data plan d)) [] (BadStimulus ∷ [])) (Limit ∷ cond (is_some (stimuli_of_data plan d)) [] (BadStimulus ∷ []))) given ≡ Some ss → AreFew (stimuli_of ss id)
+    by given is false few faultless = cc
+    by given is true few faultless =
+        let same : given ≡ ss = same_Some _ _ (ap (λ (o : Option (List CoreStimuli)). if_faultless (cond (is_some o) [] (BadStimulus ∷ [])) given) (sym is) ∙ faultless) in
+        option_and_then_some _ (as_object d) given is (λ ms object read_each.
+        subst (λ (xs : List CoreStimuli). AreFew (stimuli_of xs id)) same
+        (entries-few plan (entries ms) given (sym (ap (λ o. option_map_or (λ ns. list_all (λ (entry : List ℕ × Data). has_words_within 100000 entry.1) (entries ns)) o true) object) ∙ few) read_each id))
+
+-- The stimuli that a file means for a configuration are.
+pub known-means : (plan : Plan) (file : Result (List ℕ) Fault) (ss : List CoreStimuli) → Means (stimuli_meant plan) file ss → AreKnown ss
+known-means plan (Err fault) ss means = absurd means
+known-means plan (Ok text) ss means =
+    let each_core : (id : CoreId) → AreFew (stimuli_of ss id) = λ id. option_and_then_some (meaning_by (stimuli_tests plan) (stimuli_of_data plan)) (read text) ss means (λ d r m. known-data plan d ss m id) in
+    record { there = λ id. (each_core id).0; few = λ id. (each_core id).1 }
