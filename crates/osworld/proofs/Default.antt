@@ -19,8 +19,8 @@ use Rattle.osworld.specs.declared.runs.RunFault.TheVariants.{NoMemory}
 use Rattle.osworld.specs.declared.boards.Board.{Board}
 use Rattle.osworld.specs.declared.seats.Seat.{Seat}
 use Rattle.osworld.specs.Sound.{AreKnown}
-use Rattle.osworld.specs.World.{World, board_in, first_world, world, world_from}
-use Rattle.osworld.specs.Runs.{default_turns, has_ended, is_default, is_default_from, is_ended_phase, is_over, is_unchanged, item_total, round_of, AreReports, IsDefaultBrokenOff, IsDefaultRun, IsDefaultSchedule}
+use Rattle.osworld.specs.World.{World, board_in, first_world, world, world_from, is_unchanged, item_total}
+use Rattle.osworld.specs.Runs.{default_turns, has_ended, is_default, is_default_from, is_ended_phase, is_over, round_of, AreReports, IsDefaultBrokenOff, IsDefaultRun, IsDefaultSchedule}
 use Rattle.osworld.specs.Playing.{IsBegun, IsCutShort, IsDefaultCutShort, IsDefaultPlayed, IsPlayed, IsSeated, lists_of, Plays, report_of}
 use Rattle.osworld.proofs.Played.{world_from-append, world_from-grows}
 use Rattle.osworld.proofs.Reported.{reports-played}
@@ -134,11 +134,16 @@ module _ (plan : Plan) (stimuli : List CoreStimuli) (next : ℕ) (seats : List S
     cut = record {
       before = length (default_turns plan underway.played) + cut.before;
       within = let lt = cut.within in let all = length-append (default_turns plan underway.played) (round_of plan) in omega arith;
-      plays = subst (λ (w : World). Plays plan stimuli w seats' mail' board')
-          (sym (ap (world plan stimuli) (take-append-add (default_turns plan underway.played) (round_of plan) cut.before) ∙ world_from-append plan stimuli (first_world plan) (default_turns plan underway.played) (take cut.before (round_of plan))))
-          cut.plays;
+      appends = rw (add-assoc, later cut.before, later (cut.before + 1)) cut.appends;
+      plays = rw (later cut.before) cut.plays;
     };
   }
+    where
+      later : (n : ℕ) → world plan stimuli (take (length (default_turns plan underway.played) + n) (default_turns plan (suc underway.played))) ≡ world_from plan stimuli here (take n (round_of plan))
+      later n = ap (world plan stimuli) (take-append-add (default_turns plan underway.played) (round_of plan) n) ∙ world_from-append plan stimuli (first_world plan) (default_turns plan underway.played) (take n (round_of plan))
+
+      add-assoc : (length (default_turns plan underway.played) + cut.before) + 1 ≡ length (default_turns plan underway.played) + (cut.before + 1)
+      add-assoc = omega arith
 
   -- the rounds come to an end, since each of them appends an item
   pub too_many : 2 ^ 63 ≤ next → ⊥
@@ -175,4 +180,4 @@ module _ (plan plan' : Plan) (same : plan' ≡ plan) (stimuli : List CoreStimuli
   default-broken_off limits known cut reports are =
       let here = subst (λ (p : Plan). (given : List CoreStimuli) → Plays p given (first_world p) seats mail board → IsDefaultCutShort p given seats' mail' board') same cut stimuli begun in
       let turns = take here.cut.before (default_turns plan here.rounds) in
-      (here.rounds, here.goes_on, (here.cut.before, here.cut.within, subst (AreReports plan stimuli turns) (sym are) (reports-played plan limits stimuli known turns seats' mail' board' here.cut.plays)))
+      (here.rounds, here.goes_on, (here.cut.before, here.cut.within, here.cut.appends, subst (AreReports plan stimuli turns) (sym are) (reports-played plan limits stimuli known turns seats' mail' board' here.cut.plays)))

@@ -1,5 +1,5 @@
 -- Turn by turn: what was played before, and one turn more.
-use Rattle.std.proofs.Common.{◌≡◌, ℕ, ◌+◌, ◌<◌, ◌≤◌, Bool, true, false, not, ◌||◌, List, [], ◌∷◌, ◌++◌, length, get_or, take, refl, sym, subst, arith, nat_eq}
+use Rattle.std.proofs.Common.{◌≡◌, ℕ, zero, suc, ◌+◌, ◌<◌, ◌≤◌, Bool, true, false, not, ◌||◌, List, [], ◌∷◌, ◌++◌, length, get_or, take, refl, sym, ap, subst, ◌∙◌, arith, nat_eq}
 use Rattle.std.proofs.lemmas.Bool.Decides.{nat_tests}
 use Rattle.std.proofs.lemmas.List.{take_more, take_all}
 use Rattle.osbase.specs.declared.references.CoreId.{CoreId}
@@ -9,8 +9,8 @@ use Rattle.osmail.specs.Mail.{Mail}
 use Rattle.osplan.specs.declared.plans.Plan.{Plan}
 use Rattle.osworld.specs.declared.boards.Board.{Board}
 use Rattle.osworld.specs.declared.seats.Seat.{Seat}
-use Rattle.osworld.specs.World.{World, turn, world_from}
-use Rattle.osworld.specs.Runs.{item_total}
+use Rattle.osworld.specs.World.{World, turn, world_from, item_total, is_unchanged}
+use Rattle.osworld.specs.Runs.{AppendsAt}
 use Rattle.osworld.specs.Playing.{IsCutShort, IsPlayed, Plays}
 use Rattle.osworld.proofs.Listed.{total-push}
 use Rattle.osworld.proofs.Turns.{turns-keep}
@@ -58,13 +58,24 @@ played-more plan plan' same stimuli w turns i d first second seats seats' mail m
     (played-append plan stimuli w (take i turns) (get_or turns i d ∷ []) first second seats seats' mail mail' board board' before
     (subst (λ (p : Plan). (v : World) → Plays p stimuli v seats mail board → IsPlayed p stimuli v (get_or turns i d ∷ []) second seats' mail' board') same next))
 
-pub cut-before : (plan plan' : Plan) → plan' ≡ plan → (stimuli : List CoreStimuli) (w : World) (turns : Turns) (i : ℕ) (changed : Bool) (seats seats' : List Seat) (mail mail' : Mail) (board board' : Board) → i < length turns → IsPlayed plan stimuli w (take i turns) changed seats mail board
-    → ((v : World) → Plays plan' stimuli v seats mail board → Plays plan' stimuli v seats' mail' board') → IsCutShort plan stimuli w turns seats' mail' board'
-cut-before plan plan' same stimuli w turns i changed seats seats' mail mail' board board' lt before kept = record {
-  before = i;
-  within = lt;
-  plays = subst (λ (p : Plan). (v : World) → Plays p stimuli v seats mail board → Plays p stimuli v seats' mail' board') same kept (world_from plan stimuli w (take i turns)) before.plays;
-}
+pub cut-before : (plan plan' : Plan) → plan' ≡ plan → (stimuli : List CoreStimuli) (w : World) (turns : Turns) (i : ℕ) (d : CoreId × Choice) (changed : Bool) (seats seats' : List Seat) (mail mail' : Mail) (board board' : Board) → i < length turns → IsPlayed plan stimuli w (take i turns) changed seats mail board
+    → ((v : World) → Plays plan' stimuli v seats mail board → IsCutShort plan' stimuli v (get_or turns i d ∷ []) seats' mail' board') → IsCutShort plan stimuli w turns seats' mail' board'
+cut-before plan plan' same stimuli w turns i d changed seats seats' mail mail' board board' lt before stops = by cut.before cut.within cut.appends cut.plays
+  where
+    here : World
+    here = world_from plan stimuli w (take i turns)
+
+    cut : IsCutShort plan stimuli here (get_or turns i d ∷ []) seats' mail' board'
+    cut = subst (λ (p : Plan). (v : World) → Plays p stimuli v seats mail board → IsCutShort p stimuli v (get_or turns i d ∷ []) seats' mail' board') same stops here before.plays
+
+    by : (n : ℕ) → n < 1 → AppendsAt plan stimuli here (get_or turns i d ∷ []) n → Plays plan stimuli (world_from plan stimuli here (take n (get_or turns i d ∷ []))) seats' mail' board' → IsCutShort plan stimuli w turns seats' mail' board'
+    by zero first appends plays = record {
+      before = i;
+      within = lt;
+      appends = subst (λ (next : World). is_unchanged here next ≡ false) (sym (ap (world_from plan stimuli w) (take_more turns i d lt) ∙ world_from-append plan stimuli w (take i turns) (get_or turns i d ∷ []))) appends;
+      plays = plays;
+    }
+    by (suc n) later appends plays = absurd (omega (arith, later))
 
 pub played-all : (plan : Plan) (stimuli : List CoreStimuli) (w : World) (turns : Turns) (i : ℕ) (changed : Bool) (seats : List Seat) (mail : Mail) (board : Board) → length turns ≤ i → IsPlayed plan stimuli w (take i turns) changed seats mail board → IsPlayed plan stimuli w turns changed seats mail board
 played-all plan stimuli w turns i changed seats mail board le played = subst (λ (ts : Turns). IsPlayed plan stimuli w ts changed seats mail board) (take_all i turns le) played

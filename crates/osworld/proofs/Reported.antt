@@ -18,7 +18,7 @@ use Rattle.osworld.specs.declared.seats.Seat.{Seat}
 use Rattle.osworld.specs.Fits.{Fits, ids_of}
 use Rattle.osworld.specs.Sound.{AreKnown, IsOwn, lists_in}
 use Rattle.osworld.specs.World.{World, first_world, with_item, world}
-use Rattle.osworld.specs.Runs.{is_ended_phase, AreReports}
+use Rattle.osworld.specs.Runs.{AppendsAt, is_ended_phase, AreReports}
 use Rattle.osworld.specs.Playing.{IsCutShort, IsPlayed, IsSeated, Plays, report_of}
 use Rattle.osworld.proofs.Alone.{fits-alone}
 use Rattle.osworld.proofs.Ending.{ended-by}
@@ -81,7 +81,7 @@ module _ (plan plan' : Plan) (same : plan' ≡ plan) (limits : IsTrue (is_within
       reports-played plan limits stimuli known turns seats' mail' board'
       (subst (λ (p : Plan). (w : World) → Plays p stimuli w seats mail board → IsPlayed p stimuli w turns changed seats' mail' board') same played (first_world plan) begun).plays
 
-  pub reported-cut : ((w : World) → Plays plan' stimuli w seats mail board → IsCutShort plan' stimuli w turns seats' mail' board') → (before : ℕ) × (before < length turns) × AreReports plan stimuli (take before turns) (map report_of seats')
+  pub reported-cut : ((w : World) → Plays plan' stimuli w seats mail board → IsCutShort plan' stimuli w turns seats' mail' board') → (before : ℕ) × (before < length turns) × AppendsAt plan stimuli (first_world plan) turns before × AreReports plan stimuli (take before turns) (map report_of seats')
   reported-cut cut =
       let short = subst (λ (p : Plan). (w : World) → Plays p stimuli w seats mail board → IsCutShort p stimuli w turns seats' mail' board') same cut (first_world plan) begun in
-      (short.before, short.within, reports-played plan limits stimuli known (take short.before turns) seats' mail' board' short.plays)
+      (short.before, short.within, short.appends, reports-played plan limits stimuli known (take short.before turns) seats' mail' board' short.plays)

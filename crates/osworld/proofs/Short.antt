@@ -17,8 +17,7 @@ use Rattle.osstate.specs.State.{state_of}
 use Rattle.oskernel.specs.Admission.{admits}
 use Rattle.oskernel.specs.Step.{after, history_from, outbox_size}
 use Rattle.osworld.specs.Fits.{ids_of}
-use Rattle.osworld.specs.World.{World, appends, first_world, history_in, turn, with_item, world}
-use Rattle.osworld.specs.Runs.{item_total}
+use Rattle.osworld.specs.World.{World, appends, first_world, history_in, turn, with_item, world, item_total}
 use Rattle.oskernel.proofs.Holding.{quiet_after}
 use Rattle.osworld.proofs.Listed.{Lists, is_of, list_of}
 use Rattle.osworld.proofs.Turns.{Appends, turns-keep}

@@ -2,7 +2,7 @@
 use Rattle.std.proofs.Common.{◌≡◌, ℕ, suc, ◌<◌, Bool, true, false, not, Option, Some, None, List, [], ◌∷◌, ◌++◌, length, get_or, set, refl, sym, ap, subst, ◌∙◌, arith, nat_eq, Bor, Result, Ok, Err}
 use Rattle.std.specs.Result.{OnErr}
 use Rattle.std.specs.List.{position, position_or_len}
-use Rattle.std.proofs.lemmas.Bool.{eq-eqb}
+use Rattle.std.proofs.lemmas.Bool.{eq-eqb, not-true}
 use Rattle.std.proofs.lemmas.Bool.Decides.{nat_tests}
 use Rattle.std.proofs.lemmas.List.Elements.{All-get_or, All-set}
 use Rattle.std.proofs.Math.Seq.{map-set_same}
@@ -23,10 +23,9 @@ use Rattle.oskernel.specs.Wants.{front_of}
 use Rattle.osworld.specs.declared.boards.Board.{Board}
 use Rattle.osworld.specs.declared.seats.Seat.{Seat}
 use Rattle.osworld.specs.Fits.{history_by}
-use Rattle.osworld.specs.World.{World, turn}
-use Rattle.osworld.specs.Runs.{is_unchanged, item_total}
+use Rattle.osworld.specs.World.{World, turn, is_unchanged, item_total}
 use Rattle.osworld.specs.Naming.{carried, IsPlaced, left_after, named_by, told}
-use Rattle.osworld.specs.Playing.{IsPlayed, IsSeated, Plays}
+use Rattle.osworld.specs.Playing.{IsCutShort, IsPlayed, IsSeated, Plays}
 use Rattle.osworld.proofs.Listed.{is_seat_of, seat_is_of, seat_nowhere, seat_place}
 use Rattle.osworld.proofs.Turning.{Took, turn-nobody, turn-nothing, turn-refused, turn-taken, turn-appends}
 
@@ -113,6 +112,19 @@ module _ (plan : Plan) (stimuli : List CoreStimuli) (w : World) (seats : List Se
             tells = unchanged-same w (turn plan stimuli w (core, choice)) same;
           }
 
+      changes : takes 64 (view_of plan seat.id) (history_by plan seat.id seat.items.items) item ≡ true → true ≡ not (is_unchanged w (turn plan stimuli w (core, choice)))
+      changes takes_it = subst (λ (c : CoreId). true ≡ not (is_unchanged w (turn plan stimuli w (c, choice)))) at_core
+          (one_more-differs (item_total w) ∙ ap (λ (n : ℕ). not (nat_eq (item_total w) n)) (sym (turn-appends plan stimuli w seats mail board plays choice at seat here within (sym is) item names takes_it)))
+
+      -- there is no room for it
+      pub stopped-short : may ≡ true → (new : Seat) → Keeps seat new → IsCutShort plan stimuli w ((core, choice) ∷ []) (set seats at new) mail board
+      stopped-short taken new keeps = record {
+        before = 0;
+        within = omega arith;
+        appends = not-true (is_unchanged w (turn plan stimuli w (core, choice))) (sym (changes (sym admitted ∙ taken)));
+        plays = kept new keeps;
+      }
+
       -- the core takes it, once there is room
       pub taken-played : may ≡ true → (roomy new : Seat) → Keeps seat roomy → Took roomy new item → IsPlaced mail seat.id item → (front : Option (CoreId × Envelope)) (next_mail : Mail) (next_board : Board) → front ≡ front_of roomy.kernel.border.outbox → next_mail ≡ carried roomy.id front item mail → next_board ≡ told roomy.id roomy.mode item board
           → IsPlayed plan stimuli w ((core, choice) ∷ []) true (set seats at new) next_mail next_board
@@ -122,8 +134,7 @@ module _ (plan : Plan) (stimuli : List CoreStimuli) (w : World) (seats : List Se
             plays = rw (carried_on, told_on, fronts, keeps.id, keeps.mode, keeps.kernel)
                 (subst (λ (c : CoreId). Plays plan stimuli (turn plan stimuli w (c, choice)) (set seats at new) (carried seat.id (front_of seat.kernel.border.outbox) item mail) (told seat.id seat.mode item board)) at_core
                 (turn-taken plan stimuli w seats mail board plays choice at seat here within (sym is) item names new (took_after roomy new keeps took) placed takes_it));
-            tells = subst (λ (c : CoreId). true ≡ not (is_unchanged w (turn plan stimuli w (c, choice)))) at_core
-                (one_more-differs (item_total w) ∙ ap (λ (n : ℕ). not (nat_eq (item_total w) n)) (sym (turn-appends plan stimuli w seats mail board plays choice at seat here within (sym is) item names takes_it)));
+            tells = changes takes_it;
           }
         where
           took_after : (roomy new : Seat) → Keeps seat roomy → Took roomy new item → Took seat new item

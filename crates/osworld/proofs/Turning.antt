@@ -23,8 +23,7 @@ use Rattle.osworld.specs.declared.boards.Board.{Board}
 use Rattle.osworld.specs.declared.seats.Seat.{Seat}
 use Rattle.osworld.specs.Board.{BoardCall, BoardEntry, board_after, board_from, first_board, reply_of, call_of}
 use Rattle.osworld.specs.Fits.{history_by}
-use Rattle.osworld.specs.World.{World, appends, board_in, history_in, items_in, named, stimulus_count, turn, turn_by, with_call, with_item}
-use Rattle.osworld.specs.Runs.{item_total}
+use Rattle.osworld.specs.World.{World, appends, board_in, history_in, items_in, named, stimulus_count, turn, turn_by, with_call, with_item, item_total}
 use Rattle.osworld.specs.Naming.{carried, IsPlaced, left_after, named_by, told}
 use Rattle.osworld.specs.Playing.{IsMail, IsSeated, lists_of, Plays}
 use Rattle.osworld.proofs.Listed.{is_seat_of, items_by, list_of, list_of-nobody, list_of-seat, lists_of-set, history_from-push, total-push}

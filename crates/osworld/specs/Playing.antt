@@ -19,8 +19,8 @@ use Rattle.osworld.specs.declared.boards.Board.{Board}
 use Rattle.osworld.specs.declared.seats.Seat.{Seat}
 use Rattle.osworld.specs.declared.worlds.World.{World as Run}
 use Rattle.osworld.specs.Fits.{history_by}
-use Rattle.osworld.specs.Runs.{HasAtLeast, default_turns, is_default, is_ended_phase, is_unchanged, round_of}
-use Rattle.osworld.specs.World.{World, board_in, first_world, history_in, stimulus_count, world, world_from}
+use Rattle.osworld.specs.Runs.{AppendsAt, HasAtLeast, default_turns, is_default, is_ended_phase, round_of}
+use Rattle.osworld.specs.World.{World, board_in, first_world, history_in, is_unchanged, stimulus_count, world, world_from}
 
 -- The report of a seat.
 abbrev pub report_of : Seat → Report
@@ -68,10 +68,11 @@ pub record IsPlayed (plan : Plan) (stimuli : List CoreStimuli) (w : World) (turn
   pub plays : Plays plan stimuli (world_from plan stimuli w turns) seats mail board
   pub tells : changed ≡ not (is_unchanged w (world_from plan stimuli w turns))
 
--- Memory was wanting before one of the turns, and those before it were played.
+-- Memory was wanting before a turn that appends an item, and those before it were played.
 pub record IsCutShort (plan : Plan) (stimuli : List CoreStimuli) (w : World) (turns : List (CoreId × Choice)) (seats : List Seat) (mail : Mail) (board : Board) : Type 0 where
   pub before : ℕ
   pub within : before < length turns
+  pub appends : AppendsAt plan stimuli w turns before
   pub plays : Plays plan stimuli (world_from plan stimuli w (take before turns)) seats mail board
 
 -- A run was begun and nothing is played yet.
@@ -101,9 +102,6 @@ PlaysTurns turns old changed new =
 abbrev pub StopsShort : List (CoreId × Choice) → Run → Run → Type 0
 StopsShort turns old new =
     (stimuli : List CoreStimuli) (w : World) → StandsFor stimuli w old → IsCutShort old.config.now stimuli w turns new.seats.items new.mail new.board
-
-abbrev pub StandsStill : Run → Run → Type 0
-StandsStill old new = (stimuli : List CoreStimuli) (w : World) → StandsFor stimuli w old → Plays old.config.now stimuli w new.seats.items new.mail new.board
 
 abbrev pub PlaysDefault : Run → ℕ → Run → Type 0
 PlaysDefault old rounds new =

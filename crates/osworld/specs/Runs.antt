@@ -1,5 +1,5 @@
 -- What a run of listed turns promises, and the default schedule.
-use Rattle.std.specs.Prelude.{◌≡◌, ◌⊎◌, ℕ, zero, suc, ◌<◌, ◌==◌, ◌||◌, Bool, true, false, not, if◌then◌else◌, IsTrue, List, [], ◌∷◌, ◌++◌, length, map, filter, sum_by, take}
+use Rattle.std.specs.Prelude.{◌≡◌, ◌⊎◌, ℕ, zero, suc, ◌+◌, ◌<◌, ◌==◌, ◌||◌, Bool, true, false, not, if◌then◌else◌, IsTrue, List, [], ◌∷◌, ◌++◌, length, map, filter, take}
 use Rattle.std.specs.List.{list_all, flat_map}
 use Rattle.osbase.specs.declared.references.CoreId.{CoreId}
 use Rattle.osbase.specs.declared.items.Item.{Item}
@@ -17,7 +17,7 @@ use Rattle.osworld.specs.declared.runs.RunFault.{RunFault}
 use Rattle.osworld.specs.declared.runs.RunFault.TheVariants.{NotBegun, NoMemory}
 use Rattle.osworld.specs.Fits.{history_by, ids_of}
 use Rattle.osworld.specs.Sound.{AreSound, lists_in}
-use Rattle.osworld.specs.World.{World, board_in, first_world, world, world_from}
+use Rattle.osworld.specs.World.{World, board_in, first_world, is_unchanged, world, world_from}
 
 -- ---- listed turns
 
@@ -26,11 +26,18 @@ pub record AreReports (plan : Plan) (stimuli : List CoreStimuli) (turns : List (
   pub items : lists_in reports ≡ (world plan stimuli turns).items
   pub sound : AreSound plan stimuli reports
 
--- A run did not begin, or broke off before one of its turns, and these are the reports of the turns before it.
+-- The turn in this place appends an item.
+abbrev pub AppendsAt : Plan → List CoreStimuli → World → List (CoreId × Choice) → ℕ → Type 0
+AppendsAt plan stimuli w turns at =
+    is_unchanged (world_from plan stimuli w (take at turns)) (world_from plan stimuli w (take (at + 1) turns)) ≡ false
+
+-- A run did not begin, or broke off before a turn that would have appended an item, and these are the reports of the
+-- turns before it.
 abbrev pub IsBrokenOff : Plan → List CoreStimuli → List (CoreId × Choice) → RunFault → Type 0
 IsBrokenOff plan stimuli turns NotBegun = Unit {0}
 IsBrokenOff plan stimuli turns (NoMemory reports) =
-    (before : ℕ) × (before < length turns) × AreReports plan stimuli (take before turns) reports.items
+    (before : ℕ) × (before < length turns) × AppendsAt plan stimuli (first_world plan) turns before
+    × AreReports plan stimuli (take before turns) reports.items
 
 -- ---- the default schedule
 
@@ -58,13 +65,6 @@ has_ended plan p = is_ended_phase (phase_at (view_of plan p.0) (history_by plan 
 -- Every started core has ended. [own]
 abbrev pub is_over : Plan → World → Bool
 is_over plan w = list_all (λ (p : CoreId × List Item). not (has_core (board_in plan w).started p.0) || has_ended plan p) w.items
-
--- Turns append items or change nothing, so a world is as it was where it has as many items.
-abbrev pub item_total : World → ℕ
-item_total w = sum_by (λ (p : CoreId × List Item). length p.1) w.items
-
-abbrev pub is_unchanged : World → World → Bool
-is_unchanged old new = item_total old == item_total new
 
 -- The default schedule is n whole rounds, for the least n of at least 1 at whose end every started core has ended
 -- or in whose last round nothing changed. [own]

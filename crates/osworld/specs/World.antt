@@ -1,6 +1,6 @@
 -- The world: all cores of a configuration, turn by turn. It is the cores' item lists and the board's calls,
 -- and nothing else: where a core stands is read off its own items.
-use Rattle.std.specs.Prelude.{ℕ, suc, ◌+◌, ◌&&◌, nat_lt, Bool, if◌then◌else◌, Option, Some, None, is_some, option_map, List, [], ◌∷◌, ◌++◌, length, map, find, slice_get}
+use Rattle.std.specs.Prelude.{ℕ, suc, ◌+◌, ◌==◌, ◌&&◌, nat_lt, Bool, if◌then◌else◌, Option, Some, None, is_some, option_map, List, [], ◌∷◌, ◌++◌, length, map, find, slice_get, sum_by}
 use Rattle.osbase.specs.declared.statuses.Status.TheVariants.{EOsId}
 use Rattle.osbase.specs.declared.references.CoreId.{CoreId}
 use Rattle.osbase.specs.declared.items.Item.{Item}
@@ -134,3 +134,10 @@ world_from plan stimuli w (t ∷ ts) = world_from plan stimuli (turn plan stimul
 
 abbrev pub world : Plan → List CoreStimuli → List (CoreId × Choice) → World
 world plan stimuli turns = world_from plan stimuli (first_world plan) turns
+
+-- Turns append items or change nothing, so a world is as it was where it has as many items.
+abbrev pub item_total : World → ℕ
+item_total w = sum_by (λ (p : CoreId × List Item). length p.1) w.items
+
+abbrev pub is_unchanged : World → World → Bool
+is_unchanged old new = item_total old == item_total new

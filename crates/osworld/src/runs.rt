@@ -17,7 +17,7 @@ use thiserror::Error;
 /// Why there is no run, or only its beginning.
 #[derive(Debug, Drop, Error)]
 pub enum RunFault {
-    /// Memory was refused before the first turn could be played: there is nothing to report.
+    /// Memory was refused for the cores' seats, the mailboxes, the reports or a round: there is nothing to report.
     #[error("out of memory")]
     NotBegun,
     /// A growth was refused before the turn that needed it. The reports are those of the turns before.
@@ -27,7 +27,8 @@ pub enum RunFault {
 
 /// Plays these turns: the reports are those of the world after them, one for each configured core in
 /// ascending order; its cores' items fit one another, and each separate core prints what its configuration
-/// alone prints. Want of memory comes before the turn whose growth was refused.
+/// alone prints. Want of memory comes before the turn whose growth was refused, which would have appended
+/// an item.
 pub fn run_world(
     alloc: Global,
     config: &Config,

@@ -41,35 +41,35 @@ pub struct Seat<'a> {
 
 impl<'a> Seat<'a> {
     /// The core at the beginning of a run, with room for the items and lines that its stimuli are likely to
-    /// bring, which then need not be moved while they grow.
+    /// bring, which then need not be moved while they grow. Where so much is refused it begins with none.
     pub fn new(
         alloc: Global,
         config: &'a Config,
         id: CoreId,
         mode: CoreMode,
         stimuli: &'a [CoreStimuli],
-    ) -> Result<Self, AllocError>
+    ) -> Self
         requires number { id.number < CORES }
         requires configured { IsSome (core_of config.now id) }
         requires limits { IsTrue (is_within_limits config.now) }
-        ensures kernel { IfOk result (λ seat. seat.kernel ≡ state_of (view_of config.now id) []) }
-        ensures core { IfOk result (λ seat. seat.id ≡ id) }
-        ensures mode { IfOk result (λ seat. seat.mode ≡ mode) }
-        ensures stimuli { IfOk result (λ seat. seat.stimuli.now ≡ stimuli_of stimuli.now id) }
-        ensures items { IfOk result (λ seat. seat.items.items ≡ []) }
-        ensures marks { IfOk result (λ seat. seat.marks.items ≡ []) }
+        ensures kernel { result.kernel ≡ state_of (view_of config.now id) [] }
+        ensures core { result.id ≡ id }
+        ensures mode { result.mode ≡ mode }
+        ensures stimuli { result.stimuli.now ≡ stimuli_of stimuli.now id }
+        ensures items { result.items.items ≡ [] }
+        ensures marks { result.marks.items ≡ [] }
     {
         let stimuli = stimuli_for(stimuli, id);
         let ahead = stimuli.len().saturating_add(STEP_MARKS);
-        Ok(Seat {
+        Seat {
             id,
             mode,
             kernel: Kernel::new(config, id),
             stimuli,
             // A stimulus is taken to bring itself and an envelope, and three lines.
-            items: Vec::with_capacity(alloc, ahead.saturating_mul(2))?,
-            marks: Vec::with_capacity(alloc, ahead.saturating_mul(3))?,
-        })
+            items: roomy(alloc, ahead.saturating_mul(2)),
+            marks: roomy(alloc, ahead.saturating_mul(3)),
+        }
     }
 
     /// The item that a turn of this core names.
@@ -152,5 +152,15 @@ impl<'a> Seat<'a> {
             marks: List::from_vec(marks),
             ended,
         }
+    }
+}
+
+// An empty vector with room for so many, or with none where that is refused.
+fn roomy<T>(alloc: Global, capacity: usize) -> Vec<T>
+    ensures { result.items ≡ [] }
+{
+    match Vec::with_capacity(alloc, capacity) {
+        Ok(roomy) => roomy,
+        Err(_) => Vec::new(alloc),
     }
 }

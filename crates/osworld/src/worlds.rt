@@ -33,7 +33,7 @@ pub struct World<'a> {
 }
 
 impl<'a> World<'a> {
-    ghost use Rattle.osworld.specs.Playing.{Plays, PlaysTurns, StandsStill, StopsShort, report_of};
+    ghost use Rattle.osworld.specs.Playing.{Plays, PlaysTurns, StopsShort, report_of};
 
     /// The world before the first turn, with place for the reports at its end.
     pub fn new(
@@ -52,7 +52,7 @@ impl<'a> World<'a> {
         for number in 0..CORE_NUMBERS {
             let id = CoreId { number };
             if let Some(core) = plan.core(id) {
-                seats.push(Seat::new(alloc, config, id, core.mode, stimuli)?)?;
+                seats.push(Seat::new(alloc, config, id, core.mode, stimuli))?;
             }
         }
         Ok(World {
@@ -87,7 +87,7 @@ impl<'a> World<'a> {
         ensures reports { self.new.reports ≡ self.old.reports }
         ensures len { vec_len self.new.seats ≡ vec_len self.old.seats }
         ensures ok { IfOk result (λ changed. PlaysTurns ((core, choice) ∷ []) self.old changed self.new) }
-        ensures err { OnErr result (StandsStill self.old self.new) }
+        ensures err { OnErr result (StopsShort ((core, choice) ∷ []) self.old self.new) }
     {
         let Some(at) = self.place_of(core) else {
             return Ok(false);

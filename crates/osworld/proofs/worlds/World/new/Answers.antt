@@ -6,21 +6,21 @@ use Rattle.osworld.specs.declared.seats.Seat.{Seat}
 use Rattle.osworld.proofs.Places.{place_by}
 use Rattle.osworld.proofs.Started.{started-all, started-push, started-skip}
 use Rattle.osworld.proofs.worlds.World.new.Goals as goal
-use Rattle.osworld.proofs.worlds.World.new.Goals.{in-Some+in_ok-new+in_ok-push, in_default}
+use Rattle.osworld.proofs.worlds.World.new.Goals.{in-Some+in_ok-push, in_default}
 
 pub loop-number-preserved : goal.loop-number-preserved
 loop-number-preserved c = elim c.match-core.branch [
-  | in-Some+in_ok-new+in_ok-push w ↦ rw (w.seats-is, w.in_ok-push.ensures.items)
-      (started-push c.args.config.now c.plan-plan.result.now c.plan-plan.ensures.value c.args.stimuli.now c.loop-number.seats.items c.loop-number.number w.in_ok-new.field-0 w.in-Some.core.now c.loop-number-test.true w.in-Some.ensures c.loop-number.invariant
-      w.in_ok-new.ensures.core w.in_ok-new.ensures.kernel w.in_ok-new.ensures.mode w.in_ok-new.ensures.stimuli w.in_ok-new.ensures.items w.in_ok-new.ensures.marks)
+  | in-Some+in_ok-push w ↦ rw (w.seats-is, w.in_ok-push.ensures.items)
+      (started-push c.args.config.now c.plan-plan.result.now c.plan-plan.ensures.value c.args.stimuli.now c.loop-number.seats.items c.loop-number.number w.new.result w.in-Some.core.now c.loop-number-test.true w.in-Some.ensures c.loop-number.invariant
+      w.new.ensures.core w.new.ensures.kernel w.new.ensures.mode w.new.ensures.stimuli w.new.ensures.items w.new.ensures.marks)
   | in_default w ↦ rw (w.seats-is)
       (started-skip c.args.config.now c.plan-plan.result.now c.plan-plan.ensures.value c.args.stimuli.now c.loop-number.seats.items c.loop-number.number c.loop-number-test.true w.in_default.ensures c.loop-number.invariant)
 ]
 
 pub returns-clause-plays : goal.returns-clause-plays
 returns-clause-plays c =
-    started-all c.args.config.now c.args.stimuli.now c.loop-number.seats.items c.loop-number.number c.in_ok-new-2.field-0 c.new-3.result c.loop-number.invariant.0 c.loop-number.invariant.1 c.loop-number-test.false c.loop-number.auto.number-end
-    (c.in_ok-new-2.ensures ∙ ap (λ (p : Plan). empty_mail p.cap) c.plan-plan.ensures.value)
+    started-all c.args.config.now c.args.stimuli.now c.loop-number.seats.items c.loop-number.number c.in_ok-new.field-0 c.new-3.result c.loop-number.invariant.0 c.loop-number.invariant.1 c.loop-number-test.false c.loop-number.auto.number-end
+    (c.in_ok-new.ensures ∙ ap (λ (p : Plan). empty_mail p.cap) c.plan-plan.ensures.value)
     (c.new-3.ensures ∙ ap (λ (p : Plan). first_board p.master) c.plan-plan.ensures.value)
 
 pub invariant_of-result : goal.invariant_of-result

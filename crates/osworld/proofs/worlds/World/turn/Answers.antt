@@ -1,6 +1,6 @@
 use Rattle.std.proofs.Common.{Some, ap, refl, sym, ◌∙◌}
 use Rattle.osworld.proofs.Places.{place_by-set}
-use Rattle.osworld.proofs.Turned.{nobody-played, nothing-played, refused-played, taken-played, kept, on_err}
+use Rattle.osworld.proofs.Turned.{nobody-played, nothing-played, refused-played, taken-played, stopped-short, on_err}
 use Rattle.osworld.proofs.worlds.World.turn.Goals as goal
 
 pub returns-in_default-clause-ok : goal.returns-in_default-clause-ok
@@ -23,8 +23,9 @@ returns-then-not-may_take-clause-ok c stimuli w plays =
 pub returns-in_err-make_room-clause-err : goal.returns-in_err-make_room-clause-err
 returns-in_err-make_room-clause-err c =
     on_err c.from_residual.result (λ stimuli w plays.
-    kept c.args.self.now.config.now stimuli w c.args.self.now.seats.items c.args.self.now.mail c.args.self.now.board plays c.args.core c.args.choice c.in-Some.at c.index_mut-seat.result.now
-    (sym c.place_of.ensures.place ∙ c.in-Some.is) c.index_mut-seat.ensures.value
+    stopped-short c.args.self.now.config.now stimuli w c.args.self.now.seats.items c.args.self.now.mail c.args.self.now.board plays c.args.core c.args.choice c.in-Some.at c.index_mut-seat.result.now
+    (sym c.place_of.ensures.place ∙ c.in-Some.is) c.index_mut-seat.ensures.value c.in-Some-named.item (rw (← c.plan.ensures.value) (sym c.named.ensures.value ∙ c.in-Some-named.is))
+    c.may_take.result c.may_take.ensures.reads c.if-not-may_take.false
     c.make_room.new.self (record { id = c.make_room.ensures.id; mode = c.make_room.ensures.mode; left = c.make_room.ensures.stimuli; items = c.make_room.ensures.taken; marks = c.make_room.ensures.printed; kernel = c.make_room.ensures.kernel }))
 
 pub returns-clause-ok : goal.returns-clause-ok
