@@ -82,9 +82,12 @@ known-data plan d ss e id = option_and_then_some (if_faultless (failing (stimuli
         subst (λ (xs : List CoreStimuli). AreFew (stimuli_of xs id)) same
         (entries-few plan (entries ms) given (sym (ap (λ o. option_map_or (λ ns. list_all (λ (entry : List ℕ × Data). has_words_within 100000 entry.1) (entries ns)) o true) object) ∙ few) read_each id))
 
--- The stimuli that a file means for a configuration are.
-pub known-means : (plan : Plan) (file : Result (List ℕ) Fault) (ss : List CoreStimuli) → Means (stimuli_meant plan) file ss → AreKnown ss
-known-means plan (Err fault) ss means = absurd means
-known-means plan (Ok text) ss means =
+-- The stimuli that a text, or a file, means for a configuration are.
+pub known_text : (plan : Plan) (text : List ℕ) (ss : List CoreStimuli) → stimuli_meant plan text ≡ Some ss → AreKnown ss
+known_text plan text ss means =
     let each_core : (id : CoreId) → AreFew (stimuli_of ss id) = λ id. option_and_then_some (meaning_by (stimuli_tests plan) (stimuli_of_data plan)) (read text) ss means (λ d r m. known-data plan d ss m id) in
     record { there = λ id. (each_core id).0; few = λ id. (each_core id).1 }
+
+pub known-means : (plan : Plan) (file : Result (List ℕ) Fault) (ss : List CoreStimuli) → Means (stimuli_meant plan) file ss → AreKnown ss
+known-means plan (Err fault) ss means = absurd means
+known-means plan (Ok text) ss means = known_text plan text ss means

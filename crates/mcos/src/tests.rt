@@ -6,7 +6,9 @@ use crate::jobs::{Job, job_of};
 use crate::performs::{perform, perform_from};
 use crate::sources::{Given, Source};
 use osbase::CoreId;
-use ostrace::{MemorySink, Sink};
+use osconf::{Config, read_config, read_stimuli};
+use ostrace::{MemorySink, Sink, write_reports};
+use osworld::{default_schedule, run_world};
 use std::alloc::{AllocError, Global};
 use std::process::Abort;
 use std::test::Fail;
@@ -277,6 +279,48 @@ fn examples_come_to_their_texts_and_statuses(rt: HostRuntime) -> Result<(), Fail
         assert_eq!(rt; printed.status, example.status);
     }
     Ok(())
+}
+
+#[test]
+fn the_turns_of_the_default_schedule_give_what_the_default_run_gives(
+    rt: HostRuntime,
+) -> Result<(), Fail> {
+    let alloc = rt.alloc();
+    let examples = [
+        (BORDER, r#"{"0":"op op","1":"op op"}"#, BORDER_TRACE),
+        (MUTUAL, r#"{"0":"op op","1":"op op"}"#, MUTUAL_TRACE),
+        (
+            BORDER,
+            "{}",
+            "core 0\nstart 1 E_OK\nhook Startup\nact A\npre A\ncore 1\nhook Startup\nended\n",
+        ),
+    ];
+    for (config, stimuli, trace) in examples.as_slice() {
+        let config = read_config(alloc, config)?;
+        let blocks = blocks_of_default_turns(alloc, &config, stimuli)?;
+        assert_eq!(rt;
+            trace.as_bytes().strip_suffix(b"ended\n"),
+            Some(blocks.as_slice())
+        );
+    }
+    Ok(())
+}
+
+// What the run of the default schedule's turns prints.
+#[tactic(auto, using(crate::proofs::Stimuli::known_text))]
+fn blocks_of_default_turns(alloc: Global, config: &Config, stimuli: &str) -> Result<Vec<u8>, Fail> {
+    let stimuli = read_stimuli(alloc, config, stimuli)?;
+    let turns = default_schedule(alloc, config, &stimuli)
+        .ok()
+        .ok_or("turns")?;
+    let reports = run_world(alloc, config, &stimuli, turns.as_slice())
+        .ok()
+        .ok_or("reports")?;
+    let mut out = MemorySink::new(Vec::new(alloc));
+    write_reports(config, &mut out, reports.as_slice())
+        .ok()
+        .ok_or("blocks")?;
+    Ok(out.bytes)
 }
 
 #[test]
