@@ -1,6 +1,6 @@
 //! Reading a job's files: the configuration, the stimuli, the schedule.
 
-ghost use Rattle.std.specs.Prelude.{◌≡◌, ◌≢◌, ◌≤◌, IfOk, IfErr, length, max};
+ghost use Rattle.std.specs.Prelude.{◌≡◌, ◌≢◌, ◌<◌, ◌≤◌, IfOk, IfErr, length, max};
 ghost use Rattle.std.specs.Result.{result_map_both};
 ghost use Rattle.osplan.specs.declared.faults.ConfFault.TheVariants.{NoMemory};
 ghost use Rattle.osgiven.specs.Given.{schedule_faults, schedule_meant, stimuli_faults, stimuli_meant};
@@ -66,6 +66,7 @@ pub fn schedule_in<S: Source>(
 
 // The text of a file: unreadable is a fault of its own, and bytes that are no text are not JSON.
 fn text_at<'a, S: Source>(source: &'a S, at: usize) -> Result<&'a str, Fault>
+    requires { at < S.count source.now → at < length (S.files source.now) }
     ensures { result_map_both (λ text. text.now) (λ fault. fault) result ≡ text_at (S.files source.now) at }
 {
     match source.bytes(at) {

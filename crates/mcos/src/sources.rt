@@ -26,8 +26,10 @@ pub trait Source {
         ensures keeps { KeepsBelow at (files self.old) (files self.new) }
         ensures known { known self.new ≡ known self.old };
 
-    /// The bytes of the file in this place; `None` where it could not be read, or is not read yet.
+    /// The bytes of the file in this place, which is read already; `None` where it could not be read, or there
+    /// is none.
     fn bytes(&self, at: usize) -> Option<&[u8]>
+        requires { at < count self.now → at < length (files self.now) }
         ensures { option_map (λ bytes. bytes.now) result ≡ bytes_at (files self.now) at };
 }
 
