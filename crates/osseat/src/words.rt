@@ -163,6 +163,7 @@ impl<O: SharedObject> SharedWords<O> {
     {
         self.table.shared.load::<Making<O, W>>(&mut seat.seat, word)
     }
+
     /// A call whose step puts a word in place of another that it expects. The result is the word that was there.
     pub fn compare_exchange<W: Asked<O::Call>>(
         &self,
