@@ -13,13 +13,17 @@ use Rattle.osbase.specs.declared.statuses.Status.TheVariants.{EOk, EOsAccess, EO
 use Rattle.osbase.specs.Words.{status_number}
 use Rattle.osplan.specs.declared.plans.CoreMode.{CoreMode}
 use Rattle.osplan.specs.declared.plans.CoreMode.TheVariants.{Named, DontCare}
+use Rattle.osseat.specs.declared.histories.Entry.{Entry}
+use Rattle.osseat.specs.Histories.{Continues}
 use Rattle.osseat.specs.Views.{IsStep}
+use Rattle.osseat.proofs.Steps.{continues}
 use Rattle.osboard.specs.declared.calls.BoardView.{BoardView}
 use Rattle.osboard.specs.declared.calls.BoardState.{BoardState}
 use Rattle.osboard.specs.declared.calls.BoardCall.{BoardCall}
 use Rattle.osboard.specs.declared.calls.BoardCall.TheVariants.{Start, Enter, MakeReady, Drain, Look, AskHalt, LookHalt}
+use Rattle.osboard.specs.declared.calls.BoardReply.{BoardReply}
 use Rattle.osboard.specs.declared.calls.BoardReply.TheVariants.{Started, Shown, Decided, Halting}
-use Rattle.osboard.specs.Boards.{IsMode, first_board, with_mode, view_after, halt_after, first_asked, board_reply, one_board, start_answer}
+use Rattle.osboard.specs.Boards.{IsMode, ask_halt_call, first_board, with_mode, view_after, halt_after, first_asked, board_after, board_reply, one_board, start_answer}
 use Rattle.osboard.specs.Words.{flags_in, view_in, mode_bits, status_numbered, halt_word, asked_by, halt_in, Stands, answer}
 use Rattle.osboard.proofs.Flags.{flags_stay, flag_comes}
 
@@ -223,3 +227,11 @@ module _ (core : CoreId) (status : Status) (low : core.number < 256) where
       (λ n told ne. ask_told_at n (n == 0) refl told)
       (λ view. refl)
       (λ board n is. ap (λ (h : Option (CoreId × Status)). Decided (first_asked h (core, status))) (sym is))
+
+-- a call of one caller that is answered as the board answers it
+pub goes_on : (old new : BoardState) (e : Entry BoardCall BoardReply) → e.reply ≡ board_reply e.core e.call old → new ≡ board_after e.core e.call old → Continues one_board old e new
+goes_on old new e reply after = continues one_board old new e reply (sym after)
+
+pub asks_on : (old new : BoardState) (core : CoreId) (status : Status) (decided : CoreId × Status) → decided ≡ first_asked old.halt (core, status)
+    → new ≡ board_after core (AskHalt status) old → Continues one_board old (ask_halt_call core status decided) new
+asks_on old new core status decided answer after = goes_on old new (ask_halt_call core status decided) (ap Decided answer) after

@@ -2,7 +2,8 @@
 
 ghost use Rattle.std.specs.Prelude.{◌≡◌, Some};
 ghost use Rattle.osboard.specs.declared.calls.BoardCall.{BoardCall};
-ghost use Rattle.osboard.specs.Boards.{board_after, first_asked, first_board, start_answer, with_core, with_mode};
+ghost use Rattle.osboard.specs.Boards.{ask_halt_call, board_after, drain_call, enter_call, first_asked, first_board, look_call, look_halt_call, one_board, ready_call, start_answer, start_call, with_core, with_mode};
+ghost use Rattle.osseat.specs.Histories.{Continues};
 
 use crate::calls::{BoardState, BoardView, MODES, ModeSet};
 use osbase::{CORES, CoreId, CoreSet, Status};
@@ -49,9 +50,11 @@ impl BoardList {
 
     /// Starts a core, or answers E_OS_STATE for one that is started already and changes nothing
     /// (AUTOSAR SWS OS 4.x, StartCore).
+    #[tactic(auto, using(crate::proofs::Boards::goes_on))]
     pub fn start(&mut self, caller: CoreId, core: CoreId) -> Status
         ensures answer { result ≡ start_answer self.old.view core }
         ensures after { self.new ≡ board_after caller (BoardCall.Start core) self.old }
+        ensures replays { Continues one_board self.old (start_call caller core result) self.new }
     {
         let _ = caller;
         let view = &mut self.state.view;
@@ -61,8 +64,10 @@ impl BoardList {
     }
 
     /// The caller has entered StartOS with this mode.
+    #[tactic(auto, using(crate::proofs::Boards::goes_on))]
     pub fn enter(&mut self, caller: CoreId, mode: CoreMode)
-        ensures { self.new ≡ board_after caller (BoardCall.Enter mode) self.old }
+        ensures after { self.new ≡ board_after caller (BoardCall.Enter mode) self.old }
+        ensures replays { Continues one_board self.old (enter_call caller mode) self.new }
     {
         let view = &mut self.state.view;
         view.entered = with_core(view.entered, caller);
@@ -70,24 +75,30 @@ impl BoardList {
     }
 
     /// The caller is ready.
+    #[tactic(auto, using(crate::proofs::Boards::goes_on))]
     pub fn ready(&mut self, caller: CoreId)
-        ensures { self.new ≡ board_after caller BoardCall.MakeReady self.old }
+        ensures after { self.new ≡ board_after caller BoardCall.MakeReady self.old }
+        ensures replays { Continues one_board self.old (ready_call caller) self.new }
     {
         let view = &mut self.state.view;
         view.ready = with_core(view.ready, caller);
     }
 
     /// The caller has drained.
+    #[tactic(auto, using(crate::proofs::Boards::goes_on))]
     pub fn drain(&mut self, caller: CoreId)
-        ensures { self.new ≡ board_after caller BoardCall.Drain self.old }
+        ensures after { self.new ≡ board_after caller BoardCall.Drain self.old }
+        ensures replays { Continues one_board self.old (drain_call caller) self.new }
     {
         let view = &mut self.state.view;
         view.drained = with_core(view.drained, caller);
     }
 
-    /// The sets.
+    /// The sets, whichever core looks.
+    #[tactic(auto, using(crate::proofs::Boards::goes_on))]
     pub fn look(&self) -> BoardView
-        ensures { result ≡ self.now.view }
+        ensures answer { result ≡ self.now.view }
+        ensures replays { (caller : CoreId) → Continues one_board self.now (look_call caller result) self.now }
     {
         self.state.view
     }
@@ -97,15 +108,19 @@ impl BoardList {
     pub fn ask_halt(&mut self, caller: CoreId, status: Status) -> (CoreId, Status)
         ensures answer { result ≡ first_asked self.old.halt (caller, status) }
         ensures after { self.new ≡ board_after caller (BoardCall.AskHalt status) self.old }
+        ensures replays { Continues one_board self.old (ask_halt_call caller status result) self.new }
     {
         let decided = self.state.halt.unwrap_or((caller, status));
         self.state.halt = Some(decided);
         decided
     }
 
-    /// Who asked first for a shutdown of all cores, and with which status; none where no core has.
+    /// Who asked first for a shutdown of all cores, and with which status; none where no core has. It does not
+    /// matter which core looks.
+    #[tactic(auto, using(crate::proofs::Boards::goes_on))]
     pub fn look_halt(&self) -> Option<(CoreId, Status)>
-        ensures { result ≡ self.now.halt }
+        ensures answer { result ≡ self.now.halt }
+        ensures replays { (caller : CoreId) → Continues one_board self.now (look_halt_call caller result) self.now }
     {
         self.state.halt
     }

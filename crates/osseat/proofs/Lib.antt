@@ -1,4 +1,5 @@
-mod Steps
+pub mod Steps
 mod Moves
 mod Gathers
 pub mod Thins
+pub mod Runs

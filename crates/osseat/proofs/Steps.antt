@@ -13,7 +13,7 @@ use Rattle.osseat.specs.declared.histories.Entry.{Entry}
 use Rattle.osseat.specs.declared.histories.Plan.{Plan}
 use Rattle.osseat.specs.declared.histories.View.{View}
 use Rattle.osseat.specs.Objects.{Object}
-use Rattle.osseat.specs.Histories.{calls_by, entry, state_after, IsLegalFrom, IsLegal}
+use Rattle.osseat.specs.Histories.{Continues, calls_by, entry, state_after, IsLegalFrom, IsLegal}
 use Rattle.osseat.specs.Seats.{has}
 use Rattle.osseat.specs.Views.{AllBegin, Fits, Kept, Calls, Told, made, first_of_cores, IsStep, IsSeated}
 
@@ -87,6 +87,15 @@ module _ {A S C R : Type 0} (o : Object A S C R) where
   pub legal_snoc : (s : S) (log : List (Entry C R)) (e : Entry C R) → IsLegalFrom o s log → e.reply ≡ o.reply e.core e.call (state_after o s log) → IsLegalFrom o s (log ++ e ∷ [])
   legal_snoc s [] e l r = (r, tt)
   legal_snoc s (x ∷ xs) e l r = (l.0, legal_snoc (o.after x.core x.call s) xs e l.1 r)
+
+  -- a call that is answered as the object answers it, and does what it does
+  pub continues : (old new : S) (e : Entry C R) → e.reply ≡ o.reply e.core e.call old → o.after e.core e.call old ≡ new → Continues o old e new
+  continues old new e reply after = record {
+    leads = λ about log l. record {
+      legal = legal_snoc (o.first about) log e l.legal (reply ∙ sym (ap (o.reply e.core e.call) l.state));
+      state = after_snoc (o.first about) log e ∙ (ap (o.after e.core e.call) l.state ∙ after);
+    };
+  }
 
 module _ {A C R : Type 0} (plan : Plan A) where
   -- the view after a call

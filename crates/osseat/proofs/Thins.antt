@@ -1,5 +1,5 @@
 -- Where each core's calls are thinned, one history has what is left of them.
-use Rattle.std.proofs.Common.{◌≡◌, ◌==◌, if◌then◌else◌, List, [], ◌∷◌, sym, refl, ap, ◌∙◌, subst, inl, inr, ⊎_elim, ◌≢◌}
+use Rattle.std.proofs.Common.{◌≡◌, ◌==◌, if◌then◌else◌, List, [], ◌∷◌, ◌++◌, sym, refl, ap, ◌∙◌, subst, inl, inr, ⊎_elim, ◌≢◌}
 use Rattle.std.proofs.lemmas.Bool.{eq-eqb, ne_eqb, cond-true, cond-false, cases_eq}
 use Rattle.osbase.specs.declared.references.CoreId.{CoreId}
 use Rattle.osseat.specs.declared.histories.Entry.{Entry}
@@ -52,6 +52,22 @@ module _ {C R : Type 0} (idle : Entry C R → Type 0) where
       (cases_eq c.number e.core.number)) in
       (l.0, inr (t.0, l.1), l.2))
       (subst (λ x. Thinned idle x (kept e.core)) (own e.core e es refl) (h e.core))
+
+  -- one call more, which counts
+  pub thinned_more : (xs ys : List (Entry C R)) (e : Entry C R) → Thinned idle xs ys → Thinned idle (xs ++ e ∷ []) (ys ++ e ∷ [])
+  thinned_more [] ys e t = inl ([], ap (λ l. l ++ e ∷ []) t, refl)
+  thinned_more (x ∷ xs) ys e t = ⊎_elim
+      (λ u. inl (u.0 ++ e ∷ [], ap (λ l. l ++ e ∷ []) u.1, thinned_more xs u.0 e u.2))
+      (λ u. inr (u.0, thinned_more xs ys e u.1))
+      t
+
+  -- one call more, which may go
+  pub thinned_idle : (xs ys : List (Entry C R)) (e : Entry C R) → idle e → Thinned idle xs ys → Thinned idle (xs ++ e ∷ []) ys
+  thinned_idle [] ys e i t = inr (i, t)
+  thinned_idle (x ∷ xs) ys e i t = ⊎_elim
+      (λ u. inl (u.0, u.1, thinned_idle xs u.0 e i u.2))
+      (λ u. inr (u.0, thinned_idle xs ys e i u.1))
+      t
 
 -- A legal history stays legal without calls that leave the object as it is.
 pub thin_legal : {A S C R : Type 0} (o : Object A S C R) (idle : Entry C R → Type 0)

@@ -1,5 +1,5 @@
 -- Histories of an object: the calls of all cores with their answers, the oldest first. [own; no code keeps one]
-use Rattle.std.specs.Prelude.{◌≡◌, ◌==◌, ◌⊎◌, if◌then◌else◌, List, [], ◌∷◌}
+use Rattle.std.specs.Prelude.{◌≡◌, ◌==◌, ◌⊎◌, if◌then◌else◌, List, [], ◌∷◌, ◌++◌}
 use Rattle.osbase.specs.declared.references.CoreId.{CoreId}
 use Rattle.osseat.specs.declared.histories.Entry.{Entry}
 use Rattle.osseat.specs.Objects.{Object}
@@ -19,6 +19,16 @@ IsLegalFrom o s (e ∷ es) = (e.reply ≡ o.reply e.core e.call s) × IsLegalFro
 
 abbrev pub IsLegal : {A S C R : Type 0} → Object A S C R → A → List (Entry C R) → Type 0
 IsLegal o about log = IsLegalFrom o (o.first about) log
+
+-- A call list that is legal and leads to this state.
+pub record LeadsTo {A S C R : Type 0} (o : Object A S C R) (about : A) (log : List (Entry C R)) (s : S) : Type 0 where
+  pub legal : IsLegal o about log
+  pub state : state_after o (o.first about) log ≡ s
+
+-- A call of the object where one caller plays all cores: each call list that leads to the state before it leads to
+-- the state after it, with the call behind the others.
+pub record Continues {A S C R : Type 0} (o : Object A S C R) (old : S) (e : Entry C R) (new : S) : Type 0 where
+  pub leads : (about : A) (log : List (Entry C R)) → LeadsTo o about log old → LeadsTo o about (log ++ e ∷ []) new
 
 -- The calls of one core, in order.
 abbrev pub calls_by : {C R : Type 0} → CoreId → List (Entry C R) → List (Entry C R)

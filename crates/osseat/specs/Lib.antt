@@ -2,3 +2,4 @@ pub mod Objects
 pub mod Histories
 pub mod Seats
 pub mod Views
+pub mod Runs

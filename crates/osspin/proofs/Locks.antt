@@ -1,18 +1,22 @@
 -- Each of the three kinds of step is one call of one lock.
-use Rattle.std.proofs.Common.{◌≡◌, ◌==◌, ℕ, ◌+◌, ◌-◌, ◌<◌, Bool, true, false, if◌then◌else◌, List, Option, Some, None, set, get_or, sym, refl, ap, ◌∙◌, subst, ⊎_elim, arith, length-set}
+use Rattle.std.proofs.Common.{◌≡◌, ◌==◌, ℕ, ◌+◌, ◌-◌, ◌<◌, Bool, true, false, if◌then◌else◌, List, Option, Some, None, set, slice_set, get_or, sym, refl, ap, ◌∙◌, subst, ⊎_elim, arith, length-set}
 use Rattle.std.proofs.Math.ListN.{get_or-map}
-use Rattle.std.proofs.lemmas.List.{map-set}
+use Rattle.std.proofs.lemmas.List.{map-set, set-get_or}
 use Rattle.std.proofs.lemmas.List.Elements.{All-set}
-use Rattle.std.proofs.lemmas.Bool.{eq-eqb, ne_eqb, cond-true, cond-false, cases_eq, lt-ltb}
+use Rattle.std.proofs.lemmas.Bool.{both_ways, eq-eqb, ne_eqb, cond-true, cond-false, cases_eq, lt-ltb}
 use prog.Atomic.{either}
 use Rattle.osbase.specs.declared.references.CoreId.{CoreId}
 use Rattle.osbase.specs.declared.references.SpinlockId.{SpinlockId}
+use Rattle.osseat.specs.Histories.{Continues}
+use Rattle.osseat.specs.Runs.{AreIdle}
 use Rattle.osseat.specs.Views.{IsStep}
+use Rattle.osseat.proofs.Steps.{continues}
 use Rattle.osspin.specs.declared.calls.TheConstants.{SPINLOCKS}
 use Rattle.osspin.specs.declared.calls.SpinAction.{SpinAction}
 use Rattle.osspin.specs.declared.calls.SpinAction.TheVariants.{Take, Free, Look}
+use Rattle.osspin.specs.declared.calls.SpinReply.{SpinReply}
 use Rattle.osspin.specs.declared.calls.SpinReply.TheVariants.{Answered, Seen}
-use Rattle.osspin.specs.Spins.{holder_of, lock_after, lock_reply, spin_call, spinlocks}
+use Rattle.osspin.specs.Spins.{IsRefusedTry, free_call, holder_of, holders_after, is_free, is_held_by, lock_after, lock_reply, look_call, spin_call, spinlocks, try_take_call}
 use Rattle.osspin.specs.Words.{FitsByte, Stands, answer, answer_to, word_of}
 
 if_fits : (b : Bool) (x y : Option CoreId) → FitsByte x → FitsByte y → FitsByte (if b then x else y)
@@ -89,3 +93,31 @@ take_steps core lock lt small = steps core lock Take (λ n. either (n == 0) (wor
 
 pub free_steps : (core : CoreId) (lock : SpinlockId) → lock.index < SPINLOCKS → core.number < 256 → IsStep spinlocks Stands answer core (spin_call lock Free) lock.index (λ n. either (n == word_of (Some core)) 0 n)
 free_steps core lock lt small = steps core lock Free (λ n. either (n == word_of (Some core)) 0 n) lt small (frees core) (free_replies core)
+
+-- the three calls of one caller
+pub takes_on : (holders new : List (Option CoreId)) (core : CoreId) (lock : SpinlockId) (taken : Bool) → taken ≡ is_free (holder_of holders lock)
+    → new ≡ holders_after core (spin_call lock Take) holders → Continues spinlocks holders (try_take_call core lock taken) new
+takes_on holders new core lock taken answer after = continues spinlocks holders new (try_take_call core lock taken) (ap Answered answer) (sym after)
+
+pub frees_on : (holders new : List (Option CoreId)) (core : CoreId) (lock : SpinlockId) (freed : Bool) → freed ≡ is_held_by core (holder_of holders lock)
+    → new ≡ holders_after core (spin_call lock Free) holders → Continues spinlocks holders (free_call core lock freed) new
+frees_on holders new core lock freed answer after = continues spinlocks holders new (free_call core lock freed) (ap Answered answer) (sym after)
+
+pub looks_on : (holders : List (Option CoreId)) (core : CoreId) (lock : SpinlockId) (seen : Option CoreId) → seen ≡ holder_of holders lock → Continues spinlocks holders (look_call core lock seen) holders
+looks_on holders core lock seen is = continues spinlocks holders holders (look_call core lock seen) (ap Seen is) (set-get_or holders lock.index None)
+
+abbrev granted : SpinReply → Bool
+granted (Answered b) = b
+granted (Seen h) = true
+
+refused_lock : (core : CoreId) (h : Option CoreId) → Answered false ≡ lock_reply core Take h → lock_after core Take h ≡ h
+refused_lock core None e = absurd (both_ways false refl (ap granted e))
+refused_lock core (Some d) e = refl
+
+refused : (core : CoreId) (h : Option CoreId) (action : SpinAction) → action ≡ Take → Answered false ≡ lock_reply core action h → lock_after core action h ≡ h
+refused core h action is = subst (λ (a : SpinAction). Answered false ≡ lock_reply core a h → lock_after core a h ≡ h) (sym is) (refused_lock core h)
+
+-- a refused try leaves the holders
+pub refused_idle : AreIdle spinlocks IsRefusedTry
+refused_idle holders e is reply = let lock = e.call.lock in
+    ap (slice_set holders lock.index) (refused e.core (holder_of holders lock) e.call.action is.0 (sym is.1 ∙ reply)) ∙ set-get_or holders lock.index None

@@ -1,5 +1,5 @@
 -- One spinlock, and all of them.
-use Rattle.std.specs.Prelude.{Bool, true, false, if◌then◌else◌, Option, Some, None, List, replicate, slice_index_or, slice_set}
+use Rattle.std.specs.Prelude.{◌≡◌, Bool, true, false, if◌then◌else◌, Option, Some, None, List, replicate, slice_index_or, slice_set}
 use Rattle.osbase.specs.declared.references.CoreId.{CoreId}
 use Rattle.osbase.specs.declared.references.SpinlockId.{SpinlockId}
 use Rattle.osbase.specs.History.{same_core}
@@ -67,3 +67,7 @@ free_call core lock freed = entry core (spin_call lock Free) (Answered freed)
 
 abbrev pub look_call : CoreId → SpinlockId → Option CoreId → Entry SpinCall SpinReply
 look_call core lock holder = entry core (spin_call lock Look) (Seen holder)
+
+-- A try that was refused. It changes nothing.
+abbrev pub IsRefusedTry : Entry SpinCall SpinReply → Type 0
+IsRefusedTry e = (e.call.action ≡ Take) × (e.reply ≡ Answered false)

@@ -1,7 +1,8 @@
 //! The spinlocks of a listed run, in which one thread plays all cores.
 
 ghost use Rattle.std.specs.Prelude.{◌≡◌, ◌<◌};
-ghost use Rattle.osspin.specs.Spins.{holder_of, holders_after, is_free, is_held_by, no_holders, spin_call};
+ghost use Rattle.osseat.specs.Histories.{Continues};
+ghost use Rattle.osspin.specs.Spins.{free_call, holder_of, holders_after, is_free, is_held_by, look_call, no_holders, spin_call, spinlocks, try_take_call};
 
 use crate::calls::{SPINLOCKS, SpinAction};
 use osbase::{CoreId, SpinlockId};
@@ -36,10 +37,12 @@ impl SpinList {
 
     /// Takes the spinlock for a core if no core holds it, and says whether it did (AUTOSAR SWS OS 4.x,
     /// TryToGetSpinlock). A refusal changes nothing.
+    #[tactic(auto, using(crate::proofs::Locks::takes_on))]
     pub fn try_take(&mut self, core: CoreId, lock: SpinlockId) -> bool
         requires { lock.index < SPINLOCKS }
         ensures answer { result ≡ is_free (holder_of self.old lock) }
         ensures after { self.new ≡ holders_after core (spin_call lock SpinAction.Take) self.old }
+        ensures replays { Continues spinlocks self.old (try_take_call core lock result) self.new }
     {
         let holder = &mut self.holders[usize::from(lock.index)];
         match *holder {
@@ -53,10 +56,12 @@ impl SpinList {
 
     /// Frees the spinlock if the core holds it, and says whether it did (AUTOSAR SWS OS 4.x, ReleaseSpinlock).
     /// A refusal changes nothing.
+    #[tactic(auto, using(crate::proofs::Locks::frees_on))]
     pub fn free(&mut self, core: CoreId, lock: SpinlockId) -> bool
         requires { lock.index < SPINLOCKS }
         ensures answer { result ≡ is_held_by core (holder_of self.old lock) }
         ensures after { self.new ≡ holders_after core (spin_call lock SpinAction.Free) self.old }
+        ensures replays { Continues spinlocks self.old (free_call core lock result) self.new }
     {
         let holder = &mut self.holders[usize::from(lock.index)];
         if is_held_by(core, *holder) {
@@ -66,10 +71,12 @@ impl SpinList {
         false
     }
 
-    /// The core that holds the spinlock.
+    /// The core that holds the spinlock, whichever core looks.
+    #[tactic(auto, using(crate::proofs::Locks::looks_on))]
     pub fn look(&self, lock: SpinlockId) -> Option<CoreId>
         requires { lock.index < SPINLOCKS }
-        ensures { result ≡ holder_of self.now lock }
+        ensures answer { result ≡ holder_of self.now lock }
+        ensures replays { (core : CoreId) → Continues spinlocks self.now (look_call core lock result) self.now }
     {
         self.holders[usize::from(lock.index)]
     }
