@@ -1,18 +1,18 @@
 -- The logs of all workers, from what each did from its seat.
-use Rattle.std.proofs.Common.{◌≡◌, ◌==◌, ◌||◌, ℕ, suc, ◌<◌, true, false, if◌then◌else◌, List, [], ◌∷◌, map, length, get_or, sym, refl, ap, ◌∙◌, subst, ⊎_elim, arith}
+use Rattle.std.proofs.Common.{◌≡◌, ◌==◌, ◌||◌, ℕ, zero, suc, ◌<◌, true, false, if◌then◌else◌, List, [], ◌∷◌, map, length, get_or, sym, refl, ap, ◌∙◌, subst, ⊎_elim, arith}
 use Rattle.std.proofs.lemmas.Bool.{eq-eqb, ne_eqb, cond-true, cond-false, cases_eq, or_left, or_parts, or_right, both_ways}
 use Rattle.osbase.specs.declared.references.CoreId.{CoreId}
 use Rattle.osseat.specs.declared.histories.Entry.{Entry}
 use Rattle.osseat.specs.declared.histories.Plan.{Plan}
 use Rattle.osseat.specs.Objects.{Object}
 use Rattle.osseat.specs.Histories.{Thinned, calls_by}
-use Rattle.osseat.specs.Seats.{AllApart, AllAt, AllStand, Held, IsOneHistory, Place, cores_of, has}
+use Rattle.osseat.specs.Seats.{AllApart, AllAt, AllStand, Held, IsOneHistory, Place, cores_of, fresh, has}
 use Rattle.osseat.specs.Runs.{AreIdle, AreLogged, HasLogs, IsOneRun}
 use Rattle.osseat.proofs.Steps.{has_same, same_core}
 use Rattle.osseat.proofs.Thins.{thin_legal, thins}
 
 -- each worker kept its place and its core
-pub all_kept : {A C R X : Type 0} (seat : X → Held A C R) (p : Place A) (ss : List (Held A C R)) (rs : List X) → length rs ≡ length ss
+all_kept : {A C R X : Type 0} (seat : X → Held A C R) (p : Place A) (ss : List (Held A C R)) (rs : List X) → length rs ≡ length ss
     → ((i : ℕ) (d : X) (e : Held A C R) → i < length ss → ((seat (get_or rs i d)).place ≡ p) × ((seat (get_or rs i d)).core ≡ (get_or ss i e).core))
     → AllAt p (map seat rs) × (cores_of (map seat rs) ≡ cores_of ss)
 all_kept seat p [] [] len h = (tt, refl)
@@ -23,10 +23,36 @@ all_kept seat p (s ∷ ss) (r ∷ rs) len h = let first = h 0 r s (omega arith) 
     ((first.0, rest.0), ap (λ (c : CoreId). c ∷ cores_of (map seat rs)) first.1 ∙ ap (λ l. s.core ∷ l) rest.1)
 
 -- each worker logged its calls
-pub all_logged : {A C R X : Type 0} (idle : Entry C R → Type 0) (seat : X → Held A C R) (log : X → List (Entry C R)) (rs : List X)
-    → ((i : ℕ) (d : X) → i < length rs → Thinned idle (seat (get_or rs i d)).mine (log (get_or rs i d))) → AreLogged idle (map seat rs) (map log rs)
-all_logged idle seat log [] h = tt
-all_logged idle seat log (r ∷ rs) h = (h 0 r (omega arith), all_logged idle seat log rs (λ i d lt. h (suc i) d (omega arith)))
+pub all_logged : {A C R X Y : Type 0} (idle : Entry C R → Type 0) (seat : X → Held A C R) (log : X → Y) (calls : Y → List (Entry C R)) (rs : List X)
+    → ((i : ℕ) (d : X) → i < length rs → Thinned idle (seat (get_or rs i d)).mine (calls (log (get_or rs i d)))) → AreLogged idle (map seat rs) (map calls (map log rs))
+all_logged idle seat log calls [] h = tt
+all_logged idle seat log calls (r ∷ rs) h = (h 0 r (omega arith), all_logged idle seat log calls rs (λ i d lt. h (suc i) d (omega arith)))
+
+module _ {A C R : Type 0} (p : Place A) where
+  abbrev new_seats : List CoreId → List (Held A C R)
+  new_seats cs = map (λ c. fresh p c) cs
+
+  abbrev IsNew : List (Held A C R) → Type 0
+  IsNew ss = (i : ℕ) (d : Held A C R) → i < length ss → ((get_or ss i d).place ≡ p) × ((get_or ss i d).mine ≡ [])
+
+  new_at : (cs : List CoreId) → IsNew (new_seats cs)
+  new_at [] i d lt = absurd (omega arith)
+  new_at (c ∷ cs) zero d lt = (refl, refl)
+  new_at (c ∷ cs) (suc i) d lt = new_at cs i d (omega arith)
+
+  -- the seats of a new object
+  pub all_new : (ss : List (Held A C R)) (cs : List CoreId) → ss ≡ map (λ c. fresh p c) cs → IsNew ss
+  all_new ss cs is = subst IsNew (sym is) (new_at cs)
+
+  new_cores : (cs : List CoreId) (ss : List (Held A C R)) → ss ≡ map (λ c. fresh p c) cs → cores_of ss ≡ cs
+  new_cores [] ss is = ap cores_of is
+  new_cores (c ∷ cs) ss is = ap cores_of is ∙ ap (λ l. c ∷ l) (new_cores cs (new_seats cs) refl)
+
+-- the seats of a new object, after the workers
+pub kept : {A C R X : Type 0} (seat : X → Held A C R) (p : Place A) (cs : List CoreId) (ss : List (Held A C R)) (rs : List X) → ss ≡ map (λ c. fresh p c) cs → length rs ≡ length ss
+    → ((i : ℕ) (d : X) (e : Held A C R) → i < length ss → ((seat (get_or rs i d)).place ≡ p) × ((seat (get_or rs i d)).core ≡ (get_or ss i e).core))
+    → AllAt p (map seat rs) × (cores_of (map seat rs) ≡ cs)
+kept seat p cs ss rs is len h = let r = all_kept seat p ss rs len h in (r.0, r.1 ∙ new_cores p cs ss is)
 
 module _ {A C R : Type 0} (idle : Entry C R → Type 0) where
   -- the log of a core

@@ -54,20 +54,28 @@ module _ {C R : Type 0} (idle : Entry C R → Type 0) where
       (subst (λ x. Thinned idle x (kept e.core)) (own e.core e es refl) (h e.core))
 
   -- one call more, which counts
-  pub thinned_more : (xs ys : List (Entry C R)) (e : Entry C R) → Thinned idle xs ys → Thinned idle (xs ++ e ∷ []) (ys ++ e ∷ [])
+  thinned_more : (xs ys : List (Entry C R)) (e : Entry C R) → Thinned idle xs ys → Thinned idle (xs ++ e ∷ []) (ys ++ e ∷ [])
   thinned_more [] ys e t = inl ([], ap (λ l. l ++ e ∷ []) t, refl)
   thinned_more (x ∷ xs) ys e t = ⊎_elim
       (λ u. inl (u.0 ++ e ∷ [], ap (λ l. l ++ e ∷ []) u.1, thinned_more xs u.0 e u.2))
       (λ u. inr (u.0, thinned_more xs ys e u.1))
       t
 
+  -- one call more, which is logged
+  pub logged : (xs ys more log : List (Entry C R)) (e f : Entry C R) → Thinned idle xs ys → more ≡ xs ++ e ∷ [] → log ≡ ys ++ f ∷ [] → f ≡ e → Thinned idle more log
+  logged xs ys more log e f t m l is = subst (λ k. Thinned idle k log) (sym m) (subst (λ k. Thinned idle (xs ++ e ∷ []) k) (sym (l ∙ ap (λ x. ys ++ x ∷ []) is)) (thinned_more xs ys e t))
+
   -- one call more, which may go
-  pub thinned_idle : (xs ys : List (Entry C R)) (e : Entry C R) → idle e → Thinned idle xs ys → Thinned idle (xs ++ e ∷ []) ys
+  thinned_idle : (xs ys : List (Entry C R)) (e : Entry C R) → idle e → Thinned idle xs ys → Thinned idle (xs ++ e ∷ []) ys
   thinned_idle [] ys e i t = inr (i, t)
   thinned_idle (x ∷ xs) ys e i t = ⊎_elim
       (λ u. inl (u.0, u.1, thinned_idle xs u.0 e i u.2))
       (λ u. inr (u.0, thinned_idle xs ys e i u.1))
       t
+
+  -- one call more, which is not
+  pub unlogged : (xs ys more log : List (Entry C R)) (e : Entry C R) → Thinned idle xs ys → idle e → more ≡ xs ++ e ∷ [] → log ≡ ys → Thinned idle more log
+  unlogged xs ys more log e t i m l = subst (λ k. Thinned idle k log) (sym m) (subst (λ k. Thinned idle (xs ++ e ∷ []) k) (sym l) (thinned_idle xs ys e i t))
 
 -- A legal history stays legal without calls that leave the object as it is.
 pub thin_legal : {A S C R : Type 0} (o : Object A S C R) (idle : Entry C R → Type 0)

@@ -1,81 +1,201 @@
-ghost use Rattle.std.specs.Prelude.{◌≡◌, ◌<◌, All, IfOk};
+ghost use Rattle.std.specs.Prelude.{◌≡◌, ◌<◌, [], ℕ, All, IfOk, IfSome, map, slice_index_or, vec_len};
+ghost use Rattle.osseat.specs.Histories.{Thinned};
+ghost use Rattle.osseat.specs.Runs.{IsOneRun};
+ghost use Rattle.osseat.specs.Seats.{AllApart};
 ghost use Rattle.osspin.specs.declared.calls.TheConstants.{SPINLOCKS};
+ghost use Rattle.osspin.specs.Spins.{IsRefusedTry, spinlocks};
 
-use crate::{SPINLOCKS, SpinBank, SpinList, SpinSeat};
+use crate::{SPINLOCKS, SpinAction, SpinBank, SpinCall, SpinList, SpinReply, SpinSeat};
 use osbase::{CoreId, List, SpinlockId};
+use osseat::Entry;
 use std::alloc::{AllocError, Global};
 use std::test::Fail;
 use std::thread;
 use std::thread::Threads;
 
-// Spinlocks for four of the cores that there may be.
-fn four_seats(alloc: Global) -> Result<(SpinBank, Vec<SpinSeat>), AllocError>
-    ensures { IfOk result (λ r. All (λ s. s.place ≡ r.0) r.1.items) }
-{
-    let mut cores = List::new(alloc);
-    cores.push(CoreId { number: 0 })?;
-    cores.push(CoreId { number: 1 })?;
-    cores.push(CoreId { number: 5 })?;
-    cores.push(CoreId { number: 7 })?;
-    SpinBank::new(alloc, cores)
+type SpinEntry = Entry<SpinCall, SpinReply>;
+
+// What a worker wants of the spinlocks.
+trait Wish {
+    // The spinlock that it takes next; none where it has taken all that it wants.
+    fn wanted(&self) -> Option<SpinlockId>
+        ensures { IfSome result (λ lock. lock.index < SPINLOCKS) };
+
+    // It was granted the spinlock, and has freed it.
+    fn granted(&mut self);
 }
 
-// How often a worker took a spinlock, and how often it then saw itself as its holder and freed it.
-#[derive(Clone, Copy, Debug, PartialEq, Eq)]
-struct Work {
-    taken: u32,
-    kept: u32,
+// Each spinlock in turn, this often.
+#[derive(Clone, Copy)]
+struct Rounds {
+    lock: u8,
+    left: u32,
+    ghost known: { lock < SPINLOCKS },
 }
 
-// Takes and frees a spinlock until it was taken this often, or was tried very often.
-fn take_and_free(bank: &SpinBank, mut seat: SpinSeat, lock: SpinlockId, times: u32) -> Work
-    requires place { seat.place ≡ bank.now }
-    requires lock { lock.index < SPINLOCKS }
-{
-    let mut work = Work { taken: 0, kept: 0 };
-    for _ in 0..100_000_000 {
-        if work.taken >= times {
-            break;
+impl Wish for Rounds {
+    fn wanted(&self) -> Option<SpinlockId>
+        ensures { IfSome result (λ lock. lock.index < SPINLOCKS) }
+    {
+        if self.left == 0 {
+            return None;
         }
-        if bank.try_take(&mut seat, lock) {
-            work.taken += 1;
-            let holder = bank.look(&mut seat, lock);
-            if bank.free(&mut seat, lock) && holder == Some(seat.core()) {
-                work.kept = work.kept.wrapping_add(1);
-            }
+        Some(SpinlockId { index: self.lock })
+    }
+
+    fn granted(&mut self) {
+        self.lock = (self.lock + 1) % 16;
+        if self.lock == 0 {
+            self.left = self.left.saturating_sub(1);
+        }
+    }
+}
+
+// What a worker hands back: its seat, and its calls but the tries that were refused.
+#[derive(Drop)]
+struct Run {
+    seat: SpinSeat,
+    log: Vec<SpinEntry>,
+}
+
+// Tries for a spinlock. If it is granted, looks who holds it, frees it, and says so.
+fn visit(bank: &SpinBank, run: &mut Run, lock: SpinlockId) -> bool
+    requires place { run.old.seat.place ≡ bank.now }
+    requires lock { lock.index < SPINLOCKS }
+    requires log { Thinned IsRefusedTry run.old.seat.mine run.old.log.items }
+    ensures place { run.new.seat.place ≡ run.old.seat.place }
+    ensures core { run.new.seat.core ≡ run.old.seat.core }
+    ensures log { Thinned IsRefusedTry run.new.seat.mine run.new.log.items }
+{
+    let core = run.seat.core();
+    if run.log.reserve(3).is_err() {
+        return false;
+    }
+    if !bank.try_take(&mut run.seat, lock) {
+        return false;
+    }
+    let taken = SpinReply::Answered(true);
+    run.log
+        .push_reserved(entry(core, lock, SpinAction::Take, taken));
+    let holder = bank.look(&mut run.seat, lock);
+    run.log.push_reserved(entry(core, lock, SpinAction::Look, SpinReply::Seen(holder)));
+    let freed = bank.free(&mut run.seat, lock);
+    run.log.push_reserved(entry(core, lock, SpinAction::Free, SpinReply::Answered(freed)));
+    true
+}
+
+fn entry(core: CoreId, lock: SpinlockId, action: SpinAction, reply: SpinReply) -> SpinEntry
+    ensures { result ≡ record { core = core; call = record { lock = lock; action = action }; reply = reply } }
+{
+    Entry {
+        core,
+        call: SpinCall { lock, action },
+        reply,
+    }
+}
+
+// Takes and frees the spinlocks that are wanted, or tries very often.
+fn work<W: Wish + Drop>(bank: &SpinBank, alloc: Global, seat: SpinSeat, mut wish: W) -> Run
+    requires place { seat.place ≡ bank.now }
+    requires fresh { seat.mine ≡ [] }
+    ensures place { result.seat.place ≡ bank.now }
+    ensures core { result.seat.core ≡ seat.core }
+    ensures log { Thinned IsRefusedTry result.seat.mine result.log.items }
+{
+    let mut run = Run {
+        seat,
+        log: Vec::new(alloc),
+    };
+    for _ in 0..100_000_000 {
+        let Some(lock) = wish.wanted() else {
+            break;
+        };
+        if visit(bank, &mut run, lock) {
+            wish.granted();
         } else {
             thread::yield_now();
         }
     }
-    work
+    run
 }
-
 // Each seat goes to a thread of its own.
 fn share<R: Threads + Sync>(
     rt: &R,
     bank: &SpinBank,
+    alloc: Global,
     seats: Vec<SpinSeat>,
-    lock: SpinlockId,
-) -> Result<Vec<Work>, AllocError>
-    requires places { All (λ s. s.place ≡ bank.now) seats.items }
-    requires lock { lock.index < SPINLOCKS }
+) -> Result<Vec<Run>, AllocError>
+    requires { All (λ s. (s.place ≡ bank.now) × (s.mine ≡ [])) seats.items }
+    ensures len { IfOk result (λ runs. vec_len runs ≡ vec_len seats) }
+    ensures each { IfOk result (λ runs. (i : ℕ) (d e : _) → i < vec_len seats → ((slice_index_or runs.items i d).seat.place ≡ bank.now) × ((slice_index_or runs.items i d).seat.core ≡ (slice_index_or seats.items i e).core) × Thinned IsRefusedTry (slice_index_or runs.items i d).seat.mine (slice_index_or runs.items i d).log.items) }
 {
-    thread::map_vec(rt, seats, &|seat| take_and_free(bank, seat, lock, 100))
+    let rounds = Rounds { lock: 0, left: 100 };
+    thread::map_vec(rt, seats, &|seat| work(bank, alloc, seat, rounds))
+}
+
+// The seats and the logs.
+fn part(alloc: Global, runs: Vec<Run>) -> Result<(Vec<SpinSeat>, Vec<Vec<SpinEntry>>), AllocError>
+    ensures seats { IfOk result (λ r. r.0.items ≡ map (λ run. run.seat) runs.items) }
+    ensures logs { IfOk result (λ r. r.1.items ≡ map (λ run. run.log) runs.items) }
+{
+    let mut seats = Vec::new(alloc);
+    let mut logs = Vec::new(alloc);
+    for run in runs {
+        let Run { seat, log } = run;
+        seats.push(seat)?;
+        logs.push(log)?;
+    }
+    Ok((seats, logs))
+}
+
+// A worker for each core, each on a thread of its own. One history is legal and has the calls of all logs, and
+// no others.
+fn run_all<R: Threads + Sync>(
+    rt: &R,
+    alloc: Global,
+    cores: List<CoreId>,
+) -> Result<Vec<Vec<SpinEntry>>, AllocError>
+    requires { AllApart cores }
+    ensures { IfOk result (λ logs. IsOneRun spinlocks (record { cores = cores; about = tt }) (map (λ log. log.items) logs.items)) }
+{
+    let (bank, seats) = SpinBank::new(alloc, cores)?;
+    let runs = share(rt, &bank, alloc, seats)?;
+    let (seats, logs) = part(alloc, runs)?;
+    bank.gather(seats);
+    Ok(logs)
+}
+
+// What stands at a place of a worker's log, whatever the schedule.
+fn expected(core: CoreId, place: usize) -> SpinEntry {
+    let lock = SpinlockId {
+        index: (place / 3 % SPINLOCKS) as u8,
+    };
+    match place % 3 {
+        0 => entry(core, lock, SpinAction::Take, SpinReply::Answered(true)),
+        1 => entry(core, lock, SpinAction::Look, SpinReply::Seen(Some(core))),
+        _ => entry(core, lock, SpinAction::Free, SpinReply::Answered(true)),
+    }
+}
+
+fn has_expected(core: CoreId, log: &[SpinEntry]) -> bool {
+    log.iter()
+        .enumerate()
+        .all(|(place, entry)| *entry == expected(core, place))
 }
 
 #[test]
-fn four_threads_share_each_of_sixteen_spinlocks(rt: HostRuntime) -> Result<(), Fail> {
-    let all = Work {
-        taken: 100,
-        kept: 100,
-    };
-    for index in 0..16u8 {
-        let (bank, seats) = four_seats(rt.alloc())?;
-        let works = share(&rt, &bank, seats, SpinlockId { index })?;
-        assert!(rt; works.len() == 4);
-        for work in &works {
-            assert!(rt; *work == all);
-        }
+fn four_threads_share_sixteen_spinlocks(rt: HostRuntime) -> Result<(), Fail> {
+    let numbers = [0u8, 1, 5, 7];
+    let mut cores = List::new(rt.alloc());
+    cores.push(CoreId { number: 0 })?;
+    cores.push(CoreId { number: 1 })?;
+    cores.push(CoreId { number: 5 })?;
+    cores.push(CoreId { number: 7 })?;
+    let logs = run_all(&rt, rt.alloc(), cores)?;
+    assert!(rt; logs.len() == 4);
+    for (log, number) in logs.iter().zip(numbers) {
+        assert!(rt; log.len() == 100 * 3 * SPINLOCKS);
+        assert!(rt; has_expected(CoreId { number }, log.as_slice()));
     }
     Ok(())
 }
