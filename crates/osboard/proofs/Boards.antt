@@ -1,5 +1,5 @@
 -- Each of the seven kinds of step is one call of the board.
-use Rattle.std.proofs.Common.{◌≡◌, ◌==◌, ◌≢◌, ℕ, ◌+◌, ◌-◌, ◌*◌, ◌/◌, ◌%◌, ◌^◌, ◌<◌, ◌≤◌, Bool, true, false, [], ◌∷◌, Option, Some, None, set, get_or, max, bit_or, sym, refl, ap, ◌∙◌, subst, arith, length-set}
+use Rattle.std.proofs.Common.{◌≡◌, ◌==◌, ◌≢◌, ℕ, ◌+◌, ◌-◌, ◌*◌, ◌/◌, ◌%◌, ◌^◌, ◌<◌, ◌≤◌, Bool, true, false, [], ◌∷◌, Option, Some, None, set, get_or, max, bit_or, sym, refl, ap, ◌∙◌, subst, ⊎_elim, arith, length-set}
 use Rattle.std.proofs.lemmas.List.{get_or-set_same, get_or-set_other}
 use Rattle.std.proofs.lemmas.Bool.{ne_eqb, cond-true, cond-false, lt-ltb, both_ways}
 use Rattle.std.proofs.lemmas.Nat.Bits.{bit_at_or, bit_at-pow_same, bit_at-pow_other, bit_at-zero}
@@ -15,6 +15,7 @@ use Rattle.osplan.specs.declared.plans.CoreMode.{CoreMode}
 use Rattle.osplan.specs.declared.plans.CoreMode.TheVariants.{Named, DontCare}
 use Rattle.osseat.specs.declared.histories.Entry.{Entry}
 use Rattle.osseat.specs.Histories.{Continues}
+use Rattle.osseat.specs.Runs.{AreIdle}
 use Rattle.osseat.specs.Views.{IsStep}
 use Rattle.osseat.proofs.Steps.{continues}
 use Rattle.osboard.specs.declared.calls.BoardView.{BoardView}
@@ -23,7 +24,7 @@ use Rattle.osboard.specs.declared.calls.BoardCall.{BoardCall}
 use Rattle.osboard.specs.declared.calls.BoardCall.TheVariants.{Start, Enter, MakeReady, Drain, Look, AskHalt, LookHalt}
 use Rattle.osboard.specs.declared.calls.BoardReply.{BoardReply}
 use Rattle.osboard.specs.declared.calls.BoardReply.TheVariants.{Started, Shown, Decided, Halting}
-use Rattle.osboard.specs.Boards.{IsMode, ask_halt_call, first_board, with_mode, view_after, halt_after, first_asked, board_after, board_reply, one_board, start_answer}
+use Rattle.osboard.specs.Boards.{IsLook, IsMode, ask_halt_call, first_board, with_mode, view_after, halt_after, first_asked, board_after, board_reply, one_board, start_answer}
 use Rattle.osboard.specs.Words.{flags_in, view_in, mode_bits, status_numbered, halt_word, asked_by, halt_in, Stands, answer}
 use Rattle.osboard.proofs.Flags.{flags_stay, flag_comes}
 
@@ -235,3 +236,7 @@ goes_on old new e reply after = continues one_board old new e reply (sym after)
 pub asks_on : (old new : BoardState) (core : CoreId) (status : Status) (decided : CoreId × Status) → decided ≡ first_asked old.halt (core, status)
     → new ≡ board_after core (AskHalt status) old → Continues one_board old (ask_halt_call core status decided) new
 asks_on old new core status decided answer after = goes_on old new (ask_halt_call core status decided) (ap Decided answer) after
+
+-- a look leaves the board
+pub looks_idle : AreIdle one_board IsLook
+looks_idle board e is reply = ⊎_elim (λ h. ap (λ (call : BoardCall). board_after e.core call board) h) (λ h. ap (λ (call : BoardCall). board_after e.core call board) h) is

@@ -1,6 +1,6 @@
 -- One board: the sets of started, entered, ready and drained cores and of named modes, and who asked first for a
 -- shutdown of all cores. Each call of a core is answered at once. [own; the code has two words]
-use Rattle.std.specs.Prelude.{◌<◌, Option, Some, None, true, false, if◌then◌else◌, replicate, slice_set}
+use Rattle.std.specs.Prelude.{◌≡◌, ◌⊎◌, ◌<◌, Option, Some, None, true, false, if◌then◌else◌, replicate, slice_set}
 use Rattle.osbase.specs.declared.statuses.Status.{Status}
 use Rattle.osbase.specs.declared.statuses.Status.TheVariants.{EOk, EOsState}
 use Rattle.osbase.specs.declared.references.CoreId.{CoreId}
@@ -115,3 +115,7 @@ ask_halt_call core status decided = entry core (AskHalt status) (Decided decided
 
 abbrev pub look_halt_call : CoreId → Option (CoreId × Status) → Entry BoardCall BoardReply
 look_halt_call core halt = entry core LookHalt (Halting halt)
+
+-- A look. It changes nothing.
+abbrev pub IsLook : Entry BoardCall BoardReply → Type 0
+IsLook e = (e.call ≡ Look) ⊎ (e.call ≡ LookHalt)

@@ -1,75 +1,223 @@
-ghost use Rattle.std.specs.Prelude.{◌≡◌, All, IfOk};
+ghost use Rattle.std.specs.Prelude.{◌≡◌, ◌<◌, ◌+◌, ◌≤◌, ℕ, [], All, IfOk, map, slice_index_or, vec_capacity, vec_len};
+ghost use Rattle.osseat.specs.Histories.{Thinned};
+ghost use Rattle.osseat.specs.Runs.{IsOneRun};
+ghost use Rattle.osseat.specs.Seats.{AllApart};
+ghost use Rattle.osboard.specs.declared.calls.TheConstants.{BOARD_CORES};
+ghost use Rattle.osboard.specs.Boards.{IsLook, one_board};
 
-use crate::{BOARD_CORES, Board, BoardList, BoardSeat};
+use crate::{BOARD_CORES, Board, BoardCall, BoardList, BoardReply, BoardSeat, BoardView};
 use osbase::{CoreId, List, ModeId, Status};
 use osplan::CoreMode;
+use osseat::Entry;
 use std::alloc::{AllocError, Global};
 use std::test::Fail;
 use std::thread;
 use std::thread::Threads;
 
-// A board for four of the cores that there may be.
-fn four_seats(alloc: Global) -> Result<(Board, Vec<BoardSeat>), AllocError>
-    ensures { IfOk result (λ r. All (λ s. s.place ≡ r.0) r.1.items) }
-{
-    let mut cores = List::new(alloc);
-    cores.push(CoreId { number: 0 })?;
-    cores.push(CoreId { number: 1 })?;
-    cores.push(CoreId { number: 5 })?;
-    cores.push(CoreId { number: 7 })?;
-    Board::new(alloc, cores, CoreId { number: 5 })
-}
+type BoardEntry = Entry<BoardCall, BoardReply>;
 
-// Whether every look after its `enter` showed a worker, and who decided the shutdown.
-#[derive(Clone, Copy, Debug, PartialEq, Eq)]
+// What a worker did: its calls but the looks, and whether each look showed its `enter`.
+#[derive(Drop)]
 struct Work {
+    log: Vec<BoardEntry>,
     shown: bool,
-    decided: (CoreId, Status),
 }
 
-// Enters, looks often, passes the gates and asks for a shutdown.
-fn take_part(board: &Board, mut seat: BoardSeat) -> Option<Work>
-    requires { seat.place ≡ board.now }
+// What a worker hands back.
+#[derive(Drop)]
+struct Run {
+    seat: BoardSeat,
+    work: Work,
+}
+
+fn entry(core: CoreId, call: BoardCall, reply: BoardReply) -> BoardEntry
+    ensures { result ≡ record { core = core; call = call; reply = reply } }
 {
-    let me = seat.core();
-    if usize::from(me.number) >= BOARD_CORES {
-        return None;
-    }
-    board.enter(&mut seat, CoreMode::Named(ModeId { index: 7 }));
+    Entry { core, call, reply }
+}
+
+// Starts a core, and enters.
+fn arrive(board: &Board, run: &mut Run)
+    requires place { run.old.seat.place ≡ board.now }
+    requires core { run.old.seat.core.number < BOARD_CORES }
+    requires room { vec_len run.old.work.log + 5 ≤ vec_capacity run.old.work.log }
+    requires log { Thinned IsLook run.old.seat.mine run.old.work.log.items }
+    ensures place { run.new.seat.place ≡ run.old.seat.place }
+    ensures core { run.new.seat.core ≡ run.old.seat.core }
+    ensures room { vec_len run.new.work.log + 3 ≤ vec_capacity run.new.work.log }
+    ensures log { Thinned IsLook run.new.seat.mine run.new.work.log.items }
+{
+    let core = run.seat.core();
+    let started = board.start(&mut run.seat, CoreId { number: 1 });
+    let call = BoardCall::Start(CoreId { number: 1 });
+    run.work
+        .log
+        .push_reserved(entry(core, call, BoardReply::Started(started)));
+    let mode = CoreMode::Named(ModeId { index: 7 });
+    board.enter(&mut run.seat, mode);
+    run.work.log.push_reserved(entry(core, BoardCall::Enter(mode), BoardReply::Acknowledged));
+}
+
+fn has_entered(view: &BoardView, core: CoreId) -> bool {
+    view.entered.contains(core) && view.modes.members[7]
+}
+
+// Whether a look shows that the core has entered, and with which mode.
+fn is_shown(board: &Board, seat: &mut BoardSeat) -> bool
+    requires { seat.old.place ≡ board.now }
+    ensures place { seat.new.place ≡ seat.old.place }
+    ensures core { seat.new.core ≡ seat.old.core }
+    ensures log { (log : _) → Thinned IsLook seat.old.mine log → Thinned IsLook seat.new.mine log }
+{
+    let view = board.look(seat);
+    has_entered(&view, seat.core())
+}
+
+// Whether a thousand looks do.
+fn is_shown_often(board: &Board, seat: &mut BoardSeat) -> bool
+    requires { seat.old.place ≡ board.now }
+    ensures place { seat.new.place ≡ seat.old.place }
+    ensures core { seat.new.core ≡ seat.old.core }
+    ensures log { (log : _) → Thinned IsLook seat.old.mine log → Thinned IsLook seat.new.mine log }
+{
     let mut shown = true;
     for _ in 0..1000 {
-        let view = board.look(&mut seat);
-        shown = shown && view.entered.contains(me) && view.modes.members[7];
+        let now = is_shown(board, seat);
+        shown = shown && now;
     }
-    board.ready(&mut seat);
-    board.drain(&mut seat);
-    let decided = board.ask_halt(&mut seat, Status::EOsState);
-    shown = shown && board.look_halt(&mut seat) == Some(decided);
-    Some(Work { shown, decided })
+    shown
+}
+
+// Passes the gates and asks for a shutdown.
+fn leave(board: &Board, run: &mut Run)
+    requires place { run.old.seat.place ≡ board.now }
+    requires core { run.old.seat.core.number < BOARD_CORES }
+    requires room { vec_len run.old.work.log + 3 ≤ vec_capacity run.old.work.log }
+    requires log { Thinned IsLook run.old.seat.mine run.old.work.log.items }
+    ensures place { run.new.seat.place ≡ run.old.seat.place }
+    ensures core { run.new.seat.core ≡ run.old.seat.core }
+    ensures log { Thinned IsLook run.new.seat.mine run.new.work.log.items }
+{
+    let core = run.seat.core();
+    board.ready(&mut run.seat);
+    run.work.log.push_reserved(entry(core, BoardCall::MakeReady, BoardReply::Acknowledged));
+    board.drain(&mut run.seat);
+    run.work
+        .log
+        .push_reserved(entry(core, BoardCall::Drain, BoardReply::Acknowledged));
+    let decided = board.ask_halt(&mut run.seat, Status::EOsState);
+    let call = BoardCall::AskHalt(Status::EOsState);
+    run.work
+        .log
+        .push_reserved(entry(core, call, BoardReply::Decided(decided)));
+    let halt = board.look_halt(&mut run.seat);
+    run.work.shown = run.work.shown && halt == Some(decided);
+}
+
+// Does all of it, where the core has a place on the board.
+fn take_part(board: &Board, alloc: Global, seat: BoardSeat) -> Run
+    requires place { seat.place ≡ board.now }
+    requires fresh { seat.mine ≡ [] }
+    ensures place { result.seat.place ≡ board.now }
+    ensures core { result.seat.core ≡ seat.core }
+    ensures log { Thinned IsLook result.seat.mine result.work.log.items }
+{
+    let work = Work {
+        log: Vec::new(alloc),
+        shown: true,
+    };
+    let mut run = Run { seat, work };
+    if usize::from(run.seat.core().number) >= BOARD_CORES || run.work.log.reserve(5).is_err() {
+        return run;
+    }
+    arrive(board, &mut run);
+    run.work.shown = is_shown_often(board, &mut run.seat);
+    leave(board, &mut run);
+    run
 }
 
 // Each seat goes to a thread of its own.
 fn share<R: Threads + Sync>(
     rt: &R,
     board: &Board,
+    alloc: Global,
     seats: Vec<BoardSeat>,
-) -> Result<Vec<Option<Work>>, AllocError>
-    requires { All (λ s. s.place ≡ board.now) seats.items }
+) -> Result<Vec<Run>, AllocError>
+    requires { All (λ s. (s.place ≡ board.now) × (s.mine ≡ [])) seats.items }
+    ensures len { IfOk result (λ runs. vec_len runs ≡ vec_len seats) }
+    ensures each { IfOk result (λ runs. (i : ℕ) (d e : _) → i < vec_len seats → ((slice_index_or runs.items i d).seat.place ≡ board.now) × ((slice_index_or runs.items i d).seat.core ≡ (slice_index_or seats.items i e).core) × Thinned IsLook (slice_index_or runs.items i d).seat.mine (slice_index_or runs.items i d).work.log.items) }
 {
-    thread::map_vec(rt, seats, &|seat| take_part(board, seat))
+    thread::map_vec(rt, seats, &|seat| take_part(board, alloc, seat))
+}
+
+// The seats, and what was done from them.
+fn part(alloc: Global, runs: Vec<Run>) -> Result<(Vec<BoardSeat>, Vec<Work>), AllocError>
+    ensures seats { IfOk result (λ r. r.0.items ≡ map (λ run. run.seat) runs.items) }
+    ensures works { IfOk result (λ r. r.1.items ≡ map (λ run. run.work) runs.items) }
+{
+    let mut seats = Vec::new(alloc);
+    let mut works = Vec::new(alloc);
+    for run in runs {
+        let Run { seat, work } = run;
+        seats.push(seat)?;
+        works.push(work)?;
+    }
+    Ok((seats, works))
+}
+
+// A worker for each core, each on a thread of its own. One history is legal and has the calls of all logs, and
+// no others.
+fn run_all<R: Threads + Sync>(
+    rt: &R,
+    alloc: Global,
+    cores: List<CoreId>,
+    master: CoreId,
+) -> Result<Vec<Work>, AllocError>
+    requires cores { AllApart cores }
+    requires master { master.number < BOARD_CORES }
+    ensures { IfOk result (λ works. IsOneRun one_board (record { cores = cores; about = master }) (map (λ work. work.log.items) works.items)) }
+{
+    let (board, seats) = Board::new(alloc, cores, master)?;
+    let runs = share(rt, &board, alloc, seats)?;
+    let (seats, works) = part(alloc, runs)?;
+    board.gather(seats);
+    Ok(works)
+}
+
+// Whether the log has the reply.
+fn has_reply(work: &Work, reply: BoardReply) -> bool {
+    work.log.iter().any(|entry| entry.reply == reply)
+}
+
+// Who decided the shutdown, and with which status.
+fn decided(work: &Work) -> Option<BoardReply> {
+    match work.log.as_slice().last() {
+        Some(entry) => Some(entry.reply),
+        None => None,
+    }
 }
 
 #[test]
 fn four_threads_share_a_board(rt: HostRuntime) -> Result<(), Fail> {
-    let (board, seats) = four_seats(rt.alloc())?;
-    let works = share(&rt, &board, seats)?;
+    let mut cores = List::new(rt.alloc());
+    cores.push(CoreId { number: 0 })?;
+    cores.push(CoreId { number: 1 })?;
+    cores.push(CoreId { number: 5 })?;
+    cores.push(CoreId { number: 7 })?;
+    let works = run_all(&rt, rt.alloc(), cores, CoreId { number: 5 })?;
     assert!(rt; works.len() == 4);
+    let Some(first) = works.first() else {
+        panic!(rt; "a log for each core")
+    };
+    let mut started = 0usize;
     for work in &works {
-        let Some(done) = *work else {
-            panic!(rt; "each core has a place on the board")
-        };
-        assert!(rt; done.shown && Some(done) == works[0]);
+        assert!(rt; work.shown && work.log.len() == 5);
+        assert!(rt; decided(work) == decided(first));
+        if has_reply(work, BoardReply::Started(Status::EOk)) {
+            started = started.wrapping_add(1);
+        }
     }
+    assert!(rt; started == 1);
     Ok(())
 }
 
