@@ -1,6 +1,6 @@
 ghost use Rattle.std.specs.Prelude.{◌≡◌, ◌<◌, ◌+◌, ◌≤◌, ℕ, [], All, IfOk, map, slice_index_or, vec_capacity, vec_len};
 ghost use Rattle.osseat.specs.Histories.{Thinned};
-ghost use Rattle.osseat.specs.Runs.{IsOneRun};
+ghost use Rattle.osseat.specs.Runs.{IsOneRun, IsRunOf};
 ghost use Rattle.osseat.specs.Seats.{AllApart};
 ghost use Rattle.osboard.specs.declared.calls.TheConstants.{BOARD_CORES};
 ghost use Rattle.osboard.specs.Boards.{IsLook, one_board};
@@ -145,7 +145,7 @@ fn share<R: Threads + Sync>(
 ) -> Result<Vec<Run>, AllocError>
     requires { All (λ s. (s.place ≡ board.now) × (s.mine ≡ [])) seats.items }
     ensures len { IfOk result (λ runs. vec_len runs ≡ vec_len seats) }
-    ensures each { IfOk result (λ runs. (i : ℕ) (d e : _) → i < vec_len seats → ((slice_index_or runs.items i d).seat.place ≡ board.now) × ((slice_index_or runs.items i d).seat.core ≡ (slice_index_or seats.items i e).core) × Thinned IsLook (slice_index_or runs.items i d).seat.mine (slice_index_or runs.items i d).work.log.items) }
+    ensures each { IfOk result (λ runs. (i : ℕ) (d e : _) → i < vec_len seats → IsRunOf IsLook board.now (slice_index_or seats.items i e) (slice_index_or runs.items i d).seat (slice_index_or runs.items i d).work.log.items) }
 {
     thread::map_vec(rt, seats, &|seat| take_part(board, alloc, seat))
 }

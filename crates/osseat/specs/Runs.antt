@@ -5,11 +5,17 @@ use Rattle.osseat.specs.declared.histories.Entry.{Entry}
 use Rattle.osseat.specs.declared.histories.Plan.{Plan}
 use Rattle.osseat.specs.Objects.{Object}
 use Rattle.osseat.specs.Histories.{IsLegal, Thinned, calls_by}
-use Rattle.osseat.specs.Seats.{Held, has}
+use Rattle.osseat.specs.Seats.{Held, Place, has}
 
 -- Calls of which each leaves the object as it is, where the object answers it so.
 abbrev pub AreIdle : {A S C R : Type 0} → Object A S C R → (Entry C R → Type 0) → Type 0
 AreIdle {S = S} {C = C} {R = R} o idle = (s : S) (e : Entry C R) → idle e → e.reply ≡ o.reply e.core e.call s → o.after e.core e.call s ≡ s
+
+-- What a worker hands back for a seat: one of the same core at this object, and a log of its calls, less some that may go.
+pub record IsRunOf {A C R : Type 0} (idle : Entry C R → Type 0) (p : Place A) (old new : Held A C R) (log : List (Entry C R)) : Type 0 where
+  pub place : new.place ≡ p
+  pub core : new.core ≡ old.core
+  pub logged : Thinned idle new.mine log
 
 -- Each seat has a log: its calls, less some that may go.
 abbrev pub AreLogged : {A C R : Type 0} → (Entry C R → Type 0) → List (Held A C R) → List (List (Entry C R)) → Type 0

@@ -1,6 +1,6 @@
 ghost use Rattle.std.specs.Prelude.{◌≡◌, ◌<◌, [], ℕ, All, IfOk, IfSome, map, slice_index_or, vec_len};
 ghost use Rattle.osseat.specs.Histories.{Thinned};
-ghost use Rattle.osseat.specs.Runs.{IsOneRun};
+ghost use Rattle.osseat.specs.Runs.{IsOneRun, IsRunOf};
 ghost use Rattle.osseat.specs.Seats.{AllApart};
 ghost use Rattle.osspin.specs.declared.calls.TheConstants.{SPINLOCKS};
 ghost use Rattle.osspin.specs.Spins.{IsRefusedTry, spinlocks};
@@ -127,7 +127,7 @@ fn share<R: Threads + Sync>(
 ) -> Result<Vec<Run>, AllocError>
     requires { All (λ s. (s.place ≡ bank.now) × (s.mine ≡ [])) seats.items }
     ensures len { IfOk result (λ runs. vec_len runs ≡ vec_len seats) }
-    ensures each { IfOk result (λ runs. (i : ℕ) (d e : _) → i < vec_len seats → ((slice_index_or runs.items i d).seat.place ≡ bank.now) × ((slice_index_or runs.items i d).seat.core ≡ (slice_index_or seats.items i e).core) × Thinned IsRefusedTry (slice_index_or runs.items i d).seat.mine (slice_index_or runs.items i d).log.items) }
+    ensures each { IfOk result (λ runs. (i : ℕ) (d e : _) → i < vec_len seats → IsRunOf IsRefusedTry bank.now (slice_index_or seats.items i e) (slice_index_or runs.items i d).seat (slice_index_or runs.items i d).log.items) }
 {
     let rounds = Rounds { lock: 0, left: 100 };
     thread::map_vec(rt, seats, &|seat| work(bank, alloc, seat, rounds))

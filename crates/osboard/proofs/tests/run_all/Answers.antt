@@ -15,7 +15,7 @@ gather-requires-clause-places g c =
     let runs = c.in_ok-runs.runs in
     subst (λ (l : List (Held _ _ _)). AllAt c.in_ok-board.board l) (sym c.in_ok-seats.ensures.seats)
     (kept (λ run. run.seat) c.in_ok-board.board c.args.cores seats.items runs.items c.in_ok-board.ensures.seats (sym runs.ok.0 ∙ (c.in_ok-runs.ensures.len ∙ seats.ok.0))
-    (λ i d e lt. let h = c.in_ok-runs.ensures.each i d e (omega (arith, seats.ok.0)) in (h.0, h.1))).0
+    (λ i d e lt. let h = c.in_ok-runs.ensures.each i d e (omega (arith, seats.ok.0)) in (h.place, h.core))).0
 
 pub gather-requires-clause-cores : goal.gather-requires-clause-cores
 gather-requires-clause-cores g c =
@@ -23,7 +23,7 @@ gather-requires-clause-cores g c =
     let runs = c.in_ok-runs.runs in
     ap cores_of c.in_ok-seats.ensures.seats
     ∙ ((kept (λ run. run.seat) c.in_ok-board.board c.args.cores seats.items runs.items c.in_ok-board.ensures.seats (sym runs.ok.0 ∙ (c.in_ok-runs.ensures.len ∙ seats.ok.0))
-    (λ i d e lt. let h = c.in_ok-runs.ensures.each i d e (omega (arith, seats.ok.0)) in (h.0, h.1))).1
+    (λ i d e lt. let h = c.in_ok-runs.ensures.each i d e (omega (arith, seats.ok.0)) in (h.place, h.core))).1
     ∙ sym c.in_ok-board.ensures.cores)
 
 pub returns : goal.returns
@@ -33,9 +33,9 @@ returns g c =
     let parted = c.in_ok-seats in
     let cores : cores_of parted.seats.items ≡ c.args.cores = ap cores_of parted.ensures.seats
     ∙ (kept (λ run. run.seat) c.in_ok-board.board c.args.cores seats.items runs.items c.in_ok-board.ensures.seats (sym runs.ok.0 ∙ (c.in_ok-runs.ensures.len ∙ seats.ok.0))
-    (λ i d e lt. let h = c.in_ok-runs.ensures.each i d e (omega (arith, seats.ok.0)) in (h.0, h.1))).1 in
+    (λ i d e lt. let h = c.in_ok-runs.ensures.each i d e (omega (arith, seats.ok.0)) in (h.place, h.core))).1 in
     let each = all_logged IsLook (λ run. run.seat) (λ run. run.work) (λ work. work.log.items) runs.items
-    (λ i d lt. (c.in_ok-runs.ensures.each i d (fresh c.in_ok-board.board d.seat.core) (omega (arith, seats.ok.0, runs.ok.0, c.in_ok-runs.ensures.len))).2) in
+    (λ i d lt. (c.in_ok-runs.ensures.each i d (fresh c.in_ok-board.board d.seat.core) (omega (arith, seats.ok.0, runs.ok.0, c.in_ok-runs.ensures.len))).logged) in
     let logged : AreLogged IsLook parted.seats.items (map (λ work. work.log.items) parted.works.items) =
     subst (λ (l : List (Held _ _ _)). AreLogged IsLook l (map (λ work. work.log.items) parted.works.items)) (sym parted.ensures.seats)
     (subst (λ l. AreLogged IsLook (map (λ run. run.seat) runs.items) (map (λ work. work.log.items) l)) (sym parted.ensures.works) each) in
