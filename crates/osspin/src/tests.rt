@@ -118,6 +118,7 @@ fn work<W: Wish + Drop>(bank: &SpinBank, alloc: Global, seat: SpinSeat, mut wish
     }
     run
 }
+
 // Each seat goes to a thread of its own.
 fn share<R: Threads + Sync>(
     rt: &R,
