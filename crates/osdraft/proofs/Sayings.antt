@@ -1,9 +1,7 @@
 -- What a text without a fault means can be said by a text.
-use Rattle.std.proofs.Common.{◌≡◌, ℕ, Bool, true, false, not, ◌&&◌, ◌||◌, cond, leb, List, [], ◌∷◌, length, map, Option, Some, None, refl, ap, ◌∙◌}
+use Rattle.std.proofs.Common.{◌≡◌, ℕ, Bool, true, not, ◌||◌, List, [], ◌∷◌, map, refl, ap, ◌∙◌}
 use Rattle.std.specs.List.{list_all, list_any}
 use Rattle.std.proofs.lemmas.Bool.{and_parts, and_from}
-use Rattle.std.proofs.lemmas.List.{length-map}
-use Rattle.osbase.specs.declared.references.CoreId.{CoreId}
 use Rattle.osplan.specs.declared.plans.Core.{Core}
 use Rattle.osplan.specs.declared.plans.Task.{Task}
 use Rattle.osplan.specs.Expressible as said
@@ -14,10 +12,9 @@ use Rattle.osdraft.specs.declared.shapes.ConfigText.{ConfigText}
 use Rattle.osdraft.specs.declared.shapes.CoreText.{CoreText}
 use Rattle.osdraft.specs.declared.shapes.TaskText.{TaskText}
 use Rattle.osread.specs.Faults.{failing}
-use Rattle.osdraft.specs.Check.{core_has_name, has_named_tasks, is_task_within, is_core_within, is_within, same_number, is_first_named, are_tasks_distinct, is_apart, is_first_apart, are_cores_distinct, is_each_once, tests_of}
-use Rattle.osdraft.specs.Operation.{byte_of, number_id}
+use Rattle.osdraft.specs.Check.{core_has_name, has_named_tasks, is_text_within, same_number, is_first_named, are_tasks_distinct, is_apart, is_first_apart, are_cores_distinct, is_each_once, tests_of}
 use Rattle.osdraft.specs.Meaning.{only_mode, task_plan, core_plan, plan_of}
-use Rattle.osdraft.proofs.Bounds.{list_all-by, list_all-both, list_all-always, row-passes}
+use Rattle.osdraft.proofs.Bounds.{list_all-by, list_all-total, row-passes}
 
 -- ---- names that are different stay so
 
@@ -48,30 +45,14 @@ names-distinct all (core ∷ cores) h =
 
 -- ---- the parts
 
-byte-low-if : (b : Bool) (n : ℕ) → leb n 255 ≡ b → leb (cond b n 0) 255 ≡ true
-byte-low-if true n e = e
-byte-low-if false n e = refl
-
-byte-low : (number : Option ℕ) → leb (byte_of number) 255 ≡ true
-byte-low None = refl
-byte-low (Some n) = byte-low-if (leb n 255) n refl
-
-starts-low : (start : List (Option ℕ)) → list_all (λ (id : CoreId). leb id.number 255) (map number_id start) ≡ true
-starts-low [] = refl
-starts-low (number ∷ start) = and_from _ _ (byte-low number) (starts-low start)
-
-core-said : (all : List CoreText) (core : CoreText) → (is_core_within core && has_named_tasks core) ≡ true → said.is_core_expressible (core_plan all core) ≡ true
-core-said all core h =
-    let parts = and_parts (is_core_within core) (has_named_tasks core) h in
-    let few = and_parts _ (leb (length core.tasks) 1) (and_parts _ (list_all is_task_within core.tasks) parts.0).0 in
-    and_from _ _ (and_from _ _ (and_from _ _ (and_from _ _ (and_from _ _ (starts-low core.start) (rw (length-map core.tasks (task_plan all)) few.1))
-    (list_all-by (λ (task : TaskText). is_name task.name) said.is_task_expressible (task_plan all) (λ task e. and_from _ _ e (list_all-always is_only_mode only_mode refl task.auto)) core.tasks parts.1)) refl) refl) refl
+core-said : (all : List CoreText) (core : CoreText) → has_named_tasks core ≡ true → said.is_core_expressible (core_plan all core) ≡ true
+core-said all core named =
+    and_from _ _ (and_from _ _ (and_from _ _ (list_all-by (λ (task : TaskText). is_name task.name) said.is_task_expressible (task_plan all) (λ task e. and_from _ _ e (list_all-total is_only_mode (λ (name : List ℕ). only_mode) (λ name. refl) task.auto)) core.tasks named) refl) refl) refl
 
 pub expressible-of : (t : ConfigText) → list_all has_named_tasks t.cores ≡ true → failing (tests_of t) ≡ [] → said.is_expressible (plan_of t) ≡ true
 expressible-of t named none =
-    let first = row-passes Limit (is_within t) _ none in
+    let first = row-passes Limit (is_text_within t) _ none in
     let second = row-passes DuplicateName (is_each_once t) _ first.1 in
-    let within : list_all is_core_within t.cores ≡ true = (and_parts _ (list_all is_core_within t.cores) first.0).1 in
     let once = and_parts (are_cores_distinct t.cores) _ second.0 in
-    and_from _ _ (and_from _ _ (list_all-by (λ core. is_core_within core && has_named_tasks core) said.is_core_expressible (core_plan t.cores) (core-said t.cores) t.cores (list_all-both is_core_within has_named_tasks t.cores within named)) (names-distinct t.cores t.cores once.0))
+    and_from _ _ (and_from _ _ (list_all-by has_named_tasks said.is_core_expressible (core_plan t.cores) (core-said t.cores) t.cores named) (names-distinct t.cores t.cores once.0))
     (list_all-by (λ (core : CoreText). not (core_has_name mode_name core)) (λ (core : Core). not (said.core_has_name mode_name core)) (core_plan t.cores) (λ core e. ap not (core-name t.cores mode_name core) ∙ e) t.cores once.1)

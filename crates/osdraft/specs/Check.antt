@@ -1,10 +1,11 @@
 -- The tests of a configuration's text, a row for each fault past its shape that a text can have so far. Each is defined apart from
 -- the others, over the text as it stands. [own]
-use Rattle.std.specs.Prelude.{ℕ, ◌==◌, ◌&&◌, nat_le, Bool, true, false, not, Option, Some, None, List, [], ◌∷◌, length}
+use Rattle.std.specs.Prelude.{ℕ, ◌==◌, ◌&&◌, Bool, true, false, not, Option, Some, None, List, [], ◌∷◌, length, map}
 use Rattle.std.specs.List.{list_all, list_any}
 use Rattle.std.specs.Str.{bytes_eq}
 use Rattle.osbase.specs.Names.{is_name}
 use Rattle.osplan.specs.Expressible.{mode_name}
+use Rattle.osplan.specs.Limits.{TaskSizes, CoreSizes, Sizes, is_between, is_within}
 use Rattle.osplan.specs.declared.faults.ConfFault.TheVariants.{Limit, DuplicateName, UnknownName, BadScript}
 use Rattle.osdraft.specs.declared.shapes.ConfigText.{ConfigText}
 use Rattle.osdraft.specs.declared.shapes.CoreText.{CoreText}
@@ -12,24 +13,21 @@ use Rattle.osdraft.specs.declared.shapes.TaskText.{TaskText}
 use Rattle.osread.specs.Faults.{Tests}
 use Rattle.osdraft.specs.Operation.{operations_of, has_name, is_operation_known, is_operation}
 
--- The number is there and within these bounds.
-abbrev pub is_between : ℕ → ℕ → Option ℕ → Bool
-is_between low high None = false
-is_between low high (Some n) = nat_le low n && nat_le n high
+-- ---- limits: those of a configuration, over the text's numbers
 
--- ---- limits
+abbrev pub task_sizes : TaskText → TaskSizes
+task_sizes task = record { priority = task.prio; activations = task.activations; operations = length (operations_of task.script) }
 
--- Priority 0 to 31, 1 to 64 activations, at most 256 operations, whatever they are.
-abbrev pub is_task_within : TaskText → Bool
-is_task_within task = is_between 0 31 task.prio && is_between 1 64 task.activations && nat_le (length (operations_of task.script)) 256
+abbrev pub core_sizes : CoreText → CoreSizes
+core_sizes core = record { number = core.id; start = core.start; tasks = map task_sizes core.tasks }
 
--- Number 0 to 7, started cores 0 to 255, at most one task.
-abbrev pub is_core_within : CoreText → Bool
-is_core_within core = is_between 0 7 core.id && list_all (is_between 0 255) core.start && nat_le (length core.tasks) 1 && list_all is_task_within core.tasks
+-- There is one mode.
+abbrev pub sizes_of : ConfigText → Sizes
+sizes_of t = record { modes = 1; cap = t.cap; cores = map core_sizes t.cores }
 
--- Version 1, mailboxes of 1 to 16 envelopes, 1 to 8 cores.
-abbrev pub is_within : ConfigText → Bool
-is_within t = is_between 1 1 t.version && is_between 1 16 t.cap && nat_le 1 (length t.cores) && nat_le (length t.cores) 8 && list_all is_core_within t.cores
+-- Of version 1, which a text alone has, and within the limits.
+abbrev pub is_text_within : ConfigText → Bool
+is_text_within t = is_between 1 1 t.version && is_within (sizes_of t)
 
 -- ---- names and numbers that stand twice
 
@@ -104,4 +102,4 @@ are_operations t = list_all is_core_script t.cores
 -- ---- the table, in ascending order of faults
 
 abbrev pub tests_of : ConfigText → Tests
-tests_of t = (Limit, is_within t) ∷ (DuplicateName, is_each_once t) ∷ (UnknownName, are_known t) ∷ (BadScript, are_operations t) ∷ []
+tests_of t = (Limit, is_text_within t) ∷ (DuplicateName, is_each_once t) ∷ (UnknownName, are_known t) ∷ (BadScript, are_operations t) ∷ []

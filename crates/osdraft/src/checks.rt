@@ -1,13 +1,14 @@
 //! The tests of a configuration's text, one for each fault past its shape, in ascending order.
 
-ghost use Rattle.std.specs.Prelude.{◌≡◌, ◌==◌, ◌&&◌, true, false, not, IsTrue, MatchResult, Some};
+ghost use Rattle.std.specs.Prelude.{◌≡◌, ◌==◌, ◌&&◌, true, false, not, IsTrue, MatchResult, Some, map};
 ghost use Rattle.std.specs.List.{list_all, list_any, slice_split};
 ghost use Rattle.osdraft.specs.declared.shapes.CoreText.{CoreText as Core};
 ghost use Rattle.osdraft.specs.declared.shapes.TaskText.{TaskText as Task};
 ghost use Rattle.osplan.specs.Expressible.{mode_name};
+ghost use Rattle.osplan.specs.Limits.{is_between, is_task_within, is_core_within, is_within};
 ghost use Rattle.osread.specs.Faults.{failing, first_fault};
 ghost use Rattle.osdraft.specs.Operation.{has_name, is_operation_known};
-ghost use Rattle.osdraft.specs.Check.{is_between, is_task_within, is_core_within, is_within, core_has_name, is_first_named, are_tasks_distinct, same_number, is_apart, is_first_apart, are_cores_distinct, is_each_once, has_named_tasks, are_operations_known, is_mode_name, is_task_known, is_core_known, are_known, are_operations, tests_of};
+ghost use Rattle.osdraft.specs.Check.{task_sizes, core_sizes, sizes_of, is_text_within, core_has_name, is_first_named, are_tasks_distinct, same_number, is_apart, is_first_apart, are_cores_distinct, is_each_once, has_named_tasks, are_operations_known, is_mode_name, is_task_known, is_core_known, are_known, are_operations, tests_of};
 
 use crate::places::{Objects, has_name};
 use crate::shapes::{ConfigText, CoreText, TaskText};
@@ -37,7 +38,7 @@ fn is_between(low: u64, high: u64, number: Whole) -> bool
 }
 
 fn is_task_within(task: &TaskText) -> bool
-    ensures { result ≡ is_task_within task.now }
+    ensures { result ≡ is_task_within (task_sizes task.now) }
 {
     is_between(0, 31, task.prio)
         && is_between(1, 64, task.activations)
@@ -51,13 +52,14 @@ fn are_starts_within(numbers: &[Whole]) -> bool
 }
 
 fn are_tasks_within(tasks: &[TaskText]) -> bool
-    ensures { result ≡ list_all is_task_within tasks.now }
+    ensures { result ≡ list_all (λ (task : Task). is_task_within (task_sizes task)) tasks.now }
 {
     tasks.iter().all(is_task_within)
 }
 
+#[tactic(auto, using(crate::proofs::Bounds::tasks_mapped, crate::proofs::Bounds::tasks_counted))]
 fn is_core_within(core: &CoreText) -> bool
-    ensures { result ≡ is_core_within core.now }
+    ensures { result ≡ is_core_within (core_sizes core.now) }
 {
     is_between(0, 7, core.id)
         && are_starts_within(core.start.as_slice())
@@ -66,13 +68,14 @@ fn is_core_within(core: &CoreText) -> bool
 }
 
 fn are_cores_within(cores: &[CoreText]) -> bool
-    ensures { result ≡ list_all is_core_within cores.now }
+    ensures { result ≡ list_all (λ (core : Core). is_core_within (core_sizes core)) cores.now }
 {
     cores.iter().all(is_core_within)
 }
 
+#[tactic(auto, using(crate::proofs::Bounds::cores_mapped, crate::proofs::Bounds::cores_counted))]
 fn is_within(text: &ConfigText) -> bool
-    ensures { result ≡ is_within text.now }
+    ensures { result ≡ is_text_within text.now }
 {
     is_between(1, 1, text.version)
         && is_between(1, 16, text.cap)
@@ -247,7 +250,7 @@ fn are_known(text: &ConfigText) -> bool
 
 /// The text has neither fault of its limits and of what stands twice, or the smaller of those that it has.
 pub fn check(text: &ConfigText) -> Result<(), ConfFault>
-    ensures { MatchResult result (λ _. (is_within text.now && is_each_once text.now) ≡ true)
+    ensures { MatchResult result (λ _. (is_text_within text.now && is_each_once text.now) ≡ true)
         (λ fault. first_fault (failing (tests_of text.now)) ≡ Some fault) }
 {
     if !is_within(text) {
@@ -263,7 +266,7 @@ pub fn check(text: &ConfigText) -> Result<(), ConfFault>
 /// in good form.
 pub fn fault_of_names(text: &ConfigText) -> ConfFault
     requires named { IsTrue (list_all has_named_tasks text.now.cores) }
-    requires checked { (is_within text.now && is_each_once text.now) ≡ true }
+    requires checked { (is_text_within text.now && is_each_once text.now) ≡ true }
     requires faulty { (are_known text.now && are_operations text.now) ≡ false }
     ensures { first_fault (failing (tests_of text.now)) ≡ Some result }
 {

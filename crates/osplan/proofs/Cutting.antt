@@ -1,5 +1,5 @@
 -- The configuration of a separate core alone is within the limits, and a text can say it.
-use Rattle.std.proofs.Common.{◌≡◌, Bool, true, false, not, ◌&&◌, nat_eq, nat_le, nat_lt, List, [], ◌∷◌, length, Option, Some, is_some, IsTrue, refl, sym, ap, ◌∙◌}
+use Rattle.std.proofs.Common.{◌≡◌, Bool, true, false, not, ◌&&◌, nat_eq, nat_lt, List, [], ◌∷◌, length, Option, Some, IsTrue, refl, sym, ap, ◌∙◌}
 use Rattle.std.specs.List.{list_all, list_any}
 use Rattle.std.specs.Option.{option_map_or}
 use Rattle.std.proofs.lemmas.Bool.{and_parts, and_from, or_left, or_right, not-true, not-false, not_from_false, eq-eqb}
@@ -19,26 +19,16 @@ use Rattle.osplan.specs.declared.plans.Alarm.{Alarm}
 use Rattle.osplan.specs.declared.plans.Table.{Table}
 use Rattle.osplan.specs.View.{core_of}
 use Rattle.osplan.specs.Objects.{object_count}
-use Rattle.osplan.specs.Limits.{is_object, is_op_known, is_mode, is_task_within, is_core_within, are_cores_distinct, is_within_limits}
-use Rattle.osplan.specs.Expressible.{is_core_expressible, is_expressible, are_tasks_distinct, are_names_distinct, are_mode_name, core_has_name, mode_name}
+use Rattle.osplan.specs.Limits.{core_sizes, sizes_of, is_core_within, is_within, is_object, is_op_known, is_mode, is_core_mode, is_task_known, is_core_known, is_within_limits}
+use Rattle.osplan.specs.Expressible.{is_core_expressible, is_expressible, are_tasks_distinct, are_names_distinct, core_has_name, mode_name}
 use Rattle.osplan.specs.Separate.{agree, alone_of, has_operation, is_agreed_mode, is_named_elsewhere, is_on, is_separate, is_separate_core, is_started, names_other}
-use Rattle.osplan.proofs.Tests.{all-both, all-not, all-weaker, find-holds, find-passes, none-from}
+use Rattle.osplan.proofs.Tests.{all-both, all-not, all-weaker, find-holds, find-passes}
+use Rattle.osplan.proofs.Within.{LimitParts, TextParts, limit-parts, text-parts}
 use Rattle.osplan.proofs.Separating.{SeparateParts, separate-parts}
 
 agree-self : (mode : CoreMode) → agree mode mode ≡ true
 agree-self (Named m) = eq-eqb m.index m.index refl
 agree-self DontCare = refl
-
--- ---- what a core cannot have yet
-
-pub no_tables : (core : Core) → IsTrue (is_core_expressible core) → core.tables ≡ []
-no_tables core h = none-from core.tables (and_parts _ (nat_eq (length core.tables) 0) h).1
-
-pub no_alarms : (core : Core) → IsTrue (is_core_expressible core) → core.alarms ≡ []
-no_alarms core h = none-from core.alarms (and_parts _ (nat_eq (length core.alarms) 0) (and_parts _ (nat_eq (length core.tables) 0) h).0).1
-
-pub no_isrs : (core : Core) → IsTrue (is_core_expressible core) → core.isrs ≡ []
-no_isrs core h = none-from core.isrs (and_parts _ (nat_eq (length core.isrs) 0) (and_parts _ (nat_eq (length core.alarms) 0) (and_parts _ (nat_eq (length core.tables) 0) h).0).0).1
 
 -- a core is its parts
 pub core-parts : (core : Core) (start : List CoreId) (tasks : List Task) (isrs : List Isr) (alarms : List Alarm) (tables : List Table) → start ≡ core.start → tasks ≡ core.tasks → isrs ≡ core.isrs → alarms ≡ core.alarms → tables ≡ core.tables
@@ -67,38 +57,33 @@ module _ (plan : Plan) (id : CoreId) (core : Core) (found : core_of plan id ≡ 
       all-weaker (λ object. is_object plan object && not (not (is_on core.id object))) (is_object (alone_of plan id core)) own-object (objects_of op)
       (all-both (is_object plan) (λ object. not (not (is_on core.id object))) (objects_of op) parts.0 (all-not (λ object. not (is_on core.id object)) (objects_of op) (not-true _ parts.1)))
 
-  own-script : (task : Task) → (is_task_within plan task && not (list_any (names_other core.id) task.script)) ≡ true → is_task_within (alone_of plan id core) task ≡ true
+  own-script : (task : Task) → (is_task_known plan task && not (list_any (names_other core.id) task.script)) ≡ true → is_task_known (alone_of plan id core) task ≡ true
   own-script task h =
-      let parts = and_parts (is_task_within plan task) _ h in
-      let modes = and_parts _ (list_all (is_mode plan) task.auto) parts.0 in
-      let ops = and_parts _ (list_all (is_op_known plan) task.script) modes.0 in
-      and_from _ _ (and_from _ _ ops.0
+      let parts = and_parts (is_task_known plan task) _ h in
+      let ops = and_parts (list_all (is_op_known plan) task.script) (list_all (is_mode plan) task.auto) parts.0 in
+      and_from _ _
       (all-weaker (λ op. is_op_known plan op && not (names_other core.id op)) (is_op_known (alone_of plan id core)) own-operation task.script
-      (all-both (is_op_known plan) (λ op. not (names_other core.id op)) task.script ops.1 (all-not (names_other core.id) task.script (not-true _ parts.1))))) modes.1
+      (all-both (is_op_known plan) (λ op. not (names_other core.id op)) task.script ops.0 (all-not (names_other core.id) task.script (not-true _ parts.1)))) ops.1
 
-  core-alone : is_core_within plan core ≡ true → has_operation (names_other core.id) core ≡ false → is_core_within (alone_of plan id core) core ≡ true
-  core-alone within inside =
-      let parts = and_parts _ (list_all (is_task_within plan) core.tasks) within in
+  core-alone : is_core_known plan core ≡ true → has_operation (names_other core.id) core ≡ false → is_core_known (alone_of plan id core) core ≡ true
+  core-alone known inside =
+      let parts = and_parts (is_core_mode plan core.mode) (list_all (is_task_known plan) core.tasks) known in
       and_from _ _ parts.0
-      (all-weaker (λ (task : Task). is_task_within plan task && not (list_any (names_other core.id) task.script)) (is_task_within (alone_of plan id core)) own-script core.tasks
-      (all-both (is_task_within plan) (λ (task : Task). not (list_any (names_other core.id) task.script)) core.tasks parts.1 (all-not (λ (task : Task). list_any (names_other core.id) task.script) core.tasks inside)))
+      (all-weaker (λ (task : Task). is_task_known plan task && not (list_any (names_other core.id) task.script)) (is_task_known (alone_of plan id core)) own-script core.tasks
+      (all-both (is_task_known plan) (λ (task : Task). not (list_any (names_other core.id) task.script)) core.tasks parts.1 (all-not (λ (task : Task). list_any (names_other core.id) task.script) core.tasks inside)))
 
-  plan-alone : is_within_limits plan ≡ true → is_core_within plan core ≡ true → has_operation (names_other core.id) core ≡ false → is_within_limits (alone_of plan id core) ≡ true
-  plan-alone limits within inside =
-      let cores = and_parts _ (list_all (is_core_within plan) plan.cores) limits in
-      let master = and_parts _ (is_some (core_of plan plan.master)) cores.0 in
-      let distinct = and_parts _ (are_cores_distinct plan.cores) master.0 in
-      let most = and_parts _ (nat_le (length plan.cores) 8) distinct.0 in
-      let some = and_parts _ (nat_le 1 (length plan.cores)) most.0 in
-      and_from _ _ (and_from _ _ (and_from _ _ (and_from _ _ (and_from _ _ some.0 refl) refl) refl) (rw mine refl)) (and_from _ _ (core-alone within inside) refl)
+  -- the modes and the mailboxes stay
+  sizes-alone : is_within (sizes_of plan) ≡ true → is_core_within (core_sizes core) ≡ true → is_within (sizes_of (alone_of plan id core)) ≡ true
+  sizes-alone whole mine = and_from _ _ (and_from _ _ (and_parts _ _ (and_parts _ _ whole).0).0 refl) (and_from _ _ mine refl)
+
+  plan-alone : LimitParts plan → is_core_within (core_sizes core) ≡ true → is_core_known plan core ≡ true → has_operation (names_other core.id) core ≡ false → is_within_limits (alone_of plan id core) ≡ true
+  plan-alone limits within known inside =
+      and_from _ _ (and_from _ _ (and_from _ _ (sizes-alone limits.sizes within) refl) (rw mine refl)) (and_from _ _ (core-alone known inside) refl)
 
   -- ---- what a text can say
-  expressible-alone : is_expressible plan ≡ true → is_core_expressible core ≡ true → not (core_has_name mode_name core) ≡ true → are_tasks_distinct core.tasks ≡ true → is_expressible (alone_of plan id core) ≡ true
-  expressible-alone all mine unmoded distinct =
-      let cores = and_parts _ (list_all (λ (c : Core). not (core_has_name mode_name c)) plan.cores) all in
-      let names = and_parts _ (are_names_distinct plan.cores) cores.0 in
-      let modes = and_parts (are_mode_name plan.modes) (list_all is_core_expressible plan.cores) names.0 in
-      and_from _ _ (and_from _ _ (and_from _ _ modes.0 (and_from _ _ mine refl)) (and_from _ _ (and_from _ _ distinct refl) refl)) (and_from _ _ unmoded refl)
+  expressible-alone : TextParts plan → is_core_expressible core ≡ true → not (core_has_name mode_name core) ≡ true → are_tasks_distinct core.tasks ≡ true → is_expressible (alone_of plan id core) ≡ true
+  expressible-alone said mine unmoded distinct =
+      and_from _ _ (and_from _ _ (and_from _ _ said.modes (and_from _ _ mine refl)) (and_from _ _ (and_from _ _ distinct refl) refl)) (and_from _ _ unmoded refl)
 
   -- ---- the core alone is separate again
   self : same_core core.id core.id ≡ true
@@ -136,15 +121,15 @@ pub record IsWhole (plan : Plan) (id : CoreId) (core : Core) : Type 0 where
 pub whole-alone : (plan : Plan) (id : CoreId) (core : Core) → IsTrue (is_within_limits plan) → IsTrue (is_expressible plan) → core_of plan id ≡ Some core → is_separate_core plan core ≡ true → IsWhole plan id core
 whole-alone plan id core limits expressible found separate =
     let pick : (q : Core → Bool) → list_all q plan.cores ≡ true → q core ≡ true = λ q a. find-passes (λ (c : Core). same_core c.id id) q plan.cores core a found in
-    let unmoded = and_parts _ (list_all (λ (c : Core). not (core_has_name mode_name c)) plan.cores) expressible in
-    let names = and_parts _ (are_names_distinct plan.cores) unmoded.0 in
-    let mine = pick is_core_expressible (and_parts (are_mode_name plan.modes) _ names.0).1 in
-    let within = pick (is_core_within plan) (and_parts _ (list_all (is_core_within plan) plan.cores) limits).1 in
+    let inside = limit-parts plan limits in
+    let said = text-parts plan expressible in
+    let mine = pick is_core_expressible said.cores in
+    let within = pick (λ (c : Core). is_core_within (core_sizes c)) inside.cores in
     let parts = separate-parts plan core separate in
     let same = same_core-true core.id id (find-holds (λ (c : Core). same_core c.id id) plan.cores core found) in
     record {
       expressible_core = mine;
-      limits = plan-alone plan id core found same limits within parts.inward;
-      expressible = expressible-alone plan id core found same expressible mine (pick (λ (c : Core). not (core_has_name mode_name c)) unmoded.1) (pick (λ (c : Core). are_tasks_distinct c.tasks) (each-distinct plan.cores names.1));
+      limits = plan-alone plan id core found same inside within (pick (is_core_known plan) inside.known) parts.inward;
+      expressible = expressible-alone plan id core found same said mine (pick (λ (c : Core). not (core_has_name mode_name c)) said.unmoded) (pick (λ (c : Core). are_tasks_distinct c.tasks) (each-distinct plan.cores said.names));
       separate = separate-alone plan id core found same parts;
     }

@@ -1,4 +1,5 @@
 pub mod Tests
+pub mod Within
 pub mod Starting
 pub mod Reached
 pub mod Separating

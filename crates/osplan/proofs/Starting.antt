@@ -1,8 +1,8 @@
 -- The flags of the code are those of the started cores.
-use Rattle.std.proofs.Common.{◌≡◌, ◌≢◌, ℕ, zero, suc, ◌+◌, ◌<◌, Bool, true, false, ◌&&◌, ◌||◌, nat_eq, nat_le, nat_lt, List, [], ◌∷◌, length, map, filter, get_or, set, replicate, is_some, slice_get, IsTrue, inl, inr, refl, sym, ap, ◌∙◌, get_or-set_same, get_or-set_other, below_more, add-one, arith}
+use Rattle.std.proofs.Common.{◌≡◌, ◌≢◌, ℕ, zero, suc, ◌+◌, ◌<◌, Bool, true, false, ◌&&◌, ◌||◌, nat_eq, nat_lt, List, [], ◌∷◌, length, map, filter, get_or, set, replicate, is_some, slice_get, IsTrue, inl, inr, refl, sym, ap, ◌∙◌, get_or-set_same, get_or-set_other, below_more, add-one, arith}
 use Rattle.std.specs.List.{list_all, list_any}
 use Rattle.std.specs.Option.{option_map_or}
-use Rattle.std.proofs.lemmas.Bool.{and_parts, and_from, and_right, or_right, or_cases, leb-true, ltb-true, lt-ltb, eqb-true, eq-eqb, ne_eqb, cases_eq}
+use Rattle.std.proofs.lemmas.Bool.{and_parts, and_from, and_right, or_right, or_cases, ltb-true, lt-ltb, eqb-true, eq-eqb, ne_eqb, cases_eq}
 use Rattle.std.proofs.lemmas.List.{length-replicate}
 use Rattle.std.proofs.lemmas.Map.Views.{any-filter_same}
 use Rattle.osbase.specs.declared.references.CoreId.{CoreId}
@@ -13,10 +13,11 @@ use Rattle.osbase.proofs.Same.{same_core-true, same_core-refl}
 use Rattle.osplan.specs.declared.plans.Plan.{Plan}
 use Rattle.osplan.specs.declared.plans.Core.{Core}
 use Rattle.osplan.specs.View.{core_of}
-use Rattle.osplan.specs.Limits.{is_within_limits, is_core_within}
+use Rattle.osplan.specs.Limits.{is_within_limits}
 use Rattle.osplan.specs.Flags.{is_named_by_one_of, is_next, AreStarted}
 use Rattle.osplan.specs.Separate.{configured_ids, is_among, is_named_by, is_started, started_within}
 use Rattle.osplan.proofs.Tests.{all-weaker, all-both, any-same, any-find}
+use Rattle.osplan.proofs.Within.{limit-parts, fits}
 
 -- ---- a set's flags
 
@@ -71,16 +72,13 @@ all-among (c ∷ cs) =
     and_from _ _ (ap (λ b. b || is_among (map (λ (d : Core). d.id) cs) c.id) (same_core-refl c.id))
     (all-weaker (λ (d : Core). is_among (map (λ (e : Core). e.id) cs) d.id) (λ (d : Core). is_among (map (λ (e : Core). e.id) (c ∷ cs)) d.id) (λ d h. or_right (same_core c.id d.id) _ h) cs (all-among cs))
 
-number-low : (plan : Plan) (core : Core) → is_core_within plan core ≡ true → nat_lt core.id.number 16 ≡ true
-number-low plan core h =
-    let low = leb-true core.id.number 7 (and_parts (nat_le core.id.number 7) _ (and_parts _ _ (and_parts _ _ (and_parts _ _ h).0).0).0).0 in
-    lt-ltb core.id.number 16 (omega arith)
+numbers-low : (plan : Plan) → IsTrue (is_within_limits plan) → list_all (λ (c : Core). nat_lt c.id.number 16) plan.cores ≡ true
+numbers-low plan limits = all-weaker _ _ (λ c h. (fits c h).number) plan.cores (limit-parts plan limits).cores
 
 all-known : (plan : Plan) → IsTrue (is_within_limits plan) → list_all (is_known plan) plan.cores ≡ true
 all-known plan limits =
     all-both (λ (c : Core). nat_lt c.id.number 16) (λ (c : Core). is_among (configured_ids plan) c.id) plan.cores
-    (all-weaker (is_core_within plan) (λ (c : Core). nat_lt c.id.number 16) (number-low plan) plan.cores (and_parts _ (list_all (is_core_within plan) plan.cores) limits).1)
-    (all-among plan.cores)
+    (numbers-low plan limits) (all-among plan.cores)
 
 -- the master's number is that of a configured core
 number-found : (cores : List Core) (id : CoreId) → list_all (λ (c : Core). nat_lt c.id.number 16) cores ≡ true → list_any (λ (c : Core). same_core c.id id) cores ≡ true → id.number < 16
@@ -95,13 +93,11 @@ number-found (c ∷ cs) id low found =
 -- a configured core's number is below 16
 pub configured-low : (plan : Plan) (id : CoreId) → IsTrue (is_within_limits plan) → is_some (core_of plan id) ≡ true → id.number < 16
 configured-low plan id limits found =
-    number-found plan.cores id
-    (all-weaker (is_core_within plan) (λ (c : Core). nat_lt c.id.number 16) (number-low plan) plan.cores (and_parts _ (list_all (is_core_within plan) plan.cores) limits).1)
-    (any-find (λ (c : Core). same_core c.id id) plan.cores ∙ found)
+    number-found plan.cores id (numbers-low plan limits) (any-find (λ (c : Core). same_core c.id id) plan.cores ∙ found)
 
 pub master-low : (plan : Plan) → IsTrue (is_within_limits plan) → plan.master.number < 16
 master-low plan limits =
-    configured-low plan plan.master limits (and_parts _ (is_some (core_of plan plan.master)) (and_parts _ (list_all (is_core_within plan) plan.cores) limits).0).1
+    configured-low plan plan.master limits (limit-parts plan limits).master
 
 pub within-zero : (plan : Plan) (cores : CoreSet) → ((id : CoreId) → id.number < 16 → has_core cores id ≡ same_core id plan.master) → AreWithin plan 0 cores
 within-zero plan cores flags id lt = kept (λ i. same_core i plan.master) (configured_ids plan) id ∙ ap (λ b. b && is_among (configured_ids plan) id) (sym (flags id lt))

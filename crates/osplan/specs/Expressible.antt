@@ -1,10 +1,9 @@
--- What a text can say of a configuration so far, beside its limits: names in form and all different, one mode, at
--- most one task a core, and no ISR, alarm or table. [own]
+-- What a text can say of a configuration so far, beside its limits: names in form and all different, one mode, and no ISR,
+-- alarm or table. [own]
 -- Each is a test, so that a literal configuration passes it by computation.
-use Rattle.std.specs.Prelude.{ℕ, ◌==◌, ◌&&◌, nat_le, Bool, true, false, not, List, [], ◌∷◌, length, codes}
+use Rattle.std.specs.Prelude.{ℕ, ◌==◌, ◌&&◌, Bool, true, false, not, List, [], ◌∷◌, length, codes}
 use Rattle.std.specs.List.{list_all, list_any}
 use Rattle.std.specs.Str.{bytes_eq}
-use Rattle.osbase.specs.declared.references.CoreId.{CoreId}
 use Rattle.osbase.specs.declared.references.ModeId.{ModeId}
 use Rattle.osbase.specs.Names.{is_name}
 use Rattle.osplan.specs.declared.plans.Plan.{Plan}
@@ -55,11 +54,10 @@ are_names_distinct (core ∷ cores) = are_tasks_distinct core.tasks && list_all 
 abbrev pub is_task_expressible : Task → Bool
 is_task_expressible task = is_name task.name && list_all is_only_mode task.auto
 
--- A core is of the only mode, starts cores of numbers 0 to 255, and has at most one task and no ISR, alarm or table.
+-- A core is of the only mode, and has no ISR, alarm or table.
 abbrev pub is_core_expressible : Core → Bool
 is_core_expressible core =
-    is_in_only_mode core.mode && list_all (λ (id : CoreId). nat_le id.number 255) core.start
-    && nat_le (length core.tasks) 1 && list_all is_task_expressible core.tasks
+    is_in_only_mode core.mode && list_all is_task_expressible core.tasks
     && (length core.isrs == 0) && (length core.alarms == 0) && (length core.tables == 0)
 
 -- The whole configuration can be said by a text; the names of the mode and of all tasks are different.

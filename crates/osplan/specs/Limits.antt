@@ -1,8 +1,10 @@
--- The limits of a configuration, and that each of its references names an object. [own]
--- Each is a test, so that a literal configuration is within them by computation.
-use Rattle.std.specs.Prelude.{◌&&◌, nat_le, nat_lt, Bool, true, false, not, is_some, List, [], ◌∷◌, length, sum_by}
+-- The limits of a configuration's numbers, each said once: a text that is read, the configuration that it means and the text that
+-- is written of it are judged by one test of their numbers. And that each reference of a configuration names an object of it.
+-- Each is a test, so that a literal configuration passes it by computation.
+use Rattle.std.specs.Prelude.{ℕ, ◌&&◌, nat_le, nat_lt, Bool, true, false, not, Option, Some, None, is_some, List, [], ◌∷◌, length, map}
 use Rattle.std.specs.List.{list_all}
 use Rattle.std.specs.Option.{option_map_or}
+use Rattle.osbase.specs.declared.references.CoreId.{CoreId}
 use Rattle.osbase.specs.declared.references.ModeId.{ModeId}
 use Rattle.osbase.specs.declared.objects.Object.{Object}
 use Rattle.osbase.specs.History.{same_core}
@@ -15,6 +17,64 @@ use Rattle.osplan.specs.declared.plans.CoreMode.{CoreMode}
 use Rattle.osplan.specs.declared.plans.CoreMode.TheVariants.{Named, DontCare}
 use Rattle.osplan.specs.Objects.{has_index}
 use Rattle.osplan.specs.View.{core_of}
+
+-- ---- the numbers that have limits. A number that a text has below 0 is none.
+
+pub record TaskSizes : Type 0 where
+  pub priority : Option ℕ
+  pub activations : Option ℕ
+  pub operations : ℕ
+
+pub record CoreSizes : Type 0 where
+  pub number : Option ℕ
+  pub start : List (Option ℕ)
+  pub tasks : List TaskSizes
+
+pub record Sizes : Type 0 where
+  pub modes : ℕ
+  pub cap : Option ℕ
+  pub cores : List CoreSizes
+
+-- ---- their limits
+
+-- The number is there and within these bounds.
+abbrev pub is_between : ℕ → ℕ → Option ℕ → Bool
+is_between low high None = false
+is_between low high (Some n) = nat_le low n && nat_le n high
+
+-- A task: priority 0 to 31, of which 0 is the lowest [OSEK/VDX OS 2.2.3, section 4.5; the highest is own], 1 to 64 activations
+-- [section 4.3; the most is own], and at most 256 operations, whatever they are [own].
+abbrev pub is_task_within : TaskSizes → Bool
+is_task_within s = is_between 0 31 s.priority && is_between 1 64 s.activations && nat_le s.operations 256
+
+-- A core: number 0 to 7 [own]; the cores that it starts, configured or not, have numbers 0 to 255 [AUTOSAR SWS OS 4.x, StartCore;
+-- the most is own]; at most one task so far [own], so its activation limits sum to at most 64.
+abbrev pub is_core_within : CoreSizes → Bool
+is_core_within s =
+    is_between 0 7 s.number && list_all (is_between 0 255) s.start
+    && nat_le (length s.tasks) 1 && list_all is_task_within s.tasks
+
+-- The whole: 1 to 8 application modes, mailboxes of 1 to 16 envelopes, 1 to 8 cores. [own]
+abbrev pub is_within : Sizes → Bool
+is_within s =
+    is_between 1 8 (Some s.modes) && is_between 1 16 s.cap && is_between 1 8 (Some (length s.cores))
+    && list_all is_core_within s.cores
+
+-- ---- the numbers of a configuration
+
+abbrev pub task_sizes : Task → TaskSizes
+task_sizes task = record { priority = Some task.priority; activations = Some task.activations; operations = length task.script }
+
+abbrev pub number_of : CoreId → Option ℕ
+number_of id = Some id.number
+
+abbrev pub core_sizes : Core → CoreSizes
+core_sizes core = record { number = number_of core.id; start = map number_of core.start; tasks = map task_sizes core.tasks }
+
+abbrev pub sizes_of : Plan → Sizes
+sizes_of plan = record { modes = length plan.modes; cap = Some plan.cap; cores = map core_sizes plan.cores }
+
+-- ---- its references
 
 -- The object is one of the configuration.
 abbrev pub is_object : Plan → Object → Bool
@@ -31,29 +91,21 @@ abbrev pub is_core_mode : Plan → CoreMode → Bool
 is_core_mode plan (Named m) = is_mode plan m
 is_core_mode plan DontCare = true
 
--- A task is within its limits: priority 0 to 31, 1 to 64 activations, at most 256 operations.
-abbrev pub is_task_within : Plan → Task → Bool
-is_task_within plan task =
-    nat_le task.priority 31 && nat_le 1 task.activations && nat_le task.activations 64
-    && nat_le (length task.script) 256 && list_all (is_op_known plan) task.script && list_all (is_mode plan) task.auto
+-- What a task's script names is there, and the modes in which it starts by itself.
+abbrev pub is_task_known : Plan → Task → Bool
+is_task_known plan task = list_all (is_op_known plan) task.script && list_all (is_mode plan) task.auto
 
--- A core is within its limits: number 0 to 7, at most 32 tasks, whose activation limits sum to at most 64.
-abbrev pub is_core_within : Plan → Core → Bool
-is_core_within plan core =
-    nat_le core.id.number 7 && is_core_mode plan core.mode
-    && nat_le (length core.tasks) 32 && nat_le (sum_by (λ (t : Task). t.activations) core.tasks) 64
-    && list_all (is_task_within plan) core.tasks
+-- A core's mode is there, and what its tasks name.
+abbrev pub is_core_known : Plan → Core → Bool
+is_core_known plan core = is_core_mode plan core.mode && list_all (is_task_known plan) core.tasks
 
 -- No two cores have one number.
 abbrev pub are_cores_distinct : List Core → Bool
 are_cores_distinct [] = true
 are_cores_distinct (c ∷ cs) = list_all (λ (d : Core). not (same_core c.id d.id)) cs && are_cores_distinct cs
 
--- The whole configuration is: mailboxes of 1 to 16 envelopes, 1 to 8 modes, 1 to 8 cores, a configured master.
+-- The whole configuration is within the limits, with different cores, a configured master, and no reference to what is not there.
 abbrev pub is_within_limits : Plan → Bool
 is_within_limits plan =
-    nat_le 1 plan.cap && nat_le plan.cap 16
-    && nat_le 1 (length plan.modes) && nat_le (length plan.modes) 8
-    && nat_le 1 (length plan.cores) && nat_le (length plan.cores) 8
-    && are_cores_distinct plan.cores && is_some (core_of plan plan.master)
-    && list_all (is_core_within plan) plan.cores
+    is_within (sizes_of plan) && are_cores_distinct plan.cores && is_some (core_of plan plan.master)
+    && list_all (is_core_known plan) plan.cores

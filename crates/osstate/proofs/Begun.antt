@@ -2,7 +2,7 @@
 use Rattle.std.proofs.Common.{◌≡◌, ℕ, zero, suc, ◌+◌, ◌≤◌, Bool, true, false, cond, IsTrue, Option, Some, None, is_some, List, [], ◌∷◌, length, map, refl, ap, sym, subst, ◌∙◌, arith, replicate, nat_le, nat_lt, sum_by, get_or, not, ◌||◌, ◌&&◌, unwrap_or}
 use Rattle.std.specs.List.{find, list_all}
 use Rattle.std.specs.Option.{option_map_or}
-use Rattle.std.proofs.lemmas.Bool.{false≢true, leb-true, and_parts}
+use Rattle.std.proofs.lemmas.Bool.{false≢true, and_parts}
 use Rattle.std.proofs.lemmas.List.{length-replicate}
 use Rattle.osbase.specs.declared.references.CoreId.{CoreId}
 use Rattle.osbase.specs.declared.objects.Object.{Object}
@@ -20,7 +20,7 @@ use Rattle.osplan.specs.declared.plans.Plan.{Plan}
 use Rattle.osplan.specs.declared.plans.Core.{Core}
 use Rattle.osplan.specs.declared.plans.Task.{Task}
 use Rattle.osplan.specs.View.{View, core_of, no_core, view_from, view_of}
-use Rattle.osplan.specs.Limits.{is_within_limits, is_core_within, is_task_within, is_mode, is_object, is_op_known}
+use Rattle.osplan.specs.Limits.{is_within_limits, is_core_known, is_task_known, is_object, is_op_known}
 use Rattle.osplan.specs.Objects.{has_index, may_name}
 use Rattle.osstate.specs.declared.progress.Progress.{Progress}
 use Rattle.osstate.specs.State.{state_of}
@@ -28,24 +28,7 @@ use Rattle.osstate.specs.Steps.{state_from, first_border, first_progress, first_
 use Rattle.osstate.specs.Sound.{IsSound, is_agreed, has_objects_of}
 use Rattle.osbase.proofs.Same.{same_core-comm, same_core-true}
 use Rattle.osplan.proofs.Tests.{all-weaker, find-holds, find-passes}
-
--- A configured core is within the limits.
-pub core_within : (plan : Plan) (id : CoreId) (core : Core) → IsTrue (is_within_limits plan) → core_of plan id ≡ Some core → is_core_within plan core ≡ true
-core_within plan id core limits found =
-    find-passes (λ (c : Core). same_core c.id id) (is_core_within plan) plan.cores core (and_parts _ (list_all (is_core_within plan) plan.cores) limits).1 found
-
-pub tasks_within : (plan : Plan) (core : Core) → is_core_within plan core ≡ true → length core.tasks ≤ 32
-tasks_within plan core within =
-    let front = (and_parts _ (list_all (is_task_within plan) core.tasks) within).0 in
-    let tasks = (and_parts _ (nat_le (sum_by (λ (t : Task). t.activations) core.tasks) 64) front).0 in
-    leb-true (length core.tasks) 32 (and_parts _ (nat_le (length core.tasks) 32) tasks).1
-
-some_activations : (plan : Plan) (core : Core) → is_core_within plan core ≡ true → list_all (λ (t : Task). nat_le 1 t.activations) core.tasks ≡ true
-some_activations plan core within =
-    all-weaker (is_task_within plan) (λ (t : Task). nat_le 1 t.activations) each core.tasks (and_parts _ (list_all (is_task_within plan) core.tasks) within).1
-  where
-    each : (t : Task) → is_task_within plan t ≡ true → nat_le 1 t.activations ≡ true
-    each t h = (and_parts (nat_le t.priority 31) (nat_le 1 t.activations) (and_parts _ (nat_le t.activations 64) (and_parts _ (nat_le (length t.script) 256) (and_parts _ _ (and_parts _ _ h).0).0).0).0).1
+use Rattle.osplan.proofs.Within.{FitsKernel, limit-parts, core-fits}
 
 -- An operation of a configuration names objects that are there, so on this core some of its own.
 known_op : (plan : Plan) (id : CoreId) (core : Core) → core_of plan id ≡ Some core → (op : Op) → is_op_known plan op ≡ true → has_objects_of core op ≡ true
@@ -62,13 +45,12 @@ known_op plan id core found op h =
             let of_core : core_of plan object.place.core ≡ Some core = ap (core_of plan) here ∙ found in
             subst (λ (o : Option Core). option_map_or (λ (c : Core). has_index c object) o false ≡ true) of_core there
 
-known_scripts : (plan : Plan) (id : CoreId) (core : Core) → is_core_within plan core ≡ true → core_of plan id ≡ Some core → list_all (λ (t : Task). list_all (has_objects_of core) t.script) core.tasks ≡ true
-known_scripts plan id core within found =
-    all-weaker (is_task_within plan) (λ (t : Task). list_all (has_objects_of core) t.script) each core.tasks (and_parts _ (list_all (is_task_within plan) core.tasks) within).1
+known_scripts : (plan : Plan) (id : CoreId) (core : Core) → is_core_known plan core ≡ true → core_of plan id ≡ Some core → list_all (λ (t : Task). list_all (has_objects_of core) t.script) core.tasks ≡ true
+known_scripts plan id core known found =
+    all-weaker (is_task_known plan) (λ (t : Task). list_all (has_objects_of core) t.script) each core.tasks (and_parts _ (list_all (is_task_known plan) core.tasks) known).1
   where
-    each : (t : Task) → is_task_within plan t ≡ true → list_all (has_objects_of core) t.script ≡ true
-    each t h =
-        all-weaker (is_op_known plan) (has_objects_of core) (known_op plan id core found) t.script (and_parts _ (list_all (is_op_known plan) t.script) (and_parts _ (list_all (is_mode plan) t.auto) h).0).1
+    each : (t : Task) → is_task_known plan t ≡ true → list_all (has_objects_of core) t.script ≡ true
+    each t h = all-weaker (is_op_known plan) (has_objects_of core) (known_op plan id core found) t.script (and_parts (list_all (is_op_known plan) t.script) _ h).0
 
 -- A configured core's number is the one by which it is found.
 pub id_is : (plan : Plan) (id : CoreId) (core : Core) → core_of plan id ≡ Some core → core.id ≡ id
@@ -99,12 +81,12 @@ pub sound-begun : (priorities room : ℕ) (plan : Plan) (id : CoreId) (core : Co
     → list_all (λ (t : Task). nat_lt t.priority priorities) (view_of plan id).own.tasks ≡ true
     → sum_by (λ (t : Task). t.activations) (view_of plan id).own.tasks ≤ room → IsSound priorities room (first_state plan core master)
 sound-begun priorities room plan id core master limits found below sum = record {
-  tasks = tasks_within plan core within;
+  tasks = fits.tasks;
   frames = length-replicate (length core.tasks) new_frame;
   bounded = subst (λ (v : View). list_all (λ (t : Task). nat_lt t.priority priorities) v.own.tasks ≡ true) (sym (view-own plan id core found)) below;
   limits = subst (λ (v : View). sum_by (λ (t : Task). t.activations) v.own.tasks ≤ room) (sym (view-own plan id core found)) sum;
-  some = some_activations plan core within;
-  scripts = known_scripts plan id core within found;
+  some = fits.some;
+  scripts = known_scripts plan id core (find-passes (λ (c : Core). same_core c.id id) (is_core_known plan) plan.cores core (limit-parts plan limits).known found) found;
   jobs = (λ r. omega arith);
   idle = (λ e. refl);
   agreed = before_gate master;
@@ -119,8 +101,8 @@ sound-begun priorities room plan id core master limits found below sum = record 
     before_gate true e = absurd (false≢true e)
     before_gate false e = absurd (false≢true e)
 
-    within : is_core_within plan core ≡ true
-    within = core_within plan id core limits found
+    fits : FitsKernel core
+    fits = core-fits plan id core limits found
 
 -- The parts of a state before any item, each with what it is.
 pub parts-begun : (plan : Plan) (core : Core) (b : Bool) (p : Progress) (n : ℕ) (jobs : List Job) (frames : List Frame) (outbox : List Sent) → p ≡ first_progress b → n ≡ length core.tasks → jobs ≡ [] → frames ≡ replicate n new_frame → outbox ≡ []

@@ -18,7 +18,8 @@ use Rattle.osplan.specs.declared.plans.Plan.{Plan}
 use Rattle.osplan.specs.declared.plans.Core.{Core}
 use Rattle.osplan.specs.declared.plans.CoreMode.{CoreMode}
 use Rattle.osplan.specs.declared.plans.CoreMode.TheVariants.{Named, DontCare}
-use Rattle.osplan.specs.Limits.{is_core_within, is_within_limits}
+use Rattle.osplan.specs.Limits.{is_within_limits}
+use Rattle.osplan.proofs.Within.{limit-parts}
 use Rattle.osplan.specs.Separate.{alone_of, cut_of, is_agreed_mode, is_named_elsewhere, is_separate_core, names_mode}
 use Rattle.osplan.specs.View.{View, core_of, is_configured, no_core, view_of}
 use Rattle.osplan.proofs.Separating.{SeparateParts, separate-parts}
@@ -110,7 +111,7 @@ module _ (plan : Plan) (stimuli : List CoreStimuli) (lists : List (CoreId × Lis
   unnamed = subst (λ (k : CoreId). is_named_elsewhere plan k ≡ false) same parts.unnamed
 
   configured : is_some (core_of plan plan.master) ≡ true
-  configured = (and_parts _ (is_some (core_of plan plan.master)) (and_parts _ (list_all (is_core_within plan) plan.cores) limits).0).1
+  configured = (limit-parts plan limits).master
 
   -- Its mode is that of its own configuration.
   module _ (m : ModeId) (mode : core.mode ≡ Named m) where

@@ -15,6 +15,7 @@ use Rattle.osplan.specs.View.{core_of}
 use Rattle.osplan.specs.Limits.{is_object}
 use Rattle.osplan.specs.Expressible.{is_task_expressible, is_core_expressible}
 use Rattle.osplan.proofs.Tests.{find-passes}
+use Rattle.osplan.proofs.Within.{core-text-parts}
 use Rattle.osplan.specs.Names.{name_in, name_of}
 
 -- the task at this place
@@ -54,9 +55,6 @@ names-if plan target (Some core) found known =
 pub names-task : (plan : Plan) (target : Place) → is_object plan (task_at target) ≡ true → (core : Core) × (task : Task) × Names plan target core task
 names-task plan target known = names-if plan target (core_of plan target.core) refl known
 
-core-tasks : (core : Core) → is_core_expressible core ≡ true → list_all is_task_expressible core.tasks ≡ true
-core-tasks core h = (and_parts _ (list_all is_task_expressible core.tasks) (and_parts _ _ (and_parts _ _ (and_parts _ _ h).0).0).0).1
-
 pub found-passes : (plan : Plan) (target : Place) (core : Core) (task : Task) (q : Core → Bool) → Names plan target core task → list_all q plan.cores ≡ true → q core ≡ true
 found-passes plan target core task q names all = find-passes (λ (c : Core). same_core c.id target.core) q plan.cores core all names.core_is
 
@@ -66,5 +64,5 @@ named-form plan said target known =
     let found = names-task plan target known in
     let core = found.0 in
     let task = found.1 in
-    let within : is_task_expressible task ≡ true = get-passes is_task_expressible core.tasks target.index task (core-tasks core (found-passes plan target core task is_core_expressible found.2 said)) found.2.task_is in
+    let within : is_task_expressible task ≡ true = get-passes is_task_expressible core.tasks target.index task (core-text-parts core (found-passes plan target core task is_core_expressible found.2 said)).tasks found.2.task_is in
     rw found.2.name_is (and_parts (is_name task.name) _ within).0

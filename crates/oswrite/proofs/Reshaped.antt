@@ -5,12 +5,12 @@ use Rattle.std.proofs.lemmas.Bool.{and_parts, true≢false, eqb-true}
 use Rattle.std.proofs.lemmas.Slice.Eq.{bytes_eq-Decides}
 use Rattle.serde_json.specs.Data.{Data}
 use Rattle.serde_json.specs.View.{items_of}
-use Rattle.osbase.specs.declared.references.CoreId.{CoreId}
 use Rattle.osbase.specs.declared.references.ModeId.{ModeId}
 use Rattle.osplan.specs.declared.plans.Plan.{Plan}
 use Rattle.osplan.specs.declared.plans.Core.{Core}
 use Rattle.osplan.specs.declared.plans.Task.{Task}
 use Rattle.osbase.specs.Names.{is_name}
+use Rattle.osplan.specs.Limits.{number_of}
 use Rattle.osplan.specs.Expressible.{mode_name, are_mode_name, is_only_mode, is_task_expressible, is_core_expressible}
 use Rattle.osdraft.specs.declared.shapes.ConfigText.{ConfigText}
 use Rattle.osdraft.specs.declared.shapes.CoreText.{CoreText}
@@ -19,22 +19,20 @@ use Rattle.osread.specs.Reading.{each}
 use Rattle.osread.specs.Json.{elements, whole_of, name_of}
 use Rattle.osdraft.specs.Shape.{task_shape, core_shape, config_shape}
 use Rattle.osplan.specs.Names.{name_of_mode}
+use Rattle.osplan.proofs.Within.{core-text-parts}
 use Rattle.oswrite.specs.Writing.{script_text, id_data, mode_data, task_data, core_data, config_data}
 use Rattle.osread.proofs.Contents.{elements-items_of}
 
 -- ---- what the text says
 
-abbrev pub number_said : CoreId → Option ℕ
-number_said id = Some id.number
-
 abbrev pub task_said : Plan → Task → TaskText
 task_said plan task = record { name = task.name; prio = Some task.priority; auto = map (name_of_mode plan) task.auto; activations = Some task.activations; script = script_text plan task.script }
 
 abbrev pub core_said : Plan → Core → CoreText
-core_said plan core = record { id = number_said core.id; start = map number_said core.start; tasks = map (task_said plan) core.tasks }
+core_said plan core = record { id = number_of core.id; start = map number_of core.start; tasks = map (task_said plan) core.tasks }
 
 abbrev pub config_said : Plan → ConfigText
-config_said plan = record { version = Some 1; cap = Some plan.cap; master = number_said plan.master; cores = map (core_said plan) plan.cores }
+config_said plan = record { version = Some 1; cap = Some plan.cap; master = number_of plan.master; cores = map (core_said plan) plan.cores }
 
 -- ---- modes
 
@@ -79,8 +77,8 @@ module _ (plan : Plan) (modes : are_mode_name plan.modes ≡ true) where
   core-shape : (core : Core) → is_core_expressible core ≡ true → core_shape (core_data plan core) ≡ Some (core_said plan core)
   unfolding core_shape
   core-shape core h =
-      let tasks = (and_parts _ (list_all is_task_expressible core.tasks) (and_parts _ _ (and_parts _ _ (and_parts _ _ h).0).0).0).1 in
-      rw (each-items whole_of id_data number_said (λ id. true) (λ id e. refl) core.start (always core.start), each-items task_shape (task_data plan) (task_said plan) is_task_expressible task-shape core.tasks tasks) refl
+      let tasks = (core-text-parts core h).tasks in
+      rw (each-items whole_of id_data number_of (λ id. true) (λ id e. refl) core.start (always core.start), each-items task_shape (task_data plan) (task_said plan) is_task_expressible task-shape core.tasks tasks) refl
 
   pub config-shape : list_all is_core_expressible plan.cores ≡ true → config_shape (config_data plan) ≡ Some (config_said plan)
   unfolding config_shape

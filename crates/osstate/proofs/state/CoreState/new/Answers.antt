@@ -5,13 +5,14 @@ use Rattle.osplan.specs.View.{core_of}
 use Rattle.osstate.specs.State.{KernelState}
 use Rattle.osstate.specs.Steps.{first_progress}
 use Rattle.osstate.specs.Sound.{IsSound}
-use Rattle.osstate.proofs.Begun.{core_within, tasks_within, state-begun, sound-begun, parts-begun}
+use Rattle.osplan.proofs.Within.{core-fits}
+use Rattle.osstate.proofs.Begun.{state-begun, sound-begun, parts-begun}
 use Rattle.osstate.proofs.state.CoreState.new.Goals as goal
 
 pub new_frames-frames-requires : goal.new_frames-frames-requires
 new_frames-frames-requires g c =
     let found : core_of c.args.config.now c.args.id ≡ Some c.in-Some.core.now = sym (c.in-Some.ensures ∙ ap (λ (p : Plan). core_of p c.args.id) c.plan-plan.ensures.value) in
-    omega (arith, c.len.ensures, tasks_within c.args.config.now c.in-Some.core.now (core_within c.args.config.now c.args.id c.in-Some.core.now c.plan-plan.ensures.limits found))
+    omega (arith, c.len.ensures, (core-fits c.args.config.now c.args.id c.in-Some.core.now c.plan-plan.ensures.limits found).tasks)
 
 pub invariant_of-result : goal.invariant_of-result
 invariant_of-result g c =

@@ -1,0 +1,121 @@
+-- What the tests of a configuration say, by name, and what a kernel needs of a core.
+use Rattle.std.proofs.Common.{◌≡◌, ◌≤◌, true, not, nat_eq, nat_le, nat_lt, List, [], ◌∷◌, length, map, Some, is_some, IsTrue, sym, ◌∙◌, arith, sum_by}
+use Rattle.std.specs.List.{list_all}
+use Rattle.std.proofs.lemmas.Bool.{and_parts, leb-true, lt-ltb}
+use Rattle.std.proofs.lemmas.List.{length-map}
+use Rattle.std.proofs.lemmas.List.Folds.{list_all-map}
+use Rattle.osbase.specs.declared.references.CoreId.{CoreId}
+use Rattle.osbase.specs.History.{same_core}
+use Rattle.osplan.specs.declared.plans.Plan.{Plan}
+use Rattle.osplan.specs.declared.plans.Core.{Core}
+use Rattle.osplan.specs.declared.plans.Task.{Task}
+use Rattle.osplan.specs.View.{core_of}
+use Rattle.osplan.specs.Limits.{task_sizes, core_sizes, sizes_of, is_task_within, is_core_within, is_within, is_core_known, are_cores_distinct, is_within_limits}
+use Rattle.osplan.specs.Expressible.{mode_name, are_mode_name, is_in_only_mode, core_has_name, are_names_distinct, is_task_expressible, is_core_expressible, is_expressible}
+use Rattle.osplan.proofs.Tests.{all-weaker, find-passes, none-from}
+
+-- ---- the parts of both tests
+
+pub record LimitParts (plan : Plan) : Type 0 where
+  pub sizes : is_within (sizes_of plan) ≡ true
+  pub cores : list_all (λ (c : Core). is_core_within (core_sizes c)) plan.cores ≡ true
+  pub distinct : are_cores_distinct plan.cores ≡ true
+  pub master : is_some (core_of plan plan.master) ≡ true
+  pub known : list_all (is_core_known plan) plan.cores ≡ true
+
+pub limit-parts : (plan : Plan) → IsTrue (is_within_limits plan) → LimitParts plan
+limit-parts plan h =
+    let known = and_parts _ (list_all (is_core_known plan) plan.cores) h in
+    let master = and_parts _ (is_some (core_of plan plan.master)) known.0 in
+    let distinct = and_parts (is_within (sizes_of plan)) (are_cores_distinct plan.cores) master.0 in
+    let cores = and_parts _ (list_all is_core_within (map core_sizes plan.cores)) distinct.0 in
+    record {
+      sizes = distinct.0;
+      cores = sym (list_all-map is_core_within core_sizes plan.cores) ∙ cores.1;
+      distinct = distinct.1;
+      master = master.1;
+      known = known.1;
+    }
+
+pub record TextParts (plan : Plan) : Type 0 where
+  pub modes : are_mode_name plan.modes ≡ true
+  pub cores : list_all is_core_expressible plan.cores ≡ true
+  pub names : are_names_distinct plan.cores ≡ true
+  pub unmoded : list_all (λ (c : Core). not (core_has_name mode_name c)) plan.cores ≡ true
+
+pub text-parts : (plan : Plan) → IsTrue (is_expressible plan) → TextParts plan
+text-parts plan h =
+    let unmoded = and_parts _ (list_all (λ (c : Core). not (core_has_name mode_name c)) plan.cores) h in
+    let names = and_parts _ (are_names_distinct plan.cores) unmoded.0 in
+    let cores = and_parts (are_mode_name plan.modes) (list_all is_core_expressible plan.cores) names.0 in
+    record { modes = cores.0; cores = cores.1; names = names.1; unmoded = unmoded.1 }
+
+-- Of a core that a text can say, and what it cannot have yet.
+pub record CoreTextParts (core : Core) : Type 0 where
+  pub mode : is_in_only_mode core.mode ≡ true
+  pub tasks : list_all is_task_expressible core.tasks ≡ true
+  pub isrs : core.isrs ≡ []
+  pub alarms : core.alarms ≡ []
+  pub tables : core.tables ≡ []
+
+pub core-text-parts : (core : Core) → IsTrue (is_core_expressible core) → CoreTextParts core
+core-text-parts core h =
+    let tables = and_parts _ (nat_eq (length core.tables) 0) h in
+    let alarms = and_parts _ (nat_eq (length core.alarms) 0) tables.0 in
+    let isrs = and_parts _ (nat_eq (length core.isrs) 0) alarms.0 in
+    let tasks = and_parts (is_in_only_mode core.mode) (list_all is_task_expressible core.tasks) isrs.0 in
+    record {
+      mode = tasks.0;
+      tasks = tasks.1;
+      isrs = none-from core.isrs isrs.1;
+      alarms = none-from core.alarms alarms.1;
+      tables = none-from core.tables tables.1;
+    }
+
+-- ---- what a kernel needs
+
+-- The core has its place among the flags of all cores, and its tasks and their jobs have room.
+pub record FitsKernel (core : Core) : Type 0 where
+  pub number : nat_lt core.id.number 16 ≡ true
+  pub tasks : length core.tasks ≤ 32
+  pub priorities : list_all (λ (t : Task). nat_lt t.priority 32) core.tasks ≡ true
+  pub some : list_all (λ (t : Task). nat_le 1 t.activations) core.tasks ≡ true
+  pub activations : sum_by (λ (t : Task). t.activations) core.tasks ≤ 64
+
+-- The limits of a task's numbers.
+priority-low : (task : Task) → is_task_within (task_sizes task) ≡ true → nat_lt task.priority 32 ≡ true
+priority-low task h =
+    let le = leb-true task.priority 31 (and_parts (nat_le 0 task.priority) _ (and_parts _ _ (and_parts _ _ h).0).0).1 in
+    lt-ltb task.priority 32 (omega arith)
+
+activations-some : (task : Task) → is_task_within (task_sizes task) ≡ true → nat_le 1 task.activations ≡ true
+activations-some task h = (and_parts (nat_le 1 task.activations) _ (and_parts _ _ (and_parts _ _ h).0).1).0
+
+activations-low : (task : Task) → is_task_within (task_sizes task) ≡ true → task.activations ≤ 64
+activations-low task h = leb-true task.activations 64 (and_parts (nat_le 1 task.activations) _ (and_parts _ _ (and_parts _ _ h).0).1).1
+
+-- those of one task at most
+sum-low : (tasks : List Task) → length tasks ≤ 1 → list_all (λ (t : Task). is_task_within (task_sizes t)) tasks ≡ true → sum_by (λ (t : Task). t.activations) tasks ≤ 64
+sum-low [] few within = omega arith
+sum-low (task ∷ []) few within = let low : task.activations ≤ 64 = activations-low task (and_parts _ true within).0 in omega arith
+sum-low (task ∷ other ∷ tasks) few within = absurd (omega arith)
+
+pub fits : (core : Core) → is_core_within (core_sizes core) ≡ true → FitsKernel core
+fits core h =
+    let tasks = and_parts _ (list_all is_task_within (map task_sizes core.tasks)) h in
+    let few = and_parts _ (nat_le (length (map task_sizes core.tasks)) 1) tasks.0 in
+    let number : core.id.number ≤ 7 = leb-true core.id.number 7 (and_parts (nat_le 0 core.id.number) _ (and_parts _ _ few.0).0).1 in
+    let each : list_all (λ (t : Task). is_task_within (task_sizes t)) core.tasks ≡ true = sym (list_all-map is_task_within task_sizes core.tasks) ∙ tasks.1 in
+    let count : length core.tasks ≤ 1 = rw (← length-map core.tasks task_sizes) (leb-true (length (map task_sizes core.tasks)) 1 few.1) in
+    record {
+      number = lt-ltb core.id.number 16 (omega arith);
+      tasks = omega arith;
+      priorities = all-weaker _ _ priority-low core.tasks each;
+      some = all-weaker _ _ activations-some core.tasks each;
+      activations = sum-low core.tasks count each;
+    }
+
+-- Each configured core fits.
+pub core-fits : (plan : Plan) (id : CoreId) (core : Core) → IsTrue (is_within_limits plan) → core_of plan id ≡ Some core → FitsKernel core
+core-fits plan id core limits found =
+    fits core (find-passes (λ (c : Core). same_core c.id id) (λ (c : Core). is_core_within (core_sizes c)) plan.cores core (limit-parts plan limits).cores found)
