@@ -10,9 +10,10 @@ use Rattle.oscript.specs.declared.rows.Arg.{Arg}
 use Rattle.oscript.specs.Rows as rows
 use Rattle.osforms.specs.Form.{form_of}
 use Rattle.osforms.specs.Operation.{resolved, op_meant}
-use Rattle.osdraft.specs.declared.shapes.CoreText.{CoreText}
+use Rattle.osdraft.specs.declared.declarations.Declaration.{Declaration}
 use Rattle.osread.specs.Reading.{value_if, each}
-use Rattle.osdraft.specs.Operation.{place_of, known_op}
+use Rattle.osdraft.specs.Declarations.{place_of}
+use Rattle.osdraft.specs.Operation.{known_op}
 
 -- ---- operations
 
@@ -26,8 +27,8 @@ by-form place None = refl
 by-form place (Some form) = by-places (resolved place form)
 
 -- The operation that a text means is that of a text without a fault.
-pub meant : (cores : List CoreText) (text : List ℕ) → op_meant (place_of cores) text ≡ known_op cores text
-meant cores text = by-form (place_of cores) (form_of text)
+pub meant : (objects : List Declaration) (text : List ℕ) → op_meant (place_of objects) text ≡ known_op objects text
+meant objects text = by-form (place_of objects) (form_of text)
 
 -- ---- lists
 

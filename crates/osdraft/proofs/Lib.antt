@@ -1,5 +1,6 @@
 pub mod Naming
-pub mod Placing
+pub mod Numbers
+pub mod Standing
 pub mod Least
 pub mod Bounds
 pub mod Sayings

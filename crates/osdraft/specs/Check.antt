@@ -4,14 +4,16 @@ use Rattle.std.specs.Prelude.{ℕ, ◌==◌, ◌&&◌, Bool, true, false, not, O
 use Rattle.std.specs.List.{list_all, list_any}
 use Rattle.std.specs.Str.{bytes_eq}
 use Rattle.osbase.specs.Names.{is_name}
-use Rattle.osplan.specs.Expressible.{mode_name}
+use Rattle.osplan.specs.Expressible.{are_distinct, mode_name}
 use Rattle.osplan.specs.Limits.{TaskSizes, CoreSizes, Sizes, is_between, is_within}
 use Rattle.osplan.specs.declared.faults.ConfFault.TheVariants.{Limit, DuplicateName, UnknownName, BadScript}
 use Rattle.osdraft.specs.declared.shapes.ConfigText.{ConfigText}
 use Rattle.osdraft.specs.declared.shapes.CoreText.{CoreText}
 use Rattle.osdraft.specs.declared.shapes.TaskText.{TaskText}
 use Rattle.osread.specs.Faults.{Tests}
-use Rattle.osdraft.specs.Operation.{operations_of, has_name, is_operation_known, is_operation}
+use Rattle.osdraft.specs.declared.declarations.Declaration.{Declaration}
+use Rattle.osdraft.specs.Declarations.{declarations}
+use Rattle.osdraft.specs.Operation.{operations_of, is_operation_known, is_operation}
 
 -- ---- limits: those of a configuration, over the text's numbers
 
@@ -31,39 +33,24 @@ is_text_within t = is_between 1 1 t.version && is_within (sizes_of t)
 
 -- ---- names and numbers that stand twice
 
--- A task of the core has this name.
-abbrev pub core_has_name : List ℕ → CoreText → Bool
-core_has_name name core = list_any (has_name name) core.tasks
-
--- No later task has the name of this one.
-abbrev pub is_first_named : TaskText → List TaskText → Bool
-is_first_named task later = not (list_any (has_name task.name) later)
-
--- No task of the list has the name of a later one.
-abbrev pub are_tasks_distinct : List TaskText → Bool
-are_tasks_distinct [] = true
-are_tasks_distinct (task ∷ tasks) = is_first_named task tasks && are_tasks_distinct tasks
-
 -- The cores have one number. A number below 0 equals none.
 abbrev pub same_number : Option ℕ → Option ℕ → Bool
 same_number None other = false
 same_number (Some n) None = false
 same_number (Some n) (Some m) = n == m
 
--- A core shares its number with no later core, and no task's name with a later core's task.
-abbrev pub is_apart : CoreText → CoreText → Bool
-is_apart core later = not (same_number core.id later.id) && list_all (λ (task : TaskText). not (core_has_name task.name later)) core.tasks
+-- No core has the number of a later one.
+abbrev pub are_numbers_distinct : List CoreText → Bool
+are_numbers_distinct [] = true
+are_numbers_distinct (core ∷ cores) = list_all (λ (later : CoreText). not (same_number core.id later.id)) cores && are_numbers_distinct cores
 
-abbrev pub is_first_apart : CoreText → List CoreText → Bool
-is_first_apart core later = are_tasks_distinct core.tasks && list_all (is_apart core) later
+-- The only mode's name, and those of all objects.
+abbrev pub names_of : List Declaration → List (List ℕ)
+names_of objects = mode_name ∷ map (λ (declaration : Declaration). declaration.name) objects
 
-abbrev pub are_cores_distinct : List CoreText → Bool
-are_cores_distinct [] = true
-are_cores_distinct (core ∷ cores) = is_first_apart core cores && are_cores_distinct cores
-
--- Every core number stands once, and every name of a mode or a task.
+-- Every core number stands once, and every name.
 abbrev pub is_each_once : ConfigText → Bool
-is_each_once t = are_cores_distinct t.cores && list_all (λ (core : CoreText). not (core_has_name mode_name core)) t.cores
+is_each_once t = are_numbers_distinct t.cores && are_distinct (names_of (declarations t.cores))
 
 -- ---- names and numbers that name nothing
 
@@ -71,21 +58,21 @@ is_each_once t = are_cores_distinct t.cores && list_all (λ (core : CoreText). n
 abbrev pub has_named_tasks : CoreText → Bool
 has_named_tasks core = list_all (λ (task : TaskText). is_name task.name) core.tasks
 
-abbrev pub are_operations_known : List CoreText → List ℕ → Bool
-are_operations_known cores script = list_all (is_operation_known cores) (operations_of script)
+abbrev pub are_operations_known : List Declaration → List ℕ → Bool
+are_operations_known objects script = list_all (is_operation_known objects) (operations_of script)
 
 abbrev pub is_mode_name : List ℕ → Bool
 is_mode_name name = bytes_eq name mode_name
 
-abbrev pub is_task_known : List CoreText → TaskText → Bool
-is_task_known cores task = list_all is_mode_name task.auto && are_operations_known cores task.script
+abbrev pub is_task_known : List Declaration → TaskText → Bool
+is_task_known objects task = list_all is_mode_name task.auto && are_operations_known objects task.script
 
-abbrev pub is_core_known : List CoreText → CoreText → Bool
-is_core_known cores core = list_all (is_task_known cores) core.tasks
+abbrev pub is_core_known : List Declaration → CoreText → Bool
+is_core_known objects core = list_all (is_task_known objects) core.tasks
 
 -- The master is a configured core, and each name in an autostart or an operation has its object.
 abbrev pub are_known : ConfigText → Bool
-are_known t = list_any (λ (core : CoreText). same_number core.id t.master) t.cores && list_all (is_core_known t.cores) t.cores
+are_known t = list_any (λ (core : CoreText). same_number core.id t.master) t.cores && list_all (is_core_known (declarations t.cores)) t.cores
 
 -- ---- scripts
 

@@ -1,3 +1,4 @@
+pub mod Declarations
 pub mod Operation
 pub mod Shape
 pub mod Check

@@ -16,7 +16,9 @@ use Rattle.osdraft.specs.declared.shapes.TaskText.{TaskText}
 use Rattle.osplan.specs.Expressible.{mode_name}
 use Rattle.osread.specs.Faults.{IsLeast, failing, if_faultless}
 use Rattle.osdraft.specs.Shape.{config_shape}
-use Rattle.osdraft.specs.Operation.{operations_of, byte_of, number_id, id_of, op_of}
+use Rattle.osdraft.specs.declared.declarations.Declaration.{Declaration}
+use Rattle.osdraft.specs.Declarations.{byte_of, declarations, number_id, id_of}
+use Rattle.osdraft.specs.Operation.{operations_of, op_of}
 use Rattle.osdraft.specs.Check.{is_task_known, is_core_known, is_task_script, is_core_script, tests_of}
 use Rattle.osread.specs.Reading.{value_if}
 
@@ -24,39 +26,39 @@ use Rattle.osread.specs.Reading.{value_if}
 abbrev pub only_mode : ModeId
 only_mode = record { index = 0 }
 
-abbrev pub task_plan : List CoreText → TaskText → Task
-task_plan cores task = record {
+abbrev pub task_plan : List Declaration → TaskText → Task
+task_plan objects task = record {
   name = task.name;
   priority = byte_of task.prio;
   auto = map (λ (name : List ℕ). only_mode) task.auto;
   activations = byte_of task.activations;
-  script = map (op_of cores) (operations_of task.script);
+  script = map (op_of objects) (operations_of task.script);
 }
 
-abbrev pub core_plan : List CoreText → CoreText → Core
-core_plan cores core = record {
+abbrev pub core_plan : List Declaration → CoreText → Core
+core_plan objects core = record {
   id = id_of core;
   mode = Named only_mode;
   start = map number_id core.start;
-  tasks = map (task_plan cores) core.tasks;
+  tasks = map (task_plan objects) core.tasks;
   isrs = [];
   alarms = [];
   tables = [];
 }
 
 -- The plans of a task and of a core whose names are known and whose operations are in good form.
-abbrev pub known_task : List CoreText → TaskText → Option Task
-known_task cores task = value_if (is_task_known cores task && is_task_script task) (task_plan cores task)
+abbrev pub known_task : List Declaration → TaskText → Option Task
+known_task objects task = value_if (is_task_known objects task && is_task_script task) (task_plan objects task)
 
-abbrev pub known_core : List CoreText → CoreText → Option Core
-known_core cores core = value_if (is_core_known cores core && is_core_script core) (core_plan cores core)
+abbrev pub known_core : List Declaration → CoreText → Option Core
+known_core objects core = value_if (is_core_known objects core && is_core_script core) (core_plan objects core)
 
 abbrev pub plan_of : ConfigText → Plan
 plan_of t = record {
   cap = byte_of t.cap;
   master = number_id t.master;
   modes = mode_name ∷ [];
-  cores = map (core_plan t.cores) t.cores;
+  cores = map (core_plan (declarations t.cores)) t.cores;
 }
 
 -- ---- a text's faults, in ascending order: past the first or the second nothing more is judged

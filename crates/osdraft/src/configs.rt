@@ -8,7 +8,8 @@ ghost use Rattle.osread.specs.Faults.{failing, first_fault, GivesOr};
 ghost use Rattle.osdraft.specs.Check.{has_named_tasks, tests_of};
 ghost use Rattle.osdraft.specs.Meaning.{plan_of, config_of, IsLeastFault};
 
-use crate::checks::{check, fault_of_names};
+use crate::checks::{fault_of_names, is_each_once, is_within};
+use crate::places::Objects;
 use crate::plans::plan_of;
 use crate::shapes::{ConfigReader, ConfigText};
 use osplan::{ConfFault, Config, Plan};
@@ -33,11 +34,17 @@ fn plan_if_faultless(alloc: Global, text: &ConfigText) -> Result<Plan, ConfFault
     ensures ok { IfOk result (λ plan. (failing (tests_of text.now) ≡ []) × (plan ≡ plan_of text.now)) }
     ensures fault { IfErr result (λ fault. fault ≢ ConfFault.NoMemory → first_fault (failing (tests_of text.now)) ≡ Some fault) }
 {
-    check(text)?;
-    match plan_of(alloc, text) {
+    if !is_within(text) {
+        return Err(ConfFault::Limit);
+    }
+    let objects = Objects::of(alloc, text.cores.as_slice())?;
+    if !is_each_once(text, &objects) {
+        return Err(ConfFault::DuplicateName);
+    }
+    match plan_of(alloc, text, &objects) {
         Ok(plan) => Ok(plan),
         Err(Refusal::OutOfMemory) => Err(ConfFault::NoMemory),
-        Err(Refusal::Unfit) => Err(fault_of_names(text)),
+        Err(Refusal::Unfit) => Err(fault_of_names(text, &objects)),
     }
 }
 

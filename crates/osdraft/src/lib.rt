@@ -7,6 +7,7 @@
 
 mod checks;
 mod configs;
+mod declarations;
 mod places;
 mod plans;
 mod shapes;

@@ -1,95 +1,106 @@
 //! Where the objects of a configuration's text stand, by their names.
 
-ghost use Rattle.std.specs.Prelude.{◌≡◌, IsTrue, position};
-ghost use Rattle.std.specs.List.{list_all};
-ghost use Rattle.osdraft.specs.Check.{has_named_tasks};
-ghost use Rattle.osdraft.specs.Operation.{byte_of, has_name, id_of, task_of_core, task_place};
+ghost use Rattle.std.specs.Prelude.{◌≡◌, IfOk, IsTrue, find, map, option_copied};
+ghost use Rattle.std.specs.List.{list_all, list_any};
+ghost use Rattle.std.specs.Str.{bytes_eq};
+ghost use Rattle.osbase.specs.Names.{is_name};
+ghost use Rattle.osplan.specs.Expressible.{are_distinct};
+ghost use Rattle.osdraft.specs.declared.declarations.Declaration.{Declaration as Declared};
+ghost use Rattle.osdraft.specs.Check.{has_named_tasks, names_of};
+ghost use Rattle.osdraft.specs.Declarations.{declarations, has_name, is_kind, place_in};
 
-use crate::shapes::{CoreText, TaskText};
-use osbase::{CoreId, ObjectKind, Place};
+use crate::declarations::{Declaration, byte_of, declarations_of, has_name};
+use crate::shapes::CoreText;
+use osbase::{List, ObjectKind, Place};
 use osforms::Places;
-use osread::Whole;
+use std::alloc::{AllocError, Global};
 
-/// A number as a byte: 0 where it is none, which no text within the limits has.
-pub fn byte_of(number: Whole) -> u8
-    ensures { result ≡ byte_of number }
+/// The name of the only mode.
+pub const MODE: &str = "M";
+
+fn is_kind(kind: ObjectKind, other: ObjectKind) -> bool
+    ensures { result ≡ is_kind kind other }
 {
-    match number {
-        Some(number) => { if number <= 255 { number as u8 } else { 0 } }
-        None => 0,
+    kind == other
+}
+
+fn place_in(kind: ObjectKind, declaration: &Declaration) -> Option<Place>
+    ensures { result ≡ place_in kind declaration.now }
+{
+    if is_kind(declaration.kind, kind) {
+        Some(Place {
+            core: declaration.core,
+            index: byte_of(Some(declaration.index as u64)),
+        })
+    } else {
+        None
     }
 }
 
-/// A core's number as the configuration has it.
-pub fn id_of(core: &CoreText) -> CoreId
-    ensures { result ≡ id_of core.now }
+// The first object that has the name.
+fn declared_as<'d, 't>(name: &str, declared: &'d [Declaration<'t>]) -> Option<&'d Declaration<'t>>
+    ensures { option_copied result ≡ find (has_name name.now) declared.now }
 {
-    CoreId {
-        number: byte_of(core.id),
-    }
+    declared
+        .iter()
+        .find(|declaration| has_name(name, declaration))
 }
 
-/// Whether the task has this name. Names commonly begin alike, so their ends are compared first.
-pub fn has_name(name: &str, task: &TaskText) -> bool
-    ensures { result ≡ has_name name.now task.now }
+fn is_declared(name: &str, declared: &[Declaration]) -> bool
+    ensures { result ≡ list_any (λ later. bytes_eq later name.now) (map (λ (d : Declared). d.name) declared.now) }
 {
-    let own = task.name.as_str();
-    own.as_bytes().last() == name.as_bytes().last() && own == name
+    declared_as(name, declared).is_some()
 }
 
-fn position_of(name: &str, tasks: &[TaskText]) -> Option<usize>
-    ensures { result ≡ position (has_name name.now) tasks.now }
+fn are_distinct(declared: &[Declaration]) -> bool
+    ensures { result ≡ are_distinct (map (λ (d : Declared). d.name) declared.now) }
 {
-    tasks.iter().position(|task| has_name(name, task))
-}
-
-fn task_of_core(name: &str, core: &CoreText) -> Option<Place>
-    ensures { result ≡ task_of_core name.now core.now }
-{
-    let index = position_of(name, core.tasks.as_slice())?;
-    Some(Place {
-        core: id_of(core),
-        index: byte_of(Some(index as u64)),
-    })
-}
-
-fn task_place(cores: &[CoreText], name: &str) -> Option<Place>
-    ensures { result ≡ task_place cores.now name.now }
-{
-    for core in cores {
-        if let Some(place) = task_of_core(name, core) {
-            return Some(place);
+    let mut declared = declared;
+    while let [declaration, later @ ..] = declared {
+        if is_declared(declaration.name.as_str(), later) {
+            return false;
         }
+        declared = later;
     }
-    None
+    true
 }
 
-/// The objects of a text's cores.
+/// The objects that a text's cores declare.
 #[derive(Debug, Drop)]
 pub struct Objects<'t> {
-    cores: &'t [CoreText<'t>],
-    ghost named: { IsTrue (list_all has_named_tasks cores.now) },
+    declared: List<Declaration<'t>>,
+    ghost named: { IsTrue (list_all (λ (d : Declared). is_name d.name) declared) },
 }
 
 impl<'t> Objects<'t> {
     /// The objects of these cores, whose names are in form, as in every shape.
-    pub fn of(cores: &'t [CoreText<'t>]) -> Self
+    pub fn of(alloc: Global, cores: &'t [CoreText<'t>]) -> Result<Self, AllocError>
         requires named { IsTrue (list_all has_named_tasks cores.now) }
-        ensures { result.cores.now ≡ cores.now }
+        ensures { IfOk result (λ objects. objects.declared ≡ declarations cores.now) }
     {
-        Objects { cores }
+        Ok(Objects {
+            declared: declarations_of(alloc, cores)?,
+        })
+    }
+
+    /// Whether the names of the only mode and of all objects are different.
+    pub fn are_named_apart(&self) -> bool
+        ensures { result ≡ are_distinct (names_of self.now.declared) }
+    {
+        let declared = self.declared.as_slice();
+        !is_declared(MODE, declared) && are_distinct(declared)
     }
 }
 
 impl Places for Objects<'_> {
-    ghost use Rattle.osdraft.specs.Operation.{place_of};
+    ghost use Rattle.osdraft.specs.Declarations.{place_of};
 
-    ghost place = { λ objects. place_of objects.cores.now };
+    ghost place = { λ objects. place_of objects.declared };
 
     fn place(&self, kind: ObjectKind, name: &str) -> Option<Place> {
-        match kind {
-            ObjectKind::Task => task_place(self.cores, name),
-            ObjectKind::Alarm => None,
+        match declared_as(name, self.declared.as_slice()) {
+            Some(declaration) => place_in(kind, declaration),
+            None => None,
         }
     }
 }

@@ -1,14 +1,16 @@
 //! The configuration that a text without a fault means.
 
-ghost use Rattle.std.specs.Prelude.{◌≡◌, ◌&&◌, ℕ, IfOk, IsTrue, List as Items, map, true};
+ghost use Rattle.std.specs.Prelude.{◌≡◌, ◌&&◌, ℕ, IfOk, List as Items, map, true};
 ghost use Rattle.std.specs.List.{list_all};
 ghost use Rattle.osread.specs.Reading.{Gives, value_if};
-ghost use Rattle.osdraft.specs.Operation.{number_id, is_operation, known_op, op_of, operations_of};
-ghost use Rattle.osdraft.specs.Check.{has_named_tasks, are_operations_known, is_task_known, is_core_known, are_known, is_task_script, is_core_script, are_operations};
+ghost use Rattle.osdraft.specs.Declarations.{declarations, number_id};
+ghost use Rattle.osdraft.specs.Operation.{is_operation, known_op, op_of, operations_of};
+ghost use Rattle.osdraft.specs.Check.{are_operations_known, is_task_known, is_core_known, are_known, is_task_script, is_core_script, are_operations};
 ghost use Rattle.osdraft.specs.Meaning.{only_mode, task_plan, core_plan, known_task, known_core, plan_of};
 
-use crate::checks::{MODE, are_mode_names, has_core};
-use crate::places::{Objects, byte_of, id_of};
+use crate::checks::{are_mode_names, has_core};
+use crate::declarations::{byte_of, id_of};
+use crate::places::{MODE, Objects};
 use crate::shapes::{ConfigText, CoreText, TaskText};
 use osbase::{CoreId, List, ModeId, Name};
 use oscript::{Op, Script};
@@ -21,7 +23,7 @@ use std::alloc::{AllocError, Global};
 const ONLY_MODE: ModeId = ModeId { index: 0 };
 
 impl PartReader<Op> for Objects<'_> {
-    ghost shape = { λ objects. known_op objects.cores.now };
+    ghost shape = { λ objects. known_op objects.declared };
 
     fn read(&self, part: &str) -> Option<Op> {
         op_meant(self, part)
@@ -29,7 +31,7 @@ impl PartReader<Op> for Objects<'_> {
 }
 
 fn script_of(alloc: Global, objects: &Objects, script: &str) -> Result<Script, Refusal>
-    ensures { Gives (λ x. x) result (value_if (are_operations_known objects.now.cores.now script.now && list_all is_operation (operations_of script.now)) (map (op_of objects.now.cores.now) (operations_of script.now))) }
+    ensures { Gives (λ x. x) result (value_if (are_operations_known objects.now.declared script.now && list_all is_operation (operations_of script.now)) (map (op_of objects.now.declared) (operations_of script.now))) }
 {
     read_parts(alloc, objects, script, ';')
 }
@@ -51,7 +53,7 @@ struct TaskPlanner<'t> {
 }
 
 impl<'e> Reader<'e, TaskText<'e>, Task> for TaskPlanner<'_> {
-    ghost shape = { λ planner. known_task planner.objects.now.cores.now };
+    ghost shape = { λ planner. known_task planner.objects.now.declared };
 
     ghost passes = { λ _ _. true };
 
@@ -70,7 +72,7 @@ impl<'e> Reader<'e, TaskText<'e>, Task> for TaskPlanner<'_> {
 }
 
 fn tasks_of(alloc: Global, objects: &Objects, tasks: &[TaskText]) -> Result<List<Task>, Refusal>
-    ensures { Gives (λ x. x) result (value_if (list_all (is_task_known objects.now.cores.now) tasks.now && list_all is_task_script tasks.now) (map (task_plan objects.now.cores.now) tasks.now)) }
+    ensures { Gives (λ x. x) result (value_if (list_all (is_task_known objects.now.declared) tasks.now && list_all is_task_script tasks.now) (map (task_plan objects.now.declared) tasks.now)) }
 {
     read_each(alloc, &TaskPlanner { objects }, tasks)
 }
@@ -94,7 +96,7 @@ struct CorePlanner<'t> {
 }
 
 impl<'e> Reader<'e, CoreText<'e>, Core> for CorePlanner<'_> {
-    ghost shape = { λ planner. known_core planner.objects.now.cores.now };
+    ghost shape = { λ planner. known_core planner.objects.now.declared };
 
     ghost passes = { λ _ _. true };
 
@@ -112,14 +114,14 @@ impl<'e> Reader<'e, CoreText<'e>, Core> for CorePlanner<'_> {
 }
 
 fn cores_of(alloc: Global, objects: &Objects, cores: &[CoreText]) -> Result<List<Core>, Refusal>
-    ensures { Gives (λ x. x) result (value_if (list_all (is_core_known objects.now.cores.now) cores.now && list_all is_core_script cores.now) (map (core_plan objects.now.cores.now) cores.now)) }
+    ensures { Gives (λ x. x) result (value_if (list_all (is_core_known objects.now.declared) cores.now && list_all is_core_script cores.now) (map (core_plan objects.now.declared) cores.now)) }
 {
     read_each(alloc, &CorePlanner { objects }, cores)
 }
 
 /// The plan of a text. `Unfit` where a name in it names nothing, or an operation is not in good form.
-pub fn plan_of(alloc: Global, text: &ConfigText) -> Result<Plan, Refusal>
-    requires named { IsTrue (list_all has_named_tasks text.now.cores) }
+pub fn plan_of(alloc: Global, text: &ConfigText, objects: &Objects) -> Result<Plan, Refusal>
+    requires objects { objects.now.declared ≡ declarations text.now.cores }
     ensures { Gives (λ x. x) result (value_if (are_known text.now && are_operations text.now) (plan_of text.now)) }
 {
     let cores = text.cores.as_slice();
@@ -134,6 +136,6 @@ pub fn plan_of(alloc: Global, text: &ConfigText) -> Result<Plan, Refusal>
             number: byte_of(text.master),
         },
         modes,
-        cores: cores_of(alloc, &Objects::of(cores), cores)?,
+        cores: cores_of(alloc, objects, cores)?,
     })
 }

@@ -1,8 +1,10 @@
 -- The configuration of a separate core alone is within the limits, and a text can say it.
-use Rattle.std.proofs.Common.{◌≡◌, Bool, true, false, not, ◌&&◌, nat_eq, nat_lt, List, [], ◌∷◌, length, Option, Some, IsTrue, refl, sym, ap, ◌∙◌}
-use Rattle.std.specs.List.{list_all, list_any}
+use Rattle.std.proofs.Common.{◌≡◌, ℕ, Bool, true, false, not, ◌&&◌, nat_eq, nat_lt, List, [], ◌∷◌, ◌++◌, length, Option, Some, IsTrue, refl, sym, ap, ◌∙◌}
+use Rattle.std.specs.List.{list_all, list_any, flat_map}
 use Rattle.std.specs.Option.{option_map_or}
-use Rattle.std.proofs.lemmas.Bool.{and_parts, and_from, or_left, or_right, not-true, not-false, not_from_false, eq-eqb}
+use Rattle.std.proofs.lemmas.List.{append-nil}
+use Rattle.std.proofs.lemmas.List.Folds.{list_any-append}
+use Rattle.std.proofs.lemmas.Bool.{and_parts, and_from, or_parts, or_left, or_right, not-true, not-false, not_from_false, eq-eqb}
 use Rattle.osbase.specs.declared.references.CoreId.{CoreId}
 use Rattle.osbase.specs.declared.objects.Object.{Object}
 use Rattle.osbase.specs.History.{same_core}
@@ -20,8 +22,9 @@ use Rattle.osplan.specs.declared.plans.Table.{Table}
 use Rattle.osplan.specs.View.{core_of}
 use Rattle.osplan.specs.Objects.{object_count}
 use Rattle.osplan.specs.Limits.{core_sizes, sizes_of, is_core_within, is_within, is_object, is_op_known, is_mode, is_core_mode, is_task_known, is_core_known, is_within_limits}
-use Rattle.osplan.specs.Expressible.{is_core_expressible, is_expressible, are_tasks_distinct, are_names_distinct, core_has_name, mode_name}
+use Rattle.osplan.specs.Expressible.{is_core_expressible, is_expressible, are_distinct, declared_names, object_names}
 use Rattle.osplan.specs.Separate.{agree, alone_of, has_operation, is_agreed_mode, is_named_elsewhere, is_on, is_separate, is_separate_core, is_started, names_other}
+use Rattle.osplan.proofs.Distinct.{distinct-kept, distinct-front, distinct-back}
 use Rattle.osplan.proofs.Tests.{all-both, all-not, all-weaker, find-holds, find-passes}
 use Rattle.osplan.proofs.Within.{LimitParts, TextParts, limit-parts, text-parts}
 use Rattle.osplan.proofs.Separating.{SeparateParts, separate-parts}
@@ -34,6 +37,18 @@ agree-self DontCare = refl
 pub core-parts : (core : Core) (start : List CoreId) (tasks : List Task) (isrs : List Isr) (alarms : List Alarm) (tables : List Table) → start ≡ core.start → tasks ≡ core.tasks → isrs ≡ core.isrs → alarms ≡ core.alarms → tables ≡ core.tables
     → (let copy : Core = record { id = core.id; mode = core.mode; start = start; tasks = tasks; isrs = isrs; alarms = alarms; tables = tables } in copy ≡ core)
 core-parts core start tasks isrs alarms tables a b c d e = rw (a, b, c, d, e) refl
+
+-- ---- names
+
+each-distinct : (cores : List Core) → are_distinct (flat_map object_names cores) ≡ true → list_all (λ (c : Core). are_distinct (object_names c)) cores ≡ true
+each-distinct [] h = refl
+each-distinct (c ∷ cs) h = and_from _ _ (distinct-front (object_names c) (flat_map object_names cs) h) (each-distinct cs (distinct-back (object_names c) (flat_map object_names cs) h))
+
+none-in-each : (p : List ℕ → Bool) (cores : List Core) → list_any p (flat_map object_names cores) ≡ false → list_all (λ (c : Core). not (list_any p (object_names c))) cores ≡ true
+none-in-each p [] h = refl
+none-in-each p (c ∷ cs) h =
+    let absent = or_parts _ _ (sym (list_any-append p (object_names c) (flat_map object_names cs)) ∙ h) in
+    and_from _ _ (not_from_false _ absent.0) (none-in-each p cs absent.1)
 
 -- ---- the limits
 
@@ -81,9 +96,11 @@ module _ (plan : Plan) (id : CoreId) (core : Core) (found : core_of plan id ≡ 
       and_from _ _ (and_from _ _ (and_from _ _ (sizes-alone limits.sizes within) refl) (rw mine refl)) (and_from _ _ (core-alone known inside) refl)
 
   -- ---- what a text can say
-  expressible-alone : TextParts plan → is_core_expressible core ≡ true → not (core_has_name mode_name core) ≡ true → are_tasks_distinct core.tasks ≡ true → is_expressible (alone_of plan id core) ≡ true
-  expressible-alone said mine unmoded distinct =
-      and_from _ _ (and_from _ _ (and_from _ _ said.modes (and_from _ _ mine refl)) (and_from _ _ (and_from _ _ distinct refl) refl)) (and_from _ _ unmoded refl)
+  expressible-alone : TextParts plan → is_core_expressible core ≡ true → are_distinct (object_names core) ≡ true → is_expressible (alone_of plan id core) ≡ true
+  expressible-alone said mine distinct =
+      let none : (p : List ℕ → Bool) → list_any p (flat_map object_names plan.cores) ≡ false → list_any p (object_names core ++ []) ≡ false =
+          λ p h. ap (list_any p) (append-nil (object_names core)) ∙ not-true _ (find-passes (λ (c : Core). same_core c.id id) (λ (c : Core). not (list_any p (object_names c))) plan.cores core (none-in-each p plan.cores h) found) in
+      and_from _ _ (and_from _ _ said.modes (and_from _ _ mine refl)) (distinct-kept plan.modes _ _ none (ap are_distinct (append-nil (object_names core)) ∙ distinct) said.names)
 
   -- ---- the core alone is separate again
   self : same_core core.id core.id ≡ true
@@ -102,12 +119,6 @@ module _ (plan : Plan) (id : CoreId) (core : Core) (found : core_of plan id ≡ 
   separate-alone parts =
       rw mine (and_from _ _ (and_from _ _ (and_from _ _ (and_from _ _ (and_from _ _ started-alone parts.names) agreed-alone)
       (ap (λ (cores : List CoreId). nat_eq (length cores) 0) parts.no_start)) (not_from_false _ parts.inward)) unnamed-alone)
-
-each-distinct : (cores : List Core) → are_names_distinct cores ≡ true → list_all (λ (c : Core). are_tasks_distinct c.tasks) cores ≡ true
-each-distinct [] h = refl
-each-distinct (c ∷ cs) h =
-    let rest = and_parts _ (are_names_distinct cs) h in
-    and_from _ _ (and_parts (are_tasks_distinct c.tasks) _ rest.0).0 (each-distinct cs rest.1)
 
 -- ---- the whole
 
@@ -130,6 +141,6 @@ whole-alone plan id core limits expressible found separate =
     record {
       expressible_core = mine;
       limits = plan-alone plan id core found same inside within (pick (is_core_known plan) inside.known) parts.inward;
-      expressible = expressible-alone plan id core found same said mine (pick (λ (c : Core). not (core_has_name mode_name c)) said.unmoded) (pick (λ (c : Core). are_tasks_distinct c.tasks) (each-distinct plan.cores said.names));
+      expressible = expressible-alone plan id core found same said mine (pick (λ (c : Core). are_distinct (object_names c)) (each-distinct plan.cores (distinct-back plan.modes (flat_map object_names plan.cores) said.names)));
       separate = separate-alone plan id core found same parts;
     }

@@ -1,4 +1,5 @@
 pub mod Tests
+pub mod Distinct
 pub mod Within
 pub mod Starting
 pub mod Reached

@@ -1,5 +1,5 @@
 -- What the tests of a configuration say, by name, and what a kernel needs of a core.
-use Rattle.std.proofs.Common.{◌≡◌, ◌≤◌, true, not, nat_eq, nat_le, nat_lt, List, [], ◌∷◌, length, map, Some, is_some, IsTrue, sym, ◌∙◌, arith, sum_by}
+use Rattle.std.proofs.Common.{◌≡◌, ◌≤◌, true, nat_eq, nat_le, nat_lt, List, [], ◌∷◌, length, map, Some, is_some, IsTrue, sym, ◌∙◌, arith, sum_by}
 use Rattle.std.specs.List.{list_all}
 use Rattle.std.proofs.lemmas.Bool.{and_parts, leb-true, lt-ltb}
 use Rattle.std.proofs.lemmas.List.{length-map}
@@ -11,7 +11,7 @@ use Rattle.osplan.specs.declared.plans.Core.{Core}
 use Rattle.osplan.specs.declared.plans.Task.{Task}
 use Rattle.osplan.specs.View.{core_of}
 use Rattle.osplan.specs.Limits.{task_sizes, core_sizes, sizes_of, is_task_within, is_core_within, is_within, is_core_known, are_cores_distinct, is_within_limits}
-use Rattle.osplan.specs.Expressible.{mode_name, are_mode_name, is_in_only_mode, core_has_name, are_names_distinct, is_task_expressible, is_core_expressible, is_expressible}
+use Rattle.osplan.specs.Expressible.{are_mode_name, is_in_only_mode, are_distinct, declared_names, is_task_expressible, is_core_expressible, is_expressible}
 use Rattle.osplan.proofs.Tests.{all-weaker, find-passes, none-from}
 
 -- ---- the parts of both tests
@@ -40,15 +40,13 @@ limit-parts plan h =
 pub record TextParts (plan : Plan) : Type 0 where
   pub modes : are_mode_name plan.modes ≡ true
   pub cores : list_all is_core_expressible plan.cores ≡ true
-  pub names : are_names_distinct plan.cores ≡ true
-  pub unmoded : list_all (λ (c : Core). not (core_has_name mode_name c)) plan.cores ≡ true
+  pub names : are_distinct (declared_names plan) ≡ true
 
 pub text-parts : (plan : Plan) → IsTrue (is_expressible plan) → TextParts plan
 text-parts plan h =
-    let unmoded = and_parts _ (list_all (λ (c : Core). not (core_has_name mode_name c)) plan.cores) h in
-    let names = and_parts _ (are_names_distinct plan.cores) unmoded.0 in
+    let names = and_parts _ (are_distinct (declared_names plan)) h in
     let cores = and_parts (are_mode_name plan.modes) (list_all is_core_expressible plan.cores) names.0 in
-    record { modes = cores.0; cores = cores.1; names = names.1; unmoded = unmoded.1 }
+    record { modes = cores.0; cores = cores.1; names = names.1 }
 
 -- Of a core that a text can say, and what it cannot have yet.
 pub record CoreTextParts (core : Core) : Type 0 where

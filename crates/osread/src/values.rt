@@ -68,6 +68,12 @@ impl<'v> Model for Text<'v> {
 }
 
 impl<'v> Text<'v> {
+    pub fn of(text: &'v str) -> Self
+        ensures { result ≡ text.now }
+    {
+        Text { text }
+    }
+
     pub fn as_str(&self) -> &'v str
         ensures { result.now ≡ self.now }
     {
@@ -86,7 +92,7 @@ impl<'v> JsonReader<'v, Text<'v>> for TextReader {
 
     fn read(&self, _alloc: Global, value: &'v Value) -> Result<Text<'v>, Refusal> {
         match value.as_str() {
-            Some(text) => Ok(Text { text }),
+            Some(text) => Ok(Text::of(text)),
             None => Err(Refusal::Unfit),
         }
     }

@@ -1,6 +1,6 @@
 -- The text of a configuration has no fault, and means the configuration.
-use Rattle.std.proofs.Common.{◌≡◌, ℕ, true, not, ◌&&◌, List, [], ◌∷◌, length, map, Option, Some, option_and_then, IsTrue, refl, ap, ◌∙◌}
-use Rattle.std.specs.List.{list_all, list_any}
+use Rattle.std.proofs.Common.{◌≡◌, ℕ, true, not, ◌&&◌, List, [], ◌∷◌, ◌++◌, length, map, Option, Some, option_and_then, IsTrue, refl, sym, ap, ◌∙◌}
+use Rattle.std.specs.List.{list_all, list_any, flat_map}
 use Rattle.std.proofs.lemmas.Bool.{and_parts, and_from}
 use Rattle.std.proofs.lemmas.List.{length-map}
 use Rattle.osbase.specs.History.{same_core}
@@ -18,22 +18,24 @@ use Rattle.osread.specs.Faults.{if_faultless}
 use Rattle.osdraft.specs.Meaning.{config_of, config_of_shape, plan_of}
 use Rattle.osdraft.specs.Shape.{config_shape}
 use Rattle.osdraft.specs.declared.shapes.CoreText.{CoreText}
-use Rattle.osdraft.specs.declared.shapes.TaskText.{TaskText}
 use Rattle.osread.specs.Faults.{failing}
-use Rattle.osdraft.specs.Operation.{operations_of, has_name, place_of, is_operation_known, is_operation}
-use Rattle.osdraft.specs.Check.{task_sizes, core_sizes, sizes_of, is_text_within, core_has_name, are_tasks_distinct, same_number, is_apart, are_cores_distinct, is_each_once, is_mode_name, is_task_known, is_core_known, are_known, is_task_script, is_core_script, are_operations, tests_of}
+use Rattle.osdraft.specs.declared.declarations.Declaration.{Declaration}
+use Rattle.osdraft.specs.Declarations.{declarations, place_of}
+use Rattle.osdraft.specs.Operation.{operations_of, is_operation_known, is_operation}
+use Rattle.osdraft.specs.Check.{task_sizes, core_sizes, sizes_of, is_text_within, same_number, are_numbers_distinct, is_each_once, is_mode_name, is_task_known, is_core_known, are_known, is_task_script, is_core_script, are_operations, tests_of}
 use Rattle.osplan.specs.Names.{name_of_mode}
 use Rattle.oswrite.specs.Writing.{config_data, op_text, script_text}
 use Rattle.osplan.proofs.Tests.{all-both, any-find}
 use Rattle.osplan.proofs.Within.{LimitParts, TextParts, limit-parts, text-parts}
-use Rattle.osdraft.proofs.Bounds.{list_all-by, map-same}
+use Rattle.osdraft.proofs.Numbers.{list_all-by, map-same}
 use Rattle.osdraft.proofs.Sayings.{any-map}
 use Rattle.oswrite.proofs.Reshaped.{task_said, core_said, config_said, modes-are, mode-text, config-shape}
+use Rattle.oswrite.proofs.Placed.{names-said}
 use Rattle.oswrite.proofs.Restored.{is_kept_task, is_kept_core, kept-task, kept-core, kept-cores, op-meant, script-back, plan-back}
 
 module _ (plan : Plan) (inside : IsTrue (limits.is_within_limits plan)) (sayable : IsTrue (said.is_expressible plan)) where
-  abbrev texts : List CoreText
-  texts = map (core_said plan) plan.cores
+  abbrev objects : List Declaration
+  objects = declarations (map (core_said plan) plan.cores)
 
   abbrev bounds : LimitParts plan
   bounds = limit-parts plan inside
@@ -62,65 +64,45 @@ module _ (plan : Plan) (inside : IsTrue (limits.is_within_limits plan)) (sayable
 
   -- ---- names
 
-  core-name : (name : List ℕ) (core : Core) → core_has_name name (core_said plan core) ≡ said.core_has_name name core
-  core-name name core = any-map (has_name name) (task_said plan) core.tasks
-
-  tasks-distinct : (tasks : List Task) → said.are_tasks_distinct tasks ≡ true → are_tasks_distinct (map (task_said plan) tasks) ≡ true
-  tasks-distinct [] h = refl
-  tasks-distinct (task ∷ tasks) h =
-      let parts = and_parts (not (list_any (said.has_name task.name) tasks)) _ h in
-      and_from _ _ (ap not (any-map (has_name task.name) (task_said plan) tasks) ∙ parts.0) (tasks-distinct tasks parts.1)
-
-  apart : (core later : Core) → (not (same_core core.id later.id) && said.is_apart core later) ≡ true → is_apart (core_said plan core) (core_said plan later) ≡ true
-  apart core later h =
-      let parts = and_parts (not (same_core core.id later.id)) _ h in
-      and_from _ _ parts.0
-      (list_all-by (λ (task : Task). not (said.core_has_name task.name later)) (λ (task : TaskText). not (core_has_name task.name (core_said plan later))) (task_said plan)
-      (λ task e. ap not (core-name task.name later) ∙ e) core.tasks parts.1)
-
-  cores-distinct : (cores : List Core) → limits.are_cores_distinct cores ≡ true → said.are_names_distinct cores ≡ true → are_cores_distinct (map (core_said plan) cores) ≡ true
-  cores-distinct [] numbers names = refl
-  cores-distinct (core ∷ cores) numbers names =
-      let number = and_parts (list_all (λ (d : Core). not (same_core core.id d.id)) cores) _ numbers in
-      let later = and_parts _ (said.are_names_distinct cores) names in
-      let name = and_parts (said.are_tasks_distinct core.tasks) (list_all (said.is_apart core) cores) later.0 in
-      and_from _ _ (and_from _ _ (tasks-distinct core.tasks name.0)
-      (list_all-by (λ (d : Core). not (same_core core.id d.id) && said.is_apart core d) (is_apart (core_said plan core)) (core_said plan) (apart core) cores
-      (all-both (λ (d : Core). not (same_core core.id d.id)) (said.is_apart core) cores number.0 name.1)))
-      (cores-distinct cores number.1 later.1)
+  numbers-distinct : (cores : List Core) → limits.are_cores_distinct cores ≡ true → are_numbers_distinct (map (core_said plan) cores) ≡ true
+  numbers-distinct [] h = refl
+  numbers-distinct (core ∷ cores) h =
+      let apart = and_parts (list_all (λ (d : Core). not (same_core core.id d.id)) cores) _ h in
+      and_from _ _
+      (list_all-by (λ (d : Core). not (same_core core.id d.id)) (λ (later : CoreText). not (same_number (number_of core.id) later.id)) (core_said plan) (λ d e. e) cores apart.0)
+      (numbers-distinct cores apart.1)
 
   once : is_each_once (config_said plan) ≡ true
   once =
-      and_from _ _ (cores-distinct plan.cores bounds.distinct parts.names)
-      (list_all-by (λ (core : Core). not (said.core_has_name said.mode_name core)) (λ (core : CoreText). not (core_has_name said.mode_name core)) (core_said plan)
-      (λ core e. ap not (core-name said.mode_name core) ∙ e) plan.cores parts.unmoded)
+      and_from _ _ (numbers-distinct plan.cores bounds.distinct)
+      (ap (λ rest. said.are_distinct (said.mode_name ∷ rest)) (names-said plan plan.cores) ∙ ap (λ modes. said.are_distinct (modes ++ flat_map said.object_names plan.cores)) (sym (modes-are plan.modes parts.modes)) ∙ parts.names)
 
   -- ---- what names name
 
-  op-known : (op : Op) → limits.is_op_known plan op ≡ true → is_operation_known texts (op_text plan op) ≡ true
-  op-known op h = (meant-known (place_of texts) (op_text plan op) op (op-meant plan inside sayable op h)).1
+  op-known : (op : Op) → limits.is_op_known plan op ≡ true → is_operation_known objects (op_text plan op) ≡ true
+  op-known op h = (meant-known (place_of objects) (op_text plan op) op (op-meant plan inside sayable op h)).1
 
   mode-known : (name : List ℕ) → name ≡ said.mode_name → is_mode_name name ≡ true
   mode-known name e = rw e refl
 
-  task-known : (task : Task) → is_kept_task plan task ≡ true → is_task_known texts (task_said plan task) ≡ true
+  task-known : (task : Task) → is_kept_task plan task ≡ true → is_task_known objects (task_said plan task) ≡ true
   task-known task h =
       let k = kept-task plan task h in
       and_from _ _ (list_all-by said.is_only_mode is_mode_name (name_of_mode plan) (λ m e. mode-known (name_of_mode plan m) (mode-text plan parts.modes m e)) task.auto k.auto)
-      (rw (script-back plan inside sayable task.script k.known) (list_all-by (limits.is_op_known plan) (is_operation_known texts) (op_text plan) op-known task.script k.known))
+      (rw (script-back plan inside sayable task.script k.known) (list_all-by (limits.is_op_known plan) (is_operation_known objects) (op_text plan) op-known task.script k.known))
 
-  core-known : (core : Core) → is_kept_core plan core ≡ true → is_core_known texts (core_said plan core) ≡ true
-  core-known core h = list_all-by (is_kept_task plan) (is_task_known texts) (task_said plan) task-known core.tasks (kept-core plan core h).tasks
+  core-known : (core : Core) → is_kept_core plan core ≡ true → is_core_known objects (core_said plan core) ≡ true
+  core-known core h = list_all-by (is_kept_task plan) (is_task_known objects) (task_said plan) task-known core.tasks (kept-core plan core h).tasks
 
   known : are_known (config_said plan) ≡ true
   known =
       and_from _ _ (any-map (λ (core : CoreText). same_number core.id (number_of plan.master)) (core_said plan) plan.cores ∙ (any-find (λ (c : Core). same_core c.id plan.master) plan.cores ∙ bounds.master))
-      (list_all-by (is_kept_core plan) (is_core_known texts) (core_said plan) core-known plan.cores cores)
+      (list_all-by (is_kept_core plan) (is_core_known objects) (core_said plan) core-known plan.cores cores)
 
   -- ---- operations
 
   op-form : (op : Op) → limits.is_op_known plan op ≡ true → is_operation (op_text plan op) ≡ true
-  op-form op h = (meant-known (place_of texts) (op_text plan op) op (op-meant plan inside sayable op h)).0
+  op-form op h = (meant-known (place_of objects) (op_text plan op) op (op-meant plan inside sayable op h)).0
 
   task-script : (task : Task) → is_kept_task plan task ≡ true → is_task_script (task_said plan task) ≡ true
   task-script task h =

@@ -1,97 +1,108 @@
 -- A task's name stands for the task, since no other has it.
-use Rattle.std.proofs.Common.{◌≡◌, ℕ, zero, suc, ◌<◌, ◌≤◌, Bool, true, false, not, cond, List, [], ◌∷◌, length, map, Some, None, option_map, inl, inr, refl, sym, ap, ◌∙◌, subst, arith}
-use Rattle.std.specs.List.{list_all, list_any, find, slice_get, position, position_or_len}
+use Rattle.std.proofs.Common.{◌≡◌, ℕ, zero, suc, ◌+◌, ◌<◌, ◌≤◌, Bool, true, false, not, cond, is_some, List, [], ◌∷◌, ◌++◌, length, map, Some, option_and_then, inl, inr, refl, sym, ap, ◌∙◌, subst, arith}
+use Rattle.std.specs.List.{list_any, enumerate_from, find, flat_map, slice_get}
+use Rattle.std.specs.Option.{option_or}
 use Rattle.std.specs.Str.{bytes_eq}
-use Rattle.std.proofs.lemmas.Bool.{and_parts, not-true, true≢false, eqb-true, lt-ltb, le-ltb, cases_Bool, or_left, or_right}
-use Rattle.std.proofs.lemmas.List.{length-map}
+use Rattle.std.proofs.lemmas.Bool.{and_parts, not-true, true≢false, eqb-true, cases_Bool}
+use Rattle.std.proofs.lemmas.List.{map-append}
+use Rattle.std.proofs.lemmas.List.Folds.{find-append}
 use Rattle.std.proofs.lemmas.Slice.Eq.{bytes_eq-Decides}
+use Rattle.osbase.specs.declared.objects.ObjectKind.TheVariants as ObjectKind
 use Rattle.osbase.specs.declared.objects.Place.{Place}
 use Rattle.osbase.specs.History.{same_core}
 use Rattle.osplan.specs.declared.plans.Plan.{Plan}
 use Rattle.osplan.specs.declared.plans.Core.{Core}
 use Rattle.osplan.specs.declared.plans.Task.{Task}
-use Rattle.osplan.specs.Expressible as said
-use Rattle.osdraft.specs.Operation.{byte_of, number_id, has_name, task_of_core, task_place}
-use Rattle.osdraft.proofs.Bounds.{byte-small}
-use Rattle.osplan.proofs.Tests.{all-weaker, find-passes}
+use Rattle.osplan.specs.Expressible.{are_distinct, object_names}
+use Rattle.osplan.proofs.Tests.{any-find, find-holds}
+use Rattle.osplan.proofs.Distinct.{distinct-front, distinct-back}
+use Rattle.osdraft.specs.declared.shapes.CoreText.{CoreText}
+use Rattle.osdraft.specs.declared.declarations.Declaration.{Declaration}
+use Rattle.osdraft.specs.Declarations.{byte_of, id_of, task_declaration, declared_by, declarations, has_name, place_in, place_of}
+use Rattle.osdraft.proofs.Numbers.{byte-small}
+use Rattle.osdraft.proofs.Sayings.{any-map}
 use Rattle.oswrite.proofs.Reshaped.{task_said, core_said}
 
-pub bytes_eq-same : (name : List ℕ) → bytes_eq name name ≡ true
+bytes_eq-same : (name : List ℕ) → bytes_eq name name ≡ true
 bytes_eq-same name = (bytes_eq-Decides name name).1 refl
-
--- an element that is there is among those that pass
-pub any-get : {X : Type 0} (p : X → Bool) (xs : List X) (i : ℕ) (x : X) → slice_get xs i ≡ Some x → p x ≡ true → list_any p xs ≡ true
-any-get p [] i x e passes = cc
-any-get p (y ∷ xs) zero x e passes = let same : y ≡ x = cc in or_left (p y) (list_any p xs) (subst (λ z. p z ≡ true) (sym same) passes)
-any-get p (y ∷ xs) (suc i) x e passes = or_right (p y) (list_any p xs) (any-get p xs i x e passes)
 
 pub get-inside : {X : Type 0} (xs : List X) (i : ℕ) (x : X) → slice_get xs i ≡ Some x → i < length xs
 get-inside [] i x e = cc
 get-inside (y ∷ xs) zero x e = omega arith
 get-inside (y ∷ xs) (suc i) x e = let lt : i < length xs = get-inside xs i x e in omega arith
 
--- a name is not another's, where that other's name is not among those of a list that has the first
-other-name : (name other : List ℕ) (tasks : List Task) → list_any (said.has_name name) tasks ≡ true → not (list_any (said.has_name other) tasks) ≡ true → bytes_eq other name ≡ false
-other-name name other tasks among absent =
-    elim (cases_Bool (bytes_eq other name)) as (λ _. bytes_eq other name ≡ false) [
-      | inl same ↦ let e : other ≡ name = (bytes_eq-Decides other name).0 same in absurd (true≢false (sym (ap (λ n. list_any (said.has_name n) tasks) e ∙ among) ∙ not-true _ absent))
-      | inr differs ↦ differs
+abbrev pub names : List Declaration → List (List ℕ)
+names objects = map (λ (d : Declaration). d.name) objects
+
+-- where no name stands twice, what is found at the end is found
+find-behind : (front back : List Declaration) (name : List ℕ) (d : Declaration) → are_distinct (names (front ++ back)) ≡ true → find (has_name name) back ≡ Some d → find (has_name name) (front ++ back) ≡ Some d
+find-behind [] back name d distinct found = found
+find-behind (x ∷ front) back name d distinct found =
+    let parts = and_parts (not (list_any (λ later. bytes_eq later x.name) (names (front ++ back)))) (are_distinct (names (front ++ back))) distinct in
+    let rest = find-behind front back name d parts.1 found in
+    elim (cases_Bool (has_name name x)) as (λ _. find (has_name name) (x ∷ front ++ back) ≡ Some d) [
+      | inl same ↦
+          let is : x.name ≡ name = (bytes_eq-Decides x.name name).0 same in
+          let among : list_any (has_name name) (front ++ back) ≡ true = any-find (has_name name) (front ++ back) ∙ ap is_some rest in
+          let again : list_any (λ later. bytes_eq later x.name) (names (front ++ back)) ≡ true = any-map (λ later. bytes_eq later x.name) (λ (d : Declaration). d.name) (front ++ back) ∙ ap (λ n. list_any (has_name n) (front ++ back)) is ∙ among in
+          absurd (true≢false (sym again ∙ not-true _ parts.0))
+      | inr other ↦ rw other rest
     ]
 
--- ---- the place in a core
-
 module _ (plan : Plan) where
-  place-len : (tasks : List Task) (i : ℕ) (task : Task) → said.are_tasks_distinct tasks ≡ true → slice_get tasks i ≡ Some task → position_or_len (has_name task.name) (map (task_said plan) tasks) ≡ i
-  place-len [] i task distinct e = cc
-  place-len (x ∷ xs) zero task distinct e =
+  -- the names that a text declares are the configuration's
+  tasks-named : (core : CoreText) (n : ℕ) (tasks : List Task) → names (map (task_declaration core) (enumerate_from n (map (task_said plan) tasks))) ≡ map (λ (task : Task). task.name) tasks
+  tasks-named core n [] = refl
+  tasks-named core n (task ∷ tasks) = ap (λ rest. task.name ∷ rest) (tasks-named core (n + 1) tasks)
+
+  pub names-said : (cores : List Core) → names (declarations (map (core_said plan) cores)) ≡ flat_map object_names cores
+  names-said [] = refl
+  names-said (core ∷ cores) =
+      map-append (λ (d : Declaration). d.name) (declared_by (core_said plan core)) (declarations (map (core_said plan) cores))
+      ∙ ap (λ first. first ++ names (declarations (map (core_said plan) cores))) (tasks-named (core_said plan core) 0 core.tasks) ∙ ap (λ rest. object_names core ++ rest) (names-said cores)
+
+  abbrev declared_at : CoreText → Task → ℕ → Declaration
+  declared_at core task index = record { name = task.name; kind = ObjectKind.Task; core = id_of core; index = index }
+
+  in-core : (core : CoreText) (n : ℕ) (tasks : List Task) (i : ℕ) (task : Task) → are_distinct (names (map (task_declaration core) (enumerate_from n (map (task_said plan) tasks)))) ≡ true → slice_get tasks i ≡ Some task
+      → find (has_name task.name) (map (task_declaration core) (enumerate_from n (map (task_said plan) tasks))) ≡ Some (declared_at core task (n + i))
+  in-core core n [] i task distinct is = cc
+  in-core core n (x ∷ xs) zero task distinct is =
       let same : x ≡ task = cc in
-      rw (ap (λ (t : Task). bytes_eq t.name task.name) same ∙ bytes_eq-same task.name) refl
-  place-len (x ∷ xs) (suc i) task distinct e =
-      let parts = and_parts (not (list_any (said.has_name x.name) xs)) _ distinct in
-      rw (other-name task.name x.name xs (any-get (said.has_name task.name) xs i task e (bytes_eq-same task.name)) parts.0, place-len xs i task parts.1 e) (omega arith)
+      let index : n ≡ n + 0 = omega arith in
+      rw (ap (λ (t : Task). bytes_eq t.name task.name) same ∙ bytes_eq-same task.name) (ap (λ (t : Task). Some (declared_at core t n)) same ∙ ap (λ k. Some (declared_at core task k)) index)
+  in-core core n (x ∷ xs) (suc i) task distinct is =
+      let later = in-core core (n + 1) xs i task (and_parts _ (are_distinct (names (map (task_declaration core) (enumerate_from (n + 1) (map (task_said plan) xs))))) distinct).1 is in
+      let index : n + 1 + i ≡ n + suc i = omega arith in
+      find-behind (task_declaration core (n, task_said plan x) ∷ []) _ task.name _ distinct later ∙ ap (λ k. Some (declared_at core task k)) index
 
-  pub position-in : (tasks : List Task) (i : ℕ) (task : Task) → said.are_tasks_distinct tasks ≡ true → slice_get tasks i ≡ Some task → position (has_name task.name) (map (task_said plan) tasks) ≡ Some i
-  position-in tasks i task distinct e =
-      rw (place-len tasks i task distinct e, length-map tasks (task_said plan), lt-ltb i (length tasks) (get-inside tasks i task e)) refl
-
-  none-len : (name : List ℕ) (tasks : List Task) → list_all (λ (t : Task). not (bytes_eq t.name name)) tasks ≡ true → position_or_len (has_name name) (map (task_said plan) tasks) ≡ length tasks
-  none-len name [] none = refl
-  none-len name (x ∷ xs) none =
-      let parts = and_parts (not (bytes_eq x.name name)) _ none in
-      rw (not-true _ parts.0, none-len name xs parts.1) (omega arith)
-
-  pub position-none : (name : List ℕ) (tasks : List Task) → list_all (λ (t : Task). not (bytes_eq t.name name)) tasks ≡ true → position (has_name name) (map (task_said plan) tasks) ≡ None
-  position-none name tasks none =
-      rw (none-len name tasks none, length-map tasks (task_said plan), le-ltb (length tasks) (length tasks) (omega arith)) refl
-
-  -- ---- the place among the cores
-  here : (core : Core) (target : Place) (task : Task) → core.id.number ≡ target.core.number → target.core.number ≤ 255 → target.index ≤ 255 → said.are_tasks_distinct core.tasks ≡ true → slice_get core.tasks target.index ≡ Some task
-      → task_of_core task.name (core_said plan core) ≡ Some target
-  here core target task number low index distinct e =
-      let id : byte_of (Some core.id.number) ≡ target.core.number = ap (λ n. byte_of (Some n)) number ∙ byte-small target.core.number low in
-      ap (option_map (λ i. let t : Place = record { core = number_id (Some core.id.number); index = byte_of (Some i) } in t)) (position-in core.tasks target.index task distinct e)
-      ∙ ap (λ (n : ℕ). let t : Place = record { core = record { number = n }; index = byte_of (Some target.index) } in Some t) id
-      ∙ ap (λ (n : ℕ). let t : Place = record { core = target.core; index = n } in Some t) (byte-small target.index index)
-
-  elsewhere : (core found : Core) (i : ℕ) (task : Task) → said.is_apart core found ≡ true → slice_get found.tasks i ≡ Some task → task_of_core task.name (core_said plan core) ≡ None
-  elsewhere core found i task apart e =
-      let among : list_any (said.has_name task.name) found.tasks ≡ true = any-get (said.has_name task.name) found.tasks i task e (bytes_eq-same task.name) in
-      ap (option_map (λ i. let t : Place = record { core = number_id (Some core.id.number); index = byte_of (Some i) } in t))
-      (position-none task.name core.tasks
-      (all-weaker (λ (t : Task). not (said.core_has_name t.name found)) (λ (t : Task). not (bytes_eq t.name task.name)) (λ t h. ap not (other-name task.name t.name found.tasks among h)) core.tasks apart))
-
-  place-if : (core : Core) (cores : List Core) (target : Place) (found : Core) (task : Task) (b : Bool) → same_core core.id target.core ≡ b → target.core.number ≤ 255 → target.index ≤ 255
-      → (said.are_tasks_distinct core.tasks ≡ true) × (list_all (said.is_apart core) cores ≡ true) → cond b (Some core) (find (λ (c : Core). same_core c.id target.core) cores) ≡ Some found → slice_get found.tasks target.index ≡ Some task
-      → (find (λ (c : Core). same_core c.id target.core) cores ≡ Some found → task_place (map (core_said plan) cores) task.name ≡ Some target) → task_place (map (core_said plan) (core ∷ cores)) task.name ≡ Some target
-  place-if core cores target found task true same low index distinct e is later =
+  in-cores-if : (core : Core) (cores : List Core) (target : Place) (found : Core) (task : Task) (b : Bool) → same_core core.id target.core ≡ b → are_distinct (names (declarations (map (core_said plan) (core ∷ cores)))) ≡ true
+      → cond b (Some core) (find (λ (c : Core). same_core c.id target.core) cores) ≡ Some found → slice_get found.tasks target.index ≡ Some task
+      → (find (λ (c : Core). same_core c.id target.core) cores ≡ Some found → find (has_name task.name) (declarations (map (core_said plan) cores)) ≡ Some (declared_at (core_said plan found) task target.index))
+      → find (has_name task.name) (declarations (map (core_said plan) (core ∷ cores))) ≡ Some (declared_at (core_said plan found) task target.index)
+  in-cores-if core cores target found task true same distinct e is later =
       let mine : core ≡ found = cc in
-      rw (here core target task (eqb-true core.id.number target.core.number same) low index distinct.0 (subst (λ (c : Core). slice_get c.tasks target.index ≡ Some task) (sym mine) is)) refl
-  place-if core cores target found task false same low index distinct e is later =
-      rw (elsewhere core found target.index task (find-passes (λ (c : Core). same_core c.id target.core) (said.is_apart core) cores found distinct.1 e) is) (later e)
+      let own = distinct-front (names (declared_by (core_said plan core))) (names (declarations (map (core_said plan) cores))) (sym (ap are_distinct (map-append (λ (d : Declaration). d.name) (declared_by (core_said plan core)) (declarations (map (core_said plan) cores)))) ∙ distinct) in
+      let index : 0 + target.index ≡ target.index = omega arith in
+      find-append (has_name task.name) (declared_by (core_said plan core)) (declarations (map (core_said plan) cores))
+      ∙ ap (λ o. option_or o (find (has_name task.name) (declarations (map (core_said plan) cores)))) (in-core (core_said plan core) 0 core.tasks target.index task own (subst (λ (c : Core). slice_get c.tasks target.index ≡ Some task) (sym mine) is))
+      ∙ ap (λ (c : Core). Some (declared_at (core_said plan c) task (0 + target.index))) mine ∙ ap (λ k. Some (declared_at (core_said plan found) task k)) index
+  in-cores-if core cores target found task false same distinct e is later =
+      find-behind (declared_by (core_said plan core)) (declarations (map (core_said plan) cores)) task.name _ distinct (later e)
 
-  pub placed : (cores : List Core) (target : Place) (found : Core) (task : Task) → said.are_names_distinct cores ≡ true → target.core.number ≤ 255 → target.index ≤ 255
-      → find (λ (c : Core). same_core c.id target.core) cores ≡ Some found → slice_get found.tasks target.index ≡ Some task → task_place (map (core_said plan) cores) task.name ≡ Some target
-  placed [] target found task distinct low index e is = cc
-  placed (core ∷ cores) target found task distinct low index e is =
-      let parts = and_parts _ (said.are_names_distinct cores) distinct in
-      place-if core cores target found task (same_core core.id target.core) refl low index (and_parts (said.are_tasks_distinct core.tasks) _ parts.0) e is (λ e. placed cores target found task parts.1 low index e is)
+  in-cores : (cores : List Core) (target : Place) (found : Core) (task : Task) → are_distinct (names (declarations (map (core_said plan) cores))) ≡ true
+      → find (λ (c : Core). same_core c.id target.core) cores ≡ Some found → slice_get found.tasks target.index ≡ Some task
+      → find (has_name task.name) (declarations (map (core_said plan) cores)) ≡ Some (declared_at (core_said plan found) task target.index)
+  in-cores [] target found task distinct e is = cc
+  in-cores (core ∷ cores) target found task distinct e is =
+      let rest = distinct-back (names (declared_by (core_said plan core))) (names (declarations (map (core_said plan) cores))) (sym (ap are_distinct (map-append (λ (d : Declaration). d.name) (declared_by (core_said plan core)) (declarations (map (core_said plan) cores)))) ∙ distinct) in
+      in-cores-if core cores target found task (same_core core.id target.core) refl distinct e is (λ e. in-cores cores target found task rest e is)
+
+  pub placed : (cores : List Core) (target : Place) (found : Core) (task : Task) → are_distinct (flat_map object_names cores) ≡ true → target.core.number ≤ 255 → target.index ≤ 255
+      → find (λ (c : Core). same_core c.id target.core) cores ≡ Some found → slice_get found.tasks target.index ≡ Some task → place_of (declarations (map (core_said plan) cores)) ObjectKind.Task task.name ≡ Some target
+  placed cores target found task distinct low index e is =
+      let number : found.id.number ≡ target.core.number = eqb-true found.id.number target.core.number (find-holds (λ (c : Core). same_core c.id target.core) cores found e) in
+      let id : byte_of (Some found.id.number) ≡ target.core.number = ap (λ n. byte_of (Some n)) number ∙ byte-small target.core.number low in
+      ap (option_and_then (place_in ObjectKind.Task)) (in-cores cores target found task (ap are_distinct (names-said cores) ∙ distinct) e is)
+      ∙ ap (λ (n : ℕ). let p : Place = record { core = record { number = n }; index = byte_of (Some target.index) } in Some p) id
+      ∙ ap (λ (n : ℕ). let p : Place = record { core = target.core; index = n } in Some p) (byte-small target.index index)

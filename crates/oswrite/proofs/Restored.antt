@@ -1,6 +1,6 @@
 -- What the text of a configuration means is the configuration.
 use Rattle.std.proofs.Common.{◌≡◌, ℕ, ◌<◌, ◌≤◌, Bool, true, false, ◌&&◌, nat_lt, List, [], ◌∷◌, length, map, Option, Some, None, unwrap_or, IsTrue, refl, sym, ap, ◌∙◌, arith}
-use Rattle.std.specs.List.{list_all}
+use Rattle.std.specs.List.{list_all, flat_map}
 use Rattle.std.specs.Option.{option_map_or}
 use Rattle.std.proofs.lemmas.Bool.{and_parts, ltb-true, true≢false, eqb-true}
 use Rattle.std.proofs.lemmas.List.Folds.{list_all-map}
@@ -25,14 +25,16 @@ use Rattle.osplan.specs.Limits as limits
 use Rattle.osplan.specs.Limits.{task_sizes, core_sizes, number_of, is_between, is_task_within, is_core_within}
 use Rattle.osplan.specs.Expressible as said
 use Rattle.osplan.proofs.Tests.{all-both, all-weaker, find-holds, find-passes}
+use Rattle.osplan.proofs.Distinct.{distinct-back}
 use Rattle.osplan.proofs.Starting.{master-low}
 use Rattle.osplan.proofs.Within.{TextParts, CoreTextParts, limit-parts, text-parts, core-text-parts, core-fits}
-use Rattle.osdraft.specs.Operation.{operations_of, byte_of, number_id, task_place, place_of, op_of}
+use Rattle.osdraft.specs.declared.declarations.Declaration.{Declaration}
+use Rattle.osdraft.specs.Declarations.{byte_of, number_id, declarations, place_of}
+use Rattle.osdraft.specs.Operation.{operations_of, op_of}
 use Rattle.osdraft.specs.Meaning.{only_mode, task_plan, core_plan, plan_of}
 use Rattle.osplan.specs.Names.{name_of, name_of_mode}
 use Rattle.oswrite.specs.Writing.{op_text, script_text}
-use Rattle.osdraft.specs.declared.shapes.CoreText.{CoreText}
-use Rattle.osdraft.proofs.Bounds.{IsByte, byte-small, is-byte, task-bytes, core-bytes, cap-byte, map-back}
+use Rattle.osdraft.proofs.Numbers.{IsByte, byte-small, is-byte, task-bytes, core-bytes, cap-byte, map-back}
 use Rattle.oswrite.proofs.Joining.{parts-pieces}
 use Rattle.oswrite.proofs.Formed.{task_at, names-task, named-form}
 use Rattle.oswrite.proofs.Reshaped.{task_said, core_said, config_said, modes-are, mode-is}
@@ -102,13 +104,13 @@ kept-cores plan inside sayable =
 -- ---- reading back
 
 module _ (plan : Plan) (inside : IsTrue (limits.is_within_limits plan)) (sayable : IsTrue (said.is_expressible plan)) where
-  abbrev texts : List CoreText
-  texts = map (core_said plan) plan.cores
+  abbrev objects : List Declaration
+  objects = declarations (map (core_said plan) plan.cores)
 
   abbrev parts : TextParts plan
   parts = text-parts plan sayable
 
-  target-back : (target : Place) → limits.is_object plan (task_at target) ≡ true → task_place texts (name_of plan ObjectKind.Task target) ≡ Some target
+  target-back : (target : Place) → limits.is_object plan (task_at target) ≡ true → place_of objects ObjectKind.Task (name_of plan ObjectKind.Task target) ≡ Some target
   target-back target known =
       let found = names-task plan target known in
       let fits = core-fits plan target.core found.0 inside found.2.core_is in
@@ -116,7 +118,7 @@ module _ (plan : Plan) (inside : IsTrue (limits.is_within_limits plan)) (sayable
       let low : found.0.id.number < 16 = ltb-true found.0.id.number 16 fits.number in
       let few : length found.0.tasks ≤ 32 = fits.tasks in
       let index : target.index < length found.0.tasks = get-inside found.0.tasks target.index found.1 found.2.task_is in
-      ap (task_place texts) found.2.name_is ∙ placed plan plan.cores target found.0 found.1 parts.names (omega arith) (omega arith) found.2.core_is found.2.task_is
+      ap (place_of objects ObjectKind.Task) found.2.name_is ∙ placed plan plan.cores target found.0 found.1 (distinct-back plan.modes (flat_map said.object_names plan.cores) parts.names) (omega arith) (omega arith) found.2.core_is found.2.task_is
 
   -- there is no alarm
   no-alarm : (target : Place) (o : Option Core) → core_of plan target.core ≡ o → option_map_or (λ (c : Core). nat_lt target.index (length c.alarms)) o false ≡ true → ⊥
@@ -128,52 +130,52 @@ module _ (plan : Plan) (inside : IsTrue (limits.is_within_limits plan)) (sayable
       omega arith
 
   -- Each object of the configuration has a name in form, which stands for it.
-  object-named : (object : Object) → limits.is_object plan object ≡ true → IsNamed (place_of texts) (name_of plan) object
+  object-named : (object : Object) → limits.is_object plan object ≡ true → IsNamed (place_of objects) (name_of plan) object
   object-named object known = by object.kind object.place known
     where
-      by : (kind : ObjectKind) (place : Place) → limits.is_object plan (record { kind = kind; place = place }) ≡ true → IsNamed (place_of texts) (name_of plan) (record { kind = kind; place = place })
+      by : (kind : ObjectKind) (place : Place) → limits.is_object plan (record { kind = kind; place = place }) ≡ true → IsNamed (place_of objects) (name_of plan) (record { kind = kind; place = place })
       by ObjectKind.Task place there = record { in_form = named-form plan parts.cores place there; found = target-back place there }
       by ObjectKind.Alarm place there = absurd (no-alarm place (core_of plan place.core) refl there)
 
-  pub op-meant : (op : Op) → limits.is_op_known plan op ≡ true → op_meant (place_of texts) (op_text plan op) ≡ Some op
-  op-meant = text-meant (place_of texts) (name_of plan) (limits.is_object plan) object-named
+  pub op-meant : (op : Op) → limits.is_op_known plan op ≡ true → op_meant (place_of objects) (op_text plan op) ≡ Some op
+  op-meant = text-meant (place_of objects) (name_of plan) (limits.is_object plan) object-named
 
-  op-back : (op : Op) → limits.is_op_known plan op ≡ true → op_of texts (op_text plan op) ≡ op
+  op-back : (op : Op) → limits.is_op_known plan op ≡ true → op_of objects (op_text plan op) ≡ op
   op-back op known = ap (λ o. unwrap_or o Work) (op-meant op known)
 
   -- a script's text has the texts of its operations
   pub script-back : (script : List Op) → list_all (limits.is_op_known plan) script ≡ true → operations_of (script_text plan script) ≡ map (op_text plan) script
   script-back script known =
       parts-pieces (op_text plan) 59 script refl
-      (all-weaker (limits.is_op_known plan) _ (text-none (place_of texts) (name_of plan) (limits.is_object plan) object-named 59 (record { digit = refl; part = refl; minus = refl; invalid = refl; letter = refl }) refl) script known)
+      (all-weaker (limits.is_op_known plan) _ (text-none (place_of objects) (name_of plan) (limits.is_object plan) object-named 59 (record { digit = refl; part = refl; minus = refl; invalid = refl; letter = refl }) refl) script known)
       (all-weaker (limits.is_op_known plan) _ (λ op h. text-some (name_of plan) op) script known)
 
-  task-back : (task : Task) → is_kept_task plan task ≡ true → task_plan texts (task_said plan task) ≡ task
+  task-back : (task : Task) → is_kept_task plan task ≡ true → task_plan objects (task_said plan task) ≡ task
   task-back task h =
       let kept = kept-task plan task h in
       let bytes = task-bytes (task_sizes task) kept.within in
-      task-parts task (byte_of (Some task.priority)) (byte_of (Some task.activations)) (map (λ (name : List ℕ). only_mode) (map (name_of_mode plan) task.auto)) (map (op_of texts) (operations_of (script_text plan task.script)))
+      task-parts task (byte_of (Some task.priority)) (byte_of (Some task.activations)) (map (λ (name : List ℕ). only_mode) (map (name_of_mode plan) task.auto)) (map (op_of objects) (operations_of (script_text plan task.script)))
       (ap (λ o. unwrap_or o 0) bytes.0)
       (map-back (λ (name : List ℕ). only_mode) (name_of_mode plan) said.is_only_mode (λ m e. sym (mode-is m e)) task.auto kept.auto)
       (ap (λ o. unwrap_or o 0) bytes.1)
-      (ap (map (op_of texts)) (script-back task.script kept.known) ∙ map-back (op_of texts) (op_text plan) (limits.is_op_known plan) op-back task.script kept.known)
+      (ap (map (op_of objects)) (script-back task.script kept.known) ∙ map-back (op_of objects) (op_text plan) (limits.is_op_known plan) op-back task.script kept.known)
 
-  core-back : (core : Core) → is_kept_core plan core ≡ true → core_plan texts (core_said plan core) ≡ core
+  core-back : (core : Core) → is_kept_core plan core ≡ true → core_plan objects (core_said plan core) ≡ core
   core-back core h =
       let kept = kept-core plan core h in
       let bytes = core-bytes (core_sizes core) kept.within in
-      core-parts core (number_id (number_of core.id)) (Named only_mode) (map number_id (map number_of core.start)) (map (task_plan texts) (map (task_said plan) core.tasks))
+      core-parts core (number_id (number_of core.id)) (Named only_mode) (map number_id (map number_of core.start)) (map (task_plan objects) (map (task_said plan) core.tasks))
       (id-back core.id bytes.0)
       (mode-back core.mode kept.said.mode)
       (map-back number_id number_of (λ id. is_between 0 255 (number_of id)) (λ id e. id-back id (is-byte _ _ (number_of id) e (omega arith))) core.start (sym (list_all-map (is_between 0 255) number_of core.start) ∙ bytes.1))
-      (map-back (task_plan texts) (task_said plan) (is_kept_task plan) task-back core.tasks kept.tasks)
+      (map-back (task_plan objects) (task_said plan) (is_kept_task plan) task-back core.tasks kept.tasks)
       (sym kept.said.isrs) (sym kept.said.alarms) (sym kept.said.tables)
 
   pub plan-back : plan_of (config_said plan) ≡ plan
   plan-back =
       let master : plan.master.number < 16 = master-low plan inside in
-      plan-parts plan (byte_of (Some plan.cap)) (number_id (number_of plan.master)) (said.mode_name ∷ []) (map (core_plan texts) (map (core_said plan) plan.cores))
+      plan-parts plan (byte_of (Some plan.cap)) (number_id (number_of plan.master)) (said.mode_name ∷ []) (map (core_plan objects) (map (core_said plan) plan.cores))
       (ap (λ o. unwrap_or o 0) (cap-byte (limits.sizes_of plan) (limit-parts plan inside).sizes))
       (id-back plan.master (ap Some (byte-small plan.master.number (omega arith))))
       (sym (modes-are plan.modes parts.modes))
-      (map-back (core_plan texts) (core_said plan) (is_kept_core plan) core-back plan.cores (kept-cores plan inside sayable))
+      (map-back (core_plan objects) (core_said plan) (is_kept_core plan) core-back plan.cores (kept-cores plan inside sayable))

@@ -5,4 +5,4 @@ use Rattle.osdraft.specs.Operation.{is_operation_known}
 use Rattle.osdraft.proofs.checks.are_parts_known.Goals as goal
 
 pub returns : goal.returns
-returns c = all_from_yields_List (is_operation_known c.args.objects.now.cores.now) _ _ c.all.result c.all.ensures.ran (YieldsList-from_str_split 59 c.args.script.now (lit< tt) c.split.ensures.text c.split.ensures.has_more c.split.ensures.pattern) (λ x b q k. search (rules, tests))
+returns c = all_from_yields_List (is_operation_known c.args.objects.now.declared) _ _ c.all.result c.all.ensures.ran (YieldsList-from_str_split 59 c.args.script.now (lit< tt) c.split.ensures.text c.split.ensures.has_more c.split.ensures.pattern) (λ x b q k. search (rules, tests))

@@ -1,5 +1,5 @@
 use Rattle.std.proofs.Common.{◌≡◌, map, take}
-use Rattle.osdraft.specs.Operation.{number_id}
+use Rattle.osdraft.specs.Declarations.{number_id}
 use Rattle.osdraft.proofs.plans.ids_of.Given as goal
 
 abbrev pub invariant-loop-number : goal.invariant-loop-number

@@ -3,4 +3,4 @@ use Rattle.osdraft.proofs.Known.{each_if}
 use Rattle.osdraft.proofs.plans.script_of.Goals as goal
 
 pub returns : goal.returns
-returns c = rw (← each_if (is_operation_known c.args.objects.now.cores.now) is_operation (op_of c.args.objects.now.cores.now) (operations_of c.args.script.now)) c.read_parts.ensures
+returns c = rw (← each_if (is_operation_known c.args.objects.now.declared) is_operation (op_of c.args.objects.now.declared) (operations_of c.args.script.now)) c.read_parts.ensures

@@ -1,0 +1,144 @@
+-- The plan of a text has the text's numbers, which are within their limits.
+use Rattle.std.proofs.Common.{inl, inr, ◌≡◌, ℕ, ◌≤◌, Bool, true, false, not, cond, eqb, leb, List, [], ◌∷◌, length, map, Option, Some, None, refl, sym, ap, ◌∙◌, arith}
+use Rattle.std.specs.List.{list_all, list_any}
+use Rattle.std.proofs.lemmas.Bool.{and_parts, and_from, leb-true, le-leb, true≢false, not-true, eq-eqb, eqb-true, or_cases, or_left, or_right}
+use Rattle.std.proofs.lemmas.List.{length-map}
+use Rattle.std.proofs.lemmas.List.Folds.{list_all-map}
+use Rattle.osplan.specs.Limits as limits
+use Rattle.osplan.specs.Limits.{TaskSizes, CoreSizes, Sizes, is_between, is_task_within, is_core_within, is_within, number_of}
+use Rattle.osdraft.specs.declared.shapes.ConfigText.{ConfigText}
+use Rattle.osdraft.specs.declared.shapes.CoreText.{CoreText}
+use Rattle.osdraft.specs.declared.shapes.TaskText.{TaskText}
+use Rattle.osdraft.specs.declared.declarations.Declaration.{Declaration}
+use Rattle.osdraft.specs.Check.{task_sizes, core_sizes, sizes_of, same_number}
+use Rattle.osdraft.specs.Declarations.{byte_of, number_id, declarations}
+use Rattle.osdraft.specs.Operation.{operations_of, op_of}
+use Rattle.osdraft.specs.Meaning.{task_plan, core_plan, plan_of}
+
+-- ---- numbers within their limits are bytes
+
+abbrev pub IsByte : Option ℕ → Type 0
+IsByte number = Some (byte_of number) ≡ number
+
+pub byte-small : (n : ℕ) → n ≤ 255 → byte_of (Some n) ≡ n
+byte-small n le = rw (le-leb n 255 le) refl
+
+byte-at_most-if : (b : Bool) (n : ℕ) → cond b n 0 ≤ n
+byte-at_most-if true n = omega arith
+byte-at_most-if false n = omega arith
+
+pub byte-at_most : (n : ℕ) → byte_of (Some n) ≤ n
+byte-at_most n = byte-at_most-if (leb n 255) n
+
+pub is-byte : (low high : ℕ) (number : Option ℕ) → is_between low high number ≡ true → high ≤ 255 → IsByte number
+is-byte low high None h small = absurd (true≢false (sym h))
+is-byte low high (Some n) h small =
+    let most : n ≤ high = leb-true n high (and_parts (leb low n) (leb n high) h).1 in
+    ap Some (byte-small n (omega arith))
+
+pub task-bytes : (s : TaskSizes) → is_task_within s ≡ true → IsByte s.priority × IsByte s.activations
+task-bytes s h =
+    let numbers = and_parts _ _ (and_parts _ _ h).0 in
+    (is-byte _ _ s.priority numbers.0 (omega arith), is-byte _ _ s.activations numbers.1 (omega arith))
+
+pub core-bytes : (s : CoreSizes) → is_core_within s ≡ true → IsByte s.number × (list_all (is_between 0 255) s.start ≡ true) × (list_all is_task_within s.tasks ≡ true)
+core-bytes s h =
+    let tasks = and_parts _ (list_all is_task_within s.tasks) h in
+    let numbers = and_parts _ _ (and_parts _ _ tasks.0).0 in
+    (is-byte _ _ s.number numbers.0 (omega arith), numbers.1, tasks.1)
+
+pub cap-byte : (s : Sizes) → is_within s ≡ true → IsByte s.cap
+cap-byte s h = is-byte _ _ s.cap (and_parts _ (is_between _ _ s.cap) (and_parts _ _ (and_parts _ _ h).0).0).1 (omega arith)
+
+-- ---- lists of tests
+
+pub tasks_mapped : (tasks : List TaskText) → list_all (λ task. is_task_within (task_sizes task)) tasks ≡ list_all is_task_within (map task_sizes tasks)
+tasks_mapped tasks = sym (list_all-map is_task_within task_sizes tasks)
+
+pub tasks_counted : (tasks : List TaskText) → length tasks ≡ length (map task_sizes tasks)
+tasks_counted tasks = sym (length-map tasks task_sizes)
+
+pub cores_mapped : (cores : List CoreText) → list_all (λ core. is_core_within (core_sizes core)) cores ≡ list_all is_core_within (map core_sizes cores)
+cores_mapped cores = sym (list_all-map is_core_within core_sizes cores)
+
+pub cores_counted : (cores : List CoreText) → length cores ≡ length (map core_sizes cores)
+cores_counted cores = sym (length-map cores core_sizes)
+
+pub list_all-by : {X Y : Type 0} (p : X → Bool) (q : Y → Bool) (f : X → Y) → ((x : X) → p x ≡ true → q (f x) ≡ true) → (xs : List X) → list_all p xs ≡ true → list_all q (map f xs) ≡ true
+list_all-by p q f each [] h = refl
+list_all-by p q f each (x ∷ xs) h = let parts = and_parts (p x) (list_all p xs) h in and_from _ _ (each x parts.0) (list_all-by p q f each xs parts.1)
+
+pub list_all-total : {X Y : Type 0} (q : Y → Bool) (f : X → Y) → ((x : X) → q (f x) ≡ true) → (xs : List X) → list_all q (map f xs) ≡ true
+list_all-total q f each [] = refl
+list_all-total q f each (x ∷ xs) = and_from _ _ (each x) (list_all-total q f each xs)
+
+pub list_any-by : {X Y : Type 0} (p : X → Bool) (q : Y → Bool) (f : X → Y) → ((x : X) → p x ≡ true → q (f x) ≡ true) → (xs : List X) → list_any p xs ≡ true → list_any q (map f xs) ≡ true
+list_any-by p q f each [] h = absurd (true≢false (sym h))
+list_any-by p q f each (x ∷ xs) h =
+    elim (or_cases (p x) (list_any p xs) h) as (λ _. list_any q (map f (x ∷ xs)) ≡ true) [
+      | inl here ↦ or_left _ _ (each x here)
+      | inr later ↦ or_right (q (f x)) _ (list_any-by p q f each xs later)
+    ]
+
+-- ---- lists that are made there and back
+
+pub map-back : {X Y : Type 0} (f : Y → X) (g : X → Y) (p : X → Bool) → ((x : X) → p x ≡ true → f (g x) ≡ x) → (xs : List X) → list_all p xs ≡ true → map f (map g xs) ≡ xs
+map-back f g p back [] a = refl
+map-back f g p back (x ∷ xs) a = let parts = and_parts (p x) (list_all p xs) a in rw (back x parts.0, map-back f g p back xs parts.1) refl
+
+pub map-same : {X Y Z : Type 0} (f : Y → Z) (g : X → Y) (h : X → Z) (p : X → Bool) → ((x : X) → p x ≡ true → f (g x) ≡ h x) → (xs : List X) → list_all p xs ≡ true → map f (map g xs) ≡ map h xs
+map-same f g h p same [] a = refl
+map-same f g h p same (x ∷ xs) a = let parts = and_parts (p x) (list_all p xs) a in rw (same x parts.0, map-same f g h p same xs parts.1) refl
+
+-- ---- the plan has the text's numbers
+
+module _ (objects : List Declaration) where
+  task-numbers : (task : TaskText) → is_task_within (task_sizes task) ≡ true → limits.task_sizes (task_plan objects task) ≡ task_sizes task
+  task-numbers task h =
+      let bytes = task-bytes (task_sizes task) h in
+      let priority : Some (byte_of task.prio) ≡ task.prio = bytes.0 in
+      let activations : Some (byte_of task.activations) ≡ task.activations = bytes.1 in
+      rw (priority, activations, length-map (operations_of task.script) (op_of objects)) refl
+
+  core-numbers : (core : CoreText) → is_core_within (core_sizes core) ≡ true → limits.core_sizes (core_plan objects core) ≡ core_sizes core
+  core-numbers core h =
+      let bytes = core-bytes (core_sizes core) h in
+      let number : Some (byte_of core.id) ≡ core.id = bytes.0 in
+      rw (
+        number,
+        map-back number_of number_id (is_between 0 255) (λ n low. is-byte _ _ n low (omega arith)) core.start bytes.1,
+        map-same limits.task_sizes (task_plan objects) task_sizes (λ task. is_task_within (task_sizes task)) task-numbers core.tasks (tasks_mapped core.tasks ∙ bytes.2),
+      ) refl
+
+abbrev pub is_inside : CoreText → Bool
+is_inside core = is_core_within (core_sizes core)
+
+pub cores-inside : (t : ConfigText) → is_within (sizes_of t) ≡ true → list_all is_inside t.cores ≡ true
+cores-inside t h = cores_mapped t.cores ∙ (and_parts _ (list_all is_core_within (map core_sizes t.cores)) h).1
+
+pub plan-numbers : (t : ConfigText) → is_within (sizes_of t) ≡ true → limits.sizes_of (plan_of t) ≡ sizes_of t
+plan-numbers t h =
+    let cap : Some (byte_of t.cap) ≡ t.cap = cap-byte (sizes_of t) h in
+    rw (cap, map-same limits.core_sizes (core_plan (declarations t.cores)) core_sizes is_inside (core-numbers (declarations t.cores)) t.cores (cores-inside t h)) refl
+
+-- ---- numbers of cores are told apart as in the text
+
+id-byte : (core : CoreText) → is_inside core ≡ true → IsByte core.id
+id-byte core h = (core-bytes (core_sizes core) h).0
+
+same-bytes : (a b : Option ℕ) → IsByte a → IsByte b → same_number a b ≡ eqb (byte_of a) (byte_of b)
+same-bytes None b in_a in_b = cc
+same-bytes (Some n) None in_a in_b = cc
+same-bytes (Some n) (Some m) in_a in_b =
+    let first : byte_of (Some n) ≡ n = cc in
+    let second : byte_of (Some m) ≡ m = cc in
+    rw (first, second) refl
+
+pub bytes-equal : (a b : Option ℕ) → same_number a b ≡ true → eqb (byte_of a) (byte_of b) ≡ true
+bytes-equal None b same = absurd (true≢false (sym same))
+bytes-equal (Some n) None same = absurd (true≢false (sym same))
+bytes-equal (Some n) (Some m) same = rw (eqb-true n m same) (eq-eqb (byte_of (Some m)) (byte_of (Some m)) refl)
+
+pub apart-bytes : (c d : CoreText) → is_inside c ≡ true → is_inside d ≡ true → not (same_number c.id d.id) ≡ true → eqb (byte_of c.id) (byte_of d.id) ≡ false
+apart-bytes c d in_c in_d apart =
+    sym (same-bytes c.id d.id (id-byte c in_c) (id-byte d in_d)) ∙ not-true _ apart

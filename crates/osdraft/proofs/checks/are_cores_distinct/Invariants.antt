@@ -1,9 +1,0 @@
-use Rattle.std.proofs.Common.{◌≡◌, length}
-use Rattle.osdraft.specs.Check.{are_cores_distinct}
-use Rattle.osdraft.proofs.checks.are_cores_distinct.Given as goal
-
-abbrev pub invariant-loop-cores : goal.invariant-loop-cores
-invariant-loop-cores l = are_cores_distinct l.cores ≡ are_cores_distinct l.initial.cores
-
-abbrev pub decreases-loop-cores : goal.decreases-loop-cores
-decreases-loop-cores l = length l.cores

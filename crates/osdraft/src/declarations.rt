@@ -1,0 +1,77 @@
+//! The objects that a configuration's text declares, in one list.
+
+ghost use Rattle.std.specs.Prelude.{◌≡◌, ◌++◌, IfOk, OnOk};
+ghost use Rattle.osdraft.specs.Declarations.{byte_of, declarations, declared_by, has_name, id_of};
+
+use crate::shapes::CoreText;
+use osbase::{CoreId, List, ObjectKind};
+use osread::{Text, Whole};
+use std::alloc::{AllocError, Global};
+
+/// A declared object, by its name.
+#[derive(Debug, Drop)]
+pub struct Declaration<'t> {
+    pub name: Text<'t>,
+    pub kind: ObjectKind,
+    pub core: CoreId,
+    /// Which of that core's objects of its kind it is, counted from 0.
+    pub index: usize,
+}
+
+/// A number as a byte: 0 where it is none, which no text within the limits has.
+pub fn byte_of(number: Whole) -> u8
+    ensures { result ≡ byte_of number }
+{
+    match number {
+        Some(number) => { if number <= 255 { number as u8 } else { 0 } }
+        None => 0,
+    }
+}
+
+/// A core's number as the configuration has it.
+pub fn id_of(core: &CoreText) -> CoreId
+    ensures { result ≡ id_of core.now }
+{
+    CoreId {
+        number: byte_of(core.id),
+    }
+}
+
+/// Whether the object has this name. Names commonly begin alike, so their ends are compared first.
+pub fn has_name(name: &str, declaration: &Declaration) -> bool
+    ensures { result ≡ has_name name.now declaration.now }
+{
+    let own = declaration.name.as_str();
+    own.as_bytes().last() == name.as_bytes().last() && own == name
+}
+
+fn declare<'t>(
+    declared: &mut List<Declaration<'t>>,
+    core: &'t CoreText<'t>,
+) -> Result<(), AllocError>
+    ensures { OnOk result (declared.new ≡ declared.old ++ declared_by core.now) }
+{
+    for (index, task) in core.tasks.as_slice().iter().enumerate() {
+        declared.push(Declaration {
+            name: Text::of(task.name.as_str()),
+            kind: ObjectKind::Task,
+            core: id_of(core),
+            index,
+        })?;
+    }
+    Ok(())
+}
+
+/// The objects of these cores.
+pub fn declarations_of<'t>(
+    alloc: Global,
+    cores: &'t [CoreText<'t>],
+) -> Result<List<Declaration<'t>>, AllocError>
+    ensures { IfOk result (λ declared. declared ≡ declarations cores.now) }
+{
+    let mut declared = List::new(alloc);
+    for core in cores {
+        declare(&mut declared, core)?;
+    }
+    Ok(declared)
+}
