@@ -3,10 +3,6 @@ use Rattle.std.proofs.Common.{◌≡◌, ℕ, zero, suc, ◌+◌, ◌-◌, ◌�
 use Rattle.std.specs.List.{slice_set}
 use Rattle.osbase.specs.Sets.{numbers_from}
 
-pub length-numbers_from : (first count : ℕ) → length (numbers_from first count) ≡ count
-length-numbers_from first zero = refl
-length-numbers_from first (suc count) = ap suc (length-numbers_from (first + 1) count)
-
 -- the numbers up to a bound, from one of them on
 pub numbers-next : (n most : ℕ) → n < most → numbers_from n (most - n) ≡ n ∷ numbers_from (n + 1) (most - (n + 1))
 numbers-next n most below = ap (numbers_from n) (let one : most - n ≡ suc (most - (n + 1)) = omega (arith, below) in one)

@@ -74,9 +74,6 @@ faults_of_data (Some d) = faults_of_shape (config_shape d)
 abbrev pub faults_of : List ℕ → List ConfFault
 faults_of text = faults_of_data (read text)
 
-abbrev pub HasFault : ConfFault → List ℕ → Type 0
-HasFault fault text = IsAmong (faults_of text) fault
-
 abbrev pub IsLeastFault : ConfFault → List ℕ → Type 0
 IsLeastFault fault text = IsLeast fault (faults_of text)
 

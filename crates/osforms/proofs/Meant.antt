@@ -18,14 +18,6 @@ use Rattle.osforms.specs.Operation.{resolve_arg, resolve_args, resolved, arg_mea
 use Rattle.osforms.proofs.LastWord.{last-word, lone-rest, rest-none}
 use Rattle.osforms.proofs.Wording.{args_left}
 
--- the invalid identifier is no name
-pub valid : (word : List ℕ) → is_name word ≡ true → bytes_eq word (codes "?") ≡ false
-valid word named =
-    elim (cases_Bool (bytes_eq word (codes "?"))) as (λ _. bytes_eq word (codes "?") ≡ false) [
-      | inl same ↦ absurd (true≢false (sym named ∙ ap is_name ((bytes_eq-Decides word (codes "?")).0 same)))
-      | inr other ↦ other
-    ]
-
 module _ (place : ObjectKind → List ℕ → Option Place) where
   pair : (o : Option (Arg (List ℕ))) (r : Option (List (Arg (List ℕ)))) → option_and_then (resolve_args place) (and_then_rest o r) ≡ and_then_rest (option_and_then (resolve_arg place) o) (option_and_then (resolve_args place) r)
   pair None r = refl

@@ -1,12 +1,9 @@
 //! Numbers, variables and names, each a word of an operation.
 
-ghost use Rattle.std.specs.Prelude.{◌≡◌, ◌≤◌, ◌^◌, ◌-◌, ◌<◌, negsuc, option_map, List, ℕ, IfSome};
+ghost use Rattle.std.specs.Prelude.{◌≡◌, ◌≤◌, ◌-◌, negsuc, IfSome};
 ghost use Rattle.std.specs.Char.{is_ascii_digit};
 ghost use Rattle.std.specs.List.{list_all};
-ghost use Rattle.std.specs.Borrow.{Bor};
-ghost use Rattle.osforms.specs.Word.{is_unpadded, is_decimal, number_in, int_of, variable_of, target_of};
-
-use osbase::is_name;
+ghost use Rattle.osforms.specs.Word.{is_unpadded, is_decimal, number_in, int_of, variable_of};
 
 fn is_unpadded(word: &[u8]) -> bool
     ensures { result ≡ is_unpadded word.now }
@@ -84,19 +81,5 @@ pub fn variable_of(word: &str) -> Option<u8>
             }
         }
         _ => None,
-    }
-}
-
-/// What an object's place in an operation holds: a name, or `?`.
-pub fn target_of(word: &str) -> Option<Option<&str>>
-    ensures { option_map (option_map (λ (t : Bor (List ℕ)). t.now)) result ≡ target_of word.now }
-{
-    if word == "?" {
-        return Some(None);
-    }
-    if is_name(word) {
-        Some(Some(word))
-    } else {
-        None
     }
 }

@@ -89,9 +89,3 @@ queueing {to} {message} {s} {s'} known is = record {
   silent = (λ v h. refl);
   stays = stays_in s s' (Noted (Queued to (next_envelope s to message))) is (record { view = refl; phase = refl; items = refl; entries = omega arith });
 }
-
--- The marks added are those of the effect, whatever stood in the vector.
-pub added_are : {a m : ℕ} {f : View → History → History} {s s' : KernelState} {x x' : Vec Mark Global} → Effects a m f s s' x x' → (v : View) (h : History) → Stands v h s → (ms : List Mark) × (x'.items ≡ x.items ++ ms) × (marks_of h ++ ms ≡ marks_of (f v h))
-added_are {x = x} e v h stands =
-    let t = e.does v h (marks_of h) x.items (record { stands = stands; added = []; behind = sym (append-nil x.items); shows = append-nil (marks_of h) }) in
-    (t.added, t.behind, t.shows)

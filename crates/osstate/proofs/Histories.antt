@@ -67,9 +67,6 @@ own_place core t h = cases (same_core t.core core.id) refl h
     cases true e h = (ap (λ (c : CoreId). let r : TaskRef = record { core = c; index = t.index } in r) (same_core-true t.core core.id e), place-some core.tasks t.index h)
     cases false e h = absurd (false≢true h)
 
-pub own_index : (core : Core) (t : TaskRef) → is_some (own_task core t) ≡ true → t.index < length core.tasks
-own_index core t h = (own_place core t h).1
-
 -- what is read at an own task's place is its own
 pub frame-own : (v : View) (h : History) (t : TaskRef) → is_some (own_task v.own t) ≡ true → get_or (frames_at v h) t.index new_frame ≡ frame_at v (Runner.Task t) h
 frame-own v h t own =
