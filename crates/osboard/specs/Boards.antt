@@ -1,9 +1,11 @@
 -- One board: the sets of started, entered, ready and drained cores and of named modes, and who asked first for a
 -- shutdown of all cores. Each call of a core is answered at once. [own; the code has two words]
-use Rattle.std.specs.Prelude.{◌≡◌, ◌⊎◌, ◌<◌, Option, Some, None, true, false, if◌then◌else◌, replicate, slice_set}
+use Rattle.std.specs.Prelude.{◌≡◌, ◌⊎◌, ℕ, zero, suc, ◌<◌, ◌||◌, Bool, true, false, not, if◌then◌else◌, Option, Some, None, count_by, position, replicate, slice_set}
+use Rattle.std.specs.List.{list_all, zip}
 use Rattle.osbase.specs.declared.statuses.Status.{Status}
 use Rattle.osbase.specs.declared.statuses.Status.TheVariants.{EOk, EOsState}
 use Rattle.osbase.specs.declared.references.CoreId.{CoreId}
+use Rattle.osbase.specs.declared.items.Agreement.{Agreement}
 use Rattle.osbase.specs.declared.items.CoreSet.{CoreSet}
 use Rattle.osbase.specs.History.{no_cores}
 use Rattle.osbase.specs.Sets.{has_core}
@@ -94,28 +96,48 @@ board_reply core LookHalt board = Halting board.halt
 abbrev pub one_board : Object CoreId BoardState BoardCall BoardReply
 one_board = record { first = first_board; after = board_after; reply = board_reply }
 
--- The seven calls of a core, each with its answer.
-abbrev pub start_call : CoreId → CoreId → Status → Entry BoardCall BoardReply
+-- A call of a core, with its answer.
+abbrev pub BoardEntry : Type 0
+BoardEntry = Entry BoardCall BoardReply
+
+-- The seven calls of a core.
+abbrev pub start_call : CoreId → CoreId → Status → BoardEntry
 start_call core k status = entry core (Start k) (Started status)
 
-abbrev pub enter_call : CoreId → CoreMode → Entry BoardCall BoardReply
+abbrev pub enter_call : CoreId → CoreMode → BoardEntry
 enter_call core mode = entry core (Enter mode) Acknowledged
 
-abbrev pub ready_call : CoreId → Entry BoardCall BoardReply
+abbrev pub ready_call : CoreId → BoardEntry
 ready_call core = entry core MakeReady Acknowledged
 
-abbrev pub drain_call : CoreId → Entry BoardCall BoardReply
+abbrev pub drain_call : CoreId → BoardEntry
 drain_call core = entry core Drain Acknowledged
 
-abbrev pub look_call : CoreId → BoardView → Entry BoardCall BoardReply
+abbrev pub look_call : CoreId → BoardView → BoardEntry
 look_call core view = entry core Look (Shown view)
 
-abbrev pub ask_halt_call : CoreId → Status → CoreId × Status → Entry BoardCall BoardReply
+abbrev pub ask_halt_call : CoreId → Status → CoreId × Status → BoardEntry
 ask_halt_call core status decided = entry core (AskHalt status) (Decided decided)
 
-abbrev pub look_halt_call : CoreId → Option (CoreId × Status) → Entry BoardCall BoardReply
+abbrev pub look_halt_call : CoreId → Option (CoreId × Status) → BoardEntry
 look_halt_call core halt = entry core LookHalt (Halting halt)
 
 -- A look. It changes nothing.
-abbrev pub IsLook : Entry BoardCall BoardReply → Type 0
+abbrev pub IsLook : BoardEntry → Type 0
 IsLook e = (e.call ≡ Look) ⊎ (e.call ≡ LookHalt)
+
+-- Every started core is in the set: what a synchronisation point waits for.
+-- [AUTOSAR SWS OS 4.x, SWS_Os_00579 and SWS_Os_00580]
+abbrev pub have_all : CoreSet → CoreSet → Bool
+have_all started cores = list_all (λ (p : Bool × Bool). not p.0 || p.1) (zip started.members cores.members)
+
+-- What the named modes come to, by how many they are: none, the one, or a conflict of several.
+-- [AUTOSAR SWS OS 4.x, SWS_Os_00608 to SWS_Os_00610; that all may say DONOTCARE is this project's own]
+abbrev pub agreement_by : ℕ → Option ℕ → Agreement
+agreement_by zero first = Agreement.NoMode
+agreement_by (suc zero) None = Agreement.NoMode
+agreement_by (suc zero) (Some index) = Agreement.Mode (record { index = index })
+agreement_by (suc (suc n)) first = Agreement.Conflict
+
+abbrev pub agreement_in : ModeSet → Agreement
+agreement_in modes = agreement_by (count_by (λ b. b) modes.members) (position (λ b. b) modes.members)

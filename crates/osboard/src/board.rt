@@ -74,11 +74,7 @@ impl Board {
         let found = self
             .words
             .fetch_or::<Brand>(seat, PHASE, started, BoardCall::Start(core));
-        if view_in(found).started.contains(core) {
-            Status::EOsState
-        } else {
-            Status::EOk
-        }
+        view_in(found).start_answer(core)
     }
 
     /// The caller has entered StartOS with this mode.

@@ -7,6 +7,7 @@
 pub mod board;
 pub mod calls;
 pub mod list;
+mod views;
 mod words;
 
 pub use board::{Board, BoardSeat};

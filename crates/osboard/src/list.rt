@@ -58,7 +58,7 @@ impl BoardList {
     {
         let _ = caller;
         let view = &mut self.state.view;
-        let answer = start_answer(view, core);
+        let answer = view.start_answer(core);
         view.started = with_core(view.started, core);
         answer
     }
@@ -123,17 +123,6 @@ impl BoardList {
         ensures replays { (caller : CoreId) → Continues one_board self.now (look_halt_call caller result) self.now }
     {
         self.state.halt
-    }
-}
-
-// What a start of the core is answered.
-fn start_answer(view: &BoardView, core: CoreId) -> Status
-    ensures { result ≡ start_answer view.now core }
-{
-    if view.started.contains(core) {
-        Status::EOsState
-    } else {
-        Status::EOk
     }
 }
 

@@ -23,9 +23,9 @@ use Rattle.osstate.proofs.Begun.{is_some-core_of}
 use Rattle.oskernel.specs.declared.wants.Want.{Want}
 use Rattle.oskernel.specs.Step.{history_from}
 use Rattle.oskernel.specs.Wants.{want_in, want_of}
-use Rattle.osworld.specs.declared.boards.Board.{Board}
+use Rattle.osboard.specs.declared.calls.BoardState.{BoardState}
 use Rattle.osworld.specs.declared.seats.Seat.{Seat}
-use Rattle.osworld.specs.Board.{start_answer}
+use Rattle.osboard.specs.Boards.{start_answer}
 use Rattle.osworld.specs.World.{World, board_in, going_on, history_in, items_in, look_named, named, own_named, receiving, serve_named, stimulus_count}
 use Rattle.osworld.specs.Naming.{named_by, own_by, post_named, serve_by}
 use Rattle.osworld.specs.Playing.{IsMail, lists_of}
@@ -47,11 +47,11 @@ list_of-beyond id (s ∷ ss) e = by (is_seat_of id s) refl (list_of-beyond id ss
 room-agrees : (r n cap : ℕ) → r ≤ n → nat_lt n (r + cap) ≡ nat_lt (n - r) cap
 room-agrees r n cap le = grind (arith, nat_tests)
 
-module _ (plan : Plan) (stimuli : List CoreStimuli) (w : World) (core : CoreId) (known : core.number < CORES) (mail : Mail) (m : IsMail plan w mail) (board : Board) (shown : board ≡ board_in plan w) (left : List Stimulus) (kept : left ≡ drop (stimulus_count (items_in w core)) (stimuli_of stimuli core)) where
+module _ (plan : Plan) (stimuli : List CoreStimuli) (w : World) (core : CoreId) (known : core.number < CORES) (mail : Mail) (m : IsMail plan w mail) (board : BoardState) (shown : board ≡ board_in plan w) (left : List Stimulus) (kept : left ≡ drop (stimulus_count (items_in w core)) (stimuli_of stimuli core)) where
   start-agrees : (k : CoreId) → own_named plan stimuli w core (Want.Start k) ≡ own_by plan board mail core left (Want.Start k)
   start-agrees k =
-      ap (λ (b : Bool). Some (Item.Began k (cond b (start_answer (board_in plan w) k) EOsId))) (sym (is_some-core_of k plan.cores))
-      ∙ ap (λ (b : Board). Some (Item.Began k (cond (is_some (core_of plan k)) (start_answer b k) EOsId))) (sym shown)
+      ap (λ (b : Bool). Some (Item.Began k (cond b (start_answer (board_in plan w).view k) EOsId))) (sym (is_some-core_of k plan.cores))
+      ∙ ap (λ (b : BoardState). Some (Item.Began k (cond (is_some (core_of plan k)) (start_answer b.view k) EOsId))) (sym shown)
 
   post-agrees : (to : CoreId) → own_named plan stimuli w core (Want.Post to) ≡ post_named mail core to
   post-agrees to = by (nat_lt to.number CORES) refl
@@ -96,4 +96,4 @@ module _ (plan : Plan) (stimuli : List CoreStimuli) (w : World) (core : CoreId) 
       own-agrees (want_of (view_of plan core) (history_in plan w core)) ∙ ap (λ (s : KernelState). own_by plan board mail core left (want_in s)) (sym stands)
   named-agrees seats lists kernel stands (Serve from) = serve-agrees seats lists from
   named-agrees seats lists kernel stands Look =
-      ap (λ (b : Board). look_named core b (state_of (view_of plan core) (history_in plan w core)).progress.phase) (sym shown) ∙ ap (λ (s : KernelState). look_named core board s.progress.phase) (sym stands)
+      ap (λ (b : BoardState). look_named core b (state_of (view_of plan core) (history_in plan w core)).progress.phase) (sym shown) ∙ ap (λ (s : KernelState). look_named core board s.progress.phase) (sym stands)

@@ -33,7 +33,7 @@ use Rattle.oskernel.proofs.Scripts.{other-allow, own-allow}
 use Rattle.oskernel.proofs.Stages.{is_mail}
 use Rattle.oskernel.proofs.Stepping.{alone_view}
 use Rattle.osworld.specs.Sound.{AreKnown, alone_items, ArePrintedAlone, IsAlone, own_agreement}
-use Rattle.osworld.specs.Board.{BoardEntry, with_core}
+use Rattle.osboard.specs.Boards.{BoardEntry, with_core}
 use Rattle.osworld.specs.Fits.{Fits, FitsBy, IsBeginning, history_by, items_of}
 use Rattle.osworld.proofs.Ahead.{boot_items, Goes, goes-alone, solo-alone}
 use Rattle.osworld.proofs.Beginnings.{begins-all_pass}

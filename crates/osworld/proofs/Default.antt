@@ -16,7 +16,7 @@ use Rattle.osbase.specs.Sets.{has_core}
 use Rattle.osstate.specs.State.{KernelState}
 use Rattle.osbase.specs.declared.turns.Report.{Report}
 use Rattle.osworld.specs.declared.runs.RunFault.TheVariants.{NoMemory}
-use Rattle.osworld.specs.declared.boards.Board.{Board}
+use Rattle.osboard.specs.declared.calls.BoardState.{BoardState}
 use Rattle.osworld.specs.declared.seats.Seat.{Seat}
 use Rattle.osworld.specs.Sound.{AreKnown}
 use Rattle.osworld.specs.World.{World, board_in, first_world, world, world_from, is_unchanged, item_total}
@@ -27,26 +27,26 @@ use Rattle.osworld.proofs.Reported.{reports-played}
 use Rattle.osworld.proofs.Short.{world-bounded}
 
 -- Whether all have ended, read off the seats.
-abbrev pub seats_over : Board → List Seat → Bool
-seats_over board seats = list_all (λ (s : Seat). not (has_core board.started s.id) || is_ended_phase s.kernel.progress.phase) seats
+abbrev pub seats_over : BoardState → List Seat → Bool
+seats_over board seats = list_all (λ (s : Seat). not (has_core board.view.started s.id) || is_ended_phase s.kernel.progress.phase) seats
 
-over-each : (plan : Plan) (stimuli : List CoreStimuli) (board : Board) (seats : List Seat) → All (IsSeated plan stimuli) seats → seats_over board seats ≡ list_all (λ (p : CoreId × List Item). not (has_core board.started p.0) || has_ended plan p) (lists_of seats)
+over-each : (plan : Plan) (stimuli : List CoreStimuli) (board : BoardState) (seats : List Seat) → All (IsSeated plan stimuli) seats → seats_over board seats ≡ list_all (λ (p : CoreId × List Item). not (has_core board.view.started p.0) || has_ended plan p) (lists_of seats)
 over-each plan stimuli board [] seated = refl
 over-each plan stimuli board (s ∷ ss) seated =
     let here : IsSeated plan stimuli s = All-head (IsSeated plan stimuli) s ss seated in
     rw (over-each plan stimuli board ss (All-tail (IsSeated plan stimuli) s ss seated), ap (λ (k : KernelState). is_ended_phase k.progress.phase) here.tracks.stands.is) refl
 
-pub over-agrees : (plan : Plan) (stimuli : List CoreStimuli) (w : World) (seats : List Seat) (mail : Mail) (board : Board) → Plays plan stimuli w seats mail board → seats_over board seats ≡ is_over plan w
+pub over-agrees : (plan : Plan) (stimuli : List CoreStimuli) (w : World) (seats : List Seat) (mail : Mail) (board : BoardState) → Plays plan stimuli w seats mail board → seats_over board seats ≡ is_over plan w
 over-agrees plan stimuli w seats mail board plays =
     over-each plan stimuli board seats plays.seated
-    ∙ ap (λ (b : Board). list_all (λ (p : CoreId × List Item). not (has_core b.started p.0) || has_ended plan p) (lists_of seats)) plays.shown
-    ∙ ap (list_all (λ (p : CoreId × List Item). not (has_core (board_in plan w).started p.0) || has_ended plan p)) (sym plays.lists)
+    ∙ ap (λ (b : BoardState). list_all (λ (p : CoreId × List Item). not (has_core b.view.started p.0) || has_ended plan p) (lists_of seats)) plays.shown
+    ∙ ap (list_all (λ (p : CoreId × List Item). not (has_core (board_in plan w).view.started p.0) || has_ended plan p)) (sym plays.lists)
 
 past_them : (m a b : ℕ) → nat_eq a b ≡ false → m ≤ a → a ≤ b → suc m ≤ b
 past_them m a b differ le grows = grind (arith, nat_tests, differ)
 
 -- Some whole rounds are played, and the default schedule goes on.
-pub record IsUnderway (plan : Plan) (stimuli : List CoreStimuli) (next : ℕ) (seats : List Seat) (mail : Mail) (board : Board) : Type 0 where
+pub record IsUnderway (plan : Plan) (stimuli : List CoreStimuli) (next : ℕ) (seats : List Seat) (mail : Mail) (board : BoardState) : Type 0 where
   pub played : ℕ
   pub is_next : suc played ≡ next
   pub plays : Plays plan stimuli (world plan stimuli (default_turns plan played)) seats mail board
@@ -61,7 +61,7 @@ up_to n m le = by (nat_le n m) refl
     by true e = inl (leb-true n m e)
     by false e = inr (grind (arith, nat_tests, e))
 
-pub underway-first : (plan : Plan) (stimuli : List CoreStimuli) (seats : List Seat) (mail : Mail) (board : Board) → Plays plan stimuli (first_world plan) seats mail board → IsUnderway plan stimuli 1 seats mail board
+pub underway-first : (plan : Plan) (stimuli : List CoreStimuli) (seats : List Seat) (mail : Mail) (board : BoardState) → Plays plan stimuli (first_world plan) seats mail board → IsUnderway plan stimuli 1 seats mail board
 underway-first plan stimuli seats mail board plays = record {
   played = 0;
   is_next = refl;
@@ -75,7 +75,7 @@ underway-first plan stimuli seats mail board plays = record {
     none_yet zero le = refl
     none_yet (suc n) le = absurd (omega arith)
 
-module _ (plan : Plan) (stimuli : List CoreStimuli) (next : ℕ) (seats : List Seat) (mail : Mail) (board : Board) (underway : IsUnderway plan stimuli next seats mail board) where
+module _ (plan : Plan) (stimuli : List CoreStimuli) (next : ℕ) (seats : List Seat) (mail : Mail) (board : BoardState) (underway : IsUnderway plan stimuli next seats mail board) where
   abbrev here : World
   here = world plan stimuli (default_turns plan underway.played)
 
@@ -85,7 +85,7 @@ module _ (plan : Plan) (stimuli : List CoreStimuli) (next : ℕ) (seats : List S
   joined : world plan stimuli (default_turns plan (suc underway.played)) ≡ after_round
   joined = world_from-append plan stimuli (first_world plan) (default_turns plan underway.played) (round_of plan)
 
-  module _ (changed over : Bool) (seats' : List Seat) (mail' : Mail) (board' : Board) (round : IsPlayed plan stimuli here (round_of plan) changed seats' mail' board') (is_over' : over ≡ seats_over board' seats') where
+  module _ (changed over : Bool) (seats' : List Seat) (mail' : Mail) (board' : BoardState) (round : IsPlayed plan stimuli here (round_of plan) changed seats' mail' board') (is_over' : over ≡ seats_over board' seats') where
     ends : (over || not changed) ≡ (is_over plan after_round || is_unchanged here after_round)
     ends = rw (is_over' ∙ over-agrees plan stimuli after_round seats' mail' board' round.plays, round.tells) (by (is_over plan after_round) (is_unchanged here after_round))
       where
@@ -127,7 +127,7 @@ module _ (plan : Plan) (stimuli : List CoreStimuli) (next : ℕ) (seats : List S
         more_items false true e f = cc
         more_items false false e f = past_them underway.played (item_total here) (item_total after_round) e underway.grown (world_from-grows plan stimuli here (round_of plan))
 
-  pub default-cut : (seats' : List Seat) (mail' : Mail) (board' : Board) → IsCutShort plan stimuli here (round_of plan) seats' mail' board' → IsDefaultCutShort plan stimuli seats' mail' board'
+  pub default-cut : (seats' : List Seat) (mail' : Mail) (board' : BoardState) → IsCutShort plan stimuli here (round_of plan) seats' mail' board' → IsDefaultCutShort plan stimuli seats' mail' board'
   default-cut seats' mail' board' cut = record {
     rounds = suc underway.played;
     goes_on = λ fewer lt. underway.none fewer (omega arith);
@@ -150,7 +150,7 @@ module _ (plan : Plan) (stimuli : List CoreStimuli) (next : ℕ) (seats : List S
   too_many many = let few = world-bounded plan stimuli (default_turns plan underway.played) in let grown = underway.grown in let is = underway.is_next in omega arith
 
 -- the same said of the run's own configuration and turns
-module _ (plan plan' : Plan) (same : plan' ≡ plan) (stimuli : List CoreStimuli) (turns : List (CoreId × Choice)) (is_round : turns ≡ round_of plan) (seats seats' : List Seat) (mail mail' : Mail) (board board' : Board) (w : World) (plays : Plays plan stimuli w seats mail board) where
+module _ (plan plan' : Plan) (same : plan' ≡ plan) (stimuli : List CoreStimuli) (turns : List (CoreId × Choice)) (is_round : turns ≡ round_of plan) (seats seats' : List Seat) (mail mail' : Mail) (board board' : BoardState) (w : World) (plays : Plays plan stimuli w seats mail board) where
   pub round-played : (changed : Bool) → ((v : World) → Plays plan' stimuli v seats mail board → IsPlayed plan' stimuli v turns changed seats' mail' board') → IsPlayed plan stimuli w (round_of plan) changed seats' mail' board'
   round-played changed played =
       subst (λ (ts : List (CoreId × Choice)). IsPlayed plan stimuli w ts changed seats' mail' board') is_round
@@ -161,10 +161,10 @@ module _ (plan plan' : Plan) (same : plan' ≡ plan) (stimuli : List CoreStimuli
       subst (λ (ts : List (CoreId × Choice)). IsCutShort plan stimuli w ts seats' mail' board') is_round
       (subst (λ (p : Plan). (v : World) → Plays p stimuli v seats mail board → IsCutShort p stimuli v turns seats' mail' board') same cut w plays)
 
-pub begun-there : (plan plan' : Plan) → plan' ≡ plan → (stimuli : List CoreStimuli) (seats : List Seat) (mail : Mail) (board : Board) → Plays plan stimuli (first_world plan) seats mail board → IsBegun plan' seats mail board
+pub begun-there : (plan plan' : Plan) → plan' ≡ plan → (stimuli : List CoreStimuli) (seats : List Seat) (mail : Mail) (board : BoardState) → Plays plan stimuli (first_world plan) seats mail board → IsBegun plan' seats mail board
 begun-there plan plan' same stimuli seats mail board begun = subst (λ (p : Plan). IsBegun p seats mail board) (sym same) (stimuli, begun)
 
-module _ (plan plan' : Plan) (same : plan' ≡ plan) (stimuli : List CoreStimuli) (seats seats' : List Seat) (mail mail' : Mail) (board board' : Board) (begun : Plays plan stimuli (first_world plan) seats mail board) where
+module _ (plan plan' : Plan) (same : plan' ≡ plan) (stimuli : List CoreStimuli) (seats seats' : List Seat) (mail mail' : Mail) (board board' : BoardState) (begun : Plays plan stimuli (first_world plan) seats mail board) where
   played-here : (rounds : ℕ) → ((given : List CoreStimuli) → Plays plan' given (first_world plan') seats mail board → IsDefaultPlayed plan' given rounds seats' mail' board') → IsDefaultPlayed plan stimuli rounds seats' mail' board'
   played-here rounds played = subst (λ (p : Plan). (given : List CoreStimuli) → Plays p given (first_world p) seats mail board → IsDefaultPlayed p given rounds seats' mail' board') same played stimuli begun
 

@@ -1,7 +1,7 @@
 -- Every world fits: what it was before a turn did, and so does what the turn appends.
 use Rattle.std.proofs.Common.{◌≡◌, Bool, true, false, ◌&&◌, ◌||◌, cond, Option, Some, None, is_some, List, [], ◌∷◌, ◌++◌, length, refl, sym, ap, subst, ◌∙◌, arith, append-nil}
 use Rattle.std.specs.List.{slice_get}
-use Rattle.std.proofs.lemmas.Bool.{false≢true}
+use Rattle.std.proofs.lemmas.Bool.{eq-eqb, false≢true}
 use Rattle.std.proofs.lemmas.List.Elements.{filter-append}
 use Rattle.std.proofs.lemmas.Option.{slice_get_past}
 use Rattle.osbase.specs.declared.references.CoreId.{CoreId}
@@ -16,11 +16,13 @@ use Rattle.osplan.specs.declared.plans.Plan.{Plan}
 use Rattle.osplan.specs.declared.plans.CoreMode.{CoreMode}
 use Rattle.osplan.specs.View.{view_of}
 use Rattle.osplan.proofs.Starting.{and-true}
-use Rattle.osbase.proofs.Same.{same_core-true, same_core-refl}
+use Rattle.osbase.proofs.Same.{same_core-true}
 use Rattle.oskernel.specs.Step.{takes, outbox_size}
-use Rattle.osworld.specs.declared.boards.Board.{Board}
-use Rattle.osworld.specs.Board.{BoardCall, BoardEntry, board_after, board_from, first_board, reply_of, call_of}
-use Rattle.osworld.specs.Fits.{FitsBy, ids_of, Allows, AreAnswered, asking, calls_by, Fits, FitsCore, has_drained, IsBeginning, is_drain, Replays, stimuli_in}
+use Rattle.osseat.specs.Histories.{IsLegal, calls_by, entry}
+use Rattle.osseat.proofs.Steps.{calls_by-append, calls_by-hit, legal_snoc, missed}
+use Rattle.osboard.specs.declared.calls.BoardCall.{BoardCall}
+use Rattle.osboard.specs.Boards.{BoardEntry, board_reply, first_board, one_board}
+use Rattle.osworld.specs.Fits.{FitsBy, ids_of, Allows, AreAnswered, asking, call_of, Fits, FitsCore, has_drained, IsBeginning, is_drain, stimuli_in}
 use Rattle.osworld.specs.World.{World, appends, board_in, first_world, history_in, items_in, stimulus_count, with_call, world}
 use Rattle.osworld.proofs.Beginnings.{begins-longer, begins-next, begins-through, begins-whole}
 use Rattle.osworld.proofs.Listed.{items_by, list_of, list_of-same, list_of-other, history_from-push}
@@ -34,11 +36,7 @@ use Rattle.osworld.proofs.Fitting.{envelope_in, has_drained-push, IsNext, Known,
 abbrev WorldFits : Plan → List CoreStimuli → World → Type 0
 WorldFits plan stimuli w = FitsBy plan stimuli w.items w.calls
 
--- the board's calls, and one more
-replays-push : (first : Board) (es : List BoardEntry) (core : CoreId) (call : BoardCall) → Replays first es → Replays first (es ++ record { core = core; call = call; reply = reply_of call (board_from first es) } ∷ [])
-replays-push first [] core call replays = (refl, tt)
-replays-push first (e ∷ es) core call replays = (replays.0, replays-push (board_after e.core e.call first) es core call replays.1)
-
+-- a core's calls of the board, and one more
 answered-push : (id : CoreId) (mode : CoreMode) (is : List Item) (es : List BoardEntry) (i : Item) (e : BoardEntry) → AreAnswered id mode is es → call_of mode i ≡ Some e.call → Allows id e.reply i → AreAnswered id mode (is ++ i ∷ []) (es ++ e ∷ [])
 answered-push id mode [] [] i e answered is allowed = (is, allowed, tt)
 answered-push id mode [] (d ∷ es) i e answered is allowed = absurd answered
@@ -163,9 +161,12 @@ module _ (plan : Plan) (stimuli : List CoreStimuli) (w : World) (fits : WorldFit
       by true false is here = longer (same_core core from && is_post_to item to)
       by false b is here = longer (same_core core from && is_post_to item to)
 
-  board-on : (o : Option BoardCall) → Replays (first_board plan.master) (with_call core (board_in plan w) o w.calls)
+  abbrev called : BoardCall → BoardEntry
+  called call = entry core call (board_reply core call (board_in plan w))
+
+  board-on : (o : Option BoardCall) → IsLegal one_board plan.master (with_call core (board_in plan w) o w.calls)
   board-on None = fits.board
-  board-on (Some call) = replays-push (first_board plan.master) w.calls core call fits.board
+  board-on (Some call) = legal_snoc one_board (first_board plan.master) w.calls (called call) fits.board refl
 
   -- the call of an item is behind those of the core's earlier items, and aside for every other core
   abbrev mode : CoreMode
@@ -175,19 +176,12 @@ module _ (plan : Plan) (stimuli : List CoreStimuli) (w : World) (fits : WorldFit
   answers-here None e = subst (λ (xs : List Item). AreAnswered core mode xs (calls_by core w.calls)) (sym (append-nil (asking mode (items_in w core)))) (fits.answers core)
   answers-here (Some call) e =
       subst (λ (es : List BoardEntry). AreAnswered core mode (asking mode (items_in w core) ++ item ∷ []) es)
-      (sym (filter-append (λ (d : BoardEntry). same_core d.core core) w.calls (entry ∷ []) ∙ ap (λ (b : Bool). calls_by core w.calls ++ cond b (entry ∷ []) []) (same_core-refl core)))
-      (answered-push core mode (asking mode (items_in w core)) (calls_by core w.calls) item entry (fits.answers core) e (known.answered call e))
-    where
-      entry : BoardEntry
-      entry = record { core = core; call = call; reply = reply_of call (board_in plan w) }
+      (sym (calls_by-append core w.calls (called call ∷ []) ∙ ap (λ (es : List BoardEntry). calls_by core w.calls ++ es) (calls_by-hit core (called call) refl)))
+      (answered-push core mode (asking mode (items_in w core)) (calls_by core w.calls) item (called call) (fits.answers core) e (known.answered call e))
 
   answers-there : (id : CoreId) → same_core core id ≡ false → (o : Option BoardCall) → calls_by id (with_call core (board_in plan w) o w.calls) ≡ calls_by id w.calls
   answers-there id other None = refl
-  answers-there id other (Some call) =
-      filter-append (λ (d : BoardEntry). same_core d.core id) w.calls (entry ∷ []) ∙ ap (λ (b : Bool). calls_by id w.calls ++ cond b (entry ∷ []) []) other ∙ append-nil (calls_by id w.calls)
-    where
-      entry : BoardEntry
-      entry = record { core = core; call = call; reply = reply_of call (board_in plan w) }
+  answers-there id other (Some call) = missed id (called call) w.calls (λ e. false≢true (sym other ∙ eq-eqb core.number id.number (sym e)))
 
   answers-on : (id : CoreId) → AreAnswered id (view_of plan id).own.mode (asking (view_of plan id).own.mode (items_in next id)) (calls_by id next.calls)
   answers-on id = by (same_core core id) refl

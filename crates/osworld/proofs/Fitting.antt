@@ -1,5 +1,5 @@
 -- Every world fits: what a turn names fits what the cores and the board came to.
-use Rattle.std.proofs.Common.{◌≡◌, suc, Bool, true, false, ◌||◌, cond, Option, Some, None, option_map, List, [], ◌∷◌, ◌++◌, length, refl, ap, subst, ◌∙◌, arith, length-append}
+use Rattle.std.proofs.Common.{◌≡◌, suc, Bool, true, false, ◌||◌, cond, Option, Some, None, option_map, List, [], ◌∷◌, ◌++◌, length, refl, sym, ap, subst, ◌∙◌, arith, length-append}
 use Rattle.std.specs.List.{slice_get}
 use Rattle.std.proofs.lemmas.Option.{same_Some}
 use Rattle.osbase.specs.declared.statuses.Status.{Status}
@@ -14,17 +14,18 @@ use Rattle.osbase.specs.declared.histories.Phase.{Phase}
 use Rattle.osbase.specs.History.{History, Took, Printed, Noted, posted, received, received_count, same_core}
 use Rattle.osbase.specs.Runs.{stimuli_of}
 use Rattle.osplan.specs.declared.plans.Plan.{Plan}
-use Rattle.osplan.specs.declared.plans.CoreMode.{CoreMode}
 use Rattle.osplan.specs.View.{View, is_configured, view_of}
 use Rattle.osbase.specs.Sets.{has_core}
 use Rattle.osstate.specs.Readings.{phase_at}
 use Rattle.oskernel.specs.declared.wants.Want.{Want}
 use Rattle.oskernel.specs.Step.{after, history_from, solo_from, takes, outbox_size}
 use Rattle.oskernel.specs.Wants.{want_of}
-use Rattle.osworld.specs.declared.boards.Board.{Board}
-use Rattle.osworld.specs.Board.{BoardCall, agreement_in, have_all, reply_of, start_answer, call_of, start_call}
+use Rattle.osboard.specs.declared.calls.BoardState.{BoardState}
+use Rattle.osboard.specs.declared.calls.BoardCall.{BoardCall}
+use Rattle.osboard.specs.declared.calls.BoardCall.TheVariants.{Drain, Enter, Look, LookHalt, MakeReady, Start}
+use Rattle.osboard.specs.Boards.{agreement_in, board_reply, have_all}
 use Rattle.osworld.specs.World.{World, board_in, going_on, has_room, history_in, items_in, look_named, named, own_named, receiving, serve_named, starting, stimulus_count}
-use Rattle.osworld.specs.Fits.{Allows, has_drained, is_drain, stimuli_in}
+use Rattle.osworld.specs.Fits.{Allows, call_of, has_drained, is_drain, stimuli_in}
 use Rattle.oskernel.proofs.Holding.{quiet_after}
 use Rattle.osworld.proofs.Streams.{is_from}
 
@@ -35,13 +36,10 @@ IsNext plan stimuli w id Item.Drained = slice_get (stimuli_of stimuli id) (stimu
 IsNext plan stimuli w id (Item.Received from number m) = slice_get (posted id (history_in plan w from)) (received_count from (history_in plan w id)) ≡ Some (record { number = number; message = m })
 IsNext plan stimuli w id item = Unit {0}
 
--- Its call of the board, if it is one, is answered so that the item may be.
-abbrev pub Answers : Board → CoreId → CoreMode → Item → Type 0
-Answers board id mode item = (call : BoardCall) → call_of mode item ≡ Some call → Allows id (reply_of call board) item
-
+-- And its call of the board, if it is one, is answered so that the item may be.
 pub record Known (plan : Plan) (stimuli : List CoreStimuli) (w : World) (id : CoreId) (item : Item) : Type 0 where
   pub follows : IsNext plan stimuli w id item
-  pub answered : Answers (board_in plan w) id (view_of plan id).own.mode item
+  pub answered : (call : BoardCall) → call_of (view_of plan id).own.mode item ≡ Some call → Allows id (board_reply id call (board_in plan w)) item
 
 module _ (plan : Plan) (stimuli : List CoreStimuli) (w : World) (id : CoreId) where
   abbrev NamedOnly : Option Item → Type 0
@@ -57,29 +55,33 @@ module _ (plan : Plan) (stimuli : List CoreStimuli) (w : World) (id : CoreId) wh
   gate true i known = just i (known refl)
   gate false i known = nothing
 
-  started : (k : CoreId) (s : Status) → ((call : BoardCall) → start_call k s ≡ Some call → Allows id (reply_of call (board_in plan w)) (Item.Began k s)) → Known plan stimuli w id (Item.Began k s)
-  started k s answered = record { follows = tt; answered = answered }
+  abbrev board : BoardState
+  board = board_in plan w
 
-  starts : (k : CoreId) → NamedOnly (Some (starting (view_of plan id) (board_in plan w) k))
-  starts k = by (is_configured (view_of plan id) k)
+  -- An item that is not a call of the board, and one that is.
+  plain : (i : Item) → IsNext plan stimuli w id i → None ≡ call_of (view_of plan id).own.mode i → Known plan stimuli w id i
+  plain i next none = record { follows = next; answered = λ call e. let no : None ≡ Some call = none ∙ e in cc }
+
+  told : (i : Item) (c : BoardCall) → IsNext plan stimuli w id i → Some c ≡ call_of (view_of plan id).own.mode i → Allows id (board_reply id c board) i → Known plan stimuli w id i
+  told i c next is allows = record { follows = next; answered = λ call e. subst (λ (d : BoardCall). Allows id (board_reply id d board) i) (same_Some _ _ (is ∙ e)) allows }
+
+  starts : (k : CoreId) → NamedOnly (Some (starting (view_of plan id) board k))
+  starts k = by (is_configured (view_of plan id) k) (has_core board.view.started k) refl
     where
-      told : (b : Bool) → (call : BoardCall) → start_call k (cond b Status.EOsState Status.EOk) ≡ Some call → cond b Status.EOsState Status.EOk ≡ start_answer (board_in plan w) k → Allows id (reply_of call (board_in plan w)) (Item.Began k (cond b Status.EOsState Status.EOk))
-      told true call e is = subst (λ (c : BoardCall). Allows id (reply_of c (board_in plan w)) (Item.Began k Status.EOsState)) (same_Some _ _ e) is
-      told false call e is = subst (λ (c : BoardCall). Allows id (reply_of c (board_in plan w)) (Item.Began k Status.EOk)) (same_Some _ _ e) is
-
-      by : (b : Bool) → NamedOnly (Some (Item.Began k (cond b (start_answer (board_in plan w) k) Status.EOsId)))
-      by true = just (Item.Began k (start_answer (board_in plan w) k)) (started k (start_answer (board_in plan w) k) (λ call e. told (has_core (board_in plan w).started k) call e refl))
-      by false = just (Item.Began k Status.EOsId) (started k Status.EOsId (λ call e. cc))
+      by : (b c : Bool) → has_core board.view.started k ≡ c → NamedOnly (Some (Item.Began k (cond b (cond c Status.EOsState Status.EOk) Status.EOsId)))
+      by true true e = just _ (told (Item.Began k Status.EOsState) (Start k) tt refl (ap (λ (t : Bool). cond t Status.EOsState Status.EOk) (sym e)))
+      by true false e = just _ (told (Item.Began k Status.EOk) (Start k) tt refl (ap (λ (t : Bool). cond t Status.EOsState Status.EOk) (sym e)))
+      by false c e = just _ (plain (Item.Began k Status.EOsId) tt refl)
 
   goes : (o : Option Stimulus) → slice_get (stimuli_of stimuli id) (stimulus_count (items_in w id)) ≡ o → NamedOnly (Some (going_on o))
-  goes (Some s) e = just (Item.Stim s) (record { follows = e; answered = λ call f. cc })
-  goes None e = just Item.Drained (record { follows = e; answered = λ call f. subst (λ (c : BoardCall). Allows id (reply_of c (board_in plan w)) Item.Drained) (same_Some _ _ f) tt })
+  goes (Some s) e = just _ (plain (Item.Stim s) e refl)
+  goes None e = just _ (told Item.Drained Drain e refl tt)
 
   owns : (want : Want) → NamedOnly (own_named plan stimuli w id want)
   owns (Want.Start k) = starts k
-  owns Want.Enter = just Item.Entered (record { follows = tt; answered = λ call f. subst (λ (c : BoardCall). Allows id (reply_of c (board_in plan w)) Item.Entered) (same_Some _ _ f) tt })
-  owns Want.Ready = just Item.Readied (record { follows = tt; answered = λ call f. subst (λ (c : BoardCall). Allows id (reply_of c (board_in plan w)) Item.Readied) (same_Some _ _ f) tt })
-  owns (Want.Post to) = gate (has_room plan w id to) (Item.Posted to) (λ e. record { follows = tt; answered = λ call f. cc })
+  owns Want.Enter = just _ (told Item.Entered (Enter (view_of plan id).own.mode) tt refl tt)
+  owns Want.Ready = just _ (told Item.Readied MakeReady tt refl tt)
+  owns (Want.Post to) = gate (has_room plan w id to) (Item.Posted to) (λ e. plain (Item.Posted to) tt refl)
   owns Want.GoOn = goes (slice_get (stimuli_of stimuli id) (stimulus_count (items_in w id))) refl
   owns Want.Nothing = nothing
 
@@ -87,19 +89,16 @@ module _ (plan : Plan) (stimuli : List CoreStimuli) (w : World) (id : CoreId) wh
   serves from = by (slice_get (posted id (history_in plan w from)) (received_count from (history_in plan w id))) refl
     where
       by : (o : Option Envelope) → slice_get (posted id (history_in plan w from)) (received_count from (history_in plan w id)) ≡ o → NamedOnly (option_map (receiving from) o)
-      by (Some e) is = just (receiving from e) (record { follows = is; answered = λ call f. cc })
+      by (Some e) is = just _ (plain (receiving from e) is refl)
       by None is = nothing
 
-  looks : (phase : Phase) → NamedOnly (look_named id (board_in plan w) phase)
-  looks Phase.Off = gate (has_core (board_in plan w).started id) Item.On (λ e. record { follows = tt; answered = λ call f. subst (λ (c : BoardCall). Allows id (reply_of c (board_in plan w)) Item.On) (same_Some _ _ f) e })
-  looks Phase.FirstGate = gate (have_all (board_in plan w).started (board_in plan w).entered) (Item.Pass1 (agreement_in (board_in plan w).modes)) (λ e. record { follows = tt; answered = λ call f. subst (λ (c : BoardCall). Allows id (reply_of c (board_in plan w)) (Item.Pass1 (agreement_in (board_in plan w).modes))) (same_Some _ _ f) (e, refl) })
-  looks Phase.SecondGate = gate (have_all (board_in plan w).started (board_in plan w).ready) (Item.Pass2 (board_in plan w).started) (λ e. record { follows = tt; answered = λ call f. subst (λ (c : BoardCall). Allows id (reply_of c (board_in plan w)) (Item.Pass2 (board_in plan w).started)) (same_Some _ _ f) (e, refl) })
-  looks Phase.Drained = gate (have_all (board_in plan w).started (board_in plan w).drained) Item.PassEnd (λ e. record { follows = tt; answered = λ call f. subst (λ (c : BoardCall). Allows id (reply_of c (board_in plan w)) Item.PassEnd) (same_Some _ _ f) e })
-  looks Phase.Closing = just (Item.Last None) (record { follows = tt; answered = λ call f. subst (λ (c : BoardCall). Allows id (reply_of c (board_in plan w)) (Item.Last None)) (same_Some _ _ f) tt })
-  looks Phase.Boot = nothing
-  looks Phase.BetweenGates = nothing
-  looks Phase.Live = nothing
-  looks Phase.Ended = nothing
+  looks : (phase : Phase) → NamedOnly (look_named id board phase)
+  looks Phase.Off = gate (has_core board.view.started id) Item.On (λ e. told Item.On Look tt refl e)
+  looks Phase.FirstGate = let item = Item.Pass1 (agreement_in board.view.modes) in gate (have_all board.view.started board.view.entered) item (λ e. told item Look tt refl (e, refl))
+  looks Phase.SecondGate = let item = Item.Pass2 board.view.started in gate (have_all board.view.started board.view.ready) item (λ e. told item Look tt refl (e, refl))
+  looks Phase.Drained = gate (have_all board.view.started board.view.drained) Item.PassEnd (λ e. told Item.PassEnd Look tt refl e)
+  looks Phase.Closing = just _ (told (Item.Last board.halt) LookHalt tt refl refl)
+  looks phase = nothing
 
   pub named-known : (choice : Choice) (item : Item) → named plan stimuli w id choice ≡ Some item → Known plan stimuli w id item
   named-known Own = owns (want_of (view_of plan id) (history_in plan w id))

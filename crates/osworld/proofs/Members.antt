@@ -8,7 +8,7 @@ use Rattle.osbase.specs.History.{no_cores}
 use Rattle.osbase.specs.Sets.{has_core}
 use Rattle.osbase.proofs.Same.{same_core-refl}
 use Rattle.osplan.proofs.Starting.{flag-read, has_core-flag, no-flag, one-flag}
-use Rattle.osworld.specs.Board.{with_core}
+use Rattle.osboard.specs.Boards.{with_core}
 
 -- The one that joined, or one that was there.
 pub has_core-more : (k j : CoreId) (cores : CoreSet) → has_core (with_core k cores) j ≡ true → (j ≡ k) ⊎ (has_core cores j ≡ true)

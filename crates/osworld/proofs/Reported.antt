@@ -13,7 +13,7 @@ use Rattle.osplan.specs.declared.plans.Plan.{Plan}
 use Rattle.osplan.specs.Limits.{is_within_limits}
 use Rattle.osplan.specs.View.{view_of}
 use Rattle.osstate.specs.State.{KernelState}
-use Rattle.osworld.specs.declared.boards.Board.{Board}
+use Rattle.osboard.specs.declared.calls.BoardState.{BoardState}
 use Rattle.osworld.specs.declared.seats.Seat.{Seat}
 use Rattle.osworld.specs.Fits.{Fits, ids_of}
 use Rattle.osworld.specs.Sound.{AreKnown, IsOwn, lists_in}
@@ -60,7 +60,7 @@ each-own plan stimuli (s ∷ ss) seated =
     )
 
 -- turns from the beginning
-pub reports-played : (plan : Plan) → IsTrue (is_within_limits plan) → (stimuli : List CoreStimuli) → AreKnown stimuli → (turns : List (CoreId × Choice)) (seats : List Seat) (mail : Mail) (board : Board) → Plays plan stimuli (world plan stimuli turns) seats mail board → AreReports plan stimuli turns (map report_of seats)
+pub reports-played : (plan : Plan) → IsTrue (is_within_limits plan) → (stimuli : List CoreStimuli) → AreKnown stimuli → (turns : List (CoreId × Choice)) (seats : List Seat) (mail : Mail) (board : BoardState) → Plays plan stimuli (world plan stimuli turns) seats mail board → AreReports plan stimuli turns (map report_of seats)
 reports-played plan limits stimuli known turns seats mail board plays =
     let lists : lists_in (map report_of seats) ≡ (world plan stimuli turns).items = map-map (λ (r : Report). (r.core, r.items)) report_of seats ∙ sym plays.lists in
     let fits : Fits plan stimuli (lists_in (map report_of seats)) = subst (Fits plan stimuli) (sym lists) (world_fits plan stimuli turns) in
@@ -75,7 +75,7 @@ reports-played plan limits stimuli known turns seats mail board plays =
     }
 
 -- turns that were played from the beginning, and turns before which memory was wanting
-module _ (plan plan' : Plan) (same : plan' ≡ plan) (limits : IsTrue (is_within_limits plan)) (stimuli : List CoreStimuli) (known : AreKnown stimuli) (turns : List (CoreId × Choice)) (seats seats' : List Seat) (mail mail' : Mail) (board board' : Board) (begun : Plays plan stimuli (first_world plan) seats mail board) where
+module _ (plan plan' : Plan) (same : plan' ≡ plan) (limits : IsTrue (is_within_limits plan)) (stimuli : List CoreStimuli) (known : AreKnown stimuli) (turns : List (CoreId × Choice)) (seats seats' : List Seat) (mail mail' : Mail) (board board' : BoardState) (begun : Plays plan stimuli (first_world plan) seats mail board) where
   pub reported-played : (changed : Bool) → ((w : World) → Plays plan' stimuli w seats mail board → IsPlayed plan' stimuli w turns changed seats' mail' board') → AreReports plan stimuli turns (map report_of seats')
   reported-played changed played =
       reports-played plan limits stimuli known turns seats' mail' board'

@@ -28,9 +28,14 @@ use Rattle.osstate.specs.State.{state_of}
 use Rattle.oskernel.specs.Admission.{admits, is_for, is_start_answer, is_started_now_or_before, is_unknown_core}
 use Rattle.oskernel.specs.Step.{after, history_from, outbox_size, solo_from}
 use Rattle.oskernel.proofs.Stages.{only-on, solo-parts, stage}
-use Rattle.osworld.specs.declared.boards.Board.{Board}
-use Rattle.osworld.specs.Board.{BoardCall, BoardEntry, BoardReply, StartCore, LookAt, Shown, agreement_by, agreement_in, board_after, first_board, with_mode, call_of}
-use Rattle.osworld.specs.Fits.{Allows, AreAnswered, Replays, asking, calls_by}
+use Rattle.osseat.specs.Histories.{IsLegal, calls_by}
+use Rattle.osboard.specs.declared.calls.BoardCall.{BoardCall}
+use Rattle.osboard.specs.declared.calls.BoardCall.TheVariants.{Start, Look}
+use Rattle.osboard.specs.declared.calls.BoardReply.{BoardReply}
+use Rattle.osboard.specs.declared.calls.BoardReply.TheVariants.{Shown}
+use Rattle.osboard.specs.declared.calls.BoardView.{BoardView}
+use Rattle.osboard.specs.Boards.{BoardEntry, agreement_by, agreement_in, first_board, first_view, one_board, view_after, with_mode}
+use Rattle.osworld.specs.Fits.{Allows, AreAnswered, asking, call_of}
 use Rattle.osworld.proofs.Members.{has_core-more, nobody-there}
 use Rattle.osworld.proofs.Relying.{AllSee, Relies, board-seen}
 
@@ -83,17 +88,17 @@ AreAgreed items = list_all (λ (i : Item). not (is_conflict i)) items ≡ true
 
 module _ (plan : Plan) (m : ModeId) where
   -- Only cores that the configuration starts are started, and no mode but this one is named.
-  pub record Sane (b : Board) : Type 0 where
+  pub record Sane (b : BoardView) : Type 0 where
     pub begun : (k : CoreId) → has_core b.started k ≡ true → is_started plan k ≡ true
     pub modes : (j : ℕ) → j ≢ m.index → get_or b.modes.members j false ≡ false
 
-  sane-no-conflict : (b : Board) → Sane b → Agreement.Conflict ≡ agreement_in b.modes → ⊥
+  sane-no-conflict : (b : BoardView) → Sane b → Agreement.Conflict ≡ agreement_in b.modes → ⊥
   sane-no-conflict b sane e =
       let two = conflict-two _ _ e in
       let one = count-one b.modes.members m.index sane.modes in
       omega (arith, two, one)
 
-  sane-first : is_some (core_of plan plan.master) ≡ true → Sane (first_board plan.master)
+  sane-first : is_some (core_of plan plan.master) ≡ true → Sane (first_view plan.master)
   sane-first there = record {
     begun = λ k h. elim (has_core-more plan.master k no_cores h) as (λ _. is_started plan k ≡ true) [
       | inl same ↦ ap (is_started plan) same ∙ started-master plan there
@@ -109,7 +114,7 @@ module _ (plan : Plan) (m : ModeId) where
     -- A call, if there is one, keeps the board sane.
     abbrev KeepsIf : Option BoardCall → Type 0
     KeepsIf None = Unit {0}
-    KeepsIf (Some call) = (b : Board) → Sane b → Sane (board_after core call b)
+    KeepsIf (Some call) = (b : BoardView) → Sane b → Sane (view_after core call b)
 
     -- It is off, or it is started.
     abbrev IfOn : History → Type 0
@@ -139,7 +144,7 @@ module _ (plan : Plan) (m : ModeId) where
           by (Some c) e among there = started-next plan core k c (boots (stage v h (Item.Began k status) refl taken)) e among (is_some-core_of k plan.cores ∙ there)
 
       -- Whose mode is told is started.
-      told : (b : Board) → Sane b → (j : ℕ) → j ≢ m.index → is_started plan core ≡ true → get_or (with_mode v.own.mode b.modes).members j false ≡ false
+      told : (b : BoardView) → Sane b → (j : ℕ) → j ≢ m.index → is_started plan core ≡ true → get_or (with_mode v.own.mode b.modes).members j false ≡ false
       told b sane j ne started = by (core_of plan core) refl
         where
           same-mode : (mode : CoreMode) → (not true || agree (Named m) mode) ≡ true → get_or (with_mode mode b.modes).members j false ≡ false
@@ -154,7 +159,7 @@ module _ (plan : Plan) (m : ModeId) where
               same-mode c.mode (subst (λ (t : Bool). (not t || agree (Named m) c.mode) ≡ true) (ap (is_started plan) same ∙ started)
               (find-passes (λ (d : Core). same_core d.id core) (λ (d : Core). not (is_started plan d.id) || agree (Named m) d.mode) plan.cores c agreed e))
 
-      start-keeps : (k : CoreId) → is_started plan k ≡ true → (b : Board) → Sane b → Sane (board_after core (StartCore k) b)
+      start-keeps : (k : CoreId) → is_started plan k ≡ true → (b : BoardView) → Sane b → Sane (view_after core (Start k) b)
       start-keeps k started b sane = record {
         begun = λ j e. elim (has_core-more k j b.started e) as (λ _. is_started plan j ≡ true) [
           | inl same ↦ ap (is_started plan) same ∙ started
@@ -178,7 +183,7 @@ module _ (plan : Plan) (m : ModeId) where
       call-keeps i taken = tt
 
       -- Who turned on saw that it was started.
-      saw : (r : BoardReply) → Allows core r Item.On → ((b : Board) → r ≡ Shown b → Sane b) → is_started plan core ≡ true
+      saw : (r : BoardReply) → Allows core r Item.On → ((b : BoardView) → r ≡ Shown b → Sane b) → is_started plan core ≡ true
       saw (Shown b) allows sees = (sees b refl).begun core allows
       saw r allows sees = absurd allows
 
@@ -199,7 +204,7 @@ module _ (plan : Plan) (m : ModeId) where
             either (inr started) = started
 
         by : ((ds : List BoardEntry) → IfOn (after v h i) → AreAnswered core v.own.mode (asking v.own.mode is) ds → Relies Sane core ds) → (o : Option BoardCall) → call_of v.own.mode i ≡ o → (ds : List BoardEntry) → AreAnswered core v.own.mode (cond (is_some o) (i ∷ asking v.own.mode is) (asking v.own.mode is)) ds → Relies Sane core ds
-        by rest None e ds a = rest ds (on-later (λ off. let no : Some LookAt ≡ None = sym (ap (call_of v.own.mode) (only-on v h i turn.0 off)) ∙ e in cc)) a
+        by rest None e ds a = rest ds (on-later (λ off. let no : Some Look ≡ None = sym (ap (call_of v.own.mode) (only-on v h i turn.0 off)) ∙ e in cc)) a
         by rest (Some call) e [] a = absurd a
         by rest (Some call) e (d ∷ ds) a = (
           subst KeepsIf a.0 (call-keeps h if_on i turn.0),
@@ -213,7 +218,7 @@ module _ (plan : Plan) (m : ModeId) where
         by true e = inr (ap (is_started plan) (same_core-true core plan.master e) ∙ started-master plan there)
         by false e = inl (ap (λ (b : Bool). phase_of b []) e)
 
-    agreed-item : (i : Item) (r : BoardReply) → Allows core r i → ((b : Board) → r ≡ Shown b → Sane b) → is_conflict i ≡ false
+    agreed-item : (i : Item) (r : BoardReply) → Allows core r i → ((b : BoardView) → r ≡ Shown b → Sane b) → is_conflict i ≡ false
     agreed-item (Item.Pass1 Agreement.Conflict) (Shown b) allows sees = absurd (sane-no-conflict b (sees b refl) allows.1)
     agreed-item (Item.Pass1 Agreement.Conflict) r allows sees = absurd allows
     agreed-item i r allows sees = refl
@@ -233,10 +238,10 @@ module _ (plan : Plan) (m : ModeId) where
         by rest (Some call) e (d ∷ ds) a see = and_from _ _ (not_from_false (is_conflict i) (agreed-item i d.reply a.1 see.0)) (rest ds a.2 see.1)
 
   -- In one history of the board that replays, and answers each core's calls, no core came to a conflict.
-  module _ (agreed : is_agreed_mode plan (Named m) ≡ true) (there : is_some (core_of plan plan.master) ≡ true) (calls : List BoardEntry) (replays : Replays (first_board plan.master) calls) (items : CoreId → List Item)
+  module _ (agreed : is_agreed_mode plan (Named m) ≡ true) (there : is_some (core_of plan plan.master) ≡ true) (calls : List BoardEntry) (legal : IsLegal one_board plan.master calls) (items : CoreId → List Item)
       (each : (id : CoreId) → solo_from (view_of plan id) [] (items id) ≡ Some (history_from (view_of plan id) [] (items id)))
       (answers : (id : CoreId) → AreAnswered id (view_of plan id).own.mode (asking (view_of plan id).own.mode (items id)) (calls_by id calls)) where
     pub never-conflict : (id : CoreId) → AreAgreed (items id)
     never-conflict id =
         all-agreed agreed id (items id) (calls_by id calls) (answers id)
-        (board-seen Sane (first_board plan.master) calls (sane-first there) replays (λ d. relies agreed d (items d) [] (calls_by d calls) (if-on-first agreed d there) (each d) (answers d)) id)
+        (board-seen Sane (first_board plan.master) calls (sane-first there) legal (λ d. relies agreed d (items d) [] (calls_by d calls) (if-on-first agreed d there) (each d) (answers d)) id)

@@ -21,8 +21,8 @@ use Rattle.osbase.proofs.Tables.{table-at}
 use Rattle.osstate.specs.State.{state_of}
 use Rattle.oskernel.specs.Step.{history_from}
 use Rattle.osworld.specs.declared.seats.Seat.{Seat}
-use Rattle.osworld.specs.declared.boards.Board.{Board}
-use Rattle.osworld.specs.Board.{first_board}
+use Rattle.osboard.specs.declared.calls.BoardState.{BoardState}
+use Rattle.osboard.specs.Boards.{first_board}
 use Rattle.osworld.specs.Fits.{ids_of}
 use Rattle.osworld.specs.World.{first_world, history_in}
 use Rattle.osworld.specs.Playing.{IsMail, IsSeated, lists_of, Plays}
@@ -98,7 +98,7 @@ module _ (plan : Plan) where
   })
 
 -- all 16 numbers were looked at
-pub started-all : (plan : Plan) (stimuli : List CoreStimuli) (seats : List Seat) (n : ℕ) (mail : Mail) (board : Board) → All (IsSeated plan stimuli) seats → lists_of seats ≡ lists_below plan n → 16 ≤ n → n ≤ 16 → mail ≡ empty_mail plan.cap → board ≡ first_board plan.master → Plays plan stimuli (first_world plan) seats mail board
+pub started-all : (plan : Plan) (stimuli : List CoreStimuli) (seats : List Seat) (n : ℕ) (mail : Mail) (board : BoardState) → All (IsSeated plan stimuli) seats → lists_of seats ≡ lists_below plan n → 16 ≤ n → n ≤ 16 → mail ≡ empty_mail plan.cap → board ≡ first_board plan.master → Plays plan stimuli (first_world plan) seats mail board
 started-all plan stimuli seats n mail board seated lists low high is_mail is_board = record {
   seated = seated;
   lists = let whole : n ≡ 16 = omega arith in sym (lists ∙ ap (lists_below plan) whole);

@@ -20,7 +20,7 @@ use Rattle.osstate.specs.Does.{Reads}
 use Rattle.osbase.proofs.Same.{same_core-true}
 use Rattle.oskernel.specs.Step.{takes}
 use Rattle.oskernel.specs.Wants.{front_of}
-use Rattle.osworld.specs.declared.boards.Board.{Board}
+use Rattle.osboard.specs.declared.calls.BoardState.{BoardState}
 use Rattle.osworld.specs.declared.seats.Seat.{Seat}
 use Rattle.osworld.specs.Fits.{history_by}
 use Rattle.osworld.specs.World.{World, turn, is_unchanged, item_total}
@@ -44,7 +44,7 @@ unchanged-same w next same = sym (ap (λ (v : World). not (is_unchanged w v)) sa
 one_more-differs : (n : ℕ) → true ≡ not (nat_eq n (suc n))
 one_more-differs n = grind (arith, nat_tests)
 
-module _ (plan : Plan) (stimuli : List CoreStimuli) (w : World) (seats : List Seat) (mail : Mail) (board : Board) (plays : Plays plan stimuli w seats mail board) (core : CoreId) (choice : Choice) where
+module _ (plan : Plan) (stimuli : List CoreStimuli) (w : World) (seats : List Seat) (mail : Mail) (board : BoardState) (plays : Plays plan stimuli w seats mail board) (core : CoreId) (choice : Choice) where
   idle : turn plan stimuli w (core, choice) ≡ w → IsPlayed plan stimuli w ((core, choice) ∷ []) false seats mail board
   idle same = record {
     plays = subst (λ (next : World). Plays plan stimuli next seats mail board) (sym same) plays;
@@ -126,7 +126,7 @@ module _ (plan : Plan) (stimuli : List CoreStimuli) (w : World) (seats : List Se
       }
 
       -- the core takes it, once there is room
-      pub taken-played : may ≡ true → (roomy new : Seat) → Keeps seat roomy → Took roomy new item → IsPlaced mail seat.id item → (front : Option (CoreId × Envelope)) (next_mail : Mail) (next_board : Board) → front ≡ front_of roomy.kernel.border.outbox → next_mail ≡ carried roomy.id front item mail → next_board ≡ told roomy.id roomy.mode item board
+      pub taken-played : may ≡ true → (roomy new : Seat) → Keeps seat roomy → Took roomy new item → IsPlaced mail seat.id item → (front : Option (CoreId × Envelope)) (next_mail : Mail) (next_board : BoardState) → front ≡ front_of roomy.kernel.border.outbox → next_mail ≡ carried roomy.id front item mail → next_board ≡ told roomy.id roomy.mode item board
           → IsPlayed plan stimuli w ((core, choice) ∷ []) true (set seats at new) next_mail next_board
       taken-played taken roomy new keeps took placed front next_mail next_board fronts carried_on told_on =
           let takes_it = sym admitted ∙ taken in

@@ -19,10 +19,13 @@ use Rattle.osstate.specs.State.{KernelState, state_of}
 use Rattle.osstate.specs.Does.{Does, Tracks}
 use Rattle.oskernel.specs.Step.{after, solo, takes, outbox_size}
 use Rattle.oskernel.specs.Wants.{front_of}
-use Rattle.osworld.specs.declared.boards.Board.{Board}
+use Rattle.osboard.specs.declared.calls.BoardState.{BoardState}
 use Rattle.osworld.specs.declared.seats.Seat.{Seat}
-use Rattle.osworld.specs.Board.{BoardCall, BoardEntry, board_after, board_from, first_board, reply_of, call_of}
-use Rattle.osworld.specs.Fits.{history_by}
+use Rattle.osseat.specs.Histories.{entry, state_after}
+use Rattle.osseat.proofs.Steps.{after_snoc}
+use Rattle.osboard.specs.declared.calls.BoardCall.{BoardCall}
+use Rattle.osboard.specs.Boards.{BoardEntry, board_after, board_reply, first_board, one_board}
+use Rattle.osworld.specs.Fits.{call_of, history_by}
 use Rattle.osworld.specs.World.{World, appends, board_in, history_in, items_in, named, stimulus_count, turn, turn_by, with_call, with_item, item_total}
 use Rattle.osworld.specs.Naming.{carried, IsPlaced, left_after, named_by, told}
 use Rattle.osworld.specs.Playing.{IsMail, IsSeated, lists_of, Plays}
@@ -32,13 +35,9 @@ use Rattle.osworld.proofs.Fitting.{solo-push}
 use Rattle.osworld.proofs.Agreed.{named-agrees}
 
 -- the board after one more call
-board_from-push : (board : Board) (es : List BoardEntry) (e : BoardEntry) → board_from board (es ++ e ∷ []) ≡ board_after e.core e.call (board_from board es)
-board_from-push board [] e = refl
-board_from-push board (d ∷ es) e = board_from-push (board_after d.core d.call board) es e
-
-pub told-on : (first : Board) (es : List BoardEntry) (core : CoreId) (o : Option BoardCall) → option_map_or (λ call. board_after core call (board_from first es)) o (board_from first es) ≡ board_from first (with_call core (board_from first es) o es)
+pub told-on : (first : BoardState) (es : List BoardEntry) (core : CoreId) (o : Option BoardCall) → option_map_or (λ call. board_after core call (state_after one_board first es)) o (state_after one_board first es) ≡ state_after one_board first (with_call core (state_after one_board first es) o es)
 told-on first es core None = refl
-told-on first es core (Some call) = sym (board_from-push first es (record { core = core; call = call; reply = reply_of call (board_from first es) }))
+told-on first es core (Some call) = sym (after_snoc one_board first es (entry core call (board_reply core call (state_after one_board first es))))
 
 -- the stimuli that are left after one more item
 stimulus_count-push : (items : List Item) (item : Item) → stimulus_count (items ++ item ∷ []) ≡ stimulus_count items + stimulus_count (item ∷ [])
@@ -84,7 +83,7 @@ turn-nobody plan stimuli w seats core choice lists past =
     ap (λ (o : Option (CoreId × List Item)). cond (is_some o) (turn_by plan w core (named plan stimuli w core choice)) w) (ap (list_of core) lists ∙ list_of-nobody core seats past)
 
 -- the turn of a seat
-module _ (plan : Plan) (stimuli : List CoreStimuli) (w : World) (seats : List Seat) (mail : Mail) (board : Board) (plays : Plays plan stimuli w seats mail board) (choice : Choice) (at : ℕ) (seat : Seat) (here : at ≡ position_or_len (is_seat_of seat.id) seats) (within : at < length seats) (is : get_or seats at seat ≡ seat) where
+module _ (plan : Plan) (stimuli : List CoreStimuli) (w : World) (seats : List Seat) (mail : Mail) (board : BoardState) (plays : Plays plan stimuli w seats mail board) (choice : Choice) (at : ℕ) (seat : Seat) (here : at ≡ position_or_len (is_seat_of seat.id) seats) (within : at < length seats) (is : get_or seats at seat ≡ seat) where
   abbrev named_here : Option Item
   named_here = named_by plan board mail seat.id seat.stimuli.now seat.kernel choice
 

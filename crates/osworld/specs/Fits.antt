@@ -1,8 +1,10 @@
 -- The items of all cores fit one another and what the run was given. It is said of the cores' item lists alone:
 -- nothing is said of turns, and nothing of how the cores were run. [own]
-use Rattle.std.specs.Prelude.{◌≡◌, Bool, true, false, ◌||◌, Some, None, is_some, List, [], ◌∷◌, ◌++◌, filter, find}
+use Rattle.std.specs.Prelude.{◌≡◌, Bool, true, false, ◌||◌, Option, Some, None, is_some, List, [], ◌∷◌, ◌++◌, filter, find}
 use Rattle.std.specs.Option.{option_map_or}
 use Rattle.osbase.specs.declared.references.CoreId.{CoreId}
+use Rattle.osbase.specs.declared.statuses.Status.{Status}
+use Rattle.osbase.specs.declared.statuses.Status.TheVariants.{EOsId}
 use Rattle.osbase.specs.declared.items.Item.{Item}
 use Rattle.osbase.specs.declared.items.Stimulus.{Stimulus}
 use Rattle.osbase.specs.declared.turns.CoreStimuli.{CoreStimuli}
@@ -13,8 +15,12 @@ use Rattle.osplan.specs.declared.plans.CoreMode.{CoreMode}
 use Rattle.osplan.specs.View.{core_of, view_of}
 use Rattle.osbase.specs.Sets.{core_ids, has_core}
 use Rattle.oskernel.specs.Step.{history_from, solo}
-use Rattle.osworld.specs.declared.boards.Board.{Board}
-use Rattle.osworld.specs.Board.{BoardEntry, BoardReply, Started, Acknowledged, Shown, NoHalt, agreement_in, board_after, call_of, first_board, have_all, reply_of}
+use Rattle.osseat.specs.Histories.{IsLegal, calls_by}
+use Rattle.osboard.specs.declared.calls.BoardCall.{BoardCall}
+use Rattle.osboard.specs.declared.calls.BoardCall.TheVariants.{Start, Enter, MakeReady, Drain, Look, LookHalt}
+use Rattle.osboard.specs.declared.calls.BoardReply.{BoardReply}
+use Rattle.osboard.specs.declared.calls.BoardReply.TheVariants.{Started, Acknowledged, Shown, Halting}
+use Rattle.osboard.specs.Boards.{BoardEntry, agreement_in, have_all, one_board}
 
 -- The configured cores, ascending. [own]
 abbrev pub ids_of : Plan → List CoreId
@@ -52,30 +58,39 @@ pub record FitsCore (plan : Plan) (stimuli : List CoreStimuli) (id : CoreId) (it
   pub begins : IsBeginning (stimuli_in items) (stimuli_of stimuli id)
   pub drains : has_drained items ≡ true → stimuli_in items ≡ stimuli_of stimuli id
 
--- The board's calls in order, each with the reply that the board gives then.
-abbrev pub Replays : Board → List BoardEntry → Type 0
-Replays board [] = Unit {0}
-Replays board (e ∷ es) = (e.reply ≡ reply_of e.call board) × Replays (board_after e.core e.call board) es
+-- The call of the board by which a core comes to an item, if there is one. [own]
+abbrev pub call_of_start : CoreId → Status → Option BoardCall
+call_of_start k EOsId = None
+call_of_start k status = Some (Start k)
+
+abbrev pub call_of : CoreMode → Item → Option BoardCall
+call_of mode Item.On = Some Look
+call_of mode (Item.Began k status) = call_of_start k status
+call_of mode Item.Entered = Some (Enter mode)
+call_of mode (Item.Pass1 agreement) = Some Look
+call_of mode Item.Readied = Some MakeReady
+call_of mode (Item.Pass2 cores) = Some Look
+call_of mode Item.Drained = Some Drain
+call_of mode Item.PassEnd = Some Look
+call_of mode (Item.Last asked) = Some LookHalt
+call_of mode item = None
 
 -- What an item needs of the board's reply.
 abbrev pub Allows : CoreId → BoardReply → Item → Type 0
-Allows id (Shown board) Item.On = has_core board.started id ≡ true
+Allows id (Shown view) Item.On = has_core view.started id ≡ true
 Allows id (Started answer) (Item.Began k status) = status ≡ answer
 Allows id Acknowledged Item.Entered = Unit {0}
-Allows id (Shown board) (Item.Pass1 agreement) = (have_all board.started board.entered ≡ true) × (agreement ≡ agreement_in board.modes)
+Allows id (Shown view) (Item.Pass1 agreement) = (have_all view.started view.entered ≡ true) × (agreement ≡ agreement_in view.modes)
 Allows id Acknowledged Item.Readied = Unit {0}
-Allows id (Shown board) (Item.Pass2 cores) = (have_all board.started board.ready ≡ true) × (cores ≡ board.started)
+Allows id (Shown view) (Item.Pass2 cores) = (have_all view.started view.ready ≡ true) × (cores ≡ view.started)
 Allows id Acknowledged Item.Drained = Unit {0}
-Allows id (Shown board) Item.PassEnd = have_all board.started board.drained ≡ true
-Allows id NoHalt (Item.Last None) = Unit {0}
+Allows id (Shown view) Item.PassEnd = have_all view.started view.drained ≡ true
+Allows id (Halting halt) (Item.Last asked) = asked ≡ halt
 Allows id reply item = ⊥
 
--- A core's items that are calls of the board, and its calls there.
+-- A core's items that are calls of the board.
 abbrev pub asking : CoreMode → List Item → List Item
 asking mode items = filter (λ (i : Item). is_some (call_of mode i)) items
-
-abbrev pub calls_by : CoreId → List BoardEntry → List BoardEntry
-calls_by id entries = filter (λ (e : BoardEntry). same_core e.core id) entries
 
 -- Each of these items is one of these calls, in order, and its reply allows it.
 abbrev pub AreAnswered : CoreId → CoreMode → List Item → List BoardEntry → Type 0
@@ -85,11 +100,11 @@ AreAnswered id mode (i ∷ is) [] = ⊥
 AreAnswered id mode (i ∷ is) (e ∷ es) = (call_of mode i ≡ Some e.call) × Allows id e.reply i × AreAnswered id mode is es
 
 -- The lists fit by this one history of the board: each core's items do; what one core received from another begins what
--- that one posted; the history replays, and in it each core's calls stand once each, in its order.
+-- that one posted; the history is legal, and in it each core's calls stand once each, in its order.
 pub record FitsBy (plan : Plan) (stimuli : List CoreStimuli) (lists : List (CoreId × List Item)) (calls : List BoardEntry) : Type 0 where
   pub cores : (id : CoreId) → FitsCore plan stimuli id (items_of lists id)
   pub streams : (from to : CoreId) → IsBeginning (received from (history_by plan to (items_of lists to))) (posted to (history_by plan from (items_of lists from)))
-  pub board : Replays (first_board plan.master) calls
+  pub board : IsLegal one_board plan.master calls
   pub answers : (id : CoreId) → AreAnswered id (view_of plan id).own.mode (asking (view_of plan id).own.mode (items_of lists id)) (calls_by id calls)
 
 -- The lists fit: there is such a history.

@@ -1,4 +1,3 @@
-pub mod Board
 pub mod Fits
 pub mod Sound
 pub mod World

@@ -18,18 +18,19 @@ use Rattle.osplan.specs.View.{core_of}
 use Rattle.osstate.specs.State.{KernelState}
 use Rattle.oskernel.specs.declared.wants.Want.{Want}
 use Rattle.oskernel.specs.Wants.{want_in}
-use Rattle.osworld.specs.declared.boards.Board.{Board}
-use Rattle.osworld.specs.Board.{board_after, call_of, start_answer}
+use Rattle.osboard.specs.declared.calls.BoardState.{BoardState}
+use Rattle.osboard.specs.Boards.{board_after, start_answer}
+use Rattle.osworld.specs.Fits.{call_of}
 use Rattle.osworld.specs.World.{going_on, look_named, receiving}
 
 -- What `Own`, `Serve` and `Look` name.
-abbrev pub start_named : Plan → Board → CoreId → Item
-start_named plan board k = Item.Began k (if is_some (core_of plan k) then start_answer board k else EOsId)
+abbrev pub start_named : Plan → BoardState → CoreId → Item
+start_named plan board k = Item.Began k (if is_some (core_of plan k) then start_answer board.view k else EOsId)
 
 abbrev pub post_named : Mail → CoreId → CoreId → Option Item
 post_named mail id to = if nat_lt to.number CORES && has_room mail id to then Some (Item.Posted to) else None
 
-abbrev pub own_by : Plan → Board → Mail → CoreId → List Stimulus → Want → Option Item
+abbrev pub own_by : Plan → BoardState → Mail → CoreId → List Stimulus → Want → Option Item
 own_by plan board mail id stimuli (Want.Start k) = Some (start_named plan board k)
 own_by plan board mail id stimuli Want.Enter = Some Item.Entered
 own_by plan board mail id stimuli Want.Ready = Some Item.Readied
@@ -40,7 +41,7 @@ own_by plan board mail id stimuli Want.Nothing = None
 abbrev pub serve_by : Mail → CoreId → CoreId → Option Item
 serve_by mail id from = if nat_lt from.number CORES then option_map (receiving from) (oldest_of mail from id) else None
 
-abbrev pub named_by : Plan → Board → Mail → CoreId → List Stimulus → KernelState → Choice → Option Item
+abbrev pub named_by : Plan → BoardState → Mail → CoreId → List Stimulus → KernelState → Choice → Option Item
 named_by plan board mail id stimuli s Own = own_by plan board mail id stimuli (want_in s)
 named_by plan board mail id stimuli s (Serve from) = serve_by mail id from
 named_by plan board mail id stimuli s Look = look_named id board s.progress.phase
@@ -52,7 +53,7 @@ IsPlaced mail id (Item.Received from number message) = (from.number < CORES) × 
 IsPlaced mail id item = Unit {0}
 
 -- The board after the item.
-abbrev pub told : CoreId → CoreMode → Item → Board → Board
+abbrev pub told : CoreId → CoreMode → Item → BoardState → BoardState
 told core mode item board = option_map_or (λ call. board_after core call board) (call_of mode item) board
 
 -- The mailboxes after it: a post puts the outbox's front into one, and what is received leaves one.

@@ -15,7 +15,7 @@ use Rattle.osplan.specs.declared.plans.Plan.{Plan}
 use Rattle.osplan.specs.View.{view_of}
 use Rattle.osstate.specs.Does.{Tracks}
 use Rattle.oskernel.specs.Step.{solo}
-use Rattle.osworld.specs.declared.boards.Board.{Board}
+use Rattle.osboard.specs.declared.calls.BoardState.{BoardState}
 use Rattle.osworld.specs.declared.seats.Seat.{Seat}
 use Rattle.osworld.specs.declared.worlds.World.{World as Run}
 use Rattle.osworld.specs.Fits.{history_by}
@@ -53,7 +53,7 @@ pub record IsMail (plan : Plan) (w : World) (mail : Mail) : Type 0 where
   pub order : (from to : CoreId) → received_count from (history_in plan w to) ≤ length (posted to (history_in plan w from))
 
 -- The seats, the mailboxes and the board stand for this world.
-pub record Plays (plan : Plan) (stimuli : List CoreStimuli) (w : World) (seats : List Seat) (mail : Mail) (board : Board) : Type 0 where
+pub record Plays (plan : Plan) (stimuli : List CoreStimuli) (w : World) (seats : List Seat) (mail : Mail) (board : BoardState) : Type 0 where
   pub seated : All (IsSeated plan stimuli) seats
   pub lists : w.items ≡ lists_of seats
   pub carries : IsMail plan w mail
@@ -64,19 +64,19 @@ abbrev pub StandsFor : List CoreStimuli → World → Run → Type 0
 StandsFor stimuli w run = Plays run.config.now stimuli w run.seats.items run.mail run.board
 
 -- Turns of a run are the world's turns, and the answer says whether one of them appended an item.
-pub record IsPlayed (plan : Plan) (stimuli : List CoreStimuli) (w : World) (turns : List (CoreId × Choice)) (changed : Bool) (seats : List Seat) (mail : Mail) (board : Board) : Type 0 where
+pub record IsPlayed (plan : Plan) (stimuli : List CoreStimuli) (w : World) (turns : List (CoreId × Choice)) (changed : Bool) (seats : List Seat) (mail : Mail) (board : BoardState) : Type 0 where
   pub plays : Plays plan stimuli (world_from plan stimuli w turns) seats mail board
   pub tells : changed ≡ not (is_unchanged w (world_from plan stimuli w turns))
 
 -- Memory was wanting before a turn that appends an item, and those before it were played.
-pub record IsCutShort (plan : Plan) (stimuli : List CoreStimuli) (w : World) (turns : List (CoreId × Choice)) (seats : List Seat) (mail : Mail) (board : Board) : Type 0 where
+pub record IsCutShort (plan : Plan) (stimuli : List CoreStimuli) (w : World) (turns : List (CoreId × Choice)) (seats : List Seat) (mail : Mail) (board : BoardState) : Type 0 where
   pub before : ℕ
   pub within : before < length turns
   pub appends : AppendsAt plan stimuli w turns before
   pub plays : Plays plan stimuli (world_from plan stimuli w (take before turns)) seats mail board
 
 -- A run was begun and nothing is played yet.
-abbrev pub IsBegun : Plan → List Seat → Mail → Board → Type 0
+abbrev pub IsBegun : Plan → List Seat → Mail → BoardState → Type 0
 IsBegun plan seats mail board = (stimuli : List CoreStimuli) × Plays plan stimuli (first_world plan) seats mail board
 
 -- The turns are one round of the default schedule.
@@ -84,12 +84,12 @@ abbrev pub IsRound : Plan → List (CoreId × Choice) → Type 0
 IsRound plan turns = turns ≡ round_of plan
 
 -- The default schedule was played: it has so many rounds.
-pub record IsDefaultPlayed (plan : Plan) (stimuli : List CoreStimuli) (rounds : ℕ) (seats : List Seat) (mail : Mail) (board : Board) : Type 0 where
+pub record IsDefaultPlayed (plan : Plan) (stimuli : List CoreStimuli) (rounds : ℕ) (seats : List Seat) (mail : Mail) (board : BoardState) : Type 0 where
   pub least : IsTrue (is_default plan stimuli rounds)
   pub plays : Plays plan stimuli (world plan stimuli (default_turns plan rounds)) seats mail board
 
 -- Memory was wanting before a turn of the default schedule.
-pub record IsDefaultCutShort (plan : Plan) (stimuli : List CoreStimuli) (seats : List Seat) (mail : Mail) (board : Board) : Type 0 where
+pub record IsDefaultCutShort (plan : Plan) (stimuli : List CoreStimuli) (seats : List Seat) (mail : Mail) (board : BoardState) : Type 0 where
   pub rounds : ℕ
   pub goes_on : HasAtLeast plan stimuli rounds
   pub cut : IsCutShort plan stimuli (first_world plan) (default_turns plan rounds) seats mail board

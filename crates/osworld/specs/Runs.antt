@@ -64,7 +64,7 @@ has_ended plan p = is_ended_phase (phase_at (view_of plan p.0) (history_by plan 
 
 -- Every started core has ended. [own]
 abbrev pub is_over : Plan → World → Bool
-is_over plan w = list_all (λ (p : CoreId × List Item). not (has_core (board_in plan w).started p.0) || has_ended plan p) w.items
+is_over plan w = list_all (λ (p : CoreId × List Item). not (has_core (board_in plan w).view.started p.0) || has_ended plan p) w.items
 
 -- The default schedule is n whole rounds, for the least n of at least 1 at whose end every started core has ended
 -- or in whose last round nothing changed. [own]

@@ -17,7 +17,7 @@ use Rattle.osplan.specs.Separate.{cut_of, is_separate}
 use Rattle.osplan.specs.View.{view_of}
 use Rattle.oskernel.specs.Admission.{is_stimulus}
 use Rattle.oskernel.specs.Step.{solo}
-use Rattle.osworld.specs.Board.{with_core}
+use Rattle.osboard.specs.Boards.{with_core}
 use Rattle.osworld.specs.Fits.{Fits, IsBeginning, has_drained, history_by, ids_of, items_of}
 
 -- ---- what is given

@@ -20,9 +20,11 @@ use Rattle.osstate.specs.Readings.{phase_at}
 use Rattle.oskernel.specs.declared.wants.Want.{Want}
 use Rattle.oskernel.specs.Step.{takes, outbox_size}
 use Rattle.oskernel.specs.Wants.{want_of}
-use Rattle.osworld.specs.declared.boards.Board.{Board}
-use Rattle.osworld.specs.Board.{BoardCall, BoardEntry, first_board, reply_of, start_answer, board_from, call_of, have_all, agreement_in}
-use Rattle.osworld.specs.Fits.{history_by, ids_of, items_of}
+use Rattle.osseat.specs.Histories.{entry, state_after}
+use Rattle.osboard.specs.declared.calls.BoardCall.{BoardCall}
+use Rattle.osboard.specs.declared.calls.BoardState.{BoardState}
+use Rattle.osboard.specs.Boards.{BoardEntry, agreement_in, board_reply, first_board, have_all, one_board, start_answer}
+use Rattle.osworld.specs.Fits.{call_of, history_by, ids_of, items_of}
 
 -- The items of each configured core, the oldest first, and the calls of the board that became items. [own]
 pub record World : Type 0 where
@@ -40,12 +42,12 @@ items_in w id = items_of w.items id
 abbrev pub history_in : Plan → World → CoreId → History
 history_in plan w id = history_by plan id (items_in w id)
 
-abbrev pub board_in : Plan → World → Board
-board_in plan w = board_from (first_board plan.master) w.calls
+abbrev pub board_in : Plan → World → BoardState
+board_in plan w = state_after one_board (first_board plan.master) w.calls
 
 -- StartCore of a core that is not configured is answered without the board. [AUTOSAR SWS OS 4.x, StartCore: E_OS_ID]
-abbrev pub starting : View → Board → CoreId → Item
-starting v board k = Item.Began k (if is_configured v k then start_answer board k else EOsId)
+abbrev pub starting : View → BoardState → CoreId → Item
+starting v board k = Item.Began k (if is_configured v k then start_answer board.view k else EOsId)
 
 -- The front of the outbox is sent where fewer than `cap` envelopes stand in that mailbox: those posted to it
 -- and not received from it. No core is numbered 16 or above, and no mailbox is for one. [own]
@@ -85,14 +87,14 @@ abbrev pub serve_named : Plan → World → CoreId → CoreId → Option Item
 serve_named plan w id from =
     option_map (receiving from) (slice_get (posted id (history_in plan w from)) (received_count from (history_in plan w id)))
 
--- What `Look` names: the gates open where all started cores have come to them. No core halts so far.
+-- What `Look` names: the gates open where all started cores have come to them. No core asks for a shutdown so far.
 -- [AUTOSAR SWS OS 4.x, SWS_Os_00579 and SWS_Os_00580; that a core drains and closes is this project's own]
-abbrev pub look_named : CoreId → Board → Phase → Option Item
-look_named id board Phase.Off = if has_core board.started id then Some Item.On else None
-look_named id board Phase.FirstGate = if have_all board.started board.entered then Some (Item.Pass1 (agreement_in board.modes)) else None
-look_named id board Phase.SecondGate = if have_all board.started board.ready then Some (Item.Pass2 board.started) else None
-look_named id board Phase.Drained = if have_all board.started board.drained then Some Item.PassEnd else None
-look_named id board Phase.Closing = Some (Item.Last None)
+abbrev pub look_named : CoreId → BoardState → Phase → Option Item
+look_named id board Phase.Off = if has_core board.view.started id then Some Item.On else None
+look_named id board Phase.FirstGate = if have_all board.view.started board.view.entered then Some (Item.Pass1 (agreement_in board.view.modes)) else None
+look_named id board Phase.SecondGate = if have_all board.view.started board.view.ready then Some (Item.Pass2 board.view.started) else None
+look_named id board Phase.Drained = if have_all board.view.started board.view.drained then Some Item.PassEnd else None
+look_named id board Phase.Closing = Some (Item.Last board.halt)
 look_named id board phase = None
 
 abbrev pub named : Plan → List CoreStimuli → World → CoreId → Choice → Option Item
@@ -105,9 +107,9 @@ abbrev pub with_item : CoreId → Item → List (CoreId × List Item) → List (
 with_item id item [] = []
 with_item id item (p ∷ ps) = if same_core p.0 id then (p.0, p.1 ++ item ∷ []) ∷ ps else p ∷ with_item id item ps
 
-abbrev pub with_call : CoreId → Board → Option BoardCall → List BoardEntry → List BoardEntry
+abbrev pub with_call : CoreId → BoardState → Option BoardCall → List BoardEntry → List BoardEntry
 with_call id board None calls = calls
-with_call id board (Some call) calls = calls ++ record { core = id; call = call; reply = reply_of call board } ∷ []
+with_call id board (Some call) calls = calls ++ entry id call (board_reply id call board) ∷ []
 
 abbrev pub appends : Plan → World → CoreId → Item → World
 appends plan w id item = record {

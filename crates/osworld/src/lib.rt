@@ -1,14 +1,12 @@
 //! The world of a listed run: cores, mailboxes and the board, turn by turn.
 #![tactic(auto)]
 
-pub mod boards;
 pub mod ends;
 mod naming;
 pub mod runs;
 mod seats;
 mod worlds;
 
-pub use boards::{Board, MODES, ModeSet};
 pub use ends::have_all_ended;
 pub use osbase::Report;
 pub use runs::{RunFault, default_schedule, run_default, run_world};

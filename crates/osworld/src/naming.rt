@@ -10,8 +10,8 @@ ghost use Rattle.osplan.specs.View.{core_of};
 ghost use Rattle.osworld.specs.World.{going_on, look_named};
 ghost use Rattle.osworld.specs.Naming.{carried, IsPlaced, own_by, post_named, serve_by, start_named, told};
 
-use crate::boards::Board;
 use osbase::{CORES, CoreId, Envelope, Item, Phase, Status, Stimulus};
+use osboard::BoardList;
 use oskernel::Want;
 use osmail::ListMail;
 use osplan::{CoreMode, Plan};
@@ -25,7 +25,7 @@ pub type Mailboxes = ListMail<MAILBOX>;
 /// What a core's own turn names, by what it wants.
 pub fn own_item(
     plan: &Plan,
-    board: &Board,
+    board: &BoardList,
     mail: &Mailboxes,
     id: CoreId,
     stimuli: &[Stimulus],
@@ -46,12 +46,12 @@ pub fn own_item(
 }
 
 // StartCore of a core that is not configured is answered without the board.
-fn start_of(plan: &Plan, board: &Board, core: CoreId) -> Item
+fn start_of(plan: &Plan, board: &BoardList, core: CoreId) -> Item
     ensures value { result ≡ start_named plan.now board.now core }
     ensures placed { (mail : MailValue) (id : CoreIdValue) → IsPlaced mail id result }
 {
     let status = if plan.core(core).is_some() {
-        board.start_answer(core)
+        board.look().start_answer(core)
     } else {
         Status::EOsId
     };
@@ -98,23 +98,25 @@ pub fn served_item(mail: &Mailboxes, id: CoreId, from: CoreId) -> Option<Item>
     })
 }
 
-/// What a look at the board names: a gate opens where all started cores have come to it.
-pub fn looked_item(board: &Board, id: CoreId, phase: Phase) -> Option<Item>
+/// What a look at the board names: a gate opens where all started cores have come to it, and the end tells who asked
+/// for a shutdown of all cores, if one did.
+pub fn looked_item(board: &BoardList, id: CoreId, phase: Phase) -> Option<Item>
     ensures value { result ≡ look_named id board.now phase }
     ensures placed { (mail : MailValue) → IfSome result (λ i. IsPlaced mail id i) }
 {
+    let view = board.look();
     match phase {
-        Phase::Off if board.is_started(id) => Some(Item::On),
-        Phase::FirstGate if board.have_all_entered() => Some(Item::Pass1(board.agreement())),
-        Phase::SecondGate if board.are_all_ready() => Some(Item::Pass2(board.started)),
-        Phase::Drained if board.have_all_drained() => Some(Item::PassEnd),
-        Phase::Closing => Some(Item::Last(None)),
+        Phase::Off if view.started.contains(id) => Some(Item::On),
+        Phase::FirstGate if view.have_all_entered() => Some(Item::Pass1(view.agreement())),
+        Phase::SecondGate if view.are_all_ready() => Some(Item::Pass2(view.started)),
+        Phase::Drained if view.have_all_drained() => Some(Item::PassEnd),
+        Phase::Closing => Some(Item::Last(board.look_halt())),
         _ => None,
     }
 }
 
 /// Tells the board of the item that a core takes, where it is a call of the board.
-pub fn tell(board: &mut Board, core: CoreId, mode: CoreMode, item: &Item)
+pub fn tell(board: &mut BoardList, core: CoreId, mode: CoreMode, item: &Item)
     ensures { board.new ≡ told core mode item.now board.old }
 {
     match *item {
@@ -126,7 +128,7 @@ pub fn tell(board: &mut Board, core: CoreId, mode: CoreMode, item: &Item)
             let _ = board.start(core, other);
         }
         Item::Entered => board.enter(core, mode),
-        Item::Readied => board.make_ready(core),
+        Item::Readied => board.ready(core),
         Item::Drained => board.drain(core),
         _ => {}
     }

@@ -13,12 +13,12 @@ ghost use Rattle.osworld.specs.Runs.{is_ended_phase};
 ghost use Rattle.osworld.specs.Naming.{IsPlaced, left_after, named_by};
 ghost use Rattle.oskernel.specs.declared.kernel.TheConstants.{STEP_MARKS};
 
-use crate::boards::Board;
 use crate::naming::{Mailboxes, looked_item, own_item, served_item};
 use osbase::{
     CORES, Choice, CoreId, CoreStimuli, Envelope, Item, List, Mark, Phase, Report, Stimulus,
     stimuli_for,
 };
+use osboard::BoardList;
 use oskernel::{Kernel, STEP_MARKS, Want};
 use osplan::{Config, Core, CoreMode, Plan};
 use std::alloc::{AllocError, Global};
@@ -76,7 +76,7 @@ impl<'a> Seat<'a> {
     pub fn named(
         &self,
         plan: &Plan,
-        board: &Board,
+        board: &BoardList,
         mail: &Mailboxes,
         choice: Choice,
     ) -> Option<Item>

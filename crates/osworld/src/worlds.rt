@@ -12,10 +12,10 @@ ghost use Rattle.osbase.specs.Sets.{has_core};
 ghost use Rattle.osworld.specs.World.{first_world};
 ghost use Rattle.osworld.specs.Runs.{is_ended_phase};
 
-use crate::boards::Board;
 use crate::naming::{Mailboxes, carry, tell};
 use crate::seats::Seat;
 use osbase::{CORE_NUMBERS, CORES, Choice, CoreId, CoreStimuli, Item, Report, Turn};
+use osboard::BoardList;
 use osplan::Config;
 use std::alloc::{AllocError, Global};
 
@@ -28,7 +28,7 @@ pub struct World<'a> {
     places: [Option<usize>; CORES],
     reports: Vec<Report>,
     mail: Mailboxes,
-    board: Board,
+    board: BoardList,
     ghost placed: { (core : CoreIdValue) → core.number < CORES → slice_get places core.number ≡ Some (position (λ (s : SeatValue). same_core s.id core) seats.items) } by { Prim.hlevel props },
 }
 
@@ -61,7 +61,7 @@ impl<'a> World<'a> {
             places: places_of(seats.as_slice()),
             seats,
             mail: Mailboxes::new(alloc, plan.cap as usize)?,
-            board: Board::new(plan.master),
+            board: BoardList::new(plan.master),
         })
     }
 
@@ -108,11 +108,12 @@ impl<'a> World<'a> {
 
     /// Whether every started core has ended.
     pub fn is_over(&self) -> bool
-        ensures { result ≡ list_all (λ (s : SeatValue). not (has_core self.now.board.started s.id) || is_ended_phase s.kernel.progress.phase) self.now.seats.items }
+        ensures { result ≡ list_all (λ (s : SeatValue). not (has_core self.now.board.view.started s.id) || is_ended_phase s.kernel.progress.phase) self.now.seats.items }
     {
+        let started = self.board.look().started;
         self.seats
             .iter()
-            .all(|seat| !self.board.is_started(seat.id) || seat.has_ended())
+            .all(|seat| !started.contains(seat.id) || seat.has_ended())
     }
 
     /// The report of each core, in ascending order.

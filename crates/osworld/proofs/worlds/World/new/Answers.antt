@@ -1,7 +1,7 @@
 use Rattle.std.proofs.Common.{Some, List, ap, ◌∙◌}
 use Rattle.osmail.specs.Mail.{empty_mail}
 use Rattle.osplan.specs.declared.plans.Plan.{Plan}
-use Rattle.osworld.specs.Board.{first_board}
+use Rattle.osboard.specs.Boards.{first_board}
 use Rattle.osworld.specs.declared.seats.Seat.{Seat}
 use Rattle.osworld.proofs.Places.{place_by}
 use Rattle.osworld.proofs.Started.{started-all, started-push, started-skip}
