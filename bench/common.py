@@ -21,7 +21,7 @@ PROGRAMS = {
     "bench_readings": ("osconf osplan anyhow", {"src/main.rt": "readings.rt.txt", **CLOCK}),
     "bench_values": ("serde_json anyhow", {"src/main.rt": "values.rt.txt", **CLOCK}),
     "bench_world": (
-        "osbase oskernel osread osgiven osconf osplan osworld serde_json anyhow",
+        "osbase osconf osworld anyhow",
         {"src/main.rt": "world.rt.txt", **CLOCK},
     ),
     "bench_loop": (
@@ -98,19 +98,6 @@ def copy_program(folder, name):
         to = os.path.join(folder, "crates", name, path)
         os.makedirs(os.path.dirname(to), exist_ok=True)
         shutil.copy(os.path.join(SOURCES, source), to)
-    if name == "bench_world":
-        copy_lemma(os.path.join(folder, "crates", name, "proofs"))
-
-
-def copy_lemma(proofs):
-    """That stimuli which are read may be played, as mcos proves it, less what it says of files."""
-    os.makedirs(proofs, exist_ok=True)
-    with open(os.path.join(ROOT, "crates/mcos/proofs/Stimuli.antt")) as file:
-        lemma = file.read().partition("\npub known-means ")[0]
-    with open(os.path.join(proofs, "Stimuli.antt"), "w") as file:
-        file.writelines(line for line in lemma.splitlines(True) if not line.startswith("use Rattle.mcos."))
-    with open(os.path.join(proofs, "Lib.antt"), "w") as file:
-        file.write("pub mod Stimuli\n")
 
 
 def build_one(folder, name):

@@ -2,5 +2,4 @@ pub mod Parsed
 pub mod Printing
 pub mod Reading
 pub mod Standings
-pub mod Stimuli
 pub mod Usage

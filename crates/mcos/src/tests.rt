@@ -307,7 +307,6 @@ fn the_turns_of_the_default_schedule_give_what_the_default_run_gives(
 }
 
 // What the run of the default schedule's turns prints.
-#[tactic(auto, using(crate::proofs::Stimuli::known_text))]
 fn blocks_of_default_turns(alloc: Global, config: &Config, stimuli: &str) -> Result<Vec<u8>, Fail> {
     let stimuli = read_stimuli(alloc, config, stimuli)?;
     let turns = default_schedule(alloc, config, &stimuli)

@@ -6,6 +6,7 @@ ghost use Rattle.std.specs.List.{list_all, slice_split};
 ghost use Rattle.std.specs.Borrow.{Bor};
 ghost use Rattle.std.specs.BTreeMap.{values};
 ghost use Rattle.serde_json.specs.declared.value.Value.{Value};
+ghost use Rattle.osbase.specs.Runs.{AreKnown};
 ghost use Rattle.osread.specs.Reading.{Gives, each};
 ghost use Rattle.osread.specs.Json.{entries};
 ghost use Rattle.osread.specs.Faults.{IsLeast};
@@ -150,9 +151,12 @@ fn stimuli_of(alloc: Global, plan: &Plan, value: &Value) -> Result<Stimuli, Refu
 /// The stimuli that a JSON text means for a configuration: an object from core numbers to words, which
 /// are divided by one space. `NotJson` where the text is not JSON; `Limit` where a member has more than
 /// 100,000 words; else `BadStimulus` where it is anything else. `NoMemory` where memory runs out.
+/// What is read may be played.
+#[tactic(auto, using(crate::proofs::Known::known_data))]
 pub fn read_stimuli(alloc: Global, config: &Config, text: &str) -> Result<Stimuli, ConfFault>
     ensures ok { IfOk result (λ stimuli. stimuli_meant config.now text.now ≡ Some stimuli) }
     ensures fault { IfErr result (λ fault. fault ≢ ConfFault.NoMemory → IsLeast fault (stimuli_faults config.now text.now)) }
+    ensures known { IfOk result AreKnown }
 {
     let value = value_of(alloc, text)?;
     if !are_stimuli_within(&value) {

@@ -5,11 +5,12 @@ use Rattle.osbase.specs.declared.items.Item.{Item}
 use Rattle.osbase.specs.declared.histories.Phase.{Phase}
 use Rattle.osbase.specs.History.{History, began_count, item_count}
 use Rattle.osbase.specs.Phases.{is_scheduling}
+use Rattle.osbase.specs.Runs.{is_stimulus}
 use Rattle.osbase.proofs.Phasing.{stands_in-is}
 use Rattle.osplan.specs.View.{View}
 use Rattle.osstate.specs.Readings.{next_start, phase_at}
 use Rattle.osstate.specs.State.{state_of}
-use Rattle.oskernel.specs.Admission.{admits, are_started_cores, is_agreement, is_settled, is_start_answer, is_stimulus}
+use Rattle.oskernel.specs.Admission.{admits, are_started_cores, is_agreement, is_settled, is_start_answer}
 use Rattle.oskernel.specs.Step.{after, history_from, outbox_size, solo_from, takes}
 
 -- An envelope goes, or comes.

@@ -12,12 +12,13 @@ use Rattle.osbase.specs.declared.items.Item.{Item}
 use Rattle.osbase.specs.declared.turns.TheConstants.{CORES}
 use Rattle.osbase.specs.History.{Took, phase_after, outbox_after}
 use Rattle.osbase.specs.Phases.{is_before_live, is_past_first_gate, is_scheduling, stands_in}
+use Rattle.osbase.specs.Runs.{is_stimulus}
 use Rattle.osbase.specs.Sets.{has_core}
 use Rattle.osbase.proofs.Phasing.{in_phase}
 use Rattle.osstate.specs.State.{KernelState}
 use Rattle.osstate.specs.Sound.{is_posted, is_sender_known}
 use Rattle.oscall.specs.Border.{is_served}
-use Rattle.oskernel.specs.Admission.{admits, is_awaited, is_empty, is_front_for, is_reply_to, is_settled, is_stimulus}
+use Rattle.oskernel.specs.Admission.{admits, is_awaited, is_empty, is_front_for, is_reply_to, is_settled}
 use Rattle.oskernel.specs.Taking.{is_acting, is_answered, is_filling, is_known, is_second_gate}
 use Rattle.oskernel.proofs.Phases.{scheduling_past}
 

@@ -10,13 +10,13 @@ use Rattle.osbase.specs.declared.references.CoreId.{CoreId}
 use Rattle.osbase.specs.declared.messages.Message.{Message}
 use Rattle.osbase.specs.declared.items.CoreSet.{CoreSet}
 use Rattle.osbase.specs.declared.items.Agreement.{Agreement}
-use Rattle.osbase.specs.declared.items.Stimulus.{Stimulus}
 use Rattle.osbase.specs.declared.items.Item.{Item}
 use Rattle.osbase.specs.declared.histories.OpenCall.{OpenCall}
 use Rattle.osbase.specs.declared.histories.Sent.{Sent}
 use Rattle.osbase.specs.declared.histories.Phase.TheVariants as Phase
 use Rattle.osbase.specs.History.{same_core}
 use Rattle.osbase.specs.Phases.{is_scheduling, stands_in}
+use Rattle.osbase.specs.Runs.{is_stimulus}
 use Rattle.osbase.specs.Sets.{has_core, core_ids}
 use Rattle.osplan.specs.declared.plans.CoreMode.{CoreMode}
 use Rattle.osplan.specs.declared.plans.CoreMode.TheVariants.{Named, DontCare}
@@ -64,12 +64,6 @@ is_front_for core (s ∷ ss) = same_core s.to core
 abbrev pub is_empty : List Sent → Bool
 is_empty [] = true
 is_empty (s ∷ ss) = false
-
--- Which stimulus there is: so far only the running job's next operation.
-abbrev pub is_stimulus : Stimulus → Bool
-is_stimulus Stimulus.Op = true
-is_stimulus Stimulus.Tick = false
-is_stimulus (Stimulus.Irq isr) = false
 
 -- No call is open, and nothing waits in the outbox. [own]
 abbrev pub is_settled : KernelState → Bool

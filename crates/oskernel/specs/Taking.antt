@@ -4,9 +4,9 @@ use Rattle.osbase.specs.declared.items.Agreement.{Agreement}
 use Rattle.osbase.specs.declared.items.Item.{Item}
 use Rattle.osbase.specs.declared.references.ModeId.{ModeId}
 use Rattle.osbase.specs.declared.messages.Message.{Message}
+use Rattle.osbase.specs.Runs.{is_stimulus}
 use Rattle.osstate.specs.State.{KernelState}
 use Rattle.oscall.specs.Border.{is_served}
-use Rattle.oskernel.specs.Admission.{is_stimulus}
 
 -- One item is taken, and the history grows by at most so many entries. [own]
 pub record TakesItem (most : ℕ) (old new : KernelState) : Type 0 where

@@ -3,11 +3,12 @@
 ghost use Rattle.std.specs.Prelude.{◌≡◌, ◌||◌, false, not};
 ghost use Rattle.std.specs.List.{list_all};
 ghost use Rattle.std.specs.Option.{option_map_or};
+ghost use Rattle.osbase.specs.Runs.{is_stimulus};
 ghost use Rattle.osbase.specs.Sets.{core_ids, has_core};
 ghost use Rattle.osplan.specs.View.{is_configured};
 ghost use Rattle.osstate.specs.Readings.{next_start};
 ghost use Rattle.oscall.specs.Border.{is_served};
-ghost use Rattle.oskernel.specs.Admission.{admits, answers_value, are_started_cores, is_agreement, is_awaited, is_for, is_front_for, is_next_from, is_reply_to, is_settled, is_start_answer, is_started_now_or_before, is_stimulus, is_unknown_core};
+ghost use Rattle.oskernel.specs.Admission.{admits, answers_value, are_started_cores, is_agreement, is_awaited, is_for, is_front_for, is_next_from, is_reply_to, is_settled, is_start_answer, is_started_now_or_before, is_unknown_core};
 
 use osbase::{
     Agreement, CORE_NUMBERS, CoreId, CoreSet, Item, Message, ModeId, OpenCall, Phase, RemoteCall,

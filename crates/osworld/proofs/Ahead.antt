@@ -11,6 +11,7 @@ use Rattle.osbase.specs.declared.items.Stimulus.{Stimulus}
 use Rattle.osbase.specs.declared.marks.Mark.{Mark}
 use Rattle.osbase.specs.declared.histories.Phase.{Phase}
 use Rattle.osbase.specs.History.{History, Took, Printed, began_count, item_count, marks_of, phase_of}
+use Rattle.osbase.specs.Runs.{is_stimulus}
 use Rattle.osbase.specs.Sets.{core_ids, has_core}
 use Rattle.osplan.specs.declared.plans.CoreMode.{CoreMode}
 use Rattle.osplan.specs.declared.plans.CoreMode.TheVariants.{Named}
@@ -19,7 +20,7 @@ use Rattle.osstate.specs.Readings.{knows_started, next_start, phase_at}
 use Rattle.oscall.proofs.Carried.{nobody}
 use Rattle.osbase.specs.Phases.{stands_in}
 use Rattle.osstate.specs.State.{state_of}
-use Rattle.oskernel.specs.Admission.{admits, are_started_cores, is_agreement, is_for, is_settled, is_start_answer, is_stimulus}
+use Rattle.oskernel.specs.Admission.{admits, are_started_cores, is_agreement, is_for, is_settled, is_start_answer}
 use Rattle.oskernel.specs.Step.{after, history_from, outbox_size, solo, solo_from, takes}
 use Rattle.oskernel.proofs.Among.{among, base_of, marks-same, open-same, phase-same}
 use Rattle.oskernel.proofs.Calm.{Calm, calm-after, settled}

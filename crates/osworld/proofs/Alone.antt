@@ -11,7 +11,7 @@ use Rattle.osbase.specs.declared.items.Stimulus.{Stimulus}
 use Rattle.osbase.specs.declared.marks.Mark.{Mark}
 use Rattle.osbase.specs.declared.turns.CoreStimuli.{CoreStimuli}
 use Rattle.osbase.specs.History.{marks_of, no_cores, received, same_core}
-use Rattle.osbase.specs.Runs.{stimuli_of}
+use Rattle.osbase.specs.Runs.{AreKnown, stimuli_of}
 use Rattle.osbase.specs.Sets.{core_ids, has_core}
 use Rattle.osbase.proofs.Same.{same_core-true, same_core-refl}
 use Rattle.osplan.specs.declared.plans.Plan.{Plan}
@@ -32,7 +32,7 @@ use Rattle.oskernel.proofs.Carried.{ScriptsAllow}
 use Rattle.oskernel.proofs.Scripts.{other-allow, own-allow}
 use Rattle.oskernel.proofs.Stages.{is_mail}
 use Rattle.oskernel.proofs.Stepping.{alone_view}
-use Rattle.osworld.specs.Sound.{AreKnown, alone_items, ArePrintedAlone, IsAlone, own_agreement}
+use Rattle.osworld.specs.Sound.{alone_items, ArePrintedAlone, IsAlone, own_agreement}
 use Rattle.osboard.specs.Boards.{BoardEntry, with_core}
 use Rattle.osworld.specs.Fits.{Fits, FitsBy, IsBeginning, history_by, items_of}
 use Rattle.osworld.proofs.Ahead.{boot_items, Goes, goes-alone, solo-alone}

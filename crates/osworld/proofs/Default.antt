@@ -12,13 +12,13 @@ use Rattle.osbase.specs.declared.turns.CoreStimuli.{CoreStimuli}
 use Rattle.osmail.specs.Mail.{Mail}
 use Rattle.osplan.specs.declared.plans.Plan.{Plan}
 use Rattle.osplan.specs.Limits.{is_within_limits}
+use Rattle.osbase.specs.Runs.{AreKnown}
 use Rattle.osbase.specs.Sets.{has_core}
 use Rattle.osstate.specs.State.{KernelState}
 use Rattle.osbase.specs.declared.turns.Report.{Report}
 use Rattle.osworld.specs.declared.runs.RunFault.TheVariants.{NoMemory}
 use Rattle.osboard.specs.declared.calls.BoardState.{BoardState}
 use Rattle.osworld.specs.declared.seats.Seat.{Seat}
-use Rattle.osworld.specs.Sound.{AreKnown}
 use Rattle.osworld.specs.World.{World, board_in, first_world, world, world_from, is_unchanged, item_total}
 use Rattle.osworld.specs.Runs.{default_turns, has_ended, is_default, is_default_from, is_ended_phase, is_over, round_of, AreReports, IsDefaultBrokenOff, IsDefaultRun, IsDefaultSchedule}
 use Rattle.osworld.specs.Playing.{IsBegun, IsCutShort, IsDefaultCutShort, IsDefaultPlayed, IsPlayed, IsSeated, lists_of, Plays, report_of}

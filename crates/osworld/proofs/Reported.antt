@@ -8,6 +8,7 @@ use Rattle.osbase.specs.declared.items.Item.{Item}
 use Rattle.osbase.specs.declared.turns.Choice.{Choice}
 use Rattle.osbase.specs.declared.turns.CoreStimuli.{CoreStimuli}
 use Rattle.osbase.specs.declared.turns.Report.{Report}
+use Rattle.osbase.specs.Runs.{AreKnown}
 use Rattle.osmail.specs.Mail.{Mail}
 use Rattle.osplan.specs.declared.plans.Plan.{Plan}
 use Rattle.osplan.specs.Limits.{is_within_limits}
@@ -16,7 +17,7 @@ use Rattle.osstate.specs.State.{KernelState}
 use Rattle.osboard.specs.declared.calls.BoardState.{BoardState}
 use Rattle.osworld.specs.declared.seats.Seat.{Seat}
 use Rattle.osworld.specs.Fits.{Fits, ids_of}
-use Rattle.osworld.specs.Sound.{AreKnown, IsOwn, lists_in}
+use Rattle.osworld.specs.Sound.{IsOwn, lists_in}
 use Rattle.osworld.specs.World.{World, first_world, with_item, world}
 use Rattle.osworld.specs.Runs.{AppendsAt, is_ended_phase, AreReports}
 use Rattle.osworld.specs.Playing.{IsCutShort, IsPlayed, IsSeated, Plays, report_of}

@@ -1,7 +1,7 @@
 -- The promise about a run, said of what was given (configuration and listed stimuli) and of the reports, and of nothing
 -- else: whoever runs the cores, in turns or otherwise, can promise it.
-use Rattle.std.specs.Prelude.{◌≡◌, ◌^◌, ◌≤◌, Bool, true, false, IsTrue, Some, List, ◌∷◌, [], ◌++◌, length, map}
-use Rattle.std.specs.List.{AllByRecursion, list_all}
+use Rattle.std.specs.Prelude.{◌≡◌, Bool, true, false, IsTrue, Some, List, ◌∷◌, [], ◌++◌, map}
+use Rattle.std.specs.List.{AllByRecursion}
 use Rattle.osbase.specs.declared.references.CoreId.{CoreId}
 use Rattle.osbase.specs.declared.items.Agreement.{Agreement}
 use Rattle.osbase.specs.declared.items.Item.{Item}
@@ -15,17 +15,9 @@ use Rattle.osplan.specs.declared.plans.CoreMode.{CoreMode}
 use Rattle.osplan.specs.declared.plans.CoreMode.TheVariants.{Named, DontCare}
 use Rattle.osplan.specs.Separate.{cut_of, is_separate}
 use Rattle.osplan.specs.View.{view_of}
-use Rattle.oskernel.specs.Admission.{is_stimulus}
 use Rattle.oskernel.specs.Step.{solo}
 use Rattle.osboard.specs.Boards.{with_core}
 use Rattle.osworld.specs.Fits.{Fits, IsBeginning, has_drained, history_by, ids_of, items_of}
-
--- ---- what is given
-
--- The stimuli are such as there are so far, and of each core no more than it could take. Who plays them sees to it.
-pub record AreKnown (stimuli : List CoreStimuli) : Type 0 where
-  pub there : (id : CoreId) → list_all is_stimulus (stimuli_of stimuli id) ≡ true
-  pub few : (id : CoreId) → length (stimuli_of stimuli id) ≤ 2 ^ 47
 
 -- ---- a report by itself
 

@@ -1,9 +1,9 @@
 //! Runs: listed turns, and the default schedule.
 
 ghost use Rattle.std.specs.Prelude.{IsTrue, ◌≡◌, ◌++◌, ◌≤◌, ◌||◌, [], IfOk, IfErr, OnErr, OnOk, true, vec_len, vec_capacity};
+ghost use Rattle.osbase.specs.Runs.{AreKnown};
 ghost use Rattle.osplan.specs.Limits.{is_within_limits};
 ghost use Rattle.osworld.specs.Fits.{ids_of};
-ghost use Rattle.osworld.specs.Sound.{AreKnown};
 ghost use Rattle.osworld.specs.World.{first_world};
 ghost use Rattle.osworld.specs.Runs.{round_of, rounds as rounds_of, turns_in_round, AreReports, HasNoSchedule, IsBrokenOff, IsDefaultBrokenOff, IsDefaultRun, IsDefaultSchedule};
 ghost use Rattle.osworld.specs.Playing.{IsBegun, IsRound, Plays, PlaysDefault, StopsDefaultShort};

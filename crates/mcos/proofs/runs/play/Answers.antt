@@ -7,7 +7,6 @@ use Rattle.osgiven.specs.Given.{stimuli_meant}
 use Rattle.osdraft.specs.Meaning.{config_of}
 use Rattle.mcos.specs.Runs.{at_config, at_schedule, at_stimuli}
 use Rattle.mcos.proofs.Reading.{IsGiven-kept, IsGiven-read, Means-there, config-kept}
-use Rattle.mcos.proofs.Stimuli.{known-means}
 use Rattle.mcos.proofs.runs.play.Goals as goal
 use Rattle.mcos.proofs.runs.play.Goals.{in-None+in_ok-reports-in-None, in-Some+in_ok-turns-in-Some+in_ok-reports-in-Some}
 
@@ -53,12 +52,6 @@ returns-clause-ok g c =
 
 pub stimuli_in-requires : goal.stimuli_in-requires
 stimuli_in-requires g c = Means-there config_of _ 0 c.in_ok-config.config c.in_ok-config.ensures.ok
-
-pub run_default-requires : goal.run_default-requires
-run_default-requires g c = known-means c.in_ok-config.config _ c.in_ok-stimuli.stimuli c.in_ok-stimuli.ensures.ok
-
-pub run_world-requires : goal.run_world-requires
-run_world-requires g c = known-means c.in_ok-config.config _ c.in_ok-stimuli.stimuli c.in_ok-stimuli.ensures.ok
 
 pub schedule_in-requires : goal.schedule_in-requires
 schedule_in-requires g c = Means-there (stimuli_meant c.in_ok-config.config) _ 1 c.in_ok-stimuli.stimuli c.in_ok-stimuli.ensures.ok

@@ -1,5 +1,5 @@
--- The stimuli that a text means are such as there are so far, and of each core not too many.
-use Rattle.std.proofs.Common.{◌≡◌, ℕ, ◌≤◌, ◌^◌, Bool, true, false, nat_le, cond, Option, Some, None, is_some, option_map, Result, Ok, Err, List, [], ◌∷◌, length, refl, sym, ap, subst, ◌∙◌, arith}
+-- The stimuli that are read are such as there are so far, and of each core not too many.
+use Rattle.std.proofs.Common.{◌≡◌, ℕ, ◌≤◌, ◌^◌, Bool, true, false, nat_le, cond, Option, Some, None, option_map, List, [], ◌∷◌, length, refl, sym, ap, subst, ◌∙◌, arith}
 use Rattle.std.specs.List.{list_all}
 use Rattle.std.specs.Option.{option_map_or}
 use Rattle.std.specs.Str.{bytes_eq}
@@ -10,21 +10,13 @@ use Rattle.osbase.specs.declared.references.CoreId.{CoreId}
 use Rattle.osbase.specs.declared.items.Stimulus.{Stimulus}
 use Rattle.osbase.specs.declared.turns.CoreStimuli.{CoreStimuli}
 use Rattle.osbase.specs.History.{same_core}
-use Rattle.osbase.specs.Runs.{stimuli_of}
+use Rattle.osbase.specs.Runs.{AreKnown, is_stimulus, stimuli_of}
 use Rattle.osplan.specs.declared.plans.Plan.{Plan}
-use Rattle.osplan.specs.declared.faults.ConfFault.TheVariants.{Limit, BadStimulus}
 use Rattle.serde_json.specs.Data.{Data}
-use Rattle.serde_json.specs.Read.{read}
 use Rattle.serde_json.specs.Find.{as_str, as_object}
-use Rattle.oskernel.specs.Admission.{is_stimulus}
-use Rattle.osread.specs.Faults.{failing}
-use Rattle.osgiven.specs.Given.{are_stimuli_within, core_named, core_stimuli_of, has_words_within, meaning_by, stimuli_meant, stimuli_of_data, stimuli_of_text, stimuli_tests, stimulus_of}
-use Rattle.osread.specs.Faults.{if_faultless}
+use Rattle.osgiven.specs.Given.{are_stimuli_within, core_named, core_stimuli_of, has_words_within, stimuli_of_data, stimuli_of_text, stimulus_of}
 use Rattle.osread.specs.Reading.{each, parts_of}
 use Rattle.osread.specs.Json.{entries}
-use Rattle.osworld.specs.Sound.{AreKnown}
-use Rattle.mcos.specs.declared.faults.Fault.{Fault}
-use Rattle.mcos.specs.Texts.{Means}
 
 -- each element was read
 each-parts : {X Y P : Type 0} (f : X → Option Y) (x : X) (xs : List X) (ys : List Y) → each f (x ∷ xs) ≡ Some ys → ((z : Y) (zs : List Y) → f x ≡ Some z → each f xs ≡ Some zs → ys ≡ z ∷ zs → P) → P
@@ -71,23 +63,9 @@ entries-few plan (m ∷ ms) ss within e id = each-parts (core_stimuli_of plan) m
     by z zs true here rest = here
     by z zs false here rest = rest
 
-known-data : (plan : Plan) (d : Data) (ss : List CoreStimuli) → meaning_by (stimuli_tests plan) (stimuli_of_data plan) d ≡ Some ss → (id : CoreId) → AreFew (stimuli_of ss id)
-known-data plan d ss e id = option_and_then_some (if_faultless (failing (stimuli_tests plan d))) (stimuli_of_data plan d) ss e (λ given is faultless. by given is (are_stimuli_within d) refl faultless)
-  where
-    by : (given : List CoreStimuli) → stimuli_of_data plan d ≡ Some given → (b : Bool) → are_stimuli_within d ≡ b → if_faultless (cond b (cond (is_some (stimuli_of_data plan d)) [] (BadStimulus ∷ [])) (Limit ∷ cond (is_some (stimuli_of_data plan d)) [] (BadStimulus ∷ []))) given ≡ Some ss → AreFew (stimuli_of ss id)
-    by given is false few faultless = cc
-    by given is true few faultless =
-        let same : given ≡ ss = same_Some _ _ (ap (λ (o : Option (List CoreStimuli)). if_faultless (cond (is_some o) [] (BadStimulus ∷ [])) given) (sym is) ∙ faultless) in
-        option_and_then_some _ (as_object d) given is (λ ms object read_each.
-        subst (λ (xs : List CoreStimuli). AreFew (stimuli_of xs id)) same
-        (entries-few plan (entries ms) given (sym (ap (λ o. option_map_or (λ ns. list_all (λ (entry : List ℕ × Data). has_words_within 100000 entry.1) (entries ns)) o true) object) ∙ few) read_each id))
-
--- The stimuli that a text, or a file, means for a configuration are.
-pub known_text : (plan : Plan) (text : List ℕ) (ss : List CoreStimuli) → stimuli_meant plan text ≡ Some ss → AreKnown ss
-known_text plan text ss means =
-    let each_core : (id : CoreId) → AreFew (stimuli_of ss id) = λ id. option_and_then_some (meaning_by (stimuli_tests plan) (stimuli_of_data plan)) (read text) ss means (λ d r m. known-data plan d ss m id) in
+-- The stimuli of a JSON value within the limit are.
+pub known_data : (plan : Plan) (d : Data) (ss : List CoreStimuli) → are_stimuli_within d ≡ true → stimuli_of_data plan d ≡ Some ss → AreKnown ss
+known_data plan d ss within is =
+    let each_core : (id : CoreId) → AreFew (stimuli_of ss id) = λ id. option_and_then_some _ (as_object d) ss is (λ ms object read_each.
+    entries-few plan (entries ms) ss (sym (ap (λ o. option_map_or (λ ns. list_all (λ (entry : List ℕ × Data). has_words_within 100000 entry.1) (entries ns)) o true) object) ∙ within) read_each id) in
     record { there = λ id. (each_core id).0; few = λ id. (each_core id).1 }
-
-pub known-means : (plan : Plan) (file : Result (List ℕ) Fault) (ss : List CoreStimuli) → Means (stimuli_meant plan) file ss → AreKnown ss
-known-means plan (Err fault) ss means = absurd means
-known-means plan (Ok text) ss means = known_text plan text ss means
