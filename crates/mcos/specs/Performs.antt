@@ -22,7 +22,7 @@ use Rattle.mcos.specs.Checks.{check_text, cut_text}
 use Rattle.mcos.specs.Faults.{fault_text}
 use Rattle.mcos.specs.Jobs.{path_in}
 use Rattle.mcos.specs.Runs.{HasSchedule, IsGiven, IsPlayed, run_text}
-use Rattle.mcos.specs.Texts.{File, IsFaultOf, Means, text_at}
+use Rattle.mcos.specs.Texts.{File, IsAsked, IsFaultOf, Means, text_at}
 
 -- ---- how a job ends
 
@@ -143,10 +143,13 @@ abbrev pub Tells : {S : Type 0} → (S → Option (List ℕ)) → (S → ℕ) �
 Tells taken failed old new (Ok outcome) = new ≡ old
 Tells taken failed old new (Err fault) = (written : Result Unit SinkFailed) × Writes taken failed old new (fault_text fault) written
 
--- What a job comes to: what it prints, its status, and what is told of a fault. [own]
+-- What a job comes to: what it prints, its status, and what is told of a fault. `files` are those that were read, of so many as
+-- there are. [own]
 pub record Performs {O E : Type 0} (out_taken : O → Option (List ℕ)) (out_failed : O → ℕ) (old_out new_out : O)
-    (err_taken : E → Option (List ℕ)) (err_failed : E → ℕ) (old_err new_err : E) (job : Job) (files : List File) (status : ℕ) : Type 0 where
+    (err_taken : E → Option (List ℕ)) (err_failed : E → ℕ) (old_err new_err : E) (job : Job) (files : List File)
+    (count status : ℕ) : Type 0 where
   pub result : Result Outcome Fault
   pub comes : Comes out_taken out_failed old_out new_out (IsOutput job files) (HasNoOutput job files) result
+  pub asked : IfErr result (IsAsked count files)
   pub status_is : status ≡ status_of result
   pub tells : Tells err_taken err_failed old_err new_err result

@@ -1,5 +1,6 @@
 -- A job's files as texts, and what a text comes to: a meaning, or the least of its faults. [own]
-use Rattle.std.specs.Prelude.{◌≡◌, ◌<◌, ℕ, if◌then◌else◌, Option, Some, None, option_map, option_and_then, Result, Ok, Err, List, slice_get, Vec}
+use Rattle.std.specs.Prelude.{◌≡◌, ◌<◌, ◌≤◌, ◌⊎◌, ℕ, if◌then◌else◌, Option, Some, None, option_map, option_and_then, Result, Ok, Err, List, length, slice_get, Vec}
+use Rattle.std.specs.List.{Contains}
 use Rattle.std.specs.Str.{is_utf8}
 use Rattle.std.specs.declared.alloc.Global.{Global}
 use Rattle.osplan.specs.declared.faults.ConfFault.{ConfFault}
@@ -38,3 +39,8 @@ abbrev pub IsFaultOf : (List ℕ → List ConfFault) → Result (List ℕ) Fault
 IsFaultOf faults (Err no_text) fault = fault ≡ no_text
 IsFaultOf faults (Ok text) (Text fault) = IsLeast fault (faults text)
 IsFaultOf faults (Ok text) fault = ⊥
+
+-- A file is called unreadable only where one of those that were read could not be, or where all that there are were read, and
+-- the one that is wanted is not among them. [own]
+abbrev pub IsAsked : ℕ → List File → Fault → Type 0
+IsAsked count files fault = fault ≡ Unreadable → (count ≤ length files) ⊎ Contains files None

@@ -1,10 +1,12 @@
 //! Doing a job over its files' bytes.
 
-ghost use Rattle.std.specs.Prelude.{◌≡◌, ◌<◌, ◌^◌, length};
+ghost use Rattle.std.specs.Prelude.{◌≡◌, ◌<◌, ◌≤◌, ◌^◌, IfErr, length, max};
 ghost use Rattle.ostrace.specs.Taken.{Writes};
 ghost use Rattle.mcos.specs.Faults.{fault_text};
+ghost use Rattle.mcos.specs.Jobs.{paths_of};
 ghost use Rattle.mcos.specs.Performs.{Comes, HasNoOutput, IsOutput, Performs};
 ghost use Rattle.mcos.specs.Runs.{StopsAtFaults};
+ghost use Rattle.mcos.specs.Texts.{IsAsked};
 
 use crate::checks::{check, cut_out};
 use crate::faults::Fault;
@@ -29,13 +31,13 @@ pub fn perform<O: Sink, E: Sink>(
     requires out { O.failed out.old < 2 ^ 48 }
     requires err { E.failed err.old < 2 ^ 48 }
     ensures { Performs O.taken O.failed out.old out.new E.taken E.failed err.old err.new
-        job.now files.now result }
+        job.now files.now (length files.now) result }
 {
     perform_from(alloc, job, &mut Given { files }, out, err)
 }
 
-/// The same over files that are read one by one: each is judged before the next is read, and none is read
-/// after one with a fault.
+/// The same over files that are read one by one: each is judged before the next is read, none is read
+/// after one with a fault or without a path of the job, and none is called unreadable that was not read.
 pub fn perform_from<S: Source, O: Sink, E: Sink>(
     alloc: Global,
     job: &Job,
@@ -46,8 +48,9 @@ pub fn perform_from<S: Source, O: Sink, E: Sink>(
     requires out { O.failed out.old < 2 ^ 48 }
     requires err { E.failed err.old < 2 ^ 48 }
     ensures performs { Performs O.taken O.failed out.old out.new E.taken E.failed err.old err.new
-        job.now (S.files source.new) result }
+        job.now (S.files source.new) (S.count source.new) result }
     ensures stops { StopsAtFaults (length (S.files source.old)) (S.files source.new) }
+    ensures named { length (S.files source.new) ≤ max (length (S.files source.old)) (length (paths_of job.now)) }
     ensures known { S.known source.new ≡ S.known source.old }
 {
     match print(alloc, job, source, out) {
@@ -70,6 +73,8 @@ fn print<S: Source, O: Sink>(
     ensures comes { Comes O.taken O.failed out.old out.new (IsOutput job.now (S.files source.new))
         (HasNoOutput job.now (S.files source.new)) result }
     ensures stops { StopsAtFaults (length (S.files source.old)) (S.files source.new) }
+    ensures named { length (S.files source.new) ≤ max (length (S.files source.old)) (length (paths_of job.now)) }
+    ensures asked { IfErr result (IsAsked (S.count source.new) (S.files source.new)) }
     ensures known { S.known source.new ≡ S.known source.old }
 {
     match job {

@@ -6,7 +6,7 @@ ghost use Rattle.osbase.specs.Runs.{AreKnown};
 ghost use Rattle.osplan.specs.declared.faults.ConfFault.TheVariants.{NoMemory};
 ghost use Rattle.osgiven.specs.Given.{schedule_faults, schedule_meant, stimuli_faults, stimuli_meant};
 ghost use Rattle.osdraft.specs.Meaning.{config_of, faults_of};
-ghost use Rattle.mcos.specs.Texts.{IsFaultOf, KeepsBelow, Means, text_at};
+ghost use Rattle.mcos.specs.Texts.{IsAsked, IsFaultOf, KeepsBelow, Means, text_at};
 
 use crate::faults::Fault;
 use crate::sources::Source;
@@ -20,6 +20,7 @@ pub fn config_in<S: Source>(alloc: Global, source: &mut S) -> Result<Config, Fau
     ensures fault { IfErr result (λ fault. fault ≢ Fault.Text NoMemory
         → IsFaultOf faults_of (text_at (S.files source.new) 0) fault) }
     ensures ahead { length (S.files source.new) ≤ max (length (S.files source.old)) 1 }
+    ensures asked { IfErr result (IsAsked (S.count source.new) (S.files source.new)) }
     ensures known { S.known source.new ≡ S.known source.old }
 {
     source.read(0)?;
@@ -40,6 +41,7 @@ pub fn stimuli_in<S: Source>(
         → IsFaultOf (stimuli_faults config.now) (text_at (S.files source.new) 1) fault) }
     ensures ahead { length (S.files source.new) ≤ max (length (S.files source.old)) 2 }
     ensures keeps { KeepsBelow 1 (S.files source.old) (S.files source.new) }
+    ensures asked { IfErr result (IsAsked (S.count source.new) (S.files source.new)) }
     ensures known { S.known source.new ≡ S.known source.old }
 {
     source.read(1)?;
@@ -59,6 +61,7 @@ pub fn schedule_in<S: Source>(
         → IsFaultOf (schedule_faults config.now) (text_at (S.files source.new) 2) fault) }
     ensures ahead { length (S.files source.new) ≤ max (length (S.files source.old)) 3 }
     ensures keeps { KeepsBelow 2 (S.files source.old) (S.files source.new) }
+    ensures asked { IfErr result (IsAsked (S.count source.new) (S.files source.new)) }
     ensures known { S.known source.new ≡ S.known source.old }
 {
     source.read(2)?;
@@ -68,8 +71,10 @@ pub fn schedule_in<S: Source>(
 
 // The text of a file: unreadable is a fault of its own, and bytes that are no text are not JSON.
 fn text_at<'a, S: Source>(source: &'a S, at: usize) -> Result<&'a str, Fault>
-    requires { at < S.count source.now → at < length (S.files source.now) }
-    ensures { result_map_both (λ text. text.now) (λ fault. fault) result ≡ text_at (S.files source.now) at }
+    requires read { at < S.count source.now → at < length (S.files source.now) }
+    requires next { at ≤ length (S.files source.now) }
+    ensures text { result_map_both (λ text. text.now) (λ fault. fault) result ≡ text_at (S.files source.now) at }
+    ensures asked { IfErr result (IsAsked (S.count source.now) (S.files source.now)) }
 {
     match source.bytes(at) {
         Some(bytes) => match str::from_utf8(bytes) {

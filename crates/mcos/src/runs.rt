@@ -1,12 +1,13 @@
 //! A run: its files are read and played, and the reports printed.
 
-ghost use Rattle.std.specs.Prelude.{◌≡◌, ◌<◌, ◌^◌, ◌++◌, IfOk, IfErr, Some, length};
+ghost use Rattle.std.specs.Prelude.{◌≡◌, ◌+◌, ◌<◌, ◌≤◌, ◌^◌, ◌++◌, IfOk, IfErr, Some, length, max};
 ghost use Rattle.ostrace.specs.Taken.{Writes};
 ghost use Rattle.ostrace.specs.Trace.{text_of};
 ghost use Rattle.osworld.specs.Ends.{have_all_ended};
-ghost use Rattle.mcos.specs.Jobs.{path_in};
+ghost use Rattle.mcos.specs.Jobs.{listed, path_in};
 ghost use Rattle.mcos.specs.Performs.{Comes, HasNoReports, IsRunOutput, Prints, outcome_of};
 ghost use Rattle.mcos.specs.Runs.{IsPlayed, StopsAtFaults, last_line, run_text};
+ghost use Rattle.mcos.specs.Texts.{IsAsked};
 
 use crate::faults::Fault;
 use crate::outcomes::Outcome;
@@ -30,6 +31,8 @@ pub fn run<S: Source, O: Sink>(
     ensures comes { Comes O.taken O.failed out.old out.new (IsRunOutput (path_in schedule.entry) (S.files source.new))
         (HasNoReports (path_in schedule.entry) (S.files source.new)) result }
     ensures stops { StopsAtFaults (length (S.files source.old)) (S.files source.new) }
+    ensures named { length (S.files source.new) ≤ max (length (S.files source.old)) (2 + length (listed (path_in schedule.entry))) }
+    ensures asked { IfErr result (IsAsked (S.count source.new) (S.files source.new)) }
     ensures known { S.known source.new ≡ S.known source.old }
 {
     let (config, reports) = play(alloc, schedule, source)?;
@@ -45,6 +48,8 @@ fn play<S: Source>(
     ensures ok { IfOk result (λ played. IsPlayed (path_in schedule.entry) (S.files source.new) played.0 played.1.items) }
     ensures fault { IfErr result (HasNoReports (path_in schedule.entry) (S.files source.new)) }
     ensures stops { StopsAtFaults (length (S.files source.old)) (S.files source.new) }
+    ensures named { length (S.files source.new) ≤ max (length (S.files source.old)) (2 + length (listed (path_in schedule.entry))) }
+    ensures asked { IfErr result (IsAsked (S.count source.new) (S.files source.new)) }
     ensures known { S.known source.new ≡ S.known source.old }
 {
     let config = config_in(alloc, source)?;

@@ -22,6 +22,7 @@ pub trait Source {
         requires { at ≤ length (files self.old) }
         ensures filled { OnOk result (at < count self.new → at < length (files self.new)) }
         ensures ahead { length (files self.new) ≤ max (length (files self.old)) (at + 1) }
+        ensures stays { length (files self.old) ≤ length (files self.new) }
         ensures count { count self.new ≡ count self.old }
         ensures keeps { KeepsBelow at (files self.old) (files self.new) }
         ensures known { known self.new ≡ known self.old };
