@@ -14,7 +14,7 @@ use Rattle.osplan.specs.declared.plans.Task.{Task}
 use Rattle.osplan.specs.View.{core_of}
 use Rattle.osplan.specs.Limits.{is_object}
 use Rattle.osplan.specs.Expressible.{is_task_expressible, is_core_expressible}
-use Rattle.osplan.proofs.Tests.{find-passes}
+use Rattle.osplan.proofs.Tests.{find-passes, passes-at}
 use Rattle.osplan.proofs.Within.{core-text-parts}
 use Rattle.osplan.specs.Names.{name_in, name_of}
 
@@ -27,11 +27,6 @@ pub record Names (plan : Plan) (target : Place) (core : Core) (task : Task) : Ty
   pub core_is : core_of plan target.core ≡ Some core
   pub task_is : slice_get core.tasks target.index ≡ Some task
   pub name_is : name_of plan ObjectKind.Task target ≡ task.name
-
-pub get-passes : {X : Type 0} (q : X → Bool) (xs : List X) (i : ℕ) (x : X) → list_all q xs ≡ true → slice_get xs i ≡ Some x → q x ≡ true
-get-passes q [] i x a e = cc
-get-passes q (y ∷ xs) zero x a e = let same : y ≡ x = cc in subst (λ z. q z ≡ true) same (and_parts (q y) (list_all q xs) a).0
-get-passes q (y ∷ xs) (suc i) x a e = get-passes q xs i x (and_parts (q y) (list_all q xs) a).1 e
 
 get-some : {X : Type 0} (xs : List X) (i : ℕ) → i < length xs → (x : X) × (slice_get xs i ≡ Some x)
 get-some [] i lt = absurd (omega arith)
@@ -64,5 +59,5 @@ named-form plan said target known =
     let found = names-task plan target known in
     let core = found.0 in
     let task = found.1 in
-    let within : is_task_expressible task ≡ true = get-passes is_task_expressible core.tasks target.index task (core-text-parts core (found-passes plan target core task is_core_expressible found.2 said)).tasks found.2.task_is in
+    let within : is_task_expressible task ≡ true = passes-at is_task_expressible core.tasks target.index task (core-text-parts core (found-passes plan target core task is_core_expressible found.2 said)).tasks found.2.task_is in
     rw found.2.name_is (and_parts (is_name task.name) _ within).0

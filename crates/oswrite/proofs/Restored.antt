@@ -47,18 +47,6 @@ mode-back : (mode : CoreMode) → said.is_in_only_mode mode ≡ true → Named o
 mode-back (Named m) h = ap Named (sym (mode-is m h))
 mode-back DontCare h = absurd (true≢false (sym h))
 
-task-parts : (task : Task) (priority activations : ℕ) (auto : List ModeId) (script : List Op) → priority ≡ task.priority → auto ≡ task.auto → activations ≡ task.activations → script ≡ task.script
-    → (let read : Task = record { name = task.name; priority = priority; auto = auto; activations = activations; script = script } in read ≡ task)
-task-parts task priority activations auto script a b c d = rw (a, b, c, d) refl
-
-core-parts : (core : Core) (id : CoreId) (mode : CoreMode) (start : List CoreId) (tasks : List Task) → id ≡ core.id → mode ≡ core.mode → start ≡ core.start → tasks ≡ core.tasks → [] ≡ core.isrs → [] ≡ core.alarms → [] ≡ core.tables
-    → (let read : Core = record { id = id; mode = mode; start = start; tasks = tasks; isrs = []; alarms = []; tables = [] } in read ≡ core)
-core-parts core id mode start tasks a b c d e f g = rw (a, b, c, d, e, f, g) refl
-
-plan-parts : (plan : Plan) (cap : ℕ) (master : CoreId) (modes : List (List ℕ)) (cores : List Core) → cap ≡ plan.cap → master ≡ plan.master → modes ≡ plan.modes → cores ≡ plan.cores
-    → (let read : Plan = record { cap = cap; master = master; modes = modes; cores = cores } in read ≡ plan)
-plan-parts plan cap master modes cores a b c d = rw (a, b, c, d) refl
-
 -- ---- what each task and each core of a configuration keeps
 
 abbrev pub is_kept_task : Plan → Task → Bool
@@ -154,28 +142,22 @@ module _ (plan : Plan) (inside : IsTrue (limits.is_within_limits plan)) (sayable
   task-back task h =
       let kept = kept-task plan task h in
       let bytes = task-bytes (task_sizes task) kept.within in
-      task-parts task (byte_of (Some task.priority)) (byte_of (Some task.activations)) (map (λ (name : List ℕ). only_mode) (map (name_of_mode plan) task.auto)) (map (op_of objects) (operations_of (script_text plan task.script)))
-      (ap (λ o. unwrap_or o 0) bytes.0)
-      (map-back (λ (name : List ℕ). only_mode) (name_of_mode plan) said.is_only_mode (λ m e. sym (mode-is m e)) task.auto kept.auto)
-      (ap (λ o. unwrap_or o 0) bytes.1)
-      (ap (map (op_of objects)) (script-back task.script kept.known) ∙ map-back (op_of objects) (op_text plan) (limits.is_op_known plan) op-back task.script kept.known)
+      let priority : byte_of (Some task.priority) ≡ task.priority = ap (λ o. unwrap_or o 0) bytes.0 in
+      let activations : byte_of (Some task.activations) ≡ task.activations = ap (λ o. unwrap_or o 0) bytes.1 in
+      rw (priority, activations, map-back (λ (name : List ℕ). only_mode) (name_of_mode plan) said.is_only_mode (λ m e. sym (mode-is m e)) task.auto kept.auto,
+      script-back task.script kept.known, map-back (op_of objects) (op_text plan) (limits.is_op_known plan) op-back task.script kept.known) refl
 
   core-back : (core : Core) → is_kept_core plan core ≡ true → core_plan objects (core_said plan core) ≡ core
   core-back core h =
       let kept = kept-core plan core h in
       let bytes = core-bytes (core_sizes core) kept.within in
-      core-parts core (number_id (number_of core.id)) (Named only_mode) (map number_id (map number_of core.start)) (map (task_plan objects) (map (task_said plan) core.tasks))
-      (id-back core.id bytes.0)
-      (mode-back core.mode kept.said.mode)
-      (map-back number_id number_of (λ id. is_between 0 255 (number_of id)) (λ id e. id-back id (is-byte _ _ (number_of id) e (omega arith))) core.start (sym (list_all-map (is_between 0 255) number_of core.start) ∙ bytes.1))
-      (map-back (task_plan objects) (task_said plan) (is_kept_task plan) task-back core.tasks kept.tasks)
-      (sym kept.said.isrs) (sym kept.said.alarms) (sym kept.said.tables)
+      rw (id-back core.id bytes.0, mode-back core.mode kept.said.mode,
+      map-back number_id number_of (λ id. is_between 0 255 (number_of id)) (λ id e. id-back id (is-byte _ _ (number_of id) e (omega arith))) core.start (sym (list_all-map (is_between 0 255) number_of core.start) ∙ bytes.1),
+      map-back (task_plan objects) (task_said plan) (is_kept_task plan) task-back core.tasks kept.tasks, kept.said.isrs, kept.said.alarms, kept.said.tables) refl
 
   pub plan-back : plan_of (config_said plan) ≡ plan
   plan-back =
       let master : plan.master.number < 16 = master-low plan inside in
-      plan-parts plan (byte_of (Some plan.cap)) (number_id (number_of plan.master)) (said.mode_name ∷ []) (map (core_plan objects) (map (core_said plan) plan.cores))
-      (ap (λ o. unwrap_or o 0) (cap-byte (limits.sizes_of plan) (limit-parts plan inside).sizes))
-      (id-back plan.master (ap Some (byte-small plan.master.number (omega arith))))
-      (sym (modes-are plan.modes parts.modes))
-      (map-back (core_plan objects) (core_said plan) (is_kept_core plan) core-back plan.cores (kept-cores plan inside sayable))
+      let cap : byte_of (Some plan.cap) ≡ plan.cap = ap (λ o. unwrap_or o 0) (cap-byte (limits.sizes_of plan) (limit-parts plan inside).sizes) in
+      rw (cap, id-back plan.master (ap Some (byte-small plan.master.number (omega arith))),
+      map-back (core_plan objects) (core_said plan) (is_kept_core plan) core-back plan.cores (kept-cores plan inside sayable), modes-are plan.modes parts.modes) refl

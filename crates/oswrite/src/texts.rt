@@ -1,6 +1,7 @@
 //! Writing: the JSON text of a configuration.
 
 ghost use Rattle.std.specs.Prelude.{◌≡◌, IfOk, Some, string_bytes};
+ghost use Rattle.serde_json.specs.Data.{Data};
 ghost use Rattle.serde_json.specs.View.{view};
 ghost use Rattle.osdraft.specs.Meaning.{config_of};
 ghost use Rattle.oswrite.specs.Writing.{script_text, id_data, mode_data, list_data, task_data, core_data, config_data, config_text};
@@ -12,103 +13,104 @@ use osplan::{Config, Core, Plan, Task};
 use serde_json::{Value, json};
 use std::alloc::{AllocError, Global};
 
-// The names of a plan's objects.
+// Writes an element of a list.
+trait Writer<T> {
+    ghost written: { Self → T → Data };
+
+    fn value(&self, alloc: Global, element: &T) -> Result<Value, AllocError>
+        ensures { IfOk result (λ value. view value ≡ written self.now element.now) };
+}
+
+fn list_value<T, W: Writer<T>>(
+    alloc: Global,
+    writer: &W,
+    elements: &[T],
+) -> Result<Value, AllocError>
+    ensures { IfOk result (λ value. view value ≡ list_data (W.written writer.now) elements.now) }
+{
+    let mut values = Vec::new(alloc);
+    for element in elements {
+        values.push(writer.value(alloc, element)?)?;
+    }
+    Ok(Value::Array(values))
+}
+
+// Writes the parts of a plan, by the names of its modes and objects.
 #[derive(Clone, Copy, Debug)]
-struct ObjectNames<'p> {
+struct PlanWriter<'p> {
     plan: &'p Plan,
 }
 
-impl Names for ObjectNames<'_> {
+impl Names for PlanWriter<'_> {
     ghost use Rattle.osplan.specs.Names.{name_of};
 
-    ghost name = { λ names. name_of names.plan.now };
+    ghost name = { λ writer. name_of writer.plan.now };
 
     fn name(&self, kind: ObjectKind, place: Place) -> &str {
         self.plan.name_of(kind, place)
     }
 }
 
-fn script_text(alloc: Global, plan: &Plan, script: &[Op]) -> Result<String, AllocError>
-    ensures { IfOk result (λ text. string_bytes text ≡ script_text plan.now script.now) }
+fn script_text(alloc: Global, writer: &PlanWriter, script: &[Op]) -> Result<String, AllocError>
+    ensures { IfOk result (λ text. string_bytes text ≡ script_text writer.now.plan.now script.now) }
 {
-    let names = ObjectNames { plan };
     let mut texts = Vec::new(alloc);
     for op in script {
-        texts.push(op_text(alloc, &names, *op)?)?;
+        texts.push(op_text(alloc, writer, *op)?)?;
     }
     texts.join(alloc, ";")
 }
 
-fn modes_value(alloc: Global, plan: &Plan, modes: &[ModeId]) -> Result<Value, AllocError>
-    ensures { IfOk result (λ value. view value ≡ list_data (mode_data plan.now) modes.now) }
-{
-    let mut values = Vec::new(alloc);
-    for mode in modes {
-        values.push(Value::String(String::from_str(alloc, plan.name_of_mode(*mode))?))?;
+impl Writer<ModeId> for PlanWriter<'_> {
+    ghost written = { λ writer. mode_data writer.plan.now };
+
+    fn value(&self, alloc: Global, mode: &ModeId) -> Result<Value, AllocError> {
+        Ok(Value::String(String::from_str(alloc, self.plan.name_of_mode(*mode))?))
     }
-    Ok(Value::Array(values))
 }
 
-fn ids_value(alloc: Global, ids: &[CoreId]) -> Result<Value, AllocError>
-    ensures { IfOk result (λ value. view value ≡ list_data id_data ids.now) }
-{
-    let mut values = Vec::new(alloc);
-    for id in ids {
-        values.push(Value::from(u64::from(id.number)))?;
+impl Writer<CoreId> for PlanWriter<'_> {
+    ghost written = { λ _. id_data };
+
+    fn value(&self, alloc: Global, id: &CoreId) -> Result<Value, AllocError> {
+        Ok(Value::from(u64::from(id.number)))
     }
-    Ok(Value::Array(values))
 }
 
-fn task_value(alloc: Global, plan: &Plan, task: &Task) -> Result<Value, AllocError>
-    ensures { IfOk result (λ value. view value ≡ task_data plan.now task.now) }
-{
-    let auto = modes_value(alloc, plan, task.auto.as_slice())?;
-    let script = script_text(alloc, plan, task.script.as_slice())?;
-    json!(in alloc; {
-        "activations": u64::from(task.activations),
-        "auto": auto,
-        "name": task.name.as_str(),
-        "prio": u64::from(task.priority),
-        "script": script
-    })
-}
+impl Writer<Task> for PlanWriter<'_> {
+    ghost written = { λ writer. task_data writer.plan.now };
 
-fn tasks_value(alloc: Global, plan: &Plan, tasks: &[Task]) -> Result<Value, AllocError>
-    ensures { IfOk result (λ value. view value ≡ list_data (task_data plan.now) tasks.now) }
-{
-    let mut values = Vec::new(alloc);
-    for task in tasks {
-        values.push(task_value(alloc, plan, task)?)?;
+    fn value(&self, alloc: Global, task: &Task) -> Result<Value, AllocError> {
+        let auto = list_value(alloc, self, task.auto.as_slice())?;
+        let script = script_text(alloc, self, task.script.as_slice())?;
+        json!(in alloc; {
+            "activations": u64::from(task.activations),
+            "auto": auto,
+            "name": task.name.as_str(),
+            "prio": u64::from(task.priority),
+            "script": script
+        })
     }
-    Ok(Value::Array(values))
 }
 
-fn core_value(alloc: Global, plan: &Plan, core: &Core) -> Result<Value, AllocError>
-    ensures { IfOk result (λ value. view value ≡ core_data plan.now core.now) }
-{
-    let start = ids_value(alloc, core.start.as_slice())?;
-    let tasks = tasks_value(alloc, plan, core.tasks.as_slice())?;
-    json!(in alloc; {
-        "id": u64::from(core.id.number),
-        "start": start,
-        "tasks": tasks
-    })
-}
+impl Writer<Core> for PlanWriter<'_> {
+    ghost written = { λ writer. core_data writer.plan.now };
 
-fn cores_value(alloc: Global, plan: &Plan, cores: &[Core]) -> Result<Value, AllocError>
-    ensures { IfOk result (λ value. view value ≡ list_data (core_data plan.now) cores.now) }
-{
-    let mut values = Vec::new(alloc);
-    for core in cores {
-        values.push(core_value(alloc, plan, core)?)?;
+    fn value(&self, alloc: Global, core: &Core) -> Result<Value, AllocError> {
+        let start = list_value(alloc, self, core.start.as_slice())?;
+        let tasks = list_value(alloc, self, core.tasks.as_slice())?;
+        json!(in alloc; {
+            "id": u64::from(core.id.number),
+            "start": start,
+            "tasks": tasks
+        })
     }
-    Ok(Value::Array(values))
 }
 
 fn plan_value(alloc: Global, plan: &Plan) -> Result<Value, AllocError>
     ensures { IfOk result (λ value. view value ≡ config_data plan.now) }
 {
-    let cores = cores_value(alloc, plan, plan.cores.as_slice())?;
+    let cores = list_value(alloc, &PlanWriter { plan }, plan.cores.as_slice())?;
     json!(in alloc; {
         "cap": u64::from(plan.cap),
         "cores": cores,

@@ -3,4 +3,4 @@ use Rattle.oswrite.specs.Writing.{op_text}
 use Rattle.oswrite.proofs.texts.script_text.Given as goal
 
 abbrev pub invariant-loop-op : goal.invariant-loop-op
-invariant-loop-op l = map string_bytes l.texts.items ≡ map (op_text l.plan) (take l.op-index l.script)
+invariant-loop-op l = map string_bytes l.texts.items ≡ map (op_text l.writer.plan.now) (take l.op-index l.script)
