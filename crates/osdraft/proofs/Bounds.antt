@@ -68,23 +68,23 @@ master-found objects cores number h =
 
 -- ---- the whole
 
-plan-bounds : (t : ConfigText) → is_text_within t ≡ true → is_each_once t ≡ true → are_known t ≡ true → limits.is_within_limits (plan_of t) ≡ true
-plan-bounds t within once known =
-    let inside = (and_parts (is_between 1 1 t.version) (is_within (sizes_of t)) within).1 in
-    let cores = cores-inside t inside in
-    let distinct = (and_parts (are_numbers_distinct t.cores) _ once).0 in
-    let objects = declarations t.cores in
-    let places : PlacesKnown t = place-known t cores distinct in
-    and_from _ _ (and_from _ _ (and_from _ _ (ap is_within (plan-numbers t inside) ∙ inside) (cores-distinct objects t.cores distinct cores)) (master-found objects t.cores t.master (and_parts _ _ known).0))
-    (list_all-total (limits.is_core_known (plan_of t)) (core_plan (declarations t.cores)) (core-known t places) t.cores)
-
-pub row-passes : (fault : ConfFault) (passes : Bool) (faults : List ConfFault) → cond passes faults (fault ∷ faults) ≡ [] → (passes ≡ true) × (faults ≡ [])
+row-passes : (fault : ConfFault) (passes : Bool) (faults : List ConfFault) → cond passes faults (fault ∷ faults) ≡ [] → (passes ≡ true) × (faults ≡ [])
 row-passes fault true faults e = (refl, e)
 row-passes fault false faults e = cc
 
-pub bounds-of : (t : ConfigText) → failing (tests_of t) ≡ [] → limits.is_within_limits (plan_of t) ≡ true
-bounds-of t none =
+pub faultless : (t : ConfigText) → failing (tests_of t) ≡ [] → (is_text_within t ≡ true) × (is_each_once t ≡ true) × (are_known t ≡ true)
+faultless t none =
     let first = row-passes Limit (is_text_within t) _ none in
     let second = row-passes DuplicateName (is_each_once t) _ first.1 in
-    let third = row-passes UnknownName (are_known t) _ second.1 in
-    plan-bounds t first.0 second.0 third.0
+    (first.0, second.0, (row-passes UnknownName (are_known t) _ second.1).0)
+
+pub bounds-of : (t : ConfigText) → failing (tests_of t) ≡ [] → limits.is_within_limits (plan_of t) ≡ true
+bounds-of t none =
+    let passed = faultless t none in
+    let inside = (and_parts (is_between 1 1 t.version) (is_within (sizes_of t)) passed.0).1 in
+    let cores = cores-inside t inside in
+    let distinct = (and_parts (are_numbers_distinct t.cores) _ passed.1).0 in
+    let objects = declarations t.cores in
+    let places : PlacesKnown t = place-known t cores distinct in
+    and_from _ _ (and_from _ _ (and_from _ _ (ap is_within (plan-numbers t inside) ∙ inside) (cores-distinct objects t.cores distinct cores)) (master-found objects t.cores t.master (and_parts _ _ passed.2).0))
+    (list_all-total (limits.is_core_known (plan_of t)) (core_plan objects) (core-known t places) t.cores)

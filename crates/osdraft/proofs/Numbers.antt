@@ -1,11 +1,13 @@
 -- The plan of a text has the text's numbers, which are within their limits.
-use Rattle.std.proofs.Common.{inl, inr, ◌≡◌, ℕ, ◌≤◌, Bool, true, false, not, cond, eqb, leb, List, [], ◌∷◌, length, map, Option, Some, None, refl, sym, ap, ◌∙◌, arith}
+use Rattle.std.proofs.Common.{inl, inr, ◌≡◌, ℕ, ◌≤◌, Bool, true, false, not, cond, eqb, leb, List, [], ◌∷◌, length, map, Option, Some, None, unwrap_or, refl, sym, ap, ◌∙◌, arith}
 use Rattle.std.specs.List.{list_all, list_any}
 use Rattle.std.proofs.lemmas.Bool.{and_parts, and_from, leb-true, le-leb, true≢false, not-true, eq-eqb, eqb-true, or_cases, or_left, or_right}
 use Rattle.std.proofs.lemmas.List.{length-map}
 use Rattle.std.proofs.lemmas.List.Folds.{list_all-map}
 use Rattle.osplan.specs.Limits as limits
-use Rattle.osplan.specs.Limits.{TaskSizes, CoreSizes, Sizes, is_between, is_task_within, is_core_within, is_within, number_of}
+use Rattle.osplan.specs.Limits.{TaskSizes, CoreSizes, Sizes, is_between, is_start, is_task_within, is_core_within, is_within, number_of}
+use Rattle.osplan.proofs.Tests.{all-weaker}
+use Rattle.osplan.proofs.Within.{between}
 use Rattle.osdraft.specs.declared.shapes.ConfigText.{ConfigText}
 use Rattle.osdraft.specs.declared.shapes.CoreText.{CoreText}
 use Rattle.osdraft.specs.declared.shapes.TaskText.{TaskText}
@@ -33,7 +35,7 @@ byte-at_most n = byte-at_most-if (leb n 255) n
 pub is-byte : (low high : ℕ) (number : Option ℕ) → is_between low high number ≡ true → high ≤ 255 → IsByte number
 is-byte low high None h small = absurd (true≢false (sym h))
 is-byte low high (Some n) h small =
-    let most : n ≤ high = leb-true n high (and_parts (leb low n) (leb n high) h).1 in
+    let most : n ≤ high = (between low high n h).1 in
     ap Some (byte-small n (omega arith))
 
 pub task-bytes : (s : TaskSizes) → is_task_within s ≡ true → IsByte s.priority × IsByte s.activations
@@ -41,7 +43,7 @@ task-bytes s h =
     let numbers = and_parts _ _ (and_parts _ _ h).0 in
     (is-byte _ _ s.priority numbers.0 (omega arith), is-byte _ _ s.activations numbers.1 (omega arith))
 
-pub core-bytes : (s : CoreSizes) → is_core_within s ≡ true → IsByte s.number × (list_all (is_between 0 255) s.start ≡ true) × (list_all is_task_within s.tasks ≡ true)
+pub core-bytes : (s : CoreSizes) → is_core_within s ≡ true → IsByte s.number × (list_all is_start s.start ≡ true) × (list_all is_task_within s.tasks ≡ true)
 core-bytes s h =
     let tasks = and_parts _ (list_all is_task_within s.tasks) h in
     let numbers = and_parts _ _ (and_parts _ _ tasks.0).0 in
@@ -65,8 +67,7 @@ pub cores_counted : (cores : List CoreText) → length cores ≡ length (map cor
 cores_counted cores = sym (length-map cores core_sizes)
 
 pub list_all-by : {X Y : Type 0} (p : X → Bool) (q : Y → Bool) (f : X → Y) → ((x : X) → p x ≡ true → q (f x) ≡ true) → (xs : List X) → list_all p xs ≡ true → list_all q (map f xs) ≡ true
-list_all-by p q f each [] h = refl
-list_all-by p q f each (x ∷ xs) h = let parts = and_parts (p x) (list_all p xs) h in and_from _ _ (each x parts.0) (list_all-by p q f each xs parts.1)
+list_all-by p q f each xs h = list_all-map q f xs ∙ all-weaker p (λ x. q (f x)) each xs h
 
 pub list_all-total : {X Y : Type 0} (q : Y → Bool) (f : X → Y) → ((x : X) → q (f x) ≡ true) → (xs : List X) → list_all q (map f xs) ≡ true
 list_all-total q f each [] = refl
@@ -106,7 +107,7 @@ module _ (objects : List Declaration) where
       let number : Some (byte_of core.id) ≡ core.id = bytes.0 in
       rw (
         number,
-        map-back number_of number_id (is_between 0 255) (λ n low. is-byte _ _ n low (omega arith)) core.start bytes.1,
+        map-back number_of number_id is_start (λ n low. is-byte _ _ n low (omega arith)) core.start bytes.1,
         map-same limits.task_sizes (task_plan objects) task_sizes (λ task. is_task_within (task_sizes task)) task-numbers core.tasks (tasks_mapped core.tasks ∙ bytes.2),
       ) refl
 
@@ -129,10 +130,7 @@ id-byte core h = (core-bytes (core_sizes core) h).0
 same-bytes : (a b : Option ℕ) → IsByte a → IsByte b → same_number a b ≡ eqb (byte_of a) (byte_of b)
 same-bytes None b in_a in_b = cc
 same-bytes (Some n) None in_a in_b = cc
-same-bytes (Some n) (Some m) in_a in_b =
-    let first : byte_of (Some n) ≡ n = cc in
-    let second : byte_of (Some m) ≡ m = cc in
-    rw (first, second) refl
+same-bytes (Some n) (Some m) in_a in_b = rw (ap (λ o. unwrap_or o 0) in_a, ap (λ o. unwrap_or o 0) in_b) refl
 
 pub bytes-equal : (a b : Option ℕ) → same_number a b ≡ true → eqb (byte_of a) (byte_of b) ≡ true
 bytes-equal None b same = absurd (true≢false (sym same))

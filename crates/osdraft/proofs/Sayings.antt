@@ -8,17 +8,16 @@ use Rattle.osplan.specs.declared.plans.Task.{Task}
 use Rattle.osplan.specs.Expressible as said
 use Rattle.osbase.specs.Names.{is_name}
 use Rattle.osplan.specs.Expressible.{mode_name, is_only_mode}
-use Rattle.osplan.specs.declared.faults.ConfFault.TheVariants.{Limit, DuplicateName}
 use Rattle.osdraft.specs.declared.shapes.ConfigText.{ConfigText}
 use Rattle.osdraft.specs.declared.shapes.CoreText.{CoreText}
 use Rattle.osdraft.specs.declared.shapes.TaskText.{TaskText}
 use Rattle.osread.specs.Faults.{failing}
 use Rattle.osdraft.specs.declared.declarations.Declaration.{Declaration}
-use Rattle.osdraft.specs.Check.{has_named_tasks, is_text_within, are_numbers_distinct, is_each_once, tests_of}
+use Rattle.osdraft.specs.Check.{has_named_tasks, are_numbers_distinct, tests_of}
 use Rattle.osdraft.specs.Declarations.{task_declaration, declared_by, declarations}
 use Rattle.osdraft.specs.Meaning.{only_mode, task_plan, core_plan, plan_of}
 use Rattle.osdraft.proofs.Numbers.{list_all-by, list_all-total}
-use Rattle.osdraft.proofs.Bounds.{row-passes}
+use Rattle.osdraft.proofs.Bounds.{faultless}
 
 pub any-map : {X Y : Type 0} (p : Y → Bool) (f : X → Y) (xs : List X) → list_any p (map f xs) ≡ list_any (λ x. p (f x)) xs
 any-map p f [] = refl
@@ -46,8 +45,6 @@ core-said objects core named =
 
 pub expressible-of : (t : ConfigText) → list_all has_named_tasks t.cores ≡ true → failing (tests_of t) ≡ [] → said.is_expressible (plan_of t) ≡ true
 expressible-of t named none =
-    let first = row-passes Limit (is_text_within t) _ none in
-    let second = row-passes DuplicateName (is_each_once t) _ first.1 in
-    let once = and_parts (are_numbers_distinct t.cores) _ second.0 in
+    let once = and_parts (are_numbers_distinct t.cores) _ (faultless t none).1 in
     let objects = declarations t.cores in
     and_from _ _ (list_all-by has_named_tasks said.is_core_expressible (core_plan objects) (core-said objects) t.cores named) (ap (λ names. said.are_distinct (mode_name ∷ names)) (names-kept objects t.cores) ∙ once.1)

@@ -4,7 +4,7 @@ ghost use Rattle.std.specs.Prelude.{◌≡◌, ◌==◌, ◌&&◌, true, false, 
 ghost use Rattle.std.specs.List.{list_all, list_any, slice_split};
 ghost use Rattle.osdraft.specs.declared.shapes.CoreText.{CoreText as Core};
 ghost use Rattle.osdraft.specs.declared.shapes.TaskText.{TaskText as Task};
-ghost use Rattle.osplan.specs.Limits.{is_between, is_task_within, is_core_within, is_within};
+ghost use Rattle.osplan.specs.Limits.{is_between, is_start, is_task_within, is_core_within, is_within};
 ghost use Rattle.osread.specs.Faults.{failing, first_fault};
 ghost use Rattle.osdraft.specs.Declarations.{declarations};
 ghost use Rattle.osdraft.specs.Operation.{is_operation_known};
@@ -43,7 +43,7 @@ fn is_task_within(task: &TaskText) -> bool
 }
 
 fn are_starts_within(numbers: &[Whole]) -> bool
-    ensures { result ≡ list_all (is_between 0 255) numbers.now }
+    ensures { result ≡ list_all is_start numbers.now }
 {
     numbers.iter().all(|number| is_between(0, 255, *number))
 }

@@ -1,7 +1,7 @@
 -- What the tests of a configuration say, by name, and what a kernel needs of a core.
-use Rattle.std.proofs.Common.{◌≡◌, ◌≤◌, true, nat_eq, nat_le, nat_lt, List, [], ◌∷◌, length, map, Some, is_some, IsTrue, sym, ◌∙◌, arith, sum_by}
+use Rattle.std.proofs.Common.{◌≡◌, ℕ, ◌≤◌, true, nat_eq, nat_le, nat_lt, List, [], ◌∷◌, length, map, Some, is_some, IsTrue, sym, ◌∙◌, arith, sum_by}
 use Rattle.std.specs.List.{list_all}
-use Rattle.std.proofs.lemmas.Bool.{and_parts, leb-true, lt-ltb}
+use Rattle.std.proofs.lemmas.Bool.{and_parts, leb-true, le-leb, lt-ltb}
 use Rattle.std.proofs.lemmas.List.{length-map}
 use Rattle.std.proofs.lemmas.List.Folds.{list_all-map}
 use Rattle.osbase.specs.declared.references.CoreId.{CoreId}
@@ -10,7 +10,7 @@ use Rattle.osplan.specs.declared.plans.Plan.{Plan}
 use Rattle.osplan.specs.declared.plans.Core.{Core}
 use Rattle.osplan.specs.declared.plans.Task.{Task}
 use Rattle.osplan.specs.View.{core_of}
-use Rattle.osplan.specs.Limits.{task_sizes, core_sizes, sizes_of, is_task_within, is_core_within, is_within, is_core_known, are_cores_distinct, is_within_limits}
+use Rattle.osplan.specs.Limits.{is_between, task_sizes, core_sizes, sizes_of, is_task_within, is_core_within, is_within, is_core_known, are_cores_distinct, is_within_limits}
 use Rattle.osplan.specs.Expressible.{are_mode_name, is_in_only_mode, are_distinct, declared_names, is_task_expressible, is_core_expressible, is_expressible}
 use Rattle.osplan.proofs.Tests.{all-weaker, find-passes, none-from}
 
@@ -80,37 +80,35 @@ pub record FitsKernel (core : Core) : Type 0 where
   pub some : list_all (λ (t : Task). nat_le 1 t.activations) core.tasks ≡ true
   pub activations : sum_by (λ (t : Task). t.activations) core.tasks ≤ 64
 
--- The limits of a task's numbers.
-priority-low : (task : Task) → is_task_within (task_sizes task) ≡ true → nat_lt task.priority 32 ≡ true
-priority-low task h =
-    let le = leb-true task.priority 31 (and_parts (nat_le 0 task.priority) _ (and_parts _ _ (and_parts _ _ h).0).0).1 in
-    lt-ltb task.priority 32 (omega arith)
+pub between : (low high n : ℕ) → is_between low high (Some n) ≡ true → (low ≤ n) × (n ≤ high)
+between low high n h = let parts = and_parts (nat_le low n) (nat_le n high) h in (leb-true low n parts.0, leb-true n high parts.1)
 
-activations-some : (task : Task) → is_task_within (task_sizes task) ≡ true → nat_le 1 task.activations ≡ true
-activations-some task h = (and_parts (nat_le 1 task.activations) _ (and_parts _ _ (and_parts _ _ h).0).1).0
+task-fits : (task : Task) → is_task_within (task_sizes task) ≡ true → (nat_lt task.priority 32 ≡ true) × (nat_le 1 task.activations ≡ true) × (task.activations ≤ 64)
+task-fits task h =
+    let numbers = and_parts _ _ (and_parts _ _ h).0 in
+    let priority = between _ _ task.priority numbers.0 in
+    let activations = between _ _ task.activations numbers.1 in
+    (lt-ltb task.priority 32 (omega arith), le-leb 1 task.activations (omega arith), omega arith)
 
-activations-low : (task : Task) → is_task_within (task_sizes task) ≡ true → task.activations ≤ 64
-activations-low task h = leb-true task.activations 64 (and_parts (nat_le 1 task.activations) _ (and_parts _ _ (and_parts _ _ h).0).1).1
-
--- those of one task at most
-sum-low : (tasks : List Task) → length tasks ≤ 1 → list_all (λ (t : Task). is_task_within (task_sizes t)) tasks ≡ true → sum_by (λ (t : Task). t.activations) tasks ≤ 64
-sum-low [] few within = omega arith
-sum-low (task ∷ []) few within = let low : task.activations ≤ 64 = activations-low task (and_parts _ true within).0 in omega arith
-sum-low (task ∷ other ∷ tasks) few within = absurd (omega arith)
+-- The limits of one task at most.
+sum-fits : (tasks : List Task) → length tasks ≤ 1 → list_all (λ (t : Task). is_task_within (task_sizes t)) tasks ≡ true → sum_by (λ (t : Task). t.activations) tasks ≤ 64
+sum-fits [] few within = omega arith
+sum-fits (task ∷ []) few within = let low : task.activations ≤ 64 = (task-fits task (and_parts _ true within).0).2 in omega arith
+sum-fits (task ∷ other ∷ tasks) few within = absurd (omega arith)
 
 pub fits : (core : Core) → is_core_within (core_sizes core) ≡ true → FitsKernel core
 fits core h =
     let tasks = and_parts _ (list_all is_task_within (map task_sizes core.tasks)) h in
-    let few = and_parts _ (nat_le (length (map task_sizes core.tasks)) 1) tasks.0 in
-    let number : core.id.number ≤ 7 = leb-true core.id.number 7 (and_parts (nat_le 0 core.id.number) _ (and_parts _ _ few.0).0).1 in
-    let each : list_all (λ (t : Task). is_task_within (task_sizes t)) core.tasks ≡ true = sym (list_all-map is_task_within task_sizes core.tasks) ∙ tasks.1 in
-    let count : length core.tasks ≤ 1 = rw (← length-map core.tasks task_sizes) (leb-true (length (map task_sizes core.tasks)) 1 few.1) in
+    let few = and_parts _ _ tasks.0 in
+    let number = between _ _ core.id.number (and_parts _ _ few.0).0 in
+    let count = leb-true (length (map task_sizes core.tasks)) _ few.1 in
+    let each = sym (list_all-map is_task_within task_sizes core.tasks) ∙ tasks.1 in
     record {
       number = lt-ltb core.id.number 16 (omega arith);
-      tasks = omega arith;
-      priorities = all-weaker _ _ priority-low core.tasks each;
-      some = all-weaker _ _ activations-some core.tasks each;
-      activations = sum-low core.tasks count each;
+      tasks = omega (arith, length-map core.tasks task_sizes);
+      priorities = all-weaker _ _ (λ t h. (task-fits t h).0) core.tasks each;
+      some = all-weaker _ _ (λ t h. (task-fits t h).1) core.tasks each;
+      activations = sum-fits core.tasks (omega (arith, length-map core.tasks task_sizes)) each;
     }
 
 -- Each configured core fits.

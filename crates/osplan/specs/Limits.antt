@@ -47,11 +47,14 @@ is_between low high (Some n) = nat_le low n && nat_le n high
 abbrev pub is_task_within : TaskSizes → Bool
 is_task_within s = is_between 0 31 s.priority && is_between 1 64 s.activations && nat_le s.operations 256
 
--- A core: number 0 to 7 [own]; the cores that it starts, configured or not, have numbers 0 to 255 [AUTOSAR SWS OS 4.x, StartCore;
--- the most is own]; at most one task so far [own], so its activation limits sum to at most 64.
+-- A number in a start list, of a core that is configured or not: 0 to 255 [AUTOSAR SWS OS 4.x, StartCore; the most is own].
+abbrev pub is_start : Option ℕ → Bool
+is_start number = is_between 0 255 number
+
+-- A core: number 0 to 7 [own], and at most one task so far [own], so that its activation limits sum to at most 64.
 abbrev pub is_core_within : CoreSizes → Bool
 is_core_within s =
-    is_between 0 7 s.number && list_all (is_between 0 255) s.start
+    is_between 0 7 s.number && list_all is_start s.start
     && nat_le (length s.tasks) 1 && list_all is_task_within s.tasks
 
 -- The whole: 1 to 8 application modes, mailboxes of 1 to 16 envelopes, 1 to 8 cores. [own]

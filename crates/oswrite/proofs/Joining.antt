@@ -1,8 +1,9 @@
 -- Texts that are joined by a byte, and cut at it again.
-use Rattle.std.proofs.Common.{◌≡◌, ℕ, true, not, ◌==◌, List, [], ◌∷◌, ◌++◌, length, map, Result, Ok, Err, IfOk, refl, ap, ◌∙◌}
+use Rattle.std.proofs.Common.{◌≡◌, ℕ, true, not, ◌==◌, List, [], ◌∷◌, ◌++◌, length, map, Result, Ok, Err, IfOk, refl, sym, ap, ◌∙◌}
 use Rattle.std.specs.List.{list_all, slice_split, join_by, flat_map}
 use Rattle.std.proofs.lemmas.Bool.{and_parts, not-true}
 use Rattle.std.proofs.lemmas.List.{append-nil}
+use Rattle.std.proofs.lemmas.List.Folds.{flat_map-map}
 use Rattle.osforms.proofs.Joining.{has_none, split-lone, split-cut, some-more}
 use Rattle.osread.specs.Reading.{parts_of}
 
@@ -12,23 +13,12 @@ if_ok P Q (Err e) p imply = p
 
 -- ---- joined pieces are told by their texts
 
-after-pieces : {X Y : Type 0} (f : X → List ℕ) (g : Y → List ℕ) (separator : List ℕ) (xs : List X) (ys : List Y) → map f xs ≡ map g ys → flat_map (λ x. separator ++ f x) xs ≡ flat_map (λ y. separator ++ g y) ys
-after-pieces f g separator [] [] e = refl
-after-pieces f g separator [] (y ∷ ys) e = cc
-after-pieces f g separator (x ∷ xs) [] e = cc
-after-pieces f g separator (x ∷ xs) (y ∷ ys) e =
-    let first : f x ≡ g y = cc in
-    let rest : map f xs ≡ map g ys = cc in
-    ap (λ text. separator ++ text ++ flat_map (λ x. separator ++ f x) xs) first ∙ ap (λ text. separator ++ g y ++ text) (after-pieces f g separator xs ys rest)
+join-map : {X : Type 0} (f : X → List ℕ) (separator : List ℕ) (xs : List X) → join_by f separator xs ≡ join_by (λ text. text) separator (map f xs)
+join-map f separator [] = refl
+join-map f separator (x ∷ xs) = ap (λ text. f x ++ text) (sym (flat_map-map (λ text. separator ++ text) f xs))
 
 pub join-pieces : {X Y : Type 0} (f : X → List ℕ) (g : Y → List ℕ) (separator : List ℕ) (xs : List X) (ys : List Y) → map f xs ≡ map g ys → join_by f separator xs ≡ join_by g separator ys
-join-pieces f g separator [] [] e = refl
-join-pieces f g separator [] (y ∷ ys) e = cc
-join-pieces f g separator (x ∷ xs) [] e = cc
-join-pieces f g separator (x ∷ xs) (y ∷ ys) e =
-    let first : f x ≡ g y = cc in
-    let rest : map f xs ≡ map g ys = cc in
-    ap (λ text. text ++ flat_map (λ x. separator ++ f x) xs) first ∙ ap (λ text. g y ++ text) (after-pieces f g separator xs ys rest)
+join-pieces f g separator xs ys e = join-map f separator xs ∙ ap (join_by (λ text. text) separator) e ∙ sym (join-map g separator ys)
 
 -- ---- cutting
 

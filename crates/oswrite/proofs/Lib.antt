@@ -1,4 +1,3 @@
-pub mod Built
 pub mod Joining
 pub mod Formed
 pub mod Reshaped

@@ -1,11 +1,10 @@
 -- What the text of a configuration means is the configuration.
-use Rattle.std.proofs.Common.{◌≡◌, ℕ, ◌<◌, ◌≤◌, Bool, true, false, ◌&&◌, nat_lt, List, [], ◌∷◌, length, map, Option, Some, None, unwrap_or, IsTrue, refl, sym, ap, ◌∙◌, arith}
-use Rattle.std.specs.List.{list_all, flat_map}
+use Rattle.std.proofs.Common.{◌≡◌, ℕ, ◌<◌, ◌≤◌, Bool, true, false, ◌&&◌, nat_lt, List, length, map, Option, Some, None, unwrap_or, IsTrue, refl, sym, ap, ◌∙◌, arith}
+use Rattle.std.specs.List.{list_all}
 use Rattle.std.specs.Option.{option_map_or}
 use Rattle.std.proofs.lemmas.Bool.{and_parts, ltb-true, true≢false, eqb-true}
 use Rattle.std.proofs.lemmas.List.Folds.{list_all-map}
 use Rattle.osbase.specs.declared.references.CoreId.{CoreId}
-use Rattle.osbase.specs.declared.references.ModeId.{ModeId}
 use Rattle.osbase.specs.declared.objects.ObjectKind.{ObjectKind}
 use Rattle.osbase.specs.declared.objects.Place.{Place}
 use Rattle.osbase.specs.declared.objects.Object.{Object}
@@ -22,7 +21,7 @@ use Rattle.osplan.specs.declared.plans.CoreMode.{CoreMode}
 use Rattle.osplan.specs.declared.plans.CoreMode.TheVariants.{Named, DontCare}
 use Rattle.osplan.specs.View.{core_of}
 use Rattle.osplan.specs.Limits as limits
-use Rattle.osplan.specs.Limits.{task_sizes, core_sizes, number_of, is_between, is_task_within, is_core_within}
+use Rattle.osplan.specs.Limits.{task_sizes, core_sizes, number_of, is_start, is_task_within, is_core_within}
 use Rattle.osplan.specs.Expressible as said
 use Rattle.osplan.proofs.Tests.{all-both, all-weaker, find-holds, find-passes}
 use Rattle.osplan.proofs.Distinct.{distinct-back}
@@ -144,20 +143,35 @@ module _ (plan : Plan) (inside : IsTrue (limits.is_within_limits plan)) (sayable
       let bytes = task-bytes (task_sizes task) kept.within in
       let priority : byte_of (Some task.priority) ≡ task.priority = ap (λ o. unwrap_or o 0) bytes.0 in
       let activations : byte_of (Some task.activations) ≡ task.activations = ap (λ o. unwrap_or o 0) bytes.1 in
-      rw (priority, activations, map-back (λ (name : List ℕ). only_mode) (name_of_mode plan) said.is_only_mode (λ m e. sym (mode-is m e)) task.auto kept.auto,
-      script-back task.script kept.known, map-back (op_of objects) (op_text plan) (limits.is_op_known plan) op-back task.script kept.known) refl
+      rw (
+        priority,
+        activations,
+        map-back (λ (name : List ℕ). only_mode) (name_of_mode plan) said.is_only_mode (λ m e. sym (mode-is m e)) task.auto kept.auto,
+        script-back task.script kept.known,
+        map-back (op_of objects) (op_text plan) (limits.is_op_known plan) op-back task.script kept.known,
+      ) refl
 
   core-back : (core : Core) → is_kept_core plan core ≡ true → core_plan objects (core_said plan core) ≡ core
   core-back core h =
       let kept = kept-core plan core h in
       let bytes = core-bytes (core_sizes core) kept.within in
-      rw (id-back core.id bytes.0, mode-back core.mode kept.said.mode,
-      map-back number_id number_of (λ id. is_between 0 255 (number_of id)) (λ id e. id-back id (is-byte _ _ (number_of id) e (omega arith))) core.start (sym (list_all-map (is_between 0 255) number_of core.start) ∙ bytes.1),
-      map-back (task_plan objects) (task_said plan) (is_kept_task plan) task-back core.tasks kept.tasks, kept.said.isrs, kept.said.alarms, kept.said.tables) refl
+      rw (
+        id-back core.id bytes.0,
+        mode-back core.mode kept.said.mode,
+        map-back number_id number_of (λ id. is_start (number_of id)) (λ id e. id-back id (is-byte _ _ (number_of id) e (omega arith))) core.start (sym (list_all-map is_start number_of core.start) ∙ bytes.1),
+        map-back (task_plan objects) (task_said plan) (is_kept_task plan) task-back core.tasks kept.tasks,
+        kept.said.isrs,
+        kept.said.alarms,
+        kept.said.tables,
+      ) refl
 
   pub plan-back : plan_of (config_said plan) ≡ plan
   plan-back =
       let master : plan.master.number < 16 = master-low plan inside in
       let cap : byte_of (Some plan.cap) ≡ plan.cap = ap (λ o. unwrap_or o 0) (cap-byte (limits.sizes_of plan) (limit-parts plan inside).sizes) in
-      rw (cap, id-back plan.master (ap Some (byte-small plan.master.number (omega arith))),
-      map-back (core_plan objects) (core_said plan) (is_kept_core plan) core-back plan.cores (kept-cores plan inside sayable), modes-are plan.modes parts.modes) refl
+      rw (
+        cap,
+        id-back plan.master (ap Some (byte-small plan.master.number (omega arith))),
+        map-back (core_plan objects) (core_said plan) (is_kept_core plan) core-back plan.cores (kept-cores plan inside sayable),
+        modes-are plan.modes parts.modes,
+      ) refl
