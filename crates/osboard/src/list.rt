@@ -1,11 +1,10 @@
 //! The board of a listed run, in which one thread plays all cores.
 
 ghost use Rattle.std.specs.Prelude.{◌≡◌, Some};
-ghost use Rattle.osboard.specs.declared.calls.BoardCall.{BoardCall};
-ghost use Rattle.osboard.specs.Boards.{ask_halt_call, board_after, drain_call, enter_call, first_asked, first_board, look_call, look_halt_call, one_board, ready_call, start_answer, start_call, with_core, with_mode};
+ghost use Rattle.osboard.specs.Boards.{ask_halt_call, board_after, board_reply, drain_call, enter_call, first_asked, first_board, look_call, look_halt_call, one_board, ready_call, start_answer, start_call, with_core, with_mode};
 ghost use Rattle.osseat.specs.Histories.{Continues};
 
-use crate::calls::{BoardState, BoardView, MODES, ModeSet};
+use crate::calls::{BoardCall, BoardReply, BoardState, BoardView, MODES, ModeSet};
 use osbase::{CORES, CoreId, CoreSet, Status};
 use osplan::CoreMode;
 use std::marker::Model;
@@ -113,6 +112,31 @@ impl BoardList {
         let decided = self.state.halt.unwrap_or((caller, status));
         self.state.halt = Some(decided);
         decided
+    }
+
+    /// Any of the seven calls.
+    pub fn call(&mut self, caller: CoreId, call: BoardCall) -> BoardReply
+        ensures answer { result ≡ board_reply caller call self.old }
+        ensures after { self.new ≡ board_after caller call self.old }
+    {
+        match call {
+            BoardCall::Start(core) => BoardReply::Started(self.start(caller, core)),
+            BoardCall::Enter(mode) => {
+                self.enter(caller, mode);
+                BoardReply::Acknowledged
+            }
+            BoardCall::MakeReady => {
+                self.ready(caller);
+                BoardReply::Acknowledged
+            }
+            BoardCall::Drain => {
+                self.drain(caller);
+                BoardReply::Acknowledged
+            }
+            BoardCall::Look => BoardReply::Shown(self.look()),
+            BoardCall::AskHalt(status) => BoardReply::Decided(self.ask_halt(caller, status)),
+            BoardCall::LookHalt => BoardReply::Halting(self.look_halt()),
+        }
     }
 
     /// Who asked first for a shutdown of all cores, and with which status; none where no core has. It does not

@@ -1,8 +1,7 @@
 -- Every world fits: what it was before a turn did, and so does what the turn appends.
-use Rattle.std.proofs.Common.{◌≡◌, Bool, true, false, ◌&&◌, ◌||◌, cond, Option, Some, None, is_some, List, [], ◌∷◌, ◌++◌, length, refl, sym, ap, subst, ◌∙◌, arith, append-nil}
+use Rattle.std.proofs.Common.{◌≡◌, Bool, true, false, ◌&&◌, ◌||◌, cond, Option, Some, None, List, [], ◌∷◌, ◌++◌, length, refl, sym, ap, subst, ◌∙◌, arith, append_assoc, append-nil}
 use Rattle.std.specs.List.{slice_get}
 use Rattle.std.proofs.lemmas.Bool.{eq-eqb, false≢true}
-use Rattle.std.proofs.lemmas.List.Elements.{filter-append}
 use Rattle.std.proofs.lemmas.Option.{slice_get_past}
 use Rattle.osbase.specs.declared.references.CoreId.{CoreId}
 use Rattle.osbase.specs.declared.messages.Envelope.{Envelope}
@@ -13,35 +12,52 @@ use Rattle.osbase.specs.declared.turns.CoreStimuli.{CoreStimuli}
 use Rattle.osbase.specs.History.{History, front_envelope, outbox, posted, received, received_count, same_core}
 use Rattle.osbase.specs.Runs.{stimuli_of}
 use Rattle.osplan.specs.declared.plans.Plan.{Plan}
-use Rattle.osplan.specs.declared.plans.CoreMode.{CoreMode}
-use Rattle.osplan.specs.View.{view_of}
+use Rattle.osplan.specs.View.{View, view_of}
 use Rattle.osplan.proofs.Starting.{and-true}
 use Rattle.osbase.proofs.Same.{same_core-true}
-use Rattle.oskernel.specs.Step.{takes, outbox_size}
+use Rattle.oskernel.specs.Step.{after, history_from, takes, outbox_size}
 use Rattle.osseat.specs.Histories.{IsLegal, calls_by, entry}
-use Rattle.osseat.proofs.Steps.{calls_by-append, calls_by-hit, legal_snoc, missed}
-use Rattle.osboard.specs.declared.calls.BoardCall.{BoardCall}
+use Rattle.osseat.proofs.Steps.{calls_by-append, calls_by-hit, calls_by-miss, legal_snoc}
 use Rattle.osboard.specs.Boards.{BoardEntry, board_reply, first_board, one_board}
-use Rattle.osworld.specs.Fits.{FitsBy, ids_of, Allows, AreAnswered, asking, call_of, Fits, FitsCore, has_drained, IsBeginning, is_drain, stimuli_in}
-use Rattle.osworld.specs.World.{World, appends, board_in, first_world, history_in, items_in, stimulus_count, with_call, world}
+use Rattle.osworld.specs.declared.asks.Ask.{Ask}
+use Rattle.osworld.specs.declared.asks.Ask.TheVariants.{OfBoard}
+use Rattle.osworld.specs.declared.asks.Answer.{Answer}
+use Rattle.osworld.specs.declared.asks.Answer.TheVariants.{Replied}
+use Rattle.osworld.specs.Asking.{told_by}
+use Rattle.osworld.specs.Fits.{FitsBy, ids_of, AreAnswered, Fits, FitsCore, Leads, has_drained, IsBeginning, is_drain, stimuli_in}
+use Rattle.osworld.specs.World.{World, answer_in, appends, board_in, first_world, history_in, items_in, stimulus_count, world}
 use Rattle.osworld.proofs.Beginnings.{begins-longer, begins-next, begins-through, begins-whole}
 use Rattle.osworld.proofs.Listed.{items_by, list_of, list_of-same, list_of-other, history_from-push}
 use Rattle.osworld.proofs.Streams.{is_from, is_post_to}
 use Rattle.osworld.proofs.Carrying.{and_false, history-same, history-other, posted-in}
 use Rattle.osworld.proofs.Started.{no_history, nothing_of}
 use Rattle.osworld.proofs.Turns.{turns-keep}
-use Rattle.osworld.proofs.Fitting.{envelope_in, has_drained-push, IsNext, Known, length-received, length-stimuli_in, named-known, received-is, solo-push, stimuli_in-push}
+use Rattle.osworld.proofs.Fitting.{envelope_in, has_drained-push, IsNext, Known, length-received, length-stimuli_in, next-known, received-is, solo-push, stimuli_in-push}
 
 -- the world's lists fit by its own calls of the board
 abbrev WorldFits : Plan → List CoreStimuli → World → Type 0
 WorldFits plan stimuli w = FitsBy plan stimuli w.items w.calls
 
 -- a core's calls of the board, and one more
-answered-push : (id : CoreId) (mode : CoreMode) (is : List Item) (es : List BoardEntry) (i : Item) (e : BoardEntry) → AreAnswered id mode is es → call_of mode i ≡ Some e.call → Allows id e.reply i → AreAnswered id mode (is ++ i ∷ []) (es ++ e ∷ [])
-answered-push id mode [] [] i e answered is allowed = (is, allowed, tt)
-answered-push id mode [] (d ∷ es) i e answered is allowed = absurd answered
-answered-push id mode (j ∷ is) [] i e answered call allowed = absurd answered
-answered-push id mode (j ∷ is) (d ∷ es) i e answered call allowed = (answered.0, answered.1, answered-push id mode is es i e answered.2 call allowed)
+answered-push : (v : View) (h : History) (is : List Item) (es : List BoardEntry) (ask : Ask) (answer : Answer) (i : Item) → AreAnswered v h is es → Leads v (history_from v h is) ask answer i → AreAnswered v h (is ++ i ∷ []) (es ++ told_by v.core ask answer)
+answered-push v h [] es ask answer i none leads = (ask, answer, leads, [], ap (λ (xs : List BoardEntry). xs ++ told_by v.core ask answer) none ∙ sym (append-nil (told_by v.core ask answer)), refl)
+answered-push v h (j ∷ is) es ask answer i all leads = (
+  all.0,
+  all.1,
+  all.2,
+  all.3 ++ told_by v.core ask answer,
+  ap (λ (xs : List BoardEntry). xs ++ told_by v.core ask answer) all.4 ∙ append_assoc (told_by v.core all.0 all.1) all.3 (told_by v.core ask answer),
+  answered-push v (after v h j) is all.3 ask answer i all.5 leads,
+)
+
+-- the call of a turn is of the core whose turn it is
+told-own : (core : CoreId) (ask : Ask) (answer : Answer) → calls_by core (told_by core ask answer) ≡ told_by core ask answer
+told-own core (OfBoard call) (Replied reply) = calls_by-hit core (entry core call reply) refl
+told-own core ask answer = refl
+
+told-other : (id core : CoreId) (ask : Ask) (answer : Answer) → same_core core id ≡ false → calls_by id (told_by core ask answer) ≡ []
+told-other id core (OfBoard call) (Replied reply) other = calls_by-miss id (entry core call reply) (λ e. false≢true (sym other ∙ eq-eqb core.number id.number (sym e)))
+told-other id core ask answer other = refl
 
 -- an item from another core is what that one posted next
 next-envelope : (plan : Plan) (stimuli : List CoreStimuli) (w : World) (core from : CoreId) (i : Item) → is_from i from ≡ true → IsNext plan stimuli w core i
@@ -104,9 +120,9 @@ module _ (plan : Plan) (stimuli : List CoreStimuli) (w : World) (core : CoreId) 
       }
 
 -- a world in which a turn appended an item
-module _ (plan : Plan) (stimuli : List CoreStimuli) (w : World) (fits : WorldFits plan stimuli w) (core : CoreId) (item : Item) (p : CoreId × List Item) (listed : list_of core w.items ≡ Some p) (known : Known plan stimuli w core item) (taken : takes outbox_size (view_of plan core) (history_in plan w core) item ≡ true) where
+module _ (plan : Plan) (stimuli : List CoreStimuli) (w : World) (fits : WorldFits plan stimuli w) (core : CoreId) (ask : Ask) (item : Item) (p : CoreId × List Item) (listed : list_of core w.items ≡ Some p) (known : Known plan stimuli w core ask item) (taken : takes outbox_size (view_of plan core) (history_in plan w core) item ≡ true) where
   abbrev next : World
-  next = appends plan w core item
+  next = appends plan w core ask item
 
   items-same : items_in next core ≡ items_in w core ++ item ∷ []
   items-same = ap items_by (list_of-same core item w.items p listed) ∙ ap (λ (o : Option (CoreId × List Item)). items_by o ++ item ∷ []) (sym listed)
@@ -129,14 +145,14 @@ module _ (plan : Plan) (stimuli : List CoreStimuli) (w : World) (fits : WorldFit
       by : (b : Bool) → same_core core to ≡ b → received from (history_in plan next to) ≡ cond (is_from item from && b) (received from (history_in plan w to) ++ envelope_in item) (received from (history_in plan w to))
       by true e =
           subst (λ (c : CoreId). received from (history_in plan next c) ≡ cond (is_from item from && true) (received from (history_in plan w c) ++ envelope_in item) (received from (history_in plan w c))) (same_core-true core to e)
-          (ap (received from) (history-same plan w core item p listed) ∙ received-is (view_of plan core) from item (history_in plan w core)
+          (ap (received from) (history-same plan w core ask item p listed) ∙ received-is (view_of plan core) from item (history_in plan w core)
           ∙ ap (λ (b : Bool). cond b (received from (history_in plan w core) ++ envelope_in item) (received from (history_in plan w core))) (sym (and-true (is_from item from))))
-      by false e = ap (received from) (history-other plan w core item p listed to e) ∙ sym (and_false (is_from item from) _ _)
+      by false e = ap (received from) (history-other plan w core ask item p listed to e) ∙ sym (and_false (is_from item from) _ _)
 
   streams-on : (from to : CoreId) → IsBeginning (received from (history_in plan next to)) (posted to (history_in plan next from))
   streams-on from to =
       subst (λ (xs : List Envelope). IsBeginning xs (posted to (history_in plan next from))) (sym (received-in from to))
-      (subst (λ (ys : List Envelope). IsBeginning (cond (is_from item from && same_core core to) (received from (history_in plan w to) ++ envelope_in item) (received from (history_in plan w to))) ys) (sym (posted-in plan w core item p listed from to))
+      (subst (λ (ys : List Envelope). IsBeginning (cond (is_from item from && same_core core to) (received from (history_in plan w to) ++ envelope_in item) (received from (history_in plan w to))) ys) (sym (posted-in plan w core ask item p listed from to))
       (by (is_from item from) (same_core core to) refl refl))
     where
       front : List Envelope
@@ -161,51 +177,37 @@ module _ (plan : Plan) (stimuli : List CoreStimuli) (w : World) (fits : WorldFit
       by true false is here = longer (same_core core from && is_post_to item to)
       by false b is here = longer (same_core core from && is_post_to item to)
 
-  abbrev called : BoardCall → BoardEntry
-  called call = entry core call (board_reply core call (board_in plan w))
+  abbrev calls : List BoardEntry
+  calls = told_by core ask (answer_in plan w core ask)
 
-  board-on : (o : Option BoardCall) → IsLegal one_board plan.master (with_call core (board_in plan w) o w.calls)
-  board-on None = fits.board
-  board-on (Some call) = legal_snoc one_board (first_board plan.master) w.calls (called call) fits.board refl
+  board-on : (ask : Ask) → IsLegal one_board plan.master (w.calls ++ told_by core ask (answer_in plan w core ask))
+  board-on (OfBoard call) = legal_snoc one_board (first_board plan.master) w.calls (entry core call (board_reply core call (board_in plan w))) fits.board refl
+  board-on ask = subst (λ (es : List BoardEntry). IsLegal one_board plan.master es) (sym (append-nil w.calls)) fits.board
 
-  -- the call of an item is behind those of the core's earlier items, and aside for every other core
-  abbrev mode : CoreMode
-  mode = (view_of plan core).own.mode
-
-  answers-here : (o : Option BoardCall) → call_of mode item ≡ o → AreAnswered core mode (asking mode (items_in w core) ++ cond (is_some o) (item ∷ []) []) (calls_by core (with_call core (board_in plan w) o w.calls))
-  answers-here None e = subst (λ (xs : List Item). AreAnswered core mode xs (calls_by core w.calls)) (sym (append-nil (asking mode (items_in w core)))) (fits.answers core)
-  answers-here (Some call) e =
-      subst (λ (es : List BoardEntry). AreAnswered core mode (asking mode (items_in w core) ++ item ∷ []) es)
-      (sym (calls_by-append core w.calls (called call ∷ []) ∙ ap (λ (es : List BoardEntry). calls_by core w.calls ++ es) (calls_by-hit core (called call) refl)))
-      (answered-push core mode (asking mode (items_in w core)) (calls_by core w.calls) item (called call) (fits.answers core) e (known.answered call e))
-
-  answers-there : (id : CoreId) → same_core core id ≡ false → (o : Option BoardCall) → calls_by id (with_call core (board_in plan w) o w.calls) ≡ calls_by id w.calls
-  answers-there id other None = refl
-  answers-there id other (Some call) = missed id (called call) w.calls (λ e. false≢true (sym other ∙ eq-eqb core.number id.number (sym e)))
-
-  answers-on : (id : CoreId) → AreAnswered id (view_of plan id).own.mode (asking (view_of plan id).own.mode (items_in next id)) (calls_by id next.calls)
-  answers-on id = by (same_core core id) refl
+  answers-on : (id : CoreId) → AreAnswered (view_of plan id) [] (items_in next id) (calls_by id next.calls)
+  answers-on id = subst (λ (es : List BoardEntry). AreAnswered (view_of plan id) [] (items_in next id) es) (sym (calls_by-append id w.calls calls)) (by (same_core core id) refl)
     where
-      by : (b : Bool) → same_core core id ≡ b → AreAnswered id (view_of plan id).own.mode (asking (view_of plan id).own.mode (items_in next id)) (calls_by id next.calls)
+      by : (b : Bool) → same_core core id ≡ b → AreAnswered (view_of plan id) [] (items_in next id) (calls_by id w.calls ++ calls_by id calls)
       by true e =
-          subst (λ (c : CoreId). AreAnswered c (view_of plan c).own.mode (asking (view_of plan c).own.mode (items_in next c)) (calls_by c next.calls)) (same_core-true core id e)
-          (subst (λ (xs : List Item). AreAnswered core mode xs (calls_by core next.calls)) (sym (ap (asking mode) items-same ∙ filter-append (λ (i : Item). is_some (call_of mode i)) (items_in w core) (item ∷ [])))
-          (answers-here (call_of mode item) refl))
+          subst (λ (c : CoreId). AreAnswered (view_of plan c) [] (items_in next c) (calls_by c w.calls ++ calls_by c calls)) (same_core-true core id e)
+          (subst (λ (xs : List Item). AreAnswered (view_of plan core) [] xs (calls_by core w.calls ++ calls_by core calls)) (sym items-same)
+          (subst (λ (es : List BoardEntry). AreAnswered (view_of plan core) [] (items_in w core ++ item ∷ []) (calls_by core w.calls ++ es)) (sym (told-own core ask (answer_in plan w core ask)))
+          (answered-push (view_of plan core) [] (items_in w core) (calls_by core w.calls) ask (answer_in plan w core ask) item (fits.answers core) known.leads)))
       by false e =
-          subst (λ (xs : List Item). AreAnswered id (view_of plan id).own.mode (asking (view_of plan id).own.mode xs) (calls_by id next.calls)) (sym (items-other id e))
-          (subst (λ (es : List BoardEntry). AreAnswered id (view_of plan id).own.mode (asking (view_of plan id).own.mode (items_in w id)) es) (sym (answers-there id e (call_of mode item))) (fits.answers id))
+          subst (λ (xs : List Item). AreAnswered (view_of plan id) [] xs (calls_by id w.calls ++ calls_by id calls)) (sym (items-other id e))
+          (subst (λ (es : List BoardEntry). AreAnswered (view_of plan id) [] (items_in w id) es) (sym (ap (λ (es : List BoardEntry). calls_by id w.calls ++ es) (told-other id core ask (answer_in plan w core ask) e) ∙ append-nil (calls_by id w.calls))) (fits.answers id))
 
   fits_on : WorldFits plan stimuli next
-  fits_on = record { cores = cores-on; streams = streams-on; board = board-on (call_of mode item); answers = answers-on }
+  fits_on = record { cores = cores-on; streams = streams-on; board = board-on ask; answers = answers-on }
 
 first-fits : (plan : Plan) (stimuli : List CoreStimuli) → WorldFits plan stimuli (first_world plan)
 first-fits plan stimuli = record {
   cores = λ id. subst (FitsCore plan stimuli id) (sym (nothing_of plan id (ids_of plan))) (record { alone = refl; begins = (stimuli_of stimuli id, refl); drains = λ drained. absurd (false≢true drained) });
   streams = λ from to. subst (λ (h : History). IsBeginning (received from h) (posted to (history_in plan (first_world plan) from))) (sym (no_history plan to)) (posted to (history_in plan (first_world plan) from), refl);
   board = tt;
-  answers = λ id. subst (λ (xs : List Item). AreAnswered id (view_of plan id).own.mode (asking (view_of plan id).own.mode xs) []) (sym (nothing_of plan id (ids_of plan))) tt;
+  answers = λ id. subst (λ (xs : List Item). AreAnswered (view_of plan id) [] xs []) (sym (nothing_of plan id (ids_of plan))) refl;
 }
 
 -- every world fits
 pub world_fits : (plan : Plan) (stimuli : List CoreStimuli) (turns : List (CoreId × Choice)) → Fits plan stimuli (world plan stimuli turns).items
-world_fits plan stimuli turns = ((world plan stimuli turns).calls, turns-keep plan stimuli (WorldFits plan stimuli) (λ w core item p turn fits. fits_on plan stimuli w fits core item p turn.listed (named-known plan stimuli w core turn.choice item turn.names) turn.taken) (first_world plan) turns (first-fits plan stimuli))
+world_fits plan stimuli turns = ((world plan stimuli turns).calls, turns-keep plan stimuli (WorldFits plan stimuli) (λ w core ask item p turn fits. fits_on plan stimuli w fits core ask item p turn.listed (next-known plan stimuli w core turn.choice ask item turn.names) turn.taken) (first_world plan) turns (first-fits plan stimuli))

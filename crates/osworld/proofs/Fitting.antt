@@ -1,5 +1,5 @@
 -- Every world fits: what a turn names fits what the cores and the board came to.
-use Rattle.std.proofs.Common.{◌≡◌, suc, Bool, true, false, ◌||◌, cond, Option, Some, None, option_map, List, [], ◌∷◌, ◌++◌, length, refl, sym, ap, subst, ◌∙◌, arith, length-append}
+use Rattle.std.proofs.Common.{◌≡◌, suc, Bool, true, false, ◌||◌, cond, Option, Some, None, option_map, List, [], ◌∷◌, ◌++◌, length, refl, ap, subst, ◌∙◌, arith, length-append}
 use Rattle.std.specs.List.{slice_get}
 use Rattle.std.proofs.lemmas.Option.{same_Some}
 use Rattle.osbase.specs.declared.statuses.Status.{Status}
@@ -8,7 +8,6 @@ use Rattle.osbase.specs.declared.messages.Envelope.{Envelope}
 use Rattle.osbase.specs.declared.items.Item.{Item}
 use Rattle.osbase.specs.declared.items.Stimulus.{Stimulus}
 use Rattle.osbase.specs.declared.turns.Choice.{Choice}
-use Rattle.osbase.specs.declared.turns.Choice.TheVariants.{Own, Serve, Look}
 use Rattle.osbase.specs.declared.turns.CoreStimuli.{CoreStimuli}
 use Rattle.osbase.specs.declared.histories.Phase.{Phase}
 use Rattle.osbase.specs.History.{History, Took, Printed, Noted, posted, received, received_count, same_core}
@@ -20,12 +19,15 @@ use Rattle.osstate.specs.Readings.{phase_at}
 use Rattle.oskernel.specs.declared.wants.Want.{Want}
 use Rattle.oskernel.specs.Step.{after, history_from, solo_from, takes, outbox_size}
 use Rattle.oskernel.specs.Wants.{want_of}
-use Rattle.osboard.specs.declared.calls.BoardState.{BoardState}
-use Rattle.osboard.specs.declared.calls.BoardCall.{BoardCall}
 use Rattle.osboard.specs.declared.calls.BoardCall.TheVariants.{Drain, Enter, Look, LookHalt, MakeReady, Start}
-use Rattle.osboard.specs.Boards.{agreement_in, board_reply, have_all}
-use Rattle.osworld.specs.World.{World, board_in, going_on, has_room, history_in, items_in, look_named, named, own_named, receiving, serve_named, starting, stimulus_count}
-use Rattle.osworld.specs.Fits.{Allows, call_of, has_drained, is_drain, stimuli_in}
+use Rattle.osboard.specs.Boards.{agreement_in, start_answer}
+use Rattle.osworld.specs.declared.asks.Ask.{Ask}
+use Rattle.osworld.specs.declared.asks.Ask.TheVariants.{OfBoard, Room, Oldest, StartUnknown, TakeStimulus}
+use Rattle.osworld.specs.declared.asks.Answer.{Answer}
+use Rattle.osworld.specs.declared.asks.Answer.TheVariants.{HasRoom, Found}
+use Rattle.osworld.specs.Asking.{comes_to, going_on, look_asked, named_by, own_asked}
+use Rattle.osworld.specs.World.{World, answer_in, board_in, has_room, history_in, items_in, next_in, next_stimulus, stimulus_count}
+use Rattle.osworld.specs.Fits.{Leads, has_drained, is_drain, stimuli_in}
 use Rattle.oskernel.proofs.Holding.{quiet_after}
 use Rattle.osworld.proofs.Streams.{is_from}
 
@@ -36,74 +38,90 @@ IsNext plan stimuli w id Item.Drained = slice_get (stimuli_of stimuli id) (stimu
 IsNext plan stimuli w id (Item.Received from number m) = slice_get (posted id (history_in plan w from)) (received_count from (history_in plan w id)) ≡ Some (record { number = number; message = m })
 IsNext plan stimuli w id item = Unit {0}
 
--- And its call of the board, if it is one, is answered so that the item may be.
-pub record Known (plan : Plan) (stimuli : List CoreStimuli) (w : World) (id : CoreId) (item : Item) : Type 0 where
-  pub follows : IsNext plan stimuli w id item
-  pub answered : (call : BoardCall) → call_of (view_of plan id).own.mode item ≡ Some call → Allows id (board_reply id call (board_in plan w)) item
+-- What a turn comes to is asked by it, and the answer leads to the item.
+comes-parts : (id : CoreId) (phase : Phase) (answers : Ask → Answer) (o : Option Ask) (ask : Ask) (item : Item) → comes_to id phase answers o ≡ Some (ask, item) → (o ≡ Some ask) × (named_by id phase ask (answers ask) ≡ Some item)
+comes-parts id phase answers None ask item e = cc
+comes-parts id phase answers (Some a) ask item e = by (named_by id phase a (answers a)) refl e
+  where
+    by : (n : Option Item) → named_by id phase a (answers a) ≡ n → option_map {U = Ask × Item} (λ (i : Item). (a, i)) n ≡ Some (ask, item) → (Some a ≡ Some ask) × (named_by id phase ask (answers ask) ≡ Some item)
+    by None f e = cc
+    by (Some i) f e =
+        let same = same_Some _ _ e in
+        let this : a ≡ ask = ap (λ (t : Ask × Item). t.0) same in
+        (ap Some this, subst (λ (b : Ask). named_by id phase b (answers b) ≡ Some item) this (f ∙ ap (λ (t : Ask × Item). Some t.1) same))
 
 module _ (plan : Plan) (stimuli : List CoreStimuli) (w : World) (id : CoreId) where
-  abbrev NamedOnly : Option Item → Type 0
-  NamedOnly o = (item : Item) → o ≡ Some item → Known plan stimuli w id item
+  abbrev NextOnly : Option (Ask × Item) → Type 0
+  NextOnly o = (t : Ask × Item) → o ≡ Some t → IsNext plan stimuli w id t.1
 
-  nothing : NamedOnly None
-  nothing item e = cc
+  nothing : NextOnly None
+  nothing t e = cc
 
-  just : (i : Item) → Known plan stimuli w id i → NamedOnly (Some i)
-  just i known item e = subst (Known plan stimuli w id) (same_Some _ _ e) known
+  just : (ask : Ask) (i : Item) → IsNext plan stimuli w id i → NextOnly (Some (ask, i))
+  just ask i next t e = subst (λ (s : Ask × Item). IsNext plan stimuli w id s.1) (same_Some _ _ e) next
 
-  gate : (b : Bool) (i : Item) → (b ≡ true → Known plan stimuli w id i) → NamedOnly (cond b (Some i) None)
-  gate true i known = just i (known refl)
-  gate false i known = nothing
+  abbrev Comes : Phase → Option Ask → Type 0
+  Comes phase o = NextOnly (comes_to id phase (answer_in plan w id) o)
 
-  abbrev board : BoardState
-  board = board_in plan w
+  goes : (phase : Phase) (o : Option Stimulus) → next_stimulus stimuli w id ≡ o → Comes phase (Some (going_on o))
+  goes phase (Some s) e = just (TakeStimulus s) (Item.Stim s) e
+  goes phase None e = just (OfBoard Drain) Item.Drained e
 
-  -- An item that is not a call of the board, and one that is.
-  plain : (i : Item) → IsNext plan stimuli w id i → None ≡ call_of (view_of plan id).own.mode i → Known plan stimuli w id i
-  plain i next none = record { follows = next; answered = λ call e. let no : None ≡ Some call = none ∙ e in cc }
-
-  told : (i : Item) (c : BoardCall) → IsNext plan stimuli w id i → Some c ≡ call_of (view_of plan id).own.mode i → Allows id (board_reply id c board) i → Known plan stimuli w id i
-  told i c next is allows = record { follows = next; answered = λ call e. subst (λ (d : BoardCall). Allows id (board_reply id d board) i) (same_Some _ _ (is ∙ e)) allows }
-
-  starts : (k : CoreId) → NamedOnly (Some (starting (view_of plan id) board k))
-  starts k = by (is_configured (view_of plan id) k) (has_core board.view.started k) refl
+  owns : (phase : Phase) (want : Want) → Comes phase (own_asked (view_of plan id) (next_stimulus stimuli w id) want)
+  owns phase (Want.Start k) = by (is_configured (view_of plan id) k)
     where
-      by : (b c : Bool) → has_core board.view.started k ≡ c → NamedOnly (Some (Item.Began k (cond b (cond c Status.EOsState Status.EOk) Status.EOsId)))
-      by true true e = just _ (told (Item.Began k Status.EOsState) (Start k) tt refl (ap (λ (t : Bool). cond t Status.EOsState Status.EOk) (sym e)))
-      by true false e = just _ (told (Item.Began k Status.EOk) (Start k) tt refl (ap (λ (t : Bool). cond t Status.EOsState Status.EOk) (sym e)))
-      by false c e = just _ (plain (Item.Began k Status.EOsId) tt refl)
-
-  goes : (o : Option Stimulus) → slice_get (stimuli_of stimuli id) (stimulus_count (items_in w id)) ≡ o → NamedOnly (Some (going_on o))
-  goes (Some s) e = just _ (plain (Item.Stim s) e refl)
-  goes None e = just _ (told Item.Drained Drain e refl tt)
-
-  owns : (want : Want) → NamedOnly (own_named plan stimuli w id want)
-  owns (Want.Start k) = starts k
-  owns Want.Enter = just _ (told Item.Entered (Enter (view_of plan id).own.mode) tt refl tt)
-  owns Want.Ready = just _ (told Item.Readied MakeReady tt refl tt)
-  owns (Want.Post to) = gate (has_room plan w id to) (Item.Posted to) (λ e. plain (Item.Posted to) tt refl)
-  owns Want.GoOn = goes (slice_get (stimuli_of stimuli id) (stimulus_count (items_in w id))) refl
-  owns Want.Nothing = nothing
-
-  serves : (from : CoreId) → NamedOnly (serve_named plan w id from)
-  serves from = by (slice_get (posted id (history_in plan w from)) (received_count from (history_in plan w id))) refl
+      by : (b : Bool) → Comes phase (Some (cond b (OfBoard (Start k)) (StartUnknown k)))
+      by true = just (OfBoard (Start k)) (Item.Began k (start_answer (board_in plan w).view k)) (began (has_core (board_in plan w).view.started k))
+        where
+          began : (b : Bool) → IsNext plan stimuli w id (Item.Began k (cond b Status.EOsState Status.EOk))
+          began b = tt
+      by false = just (StartUnknown k) (Item.Began k Status.EOsId) tt
+  owns phase Want.Enter = just (OfBoard (Enter (view_of plan id).own.mode)) Item.Entered tt
+  owns phase Want.Ready = just (OfBoard MakeReady) Item.Readied tt
+  owns phase (Want.Post to) = by (has_room plan w id to)
     where
-      by : (o : Option Envelope) → slice_get (posted id (history_in plan w from)) (received_count from (history_in plan w id)) ≡ o → NamedOnly (option_map (receiving from) o)
-      by (Some e) is = just _ (plain (receiving from e) is refl)
+      by : (b : Bool) → NextOnly (option_map (λ (i : Item). (Room to, i)) (named_by id phase (Room to) (HasRoom b)))
+      by true = just (Room to) (Item.Posted to) tt
+      by false = nothing
+  owns phase Want.GoOn = goes phase (next_stimulus stimuli w id) refl
+  owns phase Want.Nothing = nothing
+
+  serves : (phase : Phase) (from : CoreId) → Comes phase (Some (Oldest from))
+  serves phase from = by (slice_get (posted id (history_in plan w from)) (received_count from (history_in plan w id))) refl
+    where
+      by : (o : Option Envelope) → slice_get (posted id (history_in plan w from)) (received_count from (history_in plan w id)) ≡ o → NextOnly (option_map (λ (i : Item). (Oldest from, i)) (named_by id phase (Oldest from) (Found o)))
+      by (Some e) is = just (Oldest from) (Item.Received from e.number e.message) is
       by None is = nothing
 
-  looks : (phase : Phase) → NamedOnly (look_named id board phase)
-  looks Phase.Off = gate (has_core board.view.started id) Item.On (λ e. told Item.On Look tt refl e)
-  looks Phase.FirstGate = let item = Item.Pass1 (agreement_in board.view.modes) in gate (have_all board.view.started board.view.entered) item (λ e. told item Look tt refl (e, refl))
-  looks Phase.SecondGate = let item = Item.Pass2 board.view.started in gate (have_all board.view.started board.view.ready) item (λ e. told item Look tt refl (e, refl))
-  looks Phase.Drained = gate (have_all board.view.started board.view.drained) Item.PassEnd (λ e. told Item.PassEnd Look tt refl e)
-  looks Phase.Closing = just _ (told (Item.Last board.halt) LookHalt tt refl refl)
+  gate : (b : Bool) (i : Item) → IsNext plan stimuli w id i → NextOnly (option_map (λ (j : Item). (OfBoard Look, j)) (cond b (Some i) None))
+  gate true i next = just (OfBoard Look) i next
+  gate false i next = nothing
+
+  looks : (phase : Phase) → Comes phase (look_asked phase)
+  looks Phase.Off = gate _ Item.On tt
+  looks Phase.FirstGate = gate _ (Item.Pass1 (agreement_in (board_in plan w).view.modes)) tt
+  looks Phase.SecondGate = gate _ (Item.Pass2 (board_in plan w).view.started) tt
+  looks Phase.Drained = gate _ Item.PassEnd tt
+  looks Phase.Closing = just (OfBoard LookHalt) (Item.Last (board_in plan w).halt) tt
   looks phase = nothing
 
-  pub named-known : (choice : Choice) (item : Item) → named plan stimuli w id choice ≡ Some item → Known plan stimuli w id item
-  named-known Own = owns (want_of (view_of plan id) (history_in plan w id))
-  named-known (Serve from) = serves from
-  named-known Look = looks (phase_at (view_of plan id) (history_in plan w id))
+  next-follows : (choice : Choice) → NextOnly (next_in plan stimuli w id choice)
+  next-follows Choice.Own = owns (phase_at (view_of plan id) (history_in plan w id)) (want_of (view_of plan id) (history_in plan w id))
+  next-follows (Choice.Serve from) = serves (phase_at (view_of plan id) (history_in plan w id)) from
+  next-follows Choice.Look = looks (phase_at (view_of plan id) (history_in plan w id))
+
+-- What is known of an item to which a turn of this core leads.
+pub record Known (plan : Plan) (stimuli : List CoreStimuli) (w : World) (id : CoreId) (ask : Ask) (item : Item) : Type 0 where
+  pub follows : IsNext plan stimuli w id item
+  pub leads : Leads (view_of plan id) (history_in plan w id) ask (answer_in plan w id ask) item
+
+pub next-known : (plan : Plan) (stimuli : List CoreStimuli) (w : World) (id : CoreId) (choice : Choice) (ask : Ask) (item : Item) → next_in plan stimuli w id choice ≡ Some (ask, item) → Known plan stimuli w id ask item
+next-known plan stimuli w id choice ask item names =
+    let parts = comes-parts id (phase_at (view_of plan id) (history_in plan w id)) (answer_in plan w id) _ ask item names in
+    record {
+      follows = next-follows plan stimuli w id choice (ask, item) names;
+      leads = record { choice = choice; next = next_stimulus stimuli w id; asks = parts.0; names = parts.1 };
+    }
 
 -- A list's stimuli, and one more item.
 pub stimuli_in-push : (items : List Item) (item : Item) → stimuli_in (items ++ item ∷ []) ≡ stimuli_in items ++ stimuli_in (item ∷ [])

@@ -22,7 +22,7 @@ Turns = List (CoreId × Choice)
 pub world_from-grows : (plan : Plan) (stimuli : List CoreStimuli) (w : World) (ts : Turns) → item_total w ≤ item_total (world_from plan stimuli w ts)
 world_from-grows plan stimuli w ts =
     turns-keep plan stimuli (λ (next : World). item_total w ≤ item_total next)
-    (λ v core item p turn le. let more = total-push core item v.items p turn.listed in omega (arith, more, le)) w ts (omega arith)
+    (λ v core ask item p turn le. let more = total-push core item v.items p turn.listed in omega (arith, more, le)) w ts (omega arith)
 
 pub world_from-append : (plan : Plan) (stimuli : List CoreStimuli) (w : World) (ts us : Turns) → world_from plan stimuli w (ts ++ us) ≡ world_from plan stimuli (world_from plan stimuli w ts) us
 world_from-append plan stimuli w [] us = refl

@@ -41,7 +41,7 @@ same-ids id item (q ∷ qs) = by (is_of id q) (same-ids id item qs)
 
 ids-world : (plan : Plan) (stimuli : List CoreStimuli) (turns : List (CoreId × Choice)) → ids (world plan stimuli turns).items ≡ ids_of plan
 ids-world plan stimuli turns =
-    turns-keep plan stimuli (λ (w : World). ids w.items ≡ ids_of plan) (λ w core item p turn same. same-ids core item w.items ∙ same) (first_world plan) turns
+    turns-keep plan stimuli (λ (w : World). ids w.items ≡ ids_of plan) (λ w core ask item p turn same. same-ids core item w.items ∙ same) (first_world plan) turns
     (map-map (λ (p : CoreId × List Item). p.0) (λ (id : CoreId). let p : CoreId × List Item = (id, []) in p) (ids_of plan) ∙ itself (ids_of plan))
   where
     itself : (xs : List CoreId) → map (λ (id : CoreId). id) xs ≡ xs

@@ -1,5 +1,5 @@
 -- The board that a core sees has started only cores that the configuration starts, and only the agreed mode.
-use Rattle.std.proofs.Common.{◌≡◌, ◌≢◌, ◌⊎◌, ℕ, zero, suc, ◌≤◌, Bool, true, false, not, ◌||◌, cond, Option, Some, None, is_some, List, [], ◌∷◌, get_or, inl, inr, refl, sym, ap, subst, ◌∙◌, arith, get_or-set_other, unwrap_or}
+use Rattle.std.proofs.Common.{◌≡◌, ◌≢◌, ◌⊎◌, ℕ, zero, suc, ◌≤◌, Bool, true, false, not, ◌||◌, cond, Option, Some, None, is_some, List, [], ◌∷◌, ◌++◌, get_or, inl, inr, refl, sym, ap, subst, ◌∙◌, arith, get_or-set_other, unwrap_or}
 use Rattle.std.specs.List.{count_by, list_all, slice_get}
 use Rattle.std.proofs.lemmas.Bool.{and_from, and_parts, eqb-true, false≢true, not_from_false, or_left, or_right, true≢false}
 use Rattle.std.proofs.lemmas.List.Sums.{sum_by-cons}
@@ -9,6 +9,8 @@ use Rattle.osbase.specs.declared.references.CoreId.{CoreId}
 use Rattle.osbase.specs.declared.references.ModeId.{ModeId}
 use Rattle.osbase.specs.declared.items.Agreement.{Agreement}
 use Rattle.osbase.specs.declared.items.Item.{Item}
+use Rattle.osbase.specs.declared.items.Stimulus.{Stimulus}
+use Rattle.osbase.specs.declared.turns.Choice.{Choice}
 use Rattle.osbase.specs.declared.histories.Phase.{Phase}
 use Rattle.osbase.specs.History.{History, began_count, no_cores, phase_of, same_core}
 use Rattle.osbase.specs.Sets.{has_core}
@@ -25,17 +27,23 @@ use Rattle.osplan.proofs.Tests.{find-holds, find-passes}
 use Rattle.osstate.specs.Readings.{next_start, phase_at}
 use Rattle.osstate.proofs.Begun.{is_some-core_of}
 use Rattle.osstate.specs.State.{state_of}
-use Rattle.oskernel.specs.Admission.{admits, is_for, is_start_answer, is_started_now_or_before, is_unknown_core}
+use Rattle.oskernel.specs.declared.wants.Want.{Want}
+use Rattle.oskernel.specs.Admission.{admits, is_for, is_start_answer}
 use Rattle.oskernel.specs.Step.{after, history_from, outbox_size, solo_from}
 use Rattle.oskernel.proofs.Stages.{only-on, solo-parts, stage}
 use Rattle.osseat.specs.Histories.{IsLegal, calls_by}
 use Rattle.osboard.specs.declared.calls.BoardCall.{BoardCall}
-use Rattle.osboard.specs.declared.calls.BoardCall.TheVariants.{Start, Look}
+use Rattle.osboard.specs.declared.calls.BoardCall.TheVariants.{Start, Enter, MakeReady, Drain, Look, AskHalt, LookHalt}
 use Rattle.osboard.specs.declared.calls.BoardReply.{BoardReply}
-use Rattle.osboard.specs.declared.calls.BoardReply.TheVariants.{Shown}
+use Rattle.osboard.specs.declared.calls.BoardReply.TheVariants.{Started, Acknowledged, Shown, Halting}
 use Rattle.osboard.specs.declared.calls.BoardView.{BoardView}
 use Rattle.osboard.specs.Boards.{BoardEntry, agreement_by, agreement_in, first_board, first_view, one_board, view_after, with_mode}
-use Rattle.osworld.specs.Fits.{Allows, AreAnswered, asking, call_of}
+use Rattle.osworld.specs.declared.asks.Ask.{Ask}
+use Rattle.osworld.specs.declared.asks.Ask.TheVariants.{OfBoard, Room, Oldest, StartUnknown, TakeStimulus}
+use Rattle.osworld.specs.declared.asks.Answer.{Answer}
+use Rattle.osworld.specs.declared.asks.Answer.TheVariants.{Replied, HasRoom, Found, Unasked}
+use Rattle.osworld.specs.Asking.{asked_by, look_asked, named_by, passing, replied, told_by}
+use Rattle.osworld.specs.Fits.{AreAnswered, Leads}
 use Rattle.osworld.proofs.Members.{has_core-more, nobody-there}
 use Rattle.osworld.proofs.Relying.{AllSee, Relies, board-seen}
 
@@ -111,10 +119,71 @@ module _ (plan : Plan) (m : ModeId) where
     abbrev v : View
     v = view_of plan core
 
-    -- A call, if there is one, keeps the board sane.
-    abbrev KeepsIf : Option BoardCall → Type 0
-    KeepsIf None = Unit {0}
-    KeepsIf (Some call) = (b : BoardView) → Sane b → Sane (view_after core call b)
+    -- What a turn asks to start is configured, and the mode that it tells is the core's own.
+    abbrev IsOwnAsk : Option Ask → Type 0
+    IsOwnAsk (Some (OfBoard (Start k))) = is_configured v k ≡ true
+    IsOwnAsk (Some (OfBoard (Enter mode))) = mode ≡ v.own.mode
+    IsOwnAsk o = Unit {0}
+
+    looks-own : (phase : Phase) → IsOwnAsk (look_asked phase)
+    looks-own Phase.Off = tt
+    looks-own phase = tt
+
+    asks-own : (want : Want) (phase : Phase) (next : Option Stimulus) (choice : Choice) → IsOwnAsk (asked_by v want phase next choice)
+    asks-own (Want.Start k) phase next Choice.Own = by (is_configured v k) refl
+      where
+        by : (b : Bool) → is_configured v k ≡ b → IsOwnAsk (Some (cond b (OfBoard (Start k)) (StartUnknown k)))
+        by true e = e
+        by false e = tt
+    asks-own Want.Enter phase next Choice.Own = refl
+    asks-own Want.GoOn phase (Some s) Choice.Own = tt
+    asks-own want phase next Choice.Look = looks-own phase
+    asks-own want phase next choice = tt
+
+    -- An open gate leads to one item.
+    opens : (b : Bool) (i j : Item) → cond b (Some i) None ≡ Some j → (b ≡ true) × (i ≡ j)
+    opens true i j e = (refl, same_Some _ _ e)
+    opens false i j e = cc
+
+    -- What turns a core on, and what the first gate comes to, is a look at the board.
+    abbrev is_seen : Item → Bool
+    is_seen Item.On = true
+    is_seen (Item.Pass1 agreement) = true
+    is_seen i = false
+
+    abbrev Saw : Phase → Item → Ask → Answer → Type 0
+    Saw phase i ask answer = (b : BoardView) × (ask ≡ OfBoard Look) × (answer ≡ Replied (Shown b)) × (passing core b phase ≡ Some i)
+
+    unseen : {A : Type 0} (j i : Item) → Some j ≡ Some i → is_seen j ≡ false → is_seen i ≡ true → A
+    unseen j i e out seen = absurd (false≢true (sym out ∙ ap is_seen (same_Some _ _ e) ∙ seen))
+
+    saw : (phase : Phase) (ask : Ask) (answer : Answer) (i : Item) → named_by core phase ask answer ≡ Some i → is_seen i ≡ true → Saw phase i ask answer
+    saw phase (OfBoard Look) (Replied (Shown b)) i e seen = (b, refl, refl, e)
+    saw phase (OfBoard (Start k)) (Replied (Started status)) i e seen = unseen _ i e refl seen
+    saw phase (OfBoard (Enter mode)) (Replied Acknowledged) i e seen = unseen _ i e refl seen
+    saw phase (OfBoard MakeReady) (Replied Acknowledged) i e seen = unseen _ i e refl seen
+    saw phase (OfBoard Drain) (Replied Acknowledged) i e seen = unseen _ i e refl seen
+    saw phase (OfBoard LookHalt) (Replied (Halting halt)) i e seen = unseen _ i e refl seen
+    saw phase (OfBoard (AskHalt status)) (Replied reply) i e seen = cc
+    saw phase (Room to) (HasRoom true) i e seen = unseen _ i e refl seen
+    saw phase (Oldest from) (Found (Some x)) i e seen = unseen _ i e refl seen
+    saw phase (StartUnknown k) Unasked i e seen = unseen _ i e refl seen
+    saw phase (TakeStimulus s) Unasked i e seen = unseen _ i e refl seen
+    saw phase ask answer i e seen = cc
+
+    turned-on : (phase : Phase) (b : BoardView) → passing core b phase ≡ Some Item.On → has_core b.started core ≡ true
+    turned-on Phase.Off b e = (opens _ _ _ e).0
+    turned-on Phase.FirstGate b e = let same = (opens _ _ _ e).1 in cc
+    turned-on Phase.SecondGate b e = let same = (opens _ _ _ e).1 in cc
+    turned-on Phase.Drained b e = let same = (opens _ _ _ e).1 in cc
+    turned-on phase b e = cc
+
+    in-conflict : (phase : Phase) (b : BoardView) → passing core b phase ≡ Some (Item.Pass1 Agreement.Conflict) → Agreement.Conflict ≡ agreement_in b.modes
+    in-conflict Phase.Off b e = let same = (opens _ _ _ e).1 in cc
+    in-conflict Phase.FirstGate b e = let same = (opens _ _ _ e).1 in cc
+    in-conflict Phase.SecondGate b e = let same = (opens _ _ _ e).1 in cc
+    in-conflict Phase.Drained b e = let same = (opens _ _ _ e).1 in cc
+    in-conflict phase b e = cc
 
     -- It is off, or it is started.
     abbrev IfOn : History → Type 0
@@ -129,16 +198,12 @@ module _ (plan : Plan) (m : ModeId) where
           by (inr started) = started
 
       -- Whom it starts is started.
-      starts : (k : CoreId) (status : Status) → is_unknown_core status ≡ false → admits outbox_size (state_of v h) (Item.Began k status) ≡ true → is_started plan k ≡ true
-      starts k status known taken =
+      starts : (k : CoreId) (status : Status) → is_configured v k ≡ true → admits outbox_size (state_of v h) (Item.Began k status) ≡ true → is_started plan k ≡ true
+      starts k status configured taken =
           let answer = and_parts _ (is_start_answer v k status) taken in
           let next = and_parts _ (is_for k (next_start v (began_count h))) answer.0 in
-          by (core_of plan core) refl (for-among k v.own.start (began_count h) next.1) (configured (is_configured v k) answer.1)
+          by (core_of plan core) refl (for-among k v.own.start (began_count h) next.1) configured
         where
-          configured : (b : Bool) → cond b (is_started_now_or_before status) (is_unknown_core status) ≡ true → b ≡ true
-          configured true e = refl
-          configured false e = absurd (false≢true (sym known ∙ e))
-
           by : (o : Option Core) → core_of plan core ≡ o → is_among (unwrap_or o (no_core core)).start k ≡ true → is_configured v k ≡ true → is_started plan k ≡ true
           by None e among there = absurd (false≢true among)
           by (Some c) e among there = started-next plan core k c (boots (stage v h (Item.Began k status) refl taken)) e among (is_some-core_of k plan.cores ∙ there)
@@ -168,30 +233,24 @@ module _ (plan : Plan) (m : ModeId) where
         modes = sane.modes;
       }
 
-      -- The call of an item that may be taken keeps the board sane.
-      call-keeps : (i : Item) → admits outbox_size (state_of v h) i ≡ true → KeepsIf (call_of v.own.mode i)
-      call-keeps (Item.Began k Status.EOsId) taken = tt
-      call-keeps (Item.Began k status) taken = start-keeps k (starts k status refl taken)
-      call-keeps Item.Entered taken = λ b sane. record { begun = sane.begun; modes = λ j ne. told b sane j ne (boots (stage v h Item.Entered refl taken)) }
-      call-keeps Item.On taken = λ b sane. sane
-      call-keeps (Item.Pass1 a) taken = λ b sane. sane
-      call-keeps Item.Readied taken = λ b sane. record { begun = sane.begun; modes = sane.modes }
-      call-keeps (Item.Pass2 cores) taken = λ b sane. sane
-      call-keeps Item.Drained taken = λ b sane. record { begun = sane.begun; modes = sane.modes }
-      call-keeps Item.PassEnd taken = λ b sane. sane
-      call-keeps (Item.Last shutdown) taken = λ b sane. sane
-      call-keeps i taken = tt
-
-      -- Who turned on saw that it was started.
-      saw : (r : BoardReply) → Allows core r Item.On → ((b : BoardView) → r ≡ Shown b → Sane b) → is_started plan core ≡ true
-      saw (Shown b) allows sees = (sees b refl).begun core allows
-      saw r allows sees = absurd allows
+      -- The call of a turn whose item may be taken keeps the board sane.
+      keeps : (call : BoardCall) (reply : BoardReply) (i : Item) → IsOwnAsk (Some (OfBoard call)) → replied core (phase_at v h) call reply ≡ Some i → admits outbox_size (state_of v h) i ≡ true → (b : BoardView) → Sane b → Sane (view_after core call b)
+      keeps (Start k) (Started status) i own e taken = start-keeps k (starts k status own (subst (λ (j : Item). admits outbox_size (state_of v h) j ≡ true) (sym (same_Some _ _ e)) taken))
+      keeps (Start k) reply i own e taken = cc
+      keeps (Enter mode) Acknowledged i own e taken = λ b sane. record {
+        begun = sane.begun;
+        modes = λ j ne. ap (λ (k : CoreMode). get_or (with_mode k b.modes).members j false) own
+            ∙ told b sane j ne (boots (stage v h Item.Entered refl (subst (λ (j : Item). admits outbox_size (state_of v h) j ≡ true) (sym (same_Some _ _ e)) taken)));
+      }
+      keeps (Enter mode) reply i own e taken = cc
+      keeps MakeReady reply i own e taken = λ b sane. record { begun = sane.begun; modes = sane.modes }
+      keeps Drain reply i own e taken = λ b sane. record { begun = sane.begun; modes = sane.modes }
+      keeps call reply i own e taken = λ b sane. sane
 
     -- Each call of the core keeps the board sane, if the core saw only sane ones before.
-    relies : (items : List Item) (h : History) (es : List BoardEntry) → IfOn h → solo_from v h items ≡ Some (history_from v h items) → AreAnswered core v.own.mode (asking v.own.mode items) es → Relies Sane core es
-    relies [] h [] if_on each answered = tt
-    relies [] h (e ∷ es) if_on each answered = absurd answered
-    relies (i ∷ is) h es if_on each answered = by (λ ds on a. relies is (after v h i) ds on (solo-parts v h i is each).1 a) (call_of v.own.mode i) refl es answered
+    relies : (items : List Item) (h : History) (es : List BoardEntry) → IfOn h → solo_from v h items ≡ Some (history_from v h items) → AreAnswered v h items es → Relies Sane core es
+    relies [] h es if_on each none = subst (Relies Sane core) (sym none) tt
+    relies (i ∷ is) h es if_on each all = subst (Relies Sane core) (sym all.4) (by all.0 all.1 all.2 (λ on. relies is (after v h i) all.3 on turn.1 all.5))
       where
         turn : (admits outbox_size (state_of v h) i ≡ true) × (solo_from v (after v h i) is ≡ Some (history_from v (after v h i) is))
         turn = solo-parts v h i is each
@@ -203,13 +262,12 @@ module _ (plan : Plan) (m : ModeId) where
             either (inl off) = first off
             either (inr started) = started
 
-        by : ((ds : List BoardEntry) → IfOn (after v h i) → AreAnswered core v.own.mode (asking v.own.mode is) ds → Relies Sane core ds) → (o : Option BoardCall) → call_of v.own.mode i ≡ o → (ds : List BoardEntry) → AreAnswered core v.own.mode (cond (is_some o) (i ∷ asking v.own.mode is) (asking v.own.mode is)) ds → Relies Sane core ds
-        by rest None e ds a = rest ds (on-later (λ off. let no : Some Look ≡ None = sym (ap (call_of v.own.mode) (only-on v h i turn.0 off)) ∙ e in cc)) a
-        by rest (Some call) e [] a = absurd a
-        by rest (Some call) e (d ∷ ds) a = (
-          subst KeepsIf a.0 (call-keeps h if_on i turn.0),
-          λ sees. rest ds (on-later (λ off. saw h if_on d.reply (subst (λ (j : Item). Allows core d.reply j) (only-on v h i turn.0 off) a.1) sees)) a.2,
+        by : (ask : Ask) (answer : Answer) → Leads v h ask answer i → (IfOn (after v h i) → Relies Sane core all.3) → Relies Sane core (told_by core ask answer ++ all.3)
+        by (OfBoard call) (Replied reply) leads later = (
+          keeps h if_on call reply i (subst IsOwnAsk leads.asks (asks-own _ _ leads.next leads.choice)) leads.names turn.0,
+          λ sees. later (on-later (λ off. let look = saw (phase_at v h) (OfBoard call) (Replied reply) Item.On (leads.names ∙ ap Some (only-on v h i turn.0 off)) refl in let same = look.2 in let shown : reply ≡ Shown look.0 = cc in (sees look.0 shown).begun core (turned-on _ look.0 look.3))),
         )
+        by ask answer leads later = later (on-later (λ off. let look = saw (phase_at v h) ask answer Item.On (leads.names ∙ ap Some (only-on v h i turn.0 off)) refl in let board = look.1 in let same = look.2 in cc))
 
     if-on-first : is_some (core_of plan plan.master) ≡ true → IfOn []
     if-on-first there = by (same_core core plan.master) refl
@@ -218,30 +276,26 @@ module _ (plan : Plan) (m : ModeId) where
         by true e = inr (ap (is_started plan) (same_core-true core plan.master e) ∙ started-master plan there)
         by false e = inl (ap (λ (b : Bool). phase_of b []) e)
 
-    agreed-item : (i : Item) (r : BoardReply) → Allows core r i → ((b : BoardView) → r ≡ Shown b → Sane b) → is_conflict i ≡ false
-    agreed-item (Item.Pass1 Agreement.Conflict) (Shown b) allows sees = absurd (sane-no-conflict b (sees b refl) allows.1)
-    agreed-item (Item.Pass1 Agreement.Conflict) r allows sees = absurd allows
-    agreed-item i r allows sees = refl
-
-    uncalled : (i : Item) → call_of v.own.mode i ≡ None → is_conflict i ≡ false
-    uncalled (Item.Pass1 Agreement.Conflict) e = cc
-    uncalled i e = refl
+    agreed-item : (phase : Phase) (i : Item) (ask : Ask) (answer : Answer) → named_by core phase ask answer ≡ Some i → ((b : BoardView) → ask ≡ OfBoard Look → answer ≡ Replied (Shown b) → Sane b) → is_conflict i ≡ false
+    agreed-item phase (Item.Pass1 Agreement.Conflict) ask answer e sees = let look = saw phase ask answer _ e refl in absurd (sane-no-conflict look.0 (sees look.0 look.1 look.2) (in-conflict phase look.0 look.3))
+    agreed-item phase i ask answer e sees = refl
 
     -- A core that saw only sane boards came to no conflict.
-    all-agreed : (items : List Item) (es : List BoardEntry) → AreAnswered core v.own.mode (asking v.own.mode items) es → AllSee Sane es → AreAgreed items
-    all-agreed [] es answered all = refl
-    all-agreed (i ∷ is) es answered all = by (λ ds a see. all-agreed is ds a see) (call_of v.own.mode i) refl es answered all
+    all-agreed : (items : List Item) (h : History) (es : List BoardEntry) → AreAnswered v h items es → AllSee Sane es → AreAgreed items
+    all-agreed [] h es none see = refl
+    all-agreed (i ∷ is) h es all see =
+        let parts = by all.0 all.1 all.2 (subst (AllSee Sane) all.4 see) in
+        and_from _ _ (not_from_false (is_conflict i) parts.0) (all-agreed is (after v h i) all.3 all.5 parts.1)
       where
-        by : ((ds : List BoardEntry) → AreAnswered core v.own.mode (asking v.own.mode is) ds → AllSee Sane ds → AreAgreed is) → (o : Option BoardCall) → call_of v.own.mode i ≡ o → (ds : List BoardEntry) → AreAnswered core v.own.mode (cond (is_some o) (i ∷ asking v.own.mode is) (asking v.own.mode is)) ds → AllSee Sane ds → AreAgreed (i ∷ is)
-        by rest None e ds a see = and_from _ _ (not_from_false (is_conflict i) (uncalled i e)) (rest ds a see)
-        by rest (Some call) e [] a see = absurd a
-        by rest (Some call) e (d ∷ ds) a see = and_from _ _ (not_from_false (is_conflict i) (agreed-item i d.reply a.1 see.0)) (rest ds a.2 see.1)
+        by : (ask : Ask) (answer : Answer) → Leads v h ask answer i → AllSee Sane (told_by core ask answer ++ all.3) → (is_conflict i ≡ false) × AllSee Sane all.3
+        by (OfBoard call) (Replied reply) leads see = (agreed-item (phase_at v h) i (OfBoard call) (Replied reply) leads.names (λ b looks same. let shown : reply ≡ Shown b = cc in see.0 b shown), see.1)
+        by ask answer leads see = (agreed-item (phase_at v h) i ask answer leads.names (λ b looks same. cc), see)
 
-  -- In one history of the board that replays, and answers each core's calls, no core came to a conflict.
+  -- In one history of the board that is legal, and answers each core's calls, no core came to a conflict.
   module _ (agreed : is_agreed_mode plan (Named m) ≡ true) (there : is_some (core_of plan plan.master) ≡ true) (calls : List BoardEntry) (legal : IsLegal one_board plan.master calls) (items : CoreId → List Item)
       (each : (id : CoreId) → solo_from (view_of plan id) [] (items id) ≡ Some (history_from (view_of plan id) [] (items id)))
-      (answers : (id : CoreId) → AreAnswered id (view_of plan id).own.mode (asking (view_of plan id).own.mode (items id)) (calls_by id calls)) where
+      (answers : (id : CoreId) → AreAnswered (view_of plan id) [] (items id) (calls_by id calls)) where
     pub never-conflict : (id : CoreId) → AreAgreed (items id)
     never-conflict id =
-        all-agreed agreed id (items id) (calls_by id calls) (answers id)
+        all-agreed agreed id (items id) [] (calls_by id calls) (answers id)
         (board-seen Sane (first_board plan.master) calls (sane-first there) legal (λ d. relies agreed d (items d) [] (calls_by d calls) (if-on-first agreed d there) (each d) (answers d)) id)

@@ -1,5 +1,5 @@
 -- The seats, the mailboxes and the board before the first turn.
-use Rattle.std.proofs.Common.{◌≡◌, ℕ, ◌+◌, ◌*◌, ◌<◌, ◌≤◌, Bool, true, false, cond, Option, Some, None, is_some, List, [], ◌∷◌, ◌++◌, map, take, drop, refl, sym, ap, ◌∙◌, arith, filter, append-nil, unwrap_or}
+use Rattle.std.proofs.Common.{◌≡◌, ℕ, ◌+◌, ◌*◌, ◌<◌, ◌≤◌, Bool, true, false, cond, Some, is_some, List, [], ◌∷◌, ◌++◌, map, take, drop, refl, sym, ap, ◌∙◌, arith, filter, append-nil}
 use Rattle.std.specs.List.{All}
 use Rattle.std.specs.Option.{option_map_or}
 use Rattle.std.proofs.lemmas.List.{take_more, map-append, length-replicate}
@@ -15,7 +15,7 @@ use Rattle.osmail.specs.Mail.{Mail, empty_mail}
 use Rattle.osmail.proofs.Boxes.{box_of-empty}
 use Rattle.osplan.specs.declared.plans.Plan.{Plan}
 use Rattle.osplan.specs.declared.plans.Core.{Core}
-use Rattle.osplan.specs.View.{core_of, no_core, view_of}
+use Rattle.osplan.specs.View.{core_of, view_of}
 use Rattle.osbase.specs.Sets.{core_ids}
 use Rattle.osbase.proofs.Tables.{table-at}
 use Rattle.osstate.specs.State.{state_of}
@@ -58,20 +58,17 @@ pub ids_below-all : (plan : Plan) (n : ℕ) → 16 ≤ n → n ≤ 16 → ids_be
 ids_below-all plan n low high = let whole : n ≡ 16 = omega arith in ap (ids_below plan) whole
 
 -- a core that is not configured has no seat, and a configured one has a seat without items
-lists_below-skip : (plan : Plan) (n : ℕ) → n < 16 → core_of plan (id_at n) ≡ None → lists_below plan (n + 1) ≡ lists_below plan n
-lists_below-skip plan n lt nobody = ap (map (λ (id : CoreId). (id, []))) (ids_below-skip plan n lt (ap (λ (o : Option Core). is_some o) nobody))
+lists_below-skip : (plan : Plan) (n : ℕ) → n < 16 → is_there plan (id_at n) ≡ false → lists_below plan (n + 1) ≡ lists_below plan n
+lists_below-skip plan n lt nobody = ap (map (λ (id : CoreId). (id, []))) (ids_below-skip plan n lt nobody)
 
-lists_below-push : (plan : Plan) (n : ℕ) (core : Core) → n < 16 → core_of plan (id_at n) ≡ Some core → lists_below plan (n + 1) ≡ lists_below plan n ++ (id_at n, []) ∷ []
-lists_below-push plan n core lt somebody =
-    ap (map (λ (id : CoreId). (id, []))) (ids_below-push plan n lt (ap (λ (o : Option Core). is_some o) somebody))
-    ∙ map-append (λ (id : CoreId). (id, [])) (ids_below plan n) (id_at n ∷ [])
+lists_below-push : (plan : Plan) (n : ℕ) → n < 16 → is_there plan (id_at n) ≡ true → lists_below plan (n + 1) ≡ lists_below plan n ++ (id_at n, []) ∷ []
+lists_below-push plan n lt there = ap (map (λ (id : CoreId). (id, []))) (ids_below-push plan n lt there) ∙ map-append (λ (id : CoreId). (id, [])) (ids_below plan n) (id_at n ∷ [])
 
 -- the seat of a core that took nothing
-pub seated-first : (plan : Plan) (stimuli : List CoreStimuli) (seat : Seat) (id : CoreId) (core : Core) → core_of plan id ≡ Some core → seat.id ≡ id → seat.kernel ≡ state_of (view_of plan id) [] → seat.mode ≡ core.mode → seat.stimuli.now ≡ stimuli_of stimuli id → seat.items.items ≡ [] → seat.marks.items ≡ [] → IsSeated plan stimuli seat
-seated-first plan stimuli seat id core found is_id is_kernel is_mode is_left no_items no_marks = record {
+pub seated-first : (plan : Plan) (stimuli : List CoreStimuli) (seat : Seat) (id : CoreId) → seat.id ≡ id → seat.kernel ≡ state_of (view_of plan id) [] → seat.stimuli.now ≡ stimuli_of stimuli id → seat.items.items ≡ [] → seat.marks.items ≡ [] → IsSeated plan stimuli seat
+seated-first plan stimuli seat id is_id is_kernel is_left no_items no_marks = record {
   tracks = rw (is_id, no_items, no_marks) (record { stands = record { is = is_kernel }; added = []; behind = refl; shows = refl });
   alone = rw (is_id, no_items) refl;
-  mode = is_mode ∙ ap (λ (o : Option Core). (unwrap_or o (no_core id)).mode) (sym found) ∙ ap (λ (i : CoreId). (view_of plan i).own.mode) (sym is_id);
   left = rw (is_id, no_items) is_left;
 }
 
@@ -107,20 +104,17 @@ started-all plan stimuli seats n mail board seated lists low high is_mail is_boa
 }
 
 -- one seat more
-pub started-push : (plan plan' : Plan) → plan' ≡ plan → (stimuli : List CoreStimuli) (seats : List Seat) (n : ℕ) (seat : Seat) (core : Core) → n < 16 → Some core ≡ core_of plan' (id_at n) → All (IsSeated plan stimuli) seats × (lists_of seats ≡ lists_below plan n)
-    → seat.id ≡ id_at n → seat.kernel ≡ state_of (view_of plan (id_at n)) [] → seat.mode ≡ core.mode → seat.stimuli.now ≡ stimuli_of stimuli (id_at n) → seat.items.items ≡ [] → seat.marks.items ≡ []
+pub started-push : (plan : Plan) (stimuli : List CoreStimuli) (seats : List Seat) (n : ℕ) (seat : Seat) → n < 16 → is_there plan (id_at n) ≡ true → All (IsSeated plan stimuli) seats × (lists_of seats ≡ lists_below plan n)
+    → seat.id ≡ id_at n → seat.kernel ≡ state_of (view_of plan (id_at n)) [] → seat.stimuli.now ≡ stimuli_of stimuli (id_at n) → seat.items.items ≡ [] → seat.marks.items ≡ []
     → All (IsSeated plan stimuli) (seats ++ seat ∷ []) × (lists_of (seats ++ seat ∷ []) ≡ lists_below plan (n + 1))
-started-push plan plan' same stimuli seats n seat core lt there before is_id is_kernel is_mode is_left no_items no_marks =
-    let found : core_of plan (id_at n) ≡ Some core = sym (there ∙ ap (λ (p : Plan). core_of p (id_at n)) same) in (
-      All-push (IsSeated plan stimuli) seats seat before.0 (seated-first plan stimuli seat (id_at n) core found is_id is_kernel is_mode is_left no_items no_marks),
-      map-append (λ (s : Seat). (s.id, s.items.items)) seats (seat ∷ [])
-          ∙ ap (λ (ls : Lists). ls ++ (seat.id, seat.items.items) ∷ []) before.1
-          ∙ ap (λ (i : CoreId). lists_below plan n ++ (i, seat.items.items) ∷ []) is_id
-          ∙ ap (λ (items : List Item). lists_below plan n ++ (id_at n, items) ∷ []) no_items
-          ∙ sym (lists_below-push plan n core lt found),
-    )
+started-push plan stimuli seats n seat lt there before is_id is_kernel is_left no_items no_marks = (
+  All-push (IsSeated plan stimuli) seats seat before.0 (seated-first plan stimuli seat (id_at n) is_id is_kernel is_left no_items no_marks),
+  map-append (λ (s : Seat). (s.id, s.items.items)) seats (seat ∷ [])
+      ∙ ap (λ (ls : Lists). ls ++ (seat.id, seat.items.items) ∷ []) before.1
+      ∙ ap (λ (i : CoreId). lists_below plan n ++ (i, seat.items.items) ∷ []) is_id
+      ∙ ap (λ (items : List Item). lists_below plan n ++ (id_at n, items) ∷ []) no_items
+      ∙ sym (lists_below-push plan n lt there),
+)
 
-pub started-skip : (plan plan' : Plan) → plan' ≡ plan → (stimuli : List CoreStimuli) (seats : List Seat) (n : ℕ) → n < 16 → None ≡ core_of plan' (id_at n) → All (IsSeated plan stimuli) seats × (lists_of seats ≡ lists_below plan n) → All (IsSeated plan stimuli) seats × (lists_of seats ≡ lists_below plan (n + 1))
-started-skip plan plan' same stimuli seats n lt nobody before =
-    let found : core_of plan (id_at n) ≡ None = sym (nobody ∙ ap (λ (p : Plan). core_of p (id_at n)) same) in
-    (before.0, before.1 ∙ sym (lists_below-skip plan n lt found))
+pub started-skip : (plan : Plan) (stimuli : List CoreStimuli) (seats : List Seat) (n : ℕ) → n < 16 → is_there plan (id_at n) ≡ false → All (IsSeated plan stimuli) seats × (lists_of seats ≡ lists_below plan n) → All (IsSeated plan stimuli) seats × (lists_of seats ≡ lists_below plan (n + 1))
+started-skip plan stimuli seats n lt nobody before = (before.0, before.1 ∙ sym (lists_below-skip plan n lt nobody))

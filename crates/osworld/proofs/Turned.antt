@@ -22,9 +22,10 @@ use Rattle.oskernel.specs.Step.{takes}
 use Rattle.oskernel.specs.Wants.{front_of}
 use Rattle.osboard.specs.declared.calls.BoardState.{BoardState}
 use Rattle.osworld.specs.declared.seats.Seat.{Seat}
+use Rattle.osworld.specs.declared.asks.Ask.{Ask}
 use Rattle.osworld.specs.Fits.{history_by}
 use Rattle.osworld.specs.World.{World, turn, is_unchanged, item_total}
-use Rattle.osworld.specs.Naming.{carried, IsPlaced, left_after, named_by, told}
+use Rattle.osworld.specs.Naming.{carried, IsPlaced, left_after, next_by, told}
 use Rattle.osworld.specs.Playing.{IsCutShort, IsPlayed, IsSeated, Plays}
 use Rattle.osworld.proofs.Listed.{is_seat_of, seat_is_of, seat_nowhere, seat_place}
 use Rattle.osworld.proofs.Turning.{Took, turn-nobody, turn-nothing, turn-refused, turn-taken, turn-appends}
@@ -32,7 +33,6 @@ use Rattle.osworld.proofs.Turning.{Took, turn-nobody, turn-nothing, turn-refused
 -- A seat that is as it was but for the room that it has.
 pub record Keeps (old new : Seat) : Type 0 where
   pub id : new.id ≡ old.id
-  pub mode : new.mode ≡ old.mode
   pub left : new.stimuli ≡ old.stimuli
   pub items : new.items.items ≡ old.items.items
   pub marks : new.marks.items ≡ old.marks.items
@@ -65,8 +65,8 @@ module _ (plan : Plan) (stimuli : List CoreStimuli) (w : World) (seats : List Se
     here : at ≡ position_or_len (is_seat_of seat.id) seats
     here = subst (λ (c : CoreId). at ≡ position_or_len (is_seat_of c) seats) (sym at_core) (seat_place core seats at place).0
 
-    abbrev named_here : Option Item
-    named_here = named_by plan board mail seat.id seat.stimuli.now seat.kernel choice
+    abbrev named_here : Option (Ask × Item)
+    named_here = next_by plan board mail seat.id seat.stimuli.now seat.kernel choice
 
     -- the seat as it was, with more room
     pub kept : (new : Seat) → Keeps seat new → Plays plan stimuli w (set seats at new) mail board
@@ -83,7 +83,6 @@ module _ (plan : Plan) (stimuli : List CoreStimuli) (w : World) (seats : List Se
         again seated = record {
           tracks = rw (keeps.id, keeps.items, keeps.marks, keeps.kernel) seated.tracks;
           alone = rw (keeps.id, keeps.items) seated.alone;
-          mode = rw (keeps.id, keeps.mode) seated.mode;
           left = rw (keeps.id, keeps.items, keeps.left) seated.left;
         }
 
@@ -96,7 +95,7 @@ module _ (plan : Plan) (stimuli : List CoreStimuli) (w : World) (seats : List Se
           tells = unchanged-same w (turn plan stimuli w (core, choice)) same;
         }
 
-    module _ (item : Item) (names : named_here ≡ Some item) (may : Bool) (reads : Reads (λ v h. takes 64 v h item) seat.kernel may) where
+    module _ (ask : Ask) (item : Item) (names : named_here ≡ Some (ask, item)) (may : Bool) (reads : Reads (λ v h. takes 64 v h item) seat.kernel may) where
       seated_here : IsSeated plan stimuli seat
       seated_here = subst (λ (s : Seat). IsSeated plan stimuli s) (sym is) (All-get_or (IsSeated plan stimuli) seats at seat within plays.seated)
 
@@ -106,7 +105,7 @@ module _ (plan : Plan) (stimuli : List CoreStimuli) (w : World) (seats : List Se
       -- the core does not take what the turn names
       pub refused-played : may ≡ false → (new : Seat) → Keeps seat new → IsPlayed plan stimuli w ((core, choice) ∷ []) false (set seats at new) mail board
       refused-played refused new keeps =
-          let same : turn plan stimuli w (core, choice) ≡ w = subst (λ (c : CoreId). turn plan stimuli w (c, choice) ≡ w) at_core (turn-refused plan stimuli w seats mail board plays choice at seat here within (sym is) item names (sym admitted ∙ refused)) in
+          let same : turn plan stimuli w (core, choice) ≡ w = subst (λ (c : CoreId). turn plan stimuli w (c, choice) ≡ w) at_core (turn-refused plan stimuli w seats mail board plays choice at seat here within (sym is) ask item names (sym admitted ∙ refused)) in
           record {
             plays = subst (λ (next : World). Plays plan stimuli next (set seats at new) mail board) (sym same) (kept new keeps);
             tells = unchanged-same w (turn plan stimuli w (core, choice)) same;
@@ -114,7 +113,7 @@ module _ (plan : Plan) (stimuli : List CoreStimuli) (w : World) (seats : List Se
 
       changes : takes 64 (view_of plan seat.id) (history_by plan seat.id seat.items.items) item ≡ true → true ≡ not (is_unchanged w (turn plan stimuli w (core, choice)))
       changes takes_it = subst (λ (c : CoreId). true ≡ not (is_unchanged w (turn plan stimuli w (c, choice)))) at_core
-          (one_more-differs (item_total w) ∙ ap (λ (n : ℕ). not (nat_eq (item_total w) n)) (sym (turn-appends plan stimuli w seats mail board plays choice at seat here within (sym is) item names takes_it)))
+          (one_more-differs (item_total w) ∙ ap (λ (n : ℕ). not (nat_eq (item_total w) n)) (sym (turn-appends plan stimuli w seats mail board plays choice at seat here within (sym is) ask item names takes_it)))
 
       -- there is no room for it
       pub stopped-short : may ≡ true → (new : Seat) → Keeps seat new → IsCutShort plan stimuli w ((core, choice) ∷ []) (set seats at new) mail board
@@ -126,21 +125,20 @@ module _ (plan : Plan) (stimuli : List CoreStimuli) (w : World) (seats : List Se
       }
 
       -- the core takes it, once there is room
-      pub taken-played : may ≡ true → (roomy new : Seat) → Keeps seat roomy → Took roomy new item → IsPlaced mail seat.id item → (front : Option (CoreId × Envelope)) (next_mail : Mail) (next_board : BoardState) → front ≡ front_of roomy.kernel.border.outbox → next_mail ≡ carried roomy.id front item mail → next_board ≡ told roomy.id roomy.mode item board
+      pub taken-played : may ≡ true → (roomy new : Seat) → Keeps seat roomy → Took roomy new item → IsPlaced mail seat.id item → (front : Option (CoreId × Envelope)) (next_mail : Mail) (next_board : BoardState) → front ≡ front_of roomy.kernel.border.outbox → next_mail ≡ carried roomy.id front item mail → next_board ≡ told roomy.id ask board
           → IsPlayed plan stimuli w ((core, choice) ∷ []) true (set seats at new) next_mail next_board
       taken-played taken roomy new keeps took placed front next_mail next_board fronts carried_on told_on =
           let takes_it = sym admitted ∙ taken in
           record {
-            plays = rw (carried_on, told_on, fronts, keeps.id, keeps.mode, keeps.kernel)
-                (subst (λ (c : CoreId). Plays plan stimuli (turn plan stimuli w (c, choice)) (set seats at new) (carried seat.id (front_of seat.kernel.border.outbox) item mail) (told seat.id seat.mode item board)) at_core
-                (turn-taken plan stimuli w seats mail board plays choice at seat here within (sym is) item names new (took_after roomy new keeps took) placed takes_it));
+            plays = rw (carried_on, told_on, fronts, keeps.id, keeps.kernel)
+                (subst (λ (c : CoreId). Plays plan stimuli (turn plan stimuli w (c, choice)) (set seats at new) (carried seat.id (front_of seat.kernel.border.outbox) item mail) (told seat.id ask board)) at_core
+                (turn-taken plan stimuli w seats mail board plays choice at seat here within (sym is) ask item names new (took_after roomy new keeps took) placed takes_it));
             tells = changes takes_it;
           }
         where
           took_after : (roomy new : Seat) → Keeps seat roomy → Took roomy new item → Took seat new item
           took_after roomy new keeps took = record {
             id = took.id ∙ keeps.id;
-            mode = took.mode ∙ keeps.mode;
             left = took.left ∙ ap (λ (xs : Bor (List Stimulus)). left_after item xs.now) keeps.left;
             items = took.items ∙ ap (λ (xs : List Item). xs ++ item ∷ []) keeps.items;
             does = rw (← keeps.kernel, ← keeps.marks) took.does;

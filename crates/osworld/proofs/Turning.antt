@@ -1,7 +1,6 @@
 -- A turn of a run is a turn of the world.
-use Rattle.std.proofs.Common.{◌≡◌, ℕ, suc, ◌+◌, ◌<◌, ◌≤◌, Bool, true, false, cond, Option, Some, None, is_some, List, [], ◌∷◌, ◌++◌, length, drop, get_or, set, refl, sym, ap, subst, ◌∙◌, arith}
+use Rattle.std.proofs.Common.{◌≡◌, ℕ, suc, ◌+◌, ◌<◌, ◌≤◌, Bool, true, false, cond, Option, Some, None, is_some, List, [], ◌∷◌, ◌++◌, length, drop, get_or, set, sym, ap, subst, ◌∙◌, arith, append-nil}
 use Rattle.std.specs.List.{All, position_or_len}
-use Rattle.std.specs.Option.{option_map_or}
 use Rattle.std.proofs.lemmas.List.{drop-drop}
 use Rattle.std.proofs.lemmas.List.Elements.{All-get_or, All-set}
 use Rattle.osbase.specs.declared.references.CoreId.{CoreId}
@@ -13,7 +12,6 @@ use Rattle.osbase.specs.History.{History}
 use Rattle.osbase.specs.Runs.{stimuli_of}
 use Rattle.osmail.specs.Mail.{Mail}
 use Rattle.osplan.specs.declared.plans.Plan.{Plan}
-use Rattle.osplan.specs.declared.plans.CoreMode.{CoreMode}
 use Rattle.osplan.specs.View.{View, view_of}
 use Rattle.osstate.specs.State.{KernelState, state_of}
 use Rattle.osstate.specs.Does.{Does, Tracks}
@@ -23,21 +21,23 @@ use Rattle.osboard.specs.declared.calls.BoardState.{BoardState}
 use Rattle.osworld.specs.declared.seats.Seat.{Seat}
 use Rattle.osseat.specs.Histories.{entry, state_after}
 use Rattle.osseat.proofs.Steps.{after_snoc}
-use Rattle.osboard.specs.declared.calls.BoardCall.{BoardCall}
-use Rattle.osboard.specs.Boards.{BoardEntry, board_after, board_reply, first_board, one_board}
-use Rattle.osworld.specs.Fits.{call_of, history_by}
-use Rattle.osworld.specs.World.{World, appends, board_in, history_in, items_in, named, stimulus_count, turn, turn_by, with_call, with_item, item_total}
-use Rattle.osworld.specs.Naming.{carried, IsPlaced, left_after, named_by, told}
+use Rattle.osboard.specs.Boards.{board_reply, first_board, one_board}
+use Rattle.osworld.specs.declared.asks.Ask.{Ask}
+use Rattle.osworld.specs.declared.asks.Ask.TheVariants.{OfBoard}
+use Rattle.osworld.specs.Asking.{told_by}
+use Rattle.osworld.specs.Fits.{history_by}
+use Rattle.osworld.specs.World.{World, answer_in, appends, board_in, history_in, items_in, next_in, stimulus_count, turn, turn_by, with_item, item_total}
+use Rattle.osworld.specs.Naming.{carried, IsPlaced, left_after, next_by, told}
 use Rattle.osworld.specs.Playing.{IsMail, IsSeated, lists_of, Plays}
 use Rattle.osworld.proofs.Listed.{is_seat_of, items_by, list_of, list_of-nobody, list_of-seat, lists_of-set, history_from-push, total-push}
 use Rattle.osworld.proofs.Carrying.{carries_on}
 use Rattle.osworld.proofs.Fitting.{solo-push}
-use Rattle.osworld.proofs.Agreed.{named-agrees}
+use Rattle.osworld.proofs.Agreed.{next-agrees}
 
 -- the board after one more call
-pub told-on : (first : BoardState) (es : List BoardEntry) (core : CoreId) (o : Option BoardCall) → option_map_or (λ call. board_after core call (state_after one_board first es)) o (state_after one_board first es) ≡ state_after one_board first (with_call core (state_after one_board first es) o es)
-told-on first es core None = refl
-told-on first es core (Some call) = sym (after_snoc one_board first es (entry core call (board_reply core call (state_after one_board first es))))
+told-on : (core : CoreId) (plan : Plan) (w : World) (ask : Ask) → told core ask (board_in plan w) ≡ state_after one_board (first_board plan.master) (w.calls ++ told_by core ask (answer_in plan w core ask))
+told-on core plan w (OfBoard call) = sym (after_snoc one_board (first_board plan.master) w.calls (entry core call (board_reply core call (board_in plan w))))
+told-on core plan w ask = ap (state_after one_board (first_board plan.master)) (sym (append-nil w.calls))
 
 -- the stimuli that are left after one more item
 stimulus_count-push : (items : List Item) (item : Item) → stimulus_count (items ++ item ∷ []) ≡ stimulus_count items + stimulus_count (item ∷ [])
@@ -52,7 +52,6 @@ left-on i n xs = ap (λ (k : ℕ). drop k xs) (omega arith)
 -- What a seat is after it took an item.
 pub record Took (old new : Seat) (item : Item) : Type 0 where
   pub id : new.id ≡ old.id
-  pub mode : new.mode ≡ old.mode
   pub left : new.stimuli.now ≡ left_after item old.stimuli.now
   pub items : new.items.items ≡ old.items.items ++ item ∷ []
   pub does : Does (λ v h. after v h item) old.kernel new.kernel old.marks.items new.marks.items
@@ -67,7 +66,6 @@ seated-on plan stimuli old new item seated taken took =
       alone = subst (λ (i : CoreId). solo (view_of plan i) new.items.items ≡ Some (history_by plan i new.items.items)) (sym took.id)
           (subst (λ (items : List Item). solo v items ≡ Some (history_by plan old.id items)) (sym took.items)
           (solo-push v [] old.items.items item seated.alone taken ∙ ap Some (sym (history_from-push v [] old.items.items item))));
-      mode = took.mode ∙ seated.mode ∙ ap (λ (i : CoreId). (view_of plan i).own.mode) (sym took.id);
       left = took.left ∙ ap (left_after item) seated.left ∙ left-on item (stimulus_count old.items.items) (stimuli_of stimuli old.id)
           ∙ ap (λ (n : ℕ). drop n (stimuli_of stimuli old.id)) (sym (stimulus_count-push old.items.items item))
           ∙ ap (λ (items : List Item). drop (stimulus_count items) (stimuli_of stimuli old.id)) (sym took.items)
@@ -80,12 +78,12 @@ seated-on plan stimuli old new item seated taken took =
 -- a core without a seat has no turn
 pub turn-nobody : (plan : Plan) (stimuli : List CoreStimuli) (w : World) (seats : List Seat) (core : CoreId) (choice : Choice) → w.items ≡ lists_of seats → length seats ≤ position_or_len (is_seat_of core) seats → turn plan stimuli w (core, choice) ≡ w
 turn-nobody plan stimuli w seats core choice lists past =
-    ap (λ (o : Option (CoreId × List Item)). cond (is_some o) (turn_by plan w core (named plan stimuli w core choice)) w) (ap (list_of core) lists ∙ list_of-nobody core seats past)
+    ap (λ (o : Option (CoreId × List Item)). cond (is_some o) (turn_by plan w core (next_in plan stimuli w core choice)) w) (ap (list_of core) lists ∙ list_of-nobody core seats past)
 
 -- the turn of a seat
 module _ (plan : Plan) (stimuli : List CoreStimuli) (w : World) (seats : List Seat) (mail : Mail) (board : BoardState) (plays : Plays plan stimuli w seats mail board) (choice : Choice) (at : ℕ) (seat : Seat) (here : at ≡ position_or_len (is_seat_of seat.id) seats) (within : at < length seats) (is : get_or seats at seat ≡ seat) where
-  abbrev named_here : Option Item
-  named_here = named_by plan board mail seat.id seat.stimuli.now seat.kernel choice
+  abbrev named_here : Option (Ask × Item)
+  named_here = next_by plan board mail seat.id seat.stimuli.now seat.kernel choice
 
   abbrev past : History
   past = history_by plan seat.id seat.items.items
@@ -110,49 +108,46 @@ module _ (plan : Plan) (stimuli : List CoreStimuli) (w : World) (seats : List Se
 
   turns : turn plan stimuli w (seat.id, choice) ≡ turn_by plan w seat.id named_here
   turns =
-      ap (λ (o : Option (CoreId × List Item)). cond (is_some o) (turn_by plan w seat.id (named plan stimuli w seat.id choice)) w) listed
-      ∙ ap (turn_by plan w seat.id) (named-agrees plan stimuli w seat.id seat.known mail plays.carries board plays.shown seat.stimuli.now left seats plays.lists seat.kernel kernel choice)
+      ap (λ (o : Option (CoreId × List Item)). cond (is_some o) (turn_by plan w seat.id (next_in plan stimuli w seat.id choice)) w) listed
+      ∙ ap (turn_by plan w seat.id) (next-agrees plan w seat.id seat.known mail plays.carries board plays.shown seats plays.lists stimuli seat.stimuli.now left seat.kernel kernel choice)
 
   pub turn-nothing : named_here ≡ None → turn plan stimuli w (seat.id, choice) ≡ w
   turn-nothing nothing = turns ∙ ap (turn_by plan w seat.id) nothing
 
-  module _ (item : Item) (names : named_here ≡ Some item) where
-    by_taking : turn plan stimuli w (seat.id, choice) ≡ cond (takes outbox_size (view_of plan seat.id) past item) (appends plan w seat.id item) w
+  module _ (ask : Ask) (item : Item) (names : named_here ≡ Some (ask, item)) where
+    by_taking : turn plan stimuli w (seat.id, choice) ≡ cond (takes outbox_size (view_of plan seat.id) past item) (appends plan w seat.id ask item) w
     by_taking =
         turns ∙ ap (turn_by plan w seat.id) names
-        ∙ ap (λ (h : History). cond (takes outbox_size (view_of plan seat.id) h item) (appends plan w seat.id item) w) history
+        ∙ ap (λ (h : History). cond (takes outbox_size (view_of plan seat.id) h item) (appends plan w seat.id ask item) w) history
 
     pub turn-refused : takes outbox_size (view_of plan seat.id) past item ≡ false → turn plan stimuli w (seat.id, choice) ≡ w
-    turn-refused refused = by_taking ∙ ap (λ (b : Bool). cond b (appends plan w seat.id item) w) refused
+    turn-refused refused = by_taking ∙ ap (λ (b : Bool). cond b (appends plan w seat.id ask item) w) refused
 
     -- one item more
     pub turn-appends : takes outbox_size (view_of plan seat.id) past item ≡ true → item_total (turn plan stimuli w (seat.id, choice)) ≡ suc (item_total w)
     turn-appends taken =
-        ap item_total (by_taking ∙ ap (λ (b : Bool). cond b (appends plan w seat.id item) w) taken)
+        ap item_total (by_taking ∙ ap (λ (b : Bool). cond b (appends plan w seat.id ask item) w) taken)
         ∙ total-push seat.id item w.items (seat.id, seat.items.items) listed
 
     module _ (new : Seat) (took : Took seat new item) (placed : IsPlaced mail seat.id item) where
       seats-on : takes outbox_size (view_of plan seat.id) past item ≡ true → All (IsSeated plan stimuli) (set seats at new)
       seats-on taken = All-set (IsSeated plan stimuli) seats at new (seated-on plan stimuli seat new item seated taken took) plays.seated
 
-      lists-on : (appends plan w seat.id item).items ≡ lists_of (set seats at new)
+      lists-on : (appends plan w seat.id ask item).items ≡ lists_of (set seats at new)
       lists-on =
           ap (with_item seat.id item) plays.lists
           ∙ lists_of-set seat.id item seats at new seat here within (took.id ∙ ap (λ (s : Seat). s.id) (sym is)) (took.items ∙ ap (λ (s : Seat). s.items.items ++ item ∷ []) (sym is))
 
-      carries-on : IsMail plan (appends plan w seat.id item) (carried seat.id (front_of seat.kernel.border.outbox) item mail)
+      carries-on : IsMail plan (appends plan w seat.id ask item) (carried seat.id (front_of seat.kernel.border.outbox) item mail)
       carries-on =
-          subst (λ (s : KernelState). IsMail plan (appends plan w seat.id item) (carried seat.id (front_of s.border.outbox) item mail)) (sym kernel)
-          (carries_on plan w seat.id item (seat.id, seat.items.items) listed mail plays.carries seat.known placed)
+          subst (λ (s : KernelState). IsMail plan (appends plan w seat.id ask item) (carried seat.id (front_of s.border.outbox) item mail)) (sym kernel)
+          (carries_on plan w seat.id ask item (seat.id, seat.items.items) listed mail plays.carries seat.known placed)
 
-      board-on : told seat.id seat.mode item board ≡ board_in plan (appends plan w seat.id item)
-      board-on =
-          ap (told seat.id seat.mode item) plays.shown
-          ∙ ap (λ (mode : CoreMode). told seat.id mode item (board_in plan w)) seated.mode
-          ∙ told-on (first_board plan.master) w.calls seat.id (call_of (view_of plan seat.id).own.mode item)
+      board-on : told seat.id ask board ≡ board_in plan (appends plan w seat.id ask item)
+      board-on = ap (told seat.id ask) plays.shown ∙ told-on seat.id plan w ask
 
-      pub turn-taken : takes outbox_size (view_of plan seat.id) past item ≡ true → Plays plan stimuli (turn plan stimuli w (seat.id, choice)) (set seats at new) (carried seat.id (front_of seat.kernel.border.outbox) item mail) (told seat.id seat.mode item board)
+      pub turn-taken : takes outbox_size (view_of plan seat.id) past item ≡ true → Plays plan stimuli (turn plan stimuli w (seat.id, choice)) (set seats at new) (carried seat.id (front_of seat.kernel.border.outbox) item mail) (told seat.id ask board)
       turn-taken taken =
-          subst (λ (next : World). Plays plan stimuli next (set seats at new) (carried seat.id (front_of seat.kernel.border.outbox) item mail) (told seat.id seat.mode item board))
-          (sym (by_taking ∙ ap (λ (b : Bool). cond b (appends plan w seat.id item) w) taken))
+          subst (λ (next : World). Plays plan stimuli next (set seats at new) (carried seat.id (front_of seat.kernel.border.outbox) item mail) (told seat.id ask board))
+          (sym (by_taking ∙ ap (λ (b : Bool). cond b (appends plan w seat.id ask item) w) taken))
           (record { seated = seats-on taken; lists = lists-on; carries = carries-on; shown = board-on })

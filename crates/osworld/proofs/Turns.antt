@@ -7,31 +7,32 @@ use Rattle.osbase.specs.declared.turns.CoreStimuli.{CoreStimuli}
 use Rattle.osplan.specs.declared.plans.Plan.{Plan}
 use Rattle.osplan.specs.View.{view_of}
 use Rattle.oskernel.specs.Step.{takes, outbox_size}
-use Rattle.osworld.specs.World.{World, appends, history_in, named, turn, turn_by, world_from}
+use Rattle.osworld.specs.declared.asks.Ask.{Ask}
+use Rattle.osworld.specs.World.{World, appends, history_in, next_in, turn, turn_by, world_from}
 use Rattle.osworld.proofs.Listed.{list_of}
 
 -- A turn appends this item to this list.
-pub record Appends (plan : Plan) (stimuli : List CoreStimuli) (w : World) (core : CoreId) (item : Item) (p : CoreId × List Item) : Type 0 where
+pub record Appends (plan : Plan) (stimuli : List CoreStimuli) (w : World) (core : CoreId) (ask : Ask) (item : Item) (p : CoreId × List Item) : Type 0 where
   pub listed : list_of core w.items ≡ Some p
   pub choice : Choice
-  pub names : named plan stimuli w core choice ≡ Some item
+  pub names : next_in plan stimuli w core choice ≡ Some (ask, item)
   pub taken : takes outbox_size (view_of plan core) (history_in plan w core) item ≡ true
 
-module _ (plan : Plan) (stimuli : List CoreStimuli) (P : World → Type 0) (keeps : (w : World) (core : CoreId) (item : Item) (p : CoreId × List Item) → Appends plan stimuli w core item p → P w → P (appends plan w core item)) where
+module _ (plan : Plan) (stimuli : List CoreStimuli) (P : World → Type 0) (keeps : (w : World) (core : CoreId) (ask : Ask) (item : Item) (p : CoreId × List Item) → Appends plan stimuli w core ask item p → P w → P (appends plan w core ask item)) where
   turn-keeps : (w : World) (t : CoreId × Choice) → P w → P (turn plan stimuli w t)
   turn-keeps w t has = by (list_of t.0 w.items) refl
     where
-      item_keeps : (p : CoreId × List Item) → list_of t.0 w.items ≡ Some p → (item : Item) → named plan stimuli w t.0 t.1 ≡ Some item → (b : Bool) → takes outbox_size (view_of plan t.0) (history_in plan w t.0) item ≡ b → P (cond b (appends plan w t.0 item) w)
-      item_keeps p listed item names true taken = keeps w t.0 item p (record { listed = listed; choice = t.1; names = names; taken = taken }) has
-      item_keeps p listed item names false taken = has
+      item_keeps : (p : CoreId × List Item) → list_of t.0 w.items ≡ Some p → (ask : Ask) (item : Item) → next_in plan stimuli w t.0 t.1 ≡ Some (ask, item) → (b : Bool) → takes outbox_size (view_of plan t.0) (history_in plan w t.0) item ≡ b → P (cond b (appends plan w t.0 ask item) w)
+      item_keeps p listed ask item names true taken = keeps w t.0 ask item p (record { listed = listed; choice = t.1; names = names; taken = taken }) has
+      item_keeps p listed ask item names false taken = has
 
-      named_keeps : (p : CoreId × List Item) → list_of t.0 w.items ≡ Some p → (o : Option Item) → named plan stimuli w t.0 t.1 ≡ o → P (turn_by plan w t.0 o)
+      named_keeps : (p : CoreId × List Item) → list_of t.0 w.items ≡ Some p → (o : Option (Ask × Item)) → next_in plan stimuli w t.0 t.1 ≡ o → P (turn_by plan w t.0 o)
       named_keeps p listed None names = has
-      named_keeps p listed (Some item) names = item_keeps p listed item names (takes outbox_size (view_of plan t.0) (history_in plan w t.0) item) refl
+      named_keeps p listed (Some (ask, item)) names = item_keeps p listed ask item names (takes outbox_size (view_of plan t.0) (history_in plan w t.0) item) refl
 
-      by : (o : Option (CoreId × List Item)) → list_of t.0 w.items ≡ o → P (cond (is_some o) (turn_by plan w t.0 (named plan stimuli w t.0 t.1)) w)
+      by : (o : Option (CoreId × List Item)) → list_of t.0 w.items ≡ o → P (cond (is_some o) (turn_by plan w t.0 (next_in plan stimuli w t.0 t.1)) w)
       by None nobody = has
-      by (Some p) listed = named_keeps p listed (named plan stimuli w t.0 t.1) refl
+      by (Some p) listed = named_keeps p listed (next_in plan stimuli w t.0 t.1) refl
 
   pub turns-keep : (w : World) (ts : List (CoreId × Choice)) → P w → P (world_from plan stimuli w ts)
   turns-keep w [] has = has

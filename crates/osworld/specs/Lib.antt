@@ -1,3 +1,4 @@
+pub mod Asking
 pub mod Fits
 pub mod Sound
 pub mod World

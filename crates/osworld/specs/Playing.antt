@@ -35,7 +35,6 @@ report_of seat = record {
 pub record IsSeated (plan : Plan) (stimuli : List CoreStimuli) (seat : Seat) : Type 0 where
   pub tracks : Tracks (view_of plan seat.id) (history_by plan seat.id seat.items.items) [] [] seat.kernel seat.marks.items
   pub alone : solo (view_of plan seat.id) seat.items.items ≡ Some (history_by plan seat.id seat.items.items)
-  pub mode : seat.mode ≡ (view_of plan seat.id).own.mode
   pub left : seat.stimuli.now ≡ drop (stimulus_count seat.items.items) (stimuli_of stimuli seat.id)
 
 abbrev pub lists_of : List Seat → List (CoreId × List Item)

@@ -1,12 +1,14 @@
 //! The world of a listed run: cores, mailboxes and the board, turn by turn.
 #![tactic(auto)]
 
+pub mod asks;
 pub mod ends;
 mod naming;
 pub mod runs;
 mod seats;
 mod worlds;
 
+pub use asks::{Answer, Ask, asked, named};
 pub use ends::have_all_ended;
 pub use osbase::Report;
 pub use runs::{RunFault, default_schedule, run_default, run_world};

@@ -10,17 +10,18 @@ ghost use Rattle.oskernel.specs.Admission.{takes_in};
 ghost use Rattle.oskernel.specs.Step.{after};
 ghost use Rattle.osbase.specs.Runs.{stimuli_of};
 ghost use Rattle.osworld.specs.Runs.{is_ended_phase};
-ghost use Rattle.osworld.specs.Naming.{IsPlaced, left_after, named_by};
+ghost use Rattle.osworld.specs.Naming.{IsPlaced, left_after, next_by};
 ghost use Rattle.oskernel.specs.declared.kernel.TheConstants.{STEP_MARKS};
 
-use crate::naming::{Mailboxes, looked_item, own_item, served_item};
+use crate::asks::{Ask, asked, named};
+use crate::naming::{Mailboxes, answer_to};
 use osbase::{
     CORES, Choice, CoreId, CoreStimuli, Envelope, Item, List, Mark, Phase, Report, Stimulus,
     stimuli_for,
 };
 use osboard::BoardList;
-use oskernel::{Kernel, STEP_MARKS, Want};
-use osplan::{Config, Core, CoreMode, Plan};
+use oskernel::{Kernel, STEP_MARKS};
+use osplan::{Config, Core, Plan};
 use std::alloc::{AllocError, Global};
 
 /// A kernel of the sizes that every configuration within the limits fits: 32 priorities, 64 jobs, an
@@ -31,7 +32,6 @@ pub type CoreKernel<'a> = Kernel<'a, 32, 64, 64>;
 #[derive(Drop)]
 pub struct Seat<'a> {
     pub id: CoreId,
-    pub mode: CoreMode,
     pub kernel: CoreKernel<'a>,
     pub stimuli: &'a [Stimulus],
     pub items: Vec<Item>,
@@ -42,19 +42,12 @@ pub struct Seat<'a> {
 impl<'a> Seat<'a> {
     /// The core at the beginning of a run, with room for the items and lines that its stimuli are likely to
     /// bring, which then need not be moved while they grow. Where so much is refused it begins with none.
-    pub fn new(
-        alloc: Global,
-        config: &'a Config,
-        id: CoreId,
-        mode: CoreMode,
-        stimuli: &'a [CoreStimuli],
-    ) -> Self
+    pub fn new(alloc: Global, config: &'a Config, id: CoreId, stimuli: &'a [CoreStimuli]) -> Self
         requires number { id.number < CORES }
         requires configured { IsSome (core_of config.now id) }
         requires limits { IsTrue (is_within_limits config.now) }
         ensures kernel { result.kernel ≡ state_of (view_of config.now id) [] }
         ensures core { result.id ≡ id }
-        ensures mode { result.mode ≡ mode }
         ensures stimuli { result.stimuli.now ≡ stimuli_of stimuli.now id }
         ensures items { result.items.items ≡ [] }
         ensures marks { result.marks.items ≡ [] }
@@ -63,7 +56,6 @@ impl<'a> Seat<'a> {
         let ahead = stimuli.len().saturating_add(STEP_MARKS);
         Seat {
             id,
-            mode,
             kernel: Kernel::new(config, id),
             stimuli,
             // A stimulus is taken to bring itself and an envelope, and three lines.
@@ -72,25 +64,22 @@ impl<'a> Seat<'a> {
         }
     }
 
-    /// The item that a turn of this core names.
-    pub fn named(
+    /// What a turn of this core asks, and the item to which the answer leads.
+    pub fn next(
         &self,
         plan: &Plan,
         board: &BoardList,
         mail: &Mailboxes,
         choice: Choice,
-    ) -> Option<Item>
-        ensures value { result ≡ named_by plan.now board.now mail.now self.now.id self.now.stimuli.now self.now.kernel choice }
-        ensures placed { IfSome result (λ i. IsPlaced mail.now self.now.id i) }
+    ) -> Option<(Ask, Item)>
+        ensures value { result ≡ next_by plan.now board.now mail.now self.now.id self.now.stimuli.now self.now.kernel choice }
+        ensures placed { IfSome result (λ t. IsPlaced mail.now self.now.id t.1) }
     {
-        match choice {
-            Choice::Own => {
-                let want = self.kernel.want();
-                own_item(plan, board, mail, self.id, self.stimuli, want)
-            }
-            Choice::Serve(from) => served_item(mail, self.id, from),
-            Choice::Look => looked_item(board, self.id, self.kernel.phase()),
-        }
+        let phase = self.kernel.phase();
+        let next = self.stimuli.first().copied();
+        let ask = asked(plan, self.id, self.kernel.want(), phase, next, choice)?;
+        let item = named(self.id, phase, ask, answer_to(board, mail, self.id, ask))?;
+        Some((ask, item))
     }
 
     /// Makes room for one more item and all lines that it may print. Without memory nothing changes.
@@ -99,7 +88,6 @@ impl<'a> Seat<'a> {
         ensures marks { OnOk result (vec_len self.new.marks + STEP_MARKS ≤ vec_capacity self.new.marks) }
         ensures kernel { self.new.kernel ≡ self.old.kernel }
         ensures id { self.new.id ≡ self.old.id }
-        ensures mode { self.new.mode ≡ self.old.mode }
         ensures stimuli { self.new.stimuli ≡ self.old.stimuli }
         ensures taken { self.new.items.items ≡ self.old.items.items }
         ensures printed { self.new.marks.items ≡ self.old.marks.items }
@@ -114,7 +102,6 @@ impl<'a> Seat<'a> {
         requires marks { vec_len self.old.marks + STEP_MARKS ≤ vec_capacity self.old.marks }
         requires taken { IsTrue (takes_in 64 self.old.kernel item) }
         ensures id { self.new.id ≡ self.old.id }
-        ensures mode { self.new.mode ≡ self.old.mode }
         ensures stimuli { self.new.stimuli.now ≡ left_after item self.old.stimuli.now }
         ensures taken { self.new.items.items ≡ self.old.items.items ++ item ∷ [] }
         ensures does { Does (λ v h. after v h item) self.old.kernel self.new.kernel self.old.marks.items self.new.marks.items }

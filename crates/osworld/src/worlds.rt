@@ -51,8 +51,8 @@ impl<'a> World<'a> {
         let mut seats = Vec::with_capacity(alloc, CORES)?;
         for number in 0..CORE_NUMBERS {
             let id = CoreId { number };
-            if let Some(core) = plan.core(id) {
-                seats.push(Seat::new(alloc, config, id, core.mode, stimuli))?;
+            if plan.core(id).is_some() {
+                seats.push(Seat::new(alloc, config, id, stimuli))?;
             }
         }
         Ok(World {
@@ -93,14 +93,15 @@ impl<'a> World<'a> {
             return Ok(false);
         };
         let seat = &mut self.seats[at];
-        let Some(item) = seat.named(self.config.plan(), &self.board, &self.mail, choice) else {
+        let Some((ask, item)) = seat.next(self.config.plan(), &self.board, &self.mail, choice)
+        else {
             return Ok(false);
         };
         if !seat.kernel.may_take(&item) {
             return Ok(false);
         }
         seat.make_room()?;
-        tell(&mut self.board, seat.id, seat.mode, &item);
+        tell(&mut self.board, seat.id, ask);
         carry(&mut self.mail, seat.id, seat.kernel.front(), &item);
         seat.take(item);
         Ok(true)

@@ -1,21 +1,25 @@
-use Rattle.std.proofs.Common.{Some, List, ap, ◌∙◌}
+use Rattle.std.proofs.Common.{◌≡◌, Some, is_some, List, ap, sym, ◌∙◌}
 use Rattle.osmail.specs.Mail.{empty_mail}
 use Rattle.osplan.specs.declared.plans.Plan.{Plan}
+use Rattle.osplan.specs.View.{core_of}
+use Rattle.osplan.proofs.Tests.{is_some-copied}
 use Rattle.osboard.specs.Boards.{first_board}
 use Rattle.osworld.specs.declared.seats.Seat.{Seat}
 use Rattle.osworld.proofs.Places.{place_by}
-use Rattle.osworld.proofs.Started.{started-all, started-push, started-skip}
+use Rattle.osworld.proofs.Started.{id_at, started-all, started-push, started-skip}
 use Rattle.osworld.proofs.worlds.World.new.Goals as goal
-use Rattle.osworld.proofs.worlds.World.new.Goals.{in-Some+in_ok-push, in_default}
+use Rattle.osworld.proofs.worlds.World.new.Goals.{then-is_some+in_ok-push, else-is_some}
 
 pub loop-number-preserved : goal.loop-number-preserved
-loop-number-preserved c = elim c.match-core.branch [
-  | in-Some+in_ok-push w ↦ rw (w.seats-is, w.in_ok-push.ensures.items)
-      (started-push c.args.config.now c.plan-plan.result.now c.plan-plan.ensures.value c.args.stimuli.now c.loop-number.seats.items c.loop-number.number w.new.result w.in-Some.core.now c.loop-number-test.true w.in-Some.ensures c.loop-number.invariant
-      w.new.ensures.core w.new.ensures.kernel w.new.ensures.mode w.new.ensures.stimuli w.new.ensures.items w.new.ensures.marks)
-  | in_default w ↦ rw (w.seats-is)
-      (started-skip c.args.config.now c.plan-plan.result.now c.plan-plan.ensures.value c.args.stimuli.now c.loop-number.seats.items c.loop-number.number c.loop-number-test.true w.in_default.ensures c.loop-number.invariant)
-]
+loop-number-preserved c =
+    let there : is_some (core_of c.args.config.now (id_at c.loop-number.number)) ≡ c.is_some.result = ap (λ (p : Plan). is_some (core_of p (id_at c.loop-number.number))) (sym c.plan-plan.ensures.value) ∙ ap is_some (sym c.core.ensures) ∙ is_some-copied c.core.result ∙ sym c.is_some.ensures in
+    elim c.if-is_some.branch [
+      | then-is_some+in_ok-push w ↦ rw (w.seats-is, w.in_ok-push.ensures.items)
+          (started-push c.args.config.now c.args.stimuli.now c.loop-number.seats.items c.loop-number.number w.new.result c.loop-number-test.true (there ∙ w.if-is_some.true) c.loop-number.invariant
+          w.new.ensures.core w.new.ensures.kernel w.new.ensures.stimuli w.new.ensures.items w.new.ensures.marks)
+      | else-is_some w ↦ rw (w.seats-is)
+          (started-skip c.args.config.now c.args.stimuli.now c.loop-number.seats.items c.loop-number.number c.loop-number-test.true (there ∙ w.if-is_some.false) c.loop-number.invariant)
+    ]
 
 pub returns-clause-plays : goal.returns-clause-plays
 returns-clause-plays c =

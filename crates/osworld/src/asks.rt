@@ -1,0 +1,163 @@
+//! What a turn of a core asks of what it shares with the others, and the item to which the answer leads.
+
+ghost use Rattle.std.specs.Prelude.{◌≡◌};
+ghost use Rattle.osplan.specs.View.{is_configured, view_of};
+ghost use Rattle.osworld.specs.Asking.{asked_by, going_on, look_asked, named_by, own_asked, passing, replied, starting};
+
+use osbase::{Choice, CoreId, Envelope, Item, Phase, Status, Stimulus};
+use osboard::{BoardCall, BoardReply, BoardView};
+use oskernel::Want;
+use osplan::{CoreMode, Plan};
+
+/// What a turn asks.
+#[derive(Clone, Copy)]
+pub enum Ask {
+    /// A call of the board.
+    OfBoard(BoardCall),
+    /// Room for the front of the outbox in the mailbox for that core.
+    Room(CoreId),
+    /// The oldest envelope from that core.
+    Oldest(CoreId),
+    /// Nothing: StartCore of a core that is not configured.
+    StartUnknown(CoreId),
+    /// Nothing: the core's next stimulus.
+    TakeStimulus(Stimulus),
+}
+
+/// What it is answered.
+#[derive(Clone, Copy)]
+pub enum Answer {
+    Replied(BoardReply),
+    HasRoom(bool),
+    Found(Option<Envelope>),
+    Unasked,
+}
+
+/// What a core's turn asks, by what its own turn would do, its phase and its next stimulus.
+pub fn asked(
+    plan: &Plan,
+    id: CoreId,
+    want: Want,
+    phase: Phase,
+    next: Option<Stimulus>,
+    choice: Choice,
+) -> Option<Ask>
+    ensures { result ≡ asked_by (view_of plan.now id) want phase next choice }
+{
+    match choice {
+        Choice::Own => own_asked(plan, id, want, next),
+        Choice::Serve(from) => Some(Ask::Oldest(from)),
+        Choice::Look => look_asked(phase),
+    }
+}
+
+fn own_asked(plan: &Plan, id: CoreId, want: Want, next: Option<Stimulus>) -> Option<Ask>
+    ensures { result ≡ own_asked (view_of plan.now id) next want }
+{
+    match want {
+        Want::Start(core) => Some(starting(plan, id, core)),
+        Want::Enter => Some(Ask::OfBoard(BoardCall::Enter(mode_of(plan, id)))),
+        Want::Ready => Some(Ask::OfBoard(BoardCall::MakeReady)),
+        Want::Post(to) => Some(Ask::Room(to)),
+        Want::GoOn => Some(going_on(next)),
+        Want::Nothing => None,
+    }
+}
+
+// StartCore of a core that is not configured is answered without the board.
+fn starting(plan: &Plan, id: CoreId, core: CoreId) -> Ask
+    ensures { result ≡ starting (view_of plan.now id) core }
+{
+    if is_configured(plan, id, core) {
+        Ask::OfBoard(BoardCall::Start(core))
+    } else {
+        Ask::StartUnknown(core)
+    }
+}
+
+// Whether the core sees that the other is configured: every core sees the same.
+fn is_configured(plan: &Plan, id: CoreId, core: CoreId) -> bool
+    ensures { result ≡ is_configured (view_of plan.now id) core }
+{
+    let _ = id;
+    plan.core(core).is_some()
+}
+
+fn mode_of(plan: &Plan, id: CoreId) -> CoreMode
+    ensures { result ≡ (view_of plan.now id).own.mode }
+{
+    match plan.core(id) {
+        Some(core) => core.mode,
+        None => CoreMode::DontCare,
+    }
+}
+
+// The next stimulus, or else the core drains.
+fn going_on(next: Option<Stimulus>) -> Ask
+    ensures { result ≡ going_on next }
+{
+    match next {
+        Some(stimulus) => Ask::TakeStimulus(stimulus),
+        None => Ask::OfBoard(BoardCall::Drain),
+    }
+}
+
+fn look_asked(phase: Phase) -> Option<Ask>
+    ensures { result ≡ look_asked phase }
+{
+    match phase {
+        Phase::Off | Phase::FirstGate | Phase::SecondGate | Phase::Drained => {
+            Some(Ask::OfBoard(BoardCall::Look))
+        }
+        Phase::Closing => Some(Ask::OfBoard(BoardCall::LookHalt)),
+        _ => None,
+    }
+}
+
+/// The item to which the answer leads a core in this phase.
+pub fn named(id: CoreId, phase: Phase, ask: Ask, answer: Answer) -> Option<Item>
+    ensures { result ≡ named_by id phase ask answer }
+{
+    match (ask, answer) {
+        (Ask::OfBoard(call), Answer::Replied(reply)) => replied(id, phase, call, reply),
+        (Ask::Room(to), Answer::HasRoom(true)) => Some(Item::Posted(to)),
+        (Ask::Oldest(from), Answer::Found(Some(envelope))) => Some(Item::Received {
+            from,
+            number: envelope.number,
+            message: envelope.message,
+        }),
+        (Ask::StartUnknown(core), Answer::Unasked) => Some(Item::Began {
+            core,
+            status: Status::EOsId,
+        }),
+        (Ask::TakeStimulus(stimulus), Answer::Unasked) => Some(Item::Stim(stimulus)),
+        (_, _) => None,
+    }
+}
+
+fn replied(id: CoreId, phase: Phase, call: BoardCall, reply: BoardReply) -> Option<Item>
+    ensures { result ≡ replied id phase call reply }
+{
+    match (call, reply) {
+        (BoardCall::Start(core), BoardReply::Started(status)) => Some(Item::Began { core, status }),
+        (BoardCall::Enter(_), BoardReply::Acknowledged) => Some(Item::Entered),
+        (BoardCall::MakeReady, BoardReply::Acknowledged) => Some(Item::Readied),
+        (BoardCall::Drain, BoardReply::Acknowledged) => Some(Item::Drained),
+        (BoardCall::Look, BoardReply::Shown(view)) => passing(id, &view, phase),
+        (BoardCall::LookHalt, BoardReply::Halting(halt)) => Some(Item::Last(halt)),
+        (_, _) => None,
+    }
+}
+
+// A gate opens where all started cores have come to it.
+fn passing(id: CoreId, view: &BoardView, phase: Phase) -> Option<Item>
+    ensures { result ≡ passing id view.now phase }
+{
+    match phase {
+        Phase::Off if view.started.contains(id) => Some(Item::On),
+        Phase::FirstGate if view.have_all_entered() => Some(Item::Pass1(view.agreement())),
+        Phase::SecondGate if view.are_all_ready() => Some(Item::Pass2(view.started)),
+        Phase::Drained if view.have_all_drained() => Some(Item::PassEnd),
+        _ => None,
+    }
+}
