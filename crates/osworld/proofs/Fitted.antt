@@ -25,14 +25,14 @@ use Rattle.osworld.specs.declared.asks.Answer.{Answer}
 use Rattle.osworld.specs.declared.asks.Answer.TheVariants.{Replied}
 use Rattle.osworld.specs.Asking.{told_by}
 use Rattle.osworld.specs.Fits.{FitsBy, ids_of, AreAnswered, Fits, FitsCore, Leads, has_drained, IsBeginning, is_drain, stimuli_in}
-use Rattle.osworld.specs.World.{World, answer_in, appends, board_in, first_world, history_in, items_in, stimulus_count, world}
+use Rattle.osworld.specs.World.{World, answer_in, appends, board_in, first_world, history_in, items_in, next_stimulus, stimulus_count, world}
 use Rattle.osworld.proofs.Beginnings.{begins-longer, begins-next, begins-through, begins-whole}
 use Rattle.osworld.proofs.Listed.{items_by, list_of, list_of-same, list_of-other, history_from-push}
 use Rattle.osworld.proofs.Streams.{is_from, is_post_to}
 use Rattle.osworld.proofs.Carrying.{and_false, history-same, history-other, posted-in}
 use Rattle.osworld.proofs.Started.{no_history, nothing_of}
-use Rattle.osworld.proofs.Turns.{turns-keep}
-use Rattle.osworld.proofs.Fitting.{envelope_in, has_drained-push, IsNext, Known, length-received, length-stimuli_in, next-known, received-is, solo-push, stimuli_in-push}
+use Rattle.osworld.proofs.Turns.{Appends, turns-keep}
+use Rattle.osworld.proofs.Fitting.{IsNext, IsOwnAsk, asks-own, envelope_in, follows, has_drained-push, length-received, length-stimuli_in, received-is, solo-push, stimuli_in-push}
 
 -- the world's lists fit by its own calls of the board
 abbrev WorldFits : Plan → List CoreStimuli → World → Type 0
@@ -120,12 +120,15 @@ module _ (plan : Plan) (stimuli : List CoreStimuli) (w : World) (core : CoreId) 
       }
 
 -- a world in which a turn appended an item
-module _ (plan : Plan) (stimuli : List CoreStimuli) (w : World) (fits : WorldFits plan stimuli w) (core : CoreId) (ask : Ask) (item : Item) (p : CoreId × List Item) (listed : list_of core w.items ≡ Some p) (known : Known plan stimuli w core ask item) (taken : takes outbox_size (view_of plan core) (history_in plan w core) item ≡ true) where
+module _ (plan : Plan) (stimuli : List CoreStimuli) (w : World) (fits : WorldFits plan stimuli w) (core : CoreId) (ask : Ask) (item : Item) (p : CoreId × List Item) (turn : Appends plan stimuli w core ask item p) where
   abbrev next : World
   next = appends plan w core ask item
 
+  follows-on : IsNext plan stimuli w core item
+  follows-on = follows plan stimuli w core _ ask item (subst (IsOwnAsk (view_of plan core) (next_stimulus stimuli w core)) turn.asks (asks-own (view_of plan core) _ _ _ turn.choice)) turn.names
+
   items-same : items_in next core ≡ items_in w core ++ item ∷ []
-  items-same = ap items_by (list_of-same core item w.items p listed) ∙ ap (λ (o : Option (CoreId × List Item)). items_by o ++ item ∷ []) (sym listed)
+  items-same = ap items_by (list_of-same core item w.items p turn.listed) ∙ ap (λ (o : Option (CoreId × List Item)). items_by o ++ item ∷ []) (sym turn.listed)
 
   items-other : (c : CoreId) → same_core core c ≡ false → items_in next c ≡ items_in w c
   items-other c other = ap items_by (list_of-other core c item w.items other)
@@ -136,7 +139,7 @@ module _ (plan : Plan) (stimuli : List CoreStimuli) (w : World) (fits : WorldFit
       by : (b : Bool) → same_core core id ≡ b → FitsCore plan stimuli id (items_in next id)
       by true e =
           subst (λ (c : CoreId). FitsCore plan stimuli c (items_in next c)) (same_core-true core id e)
-          (subst (FitsCore plan stimuli core) (sym items-same) (core_on plan stimuli w core (fits.cores core) item known.follows taken))
+          (subst (FitsCore plan stimuli core) (sym items-same) (core_on plan stimuli w core (fits.cores core) item follows-on turn.taken))
       by false e = subst (FitsCore plan stimuli id) (sym (items-other id e)) (fits.cores id)
 
   received-in : (from to : CoreId) → received from (history_in plan next to) ≡ cond (is_from item from && same_core core to) (received from (history_in plan w to) ++ envelope_in item) (received from (history_in plan w to))
@@ -145,14 +148,14 @@ module _ (plan : Plan) (stimuli : List CoreStimuli) (w : World) (fits : WorldFit
       by : (b : Bool) → same_core core to ≡ b → received from (history_in plan next to) ≡ cond (is_from item from && b) (received from (history_in plan w to) ++ envelope_in item) (received from (history_in plan w to))
       by true e =
           subst (λ (c : CoreId). received from (history_in plan next c) ≡ cond (is_from item from && true) (received from (history_in plan w c) ++ envelope_in item) (received from (history_in plan w c))) (same_core-true core to e)
-          (ap (received from) (history-same plan w core ask item p listed) ∙ received-is (view_of plan core) from item (history_in plan w core)
+          (ap (received from) (history-same plan w core ask item p turn.listed) ∙ received-is (view_of plan core) from item (history_in plan w core)
           ∙ ap (λ (b : Bool). cond b (received from (history_in plan w core) ++ envelope_in item) (received from (history_in plan w core))) (sym (and-true (is_from item from))))
-      by false e = ap (received from) (history-other plan w core ask item p listed to e) ∙ sym (and_false (is_from item from) _ _)
+      by false e = ap (received from) (history-other plan w core ask item p turn.listed to e) ∙ sym (and_false (is_from item from) _ _)
 
   streams-on : (from to : CoreId) → IsBeginning (received from (history_in plan next to)) (posted to (history_in plan next from))
   streams-on from to =
       subst (λ (xs : List Envelope). IsBeginning xs (posted to (history_in plan next from))) (sym (received-in from to))
-      (subst (λ (ys : List Envelope). IsBeginning (cond (is_from item from && same_core core to) (received from (history_in plan w to) ++ envelope_in item) (received from (history_in plan w to))) ys) (sym (posted-in plan w core ask item p listed from to))
+      (subst (λ (ys : List Envelope). IsBeginning (cond (is_from item from && same_core core to) (received from (history_in plan w to) ++ envelope_in item) (received from (history_in plan w to))) ys) (sym (posted-in plan w core ask item p turn.listed from to))
       (by (is_from item from) (same_core core to) refl refl))
     where
       front : List Envelope
@@ -165,7 +168,7 @@ module _ (plan : Plan) (stimuli : List CoreStimuli) (w : World) (fits : WorldFit
       got : (c : CoreId) → same_core core c ≡ true → is_from item from ≡ true → IsBeginning (received from (history_in plan w c) ++ envelope_in item) (cond (same_core core from && is_post_to item c) (posted c (history_in plan w from) ++ front) (posted c (history_in plan w from)))
       got c here is =
           subst (λ (c : CoreId). IsBeginning (received from (history_in plan w c) ++ envelope_in item) (cond (same_core core from && is_post_to item c) (posted c (history_in plan w from) ++ front) (posted c (history_in plan w from)))) (same_core-true core c here)
-          (let e = next-envelope plan stimuli w core from item is known.follows in
+          (let e = next-envelope plan stimuli w core from item is follows-on in
           subst (λ (b : Bool). IsBeginning (received from (history_in plan w core) ++ envelope_in item) (cond (same_core core from && b) (posted core (history_in plan w from) ++ front) (posted core (history_in plan w from)))) (sym (e.3 core))
           (subst (λ (ys : List Envelope). IsBeginning (received from (history_in plan w core) ++ envelope_in item) ys) (sym (and_false (same_core core from) (posted core (history_in plan w from) ++ front) (posted core (history_in plan w from))))
           (subst (λ (xs : List Envelope). IsBeginning (received from (history_in plan w core) ++ xs) (posted core (history_in plan w from))) (sym e.1)
@@ -192,7 +195,7 @@ module _ (plan : Plan) (stimuli : List CoreStimuli) (w : World) (fits : WorldFit
           subst (λ (c : CoreId). AreAnswered (view_of plan c) [] (items_in next c) (calls_by c w.calls ++ calls_by c calls)) (same_core-true core id e)
           (subst (λ (xs : List Item). AreAnswered (view_of plan core) [] xs (calls_by core w.calls ++ calls_by core calls)) (sym items-same)
           (subst (λ (es : List BoardEntry). AreAnswered (view_of plan core) [] (items_in w core ++ item ∷ []) (calls_by core w.calls ++ es)) (sym (told-own core ask (answer_in plan w core ask)))
-          (answered-push (view_of plan core) [] (items_in w core) (calls_by core w.calls) ask (answer_in plan w core ask) item (fits.answers core) known.leads)))
+          (answered-push (view_of plan core) [] (items_in w core) (calls_by core w.calls) ask (answer_in plan w core ask) item (fits.answers core) (record { choice = turn.choice; next = next_stimulus stimuli w core; asks = turn.asks; names = turn.names }))))
       by false e =
           subst (λ (xs : List Item). AreAnswered (view_of plan id) [] xs (calls_by id w.calls ++ calls_by id calls)) (sym (items-other id e))
           (subst (λ (es : List BoardEntry). AreAnswered (view_of plan id) [] (items_in w id) es) (sym (ap (λ (es : List BoardEntry). calls_by id w.calls ++ es) (told-other id core ask (answer_in plan w core ask) e) ∙ append-nil (calls_by id w.calls))) (fits.answers id))
@@ -210,4 +213,4 @@ first-fits plan stimuli = record {
 
 -- every world fits
 pub world_fits : (plan : Plan) (stimuli : List CoreStimuli) (turns : List (CoreId × Choice)) → Fits plan stimuli (world plan stimuli turns).items
-world_fits plan stimuli turns = ((world plan stimuli turns).calls, turns-keep plan stimuli (WorldFits plan stimuli) (λ w core ask item p turn fits. fits_on plan stimuli w fits core ask item p turn.listed (next-known plan stimuli w core turn.choice ask item turn.names) turn.taken) (first_world plan) turns (first-fits plan stimuli))
+world_fits plan stimuli turns = ((world plan stimuli turns).calls, turns-keep plan stimuli (WorldFits plan stimuli) (λ w core ask item p turn fits. fits_on plan stimuli w fits core ask item p turn) (first_world plan) turns (first-fits plan stimuli))

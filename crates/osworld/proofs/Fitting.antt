@@ -1,8 +1,7 @@
 -- Every world fits: what a turn names fits what the cores and the board came to.
-use Rattle.std.proofs.Common.{◌≡◌, suc, Bool, true, false, ◌||◌, cond, Option, Some, None, option_map, List, [], ◌∷◌, ◌++◌, length, refl, ap, subst, ◌∙◌, arith, length-append}
+use Rattle.std.proofs.Common.{◌≡◌, suc, Bool, true, false, ◌||◌, cond, Option, Some, None, List, [], ◌∷◌, ◌++◌, length, refl, ap, subst, ◌∙◌, arith, length-append}
 use Rattle.std.specs.List.{slice_get}
 use Rattle.std.proofs.lemmas.Option.{same_Some}
-use Rattle.osbase.specs.declared.statuses.Status.{Status}
 use Rattle.osbase.specs.declared.references.CoreId.{CoreId}
 use Rattle.osbase.specs.declared.messages.Envelope.{Envelope}
 use Rattle.osbase.specs.declared.items.Item.{Item}
@@ -14,20 +13,16 @@ use Rattle.osbase.specs.History.{History, Took, Printed, Noted, posted, received
 use Rattle.osbase.specs.Runs.{stimuli_of}
 use Rattle.osplan.specs.declared.plans.Plan.{Plan}
 use Rattle.osplan.specs.View.{View, is_configured, view_of}
-use Rattle.osbase.specs.Sets.{has_core}
-use Rattle.osstate.specs.Readings.{phase_at}
 use Rattle.oskernel.specs.declared.wants.Want.{Want}
 use Rattle.oskernel.specs.Step.{after, history_from, solo_from, takes, outbox_size}
-use Rattle.oskernel.specs.Wants.{want_of}
-use Rattle.osboard.specs.declared.calls.BoardCall.TheVariants.{Drain, Enter, Look, LookHalt, MakeReady, Start}
-use Rattle.osboard.specs.Boards.{agreement_in, start_answer}
+use Rattle.osboard.specs.declared.calls.BoardCall.TheVariants.{AskHalt, Drain, Enter, Look, Start}
+use Rattle.osboard.specs.Boards.{agreement_in}
 use Rattle.osworld.specs.declared.asks.Ask.{Ask}
 use Rattle.osworld.specs.declared.asks.Ask.TheVariants.{OfBoard, Room, Oldest, StartUnknown, TakeStimulus}
-use Rattle.osworld.specs.declared.asks.Answer.{Answer}
 use Rattle.osworld.specs.declared.asks.Answer.TheVariants.{HasRoom, Found}
-use Rattle.osworld.specs.Asking.{comes_to, going_on, look_asked, named_by, own_asked}
-use Rattle.osworld.specs.World.{World, answer_in, board_in, has_room, history_in, items_in, next_in, next_stimulus, stimulus_count}
-use Rattle.osworld.specs.Fits.{Leads, has_drained, is_drain, stimuli_in}
+use Rattle.osworld.specs.Asking.{asked_by, look_asked, named_by, passing}
+use Rattle.osworld.specs.World.{World, answer_in, board_in, has_room, history_in, items_in, next_stimulus, stimulus_count}
+use Rattle.osworld.specs.Fits.{has_drained, is_drain, stimuli_in}
 use Rattle.oskernel.proofs.Holding.{quiet_after}
 use Rattle.osworld.proofs.Streams.{is_from}
 
@@ -38,90 +33,63 @@ IsNext plan stimuli w id Item.Drained = slice_get (stimuli_of stimuli id) (stimu
 IsNext plan stimuli w id (Item.Received from number m) = slice_get (posted id (history_in plan w from)) (received_count from (history_in plan w id)) ≡ Some (record { number = number; message = m })
 IsNext plan stimuli w id item = Unit {0}
 
--- What a turn comes to is asked by it, and the answer leads to the item.
-comes-parts : (id : CoreId) (phase : Phase) (answers : Ask → Answer) (o : Option Ask) (ask : Ask) (item : Item) → comes_to id phase answers o ≡ Some (ask, item) → (o ≡ Some ask) × (named_by id phase ask (answers ask) ≡ Some item)
-comes-parts id phase answers None ask item e = cc
-comes-parts id phase answers (Some a) ask item e = by (named_by id phase a (answers a)) refl e
+-- What a core's turn asks is its own: it starts a configured core, tells its own mode, and takes or misses its next stimulus.
+abbrev pub IsOwnAsk : View → Option Stimulus → Option Ask → Type 0
+IsOwnAsk v next (Some (OfBoard (Start k))) = is_configured v k ≡ true
+IsOwnAsk v next (Some (OfBoard (Enter mode))) = mode ≡ v.own.mode
+IsOwnAsk v next (Some (OfBoard Drain)) = next ≡ None
+IsOwnAsk v next (Some (TakeStimulus s)) = next ≡ Some s
+IsOwnAsk v next o = Unit {0}
+
+pub asks-own : (v : View) (want : Want) (phase : Phase) (next : Option Stimulus) (choice : Choice) → IsOwnAsk v next (asked_by v want phase next choice)
+asks-own v (Want.Start k) phase next Choice.Own = by (is_configured v k) refl
   where
-    by : (n : Option Item) → named_by id phase a (answers a) ≡ n → option_map {U = Ask × Item} (λ (i : Item). (a, i)) n ≡ Some (ask, item) → (Some a ≡ Some ask) × (named_by id phase ask (answers ask) ≡ Some item)
-    by None f e = cc
-    by (Some i) f e =
-        let same = same_Some _ _ e in
-        let this : a ≡ ask = ap (λ (t : Ask × Item). t.0) same in
-        (ap Some this, subst (λ (b : Ask). named_by id phase b (answers b) ≡ Some item) this (f ∙ ap (λ (t : Ask × Item). Some t.1) same))
+    by : (b : Bool) → is_configured v k ≡ b → IsOwnAsk v next (Some (cond b (OfBoard (Start k)) (StartUnknown k)))
+    by true e = e
+    by false e = tt
+asks-own v Want.Enter phase next Choice.Own = refl
+asks-own v Want.GoOn phase (Some s) Choice.Own = refl
+asks-own v Want.GoOn phase None Choice.Own = refl
+asks-own v want phase next Choice.Look = looks phase
+  where
+    looks : (phase : Phase) → IsOwnAsk v next (look_asked phase)
+    looks Phase.Off = tt
+    looks phase = tt
+asks-own v want phase next choice = tt
+
+-- An open gate leads to one item.
+pub opens : (b : Bool) (i j : Item) → cond b (Some i) None ≡ Some j → (b ≡ true) × (i ≡ j)
+opens true i j e = (refl, same_Some _ _ e)
+opens false i j e = cc
 
 module _ (plan : Plan) (stimuli : List CoreStimuli) (w : World) (id : CoreId) where
-  abbrev NextOnly : Option (Ask × Item) → Type 0
-  NextOnly o = (t : Ask × Item) → o ≡ Some t → IsNext plan stimuli w id t.1
+  is : (j i : Item) → Some j ≡ Some i → IsNext plan stimuli w id j → IsNext plan stimuli w id i
+  is j i e next = subst (IsNext plan stimuli w id) (same_Some _ _ e) next
 
-  nothing : NextOnly None
-  nothing t e = cc
+  passes : (phase : Phase) (i : Item) → passing id (board_in plan w).view phase ≡ Some i → IsNext plan stimuli w id i
+  passes Phase.Off i e = is Item.On i (ap Some (opens _ _ _ e).1) tt
+  passes Phase.FirstGate i e = is (Item.Pass1 (agreement_in (board_in plan w).view.modes)) i (ap Some (opens _ _ _ e).1) tt
+  passes Phase.SecondGate i e = is (Item.Pass2 (board_in plan w).view.started) i (ap Some (opens _ _ _ e).1) tt
+  passes Phase.Drained i e = is Item.PassEnd i (ap Some (opens _ _ _ e).1) tt
+  passes phase i e = cc
 
-  just : (ask : Ask) (i : Item) → IsNext plan stimuli w id i → NextOnly (Some (ask, i))
-  just ask i next t e = subst (λ (s : Ask × Item). IsNext plan stimuli w id s.1) (same_Some _ _ e) next
-
-  abbrev Comes : Phase → Option Ask → Type 0
-  Comes phase o = NextOnly (comes_to id phase (answer_in plan w id) o)
-
-  goes : (phase : Phase) (o : Option Stimulus) → next_stimulus stimuli w id ≡ o → Comes phase (Some (going_on o))
-  goes phase (Some s) e = just (TakeStimulus s) (Item.Stim s) e
-  goes phase None e = just (OfBoard Drain) Item.Drained e
-
-  owns : (phase : Phase) (want : Want) → Comes phase (own_asked (view_of plan id) (next_stimulus stimuli w id) want)
-  owns phase (Want.Start k) = by (is_configured (view_of plan id) k)
+  pub follows : (phase : Phase) (ask : Ask) (i : Item) → IsOwnAsk (view_of plan id) (next_stimulus stimuli w id) (Some ask) → named_by id phase ask (answer_in plan w id ask) ≡ Some i → IsNext plan stimuli w id i
+  follows phase (OfBoard Look) i own e = passes phase i e
+  follows phase (OfBoard Drain) i own e = is Item.Drained i e own
+  follows phase (OfBoard (AskHalt status)) i own e = cc
+  follows phase (OfBoard call) i own e = is _ i e tt
+  follows phase (Room to) i own e = by (has_room plan w id to) e
     where
-      by : (b : Bool) → Comes phase (Some (cond b (OfBoard (Start k)) (StartUnknown k)))
-      by true = just (OfBoard (Start k)) (Item.Began k (start_answer (board_in plan w).view k)) (began (has_core (board_in plan w).view.started k))
-        where
-          began : (b : Bool) → IsNext plan stimuli w id (Item.Began k (cond b Status.EOsState Status.EOk))
-          began b = tt
-      by false = just (StartUnknown k) (Item.Began k Status.EOsId) tt
-  owns phase Want.Enter = just (OfBoard (Enter (view_of plan id).own.mode)) Item.Entered tt
-  owns phase Want.Ready = just (OfBoard MakeReady) Item.Readied tt
-  owns phase (Want.Post to) = by (has_room plan w id to)
+      by : (b : Bool) → named_by id phase (Room to) (HasRoom b) ≡ Some i → IsNext plan stimuli w id i
+      by true e = is (Item.Posted to) i e tt
+      by false e = cc
+  follows phase (Oldest from) i own e = by (slice_get (posted id (history_in plan w from)) (received_count from (history_in plan w id))) refl e
     where
-      by : (b : Bool) → NextOnly (option_map (λ (i : Item). (Room to, i)) (named_by id phase (Room to) (HasRoom b)))
-      by true = just (Room to) (Item.Posted to) tt
-      by false = nothing
-  owns phase Want.GoOn = goes phase (next_stimulus stimuli w id) refl
-  owns phase Want.Nothing = nothing
-
-  serves : (phase : Phase) (from : CoreId) → Comes phase (Some (Oldest from))
-  serves phase from = by (slice_get (posted id (history_in plan w from)) (received_count from (history_in plan w id))) refl
-    where
-      by : (o : Option Envelope) → slice_get (posted id (history_in plan w from)) (received_count from (history_in plan w id)) ≡ o → NextOnly (option_map (λ (i : Item). (Oldest from, i)) (named_by id phase (Oldest from) (Found o)))
-      by (Some e) is = just (Oldest from) (Item.Received from e.number e.message) is
-      by None is = nothing
-
-  gate : (b : Bool) (i : Item) → IsNext plan stimuli w id i → NextOnly (option_map (λ (j : Item). (OfBoard Look, j)) (cond b (Some i) None))
-  gate true i next = just (OfBoard Look) i next
-  gate false i next = nothing
-
-  looks : (phase : Phase) → Comes phase (look_asked phase)
-  looks Phase.Off = gate _ Item.On tt
-  looks Phase.FirstGate = gate _ (Item.Pass1 (agreement_in (board_in plan w).view.modes)) tt
-  looks Phase.SecondGate = gate _ (Item.Pass2 (board_in plan w).view.started) tt
-  looks Phase.Drained = gate _ Item.PassEnd tt
-  looks Phase.Closing = just (OfBoard LookHalt) (Item.Last (board_in plan w).halt) tt
-  looks phase = nothing
-
-  next-follows : (choice : Choice) → NextOnly (next_in plan stimuli w id choice)
-  next-follows Choice.Own = owns (phase_at (view_of plan id) (history_in plan w id)) (want_of (view_of plan id) (history_in plan w id))
-  next-follows (Choice.Serve from) = serves (phase_at (view_of plan id) (history_in plan w id)) from
-  next-follows Choice.Look = looks (phase_at (view_of plan id) (history_in plan w id))
-
--- What is known of an item to which a turn of this core leads.
-pub record Known (plan : Plan) (stimuli : List CoreStimuli) (w : World) (id : CoreId) (ask : Ask) (item : Item) : Type 0 where
-  pub follows : IsNext plan stimuli w id item
-  pub leads : Leads (view_of plan id) (history_in plan w id) ask (answer_in plan w id ask) item
-
-pub next-known : (plan : Plan) (stimuli : List CoreStimuli) (w : World) (id : CoreId) (choice : Choice) (ask : Ask) (item : Item) → next_in plan stimuli w id choice ≡ Some (ask, item) → Known plan stimuli w id ask item
-next-known plan stimuli w id choice ask item names =
-    let parts = comes-parts id (phase_at (view_of plan id) (history_in plan w id)) (answer_in plan w id) _ ask item names in
-    record {
-      follows = next-follows plan stimuli w id choice (ask, item) names;
-      leads = record { choice = choice; next = next_stimulus stimuli w id; asks = parts.0; names = parts.1 };
-    }
+      by : (o : Option Envelope) → slice_get (posted id (history_in plan w from)) (received_count from (history_in plan w id)) ≡ o → named_by id phase (Oldest from) (Found o) ≡ Some i → IsNext plan stimuli w id i
+      by (Some x) at e = is (Item.Received from x.number x.message) i e at
+      by None at e = cc
+  follows phase (StartUnknown k) i own e = is _ i e tt
+  follows phase (TakeStimulus s) i own e = is (Item.Stim s) i e own
 
 -- A list's stimuli, and one more item.
 pub stimuli_in-push : (items : List Item) (item : Item) → stimuli_in (items ++ item ∷ []) ≡ stimuli_in items ++ stimuli_in (item ∷ [])

@@ -10,7 +10,6 @@ use Rattle.osbase.specs.declared.references.ModeId.{ModeId}
 use Rattle.osbase.specs.declared.items.Agreement.{Agreement}
 use Rattle.osbase.specs.declared.items.Item.{Item}
 use Rattle.osbase.specs.declared.items.Stimulus.{Stimulus}
-use Rattle.osbase.specs.declared.turns.Choice.{Choice}
 use Rattle.osbase.specs.declared.histories.Phase.{Phase}
 use Rattle.osbase.specs.History.{History, began_count, no_cores, phase_of, same_core}
 use Rattle.osbase.specs.Sets.{has_core}
@@ -27,7 +26,6 @@ use Rattle.osplan.proofs.Tests.{find-holds, find-passes}
 use Rattle.osstate.specs.Readings.{next_start, phase_at}
 use Rattle.osstate.proofs.Begun.{is_some-core_of}
 use Rattle.osstate.specs.State.{state_of}
-use Rattle.oskernel.specs.declared.wants.Want.{Want}
 use Rattle.oskernel.specs.Admission.{admits, is_for, is_start_answer}
 use Rattle.oskernel.specs.Step.{after, history_from, outbox_size, solo_from}
 use Rattle.oskernel.proofs.Stages.{only-on, solo-parts, stage}
@@ -42,8 +40,9 @@ use Rattle.osworld.specs.declared.asks.Ask.{Ask}
 use Rattle.osworld.specs.declared.asks.Ask.TheVariants.{OfBoard, Room, Oldest, StartUnknown, TakeStimulus}
 use Rattle.osworld.specs.declared.asks.Answer.{Answer}
 use Rattle.osworld.specs.declared.asks.Answer.TheVariants.{Replied, HasRoom, Found, Unasked}
-use Rattle.osworld.specs.Asking.{asked_by, look_asked, named_by, passing, replied, told_by}
+use Rattle.osworld.specs.Asking.{named_by, passing, replied, told_by}
 use Rattle.osworld.specs.Fits.{AreAnswered, Leads}
+use Rattle.osworld.proofs.Fitting.{IsOwnAsk, asks-own, opens}
 use Rattle.osworld.proofs.Members.{has_core-more, nobody-there}
 use Rattle.osworld.proofs.Relying.{AllSee, Relies, board-seen}
 
@@ -118,32 +117,6 @@ module _ (plan : Plan) (m : ModeId) where
   module _ (agreed : is_agreed_mode plan (Named m) ≡ true) (core : CoreId) where
     abbrev v : View
     v = view_of plan core
-
-    -- What a turn asks to start is configured, and the mode that it tells is the core's own.
-    abbrev IsOwnAsk : Option Ask → Type 0
-    IsOwnAsk (Some (OfBoard (Start k))) = is_configured v k ≡ true
-    IsOwnAsk (Some (OfBoard (Enter mode))) = mode ≡ v.own.mode
-    IsOwnAsk o = Unit {0}
-
-    looks-own : (phase : Phase) → IsOwnAsk (look_asked phase)
-    looks-own Phase.Off = tt
-    looks-own phase = tt
-
-    asks-own : (want : Want) (phase : Phase) (next : Option Stimulus) (choice : Choice) → IsOwnAsk (asked_by v want phase next choice)
-    asks-own (Want.Start k) phase next Choice.Own = by (is_configured v k) refl
-      where
-        by : (b : Bool) → is_configured v k ≡ b → IsOwnAsk (Some (cond b (OfBoard (Start k)) (StartUnknown k)))
-        by true e = e
-        by false e = tt
-    asks-own Want.Enter phase next Choice.Own = refl
-    asks-own Want.GoOn phase (Some s) Choice.Own = tt
-    asks-own want phase next Choice.Look = looks-own phase
-    asks-own want phase next choice = tt
-
-    -- An open gate leads to one item.
-    opens : (b : Bool) (i j : Item) → cond b (Some i) None ≡ Some j → (b ≡ true) × (i ≡ j)
-    opens true i j e = (refl, same_Some _ _ e)
-    opens false i j e = cc
 
     -- What turns a core on, and what the first gate comes to, is a look at the board.
     abbrev is_seen : Item → Bool
@@ -234,18 +207,18 @@ module _ (plan : Plan) (m : ModeId) where
       }
 
       -- The call of a turn whose item may be taken keeps the board sane.
-      keeps : (call : BoardCall) (reply : BoardReply) (i : Item) → IsOwnAsk (Some (OfBoard call)) → replied core (phase_at v h) call reply ≡ Some i → admits outbox_size (state_of v h) i ≡ true → (b : BoardView) → Sane b → Sane (view_after core call b)
-      keeps (Start k) (Started status) i own e taken = start-keeps k (starts k status own (subst (λ (j : Item). admits outbox_size (state_of v h) j ≡ true) (sym (same_Some _ _ e)) taken))
-      keeps (Start k) reply i own e taken = cc
-      keeps (Enter mode) Acknowledged i own e taken = λ b sane. record {
+      keeps : (call : BoardCall) (reply : BoardReply) (i : Item) (next : Option Stimulus) → IsOwnAsk v next (Some (OfBoard call)) → replied core (phase_at v h) call reply ≡ Some i → admits outbox_size (state_of v h) i ≡ true → (b : BoardView) → Sane b → Sane (view_after core call b)
+      keeps (Start k) (Started status) i next own e taken = start-keeps k (starts k status own (subst (λ (j : Item). admits outbox_size (state_of v h) j ≡ true) (sym (same_Some _ _ e)) taken))
+      keeps (Start k) reply i next own e taken = cc
+      keeps (Enter mode) Acknowledged i next own e taken = λ b sane. record {
         begun = sane.begun;
         modes = λ j ne. ap (λ (k : CoreMode). get_or (with_mode k b.modes).members j false) own
             ∙ told b sane j ne (boots (stage v h Item.Entered refl (subst (λ (j : Item). admits outbox_size (state_of v h) j ≡ true) (sym (same_Some _ _ e)) taken)));
       }
-      keeps (Enter mode) reply i own e taken = cc
-      keeps MakeReady reply i own e taken = λ b sane. record { begun = sane.begun; modes = sane.modes }
-      keeps Drain reply i own e taken = λ b sane. record { begun = sane.begun; modes = sane.modes }
-      keeps call reply i own e taken = λ b sane. sane
+      keeps (Enter mode) reply i next own e taken = cc
+      keeps MakeReady reply i next own e taken = λ b sane. record { begun = sane.begun; modes = sane.modes }
+      keeps Drain reply i next own e taken = λ b sane. record { begun = sane.begun; modes = sane.modes }
+      keeps call reply i next own e taken = λ b sane. sane
 
     -- Each call of the core keeps the board sane, if the core saw only sane ones before.
     relies : (items : List Item) (h : History) (es : List BoardEntry) → IfOn h → solo_from v h items ≡ Some (history_from v h items) → AreAnswered v h items es → Relies Sane core es
@@ -264,7 +237,7 @@ module _ (plan : Plan) (m : ModeId) where
 
         by : (ask : Ask) (answer : Answer) → Leads v h ask answer i → (IfOn (after v h i) → Relies Sane core all.3) → Relies Sane core (told_by core ask answer ++ all.3)
         by (OfBoard call) (Replied reply) leads later = (
-          keeps h if_on call reply i (subst IsOwnAsk leads.asks (asks-own _ _ leads.next leads.choice)) leads.names turn.0,
+          keeps h if_on call reply i leads.next (subst (IsOwnAsk v leads.next) leads.asks (asks-own v _ _ leads.next leads.choice)) leads.names turn.0,
           λ sees. later (on-later (λ off. let look = saw (phase_at v h) (OfBoard call) (Replied reply) Item.On (leads.names ∙ ap Some (only-on v h i turn.0 off)) refl in let same = look.2 in let shown : reply ≡ Shown look.0 = cc in (sees look.0 shown).begun core (turned-on _ look.0 look.3))),
         )
         by ask answer leads later = later (on-later (λ off. let look = saw (phase_at v h) ask answer Item.On (leads.names ∙ ap Some (only-on v h i turn.0 off)) refl in let board = look.1 in let same = look.2 in cc))
