@@ -144,13 +144,6 @@ module _ (plan : Plan) (m : ModeId) where
     saw phase (TakeStimulus s) Unasked i e seen = unseen _ i e refl seen
     saw phase ask answer i e seen = cc
 
-    turned-on : (phase : Phase) (b : BoardView) → passing core b phase ≡ Some Item.On → has_core b.started core ≡ true
-    turned-on Phase.Off b e = (opens _ _ _ e).0
-    turned-on Phase.FirstGate b e = let same = (opens _ _ _ e).1 in cc
-    turned-on Phase.SecondGate b e = let same = (opens _ _ _ e).1 in cc
-    turned-on Phase.Drained b e = let same = (opens _ _ _ e).1 in cc
-    turned-on phase b e = cc
-
     in-conflict : (phase : Phase) (b : BoardView) → passing core b phase ≡ Some (Item.Pass1 Agreement.Conflict) → Agreement.Conflict ≡ agreement_in b.modes
     in-conflict Phase.Off b e = let same = (opens _ _ _ e).1 in cc
     in-conflict Phase.FirstGate b e = let same = (opens _ _ _ e).1 in cc
@@ -238,7 +231,7 @@ module _ (plan : Plan) (m : ModeId) where
         by : (ask : Ask) (answer : Answer) → Leads v h ask answer i → (IfOn (after v h i) → Relies Sane core all.3) → Relies Sane core (told_by core ask answer ++ all.3)
         by (OfBoard call) (Replied reply) leads later = (
           keeps h if_on call reply i leads.next (subst (IsOwnAsk v leads.next) leads.asks (asks-own v _ _ leads.next leads.choice)) leads.names turn.0,
-          λ sees. later (on-later (λ off. let look = saw (phase_at v h) (OfBoard call) (Replied reply) Item.On (leads.names ∙ ap Some (only-on v h i turn.0 off)) refl in let same = look.2 in let shown : reply ≡ Shown look.0 = cc in (sees look.0 shown).begun core (turned-on _ look.0 look.3))),
+          λ sees. later (on-later (λ off. let look = saw (phase_at v h) (OfBoard call) (Replied reply) Item.On (leads.names ∙ ap Some (only-on v h i turn.0 off)) refl in let same = look.2 in let shown : reply ≡ Shown look.0 = cc in (sees look.0 shown).begun core (opens _ _ _ (subst (λ (p : Phase). passing core look.0 p ≡ Some Item.On) off look.3)).0)),
         )
         by ask answer leads later = later (on-later (λ off. let look = saw (phase_at v h) ask answer Item.On (leads.names ∙ ap Some (only-on v h i turn.0 off)) refl in let board = look.1 in let same = look.2 in cc))
 

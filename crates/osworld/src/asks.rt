@@ -27,13 +27,18 @@ pub enum Ask {
 /// What it is answered.
 #[derive(Clone, Copy)]
 pub enum Answer {
+    /// The board's reply.
     Replied(BoardReply),
+    /// Whether the mailbox has room.
     HasRoom(bool),
+    /// The oldest envelope, if there is one.
     Found(Option<Envelope>),
+    /// Nothing was asked.
     Unasked,
 }
 
-/// What a core's turn asks, by what its own turn would do, its phase and its next stimulus.
+/// What a core's turn asks, by what its own turn would do, its phase and its next stimulus: none where the turn changes
+/// nothing.
 pub fn asked(
     plan: &Plan,
     id: CoreId,
@@ -64,7 +69,7 @@ fn own_asked(plan: &Plan, id: CoreId, want: Want, next: Option<Stimulus>) -> Opt
     }
 }
 
-// StartCore of a core that is not configured is answered without the board.
+// StartCore of a core that is not configured is answered without the board (AUTOSAR SWS OS 4.x, StartCore).
 fn starting(plan: &Plan, id: CoreId, core: CoreId) -> Ask
     ensures { result ≡ starting (view_of plan.now id) core }
 {
@@ -114,7 +119,8 @@ fn look_asked(phase: Phase) -> Option<Ask>
     }
 }
 
-/// The item to which the answer leads a core in this phase.
+/// The item to which the answer leads a core in this phase: none where it leads to none, as at a gate that is still
+/// closed.
 pub fn named(id: CoreId, phase: Phase, ask: Ask, answer: Answer) -> Option<Item>
     ensures { result ≡ named_by id phase ask answer }
 {
@@ -149,7 +155,7 @@ fn replied(id: CoreId, phase: Phase, call: BoardCall, reply: BoardReply) -> Opti
     }
 }
 
-// A gate opens where all started cores have come to it.
+// A gate opens where all started cores have come to it (AUTOSAR SWS OS 4.x, SWS_Os_00579 and SWS_Os_00580).
 fn passing(id: CoreId, view: &BoardView, phase: Phase) -> Option<Item>
     ensures { result ≡ passing id view.now phase }
 {
