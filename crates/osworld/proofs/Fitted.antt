@@ -27,7 +27,7 @@ use Rattle.osworld.specs.Asking.{told_by}
 use Rattle.osworld.specs.Fits.{FitsBy, ids_of, AreAnswered, Fits, FitsCore, Leads, has_drained, IsBeginning, is_drain, stimuli_in}
 use Rattle.osworld.specs.World.{World, answer_in, appends, board_in, first_world, history_in, items_in, next_stimulus, stimulus_count, world}
 use Rattle.osworld.proofs.Beginnings.{begins-longer, begins-next, begins-through, begins-whole}
-use Rattle.osworld.proofs.Listed.{items_by, list_of, list_of-same, list_of-other, history_from-push}
+use Rattle.osworld.proofs.Listed.{items_by, list_of-same, list_of-other, history_from-push}
 use Rattle.osworld.proofs.Streams.{is_from, is_post_to}
 use Rattle.osworld.proofs.Carrying.{and_false, history-same, history-other, posted-in}
 use Rattle.osworld.proofs.Started.{no_history, nothing_of}

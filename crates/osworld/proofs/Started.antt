@@ -14,7 +14,6 @@ use Rattle.osbase.specs.Runs.{stimuli_of}
 use Rattle.osmail.specs.Mail.{Mail, empty_mail}
 use Rattle.osmail.proofs.Boxes.{box_of-empty}
 use Rattle.osplan.specs.declared.plans.Plan.{Plan}
-use Rattle.osplan.specs.declared.plans.Core.{Core}
 use Rattle.osplan.specs.View.{core_of, view_of}
 use Rattle.osbase.specs.Sets.{core_ids}
 use Rattle.osbase.proofs.Tables.{table-at}

@@ -1,7 +1,7 @@
 -- What a turn names and changes, said of what a listed run holds in memory: the cores' kernels, the mailboxes and
 -- the board. It is what the world's definition names where memory holds what that definition reads off the items. Who
 -- reads what a run promises needs none of it. [own]
-use Rattle.std.specs.Prelude.{◌<◌, ◌&&◌, nat_lt, if◌then◌else◌, IsTrue, Option, Some, None, IsSome, List, drop, slice_get}
+use Rattle.std.specs.Prelude.{◌<◌, ◌&&◌, nat_lt, if◌then◌else◌, IsTrue, Option, None, IsSome, List, drop, slice_get}
 use Rattle.std.specs.Option.{option_map_or}
 use Rattle.osbase.specs.declared.references.CoreId.{CoreId}
 use Rattle.osbase.specs.declared.messages.Envelope.{Envelope}
