@@ -1,5 +1,7 @@
 //! The worked examples, from text to text.
 
+mod limits;
+
 ghost use Rattle.std.specs.Prelude.{None, Some, length};
 
 use crate::jobs::{Job, job_of};

@@ -1,0 +1,150 @@
+//! Jobs at the limits of what is accepted: each is done.
+
+use super::{check_of, print, run_of};
+use std::alloc::{AllocError, Global};
+use std::process::Abort;
+use std::test::Fail;
+
+const CORES: u8 = 8;
+
+/// The operations of a script.
+const OPERATIONS: u32 = 256;
+
+/// More rounds than the runs below have.
+const ROUNDS: u32 = 300;
+
+// So many times the same text.
+fn repeated(alloc: Global, text: &str, count: u32) -> Result<String, AllocError> {
+    let mut all = String::new(alloc);
+    for _ in 0..count {
+        all.push_str(text)?;
+    }
+    Ok(all)
+}
+
+// A name of 128 letters, another one for each core.
+fn name_of(alloc: Global, core: u8) -> Result<String, AllocError> {
+    let mut name = repeated(alloc, "N", 127)?;
+    name.push_str(format!(in alloc; "{core}")?.as_str())?;
+    Ok(name)
+}
+
+// Eight cores, all started by the first, each with the longest name and the longest script.
+fn largest_config(alloc: Global) -> Result<String, AllocError> {
+    let script = repeated(alloc, "work;", OPERATIONS - 1)?;
+    let mut text = String::from_str(alloc, r#"{"version":1,"cap":16,"master":0,"cores":["#)?;
+    for core in 0..CORES {
+        let start = if core == 0 { "1,2,3,4,5,6,7" } else { "" };
+        let name = name_of(alloc, core)?;
+        let separator = if core == 0 { "" } else { "," };
+        let id = format!(in alloc; "{core}")?;
+        text.push_str(separator)?;
+        text.push_str(r#"{"id":"#)?;
+        text.push_str(id.as_str())?;
+        text.push_str(r#","start":["#)?;
+        text.push_str(start)?;
+        text.push_str(r#"],"tasks":[{"name":""#)?;
+        text.push_str(name.as_str())?;
+        text.push_str(r#"","prio":31,"activations":64,"auto":["M"],"script":""#)?;
+        text.push_str(script.as_str())?;
+        text.push_str(r#"TerminateTask"}]}"#)?;
+    }
+    text.push_str("]}")?;
+    Ok(text)
+}
+
+// As many stimuli for each core as its job has operations.
+fn stimuli(alloc: Global) -> Result<String, AllocError> {
+    let words = repeated(alloc, "op ", OPERATIONS - 1)?;
+    let mut text = String::from_str(alloc, "{")?;
+    for core in 0..CORES {
+        let separator = if core == 0 { "" } else { "," };
+        let entry = format!(in alloc; "{separator}\"{core}\":\"{words}op\"")?;
+        text.push_str(entry.as_str())?;
+    }
+    text.push_str("}")?;
+    Ok(text)
+}
+
+// The turns of so many rounds, in each of which every core serves the others, goes on and looks.
+fn turns(alloc: Global) -> Result<String, AllocError> {
+    let mut round = String::new(alloc);
+    for core in 0..CORES {
+        round.push_str(served_by(alloc, core)?.as_str())?;
+        round.push_str(format!(in alloc; " {core}o {core}l")?.as_str())?;
+    }
+    let rounds = repeated(alloc, round.as_str(), ROUNDS)?;
+    format!(in alloc; "\"0o{rounds}\"")
+}
+
+fn served_by(alloc: Global, core: u8) -> Result<String, AllocError> {
+    let mut served = String::new(alloc);
+    for other in 0..CORES {
+        if other != core {
+            served.push_str(format!(in alloc; " {core}s{other}")?.as_str())?;
+        }
+    }
+    Ok(served)
+}
+
+// What each core prints: its task runs once.
+fn trace(alloc: Global) -> Result<String, AllocError> {
+    let mut text = String::new(alloc);
+    for core in 0..CORES {
+        let name = name_of(alloc, core)?;
+        let starts = if core == 0 {
+            starts(alloc)?
+        } else {
+            String::new(alloc)
+        };
+        let block = format!(in alloc;
+            "core {core}\n{starts}hook Startup\nact {name}\npre {name}\npost {name}\nend {name}\n"
+        )?;
+        text.push_str(block.as_str())?;
+    }
+    text.push_str("ended\n")?;
+    Ok(text)
+}
+
+fn starts(alloc: Global) -> Result<String, AllocError> {
+    let mut text = String::new(alloc);
+    for core in 1..CORES {
+        text.push_str(format!(in alloc; "start {core} E_OK\n")?.as_str())?;
+    }
+    Ok(text)
+}
+
+#[test]
+fn the_largest_configuration_is_read(rt: HostRuntime) -> Result<(), Fail> {
+    let alloc = rt.alloc();
+    let config = largest_config(alloc)?;
+    let printed = print(alloc, &check_of(), &[Some(config.as_str())])?;
+    assert_eq!(rt; printed.err.as_slice(), b"".as_slice());
+    assert_eq!(rt;
+        printed.out.as_slice(),
+        b"ok\ncore 0 bound\ncore 1 separate\ncore 2 separate\ncore 3 separate\ncore 4 separate\ncore 5 separate\ncore 6 separate\ncore 7 separate\n".as_slice()
+    );
+    assert_eq!(rt; printed.status, 0);
+    Ok(())
+}
+
+#[test]
+fn runs_of_thousands_of_turns_come_to_their_end(rt: HostRuntime) -> Result<(), Fail> {
+    let alloc = rt.alloc();
+    let config = largest_config(alloc)?;
+    let stimuli = stimuli(alloc)?;
+    let turns = turns(alloc)?;
+    let trace = trace(alloc)?;
+    for schedule in [None, Some("turns.json")] {
+        let texts = [
+            Some(config.as_str()),
+            Some(stimuli.as_str()),
+            Some(turns.as_str()),
+        ];
+        let printed = print(alloc, &run_of(schedule), texts.as_slice())?;
+        assert_eq!(rt; printed.err.as_slice(), b"".as_slice());
+        assert_eq!(rt; printed.out.as_slice(), trace.as_bytes());
+        assert_eq!(rt; printed.status, 0);
+    }
+    Ok(())
+}
