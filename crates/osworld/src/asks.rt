@@ -2,9 +2,9 @@
 
 ghost use Rattle.std.specs.Prelude.{◌≡◌};
 ghost use Rattle.osplan.specs.View.{is_configured, view_of};
-ghost use Rattle.osworld.specs.Asking.{asked_by, going_on, look_asked, named_by, own_asked, passing, replied, starting};
+ghost use Rattle.osworld.specs.Asking.{going_on, look_asked, named_by, own_asked, passing, replied, starting};
 
-use osbase::{Choice, CoreId, Envelope, Item, Phase, Status, Stimulus};
+use osbase::{CoreId, Envelope, Item, Phase, Status, Stimulus};
 use osboard::{BoardCall, BoardReply, BoardView};
 use oskernel::Want;
 use osplan::{CoreMode, Plan};
@@ -37,26 +37,8 @@ pub enum Answer {
     Unasked,
 }
 
-/// What a core's turn asks, by what its own turn would do, its phase and its next stimulus: none where the turn changes
-/// nothing.
-pub fn asked(
-    plan: &Plan,
-    id: CoreId,
-    want: Want,
-    phase: Phase,
-    next: Option<Stimulus>,
-    choice: Choice,
-) -> Option<Ask>
-    ensures { result ≡ asked_by (view_of plan.now id) want phase next choice }
-{
-    match choice {
-        Choice::Own => own_asked(plan, id, want, next),
-        Choice::Serve(from) => Some(Ask::Oldest(from)),
-        Choice::Look => look_asked(phase),
-    }
-}
-
-fn own_asked(plan: &Plan, id: CoreId, want: Want, next: Option<Stimulus>) -> Option<Ask>
+/// What a core's own turn asks, by what it wants and its next stimulus: none where it wants nothing.
+pub fn own_asked(plan: &Plan, id: CoreId, want: Want, next: Option<Stimulus>) -> Option<Ask>
     ensures { result ≡ own_asked (view_of plan.now id) next want }
 {
     match want {
@@ -107,7 +89,8 @@ fn going_on(next: Option<Stimulus>) -> Ask
     }
 }
 
-fn look_asked(phase: Phase) -> Option<Ask>
+/// What a look asks in this phase: none where nothing is waited for.
+pub fn look_asked(phase: Phase) -> Option<Ask>
     ensures { result ≡ look_asked phase }
 {
     match phase {

@@ -8,7 +8,7 @@ pub mod runs;
 mod seats;
 mod worlds;
 
-pub use asks::{Answer, Ask, asked, named};
+pub use asks::{Answer, Ask, look_asked, named, own_asked};
 pub use ends::have_all_ended;
 pub use osbase::Report;
 pub use runs::{RunFault, default_schedule, run_default, run_world};

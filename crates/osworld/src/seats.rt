@@ -1,6 +1,6 @@
 //! One core of a run.
 
-ghost use Rattle.std.specs.Prelude.{◌++◌, ◌∷◌, [], IsTrue, IsSome, ◌≡◌, ◌+◌, ◌<◌, ◌≤◌, IfSome, OnOk, vec_len, vec_capacity};
+ghost use Rattle.std.specs.Prelude.{◌++◌, ◌∷◌, [], IsTrue, IsSome, ◌≡◌, ◌+◌, ◌<◌, ◌≤◌, IfSome, OnOk, slice_get, vec_len, vec_capacity};
 ghost use Rattle.osbase.specs.declared.turns.TheConstants.{CORES};
 ghost use Rattle.osplan.specs.View.{core_of, view_of};
 ghost use Rattle.osplan.specs.Limits.{is_within_limits};
@@ -10,10 +10,12 @@ ghost use Rattle.oskernel.specs.Admission.{takes_in};
 ghost use Rattle.oskernel.specs.Step.{after};
 ghost use Rattle.osbase.specs.Runs.{stimuli_of};
 ghost use Rattle.osworld.specs.Runs.{is_ended_phase};
+ghost use Rattle.oskernel.specs.Wants.{want_in};
+ghost use Rattle.osworld.specs.Asking.{asked_by};
 ghost use Rattle.osworld.specs.Naming.{IsPlaced, left_after, next_by};
 ghost use Rattle.oskernel.specs.declared.kernel.TheConstants.{STEP_MARKS};
 
-use crate::asks::{Ask, asked, named};
+use crate::asks::{Ask, look_asked, named, own_asked};
 use crate::naming::{Mailboxes, answer_to};
 use osbase::{
     CORES, Choice, CoreId, CoreStimuli, Envelope, Item, List, Mark, Phase, Report, Stimulus,
@@ -76,10 +78,23 @@ impl<'a> Seat<'a> {
         ensures placed { IfSome result (λ t. IsPlaced mail.now self.now.id t.1) }
     {
         let phase = self.kernel.phase();
-        let next = self.stimuli.first().copied();
-        let ask = asked(plan, self.id, self.kernel.want(), phase, next, choice)?;
+        let ask = self.asked(plan, choice)?;
         let item = named(self.id, phase, ask, answer_to(board, mail, self.id, ask))?;
         Some((ask, item))
+    }
+
+    // What a turn asks. What the core wants is asked of the kernel for its own turn alone.
+    fn asked(&self, plan: &Plan, choice: Choice) -> Option<Ask>
+        ensures { result ≡ asked_by (view_of plan.now self.now.id) (want_in self.now.kernel) self.now.kernel.progress.phase (slice_get self.now.stimuli.now 0) choice }
+    {
+        match choice {
+            Choice::Own => {
+                let next = self.stimuli.first().copied();
+                own_asked(plan, self.id, self.kernel.want(), next)
+            }
+            Choice::Serve(from) => Some(Ask::Oldest(from)),
+            Choice::Look => look_asked(self.kernel.phase()),
+        }
     }
 
     /// Makes room for one more item and all lines that it may print. Without memory nothing changes.
