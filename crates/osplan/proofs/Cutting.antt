@@ -99,7 +99,7 @@ module _ (plan : Plan) (id : CoreId) (core : Core) (found : core_of plan id ≡ 
   expressible-alone : TextParts plan → is_core_expressible core ≡ true → are_distinct (object_names core) ≡ true → is_expressible (alone_of plan id core) ≡ true
   expressible-alone said mine distinct =
       let none : (p : List ℕ → Bool) → list_any p (flat_map object_names plan.cores) ≡ false → list_any p (object_names core ++ []) ≡ false =
-          λ p h. ap (list_any p) (append-nil (object_names core)) ∙ not-true _ (find-passes (λ (c : Core). same_core c.id id) (λ (c : Core). not (list_any p (object_names c))) plan.cores core (none-in-each p plan.cores h) found) in
+      λ p h. ap (list_any p) (append-nil (object_names core)) ∙ not-true _ (find-passes (λ (c : Core). same_core c.id id) (λ (c : Core). not (list_any p (object_names c))) plan.cores core (none-in-each p plan.cores h) found) in
       and_from _ _ (and_from _ _ said.modes (and_from _ _ mine refl)) (distinct-kept plan.modes _ _ none (ap are_distinct (append-nil (object_names core)) ∙ distinct) said.names)
 
   -- ---- the core alone is separate again
