@@ -233,36 +233,22 @@ fn turns_that_are_read(rt: HostRuntime) -> Result<(), Fail> {
 }
 
 // A schedule has at most 1,000,000 words, which are counted before anything else is judged.
-fn are_counted(
-    rt: &HostRuntime,
-    texts: &[(&str, &str, usize, Option<ConfFault>)],
-) -> Result<(), Fail> {
-    let config = read_config(rt.alloc(), TWO_CORES)?;
-    for (text, word, count, fault) in texts {
-        let words = repeated(rt.alloc(), word, *count)?;
-        let all = filled(rt.alloc(), text, words.as_str())?;
-        let refused = read_schedule(rt.alloc(), &config, all.as_str()).err();
-        assert_eq!(rt; refused, *fault, "{text} {count}");
-    }
-    Ok(())
-}
-
 #[test]
 fn how_many_turns(rt: HostRuntime) -> Result<(), Fail> {
+    let config = read_config(rt.alloc(), TWO_CORES)?;
     let texts = [
         ("\"0o@\"", " 1l", 999_999, None),
         ("\"0o@\"", " 1l", 1_000_000, Some(ConfFault::Limit)),
-        ("\"0s0@\"", " 0o", 1_000_000, Some(ConfFault::Limit)),
-    ];
-    are_counted(&rt, &texts)
-}
-
-#[test]
-fn how_many_words_that_are_no_turns(rt: HostRuntime) -> Result<(), Fail> {
-    let texts = [
         ("\"@\"", " ", 999_999, Some(ConfFault::BadSchedule)),
         ("\"@\"", " ", 1_000_000, Some(ConfFault::Limit)),
+        ("\"0s0@\"", " 0o", 1_000_000, Some(ConfFault::Limit)),
         ("[\"0o@\"]", " 1l", 1_000_000, Some(ConfFault::BadSchedule)),
     ];
-    are_counted(&rt, &texts)
+    for (text, word, count, fault) in texts {
+        let words = repeated(rt.alloc(), word, count)?;
+        let all = filled(rt.alloc(), text, words.as_str())?;
+        let refused = read_schedule(rt.alloc(), &config, all.as_str()).err();
+        assert_eq!(rt; refused, fault, "{text} {count}");
+    }
+    Ok(())
 }
