@@ -12,8 +12,7 @@ use Rattle.osbase.specs.Sets.{has_core}
 use Rattle.osplan.specs.declared.plans.CoreMode.{CoreMode}
 use Rattle.osplan.specs.declared.plans.CoreMode.TheVariants.{Named, DontCare}
 use Rattle.osseat.specs.declared.histories.Entry.{Entry}
-use Rattle.osseat.specs.Objects.{Object}
-use Rattle.osseat.specs.Histories.{entry}
+use Rattle.osseat.specs.Histories.{Object, entry}
 use Rattle.osboard.specs.declared.calls.TheConstants.{MODES}
 use Rattle.osboard.specs.declared.calls.ModeSet.{ModeSet}
 use Rattle.osboard.specs.declared.calls.BoardView.{BoardView}

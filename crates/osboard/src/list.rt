@@ -109,9 +109,24 @@ impl BoardList {
         ensures after { self.new ≡ board_after caller (BoardCall.AskHalt status) self.old }
         ensures replays { Continues one_board self.old (ask_halt_call caller status result) self.new }
     {
-        let decided = self.state.halt.unwrap_or((caller, status));
+        let decided = self.decided(caller, status);
         self.state.halt = Some(decided);
         decided
+    }
+
+    /// What a call is answered now. Nothing changes.
+    pub fn reply(&self, caller: CoreId, call: BoardCall) -> BoardReply
+        ensures { result ≡ board_reply caller call self.now }
+    {
+        match call {
+            BoardCall::Start(core) => BoardReply::Started(self.state.view.start_answer(core)),
+            BoardCall::Enter(_) | BoardCall::MakeReady | BoardCall::Drain => {
+                BoardReply::Acknowledged
+            }
+            BoardCall::Look => BoardReply::Shown(self.look()),
+            BoardCall::AskHalt(status) => BoardReply::Decided(self.decided(caller, status)),
+            BoardCall::LookHalt => BoardReply::Halting(self.look_halt()),
+        }
     }
 
     /// Any of the seven calls.
@@ -119,24 +134,20 @@ impl BoardList {
         ensures answer { result ≡ board_reply caller call self.old }
         ensures after { self.new ≡ board_after caller call self.old }
     {
+        let reply = self.reply(caller, call);
         match call {
-            BoardCall::Start(core) => BoardReply::Started(self.start(caller, core)),
-            BoardCall::Enter(mode) => {
-                self.enter(caller, mode);
-                BoardReply::Acknowledged
+            BoardCall::Start(core) => {
+                let _ = self.start(caller, core);
             }
-            BoardCall::MakeReady => {
-                self.ready(caller);
-                BoardReply::Acknowledged
+            BoardCall::Enter(mode) => self.enter(caller, mode),
+            BoardCall::MakeReady => self.ready(caller),
+            BoardCall::Drain => self.drain(caller),
+            BoardCall::AskHalt(status) => {
+                let _ = self.ask_halt(caller, status);
             }
-            BoardCall::Drain => {
-                self.drain(caller);
-                BoardReply::Acknowledged
-            }
-            BoardCall::Look => BoardReply::Shown(self.look()),
-            BoardCall::AskHalt(status) => BoardReply::Decided(self.ask_halt(caller, status)),
-            BoardCall::LookHalt => BoardReply::Halting(self.look_halt()),
+            BoardCall::Look | BoardCall::LookHalt => {}
         }
+        reply
     }
 
     /// Who asked first for a shutdown of all cores, and with which status; none where no core has. It does not
@@ -147,6 +158,13 @@ impl BoardList {
         ensures replays { (caller : CoreId) → Continues one_board self.now (look_halt_call caller result) self.now }
     {
         self.state.halt
+    }
+
+    // Who asked first, if this core asks now.
+    fn decided(&self, caller: CoreId, status: Status) -> (CoreId, Status)
+        ensures { result ≡ first_asked self.now.halt (caller, status) }
+    {
+        self.state.halt.unwrap_or((caller, status))
     }
 }
 

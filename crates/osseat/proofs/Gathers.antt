@@ -9,8 +9,7 @@ use Rattle.osbase.specs.declared.references.CoreId.{CoreId}
 use Rattle.osseat.specs.declared.histories.Entry.{Entry}
 use Rattle.osseat.specs.declared.histories.Plan.{Plan}
 use Rattle.osseat.specs.declared.histories.View.{View}
-use Rattle.osseat.specs.Objects.{Object}
-use Rattle.osseat.specs.Histories.{calls_by, IsLegal, entry}
+use Rattle.osseat.specs.Histories.{Object, calls_by, IsLegal, entry}
 use Rattle.osseat.specs.Seats.{has, Place, AllAt, Held, Extends, cores_of, AllApart, AllStand, IsOneHistory}
 use Rattle.osseat.specs.Views.{AllBegin, Told, Whole, held_at, IsSeated, joined, made, first_of_cores}
 use Rattle.osseat.proofs.Steps.{calls_by-append, calls_by-hit}

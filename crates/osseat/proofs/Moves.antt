@@ -13,8 +13,7 @@ use Rattle.osbase.specs.declared.references.CoreId.{CoreId}
 use Rattle.osseat.specs.declared.histories.Entry.{Entry}
 use Rattle.osseat.specs.declared.histories.Plan.{Plan}
 use Rattle.osseat.specs.declared.histories.View.{View}
-use Rattle.osseat.specs.Objects.{Object}
-use Rattle.osseat.specs.Histories.{calls_by, state_after, IsLegal}
+use Rattle.osseat.specs.Histories.{Object, calls_by, state_after, IsLegal}
 use Rattle.osseat.specs.Seats.{has, AllApart, Held, Place, fresh}
 use Rattle.osseat.specs.Views.{dealer, IsSeated, held_at, first_of_cores, without_first, Fits, Kept, Whole, dealt, dealt_rest, joined, spent}
 use Rattle.osseat.proofs.Steps.{prefix_self, begin_append, at_snoc, has_append, has_one, has_same, calls_by-append}

@@ -4,8 +4,7 @@ use Rattle.std.proofs.lemmas.Bool.{eq-eqb, ne_eqb, cond-true, cond-false, cases_
 use Rattle.osbase.specs.declared.references.CoreId.{CoreId}
 use Rattle.osseat.specs.declared.histories.Entry.{Entry}
 use Rattle.osseat.specs.declared.histories.Plan.{Plan}
-use Rattle.osseat.specs.Objects.{Object}
-use Rattle.osseat.specs.Histories.{Thinned, calls_by}
+use Rattle.osseat.specs.Histories.{Object, Thinned, calls_by}
 use Rattle.osseat.specs.Seats.{AllApart, AllAt, AllStand, Held, IsOneHistory, Place, cores_of, fresh, has}
 use Rattle.osseat.specs.Runs.{AreIdle, AreLogged, HasLogs, IsOneRun}
 use Rattle.osseat.proofs.Steps.{has_same, same_core}

@@ -12,8 +12,7 @@ use Rattle.osbase.specs.declared.references.CoreId.{CoreId}
 use Rattle.osseat.specs.declared.histories.Entry.{Entry}
 use Rattle.osseat.specs.declared.histories.Plan.{Plan}
 use Rattle.osseat.specs.declared.histories.View.{View}
-use Rattle.osseat.specs.Objects.{Object}
-use Rattle.osseat.specs.Histories.{Continues, calls_by, entry, state_after, IsLegalFrom, IsLegal}
+use Rattle.osseat.specs.Histories.{Object, Continues, calls_by, entry, state_after, IsLegalFrom, IsLegal}
 use Rattle.osseat.specs.Seats.{has}
 use Rattle.osseat.specs.Views.{AllBegin, Fits, Kept, Calls, Told, made, first_of_cores, IsStep, IsSeated}
 

@@ -3,8 +3,7 @@ use Rattle.std.proofs.Common.{◌≡◌, ◌==◌, if◌then◌else◌, List, []
 use Rattle.std.proofs.lemmas.Bool.{eq-eqb, ne_eqb, cond-true, cond-false, cases_eq}
 use Rattle.osbase.specs.declared.references.CoreId.{CoreId}
 use Rattle.osseat.specs.declared.histories.Entry.{Entry}
-use Rattle.osseat.specs.Objects.{Object}
-use Rattle.osseat.specs.Histories.{IsLegalFrom, Thinned, calls_by}
+use Rattle.osseat.specs.Histories.{Object, IsLegalFrom, Thinned, calls_by}
 use Rattle.osseat.proofs.Steps.{same_core}
 
 module _ {C R : Type 0} (idle : Entry C R → Type 0) where

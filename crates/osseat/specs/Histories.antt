@@ -1,8 +1,15 @@
--- Histories of an object: the calls of all cores with their answers, the oldest first. [own; no code keeps one]
+-- An object that one caller after another calls, and its histories: the calls of all cores with their answers, the oldest
+-- first. [own; no code keeps one]
 use Rattle.std.specs.Prelude.{◌≡◌, ◌==◌, ◌⊎◌, if◌then◌else◌, List, [], ◌∷◌, ◌++◌}
 use Rattle.osbase.specs.declared.references.CoreId.{CoreId}
 use Rattle.osseat.specs.declared.histories.Entry.{Entry}
-use Rattle.osseat.specs.Objects.{Object}
+
+-- What an object is at first, by what it is told then, what a core's call makes of it, and what the call is
+-- answered. Every call is answered at once.
+pub record Object (A S C R : Type 0) : Type 0 where
+  pub first : A → S
+  pub after : CoreId → C → S → S
+  pub reply : CoreId → C → S → R
 
 abbrev pub entry : {C R : Type 0} → CoreId → C → R → Entry C R
 entry core call reply = record { core = core; call = call; reply = reply }

@@ -1,4 +1,3 @@
-pub mod Objects
 pub mod Histories
 pub mod Seats
 pub mod Views

@@ -3,8 +3,7 @@ use Rattle.std.specs.Prelude.{◌≡◌, false, List, [], ◌∷◌}
 use Rattle.osbase.specs.declared.references.CoreId.{CoreId}
 use Rattle.osseat.specs.declared.histories.Entry.{Entry}
 use Rattle.osseat.specs.declared.histories.Plan.{Plan}
-use Rattle.osseat.specs.Objects.{Object}
-use Rattle.osseat.specs.Histories.{IsLegal, Thinned, calls_by}
+use Rattle.osseat.specs.Histories.{Object, IsLegal, Thinned, calls_by}
 use Rattle.osseat.specs.Seats.{Held, Place, has}
 
 -- Calls of which each leaves the object as it is, where the object answers it so.

@@ -5,8 +5,7 @@ use Rattle.atomic_table.specs.Seated.{TableId}
 use Rattle.osbase.specs.declared.references.CoreId.{CoreId}
 use Rattle.osseat.specs.declared.histories.Entry.{Entry}
 use Rattle.osseat.specs.declared.histories.Plan.{Plan}
-use Rattle.osseat.specs.Objects.{Object}
-use Rattle.osseat.specs.Histories.{IsLegal, calls_by}
+use Rattle.osseat.specs.Histories.{Object, IsLegal, calls_by}
 
 -- The core is one of these.
 abbrev pub has : List CoreId → CoreId → Bool

@@ -9,8 +9,7 @@ use Rattle.osbase.specs.declared.references.CoreId.{CoreId}
 use Rattle.osseat.specs.declared.histories.Entry.{Entry}
 use Rattle.osseat.specs.declared.histories.Plan.{Plan}
 use Rattle.osseat.specs.declared.histories.View.{View}
-use Rattle.osseat.specs.Objects.{Object}
-use Rattle.osseat.specs.Histories.{IsLegal, calls_by, entry, state_after}
+use Rattle.osseat.specs.Histories.{Object, IsLegal, calls_by, entry, state_after}
 use Rattle.osseat.specs.Seats.{Held, has}
 
 -- The first core of a list.

@@ -2,7 +2,7 @@
 
 ghost use Rattle.std.specs.Prelude.{ℕ, List};
 ghost use Rattle.osbase.specs.declared.references.CoreId.{CoreId};
-ghost use Rattle.osseat.specs.Objects.{Object};
+ghost use Rattle.osseat.specs.Histories.{Object};
 
 use osbase::{CoreId, List};
 use std::collections::LinkedList;

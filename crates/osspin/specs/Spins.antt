@@ -4,8 +4,7 @@ use Rattle.osbase.specs.declared.references.CoreId.{CoreId}
 use Rattle.osbase.specs.declared.references.SpinlockId.{SpinlockId}
 use Rattle.osbase.specs.History.{same_core}
 use Rattle.osseat.specs.declared.histories.Entry.{Entry}
-use Rattle.osseat.specs.Objects.{Object}
-use Rattle.osseat.specs.Histories.{entry}
+use Rattle.osseat.specs.Histories.{Object, entry}
 use Rattle.osspin.specs.declared.calls.TheConstants.{SPINLOCKS}
 use Rattle.osspin.specs.declared.calls.SpinAction.{SpinAction}
 use Rattle.osspin.specs.declared.calls.SpinAction.TheVariants.{Take, Free, Look}

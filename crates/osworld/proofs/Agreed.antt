@@ -30,7 +30,7 @@ use Rattle.osworld.specs.declared.asks.Answer.{Answer}
 use Rattle.osworld.specs.declared.asks.Answer.TheVariants.{Replied, HasRoom, Found}
 use Rattle.osworld.specs.Asking.{asked, asked_by, comes_to, named_by}
 use Rattle.osworld.specs.World.{World, answer_in, board_in, has_room, history_in, items_in, next_in, next_stimulus, stimulus_count}
-use Rattle.osworld.specs.Naming.{answer_by, next_by}
+use Rattle.osworld.specs.Answering.{answer_by, next_by}
 use Rattle.osworld.specs.Playing.{IsMail, lists_of}
 use Rattle.osworld.proofs.Listed.{is_seat_of, list_of}
 use Rattle.osworld.proofs.Streams.{front-drop}

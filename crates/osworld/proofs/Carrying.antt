@@ -19,7 +19,7 @@ use Rattle.oskernel.specs.Step.{after, history_from}
 use Rattle.oskernel.specs.Wants.{front_of}
 use Rattle.osworld.specs.declared.asks.Ask.{Ask}
 use Rattle.osworld.specs.World.{World, appends, history_in}
-use Rattle.osworld.specs.Naming.{carried, IsPlaced}
+use Rattle.osworld.specs.Answering.{carried, IsPlaced}
 use Rattle.osworld.specs.Playing.{IsMail, waiting}
 use Rattle.osworld.proofs.Listed.{items_by, list_of, list_of-same, list_of-other, history_from-push}
 use Rattle.osworld.proofs.Streams.{is_post_to, is_from, posted-after, received-after, box-changed, front-drop, waiting-shorter}

@@ -25,7 +25,7 @@ use Rattle.osworld.specs.declared.seats.Seat.{Seat}
 use Rattle.osworld.specs.declared.asks.Ask.{Ask}
 use Rattle.osworld.specs.Fits.{history_by}
 use Rattle.osworld.specs.World.{World, turn, is_unchanged, item_total}
-use Rattle.osworld.specs.Naming.{carried, IsPlaced, left_after, next_by, told}
+use Rattle.osworld.specs.Answering.{carried, IsPlaced, left_after, next_by, told}
 use Rattle.osworld.specs.Playing.{IsCutShort, IsPlayed, IsSeated, Plays}
 use Rattle.osworld.proofs.Listed.{is_seat_of, seat_is_of, seat_nowhere, seat_place}
 use Rattle.osworld.proofs.Turning.{Took, turn-nobody, turn-nothing, turn-refused, turn-taken, turn-appends}

@@ -27,7 +27,7 @@ use Rattle.osworld.specs.declared.asks.Ask.TheVariants.{OfBoard}
 use Rattle.osworld.specs.Asking.{told_by}
 use Rattle.osworld.specs.Fits.{history_by}
 use Rattle.osworld.specs.World.{World, answer_in, appends, board_in, history_in, items_in, next_in, stimulus_count, turn, turn_by, with_item, item_total}
-use Rattle.osworld.specs.Naming.{carried, IsPlaced, left_after, next_by, told}
+use Rattle.osworld.specs.Answering.{carried, IsPlaced, left_after, next_by, told}
 use Rattle.osworld.specs.Playing.{IsMail, IsSeated, lists_of, Plays}
 use Rattle.osworld.proofs.Listed.{is_seat_of, items_by, list_of, list_of-nobody, list_of-seat, lists_of-set, history_from-push, total-push}
 use Rattle.osworld.proofs.Carrying.{carries_on}

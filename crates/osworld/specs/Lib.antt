@@ -4,5 +4,5 @@ pub mod Sound
 pub mod World
 pub mod Runs
 pub mod Ends
-pub mod Naming
+pub mod Answering
 pub mod Playing

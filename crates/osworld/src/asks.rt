@@ -1,8 +1,10 @@
 //! What a turn of a core asks of what it shares with the others, and the item to which the answer leads.
 
-ghost use Rattle.std.specs.Prelude.{◌≡◌};
-ghost use Rattle.osplan.specs.View.{is_configured, view_of};
-ghost use Rattle.osworld.specs.Asking.{going_on, look_asked, named_by, own_asked, passing, replied, starting};
+ghost use Rattle.std.specs.Prelude.{◌≡◌, find, if◌then◌else◌, is_some};
+ghost use Rattle.osbase.specs.History.{same_core};
+ghost use Rattle.osplan.specs.Separate.{configured_ids};
+ghost use Rattle.osplan.specs.View.{view_of};
+ghost use Rattle.osworld.specs.Asking.{going_on, look_asked, named_by, own_asked, passing, replied};
 
 use osbase::{CoreId, Envelope, Item, Phase, Status, Stimulus};
 use osboard::{BoardCall, BoardReply, BoardView};
@@ -42,7 +44,7 @@ pub fn own_asked(plan: &Plan, id: CoreId, want: Want, next: Option<Stimulus>) ->
     ensures { result ≡ own_asked (view_of plan.now id) next want }
 {
     match want {
-        Want::Start(core) => Some(starting(plan, id, core)),
+        Want::Start(core) => Some(starting(core, is_configured(plan, core))),
         Want::Enter => Some(Ask::OfBoard(BoardCall::Enter(mode_of(plan, id)))),
         Want::Ready => Some(Ask::OfBoard(BoardCall::MakeReady)),
         Want::Post(to) => Some(Ask::Room(to)),
@@ -52,21 +54,20 @@ pub fn own_asked(plan: &Plan, id: CoreId, want: Want, next: Option<Stimulus>) ->
 }
 
 // StartCore of a core that is not configured is answered without the board (AUTOSAR SWS OS 4.x, StartCore).
-fn starting(plan: &Plan, id: CoreId, core: CoreId) -> Ask
-    ensures { result ≡ starting (view_of plan.now id) core }
+fn starting(core: CoreId, is_configured: bool) -> Ask
+    ensures { result ≡ (if is_configured then Ask.OfBoard (BoardCall.Start core) else Ask.StartUnknown core) }
 {
-    if is_configured(plan, id, core) {
+    if is_configured {
         Ask::OfBoard(BoardCall::Start(core))
     } else {
         Ask::StartUnknown(core)
     }
 }
 
-// Whether the core sees that the other is configured: every core sees the same.
-fn is_configured(plan: &Plan, id: CoreId, core: CoreId) -> bool
-    ensures { result ≡ is_configured (view_of plan.now id) core }
+// Every core sees alike which cores are configured.
+fn is_configured(plan: &Plan, core: CoreId) -> bool
+    ensures { result ≡ is_some (find (same_core core) (configured_ids plan.now)) }
 {
-    let _ = id;
     plan.core(core).is_some()
 }
 

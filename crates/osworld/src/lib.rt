@@ -1,9 +1,9 @@
 //! The world of a listed run: cores, mailboxes and the board, turn by turn.
 #![tactic(auto)]
 
+mod answering;
 pub mod asks;
 pub mod ends;
-mod naming;
 pub mod runs;
 mod seats;
 mod worlds;

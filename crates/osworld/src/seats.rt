@@ -12,11 +12,11 @@ ghost use Rattle.osbase.specs.Runs.{stimuli_of};
 ghost use Rattle.osworld.specs.Runs.{is_ended_phase};
 ghost use Rattle.oskernel.specs.Wants.{want_in};
 ghost use Rattle.osworld.specs.Asking.{asked_by};
-ghost use Rattle.osworld.specs.Naming.{IsPlaced, left_after, next_by};
+ghost use Rattle.osworld.specs.Answering.{IsPlaced, left_after, next_by};
 ghost use Rattle.oskernel.specs.declared.kernel.TheConstants.{STEP_MARKS};
 
+use crate::answering::{Mailboxes, answer_to};
 use crate::asks::{Ask, look_asked, named, own_asked};
-use crate::naming::{Mailboxes, answer_to};
 use osbase::{
     CORES, Choice, CoreId, CoreStimuli, Envelope, Item, List, Mark, Phase, Report, Stimulus,
     stimuli_for,
@@ -79,7 +79,8 @@ impl<'a> Seat<'a> {
     {
         let phase = self.kernel.phase();
         let ask = self.asked(plan, choice)?;
-        let item = named(self.id, phase, ask, answer_to(board, mail, self.id, ask))?;
+        let answer = answer_to(board, mail, self.id, ask)?;
+        let item = named(self.id, phase, ask, answer)?;
         Some((ask, item))
     }
 

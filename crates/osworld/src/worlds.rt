@@ -12,7 +12,7 @@ ghost use Rattle.osbase.specs.Sets.{has_core};
 ghost use Rattle.osworld.specs.World.{first_world};
 ghost use Rattle.osworld.specs.Runs.{is_ended_phase};
 
-use crate::naming::{Mailboxes, carry, tell};
+use crate::answering::{Mailboxes, carry, tell};
 use crate::seats::Seat;
 use osbase::{CORE_NUMBERS, CORES, Choice, CoreId, CoreStimuli, Item, Report, Turn};
 use osboard::BoardList;

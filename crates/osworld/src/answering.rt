@@ -1,9 +1,9 @@
 //! What a turn is answered, and what it changes beside the core that takes its item.
 
-ghost use Rattle.std.specs.Prelude.{◌≡◌, ◌<◌, ◌&&◌, nat_lt, if◌then◌else◌, None};
+ghost use Rattle.std.specs.Prelude.{◌≡◌, ◌<◌, ◌&&◌, nat_lt, if◌then◌else◌, None, IfNone, IfSome};
 ghost use Rattle.osbase.specs.declared.turns.TheConstants.{CORES};
 ghost use Rattle.osmail.specs.Mail.{has_room, oldest_of};
-ghost use Rattle.osworld.specs.Naming.{answer_by, carried, IsPlaced, told};
+ghost use Rattle.osworld.specs.Answering.{answer_by, carried, IsPlaced, told};
 
 use crate::asks::{Answer, Ask};
 use osbase::{CORES, CoreId, Envelope, Item};
@@ -16,19 +16,21 @@ pub const MAILBOX: usize = 16;
 /// The mailboxes of a listed run.
 pub type Mailboxes = ListMail<MAILBOX>;
 
-/// What a core's turn is answered. Nothing changes yet.
-pub fn answer_to(board: &BoardList, mail: &Mailboxes, id: CoreId, ask: Ask) -> Answer
+/// What a core's turn is answered: none where it serves a core from which there is no envelope, as most turns do.
+/// Nothing changes yet.
+pub fn answer_to(board: &BoardList, mail: &Mailboxes, id: CoreId, ask: Ask) -> Option<Answer>
     requires { id.number < CORES }
-    ensures { result ≡ answer_by board.now mail.now id ask }
+    ensures answer { IfSome result (λ answer. answer ≡ answer_by board.now mail.now id ask) }
+    ensures none { IfNone result (answer_by board.now mail.now id ask ≡ Answer.Found None) }
 {
     match ask {
-        Ask::OfBoard(call) => {
-            let mut after = *board;
-            Answer::Replied(after.call(id, call))
+        Ask::OfBoard(call) => Some(Answer::Replied(board.reply(id, call))),
+        Ask::Room(to) => Some(Answer::HasRoom(has_room(mail, id, to))),
+        Ask::Oldest(from) => {
+            let envelope = oldest(mail, id, from)?;
+            Some(Answer::Found(Some(envelope)))
         }
-        Ask::Room(to) => Answer::HasRoom(has_room(mail, id, to)),
-        Ask::Oldest(from) => Answer::Found(oldest(mail, id, from)),
-        Ask::StartUnknown(_) | Ask::TakeStimulus(_) => Answer::Unasked,
+        Ask::StartUnknown(_) | Ask::TakeStimulus(_) => Some(Answer::Unasked),
     }
 }
 
