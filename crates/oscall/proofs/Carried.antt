@@ -14,8 +14,8 @@ use Rattle.osbase.specs.declared.messages.Message.{Message}
 use Rattle.osbase.specs.declared.marks.Mark.{Mark}
 use Rattle.osbase.specs.declared.histories.OpenCall.{OpenCall}
 use Rattle.osbase.specs.History.{Entry, History, Took, Printed, Noted, Opened, Queued, Done}
+use Rattle.osbase.specs.Marks.{core_of_runner, names_only}
 use Rattle.oscript.specs.declared.Op.{Op}
-use Rattle.oscript.specs.declared.Op.TheVariants as Op
 use Rattle.oscript.specs.Rows.{objects_of}
 use Rattle.osplan.specs.View.{View}
 use Rattle.osstate.specs.Queries.{is_at_limit}
@@ -47,18 +47,22 @@ pub record ServesSame (v : View) (may : CoreId → Bool) (h k : History) : Type 
   pub started : (core : CoreId) → (is_own v core || may core) ≡ true → knows_started h core ≡ knows_started k core
   pub limit : (t : TaskRef) → is_at_limit v t h ≡ is_at_limit v t k
 
--- A mark, or a note of the core itself: neither an item nor what goes to another core.
-abbrev pub is_local : Entry → Bool
-is_local (Took item) = false
-is_local (Noted (Opened call)) = false
-is_local (Noted (Queued core envelope)) = false
-is_local entry = true
+-- A note of the core itself, or a mark that names only objects of cores that pass: neither an item nor what goes to
+-- another core.
+abbrev pub is_local : (CoreId → Bool) → Entry → Bool
+is_local names (Took item) = false
+is_local names (Printed m) = names_only names m
+is_local names (Noted (Opened call)) = false
+is_local names (Noted (Queued core envelope)) = false
+is_local names entry = true
 
 -- A relation of histories that each kind of entry keeps which a service may add: one of the core itself, an envelope
 -- to a core that may be asked, a reply to one that may be answered, and a call that is open there. Where it holds,
--- services read the same.
-pub record IsKept (v : View) (may answered : CoreId → Bool) (R : History → History → Type 0) : Type 0 where
-  pub local : (e : Entry) (h k : History) → is_local e ≡ true → R h k → R (e ∷ h) (e ∷ k)
+-- services read the same. Marks may name objects of the cores that `names` passes: of the own one, and of each that may be
+-- asked.
+pub record IsKept (v : View) (may answered names : CoreId → Bool) (R : History → History → Type 0) : Type 0 where
+  pub named : (core : CoreId) → (is_own v core || may core) ≡ true → names core ≡ true
+  pub local : (e : Entry) (h k : History) → is_local names e ≡ true → R h k → R (e ∷ h) (e ∷ k)
   pub asked : (core : CoreId) (message : Message) (h k : History) → may core ≡ true → R h k → R (queues core message h) (queues core message k)
   pub replied : (core : CoreId) (s : Status) (value : Option ℤ) (h k : History) → answered core ≡ true → R h k → R (queues core (Message.Reply s value) h) (queues core (Message.Reply s value) k)
   pub opened : (call : OpenCall) (h k : History) → may call.core ≡ true → R h k → R (Noted (Opened call) ∷ h) (Noted (Opened call) ∷ k)
@@ -66,9 +70,13 @@ pub record IsKept (v : View) (may answered : CoreId → Bool) (R : History → H
 
 -- Each function of a service carries such a relation: related before, related after. The second history is that of a
 -- core that sees another master and other cores.
-module _ (v : View) (master : Bool) (ids : List CoreId) (may answered : CoreId → Bool) (R : History → History → Type 0) (kept : IsKept v may answered R) where
+module _ (v : View) (master : Bool) (ids : List CoreId) (may answered names : CoreId → Bool) (R : History → History → Type 0) (kept : IsKept v may answered names R) where
   abbrev other : View
   other = seen_as v master ids
+
+  -- Marks may name the runner.
+  abbrev IsNamed : Runner → Type 0
+  IsNamed r = names (core_of_runner r) ≡ true
 
   -- ---- the parts of a service
 
@@ -76,33 +84,33 @@ module _ (v : View) (master : Bool) (ids : List CoreId) (may answered : CoreId �
   either-carried true h h' k k' p q = p
   either-carried false h h' k k' p q = q
 
-  pub printed-carried : (m : Mark) (h k : History) → R h k → R (Printed m ∷ h) (Printed m ∷ k)
-  printed-carried m h k p = kept.local (Printed m) h k refl p
+  pub printed-carried : (m : Mark) (h k : History) → names_only names m ≡ true → R h k → R (Printed m ∷ h) (Printed m ∷ k)
+  printed-carried m h k n p = kept.local (Printed m) h k n p
 
   reports-carried : (s : Status) (h k : History) → R h k → R (reports s h) (reports s k)
-  reports-carried s h k p = either-carried (is_ok_status s) h _ k _ p (printed-carried (Mark.ErrorHook s) h k p)
+  reports-carried s h k p = either-carried (is_ok_status s) h _ k _ p (printed-carried (Mark.ErrorHook s) h k refl p)
 
-  pub returns-carried : (r : Runner) (service : ServiceId) (s : Status) (value : Option ℤ) (h k : History) → R h k → R (returns r service s value h) (returns r service s value k)
-  returns-carried r service s value h k p =
-      kept.local (Noted (Done r s value)) _ _ refl (reports-carried s _ _ (printed-carried (Mark.ServiceReturned r service s value) h k p))
+  pub returns-carried : (r : Runner) (service : ServiceId) (s : Status) (value : Option ℤ) (h k : History) → IsNamed r → R h k → R (returns r service s value h) (returns r service s value k)
+  returns-carried r service s value h k n p =
+      kept.local (Noted (Done r s value)) _ _ refl (reports-carried s _ _ (printed-carried (Mark.ServiceReturned r service s value) h k n p))
 
-  asks-carried : (r : Runner) (service : ServiceId) (core : CoreId) (call : RemoteCall) (h k : History) → may core ≡ true → R h k → R (asks r service core call h) (asks r service core call k)
-  asks-carried r service core call h k allowed p =
-      kept.opened _ _ _ allowed (kept.asked core (Message.Request call) _ _ allowed (printed-carried (Mark.CallQueued core call) h k p))
+  asks-carried : (r : Runner) (service : ServiceId) (call : RemoteCall) (h k : History) → names (core_of_call call) ≡ true → may (core_of_call call) ≡ true → R h k → R (asks r service (core_of_call call) call h) (asks r service (core_of_call call) call k)
+  asks-carried r service call h k n allowed p =
+      kept.opened _ _ _ allowed (kept.asked (core_of_call call) (Message.Request call) _ _ allowed (printed-carried (Mark.CallQueued (core_of_call call) call) h k n p))
 
-  ends-carried : (r : Runner) (h k : History) → R h k → R (ends r h) (ends r k)
-  ends-carried (Runner.Task t) h k p = printed-carried _ _ _ (printed-carried _ h k p)
-  ends-carried (Runner.Isr i) h k p = printed-carried _ h k p
+  ends-carried : (r : Runner) (h k : History) → IsNamed r → R h k → R (ends r h) (ends r k)
+  ends-carried (Runner.Task t) h k n p = printed-carried _ _ _ n (printed-carried _ h k n p)
+  ends-carried (Runner.Isr i) h k n p = printed-carried _ h k n p
 
-  pub ends_unasked-carried : (r : Runner) (h k : History) → R h k → R (ends_unasked r h) (ends_unasked r k)
-  ends_unasked-carried (Runner.Task t) h k p = ends-carried (Runner.Task t) _ _ (printed-carried _ h k p)
-  ends_unasked-carried (Runner.Isr i) h k p = ends-carried (Runner.Isr i) h k p
+  pub ends_unasked-carried : (r : Runner) (h k : History) → IsNamed r → R h k → R (ends_unasked r h) (ends_unasked r k)
+  ends_unasked-carried (Runner.Task t) h k n p = ends-carried (Runner.Task t) _ _ n (printed-carried _ h k refl p)
+  ends_unasked-carried (Runner.Isr i) h k n p = ends-carried (Runner.Isr i) h k n p
 
   -- A service whose checks come to the same status, and whose effect carries the relation.
-  answers-carried : (r : Runner) (service : ServiceId) (checks checks' : List Check) → first_failing checks ≡ first_failing checks' → (does does' : History → History) (h k : History) → R h k → R (does h) (does' k) → R (answers r service checks does h) (answers r service checks' does' k)
-  answers-carried r service checks checks' same does does' h k p q =
+  answers-carried : (r : Runner) (service : ServiceId) (checks checks' : List Check) → first_failing checks ≡ first_failing checks' → (does does' : History → History) (h k : History) → IsNamed r → R h k → R (does h) (does' k) → R (answers r service checks does h) (answers r service checks' does' k)
+  answers-carried r service checks checks' same does does' h k n p q =
       subst (λ (s : Status). R (answers r service checks does h) (cond (is_ok_status s) (does' k) (returns r service s None k))) same
-      (either-carried (is_ok_status (first_failing checks)) (does h) _ (does' k) _ q (returns-carried r service (first_failing checks) None h k p))
+      (either-carried (is_ok_status (first_failing checks)) (does h) _ (does' k) _ q (returns-carried r service (first_failing checks) None h k n p))
 
   -- ---- one fact for each call that is served
 
@@ -111,71 +119,74 @@ module _ (v : View) (master : Bool) (ids : List CoreId) (may answered : CoreId �
       ap (λ (b : Bool). let answer : Answer = record { status = first_failing ((b, Status.EOsLimit) ∷ []); value = cond (is_ok_status (first_failing ((b, Status.EOsLimit) ∷ []))) None None } in Some answer) ((kept.reads h k p).limit t)
   answer-same call h k p = refl
 
-  effect-carried : (call : RemoteCall) (h k : History) → R h k → R (effect_of call v h) (effect_of call other k)
-  effect-carried (Remote.ActivateTask t) h k p =
+  effect-carried : (call : RemoteCall) (h k : History) → names (core_of_call call) ≡ true → R h k → R (effect_of call v h) (effect_of call other k)
+  effect-carried (Remote.ActivateTask t) h k n p =
       subst (λ (b : Bool). R (effect_of (Remote.ActivateTask t) v h) (cond (is_ok_status (first_failing ((b, Status.EOsLimit) ∷ []))) (activates t k) k)) ((kept.reads h k p).limit t)
-      (either-carried (is_ok_status (first_failing ((is_at_limit v t h, Status.EOsLimit) ∷ []))) (activates t h) h (activates t k) k (printed-carried _ h k p) p)
-  effect-carried call h k p = p
+      (either-carried (is_ok_status (first_failing ((is_at_limit v t h, Status.EOsLimit) ∷ []))) (activates t h) h (activates t k) k (printed-carried _ h k n p) p)
+  effect-carried call h k n p = p
 
   -- ---- calls across cores
 
   -- A function of the answer and of the history with the effect, which carries the relation for each answer.
-  answered-carried : (f f' : Option Answer → History → History) → ((answer : Option Answer) (h k : History) → R h k → R (f answer h) (f' answer k)) → (call : RemoteCall) (h k : History) → R h k → R (f (answer_to call v h) (effect_of call v h)) (f' (answer_to call other k) (effect_of call other k))
-  answered-carried f f' carries call h k p =
+  answered-carried : (f f' : Option Answer → History → History) → ((answer : Option Answer) (h k : History) → R h k → R (f answer h) (f' answer k)) → (call : RemoteCall) (h k : History) → names (core_of_call call) ≡ true → R h k → R (f (answer_to call v h) (effect_of call v h)) (f' (answer_to call other k) (effect_of call other k))
+  answered-carried f f' carries call h k n p =
       subst (λ (answer : Option Answer). R (f (answer_to call v h) (effect_of call v h)) (f' answer (effect_of call other k))) (answer-same call h k p)
-      (carries (answer_to call v h) _ _ (effect-carried call h k p))
+      (carries (answer_to call v h) _ _ (effect-carried call h k n p))
 
-  returns_with-carried : (r : Runner) (service : ServiceId) (answer : Option Answer) (h k : History) → R h k → R (returns_with r service answer h) (returns_with r service answer k)
-  returns_with-carried r service None h k p = p
-  returns_with-carried r service (Some answer) h k p = returns-carried r service answer.status answer.value h k p
+  returns_with-carried : (r : Runner) (service : ServiceId) (answer : Option Answer) → IsNamed r → (h k : History) → R h k → R (returns_with r service answer h) (returns_with r service answer k)
+  returns_with-carried r service None n h k p = p
+  returns_with-carried r service (Some answer) n h k p = returns-carried r service answer.status answer.value h k n p
 
-  crosses-carried : (r : Runner) (service : ServiceId) (call : RemoteCall) (h k : History) → (is_own v (core_of_call call) || may (core_of_call call)) ≡ true → R h k → R (crosses v r service (Some call) h) (crosses other r service (Some call) k)
-  crosses-carried r service call h k allowed p = by (is_own v (core_of_call call)) allowed
+  crosses-carried : (r : Runner) (service : ServiceId) (call : RemoteCall) (h k : History) → IsNamed r → (is_own v (core_of_call call) || may (core_of_call call)) ≡ true → R h k → R (crosses v r service (Some call) h) (crosses other r service (Some call) k)
+  crosses-carried r service call h k n allowed p = by (is_own v (core_of_call call)) allowed
     where
+      object : names (core_of_call call) ≡ true
+      object = kept.named (core_of_call call) allowed
+
       by : (b : Bool) → (b || may (core_of_call call)) ≡ true
           → R (cond b (returns_with r service (answer_to call v h) (effect_of call v h)) (asks r service (core_of_call call) call h)) (cond b (returns_with r service (answer_to call other k) (effect_of call other k)) (asks r service (core_of_call call) call k))
-      by true m = answered-carried (returns_with r service) (returns_with r service) (returns_with-carried r service) call h k p
-      by false m = asks-carried r service (core_of_call call) call h k m p
+      by true m = answered-carried (returns_with r service) (returns_with r service) (λ answer. returns_with-carried r service answer n) call h k object p
+      by false m = asks-carried r service call h k object m p
 
   -- The core of a call's object is the own core, or one that may be asked.
   abbrev MayCall : Option RemoteCall → Type 0
   MayCall None = Unit {0}
   MayCall (Some call) = (is_own v (core_of_call call) || may (core_of_call call)) ≡ true
 
-  calls-carried : (r : Runner) (service : ServiceId) (target : Option RemoteCall) (h k : History) → MayCall target → R h k → R (calls v r service target h) (calls other r service target k)
-  calls-carried r service None h k allowed p = returns-carried r service Status.EOsId None h k p
-  calls-carried r service (Some call) h k allowed p =
+  calls-carried : (r : Runner) (service : ServiceId) (target : Option RemoteCall) (h k : History) → IsNamed r → MayCall target → R h k → R (calls v r service target h) (calls other r service target k)
+  calls-carried r service None h k n allowed p = returns-carried r service Status.EOsId None h k n p
+  calls-carried r service (Some call) h k n allowed p =
       answers-carried r service (border_checks (Some call) h) (border_checks (Some call) k) (ap (λ (b : Bool). first_failing ((false, Status.EOsId) ∷ (not b, Status.EOsCore) ∷ [])) ((kept.reads h k p).started (core_of_call call) allowed))
-      (crosses v r service (Some call)) (crosses other r service (Some call)) h k p (crosses-carried r service call h k allowed p)
+      (crosses v r service (Some call)) (crosses other r service (Some call)) h k n p (crosses-carried r service call h k n allowed p)
 
-  replies-carried : (from : CoreId) (call : RemoteCall) → answered from ≡ true → (answer : Option Answer) (h k : History) → R h k → R (replies from call answer h) (replies from call answer k)
-  replies-carried from call may_answer None h k p = p
-  replies-carried from call may_answer (Some answer) h k p = kept.replied from answer.status answer.value _ _ may_answer (printed-carried _ h k p)
+  replies-carried : (from : CoreId) (call : RemoteCall) → names (core_of_call call) ≡ true → answered from ≡ true → (answer : Option Answer) (h k : History) → R h k → R (replies from call answer h) (replies from call answer k)
+  replies-carried from call n may_answer None h k p = p
+  replies-carried from call n may_answer (Some answer) h k p = kept.replied from answer.status answer.value _ _ may_answer (printed-carried _ h k n p)
 
-  pub request-carried : (from : CoreId) (call : RemoteCall) (h k : History) → answered from ≡ true → R h k → R (serves_request v from call h) (serves_request other from call k)
-  request-carried from call h k may_answer p = answered-carried (replies from call) (replies from call) (replies-carried from call may_answer) call h k p
+  pub request-carried : (from : CoreId) (call : RemoteCall) (h k : History) → names (core_of_call call) ≡ true → answered from ≡ true → R h k → R (serves_request v from call h) (serves_request other from call k)
+  request-carried from call h k n may_answer p = answered-carried (replies from call) (replies from call) (replies-carried from call n may_answer) call h k n p
 
-  reports_served-carried : (from : CoreId) (call : RemoteCall) (answer : Option Answer) (h k : History) → R h k → R (reports_served from call answer h) (reports_served from call answer k)
-  reports_served-carried from call None h k p = p
-  reports_served-carried from call (Some answer) h k p = reports-carried answer.status _ _ (printed-carried _ h k p)
+  reports_served-carried : (from : CoreId) (call : RemoteCall) → names (core_of_call call) ≡ true → (answer : Option Answer) (h k : History) → R h k → R (reports_served from call answer h) (reports_served from call answer k)
+  reports_served-carried from call n None h k p = p
+  reports_served-carried from call n (Some answer) h k p = reports-carried answer.status _ _ (printed-carried _ h k n p)
 
-  pub action-carried : (from : CoreId) (call : RemoteCall) (h k : History) → R h k → R (serves_action v from call h) (serves_action other from call k)
-  action-carried from call h k p = answered-carried (reports_served from call) (reports_served from call) (reports_served-carried from call) call h k p
+  pub action-carried : (from : CoreId) (call : RemoteCall) (h k : History) → names (core_of_call call) ≡ true → R h k → R (serves_action v from call h) (serves_action other from call k)
+  action-carried from call h k n p = answered-carried (reports_served from call) (reports_served from call) (reports_served-carried from call n) call h k n p
 
   -- ---- one fact for each operation
 
   abbrev Carried : Op → Type 0
-  Carried op = (r : Runner) (h k : History) → IsAllowed v may op → R h k → R (operates v r op h) (operates other r op k)
+  Carried op = (r : Runner) (h k : History) → IsNamed r → IsAllowed v may op → R h k → R (operates v r op h) (operates other r op k)
 
   work-carried : Carried Op.Work
-  work-carried r h k allowed p = kept.local (Noted (Done r Status.EOk None)) h k refl p
+  work-carried r h k n allowed p = kept.local (Noted (Done r Status.EOk None)) h k refl p
 
   activate-carried : (target : Option TaskRef) → Carried (Op.ActivateTask target)
-  activate-carried None r h k allowed p = calls-carried r ServiceId.ActivateTask None h k tt p
-  activate-carried (Some t) r h k allowed p = calls-carried r ServiceId.ActivateTask (Some (Remote.ActivateTask t)) h k (and_parts _ true allowed).0 p
+  activate-carried None r h k n allowed p = calls-carried r ServiceId.ActivateTask None h k n tt p
+  activate-carried (Some t) r h k n allowed p = calls-carried r ServiceId.ActivateTask (Some (Remote.ActivateTask t)) h k n (and_parts _ true allowed).0 p
 
   terminate-carried : Carried Op.TerminateTask
-  terminate-carried r h k allowed p = answers-carried r ServiceId.TerminateTask (termination_checks r) (termination_checks r) refl (ends r) (ends r) h k p (ends-carried r h k p)
+  terminate-carried r h k n allowed p = answers-carried r ServiceId.TerminateTask (termination_checks r) (termination_checks r) refl (ends r) (ends r) h k n p (ends-carried r h k n p)
 
   pub operates-carried : (op : Op) → Carried op
   operates-carried Op.Work = work-carried

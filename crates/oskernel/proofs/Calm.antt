@@ -1,13 +1,14 @@
 -- A core whose scripts name no other core's objects, and that takes no mail, keeps no call open and posts nothing.
-use Rattle.std.proofs.Common.{Option, ◌≡◌, true, false, None, [], ◌∷◌, refl}
+use Rattle.std.proofs.Common.{Bool, Option, ◌≡◌, true, false, None, [], ◌∷◌, refl}
 use Rattle.std.proofs.lemmas.Bool.{false≢true}
+use Rattle.osbase.specs.declared.references.CoreId.{CoreId}
 use Rattle.osbase.specs.declared.items.Item.{Item}
 use Rattle.osbase.specs.declared.references.Runner.{Runner}
 use Rattle.osbase.specs.declared.marks.Mark.TheVariants as Mark
 use Rattle.osbase.specs.declared.histories.OpenCall.{OpenCall}
 use Rattle.osbase.specs.History.{Entry, History, Took, Printed, Noted, Done, closed_by, open_call, outbox}
 use Rattle.osplan.specs.View.{View}
-use Rattle.oscall.proofs.Carried.{is_local, nobody}
+use Rattle.oscall.proofs.Carried.{anybody, is_local, nobody}
 use Rattle.osstate.specs.State.{state_of}
 use Rattle.oskernel.specs.Admission.{is_settled}
 use Rattle.oskernel.specs.Step.{after}
@@ -26,29 +27,29 @@ settled v h calm = rw (calm.closed, calm.empty) refl
 closed-still : (r : Runner) (o : Option OpenCall) → o ≡ None → closed_by r o ≡ None
 closed-still r o closed = rw closed refl
 
-calm-local : (e : Entry) (h : History) → is_local e ≡ true → Calm h → Calm (e ∷ h)
-calm-local (Printed (Mark.Terminated t)) h is p = record { closed = closed-still (Runner.Task t) (open_call h) p.closed; empty = p.empty }
-calm-local (Printed (Mark.IsrLeft i)) h is p = record { closed = closed-still (Runner.Isr i) (open_call h) p.closed; empty = p.empty }
-calm-local (Printed m) h is p = record { closed = p.closed; empty = p.empty }
-calm-local (Noted (Done r s value)) h is p = record { closed = closed-still r (open_call h) p.closed; empty = p.empty }
-calm-local e h is p = absurd (false≢true is)
+pub calm-local : (names : CoreId → Bool) (e : Entry) (h : History) → is_local names e ≡ true → Calm h → Calm (e ∷ h)
+calm-local names (Printed (Mark.Terminated t)) h is p = record { closed = closed-still (Runner.Task t) (open_call h) p.closed; empty = p.empty }
+calm-local names (Printed (Mark.IsrLeft i)) h is p = record { closed = closed-still (Runner.Isr i) (open_call h) p.closed; empty = p.empty }
+calm-local names (Printed m) h is p = record { closed = p.closed; empty = p.empty }
+calm-local names (Noted (Done r s value)) h is p = record { closed = closed-still r (open_call h) p.closed; empty = p.empty }
+calm-local names e h is p = absurd (false≢true is)
 
-calm-holds : Holds nobody nobody Calm
+calm-holds : Holds nobody nobody anybody Calm
 calm-holds = record {
-  local = calm-local;
+  local = calm-local anybody;
   asked = λ core message h m p. absurd (false≢true m);
   replied = λ core s value h m p. absurd (false≢true m);
   opened = λ call h m p. absurd (false≢true m);
 }
 
-calm-took : (i : Item) (h : History) → is_mail i ≡ false → Calm h → Calm (Took i ∷ h)
+pub calm-took : (i : Item) (h : History) → is_mail i ≡ false → Calm h → Calm (Took i ∷ h)
 calm-took (Item.Posted to) h none p = cc
 calm-took (Item.Received from number message) h none p = cc
 calm-took i h none p = record { closed = p.closed; empty = p.empty }
 
-mail-replied : (i : Item) → is_mail i ≡ false → is_replied nobody i ≡ true
-mail-replied (Item.Received from number message) none = cc
-mail-replied i none = refl
+pub mail-replied : (names : CoreId → Bool) (i : Item) → is_mail i ≡ false → is_replied nobody names i ≡ true
+mail-replied names (Item.Received from number message) none = cc
+mail-replied names i none = refl
 
 pub calm-after : (v : View) → ScriptsAllow v nobody → (h : History) (i : Item) → is_mail i ≡ false → Calm h → Calm (after v h i)
-calm-after v scripts h i none calm = holds-after v nobody nobody Calm calm-holds scripts h i (mail-replied i none) (calm-took i h none calm)
+calm-after v scripts h i none calm = holds-after v nobody nobody Calm calm-holds scripts h i (mail-replied anybody i none) (calm-took i h none calm)

@@ -1,8 +1,8 @@
 -- One fact for a step: what it does to one history it does to every history that reads the same to it.
-use Rattle.std.proofs.Common.{◌≡◌, ◌&&◌, ◌||◌, ℕ, Bool, true, false, cond, Option, Some, None, is_none, option_map, List, [], ◌∷◌, refl, subst, ℤ}
-use Rattle.std.specs.List.{list_all, slice_get}
+use Rattle.std.proofs.Common.{◌≡◌, ◌&&◌, ◌||◌, ℕ, Bool, true, false, cond, Option, Some, None, is_none, option_map, List, [], ◌∷◌, map, refl, subst, ℤ, ◌+◌}
+use Rattle.std.specs.List.{enumerate_from, list_all, slice_get}
 use Rattle.std.specs.Option.{option_map_or}
-use Rattle.std.proofs.lemmas.Bool.{and_from, or_right}
+use Rattle.std.proofs.lemmas.Bool.{and_from, and_parts, or_right}
 use Rattle.osbase.specs.declared.statuses.Status.{Status}
 use Rattle.osbase.specs.declared.references.CoreId.{CoreId}
 use Rattle.osbase.specs.declared.references.TaskRef.{TaskRef}
@@ -12,10 +12,12 @@ use Rattle.osbase.specs.declared.objects.Object.{Object}
 use Rattle.osbase.specs.declared.items.Agreement.{Agreement}
 use Rattle.osbase.specs.declared.items.Item.{Item}
 use Rattle.osbase.specs.declared.items.Stimulus.{Stimulus}
+use Rattle.osbase.specs.declared.marks.Mark.{Mark}
 use Rattle.osbase.specs.declared.histories.Job.{Job}
 use Rattle.osbase.specs.declared.histories.OpenCall.{OpenCall}
 use Rattle.osbase.specs.declared.histories.Phase.{Phase}
-use Rattle.osbase.specs.History.{History, Took, agreement_of, current_task, open_call}
+use Rattle.osbase.specs.History.{History, Printed, Took, agreement_of, current_task, open_call}
+use Rattle.osbase.specs.Marks.{core_of_runner, names_only}
 use Rattle.osbase.specs.Phases.{is_scheduling}
 use Rattle.oscript.specs.declared.Op.{Op}
 use Rattle.oscript.specs.declared.Action.TheVariants.{Perform, End}
@@ -24,15 +26,18 @@ use Rattle.oscript.specs.Rows.{objects_of}
 use Rattle.oscript.specs.Frames.{action_at}
 use Rattle.osplan.specs.declared.plans.Task.{Task}
 use Rattle.osplan.specs.View.{View}
-use Rattle.osstate.specs.Readings.{best_job, frame_at, is_own, phase_at, running, script_of, task_refs}
+use Rattle.osstate.specs.Readings.{best_job, frame_at, is_own, phase_at, running, script_of, task_ref, task_refs}
+use Rattle.oscall.specs.Border.{core_of_call}
 use Rattle.oscall.specs.Tasks.{activates}
 use Rattle.oscall.proofs.Carried.{IsAllowed, IsKept, seen_as, anybody, either-carried, printed-carried, operates-carried, request-carried, action-carried, returns-carried, ends_unasked-carried}
-use Rattle.oskernel.specs.Step.{after, autostarts, closes, dispatches, effect, enters, goes_on, goes_to, leaves, starts_in, performs, same_job}
+use Rattle.oskernel.specs.Step.{after, autostarts, closes, dispatches, effect, enters, gate_mark, goes_on, goes_to, leaves, starts_in, performs, same_job}
 
--- A request comes from a core that may be answered.
-abbrev pub is_replied : (CoreId → Bool) → Item → Bool
-is_replied replies (Item.Received from number (Message.Request call)) = replies from
-is_replied replies item = true
+-- A request comes from a core that may be answered, and the call that it brings, or an action, is for an object that marks
+-- may name.
+abbrev pub is_replied : (CoreId → Bool) → (CoreId → Bool) → Item → Bool
+is_replied replies names (Item.Received from number (Message.Request call)) = replies from && names (core_of_call call)
+is_replied replies names (Item.Received from number (Message.Action call)) = names (core_of_call call)
+is_replied replies names item = true
 
 -- Each operation of the core's scripts names the own core, or one that may be asked, if it names one.
 abbrev pub ScriptsAllow : View → (CoreId → Bool) → Type 0
@@ -46,8 +51,9 @@ allow-anybody v r n op e = each (objects_of op)
     each [] = refl
     each (object ∷ objects) = and_from _ _ (or_right (is_own v object.place.core) true refl) (each objects)
 
-pub replied-anybody : (item : Item) → is_replied anybody item ≡ true
+pub replied-anybody : (item : Item) → is_replied anybody anybody item ≡ true
 replied-anybody (Item.Received from number (Message.Request call)) = refl
+replied-anybody (Item.Received from number (Message.Action call)) = refl
 replied-anybody item = refl
 
 abbrev pub runner_of : Option Job → Option Runner
@@ -68,89 +74,128 @@ pub record SteersSame (v other : View) (h k : History) : Type 0 where
   pub best : runner_of (best_job v h) ≡ runner_of (best_job other k)
   pub stays : is_going (best_job v h) (running v h) ≡ is_going (best_job other k) (running other k)
 
+-- Whatever is there passes the test.
+abbrev pub passes : {A : Type 0} → (A → Bool) → Option A → Bool
+passes test o = option_map_or test o true
+
+abbrev pub passes_job : (CoreId → Bool) → Option Job → Bool
+passes_job names o = passes (λ (j : Job). names (core_of_runner j.runner)) o
+
+-- Marks may name the task that a core leaves, and the runners that it goes on with, goes to or returns to.
+pub record NamesActing (names : CoreId → Bool) (v : View) (h : History) : Type 0 where
+  pub current : passes (λ (t : TaskRef). names t.core) (current_task h) ≡ true
+  pub runs : passes_job names (running v h) ≡ true
+  pub best : passes_job names (best_job v h) ≡ true
+  pub awaits : passes (λ (call : OpenCall). names (core_of_runner call.runner)) (open_call h) ≡ true
+
+pub acting-anybody : (v : View) (h : History) → NamesActing anybody v h
+acting-anybody v h = record { current = each (current_task h); runs = each (running v h); best = each (best_job v h); awaits = each (open_call h) }
+  where
+    each : {A : Type 0} (o : Option A) → passes (λ (x : A). true) o ≡ true
+    each None = refl
+    each (Some x) = refl
+
 pub steers-itself : (v : View) (h : History) → SteersSame v v h h
 steers-itself v h = record { phase = refl; awaits = refl; agreement = refl; current = refl; runs = refl; frame = λ r. refl; best = refl; stays = refl }
 
--- Each part of a step carries a relation that services carry, and where a core is steered the same.
-module _ (v : View) (master : Bool) (ids : List CoreId) (may replies : CoreId → Bool) (R : History → History → Type 0) (kept : IsKept v may replies R) (steers : (h k : History) → R h k → SteersSame v (seen_as v master ids) h k) (scripts : ScriptsAllow v may) where
+-- Each part of a step carries a relation that services carry, and where a core is steered the same. Marks may name the
+-- core's own objects.
+module _ (v : View) (master : Bool) (ids : List CoreId) (may replies names : CoreId → Bool) (R : History → History → Type 0) (kept : IsKept v may replies names R) (steers : (h k : History) → R h k → SteersSame v (seen_as v master ids) h k) (acting : (h k : History) → R h k → NamesActing names v h) (scripts : ScriptsAllow v may) (own_named : names v.own.id ≡ true) where
   abbrev other : View
   other = seen_as v master ids
 
   abbrev either : (b : Bool) (h h' k k' : History) → R h k → R h' k' → R (cond b h h') (cond b k k')
-  either = either-carried v master ids may replies R kept
+  either = either-carried v master ids may replies names R kept
+
+  abbrev printed : (m : Mark) (h k : History) → names_only names m ≡ true → R h k → R (Printed m ∷ h) (Printed m ∷ k)
+  printed = printed-carried v master ids may replies names R kept
+
+  abbrev IsNamed : Runner → Type 0
+  IsNamed r = names (core_of_runner r) ≡ true
 
   -- ---- what follows from an item
 
-  autostarts-carried : (agreement : Option Agreement) (ps : List (TaskRef × Task)) (h k : History) → R h k → R (autostarts agreement ps h) (autostarts agreement ps k)
-  autostarts-carried agreement [] h k p = p
-  autostarts-carried agreement (t ∷ ts) h k p =
-      autostarts-carried agreement ts _ _ (either (starts_in agreement t.1) (activates t.0 h) h (activates t.0 k) k (printed-carried v master ids may replies R kept _ h k p) p)
+  refs-named : (n : ℕ) (ts : List Task) → list_all (λ (p : TaskRef × Task). names p.0.core) (map (λ (p : ℕ × Task). let q : TaskRef × Task = (task_ref v.own p.0, p.1) in q) (enumerate_from n ts)) ≡ true
+  refs-named n [] = refl
+  refs-named n (t ∷ ts) = and_from _ _ own_named (refs-named (n + 1) ts)
 
-  performs-carried : (r : Runner) (o : Option Op) → ((op : Op) → o ≡ Some op → IsAllowed v may op) → (h k : History) → R h k → R (performs v r (option_map_or Perform o End) h) (performs other r (option_map_or Perform o End) k)
-  performs-carried r None allowed h k p = ends_unasked-carried v master ids may replies R kept r h k p
-  performs-carried r (Some op) allowed h k p = operates-carried v master ids may replies R kept op r h k (allowed op refl) p
+  autostarts-carried : (agreement : Option Agreement) (ps : List (TaskRef × Task)) → list_all (λ (p : TaskRef × Task). names p.0.core) ps ≡ true → (h k : History) → R h k → R (autostarts agreement ps h) (autostarts agreement ps k)
+  autostarts-carried agreement [] named h k p = p
+  autostarts-carried agreement (t ∷ ts) named h k p =
+      let parts = and_parts (names t.0.core) _ named in
+      autostarts-carried agreement ts parts.1 _ _ (either (starts_in agreement t.1) (activates t.0 h) h (activates t.0 k) k (printed _ h k parts.0 p) p)
 
-  goes_on-carried : (o o' : Option Job) → runner_of o ≡ runner_of o' → (h k : History) → R h k → R (goes_on v o h) (goes_on other o' k)
-  goes_on-carried None None e h k p = p
-  goes_on-carried None (Some i) e h k p = cc
-  goes_on-carried (Some j) None e h k p = cc
-  goes_on-carried (Some j) (Some i) e h k p =
+  gate-named : (agreement : Agreement) → names_only names (gate_mark agreement) ≡ true
+  gate-named Agreement.Conflict = refl
+  gate-named agreement = refl
+
+  performs-carried : (r : Runner) (o : Option Op) → IsNamed r → ((op : Op) → o ≡ Some op → IsAllowed v may op) → (h k : History) → R h k → R (performs v r (option_map_or Perform o End) h) (performs other r (option_map_or Perform o End) k)
+  performs-carried r None n allowed h k p = ends_unasked-carried v master ids may replies names R kept r h k n p
+  performs-carried r (Some op) n allowed h k p = operates-carried v master ids may replies names R kept op r h k n (allowed op refl) p
+
+  goes_on-carried : (o o' : Option Job) → runner_of o ≡ runner_of o' → passes_job names o ≡ true → (h k : History) → R h k → R (goes_on v o h) (goes_on other o' k)
+  goes_on-carried None None e n h k p = p
+  goes_on-carried None (Some i) e n h k p = cc
+  goes_on-carried (Some j) None e n h k p = cc
+  goes_on-carried (Some j) (Some i) e n h k p =
       let same : j.runner ≡ i.runner = cc in
       subst (λ (r : Runner). R (goes_on v (Some j) h) (performs other r (action_at (script_of other.own r) (frame_at other r k)) k)) same
       (subst (λ (f : Frame). R (goes_on v (Some j) h) (performs other j.runner (action_at (script_of other.own j.runner) f) k)) ((steers h k p).frame j.runner)
-      (performs-carried j.runner (slice_get (script_of v.own j.runner) (frame_at v j.runner h).pc) (λ op f. scripts j.runner (frame_at v j.runner h).pc op f) h k p))
+      (performs-carried j.runner (slice_get (script_of v.own j.runner) (frame_at v j.runner h).pc) n (λ op f. scripts j.runner (frame_at v j.runner h).pc op f) h k p))
 
-  closes-carried : (o : Option OpenCall) (s : Status) (value : Option ℤ) (h k : History) → R h k → R (closes o s value h) (closes o s value k)
-  closes-carried None s value h k p = p
-  closes-carried (Some call) s value h k p = returns-carried v master ids may replies R kept call.runner call.service s value h k p
+  closes-carried : (o : Option OpenCall) (s : Status) (value : Option ℤ) → passes (λ (call : OpenCall). names (core_of_runner call.runner)) o ≡ true → (h k : History) → R h k → R (closes o s value h) (closes o s value k)
+  closes-carried None s value n h k p = p
+  closes-carried (Some call) s value n h k p = returns-carried v master ids may replies names R kept call.runner call.service s value h k n p
 
-  effect-carried : (item : Item) (h k : History) → is_replied replies item ≡ true → R h k → R (effect v item h) (effect other item k)
-  effect-carried (Item.Began core s) h k m p = printed-carried v master ids may replies R kept _ h k p
-  effect-carried (Item.Pass1 agreement) h k m p = printed-carried v master ids may replies R kept _ h k p
+  effect-carried : (item : Item) (h k : History) → is_replied replies names item ≡ true → R h k → R (effect v item h) (effect other item k)
+  effect-carried (Item.Began core s) h k m p = printed _ h k refl p
+  effect-carried (Item.Pass1 agreement) h k m p = printed _ h k (gate-named agreement) p
   effect-carried (Item.Pass2 cores) h k m p =
       subst (λ (a : Option Agreement). R (autostarts (agreement_of h) (task_refs v.own) h) (autostarts a (task_refs v.own) k)) (steers h k p).agreement
-      (autostarts-carried (agreement_of h) (task_refs v.own) h k p)
-  effect-carried (Item.Stim Stimulus.Op) h k m p = goes_on-carried (running v h) (running other k) (steers h k p).runs h k p
+      (autostarts-carried (agreement_of h) (task_refs v.own) (refs-named 0 v.own.tasks) h k p)
+  effect-carried (Item.Stim Stimulus.Op) h k m p = goes_on-carried (running v h) (running other k) (steers h k p).runs (acting h k p).runs h k p
   effect-carried (Item.Stim Stimulus.Tick) h k m p = p
   effect-carried (Item.Stim (Stimulus.Irq isr)) h k m p = p
-  effect-carried (Item.Received from number (Message.Request call)) h k m p = request-carried v master ids may replies R kept from call h k m p
-  effect-carried (Item.Received from number (Message.Action call)) h k m p = action-carried v master ids may replies R kept from call h k p
+  effect-carried (Item.Received from number (Message.Request call)) h k m p =
+      let parts = and_parts (replies from) (names (core_of_call call)) m in
+      request-carried v master ids may replies names R kept from call h k parts.1 parts.0 p
+  effect-carried (Item.Received from number (Message.Action call)) h k m p = action-carried v master ids may replies names R kept from call h k m p
   effect-carried (Item.Received from number (Message.Reply s value)) h k m p =
       subst (λ (o : Option OpenCall). R (closes (open_call h) s value h) (closes o s value k)) (steers h k p).awaits
-      (closes-carried (open_call h) s value h k p)
+      (closes-carried (open_call h) s value (acting h k p).awaits h k p)
   effect-carried item h k m p = p
 
   -- ---- dispatch
 
-  leaves-carried : (o : Option TaskRef) (h k : History) → R h k → R (leaves o h) (leaves o k)
-  leaves-carried None h k p = p
-  leaves-carried (Some t) h k p = printed-carried v master ids may replies R kept _ h k p
+  leaves-carried : (o : Option TaskRef) (h k : History) → passes (λ (t : TaskRef). names t.core) o ≡ true → R h k → R (leaves o h) (leaves o k)
+  leaves-carried None h k n p = p
+  leaves-carried (Some t) h k n p = printed _ h k n p
 
-  enters-carried : (r : Runner) (h k : History) → R h k → R (enters r h) (enters r k)
-  enters-carried (Runner.Task t) h k p =
-      printed-carried v master ids may replies R kept _ _ _
-      (subst (λ (o : Option TaskRef). R (leaves (current_task h) h) (leaves o k)) (steers h k p).current (leaves-carried (current_task h) h k p))
-  enters-carried (Runner.Isr i) h k p = printed-carried v master ids may replies R kept _ h k p
+  enters-carried : (r : Runner) (h k : History) → IsNamed r → R h k → R (enters r h) (enters r k)
+  enters-carried (Runner.Task t) h k n p =
+      printed _ _ _ n
+      (subst (λ (o : Option TaskRef). R (leaves (current_task h) h) (leaves o k)) (steers h k p).current (leaves-carried (current_task h) h k (acting h k p).current p))
+  enters-carried (Runner.Isr i) h k n p = printed _ h k n p
 
-  goes_to-carried : (o o' : Option Job) (h k : History) → runner_of o ≡ runner_of o' → is_going o (running v h) ≡ is_going o' (running other k) → R h k → R (goes_to v o h) (goes_to other o' k)
-  goes_to-carried None None h k e f p = p
-  goes_to-carried None (Some i) h k e f p = cc
-  goes_to-carried (Some j) None h k e f p = cc
-  goes_to-carried (Some j) (Some i) h k e f p =
+  goes_to-carried : (o o' : Option Job) (h k : History) → passes_job names o ≡ true → runner_of o ≡ runner_of o' → is_going o (running v h) ≡ is_going o' (running other k) → R h k → R (goes_to v o h) (goes_to other o' k)
+  goes_to-carried None None h k n e f p = p
+  goes_to-carried None (Some i) h k n e f p = cc
+  goes_to-carried (Some j) None h k n e f p = cc
+  goes_to-carried (Some j) (Some i) h k n e f p =
       let same : j.runner ≡ i.runner = cc in
       subst (λ (b : Bool). R (goes_to v (Some j) h) (cond b k (enters i.runner k))) f
       (subst (λ (r : Runner). R (goes_to v (Some j) h) (cond (is_going (Some j) (running v h)) k (enters r k))) same
-      (either (is_going (Some j) (running v h)) h (enters j.runner h) k (enters j.runner k) p (enters-carried j.runner h k p)))
+      (either (is_going (Some j) (running v h)) h (enters j.runner h) k (enters j.runner k) p (enters-carried j.runner h k n p)))
 
   dispatches-carried : (h k : History) → R h k → R (dispatches v h) (dispatches other k)
   dispatches-carried h k p =
       let same = steers h k p in
       subst (λ (o : Phase). R (dispatches v h) (cond (is_scheduling o && is_none (open_call k)) (goes_to other (best_job other k) k) k)) same.phase
       (subst (λ (o : Option OpenCall). R (dispatches v h) (cond (is_scheduling (phase_at v h) && is_none o) (goes_to other (best_job other k) k) k)) same.awaits
-      (either (is_scheduling (phase_at v h) && is_none (open_call h)) (goes_to v (best_job v h) h) h (goes_to other (best_job other k) k) k (goes_to-carried (best_job v h) (best_job other k) h k same.best same.stays p) p))
+      (either (is_scheduling (phase_at v h) && is_none (open_call h)) (goes_to v (best_job v h) h) h (goes_to other (best_job other k) k) k (goes_to-carried (best_job v h) (best_job other k) h k (acting h k p).best same.best same.stays p) p))
 
   -- Two items that are taken, with the same effect.
-  pub after-carried : (h k : History) (item item' : Item) → is_replied replies item ≡ true → ((n : History) → effect other item n ≡ effect other item' n) → R (Took item ∷ h) (Took item' ∷ k) → R (after v h item) (after other k item')
+  pub after-carried : (h k : History) (item item' : Item) → is_replied replies names item ≡ true → ((n : History) → effect other item n ≡ effect other item' n) → R (Took item ∷ h) (Took item' ∷ k) → R (after v h item) (after other k item')
   after-carried h k item item' m same p =
       dispatches-carried (effect v item (Took item ∷ h)) (effect other item' (Took item' ∷ k))
       (subst (λ (n : History). R (effect v item (Took item ∷ h)) n) (same (Took item' ∷ k)) (effect-carried item (Took item ∷ h) (Took item' ∷ k) m p))

@@ -1,5 +1,5 @@
 -- What the entries that a core may add keep holds after an item as it did with it.
-use Rattle.std.proofs.Common.{◌≡◌, Bool, true, ◌∷◌, refl, ℤ, Option, ◌∙◌}
+use Rattle.std.proofs.Common.{◌≡◌, ◌||◌, Bool, true, ◌∷◌, refl, ℤ, Option, ◌∙◌}
 use Rattle.std.proofs.lemmas.Bool.{false≢true}
 use Rattle.osbase.specs.declared.statuses.Status.{Status}
 use Rattle.osbase.specs.declared.references.CoreId.{CoreId}
@@ -9,20 +9,22 @@ use Rattle.osbase.specs.declared.marks.Mark.{Mark}
 use Rattle.osbase.specs.declared.histories.OpenCall.{OpenCall}
 use Rattle.osbase.specs.History.{Entry, History, Note, Took, Printed, Noted, Opened}
 use Rattle.osplan.specs.View.{View}
+use Rattle.osstate.specs.Readings.{is_own}
 use Rattle.oscall.specs.Returning.{queues}
 use Rattle.oscall.proofs.Carried.{anybody, is_local, IsKept, ServesSame}
 use Rattle.oskernel.specs.Step.{after}
-use Rattle.oskernel.proofs.Carried.{after-carried, allow-anybody, is_replied, replied-anybody, ScriptsAllow, steers-itself, SteersSame}
+use Rattle.oskernel.proofs.Carried.{acting-anybody, after-carried, allow-anybody, is_replied, NamesActing, replied-anybody, ScriptsAllow, steers-itself, SteersSame}
 
 -- Each kind of entry that follows from an item keeps it: one of the core itself, an envelope to a core that may be
 -- asked, a reply to one that may be answered, and a call that is open there.
-pub record Holds (may replies : CoreId → Bool) (P : History → Type 0) : Type 0 where
-  pub local : (e : Entry) (h : History) → is_local e ≡ true → P h → P (e ∷ h)
+pub record Holds (may replies names : CoreId → Bool) (P : History → Type 0) : Type 0 where
+  pub local : (e : Entry) (h : History) → is_local names e ≡ true → P h → P (e ∷ h)
   pub asked : (core : CoreId) (message : Message) (h : History) → may core ≡ true → P h → P (queues core message h)
   pub replied : (core : CoreId) (s : Status) (value : Option ℤ) (h : History) → replies core ≡ true → P h → P (queues core (Message.Reply s value) h)
   pub opened : (call : OpenCall) (h : History) → may call.core ≡ true → P h → P (Noted (Opened call) ∷ h)
 
-module _ (v : View) (may replies : CoreId → Bool) (P : History → Type 0) (holds : Holds may replies P) (scripts : ScriptsAllow v may) where
+-- Where marks may name objects of the own core, of those that may be asked, and who acts, it holds after an item.
+module _ (v : View) (may replies names : CoreId → Bool) (P : History → Type 0) (holds : Holds may replies names P) (scripts : ScriptsAllow v may) (named : (core : CoreId) → (is_own v core || may core) ≡ true → names core ≡ true) (own_named : names v.own.id ≡ true) (acting : (h : History) → P h → NamesActing names v h) where
   -- One history, which has it.
   record Same (h k : History) : Type 0 where
     pub same : h ≡ k
@@ -37,8 +39,12 @@ module _ (v : View) (may replies : CoreId → Bool) (P : History → Type 0) (ho
   steers : (h k : History) → Same h k → SteersSame v v h k
   steers h k p = rw p.same (steers-itself v k)
 
-  kept : IsKept v may replies Same
+  acts : (h k : History) → Same h k → NamesActing names v h
+  acts h k p = rw p.same (acting k p.has)
+
+  kept : IsKept v may replies names Same
   kept = record {
+    named = named;
     local = λ e h k m p. both (λ n. e ∷ n) h k p (holds.local e k m);
     asked = λ core message h k m p. both (queues core message) h k p (holds.asked core message k m);
     replied = λ core s value h k m p. both (queues core (Message.Reply s value)) h k p (holds.replied core s value k m);
@@ -46,9 +52,13 @@ module _ (v : View) (may replies : CoreId → Bool) (P : History → Type 0) (ho
     reads = serves;
   }
 
-  pub holds-after : (h : History) (item : Item) → is_replied replies item ≡ true → P (Took item ∷ h) → P (after v h item)
-  holds-after h item m p =
-      (after-carried v v.is_master v.cores may replies Same kept steers scripts h h item item m (λ n. refl) (record { same = refl; has = p })).has
+  pub holds-named : (h : History) (item : Item) → is_replied replies names item ≡ true → P (Took item ∷ h) → P (after v h item)
+  holds-named h item m p =
+      (after-carried v v.is_master v.cores may replies names Same kept steers acts scripts own_named h h item item m (λ n. refl) (record { same = refl; has = p })).has
+
+-- So it does where marks may name whatever there is.
+pub holds-after : (v : View) (may replies : CoreId → Bool) (P : History → Type 0) → Holds may replies anybody P → ScriptsAllow v may → (h : History) (item : Item) → is_replied replies anybody item ≡ true → P (Took item ∷ h) → P (after v h item)
+holds-after v may replies P holds scripts = holds-named v may replies anybody P holds scripts (λ core m. refl) refl (λ h p. acting-anybody v h)
 
 -- What every mark and every note keeps, whichever services there are.
 pub kept_after : (P : History → Type 0) → ((m : Mark) (h : History) → P h → P (Printed m ∷ h)) → ((n : Note) (h : History) → P h → P (Noted n ∷ h)) → (v : View) (h : History) (item : Item) → P (Took item ∷ h) → P (after v h item)
@@ -60,7 +70,7 @@ kept_after P printed noted v h item =
       opened = λ call k m p. noted _ k p;
     }) (allow-anybody v) h item (replied-anybody item)
   where
-    local : (e : Entry) (k : History) → is_local e ≡ true → P k → P (e ∷ k)
+    local : (e : Entry) (k : History) → is_local anybody e ≡ true → P k → P (e ∷ k)
     local (Printed m) k is p = printed m k p
     local (Noted n) k is p = noted n k p
     local (Took i) k is p = absurd (false≢true is)

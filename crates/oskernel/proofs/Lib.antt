@@ -5,6 +5,7 @@ pub mod Carried
 pub mod Holding
 pub mod Stages
 pub mod Calm
+pub mod Own
 pub mod Scripts
 pub mod Among
 pub mod Stepping

@@ -14,10 +14,10 @@ use Rattle.osplan.specs.View.{View}
 use Rattle.osstate.specs.Queries.{is_at_limit}
 use Rattle.osstate.specs.Readings.{best_job, is_own, knows_started, running, script_of}
 use Rattle.osstate.specs.Sound.{activation_limit}
-use Rattle.oscall.proofs.Carried.{is_local, IsKept, nobody, seen_as, ServesSame}
+use Rattle.oscall.proofs.Carried.{anybody, is_local, IsKept, nobody, seen_as, ServesSame}
 use Rattle.oskernel.specs.Step.{after, effect}
 use Rattle.oskernel.proofs.Among.{agreement-same, among, base_of, best-later, count-same, current-same, delay, frame-same, later, open-same, phase-same, running-later, stamp-later}
-use Rattle.oskernel.proofs.Carried.{after-carried, is_going, is_replied, runner_of, ScriptsAllow, SteersSame}
+use Rattle.oskernel.proofs.Carried.{acting-anybody, after-carried, is_going, is_replied, runner_of, ScriptsAllow, SteersSame}
 
 -- What the core alone sees.
 abbrev pub alone_view : View → List CoreId → View
@@ -72,13 +72,14 @@ module _ (v : View) (ids : List CoreId) (s : CoreSet) where
       own_only true e = refl
       own_only false e = e
 
-  local : (e : Entry) (h k : History) → is_local e ≡ true → Along h k → Along (e ∷ h) (e ∷ k)
+  local : (e : Entry) (h k : History) → is_local anybody e ≡ true → Along h k → Along (e ∷ h) (e ∷ k)
   local (Printed m) h k is p = record { same = rw p.same refl; started = p.started }
   local (Noted n) h k is p = record { same = rw p.same refl; started = p.started }
   local (Took i) h k is p = absurd (false≢true is)
 
-  kept : IsKept v nobody nobody Along
+  kept : IsKept v nobody nobody anybody Along
   kept = record {
+    named = λ core m. refl;
     local = local;
     asked = λ core message h k m p. absurd (false≢true m);
     replied = λ core status value h k m p. absurd (false≢true m);
@@ -88,8 +89,8 @@ module _ (v : View) (ids : List CoreId) (s : CoreSet) where
 
   module _ (scripts : ScriptsAllow v nobody) where
     -- Two items with one effect, the first taken in the world and the second alone.
-    same-after : (k : History) (item item' : Item) → is_replied nobody item ≡ true → ((n : History) → effect self item n ≡ effect self item' n) → Along (Took item ∷ here k) (Took item' ∷ k) → after v (here k) item ≡ here (after self k item')
-    same-after k item item' replied same along = (after-carried v true ids nobody nobody Along kept steers scripts (here k) k item item' replied same along).same
+    same-after : (k : History) (item item' : Item) → is_replied nobody anybody item ≡ true → ((n : History) → effect self item n ≡ effect self item' n) → Along (Took item ∷ here k) (Took item' ∷ k) → after v (here k) item ≡ here (after self k item')
+    same-after k item item' replied same along = (after-carried v true ids nobody nobody anybody Along kept steers (λ h n p. acting-anybody v h) scripts refl (here k) k item item' replied same along).same
 
     -- So it is with the next operation, the end of the stimuli, and the second gate.
     pub same-operation : (k : History) → knows_started (here k) v.core ≡ true → knows_started k v.core ≡ true → after v (here k) (Item.Stim Stimulus.Op) ≡ here (after self k (Item.Stim Stimulus.Op))

@@ -54,12 +54,12 @@ meek-took : (c : CoreId) (i : Item) (h : History) → Meek c h → Meek c (Took 
 meek-took c (Item.Posted to) h all = meek-rest c (outbox h) all
 meek-took c i h all = all
 
-meek-local : (c : CoreId) (e : Entry) (h : History) → is_local e ≡ true → Meek c h → Meek c (e ∷ h)
+meek-local : (c : CoreId) (e : Entry) (h : History) → is_local anybody e ≡ true → Meek c h → Meek c (e ∷ h)
 meek-local c (Printed m) h is p = p
 meek-local c (Noted (Done r s value)) h is p = p
 meek-local c e h is p = absurd (false≢true is)
 
-meek-holds : (c : CoreId) → Holds (all_but c) anybody (Meek c)
+meek-holds : (c : CoreId) → Holds (all_but c) anybody anybody (Meek c)
 meek-holds c = record {
   local = meek-local c;
   asked = λ core message h m p. list_all-append (is_meek c) (outbox h) _ ∙ and_from _ _ p (and_from _ _ (or_left (not (same_core core c)) _ m) refl);
