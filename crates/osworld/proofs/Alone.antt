@@ -1,5 +1,5 @@
 -- Where the items of all cores fit, a separate core prints what its configuration alone prints.
-use Rattle.std.proofs.Common.{◌≡◌, ◌<◌, Bool, true, false, not, ◌||◌, cond, Option, Some, None, is_some, IsTrue, List, [], ◌∷◌, ◌++◌, map, inl, inr, refl, sym, ap, subst, ◌∙◌, arith, unwrap_or}
+use Rattle.std.proofs.Common.{◌≡◌, ◌<◌, ℕ, Bool, true, false, not, ◌||◌, cond, Option, Some, None, is_some, IsTrue, List, [], ◌∷◌, ◌++◌, map, inl, inr, refl, sym, ap, subst, ◌∙◌, arith, unwrap_or}
 use Rattle.std.specs.List.{list_all}
 use Rattle.std.specs.Option.{option_map_or}
 use Rattle.std.proofs.lemmas.Bool.{and_from, false≢true}
@@ -25,18 +25,22 @@ use Rattle.osplan.specs.View.{View, core_of, is_configured, no_core, view_of}
 use Rattle.osplan.proofs.Separating.{SeparateParts, separate-parts}
 use Rattle.osplan.proofs.Starting.{configured-low}
 use Rattle.osplan.proofs.Tests.{all-weaker, find-holds}
+use Rattle.osstate.specs.Readings.{is_own}
 use Rattle.oscall.proofs.Carried.{nobody}
 use Rattle.oskernel.specs.Admission.{are_started_cores}
 use Rattle.oskernel.specs.Step.{history_from, solo}
 use Rattle.oskernel.proofs.Carried.{ScriptsAllow}
+use Rattle.oskernel.proofs.Own.{inward-items}
 use Rattle.oskernel.proofs.Scripts.{other-allow, own-allow}
 use Rattle.oskernel.proofs.Stages.{is_mail}
 use Rattle.oskernel.proofs.Stepping.{alone_view}
-use Rattle.osworld.specs.Sound.{alone_items, ArePrintedAlone, IsAlone, own_agreement}
+use Rattle.ostrace.specs.Trace.{line_end, line_of, lines_of, title_of}
+use Rattle.ostrace.proofs.Named.{lines-same}
+use Rattle.osworld.specs.Sound.{alone_block, alone_items, alone_report, ArePrintedAlone, IsAlone, own_agreement}
 use Rattle.osboard.specs.Boards.{BoardEntry, with_core}
-use Rattle.osworld.specs.Fits.{Fits, FitsBy, IsBeginning, history_by, items_of}
+use Rattle.osworld.specs.Fits.{Fits, FitsBy, IsBeginning, has_drained, history_by, items_of}
 use Rattle.osworld.proofs.Ahead.{boot_items, Goes, goes-alone, solo-alone}
-use Rattle.osworld.proofs.Beginnings.{begins-all_pass}
+use Rattle.osworld.proofs.Beginnings.{begins-all_pass, begins-flat_map}
 use Rattle.osworld.proofs.Mailed.{is_reply, posts-replies, takes-no-mail}
 use Rattle.osworld.proofs.Members.{has_core-more, nobody-there, only-own}
 use Rattle.osworld.proofs.Sane.{AreAgreed, never-conflict}
@@ -107,6 +111,21 @@ module _ (plan : Plan) (stimuli : List CoreStimuli) (lists : List (CoreId × Lis
   scripts : ScriptsAllow v nobody
   scripts = own-allow plan core id found same parts.inward
 
+  own_self : is_own v v.own.id ≡ true
+  own_self = ap (λ (o : Option Core). same_core (unwrap_or o (no_core id)).id id) found ∙ own_id
+
+  -- Where it stands in both configurations, it is the same core.
+  core_alone : (c : CoreId) → is_own v c ≡ true → core_of plan c ≡ core_of (cut_of plan id) c
+  core_alone c mine = ap (core_of plan) is_id ∙ here ∙ ap (core_of (cut_of plan id)) (sym is_id)
+    where
+      is_id : c ≡ id
+      is_id = same_core-true c id mine
+
+      here : core_of plan id ≡ core_of (cut_of plan id) id
+      here =
+          found ∙ sym (ap (λ (b : Bool). cond b (Some core) None) own_id)
+          ∙ sym (ap (λ (o : Option Core). core_of (option_map_or (alone_of plan id) o (record plan { master = id; cores = [] })) id) found)
+
   unnamed : is_named_elsewhere plan id ≡ false
   unnamed = subst (λ (k : CoreId). is_named_elsewhere plan k ≡ false) same parts.unnamed
 
@@ -151,11 +170,29 @@ module _ (plan : Plan) (stimuli : List CoreStimuli) (lists : List (CoreId × Lis
         let few = known.few id in
         solo-alone v (id ∷ []) scripts m in_mode no_start (only id) (only-own id low) (only-known v low) listed (known.there id) (omega arith)
 
+    -- The marks name the core's own objects alone, which have the same names in its own configuration.
+    abbrev marks : List Mark
+    marks = Trace v (items_of lists id)
+
+    lines_alone : lines_of plan marks ≡ lines_of (cut_of plan id) marks
+    lines_alone =
+        lines-same plan (cut_of plan id) (is_own v) core_alone marks
+        (inward-items v scripts own_self (items_of lists id) [] no_mail (record { own = refl; calm = record { closed = refl; empty = refl } })).own
+
+    begins_alone : IsBeginning marks (alone_report plan stimuli id).marks
+    begins_alone = subst (λ (view : View). IsBeginning marks (Trace view (alone_items plan stimuli id))) (sym view_alone)
+        (subst (λ (items : List Item). IsBeginning marks (Trace (alone_view v (id ∷ [])) items)) (sym items_alone) goes.0)
+
+    whole_alone : has_drained (items_of lists id) ≡ true → marks ≡ (alone_report plan stimuli id).marks
+    whole_alone drained = goes.1 drained ∙ ap (Trace (alone_view v (id ∷ []))) (sym items_alone) ∙ ap (λ (view : View). Trace view (alone_items plan stimuli id)) (sym view_alone)
+
     is_alone : IsAlone plan stimuli id (items_of lists id)
     is_alone = record {
-      begins = subst (λ (view : View). IsBeginning (Trace v (items_of lists id)) (Trace view (alone_items plan stimuli id))) (sym view_alone)
-          (subst (λ (items : List Item). IsBeginning (Trace v (items_of lists id)) (Trace (alone_view v (id ∷ [])) items)) (sym items_alone) goes.0);
-      whole = λ drained. goes.1 drained ∙ ap (Trace (alone_view v (id ∷ []))) (sym items_alone) ∙ ap (λ (view : View). Trace view (alone_items plan stimuli id)) (sym view_alone);
+      begins = begins_alone;
+      whole = whole_alone;
+      block_begins = subst (λ (lines : List ℕ). IsBeginning ((title_of id ++ line_end) ++ lines) (alone_block plan stimuli id)) (sym lines_alone)
+          (begins-flat_map (λ (m : Mark). line_of (cut_of plan id) m ++ line_end) (title_of id ++ line_end) marks _ begins_alone);
+      block_whole = λ drained. ap (λ (lines : List ℕ). (title_of id ++ line_end) ++ lines) (lines_alone ∙ ap (lines_of (cut_of plan id)) (whole_alone drained));
       alone = subst (λ (view : View). solo view (alone_items plan stimuli id) ≡ Some (history_from view [] (alone_items plan stimuli id))) (sym view_alone)
           (subst (λ (items : List Item). solo (alone_view v (id ∷ [])) items ≡ Some (history_from (alone_view v (id ∷ [])) [] items)) (sym items_alone) takes_alone);
     }

@@ -1,7 +1,8 @@
 -- A list that begins another.
 use Rattle.std.proofs.Common.{◌≡◌, Bool, true, Some, None, List, [], ◌∷◌, ◌++◌, length, refl, sym, ap, ◌∙◌, append_assoc, append-nil}
-use Rattle.std.specs.List.{list_all, slice_get}
+use Rattle.std.specs.List.{flat_map, list_all, slice_get}
 use Rattle.std.proofs.lemmas.Bool.{and_parts}
+use Rattle.std.proofs.lemmas.Grind.{flat_map-append}
 use Rattle.std.proofs.lemmas.List.Folds.{list_all-append}
 use Rattle.std.proofs.lemmas.Option.{same_Some}
 use Rattle.osworld.specs.Fits.{IsBeginning}
@@ -16,6 +17,14 @@ begins-longer xs rest = (rest, refl)
 pub begins-through : {A : Type 0} (xs ys zs : List A) → IsBeginning xs ys → IsBeginning ys zs → IsBeginning xs zs
 begins-through {A} xs ys zs first second =
     (first.0 ++ second.0, sym (append_assoc xs first.0 second.0) ∙ ap (λ (front : List A). front ++ second.0) first.1 ∙ second.1)
+
+-- What each element comes to, behind one front, begins what the whole comes to.
+pub begins-flat_map : {A B : Type 0} (f : A → List B) (front : List B) (xs ys : List A) → IsBeginning xs ys → IsBeginning (front ++ flat_map f xs) (front ++ flat_map f ys)
+begins-flat_map {A} {B} f front xs ys begins = (
+  flat_map f begins.0,
+  append_assoc front (flat_map f xs) (flat_map f begins.0)
+      ∙ ap (λ (text : List B). front ++ text) (sym (flat_map-append f xs begins.0) ∙ ap (flat_map f) begins.1),
+)
 
 -- What all of the whole pass all of a beginning pass.
 pub begins-all_pass : {A : Type 0} (test : A → Bool) (xs ys : List A) → IsBeginning xs ys → list_all test ys ≡ true → list_all test xs ≡ true

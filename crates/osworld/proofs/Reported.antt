@@ -5,6 +5,7 @@ use Rattle.std.proofs.lemmas.List.Elements.{All-head, All-tail}
 use Rattle.std.proofs.lemmas.Simd.{map-map}
 use Rattle.osbase.specs.declared.references.CoreId.{CoreId}
 use Rattle.osbase.specs.declared.items.Item.{Item}
+use Rattle.osbase.specs.declared.marks.Mark.{Mark}
 use Rattle.osbase.specs.declared.turns.Choice.{Choice}
 use Rattle.osbase.specs.declared.turns.CoreStimuli.{CoreStimuli}
 use Rattle.osbase.specs.declared.turns.Report.{Report}
@@ -17,7 +18,7 @@ use Rattle.osstate.specs.State.{KernelState}
 use Rattle.osboard.specs.declared.calls.BoardState.{BoardState}
 use Rattle.osworld.specs.declared.seats.Seat.{Seat}
 use Rattle.osworld.specs.Fits.{Fits, ids_of}
-use Rattle.osworld.specs.Sound.{IsOwn, lists_in}
+use Rattle.osworld.specs.Sound.{IsOwn, lists_in, report_by}
 use Rattle.osworld.specs.World.{World, first_world, with_item, world}
 use Rattle.osworld.specs.Runs.{AppendsAt, is_ended_phase, AreReports}
 use Rattle.osworld.specs.Playing.{IsCutShort, IsPlayed, IsSeated, Plays, report_of}
@@ -53,10 +54,9 @@ each-own : (plan : Plan) (stimuli : List CoreStimuli) (seats : List Seat) → Al
 each-own plan stimuli [] seated = tt
 each-own plan stimuli (s ∷ ss) seated =
     let here : IsSeated plan stimuli s = All-head (IsSeated plan stimuli) s ss seated in (
-      record {
-        marks = here.tracks.behind ∙ here.tracks.shows;
-        ended = ap (λ (k : KernelState). is_ended_phase k.progress.phase) here.tracks.stands.is ∙ ended-by (view_of plan s.id) s.items.items here.alone;
-      },
+      ap (λ (marks : List Mark). let r : Report = record (report_of s) { marks = marks } in r) (here.tracks.behind ∙ here.tracks.shows)
+          ∙ ap (λ (ended : Bool). let r : Report = record (report_by plan s.id s.items.items) { ended = ended } in r)
+          (ap (λ (k : KernelState). is_ended_phase k.progress.phase) here.tracks.stands.is ∙ ended-by (view_of plan s.id) s.items.items here.alone),
       each-own plan stimuli ss (All-tail (IsSeated plan stimuli) s ss seated),
     )
 

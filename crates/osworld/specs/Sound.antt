@@ -1,11 +1,10 @@
 -- The promise about a run, said of what was given (configuration and listed stimuli) and of the reports, and of nothing
 -- else: whoever runs the cores, in turns or otherwise, can promise it.
-use Rattle.std.specs.Prelude.{◌≡◌, Bool, true, false, IsTrue, Some, List, ◌∷◌, [], ◌++◌, map}
+use Rattle.std.specs.Prelude.{◌≡◌, ℕ, Bool, true, false, IsTrue, Some, List, ◌∷◌, [], ◌++◌, map}
 use Rattle.std.specs.List.{AllByRecursion}
 use Rattle.osbase.specs.declared.references.CoreId.{CoreId}
 use Rattle.osbase.specs.declared.items.Agreement.{Agreement}
 use Rattle.osbase.specs.declared.items.Item.{Item}
-use Rattle.osbase.specs.declared.marks.Mark.{Mark}
 use Rattle.osbase.specs.declared.turns.CoreStimuli.{CoreStimuli}
 use Rattle.osbase.specs.declared.turns.Report.{Report}
 use Rattle.osbase.specs.History.{marks_of, no_cores}
@@ -16,6 +15,7 @@ use Rattle.osplan.specs.declared.plans.CoreMode.TheVariants.{Named, DontCare}
 use Rattle.osplan.specs.Separate.{cut_of, is_separate}
 use Rattle.osplan.specs.View.{view_of}
 use Rattle.oskernel.specs.Step.{solo}
+use Rattle.ostrace.specs.Trace.{block_of}
 use Rattle.osboard.specs.Boards.{with_core}
 use Rattle.osworld.specs.Fits.{Fits, IsBeginning, has_drained, history_by, ids_of, items_of}
 
@@ -34,11 +34,18 @@ end_by [] = false
 end_by (item ∷ []) = is_end item
 end_by (item ∷ items) = end_by items
 
--- A report says what its own items say: its marks are those that the core prints by them, by its own view of the
--- configuration, and it has ended exactly where its items end.
-pub record IsOwn (plan : Plan) (report : Report) : Type 0 where
-  pub marks : report.marks ≡ marks_of (history_by plan report.core report.items)
-  pub ended : report.ended ≡ end_by report.items
+-- What items come to: the marks that the core prints by them, by its own view of the configuration, and whether they end.
+abbrev pub report_by : Plan → CoreId → List Item → Report
+report_by plan id items = record {
+  core = id;
+  items = items;
+  marks = marks_of (history_by plan id items);
+  ended = end_by items;
+}
+
+-- A report says what its own items say.
+abbrev pub IsOwn : Plan → Report → Type 0
+IsOwn plan report = report ≡ report_by plan report.core report.items
 
 -- ---- a separate core
 
@@ -54,15 +61,21 @@ alone_items plan stimuli id =
     Item.Entered ∷ Item.Pass1 (own_agreement (view_of plan id).own.mode) ∷ Item.Readied ∷ Item.Pass2 (with_core id no_cores)
     ∷ map Item.Stim (stimuli_of stimuli id) ++ Item.Drained ∷ []
 
--- The trace of the core's own configuration by them. [own]
-abbrev pub alone_marks : Plan → List CoreStimuli → CoreId → List Mark
-alone_marks plan stimuli id = marks_of (history_by (cut_of plan id) id (alone_items plan stimuli id))
+-- What they come to by the core's own configuration, and the text of it, with the names of that configuration. [own]
+abbrev pub alone_report : Plan → List CoreStimuli → CoreId → Report
+alone_report plan stimuli id = report_by (cut_of plan id) id (alone_items plan stimuli id)
+
+abbrev pub alone_block : Plan → List CoreStimuli → CoreId → List ℕ
+alone_block plan stimuli id = block_of (cut_of plan id) (alone_report plan stimuli id)
 
 -- A separate core that took these items prints a beginning of what its configuration alone prints, and all of it once it
--- has drained. By itself it may take each of those items in turn. [own]
+-- has drained: so it is of the marks, and of the block, which is their text. By itself it may take each of those items in
+-- turn. [own]
 pub record IsAlone (plan : Plan) (stimuli : List CoreStimuli) (id : CoreId) (items : List Item) : Type 0 where
-  pub begins : IsBeginning (marks_of (history_by plan id items)) (alone_marks plan stimuli id)
-  pub whole : has_drained items ≡ true → marks_of (history_by plan id items) ≡ alone_marks plan stimuli id
+  pub begins : IsBeginning (report_by plan id items).marks (alone_report plan stimuli id).marks
+  pub whole : has_drained items ≡ true → (report_by plan id items).marks ≡ (alone_report plan stimuli id).marks
+  pub block_begins : IsBeginning (block_of plan (report_by plan id items)) (alone_block plan stimuli id)
+  pub block_whole : has_drained items ≡ true → block_of plan (report_by plan id items) ≡ alone_block plan stimuli id
   pub alone : solo (view_of (cut_of plan id) id) (alone_items plan stimuli id) ≡ Some (history_by (cut_of plan id) id (alone_items plan stimuli id))
 
 -- Each separate core of these lists is.
