@@ -132,7 +132,7 @@ module _ (v : View) where
         holds-named v nobody nobody (is_own v) (Inward v) inward-holds scripts (λ core m. sym (or-false (is_own v core)) ∙ m) same acting h i (mail-replied (is_own v) i none)
         (record { own = p.own; calm = calm-took i h none p.calm })
 
-    -- So do all its marks by items that are no mail.
+    -- So it stays by items of which none is mail.
     pub inward-items : (items : List Item) (h : History) → list_all (λ (i : Item). not (is_mail i)) items ≡ true → Inward v h → Inward v (history_from v h items)
     inward-items [] h no_mail p = p
     inward-items (i ∷ is) h no_mail p =
