@@ -1,6 +1,5 @@
 -- The configuration that a text means, and the faults that a text has. [own]
 use Rattle.std.specs.Prelude.{ℕ, ◌&&◌, Option, Some, None, option_and_then, List, [], ◌∷◌, map}
-use Rattle.std.specs.List.{IsAmong}
 use Rattle.osbase.specs.declared.references.ModeId.{ModeId}
 use Rattle.osplan.specs.declared.plans.Plan.{Plan}
 use Rattle.osplan.specs.declared.plans.Core.{Core}

@@ -1,7 +1,7 @@
 //! The objects that a configuration's text declares, in one list.
 
 ghost use Rattle.std.specs.Prelude.{◌≡◌, ◌++◌, IfOk, OnOk};
-ghost use Rattle.osdraft.specs.Declarations.{byte_of, declarations, declared_by, has_name, id_of};
+ghost use Rattle.osdraft.specs.Declarations.{byte_of, declarations, declared_by, has_name, number_id};
 
 use crate::shapes::CoreText;
 use osbase::{CoreId, List, ObjectKind};
@@ -29,11 +29,11 @@ pub fn byte_of(number: Whole) -> u8
 }
 
 /// A core's number as the configuration has it.
-pub fn id_of(core: &CoreText) -> CoreId
-    ensures { result ≡ id_of core.now }
+pub fn number_id(number: Whole) -> CoreId
+    ensures { result ≡ number_id number }
 {
     CoreId {
-        number: byte_of(core.id),
+        number: byte_of(number),
     }
 }
 
@@ -55,7 +55,7 @@ fn declare<'t>(
         declared.push(Declaration {
             name: Text::of(task.name.as_str()),
             kind: ObjectKind::Task,
-            core: id_of(core),
+            core: number_id(core.id),
             index,
         })?;
     }

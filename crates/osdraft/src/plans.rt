@@ -9,7 +9,7 @@ ghost use Rattle.osdraft.specs.Check.{are_operations_known, is_task_known, is_co
 ghost use Rattle.osdraft.specs.Meaning.{only_mode, task_plan, core_plan, known_task, known_core, plan_of};
 
 use crate::checks::{are_mode_names, has_core};
-use crate::declarations::{byte_of, id_of};
+use crate::declarations::{byte_of, number_id};
 use crate::places::{MODE, Objects};
 use crate::shapes::{ConfigText, CoreText, TaskText};
 use osbase::{CoreId, List, ModeId, Name};
@@ -36,14 +36,10 @@ fn script_of(alloc: Global, objects: &Objects, script: &str) -> Result<Script, R
     read_parts(alloc, objects, script, ';')
 }
 
-fn modes_of(alloc: Global, names: &[Text]) -> Result<List<ModeId>, AllocError>
-    ensures { IfOk result (λ modes. modes ≡ map (λ (name : Items ℕ). only_mode) names.now) }
+fn modes_of(alloc: Global, names: &[Text]) -> Result<Vec<ModeId>, AllocError>
+    ensures { IfOk result (λ modes. modes.items ≡ map (λ (name : Items ℕ). only_mode) names.now) }
 {
-    let mut modes = List::new(alloc);
-    for _name in names {
-        modes.push(ONLY_MODE)?;
-    }
-    Ok(modes)
+    names.iter().map(|_| ONLY_MODE).collect(alloc)
 }
 
 // Makes the plan of a task.
@@ -64,7 +60,7 @@ impl<'e> Reader<'e, TaskText<'e>, Task> for TaskPlanner<'_> {
         Ok(Task {
             name: Name::new(alloc, task.name.as_str())?,
             priority: byte_of(task.prio),
-            auto: modes_of(alloc, task.auto.as_slice())?,
+            auto: List::from_vec(modes_of(alloc, task.auto.as_slice())?),
             activations: byte_of(task.activations),
             script: script_of(alloc, self.objects, task.script.as_str())?,
         })
@@ -77,16 +73,13 @@ fn tasks_of(alloc: Global, objects: &Objects, tasks: &[TaskText]) -> Result<List
     read_each(alloc, &TaskPlanner { objects }, tasks)
 }
 
-fn ids_of(alloc: Global, numbers: &[Whole]) -> Result<List<CoreId>, AllocError>
-    ensures { IfOk result (λ ids. ids ≡ map number_id numbers.now) }
+fn ids_of(alloc: Global, numbers: &[Whole]) -> Result<Vec<CoreId>, AllocError>
+    ensures { IfOk result (λ ids. ids.items ≡ map number_id numbers.now) }
 {
-    let mut ids = List::new(alloc);
-    for number in numbers {
-        ids.push(CoreId {
-            number: byte_of(*number),
-        })?;
-    }
-    Ok(ids)
+    numbers
+        .iter()
+        .map(|number| number_id(*number))
+        .collect(alloc)
 }
 
 // Makes the plan of a core.
@@ -102,9 +95,9 @@ impl<'e> Reader<'e, CoreText<'e>, Core> for CorePlanner<'_> {
 
     fn read(&self, alloc: Global, core: &'e CoreText<'e>) -> Result<Core, Refusal> {
         Ok(Core {
-            id: id_of(core),
+            id: number_id(core.id),
             mode: CoreMode::Named(ONLY_MODE),
-            start: ids_of(alloc, core.start.as_slice())?,
+            start: List::from_vec(ids_of(alloc, core.start.as_slice())?),
             tasks: tasks_of(alloc, self.objects, core.tasks.as_slice())?,
             isrs: List::new(alloc),
             alarms: List::new(alloc),
@@ -132,9 +125,7 @@ pub fn plan_of(alloc: Global, text: &ConfigText, objects: &Objects) -> Result<Pl
     modes.push(Name::new(alloc, MODE)?)?;
     Ok(Plan {
         cap: byte_of(text.cap),
-        master: CoreId {
-            number: byte_of(text.master),
-        },
+        master: number_id(text.master),
         modes,
         cores: cores_of(alloc, objects, cores)?,
     })

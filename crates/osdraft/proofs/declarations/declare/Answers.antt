@@ -12,7 +12,7 @@ loop-index-preserved c =
     let within : i < length core.tasks = rw c.as_slice-task-items.ensures at c.loop-index-test.true in
     let is : c.task-item.result ≡ get_or core.tasks i c.task-item.result = rw c.as_slice-task-items.ensures at c.task-item.is in
     let here : drop i core.tasks ≡ c.task-item.result ∷ drop (i + 1) core.tasks = drop-here core.tasks i c.task-item.result within is in
-    rw (c.in_ok-push.ensures.ok, c.of.ensures, c.as_str.ensures, c.id_of.ensures)
+    rw (c.in_ok-push.ensures.ok, c.of.ensures, c.as_str.ensures, c.number_id.ensures)
     (append_assoc c.loop-index.declared _ _ ∙ ap (λ tasks. c.loop-index.declared ++ map (task_declaration core) (enumerate_from i tasks)) (sym here) ∙ c.loop-index.invariant)
 
 pub returns : goal.returns
