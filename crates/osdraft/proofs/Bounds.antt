@@ -1,14 +1,14 @@
 -- A text without a fault means a configuration within the limits.
-use Rattle.std.proofs.Common.{◌≡◌, ℕ, Bool, true, false, not, ◌&&◌, cond, List, [], ◌∷◌, map, Option, Some, None, is_some, unwrap_or, refl, sym, ap, ◌∙◌}
-use Rattle.std.specs.List.{list_all, list_any, find}
-use Rattle.std.proofs.lemmas.Bool.{and_parts, and_from, not_from_false}
+use Rattle.std.proofs.Common.{◌≡◌, ℕ, Bool, true, false, cond, List, [], ◌∷◌, map, Option, Some, None, is_some, unwrap_or, refl, sym, ap, ◌∙◌}
+use Rattle.std.specs.List.{find}
+use Rattle.std.proofs.lemmas.Bool.{and_parts, and_from}
 use Rattle.osbase.specs.declared.objects.ObjectKind.{ObjectKind}
 use Rattle.osbase.specs.declared.objects.Place.{Place}
 use Rattle.osbase.specs.History.{same_core}
 use Rattle.osplan.specs.declared.plans.Core.{Core}
 use Rattle.osplan.specs.Limits as limits
-use Rattle.osplan.specs.Limits.{is_between, is_within}
-use Rattle.osplan.proofs.Tests.{all-both, any-find}
+use Rattle.osplan.specs.Limits.{is_between, is_within, same_number, has_number, are_numbers_distinct}
+use Rattle.osplan.proofs.Tests.{any-find}
 use Rattle.oscript.specs.declared.Op.{Op}
 use Rattle.oscript.specs.declared.Op.TheVariants.{Work}
 use Rattle.osforms.specs.Operation.{op_meant}
@@ -20,11 +20,11 @@ use Rattle.osdraft.specs.declared.shapes.ConfigText.{ConfigText}
 use Rattle.osdraft.specs.declared.shapes.CoreText.{CoreText}
 use Rattle.osdraft.specs.declared.shapes.TaskText.{TaskText}
 use Rattle.osdraft.specs.declared.declarations.Declaration.{Declaration}
-use Rattle.osdraft.specs.Check.{sizes_of, is_text_within, same_number, are_numbers_distinct, is_each_once, are_known, tests_of}
-use Rattle.osdraft.specs.Declarations.{number_id, id_of, declarations, place_of}
+use Rattle.osdraft.specs.Check.{sizes_of, numbers_of, is_text_within, is_each_once, are_known, tests_of}
+use Rattle.osdraft.specs.Declarations.{number_id, declarations, place_of}
 use Rattle.osdraft.specs.Operation.{operations_of, op_of}
 use Rattle.osdraft.specs.Meaning.{only_mode, task_plan, core_plan, plan_of}
-use Rattle.osdraft.proofs.Numbers.{is_inside, cores-inside, plan-numbers, apart-bytes, bytes-equal, list_all-by, list_all-total, list_any-by}
+use Rattle.osdraft.proofs.Numbers.{plan-numbers, numbers-kept, bytes-equal, any-map, list_all-total, list_any-by}
 use Rattle.osdraft.proofs.Standing.{place-known}
 
 -- ---- the parts of the plan
@@ -48,23 +48,11 @@ task-known t known task =
 core-known : (t : ConfigText) → PlacesKnown t → (core : CoreText) → limits.is_core_known (plan_of t) (core_plan (declarations t.cores) core) ≡ true
 core-known t known core = and_from _ _ refl (list_all-total (limits.is_task_known (plan_of t)) (task_plan (declarations t.cores)) (task-known t known) core.tasks)
 
-cores-distinct : (objects : List Declaration) (cores : List CoreText) → are_numbers_distinct cores ≡ true → list_all is_inside cores ≡ true → limits.are_cores_distinct (map (core_plan objects) cores) ≡ true
-cores-distinct objects [] distinct within = refl
-cores-distinct objects (c ∷ cs) distinct within =
-    let other : CoreText → Bool = λ later. not (same_number c.id later.id) in
-    let inside = and_parts (is_inside c) (list_all is_inside cs) within in
-    let apart = and_parts (list_all other cs) (are_numbers_distinct cs) distinct in
-    and_from _ _
-    (list_all-by (λ d. other d && is_inside d) (λ (d : Core). not (same_core (id_of c) d.id)) (core_plan objects)
-    (λ d h. let parts = and_parts (other d) (is_inside d) h in not_from_false _ (apart-bytes c d inside.0 parts.1 parts.0))
-    cs (all-both other is_inside cs apart.0 inside.1))
-    (cores-distinct objects cs apart.1 inside.1)
-
-master-found : (objects : List Declaration) (cores : List CoreText) (number : Option ℕ) → list_any (λ (core : CoreText). same_number core.id number) cores ≡ true
+master-found : (objects : List Declaration) (cores : List CoreText) (number : Option ℕ) → has_number (numbers_of cores) number ≡ true
     → is_some (find (λ (c : Core). same_core c.id (number_id number)) (map (core_plan objects) cores)) ≡ true
 master-found objects cores number h =
     sym (any-find (λ (c : Core). same_core c.id (number_id number)) (map (core_plan objects) cores))
-    ∙ list_any-by (λ (core : CoreText). same_number core.id number) _ (core_plan objects) (λ core same. bytes-equal core.id number same) cores h
+    ∙ list_any-by (λ (core : CoreText). same_number core.id number) _ (core_plan objects) (λ core same. bytes-equal core.id number same) cores (sym (any-map (λ id. same_number id number) (λ (core : CoreText). core.id) cores) ∙ h)
 
 -- ---- the whole
 
@@ -82,9 +70,7 @@ pub bounds-of : (t : ConfigText) → failing (tests_of t) ≡ [] → limits.is_w
 bounds-of t none =
     let passed = faultless t none in
     let inside = (and_parts (is_between 1 1 t.version) (is_within (sizes_of t)) passed.0).1 in
-    let cores = cores-inside t inside in
-    let distinct = (and_parts (are_numbers_distinct t.cores) _ passed.1).0 in
+    let distinct = ap are_numbers_distinct (numbers-kept t inside) ∙ (and_parts (are_numbers_distinct (numbers_of t.cores)) _ passed.1).0 in
     let objects = declarations t.cores in
-    let places : PlacesKnown t = place-known t cores distinct in
-    and_from _ _ (and_from _ _ (and_from _ _ (ap is_within (plan-numbers t inside) ∙ inside) (cores-distinct objects t.cores distinct cores)) (master-found objects t.cores t.master (and_parts _ _ passed.2).0))
-    (list_all-total (limits.is_core_known (plan_of t)) (core_plan objects) (core-known t places) t.cores)
+    and_from _ _ (and_from _ _ (and_from _ _ (ap is_within (plan-numbers t inside) ∙ inside) distinct) (master-found objects t.cores t.master (and_parts _ _ passed.2).0))
+    (list_all-total (limits.is_core_known (plan_of t)) (core_plan objects) (core-known t (place-known t distinct)) t.cores)

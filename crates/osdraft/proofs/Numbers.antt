@@ -1,18 +1,19 @@
 -- The plan of a text has the text's numbers, which are within their limits.
-use Rattle.std.proofs.Common.{inl, inr, ◌≡◌, ℕ, ◌≤◌, Bool, true, false, not, cond, eqb, leb, List, [], ◌∷◌, length, map, Option, Some, None, unwrap_or, refl, sym, ap, ◌∙◌, arith}
+use Rattle.std.proofs.Common.{inl, inr, ◌≡◌, ℕ, ◌||◌, ◌≤◌, Bool, true, false, cond, eqb, leb, List, [], ◌∷◌, length, map, Option, Some, None, refl, sym, ap, ◌∙◌, arith}
 use Rattle.std.specs.List.{list_all, list_any}
-use Rattle.std.proofs.lemmas.Bool.{and_parts, and_from, leb-true, le-leb, true≢false, not-true, eq-eqb, eqb-true, or_cases, or_left, or_right}
+use Rattle.std.proofs.lemmas.Bool.{and_parts, and_from, le-leb, true≢false, eq-eqb, eqb-true, or_cases, or_left, or_right}
 use Rattle.std.proofs.lemmas.List.{length-map}
 use Rattle.std.proofs.lemmas.List.Folds.{list_all-map}
+use Rattle.osplan.specs.declared.plans.Core.{Core}
 use Rattle.osplan.specs.Limits as limits
-use Rattle.osplan.specs.Limits.{TaskSizes, CoreSizes, Sizes, is_between, is_start, is_task_within, is_core_within, is_within, number_of}
+use Rattle.osplan.specs.Limits.{TaskSizes, CoreSizes, Sizes, is_between, is_start, is_task_within, is_core_within, is_within, number_of, same_number}
 use Rattle.osplan.proofs.Tests.{all-weaker}
 use Rattle.osplan.proofs.Within.{between}
 use Rattle.osdraft.specs.declared.shapes.ConfigText.{ConfigText}
 use Rattle.osdraft.specs.declared.shapes.CoreText.{CoreText}
 use Rattle.osdraft.specs.declared.shapes.TaskText.{TaskText}
 use Rattle.osdraft.specs.declared.declarations.Declaration.{Declaration}
-use Rattle.osdraft.specs.Check.{task_sizes, core_sizes, sizes_of, same_number}
+use Rattle.osdraft.specs.Check.{task_sizes, core_sizes, sizes_of, numbers_of}
 use Rattle.osdraft.specs.Declarations.{byte_of, number_id, declarations}
 use Rattle.osdraft.specs.Operation.{operations_of, op_of}
 use Rattle.osdraft.specs.Meaning.{task_plan, core_plan, plan_of}
@@ -65,6 +66,10 @@ cores_mapped cores = sym (list_all-map is_core_within core_sizes cores)
 
 pub cores_counted : (cores : List CoreText) → length cores ≡ length (map core_sizes cores)
 cores_counted cores = sym (length-map cores core_sizes)
+
+pub any-map : {X Y : Type 0} (p : Y → Bool) (f : X → Y) (xs : List X) → list_any p (map f xs) ≡ list_any (λ x. p (f x)) xs
+any-map p f [] = refl
+any-map p f (x ∷ xs) = ap (λ b. p (f x) || b) (any-map p f xs)
 
 pub list_all-by : {X Y : Type 0} (p : X → Bool) (q : Y → Bool) (f : X → Y) → ((x : X) → p x ≡ true → q (f x) ≡ true) → (xs : List X) → list_all p xs ≡ true → list_all q (map f xs) ≡ true
 list_all-by p q f each xs h = list_all-map q f xs ∙ all-weaker p (λ x. q (f x)) each xs h
@@ -122,21 +127,15 @@ plan-numbers t h =
     let cap : Some (byte_of t.cap) ≡ t.cap = cap-byte (sizes_of t) h in
     rw (cap, map-same limits.core_sizes (core_plan (declarations t.cores)) core_sizes is_inside (core-numbers (declarations t.cores)) t.cores (cores-inside t h)) refl
 
--- ---- numbers of cores are told apart as in the text
+-- ---- and its cores have the text's
 
-id-byte : (core : CoreText) → is_inside core ≡ true → IsByte core.id
-id-byte core h = (core-bytes (core_sizes core) h).0
+core-number : (objects : List Declaration) (core : CoreText) → is_inside core ≡ true → number_of (core_plan objects core).id ≡ core.id
+core-number objects core h = (core-bytes (core_sizes core) h).0
 
-same-bytes : (a b : Option ℕ) → IsByte a → IsByte b → same_number a b ≡ eqb (byte_of a) (byte_of b)
-same-bytes None b in_a in_b = cc
-same-bytes (Some n) None in_a in_b = cc
-same-bytes (Some n) (Some m) in_a in_b = rw (ap (λ o. unwrap_or o 0) in_a, ap (λ o. unwrap_or o 0) in_b) refl
+pub numbers-kept : (t : ConfigText) → is_within (sizes_of t) ≡ true → limits.numbers_of (plan_of t).cores ≡ numbers_of t.cores
+numbers-kept t h = map-same (λ (c : Core). number_of c.id) (core_plan (declarations t.cores)) (λ (core : CoreText). core.id) is_inside (core-number (declarations t.cores)) t.cores (cores-inside t h)
 
 pub bytes-equal : (a b : Option ℕ) → same_number a b ≡ true → eqb (byte_of a) (byte_of b) ≡ true
 bytes-equal None b same = absurd (true≢false (sym same))
 bytes-equal (Some n) None same = absurd (true≢false (sym same))
 bytes-equal (Some n) (Some m) same = rw (eqb-true n m same) (eq-eqb (byte_of (Some m)) (byte_of (Some m)) refl)
-
-pub apart-bytes : (c d : CoreText) → is_inside c ≡ true → is_inside d ≡ true → not (same_number c.id d.id) ≡ true → eqb (byte_of c.id) (byte_of d.id) ≡ false
-apart-bytes c d in_c in_d apart =
-    sym (same-bytes c.id d.id (id-byte c in_c) (id-byte d in_d)) ∙ not-true _ apart

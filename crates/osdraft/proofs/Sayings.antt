@@ -1,11 +1,11 @@
 -- What a text without a fault means can be said by a text.
-use Rattle.std.proofs.Common.{◌≡◌, ℕ, ◌+◌, Bool, true, ◌||◌, List, [], ◌∷◌, ◌++◌, map, refl, sym, ap, ◌∙◌}
-use Rattle.std.specs.List.{list_all, list_any, enumerate_from, flat_map}
+use Rattle.std.proofs.Common.{◌≡◌, ℕ, ◌+◌, true, List, [], ◌∷◌, ◌++◌, map, refl, sym, ap, ◌∙◌}
+use Rattle.std.specs.List.{list_all, enumerate_from, flat_map}
 use Rattle.std.proofs.lemmas.Bool.{and_parts, and_from}
 use Rattle.std.proofs.lemmas.List.{map-append}
-use Rattle.osplan.specs.declared.plans.Core.{Core}
 use Rattle.osplan.specs.declared.plans.Task.{Task}
 use Rattle.osplan.specs.Expressible as said
+use Rattle.osplan.specs.Limits.{are_numbers_distinct}
 use Rattle.osbase.specs.Names.{is_name}
 use Rattle.osplan.specs.Expressible.{mode_name, is_only_mode}
 use Rattle.osdraft.specs.declared.shapes.ConfigText.{ConfigText}
@@ -13,15 +13,11 @@ use Rattle.osdraft.specs.declared.shapes.CoreText.{CoreText}
 use Rattle.osdraft.specs.declared.shapes.TaskText.{TaskText}
 use Rattle.osread.specs.Faults.{failing}
 use Rattle.osdraft.specs.declared.declarations.Declaration.{Declaration}
-use Rattle.osdraft.specs.Check.{has_named_tasks, are_numbers_distinct, tests_of}
+use Rattle.osdraft.specs.Check.{numbers_of, has_named_tasks, tests_of}
 use Rattle.osdraft.specs.Declarations.{task_declaration, declared_by, declarations}
 use Rattle.osdraft.specs.Meaning.{only_mode, task_plan, core_plan, plan_of}
 use Rattle.osdraft.proofs.Numbers.{list_all-by, list_all-total}
 use Rattle.osdraft.proofs.Bounds.{faultless}
-
-pub any-map : {X Y : Type 0} (p : Y → Bool) (f : X → Y) (xs : List X) → list_any p (map f xs) ≡ list_any (λ x. p (f x)) xs
-any-map p f [] = refl
-any-map p f (x ∷ xs) = ap (λ b. p (f x) || b) (any-map p f xs)
 
 -- ---- the names of a text are those of its plan
 
@@ -45,6 +41,6 @@ core-said objects core named =
 
 pub expressible-of : (t : ConfigText) → list_all has_named_tasks t.cores ≡ true → failing (tests_of t) ≡ [] → said.is_expressible (plan_of t) ≡ true
 expressible-of t named none =
-    let once = and_parts (are_numbers_distinct t.cores) _ (faultless t none).1 in
+    let once = and_parts (are_numbers_distinct (numbers_of t.cores)) _ (faultless t none).1 in
     let objects = declarations t.cores in
     and_from _ _ (list_all-by has_named_tasks said.is_core_expressible (core_plan objects) (core-said objects) t.cores named) (ap (λ names. said.are_distinct (mode_name ∷ names)) (names-kept objects t.cores) ∙ once.1)

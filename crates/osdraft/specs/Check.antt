@@ -1,11 +1,11 @@
 -- The tests of a configuration's text, a row for each fault past its shape that a text can have so far. Each is defined apart from
 -- the others, over the text as it stands. [own]
-use Rattle.std.specs.Prelude.{ℕ, ◌==◌, ◌&&◌, Bool, true, false, not, Option, Some, None, List, [], ◌∷◌, length, map}
-use Rattle.std.specs.List.{list_all, list_any}
+use Rattle.std.specs.Prelude.{ℕ, ◌&&◌, Bool, Option, List, [], ◌∷◌, length, map}
+use Rattle.std.specs.List.{list_all}
 use Rattle.std.specs.Str.{bytes_eq}
 use Rattle.osbase.specs.Names.{is_name}
 use Rattle.osplan.specs.Expressible.{are_distinct, mode_name}
-use Rattle.osplan.specs.Limits.{TaskSizes, CoreSizes, Sizes, is_between, is_within}
+use Rattle.osplan.specs.Limits.{TaskSizes, CoreSizes, Sizes, is_between, is_within, has_number, are_numbers_distinct}
 use Rattle.osplan.specs.declared.faults.ConfFault.TheVariants.{Limit, DuplicateName, UnknownName, BadScript}
 use Rattle.osdraft.specs.declared.shapes.ConfigText.{ConfigText}
 use Rattle.osdraft.specs.declared.shapes.CoreText.{CoreText}
@@ -33,16 +33,9 @@ is_text_within t = is_between 1 1 t.version && is_within (sizes_of t)
 
 -- ---- names and numbers that stand twice
 
--- The cores have one number. A number below 0 equals none.
-abbrev pub same_number : Option ℕ → Option ℕ → Bool
-same_number None other = false
-same_number (Some n) None = false
-same_number (Some n) (Some m) = n == m
-
--- No core has the number of a later one.
-abbrev pub are_numbers_distinct : List CoreText → Bool
-are_numbers_distinct [] = true
-are_numbers_distinct (core ∷ cores) = list_all (λ (later : CoreText). not (same_number core.id later.id)) cores && are_numbers_distinct cores
+-- The numbers of these cores.
+abbrev pub numbers_of : List CoreText → List (Option ℕ)
+numbers_of cores = map (λ (core : CoreText). core.id) cores
 
 -- The only mode's name, and those of all objects.
 abbrev pub names_of : List Declaration → List (List ℕ)
@@ -50,7 +43,7 @@ names_of objects = mode_name ∷ map (λ (declaration : Declaration). declaratio
 
 -- Every core number stands once, and every name.
 abbrev pub is_each_once : ConfigText → Bool
-is_each_once t = are_numbers_distinct t.cores && are_distinct (names_of (declarations t.cores))
+is_each_once t = are_numbers_distinct (numbers_of t.cores) && are_distinct (names_of (declarations t.cores))
 
 -- ---- names and numbers that name nothing
 
@@ -72,7 +65,7 @@ is_core_known objects core = list_all (is_task_known objects) core.tasks
 
 -- The master is a configured core, and each name in an autostart or an operation has its object.
 abbrev pub are_known : ConfigText → Bool
-are_known t = list_any (λ (core : CoreText). same_number core.id t.master) t.cores && list_all (is_core_known (declarations t.cores)) t.cores
+are_known t = has_number (numbers_of t.cores) t.master && list_all (is_core_known (declarations t.cores)) t.cores
 
 -- ---- scripts
 

@@ -1,14 +1,14 @@
 //! The tests of a configuration's text, one for each fault past its shape, in ascending order.
 
-ghost use Rattle.std.specs.Prelude.{◌≡◌, ◌==◌, ◌&&◌, true, false, not, Some, map};
-ghost use Rattle.std.specs.List.{list_all, list_any, slice_split};
+ghost use Rattle.std.specs.Prelude.{◌≡◌, ◌==◌, ◌&&◌, true, false, Some, map};
+ghost use Rattle.std.specs.List.{list_all, slice_split};
 ghost use Rattle.osdraft.specs.declared.shapes.CoreText.{CoreText as Core};
 ghost use Rattle.osdraft.specs.declared.shapes.TaskText.{TaskText as Task};
-ghost use Rattle.osplan.specs.Limits.{is_between, is_start, is_task_within, is_core_within, is_within};
+ghost use Rattle.osplan.specs.Limits.{are_numbers_distinct, has_number, is_between, is_core_within, is_start, is_task_within, is_within, same_number};
 ghost use Rattle.osread.specs.Faults.{failing, first_fault};
 ghost use Rattle.osdraft.specs.Declarations.{declarations};
 ghost use Rattle.osdraft.specs.Operation.{is_operation_known};
-ghost use Rattle.osdraft.specs.Check.{task_sizes, core_sizes, sizes_of, is_text_within, same_number, are_numbers_distinct, is_each_once, are_operations_known, is_mode_name, is_task_known, is_core_known, are_known, are_operations, tests_of};
+ghost use Rattle.osdraft.specs.Check.{task_sizes, core_sizes, sizes_of, numbers_of, is_text_within, is_each_once, are_operations_known, is_mode_name, is_task_known, is_core_known, are_known, are_operations, tests_of};
 
 use crate::places::{MODE, Objects};
 use crate::shapes::{ConfigText, CoreText, TaskText};
@@ -91,18 +91,22 @@ fn same_number(number: Whole, other: Whole) -> bool
     }
 }
 
-fn is_apart(core: &CoreText, later: &[CoreText]) -> bool
-    ensures { result ≡ list_all (λ (other : Core). not (same_number core.now.id other.id)) later.now }
+/// Whether a core has this number.
+pub fn has_core(cores: &[CoreText], number: Whole) -> bool
+    ensures { result ≡ has_number (numbers_of cores.now) number }
 {
-    later.iter().all(|other| !same_number(core.id, other.id))
+    cores
+        .iter()
+        .map(|core| core.id)
+        .any(|id| same_number(id, number))
 }
 
 fn are_numbers_distinct(cores: &[CoreText]) -> bool
-    ensures { result ≡ are_numbers_distinct cores.now }
+    ensures { result ≡ are_numbers_distinct (numbers_of cores.now) }
 {
     let mut cores = cores;
     while let [core, later @ ..] = cores {
-        if !is_apart(core, later) {
+        if has_core(later, core.id) {
             return false;
         }
         cores = later;
@@ -163,13 +167,6 @@ fn is_core_known(objects: &Objects, core: &CoreText) -> bool
         .as_slice()
         .iter()
         .all(|task| is_task_known(objects, task))
-}
-
-/// Whether a core has this number.
-pub fn has_core(cores: &[CoreText], number: Whole) -> bool
-    ensures { result ≡ list_any (λ (core : Core). same_number core.id number) cores.now }
-{
-    cores.iter().any(|core| same_number(core.id, number))
 }
 
 fn are_cores_known(objects: &Objects, cores: &[CoreText]) -> bool

@@ -22,7 +22,7 @@ use Rattle.osplan.specs.declared.plans.Table.{Table}
 use Rattle.osplan.specs.View.{core_of}
 use Rattle.osplan.specs.Objects.{object_count}
 use Rattle.osplan.specs.Limits.{core_sizes, sizes_of, is_core_within, is_within, is_object, is_op_known, is_mode, is_core_mode, is_task_known, is_core_known, is_within_limits}
-use Rattle.osplan.specs.Expressible.{is_core_expressible, is_expressible, are_distinct, declared_names, object_names}
+use Rattle.osplan.specs.Expressible.{is_core_expressible, is_expressible, are_distinct, object_names}
 use Rattle.osplan.specs.Separate.{agree, alone_of, has_operation, is_agreed_mode, is_named_elsewhere, is_on, is_separate, is_separate_core, is_started, names_other}
 use Rattle.osplan.proofs.Distinct.{distinct-kept, distinct-front, distinct-back}
 use Rattle.osplan.proofs.Tests.{all-both, all-not, all-weaker, find-holds, find-passes}

@@ -10,7 +10,7 @@ use Rattle.osplan.specs.declared.plans.Plan.{Plan}
 use Rattle.osplan.specs.declared.plans.Core.{Core}
 use Rattle.osplan.specs.declared.plans.Task.{Task}
 use Rattle.osplan.specs.View.{core_of}
-use Rattle.osplan.specs.Limits.{is_between, task_sizes, core_sizes, sizes_of, is_task_within, is_core_within, is_within, is_core_known, are_cores_distinct, is_within_limits}
+use Rattle.osplan.specs.Limits.{is_between, task_sizes, core_sizes, sizes_of, is_task_within, is_core_within, is_within, is_core_known, numbers_of, are_numbers_distinct, is_within_limits}
 use Rattle.osplan.specs.Expressible.{are_mode_name, is_in_only_mode, are_distinct, declared_names, is_task_expressible, is_core_expressible, is_expressible}
 use Rattle.osplan.proofs.Tests.{all-weaker, find-passes, none-from}
 
@@ -19,7 +19,7 @@ use Rattle.osplan.proofs.Tests.{all-weaker, find-passes, none-from}
 pub record LimitParts (plan : Plan) : Type 0 where
   pub sizes : is_within (sizes_of plan) ≡ true
   pub cores : list_all (λ (c : Core). is_core_within (core_sizes c)) plan.cores ≡ true
-  pub distinct : are_cores_distinct plan.cores ≡ true
+  pub distinct : are_numbers_distinct (numbers_of plan.cores) ≡ true
   pub master : is_some (core_of plan plan.master) ≡ true
   pub known : list_all (is_core_known plan) plan.cores ≡ true
 
@@ -27,7 +27,7 @@ pub limit-parts : (plan : Plan) → IsTrue (is_within_limits plan) → LimitPart
 limit-parts plan h =
     let known = and_parts _ (list_all (is_core_known plan) plan.cores) h in
     let master = and_parts _ (is_some (core_of plan plan.master)) known.0 in
-    let distinct = and_parts (is_within (sizes_of plan)) (are_cores_distinct plan.cores) master.0 in
+    let distinct = and_parts (is_within (sizes_of plan)) (are_numbers_distinct (numbers_of plan.cores)) master.0 in
     let cores = and_parts _ (list_all is_core_within (map core_sizes plan.cores)) distinct.0 in
     record {
       sizes = distinct.0;

@@ -1,13 +1,12 @@
 -- The limits of a configuration's numbers, each said once: a text that is read, the configuration that it means and the text that
 -- is written of it are judged by one test of their numbers. And that each reference of a configuration names an object of it.
 -- Each is a test, so that a literal configuration passes it by computation.
-use Rattle.std.specs.Prelude.{ℕ, ◌&&◌, nat_le, nat_lt, Bool, true, false, not, Option, Some, None, is_some, List, [], ◌∷◌, length, map}
-use Rattle.std.specs.List.{list_all}
+use Rattle.std.specs.Prelude.{ℕ, ◌==◌, ◌&&◌, nat_le, nat_lt, Bool, true, false, not, Option, Some, None, is_some, List, [], ◌∷◌, length, map}
+use Rattle.std.specs.List.{list_all, list_any}
 use Rattle.std.specs.Option.{option_map_or}
 use Rattle.osbase.specs.declared.references.CoreId.{CoreId}
 use Rattle.osbase.specs.declared.references.ModeId.{ModeId}
 use Rattle.osbase.specs.declared.objects.Object.{Object}
-use Rattle.osbase.specs.History.{same_core}
 use Rattle.oscript.specs.declared.Op.{Op}
 use Rattle.oscript.specs.Rows.{objects_of}
 use Rattle.osplan.specs.declared.plans.Plan.{Plan}
@@ -63,6 +62,23 @@ is_within s =
     is_between 1 8 (Some s.modes) && is_between 1 16 s.cap && is_between 1 8 (Some (length s.cores))
     && list_all is_core_within s.cores
 
+-- ---- numbers of cores
+
+-- The numbers are there, and one. [own]
+abbrev pub same_number : Option ℕ → Option ℕ → Bool
+same_number None other = false
+same_number (Some n) None = false
+same_number (Some n) (Some m) = n == m
+
+-- The number is one of these.
+abbrev pub has_number : List (Option ℕ) → Option ℕ → Bool
+has_number numbers number = list_any (λ other. same_number other number) numbers
+
+-- No number of the list is one of those after it.
+abbrev pub are_numbers_distinct : List (Option ℕ) → Bool
+are_numbers_distinct [] = true
+are_numbers_distinct (number ∷ numbers) = not (has_number numbers number) && are_numbers_distinct numbers
+
 -- ---- the numbers of a configuration
 
 abbrev pub task_sizes : Task → TaskSizes
@@ -70,6 +86,10 @@ task_sizes task = record { priority = Some task.priority; activations = Some tas
 
 abbrev pub number_of : CoreId → Option ℕ
 number_of id = Some id.number
+
+-- The numbers of these cores.
+abbrev pub numbers_of : List Core → List (Option ℕ)
+numbers_of cores = map (λ (c : Core). number_of c.id) cores
 
 abbrev pub core_sizes : Core → CoreSizes
 core_sizes core = record { number = number_of core.id; start = map number_of core.start; tasks = map task_sizes core.tasks }
@@ -102,13 +122,8 @@ is_task_known plan task = list_all (is_op_known plan) task.script && list_all (i
 abbrev pub is_core_known : Plan → Core → Bool
 is_core_known plan core = is_core_mode plan core.mode && list_all (is_task_known plan) core.tasks
 
--- No two cores have one number.
-abbrev pub are_cores_distinct : List Core → Bool
-are_cores_distinct [] = true
-are_cores_distinct (c ∷ cs) = list_all (λ (d : Core). not (same_core c.id d.id)) cs && are_cores_distinct cs
-
 -- The whole configuration is within the limits, with different cores, a configured master, and no reference to what is not there.
 abbrev pub is_within_limits : Plan → Bool
 is_within_limits plan =
-    is_within (sizes_of plan) && are_cores_distinct plan.cores && is_some (core_of plan plan.master)
+    is_within (sizes_of plan) && are_numbers_distinct (numbers_of plan.cores) && is_some (core_of plan plan.master)
     && list_all (is_core_known plan) plan.cores

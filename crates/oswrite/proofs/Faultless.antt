@@ -1,7 +1,7 @@
 -- The text of a configuration has no fault, and means the configuration.
-use Rattle.std.proofs.Common.{◌≡◌, ℕ, true, not, ◌&&◌, List, [], ◌∷◌, ◌++◌, length, map, Option, Some, option_and_then, IsTrue, refl, sym, ap, ◌∙◌}
-use Rattle.std.specs.List.{list_all, list_any, flat_map}
-use Rattle.std.proofs.lemmas.Bool.{and_parts, and_from}
+use Rattle.std.proofs.Common.{◌≡◌, ℕ, true, List, [], ◌∷◌, ◌++◌, length, map, Option, Some, option_and_then, IsTrue, refl, sym, ap, ◌∙◌}
+use Rattle.std.specs.List.{list_all, flat_map}
+use Rattle.std.proofs.lemmas.Bool.{and_from}
 use Rattle.std.proofs.lemmas.List.{length-map}
 use Rattle.osbase.specs.History.{same_core}
 use Rattle.oscript.specs.declared.Op.{Op}
@@ -10,25 +10,23 @@ use Rattle.osplan.specs.declared.plans.Plan.{Plan}
 use Rattle.osplan.specs.declared.plans.Core.{Core}
 use Rattle.osplan.specs.declared.plans.Task.{Task}
 use Rattle.osplan.specs.Limits as limits
-use Rattle.osplan.specs.Limits.{number_of}
+use Rattle.osplan.specs.Limits.{number_of, same_number, has_number, are_numbers_distinct}
 use Rattle.osplan.specs.Expressible as said
 use Rattle.serde_json.specs.Data.{Data}
 use Rattle.serde_json.specs.Read.{read}
 use Rattle.osread.specs.Faults.{if_faultless}
 use Rattle.osdraft.specs.Meaning.{config_of, config_of_shape, plan_of}
 use Rattle.osdraft.specs.Shape.{config_shape}
-use Rattle.osdraft.specs.declared.shapes.CoreText.{CoreText}
 use Rattle.osread.specs.Faults.{failing}
 use Rattle.osdraft.specs.declared.declarations.Declaration.{Declaration}
 use Rattle.osdraft.specs.Declarations.{declarations, place_of}
 use Rattle.osdraft.specs.Operation.{operations_of, is_operation_known, is_operation}
-use Rattle.osdraft.specs.Check.{task_sizes, core_sizes, sizes_of, is_text_within, same_number, are_numbers_distinct, is_each_once, is_mode_name, is_task_known, is_core_known, are_known, is_task_script, is_core_script, are_operations, tests_of}
+use Rattle.osdraft.specs.Check.{task_sizes, core_sizes, sizes_of, numbers_of, is_text_within, is_each_once, is_mode_name, is_task_known, is_core_known, are_known, is_task_script, is_core_script, are_operations, tests_of}
 use Rattle.osplan.specs.Names.{name_of_mode}
 use Rattle.oswrite.specs.Writing.{config_data, op_text, script_text}
-use Rattle.osplan.proofs.Tests.{all-both, any-find}
+use Rattle.osplan.proofs.Tests.{any-find}
 use Rattle.osplan.proofs.Within.{LimitParts, TextParts, limit-parts, text-parts}
-use Rattle.osdraft.proofs.Numbers.{list_all-by, map-same}
-use Rattle.osdraft.proofs.Sayings.{any-map}
+use Rattle.osdraft.proofs.Numbers.{any-map, list_all-by, map-same}
 use Rattle.oswrite.proofs.Reshaped.{task_said, core_said, config_said, modes-are, mode-text, config-shape}
 use Rattle.oswrite.proofs.Placed.{names-said}
 use Rattle.oswrite.proofs.Restored.{is_kept_task, is_kept_core, kept-task, kept-core, kept-cores, op-meant, script-back, plan-back}
@@ -64,17 +62,13 @@ module _ (plan : Plan) (inside : IsTrue (limits.is_within_limits plan)) (sayable
 
   -- ---- names
 
-  numbers-distinct : (cores : List Core) → limits.are_cores_distinct cores ≡ true → are_numbers_distinct (map (core_said plan) cores) ≡ true
-  numbers-distinct [] h = refl
-  numbers-distinct (core ∷ cores) h =
-      let apart = and_parts (list_all (λ (d : Core). not (same_core core.id d.id)) cores) _ h in
-      and_from _ _
-      (list_all-by (λ (d : Core). not (same_core core.id d.id)) (λ (later : CoreText). not (same_number (number_of core.id) later.id)) (core_said plan) (λ d e. e) cores apart.0)
-      (numbers-distinct cores apart.1)
+  numbers-kept : (cores : List Core) → numbers_of (map (core_said plan) cores) ≡ limits.numbers_of cores
+  numbers-kept [] = refl
+  numbers-kept (core ∷ cores) = ap (λ numbers. number_of core.id ∷ numbers) (numbers-kept cores)
 
   once : is_each_once (config_said plan) ≡ true
   once =
-      and_from _ _ (numbers-distinct plan.cores bounds.distinct)
+      and_from _ _ (ap are_numbers_distinct (numbers-kept plan.cores) ∙ bounds.distinct)
       (ap (λ rest. said.are_distinct (said.mode_name ∷ rest)) (names-said plan plan.cores) ∙ ap (λ modes. said.are_distinct (modes ++ flat_map said.object_names plan.cores)) (sym (modes-are plan.modes parts.modes)) ∙ parts.names)
 
   -- ---- what names name
@@ -96,7 +90,7 @@ module _ (plan : Plan) (inside : IsTrue (limits.is_within_limits plan)) (sayable
 
   known : are_known (config_said plan) ≡ true
   known =
-      and_from _ _ (any-map (λ (core : CoreText). same_number core.id (number_of plan.master)) (core_said plan) plan.cores ∙ (any-find (λ (c : Core). same_core c.id plan.master) plan.cores ∙ bounds.master))
+      and_from _ _ (ap (λ numbers. has_number numbers (number_of plan.master)) (numbers-kept plan.cores) ∙ any-map (λ id. same_number id (number_of plan.master)) (λ (c : Core). number_of c.id) plan.cores ∙ (any-find (λ (c : Core). same_core c.id plan.master) plan.cores ∙ bounds.master))
       (list_all-by (is_kept_core plan) (is_core_known objects) (core_said plan) core-known plan.cores cores)
 
   -- ---- operations

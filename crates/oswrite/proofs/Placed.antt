@@ -19,8 +19,7 @@ use Rattle.osplan.proofs.Distinct.{distinct-front, distinct-back}
 use Rattle.osdraft.specs.declared.shapes.CoreText.{CoreText}
 use Rattle.osdraft.specs.declared.declarations.Declaration.{Declaration}
 use Rattle.osdraft.specs.Declarations.{byte_of, id_of, task_declaration, declared_by, declarations, has_name, place_in, place_of}
-use Rattle.osdraft.proofs.Numbers.{byte-small}
-use Rattle.osdraft.proofs.Sayings.{any-map}
+use Rattle.osdraft.proofs.Numbers.{any-map, byte-small}
 use Rattle.oswrite.proofs.Reshaped.{task_said, core_said}
 
 bytes_eq-same : (name : List ℕ) → bytes_eq name name ≡ true

@@ -1,9 +1,10 @@
 use Rattle.std.proofs.Common.{◌≡◌, length}
-use Rattle.osdraft.specs.Check.{are_numbers_distinct}
+use Rattle.osplan.specs.Limits.{are_numbers_distinct}
+use Rattle.osdraft.specs.Check.{numbers_of}
 use Rattle.osdraft.proofs.checks.are_numbers_distinct.Given as goal
 
 abbrev pub invariant-loop-cores : goal.invariant-loop-cores
-invariant-loop-cores l = are_numbers_distinct l.cores ≡ are_numbers_distinct l.initial.cores
+invariant-loop-cores l = are_numbers_distinct (numbers_of l.cores) ≡ are_numbers_distinct (numbers_of l.initial.cores)
 
 abbrev pub decreases-loop-cores : goal.decreases-loop-cores
 decreases-loop-cores l = length l.cores

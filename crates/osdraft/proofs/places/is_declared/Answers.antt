@@ -3,7 +3,7 @@ use Rattle.std.specs.Str.{bytes_eq}
 use Rattle.osplan.proofs.Tests.{any-find, is_some-copied}
 use Rattle.osdraft.specs.declared.declarations.Declaration.{Declaration}
 use Rattle.osdraft.specs.Declarations.{has_name}
-use Rattle.osdraft.proofs.Sayings.{any-map}
+use Rattle.osdraft.proofs.Numbers.{any-map}
 use Rattle.osdraft.proofs.places.is_declared.Goals as goal
 
 pub returns : goal.returns
