@@ -1,13 +1,12 @@
 -- Each kind of argument: its text, once for each kind.
-use Rattle.std.proofs.Common.{rules, inl, inr, ◌≡◌, ℕ, zero, suc, ◌-◌, ◌+◌, ◌⊎◌, lit<, ◌≤◌, ◌<◌, ◌^◌, ◌==◌, ◌&&◌, ◌||◌, ℤ, pos, negsuc, Bool, true, false, not, cond, nat_le, Option, Some, None, option_map, List, [], ◌∷◌, length, get_or, codes, refl, sym, ap, ◌∙◌, arith}
+use Rattle.std.proofs.Common.{rules, inl, inr, ◌≡◌, ℕ, zero, suc, ◌-◌, ◌+◌, ◌⊎◌, ◌≤◌, ◌<◌, ◌^◌, ◌==◌, ◌&&◌, ◌||◌, ℤ, pos, negsuc, Bool, true, false, not, cond, nat_le, Option, Some, None, option_map, List, [], ◌∷◌, length, get_or, codes, refl, sym, ap, ◌∙◌, arith}
 use Rattle.std.specs.Char.{is_ascii_digit, is_ascii_alphabetic}
-use Rattle.std.specs.Fmt.{decimal, signed_decimal}
+use Rattle.std.specs.Fmt.{decimal}
 use Rattle.std.specs.Int.{is_in_range}
 use Rattle.std.specs.List.{list_all}
 use Rattle.std.specs.Str.{bytes_eq}
-use Rattle.std.specs.Str.Parse.{digits_value}
 use Rattle.std.proofs.lemmas.Bool.{and_parts, and_from, not_from_false, cases_Bool, true≢false}
-use Rattle.std.proofs.lemmas.Fmt.{decimal_digit, decimal_nonempty, first_decimal, decimal-digits_value, digits_decimal, digits_value-decimal}
+use Rattle.std.proofs.lemmas.Fmt.{decimal_digit, decimal_nonempty, first_decimal, digits_decimal, digits_value-decimal}
 use Rattle.std.proofs.lemmas.Slice.Eq.{bytes_eq-Decides}
 use Rattle.std.proofs.lemmas.Grind.{common_steps}
 use Rattle.oscript.specs.declared.rows.Kind.{Kind}
@@ -15,9 +14,9 @@ use Rattle.osbase.specs.declared.objects.ObjectKind.{ObjectKind}
 use Rattle.oscript.specs.declared.rows.Arg.{Arg}
 use Rattle.oscript.specs.declared.rows.Arg.TheVariants.{Object, Number, Int, Variable}
 use Rattle.osbase.specs.Names.{is_name, is_name_part}
-use Rattle.osforms.specs.Word.{is_unpadded, is_decimal, bounded, number_in, int_of, variable_of, target_of}
+use Rattle.osforms.specs.Word.{is_unpadded, is_decimal, number_in, int_of, variable_of, target_of}
 use Rattle.osforms.specs.Form.{arg_of, arg_text}
-use Rattle.osforms.proofs.Numerals.{own, int_of-plain, decimal-digits, decimal-some}
+use Rattle.osforms.proofs.Numerals.{own, int_of-plain, decimal-digits}
 use Rattle.osforms.proofs.Joining.{has_none, not-byte, all-none}
 
 -- ---- tests and options
@@ -40,122 +39,43 @@ pub record IsApart (byte : ℕ) : Type 0 where
 
 -- ---- numbers
 
-pub record IsNumber (low high : ℕ) (word : List ℕ) (n : ℕ) : Type 0 where
-  pub decimals : is_decimal word ≡ true
-  pub value : digits_value 10 word ≡ n
-  pub least : low ≤ n
-  pub most : n ≤ high
-
-pub number-parts : (low high : ℕ) (word : List ℕ) (n : ℕ) → number_in low high word ≡ Some n → IsNumber low high word n
-number-parts low high word n e =
-    let p = cond-some (is_decimal word) (bounded low high (digits_value 10 word)) n e in
-    let q = cond-some (nat_le low (digits_value 10 word) && nat_le (digits_value 10 word) high) (Some (digits_value 10 word)) n p.1 in
-    let r = and_parts (nat_le low (digits_value 10 word)) (nat_le (digits_value 10 word) high) q.0 in
-    let v : digits_value 10 word ≡ n = cc in
-    record { decimals = p.0; value = v; least = rw (← v) (search (rules, r.0)); most = rw (← v) (search (rules, r.1)) }
-
-unpadded-lone : (word : List ℕ) → is_unpadded word ≡ true → get_or word 0 0 ≡ 48 → length word ≡ 1
-unpadded-lone [] u z = cc
-unpadded-lone (d ∷ []) u z = refl
-unpadded-lone (d ∷ e ∷ es) u z = let f : not (48 == 48) ≡ true = ap (λ x. not (x == 48)) (sym z) ∙ u in cc
-
-pub number-text : (low high : ℕ) (word : List ℕ) (n : ℕ) → high < 2 ^ 64 → number_in low high word ≡ Some n → decimal n ≡ word
-number-text low high word n lt e =
-    let p = number-parts low high word n e in
-    let short : digits_value 10 word < 2 ^ 64 = omega (arith, p.value, p.most) in
-    ap decimal (sym p.value) ∙ decimal-digits_value own word (decimal-digits word p.decimals) (decimal-some word p.decimals) (unpadded-lone word (and_parts (is_unpadded word) _ p.decimals).0) short
-
 number-none : (byte low high : ℕ) (word : List ℕ) (n : ℕ) → IsApart byte → number_in low high word ≡ Some n → has_none byte word ≡ true
-number-none byte low high word n apart e = all-none is_ascii_digit byte word apart.digit (decimal-digits word (number-parts low high word n e).decimals)
-
--- ---- signed numbers
-
--- whichever way it is read
-pub data IsInt (z : ℤ) (word : List ℕ) : Type 0 where
-  below : (n : ℕ) (digits : List ℕ) → word ≡ 45 ∷ digits → number_in 1 9223372036854775808 digits ≡ Some n → negsuc (n - 1) ≡ z → IsInt z word
-  plain : (n : ℕ) → number_in 0 9223372036854775807 word ≡ Some n → pos n ≡ z → IsInt z word
+number-none byte low high word n apart e = all-none is_ascii_digit byte word apart.digit (decimal-digits word (cond-some (is_decimal word) _ n e).0)
 
 either : {A : Type 0} (b : Bool) (x y : Option A) (z : A) → cond b x y ≡ Some z → ((b ≡ true) × (x ≡ Some z)) ⊎ ((b ≡ false) × (y ≡ Some z))
 either true x y z e = inl (refl, e)
 either false x y z e = inr (refl, e)
 
-int-parts : (word : List ℕ) (z : ℤ) → int_of word ≡ Some z → IsInt z word
-int-parts [] z e = cc
-int-parts (c ∷ cs) z e =
-    elim (either (c == 45) (option_map (λ n. negsuc (n - 1)) (number_in 1 9223372036854775808 cs)) (option_map (λ n. pos n) (number_in 0 9223372036854775807 (c ∷ cs))) z e) as (λ _. IsInt z (c ∷ cs)) [
+int-none : (byte : ℕ) (word : List ℕ) (z : ℤ) → IsApart byte → int_of word ≡ Some z → has_none byte word ≡ true
+int-none byte [] z apart e = cc
+int-none byte (c ∷ cs) z apart e =
+    elim (either (c == 45) (option_map (λ n. negsuc (n - 1)) (number_in 1 9223372036854775808 cs)) (option_map (λ n. pos n) (number_in 0 9223372036854775807 (c ∷ cs))) z e) as (λ _. has_none byte (c ∷ cs) ≡ true) [
       | inl p ↦
           let m = mapped (λ n. negsuc (n - 1)) (number_in 1 9223372036854775808 cs) z p.1 in
           let is : c ≡ 45 = search (rules, p.0) in
-          below m.0 cs (ap (λ x. x ∷ cs) is) m.1 m.2
+          rw is (and_from _ _ (not_from_false _ apart.minus) (number-none byte 1 9223372036854775808 cs m.0 apart m.1))
       | inr p ↦
           let m = mapped (λ n. pos n) (number_in 0 9223372036854775807 (c ∷ cs)) z p.1 in
-          plain m.0 m.1 m.2
+          number-none byte 0 9223372036854775807 (c ∷ cs) m.0 apart m.1
     ]
-
-is-int-text : (word : List ℕ) (z : ℤ) → IsInt z word → signed_decimal z ≡ word
-is-int-text word z (below n digits is e same) =
-    let p = number-parts 1 9223372036854775808 digits n e in
-    let least : 1 ≤ n = p.least in
-    let whole : suc (n - 1) ≡ n = omega arith in
-    ap signed_decimal (sym same) ∙ ap (λ m. 45 ∷ decimal m) whole ∙ ap (λ ds. 45 ∷ ds) (number-text 1 9223372036854775808 digits n (lit< tt) e) ∙ sym is
-is-int-text word z (plain n e same) = ap signed_decimal (sym same) ∙ number-text 0 9223372036854775807 word n (lit< tt) e
-
-is-int-none : (byte : ℕ) (word : List ℕ) (z : ℤ) → IsApart byte → IsInt z word → has_none byte word ≡ true
-is-int-none byte word z apart (below n digits is e same) = ap (has_none byte) is ∙ and_from _ _ (not_from_false _ apart.minus) (number-none byte 1 9223372036854775808 digits n apart e)
-is-int-none byte word z apart (plain n e same) = number-none byte 0 9223372036854775807 word n apart e
 
 -- ---- variables
 
-variable-text : (word : List ℕ) (x : ℕ) → variable_of word ≡ Some x → 118 ∷ (48 + x) ∷ [] ≡ word
-variable-text [] x e = cc
-variable-text (v ∷ []) x e = cc
-variable-text (v ∷ d ∷ []) x e =
-    let p = cond-some (v == 118 && (nat_le 48 d && nat_le d 55)) (Some (d - 48)) x e in
-    let q = and_parts (v == 118) (nat_le 48 d && nat_le d 55) p.0 in
-    let r = and_parts (nat_le 48 d) (nat_le d 55) q.1 in
-    let letter : 118 ≡ v = search (rules, q.0) in
-    let least : 48 ≤ d = search (rules, r.0) in
-    let value : d - 48 ≡ x = cc in
-    let digit : 48 + x ≡ d = omega arith in
-    cc
-variable-text (v ∷ d ∷ e ∷ es) x is = cc
-
-variable-most : (word : List ℕ) (x : ℕ) → variable_of word ≡ Some x → x ≤ 7
-variable-most [] x e = cc
-variable-most (v ∷ []) x e = cc
-variable-most (v ∷ d ∷ []) x e =
-    let p = cond-some (v == 118 && (nat_le 48 d && nat_le d 55)) (Some (d - 48)) x e in
-    let q = and_parts (v == 118) (nat_le 48 d && nat_le d 55) p.0 in
-    let r = and_parts (nat_le 48 d) (nat_le d 55) q.1 in
-    let most : d ≤ 55 = search (rules, r.1) in
-    let value : d - 48 ≡ x = cc in
-    omega arith
-variable-most (v ∷ d ∷ e ∷ es) x is = cc
-
-variable-decimal : (word : List ℕ) (x : ℕ) → variable_of word ≡ Some x → 118 ∷ decimal x ≡ word
-variable-decimal word x e =
-    let most = variable-most word x e in
-    ap (λ ds. 118 ∷ ds) (decimal_digit x (omega (arith, most))) ∙ variable-text word x e
-
 variable-none : (byte : ℕ) (word : List ℕ) (x : ℕ) → IsApart byte → variable_of word ≡ Some x → has_none byte word ≡ true
-variable-none byte word x apart e =
-    let most = variable-most word x e in
-    let digit : is_ascii_digit (48 + x) ≡ true = search (rules, common_steps) in
-    ap (has_none byte) (sym (variable-text word x e)) ∙ and_from _ _ (not_from_false _ apart.letter) (and_from _ _ (not-byte is_ascii_digit byte (48 + x) apart.digit digit) refl)
+variable-none byte [] x apart e = cc
+variable-none byte (v ∷ []) x apart e = cc
+variable-none byte (v ∷ d ∷ []) x apart e =
+    let p = cond-some (v == 118 && (nat_le 48 d && nat_le d 55)) (Some (d - 48)) x e in
+    let q = and_parts (v == 118) (nat_le 48 d && nat_le d 55) p.0 in
+    let r = and_parts (nat_le 48 d) (nat_le d 55) q.1 in
+    let letter : v ≡ 118 = search (rules, q.0) in
+    let least : 48 ≤ d = search (rules, r.0) in
+    let most : d ≤ 55 = search (rules, r.1) in
+    let digit : is_ascii_digit d ≡ true = search (rules, common_steps) in
+    rw letter (and_from _ _ (not_from_false _ apart.letter) (and_from _ _ (not-byte is_ascii_digit byte d apart.digit digit) refl))
+variable-none byte (v ∷ d ∷ e ∷ es) x apart is = cc
 
 -- ---- names
-
-target-text : (k : ObjectKind) (word : List ℕ) (t : Option (List ℕ)) → target_of word ≡ Some t → arg_text (Object k t) ≡ word
-target-text k word t e =
-    elim (either (bytes_eq word (codes "?")) (Some None) (cond (is_name word) (Some (Some word)) None) t e) as (λ _. arg_text (Object k t) ≡ word) [
-      | inl p ↦
-          let is : word ≡ codes "?" = (bytes_eq-Decides word (codes "?")).0 p.0 in
-          let none : None ≡ t = cc in
-          ap (λ x. arg_text (Object k x)) (sym none) ∙ sym is
-      | inr p ↦
-          let some : Some word ≡ t = let q = cond-some (is_name word) (Some (Some word)) t p.1 in cc in
-          ap (λ x. arg_text (Object k x)) (sym some)
-    ]
 
 letter-part : (d u l x : Bool) → (u || l) ≡ true → (((d || u) || l) || x) ≡ true
 letter-part true u l x e = refl
@@ -187,21 +107,11 @@ is_kind (Kind.Number low high) = nat_le high 4294967295
 is_kind Kind.Int = true
 is_kind Kind.Variable = true
 
--- what is read as an argument is that argument's text
-pub arg_of-text : (k : Kind) (word : List ℕ) (a : Arg (List ℕ)) → is_kind k ≡ true → arg_of k word ≡ Some a → arg_text a ≡ word
-arg_of-text (Kind.Object k) word a fits e = let m = mapped (Object k) (target_of word) a e in ap arg_text (sym m.2) ∙ target-text k word m.0 m.1
-arg_of-text (Kind.Number low high) word a fits e =
-    let m = mapped Number (number_in low high word) a e in
-    let most : high ≤ 4294967295 = search (rules, fits) in
-    ap arg_text (sym m.2) ∙ number-text low high word m.0 (omega arith) m.1
-arg_of-text Kind.Int word a fits e = let m = mapped Int (int_of word) a e in ap arg_text (sym m.2) ∙ is-int-text word m.0 (int-parts word m.0 m.1)
-arg_of-text Kind.Variable word a fits e = let m = mapped Variable (variable_of word) a e in ap arg_text (sym m.2) ∙ variable-decimal word m.0 m.1
-
--- and has no byte that no argument has
+-- what is read as an argument has no byte that no argument has
 pub arg_of-none : (byte : ℕ) (k : Kind) (word : List ℕ) (a : Arg (List ℕ)) → IsApart byte → arg_of k word ≡ Some a → has_none byte word ≡ true
 arg_of-none byte (Kind.Object k) word a apart e = let m = mapped (Object k) (target_of word) a e in target-none byte word m.0 apart m.1
 arg_of-none byte (Kind.Number low high) word a apart e = let m = mapped Number (number_in low high word) a e in number-none byte low high word m.0 apart m.1
-arg_of-none byte Kind.Int word a apart e = let m = mapped Int (int_of word) a e in is-int-none byte word m.0 apart (int-parts word m.0 m.1)
+arg_of-none byte Kind.Int word a apart e = let m = mapped Int (int_of word) a e in int-none byte word m.0 apart m.1
 arg_of-none byte Kind.Variable word a apart e = let m = mapped Variable (variable_of word) a e in variable-none byte word m.0 apart m.1
 
 -- ---- which arguments read back

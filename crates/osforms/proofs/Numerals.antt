@@ -1,8 +1,9 @@
 -- Numbers and their words.
-use Rattle.std.proofs.Common.{rules, ◌≡◌, ◌≢◌, ℕ, ◌<◌, ◌≤◌, ◌^◌, ◌==◌, ◌&&◌, Bool, true, false, List, [], ◌∷◌, length, get_or, pos, option_map, None, Err, refl, sym, ap, ◌∙◌, arith}
+use Rattle.std.proofs.Common.{rules, ◌≡◌, ◌≢◌, ℕ, ◌<◌, ◌≤◌, ◌^◌, ◌==◌, ◌&&◌, true, false, List, [], ◌∷◌, length, get_or, pos, option_map, None, Err, refl, sym, ap, ◌∙◌, arith}
 use Rattle.std.specs.Char.{is_ascii_digit}
 use Rattle.std.specs.List.{list_all}
 use Rattle.std.specs.Str.Parse.{digits_value, ParsesUnsigned}
+use Rattle.std.proofs.lemmas.Bool.{and_parts}
 use Rattle.std.proofs.lemmas.Str.Parse.{IsNumeralModel, numerals_by_value, parse_plain}
 use Rattle.std.proofs.lemmas.Grind.{common_steps}
 use Rattle.osforms.specs.Word.{is_unpadded, is_decimal, bounded, number_in, int_of}
@@ -10,16 +11,8 @@ use Rattle.osforms.specs.Word.{is_unpadded, is_decimal, bounded, number_in, int_
 pub own : IsNumeralModel (λ ds. list_all is_ascii_digit ds ≡ true) (digits_value 10)
 own = numerals_by_value _ (search rules)
 
-and-left : (a b : Bool) → (a && b) ≡ true → a ≡ true
-and-left true b e = refl
-and-left false b e = e
-
-and-right : (a b : Bool) → (a && b) ≡ true → b ≡ true
-and-right true b e = e
-and-right false b e = cc
-
 pub decimal-digits : (word : List ℕ) → is_decimal word ≡ true → list_all is_ascii_digit word ≡ true
-decimal-digits word e = and-right (is_unpadded word) _ e
+decimal-digits word e = (and_parts (is_unpadded word) _ e).1
 
 pub decimal-some : (word : List ℕ) → is_decimal word ≡ true → 0 < length word
 decimal-some [] e = cc

@@ -1,6 +1,6 @@
 //! Reading: operations in good form, with the places of their names.
 
-ghost use Rattle.std.specs.Prelude.{◌≡◌, ◌∷◌, [], option_map, if◌then◌else◌, List};
+ghost use Rattle.std.specs.Prelude.{◌≡◌, ◌∷◌, [], option_map, List};
 ghost use Rattle.std.specs.Str.{bytes_eq};
 ghost use Rattle.oscript.specs.declared.rows.Kind.{Kind};
 ghost use Rattle.oscript.specs.Rows.{word_of, items};
@@ -53,16 +53,6 @@ fn next_arg<'a, P: Places>(
     Some((arg_meant(places, kind, word)?, rest))
 }
 
-fn is_end<P: Places>(places: &P, rest: Option<&str>) -> bool
-    ensures { args_meant (P.place places.now) [] (rest_words rest.entry) ≡ (if result then Some [] else None) }
-{
-    let _ = places;
-    match rest {
-        Some(_) => false,
-        None => true,
-    }
-}
-
 // The last word as an argument of the kind. No argument has a space, so all that is left is that word.
 #[tactic(auto, using(crate::proofs::Meant::last_meant))]
 fn last_arg<P: Places>(places: &P, kind: Kind, rest: Option<&str>) -> Option<Arg<Place>>
@@ -99,13 +89,10 @@ fn args_meant<P: Places>(
     ensures { option_map items result ≡ args_meant (P.place places.now) (items kinds) (rest_words rest.entry) }
 {
     match kinds {
-        Args::Zero => {
-            if is_end(places, rest) {
-                Some(Args::Zero)
-            } else {
-                None
-            }
-        }
+        Args::Zero => match rest {
+            Some(_) => None,
+            None => Some(Args::Zero),
+        },
         Args::One(last) => match last_arg(places, last, rest) {
             Some(a) => Some(Args::One(a)),
             None => None,
