@@ -1,5 +1,6 @@
 -- The configuration that a text means, and the faults that a text has. [own]
-use Rattle.std.specs.Prelude.{ℕ, ◌&&◌, Option, Some, None, option_and_then, List, [], ◌∷◌, map}
+use Rattle.std.specs.Prelude.{ℕ, ◌&&◌, Option, option_and_then, List, [], ◌∷◌, map}
+use Rattle.std.specs.Option.{option_map_or}
 use Rattle.osbase.specs.declared.references.ModeId.{ModeId}
 use Rattle.osplan.specs.declared.plans.Plan.{Plan}
 use Rattle.osplan.specs.declared.plans.Core.{Core}
@@ -62,16 +63,11 @@ plan_of t = record {
 
 -- ---- a text's faults, in ascending order: past the first or the second nothing more is judged
 
-abbrev pub faults_of_shape : Option ConfigText → List ConfFault
-faults_of_shape None = Shape ∷ []
-faults_of_shape (Some t) = failing (tests_of t)
-
-abbrev pub faults_of_data : Option Data → List ConfFault
-faults_of_data None = NotJson ∷ []
-faults_of_data (Some d) = faults_of_shape (config_shape d)
+abbrev pub faults_of_data : Data → List ConfFault
+faults_of_data d = option_map_or (λ t. failing (tests_of t)) (config_shape d) (Shape ∷ [])
 
 abbrev pub faults_of : List ℕ → List ConfFault
-faults_of text = faults_of_data (read text)
+faults_of text = option_map_or faults_of_data (read text) (NotJson ∷ [])
 
 abbrev pub IsLeastFault : ConfFault → List ℕ → Type 0
 IsLeastFault fault text = IsLeast fault (faults_of text)

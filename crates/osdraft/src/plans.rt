@@ -43,13 +43,8 @@ fn modes_of(alloc: Global, names: &[Text]) -> Result<Vec<ModeId>, AllocError>
 }
 
 // Makes the plan of a task.
-#[derive(Clone, Copy, Debug)]
-struct TaskPlanner<'t> {
-    objects: &'t Objects<'t>,
-}
-
-impl<'e> Reader<'e, TaskText<'e>, Task> for TaskPlanner<'_> {
-    ghost shape = { λ planner. known_task planner.objects.now.declared };
+impl<'e> Reader<'e, TaskText<'e>, Task> for Objects<'e> {
+    ghost shape = { λ objects. known_task objects.declared };
 
     ghost passes = { λ _ _. true };
 
@@ -62,15 +57,19 @@ impl<'e> Reader<'e, TaskText<'e>, Task> for TaskPlanner<'_> {
             priority: byte_of(task.prio),
             auto: List::from_vec(modes_of(alloc, task.auto.as_slice())?),
             activations: byte_of(task.activations),
-            script: script_of(alloc, self.objects, task.script.as_str())?,
+            script: script_of(alloc, self, task.script.as_str())?,
         })
     }
 }
 
-fn tasks_of(alloc: Global, objects: &Objects, tasks: &[TaskText]) -> Result<List<Task>, Refusal>
+fn tasks_of<'e>(
+    alloc: Global,
+    objects: &Objects<'e>,
+    tasks: &'e [TaskText<'e>],
+) -> Result<List<Task>, Refusal>
     ensures { Gives (λ x. x) result (value_if (list_all (is_task_known objects.now.declared) tasks.now && list_all is_task_script tasks.now) (map (task_plan objects.now.declared) tasks.now)) }
 {
-    read_each(alloc, &TaskPlanner { objects }, tasks)
+    read_each(alloc, objects, tasks)
 }
 
 fn ids_of(alloc: Global, numbers: &[Whole]) -> Result<Vec<CoreId>, AllocError>
@@ -83,13 +82,8 @@ fn ids_of(alloc: Global, numbers: &[Whole]) -> Result<Vec<CoreId>, AllocError>
 }
 
 // Makes the plan of a core.
-#[derive(Clone, Copy, Debug)]
-struct CorePlanner<'t> {
-    objects: &'t Objects<'t>,
-}
-
-impl<'e> Reader<'e, CoreText<'e>, Core> for CorePlanner<'_> {
-    ghost shape = { λ planner. known_core planner.objects.now.declared };
+impl<'e> Reader<'e, CoreText<'e>, Core> for Objects<'e> {
+    ghost shape = { λ objects. known_core objects.declared };
 
     ghost passes = { λ _ _. true };
 
@@ -98,7 +92,7 @@ impl<'e> Reader<'e, CoreText<'e>, Core> for CorePlanner<'_> {
             id: number_id(core.id),
             mode: CoreMode::Named(ONLY_MODE),
             start: List::from_vec(ids_of(alloc, core.start.as_slice())?),
-            tasks: tasks_of(alloc, self.objects, core.tasks.as_slice())?,
+            tasks: tasks_of(alloc, self, core.tasks.as_slice())?,
             isrs: List::new(alloc),
             alarms: List::new(alloc),
             tables: List::new(alloc),
@@ -106,14 +100,22 @@ impl<'e> Reader<'e, CoreText<'e>, Core> for CorePlanner<'_> {
     }
 }
 
-fn cores_of(alloc: Global, objects: &Objects, cores: &[CoreText]) -> Result<List<Core>, Refusal>
+fn cores_of<'e>(
+    alloc: Global,
+    objects: &Objects<'e>,
+    cores: &'e [CoreText<'e>],
+) -> Result<List<Core>, Refusal>
     ensures { Gives (λ x. x) result (value_if (list_all (is_core_known objects.now.declared) cores.now && list_all is_core_script cores.now) (map (core_plan objects.now.declared) cores.now)) }
 {
-    read_each(alloc, &CorePlanner { objects }, cores)
+    read_each(alloc, objects, cores)
 }
 
 /// The plan of a text. `Unfit` where a name in it names nothing, or an operation is not in good form.
-pub fn plan_of(alloc: Global, text: &ConfigText, objects: &Objects) -> Result<Plan, Refusal>
+pub fn plan_of<'e>(
+    alloc: Global,
+    text: &'e ConfigText<'e>,
+    objects: &Objects<'e>,
+) -> Result<Plan, Refusal>
     requires objects { objects.now.declared ≡ declarations text.now.cores }
     ensures { Gives (λ x. x) result (value_if (are_known text.now && are_operations text.now) (plan_of text.now)) }
 {

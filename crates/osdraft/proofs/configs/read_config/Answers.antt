@@ -1,10 +1,12 @@
-use Rattle.std.proofs.Common.{◌≡◌, ◌∙◌, ap, sym, subst, List}
+use Rattle.std.proofs.Common.{◌≡◌, ◌∙◌, [], ◌∷◌, ap, sym, subst, List}
 use Rattle.std.proofs.lemmas.Result.{err_from_is_err_and}
+use Rattle.std.specs.Option.{option_map_or}
 use Rattle.osplan.specs.declared.faults.ConfFault.{ConfFault}
+use Rattle.osplan.specs.declared.faults.ConfFault.TheVariants.{NotJson, Shape}
 use Rattle.osread.specs.Faults.{failing}
 use Rattle.osdraft.specs.Check.{tests_of}
 use Rattle.osread.specs.Faults.{IsLeast}
-use Rattle.osdraft.specs.Meaning.{faults_of, faults_of_data, faults_of_shape}
+use Rattle.osdraft.specs.Meaning.{faults_of, faults_of_data}
 use Rattle.osdraft.proofs.Least.{least-tests_of}
 use Rattle.osdraft.proofs.Bounds.{bounds-of}
 use Rattle.osdraft.proofs.Sayings.{expressible-of}
@@ -12,7 +14,7 @@ use Rattle.osdraft.proofs.configs.read_config.Goals as goal
 
 pub returns-in_err-plan_if_faultless-clause-fault : goal.returns-in_err-plan_if_faultless-clause-fault
 returns-in_err-plan_if_faultless-clause-fault c =
-    let faults : faults_of c.args.text.now ≡ failing (tests_of c.in_ok-text.text) = ap faults_of_data c.in_ok-value.ensures ∙ ap faults_of_shape c.in_ok-text.ensures.shape in
+    let faults : faults_of c.args.text.now ≡ failing (tests_of c.in_ok-text.text) = ap (λ o. option_map_or faults_of_data o (NotJson ∷ [])) c.in_ok-value.ensures ∙ ap (λ o. option_map_or (λ t. failing (tests_of t)) o (Shape ∷ [])) c.in_ok-text.ensures.shape in
     let p = err_from_is_err_and c.from_residual-in_err-plan_if_faultless.result c.from_residual-in_err-plan_if_faultless.ensures.1 in
     rw (p.1, p.2) (λ known. subst (λ (fs : List ConfFault). IsLeast c.in_err-plan_if_faultless.field-0.0 fs) (sym faults) (least-tests_of c.in_ok-text.text c.in_err-plan_if_faultless.field-0.0 (c.in_err-plan_if_faultless.ensures.fault known)))
 
