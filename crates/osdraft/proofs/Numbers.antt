@@ -1,5 +1,5 @@
 -- The plan of a text has the text's numbers, which are within their limits.
-use Rattle.std.proofs.Common.{inl, inr, ◌≡◌, ℕ, ◌||◌, ◌≤◌, Bool, true, false, cond, eqb, leb, List, [], ◌∷◌, length, map, Option, Some, None, refl, sym, ap, ◌∙◌, arith}
+use Rattle.std.proofs.Common.{inl, inr, ◌≡◌, ℕ, ◌||◌, ◌≤◌, Bool, true, false, cond, eqb, leb, List, [], ◌∷◌, map, Option, Some, None, refl, sym, ap, ◌∙◌, arith}
 use Rattle.std.specs.List.{list_all, list_any}
 use Rattle.std.proofs.lemmas.Bool.{and_parts, and_from, le-leb, true≢false, eq-eqb, eqb-true, or_cases, or_left, or_right}
 use Rattle.std.proofs.lemmas.List.{length-map}
@@ -55,17 +55,8 @@ cap-byte s h = is-byte _ _ s.cap (and_parts _ (is_between _ _ s.cap) (and_parts 
 
 -- ---- lists of tests
 
-pub tasks_mapped : (tasks : List TaskText) → list_all (λ task. is_task_within (task_sizes task)) tasks ≡ list_all is_task_within (map task_sizes tasks)
-tasks_mapped tasks = sym (list_all-map is_task_within task_sizes tasks)
-
-pub tasks_counted : (tasks : List TaskText) → length tasks ≡ length (map task_sizes tasks)
-tasks_counted tasks = sym (length-map tasks task_sizes)
-
-pub cores_mapped : (cores : List CoreText) → list_all (λ core. is_core_within (core_sizes core)) cores ≡ list_all is_core_within (map core_sizes cores)
-cores_mapped cores = sym (list_all-map is_core_within core_sizes cores)
-
-pub cores_counted : (cores : List CoreText) → length cores ≡ length (map core_sizes cores)
-cores_counted cores = sym (length-map cores core_sizes)
+-- what is asked of each element's numbers, and how many there are
+pub ruleset mapped = (list_all-map, length-map)
 
 pub any-map : {X Y : Type 0} (p : Y → Bool) (f : X → Y) (xs : List X) → list_any p (map f xs) ≡ list_any (λ x. p (f x)) xs
 any-map p f [] = refl
@@ -113,14 +104,14 @@ module _ (objects : List Declaration) where
       rw (
         number,
         map-back number_of number_id is_start (λ n low. is-byte _ _ n low (omega arith)) core.start bytes.1,
-        map-same limits.task_sizes (task_plan objects) task_sizes (λ task. is_task_within (task_sizes task)) task-numbers core.tasks (tasks_mapped core.tasks ∙ bytes.2),
+        map-same limits.task_sizes (task_plan objects) task_sizes (λ task. is_task_within (task_sizes task)) task-numbers core.tasks (sym (list_all-map is_task_within task_sizes core.tasks) ∙ bytes.2),
       ) refl
 
 abbrev pub is_inside : CoreText → Bool
 is_inside core = is_core_within (core_sizes core)
 
 pub cores-inside : (t : ConfigText) → is_within (sizes_of t) ≡ true → list_all is_inside t.cores ≡ true
-cores-inside t h = cores_mapped t.cores ∙ (and_parts _ (list_all is_core_within (map core_sizes t.cores)) h).1
+cores-inside t h = sym (list_all-map is_core_within core_sizes t.cores) ∙ (and_parts _ (list_all is_core_within (map core_sizes t.cores)) h).1
 
 pub plan-numbers : (t : ConfigText) → is_within (sizes_of t) ≡ true → limits.sizes_of (plan_of t) ≡ sizes_of t
 plan-numbers t h =

@@ -54,7 +54,7 @@ fn are_tasks_within(tasks: &[TaskText]) -> bool
     tasks.iter().all(is_task_within)
 }
 
-#[tactic(auto, using(crate::proofs::Numbers::tasks_mapped, crate::proofs::Numbers::tasks_counted))]
+#[tactic(auto, using(crate::proofs::Numbers::mapped))]
 fn is_core_within(core: &CoreText) -> bool
     ensures { result ≡ is_core_within (core_sizes core.now) }
 {
@@ -71,7 +71,7 @@ fn are_cores_within(cores: &[CoreText]) -> bool
 }
 
 /// Whether the text is of version 1 and within the limits.
-#[tactic(auto, using(crate::proofs::Numbers::cores_mapped, crate::proofs::Numbers::cores_counted))]
+#[tactic(auto, using(crate::proofs::Numbers::mapped))]
 pub fn is_within(text: &ConfigText) -> bool
     ensures { result ≡ is_text_within text.now }
 {
