@@ -4,7 +4,6 @@ use Rattle.std.specs.List.{list_all, slice_split, join_with_byte}
 use Rattle.std.proofs.lemmas.Bool.{and_parts, and_from, not-true, not_from_false, true≢false, cases_Bool}
 use Rattle.std.proofs.lemmas.List.Folds.{list_all-append}
 use Rattle.std.proofs.Math.Dec.{eqb-suc-zero}
-use Rattle.osforms.specs.Form.{words_of}
 
 -- no byte of the text is this one
 abbrev pub has_none : ℕ → List ℕ → Bool
@@ -16,18 +15,18 @@ split-lone byte (x ∷ xs) none =
     let parts = and_parts (not (x == byte)) (has_none byte xs) none in
     rw (not-true _ parts.0, split-lone byte xs parts.1) refl
 
-pub split-cut : (byte : ℕ) (text rest : List ℕ) → (byte == byte) ≡ true → has_none byte text ≡ true → slice_split (λ b. b == byte) (text ++ byte ∷ rest) ≡ text ∷ slice_split (λ b. b == byte) rest
+split-cut : (byte : ℕ) (text rest : List ℕ) → (byte == byte) ≡ true → has_none byte text ≡ true → slice_split (λ b. b == byte) (text ++ byte ∷ rest) ≡ text ∷ slice_split (λ b. b == byte) rest
 split-cut byte [] rest same none = rw same refl
 split-cut byte (x ∷ xs) rest same none =
     let parts = and_parts (not (x == byte)) (has_none byte xs) none in
     rw (not-true _ parts.0, split-cut byte xs rest same parts.1) refl
 
 -- what was joined is cut into its pieces
-pub words-joined : (w : List ℕ) (ws : List (List ℕ)) → list_all (has_none 32) (w ∷ ws) ≡ true → words_of (join_with_byte 32 (w ∷ ws)) ≡ w ∷ ws
-words-joined w [] none = split-lone 32 w (and_parts (has_none 32 w) true none).0
-words-joined w (v ∷ ws) none =
-    let parts = and_parts (has_none 32 w) (list_all (has_none 32) (v ∷ ws)) none in
-    split-cut 32 w (join_with_byte 32 (v ∷ ws)) refl parts.0 ∙ ap (λ words. w ∷ words) (words-joined v ws parts.1)
+pub split-joined : (byte : ℕ) (w : List ℕ) (ws : List (List ℕ)) → (byte == byte) ≡ true → list_all (has_none byte) (w ∷ ws) ≡ true → slice_split (λ b. b == byte) (join_with_byte byte (w ∷ ws)) ≡ w ∷ ws
+split-joined byte w [] same none = split-lone byte w (and_parts (has_none byte w) true none).0
+split-joined byte w (v ∷ ws) same none =
+    let parts = and_parts (has_none byte w) (list_all (has_none byte) (v ∷ ws)) none in
+    split-cut byte w (join_with_byte byte (v ∷ ws)) same parts.0 ∙ ap (λ words. w ∷ words) (split-joined byte v ws same parts.1)
 
 -- a byte that is neither in the words nor the space is not in the whole
 pub joined-none : (byte : ℕ) (w : List ℕ) (ws : List (List ℕ)) → (32 == byte) ≡ false → list_all (has_none byte) (w ∷ ws) ≡ true → has_none byte (join_with_byte 32 (w ∷ ws)) ≡ true

@@ -8,7 +8,7 @@ use Rattle.oscript.specs.declared.rows.Verb.{Verb}
 use Rattle.oscript.specs.declared.rows.Arg.{Arg}
 use Rattle.oscript.specs.Rows.{word_of, kinds_of}
 use Rattle.osforms.specs.Form.{arg_of, and_then_rest, args_of, form_of_verb, form_of_words, form_of, arg_text, form_text}
-use Rattle.osforms.proofs.Joining.{has_none, words-joined, joined-none, joined-some, all-none}
+use Rattle.osforms.proofs.Joining.{has_none, split-joined, joined-none, joined-some, all-none}
 use Rattle.osforms.proofs.KindTexts.{mapped, arg_of-none, ReadsBack, IsApart}
 use Rattle.osforms.proofs.Rows.{is-row}
 
@@ -59,7 +59,7 @@ space-apart = record { digit = refl; part = refl; minus = refl; invalid = refl; 
 -- What the text of a form says is that form.
 pub form_text-back : (v : Verb) (args : List (Arg (List ℕ))) → AreArgs (kinds_of v) args → form_of (form_text (v, args)) ≡ Some (v, args)
 form_text-back v args are =
-    ap form_of_words (words-joined (word_of v) (map arg_text args) (words-none 32 space-apart v args are))
+    ap form_of_words (split-joined 32 (word_of v) (map arg_text args) refl (words-none 32 space-apart v args are))
     ∙ ap (option_and_then (form_of_verb (map arg_text args))) (is-row v).0
     ∙ ap (option_map (λ as_. (v, as_))) (args-back (kinds_of v) args are)
 

@@ -1,10 +1,10 @@
 -- Texts that are joined by a byte, and cut at it again.
 use Rattle.std.proofs.Common.{◌≡◌, ℕ, true, not, ◌==◌, List, [], ◌∷◌, ◌++◌, length, map, Result, Ok, Err, IfOk, refl, sym, ap, ◌∙◌}
-use Rattle.std.specs.List.{list_all, slice_split, join_by, flat_map}
+use Rattle.std.specs.List.{list_all, slice_split, join_by, join_with_byte, flat_map}
 use Rattle.std.proofs.lemmas.Bool.{and_parts, not-true}
 use Rattle.std.proofs.lemmas.List.{append-nil}
-use Rattle.std.proofs.lemmas.List.Folds.{flat_map-map}
-use Rattle.osforms.proofs.Joining.{has_none, split-lone, split-cut, some-more}
+use Rattle.std.proofs.lemmas.List.Folds.{flat_map-map, list_all-map}
+use Rattle.osforms.proofs.Joining.{has_none, split-joined, some-more}
 use Rattle.osread.specs.Reading.{parts_of}
 
 pub if_ok : {A E : Type 0} (P Q : A → Type 0) (r : Result A E) → IfOk r P → ((x : A) → P x → Q x) → IfOk r Q
@@ -22,15 +22,12 @@ join-pieces f g separator xs ys e = join-map f separator xs ∙ ap (join_by (λ 
 
 -- ---- cutting
 
--- what was joined is cut into its pieces
-split-pieces : {X : Type 0} (f : X → List ℕ) (byte : ℕ) (x : X) (xs : List X) → (byte == byte) ≡ true → list_all (λ x. has_none byte (f x)) (x ∷ xs) ≡ true
-    → slice_split (λ b. b == byte) (f x ++ flat_map (λ y. byte ∷ f y) xs) ≡ map f (x ∷ xs)
-split-pieces f byte x [] same none = ap (slice_split (λ b. b == byte)) (append-nil (f x)) ∙ split-lone byte (f x) (and_parts (has_none byte (f x)) true none).0
-split-pieces f byte x (y ∷ ys) same none =
-    let parts = and_parts (has_none byte (f x)) (list_all (λ x. has_none byte (f x)) (y ∷ ys)) none in
-    split-cut byte (f x) (f y ++ flat_map (λ z. byte ∷ f z) ys) same parts.0 ∙ ap (λ parts. f x ∷ parts) (split-pieces f byte y ys same parts.1)
+-- joined by one byte in either form
+join-bytes : {X : Type 0} (f : X → List ℕ) (byte : ℕ) (x : X) (xs : List X) → join_by f (byte ∷ []) (x ∷ xs) ≡ join_with_byte byte (map f (x ∷ xs))
+join-bytes f byte x [] = append-nil (f x)
+join-bytes f byte x (y ∷ ys) = ap (λ text. f x ++ byte ∷ text) (join-bytes f byte y ys)
 
--- and so are the parts of the text, which is not empty where a piece is not
+-- a text that is not empty, as where a piece is not, has the parts that are cut
 not-empty : (byte : ℕ) (text : List ℕ) → not (length text == 0) ≡ true → parts_of byte text ≡ slice_split (λ b. b == byte) text
 not-empty byte text some = rw (not-true _ some) refl
 
@@ -38,4 +35,4 @@ pub parts-pieces : {X : Type 0} (f : X → List ℕ) (byte : ℕ) (xs : List X) 
     → parts_of byte (join_by f (byte ∷ []) xs) ≡ map f xs
 parts-pieces f byte [] same none some = refl
 parts-pieces f byte (x ∷ xs) same none some =
-    not-empty byte (f x ++ flat_map (λ y. byte ∷ f y) xs) (some-more (f x) _ (and_parts (not (length (f x) == 0)) _ some).0) ∙ split-pieces f byte x xs same none
+    not-empty byte (f x ++ flat_map (λ y. byte ∷ f y) xs) (some-more (f x) _ (and_parts (not (length (f x) == 0)) _ some).0) ∙ ap (slice_split (λ b. b == byte)) (join-bytes f byte x xs) ∙ split-joined byte (f x) (map f xs) same (list_all-map (has_none byte) f (x ∷ xs) ∙ none)

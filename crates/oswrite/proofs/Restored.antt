@@ -4,6 +4,7 @@ use Rattle.std.specs.List.{list_all, flat_map}
 use Rattle.std.specs.Option.{option_map_or}
 use Rattle.std.proofs.lemmas.Bool.{and_parts, ltb-true, true≢false, eqb-true}
 use Rattle.std.proofs.lemmas.List.Folds.{list_all-map}
+use Rattle.std.proofs.lemmas.Option.{slice_get_within}
 use Rattle.osbase.specs.declared.references.CoreId.{CoreId}
 use Rattle.osbase.specs.declared.objects.ObjectKind.{ObjectKind}
 use Rattle.osbase.specs.declared.objects.Place.{Place}
@@ -37,7 +38,7 @@ use Rattle.osdraft.proofs.Numbers.{IsByte, byte-small, is-byte, task-bytes, core
 use Rattle.oswrite.proofs.Joining.{parts-pieces}
 use Rattle.oswrite.proofs.Formed.{task_at, names-task, named-form}
 use Rattle.oswrite.proofs.Reshaped.{task_said, core_said, config_said, modes-are, mode-is}
-use Rattle.oswrite.proofs.Placed.{get-inside, placed}
+use Rattle.oswrite.proofs.Placed.{placed}
 
 id-back : (id : CoreId) → IsByte (number_of id) → number_id (number_of id) ≡ id
 id-back id byte = ap (λ (number : Option ℕ). let i : CoreId = record { number = unwrap_or number 0 } in i) byte
@@ -104,7 +105,7 @@ module _ (plan : Plan) (inside : IsTrue (limits.is_within_limits plan)) (sayable
       let number : found.0.id.number ≡ target.core.number = eqb-true found.0.id.number target.core.number (find-holds (λ (c : Core). same_core c.id target.core) plan.cores found.0 found.2.core_is) in
       let low : found.0.id.number < 16 = ltb-true found.0.id.number 16 fits.number in
       let few : length found.0.tasks ≤ 32 = fits.tasks in
-      let index : target.index < length found.0.tasks = get-inside found.0.tasks target.index found.1 found.2.task_is in
+      let index : target.index < length found.0.tasks = slice_get_within found.0.tasks target.index found.1 found.2.task_is in
       ap (place_of objects ObjectKind.Task) found.2.name_is ∙ placed plan plan.cores target found.0 found.1 (distinct-back plan.modes (flat_map said.object_names plan.cores) parts.names) (omega arith) (omega arith) found.2.core_is found.2.task_is
 
   -- there is no alarm
