@@ -2,4 +2,5 @@ pub mod Parsed
 pub mod Printing
 pub mod Reading
 pub mod Standings
+pub mod Unread
 pub mod Usage

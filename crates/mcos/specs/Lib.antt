@@ -3,6 +3,8 @@ pub mod CommandLine
 pub mod Faults
 pub mod Files
 pub mod Jobs
+pub mod Outputs
 pub mod Performs
+pub mod Program
 pub mod Runs
 pub mod Texts

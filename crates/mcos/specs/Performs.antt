@@ -1,5 +1,6 @@
 -- What a job comes to: what it prints, its status, and the fault that it tells. [own]
-use Rattle.std.specs.Prelude.{◌≡◌, ◌≢◌, ℕ, Bool, true, false, Option, Result, Ok, Err, List, IsSome, IfOk, IfErr}
+use Rattle.std.specs.Prelude.{◌≡◌, ◌≢◌, ℕ, Bool, true, false, Option, Result, Ok, Err, List, IsSome, IfErr}
+use Rattle.std.specs.Result.{IsOkAnd}
 use Rattle.osbase.specs.declared.references.CoreId.{CoreId}
 use Rattle.osbase.specs.declared.turns.CoreStimuli.{CoreStimuli}
 use Rattle.osbase.specs.declared.turns.Report.{Report}
@@ -21,6 +22,7 @@ use Rattle.oswrite.specs.Writing.{config_text}
 use Rattle.mcos.specs.Checks.{check_text, cut_text}
 use Rattle.mcos.specs.Faults.{fault_text}
 use Rattle.mcos.specs.Jobs.{path_in}
+use Rattle.mcos.specs.Outputs.{Sends}
 use Rattle.mcos.specs.Runs.{HasSchedule, IsGiven, IsPlayed, run_text}
 use Rattle.mcos.specs.Texts.{File, IsAsked, IsFaultOf, Means, text_at}
 
@@ -39,6 +41,10 @@ outcome_status Stalled = 3
 abbrev pub status_of : Result Outcome Fault → ℕ
 status_of (Ok outcome) = outcome_status outcome
 status_of (Err fault) = 1
+
+-- An output that no fault ends. [own]
+abbrev pub NoFault : (List ℕ → Outcome → Type 0) → List ℕ → Result Outcome Fault → Type 0
+NoFault Output text ending = IsOkAnd ending (Output text)
 
 -- ---- run
 
@@ -107,10 +113,11 @@ IsNotCut plan core fault = fault ≢ Text NoMemory → (is_separate plan core �
 
 -- ---- any job
 
-abbrev pub IsOutput : Job → List File → List ℕ → Outcome → Type 0
-IsOutput (Run config stimuli schedule) files text outcome = IsRunOutput (path_in schedule) files text outcome
-IsOutput (Check config) files text outcome = IsCheckOutput files text outcome
-IsOutput (Cut config core) files text outcome = IsCutOutput core files text outcome
+-- What a job prints, and how it ends then: with an outcome, or by a fault that is told behind the text.
+abbrev pub IsOutput : Job → List File → List ℕ → Result Outcome Fault → Type 0
+IsOutput (Run config stimuli schedule) files = NoFault (IsRunOutput (path_in schedule) files)
+IsOutput (Check config) files = NoFault (IsCheckOutput files)
+IsOutput (Cut config core) files = NoFault (IsCutOutput core files)
 
 abbrev pub HasNoOutput : Job → List File → Fault → Type 0
 HasNoOutput (Run config stimuli schedule) files fault = HasNoReports (path_in schedule) files fault
@@ -119,22 +126,22 @@ HasNoOutput (Cut config core) files fault = HasNoCut core files fault
 
 -- ---- printing
 
--- A result without its value.
-abbrev pub done : {A E : Type 0} → Result A E → Result Unit E
-done (Ok x) = Ok tt
-done (Err e) = Err e
+-- A write that is refused is the fault, whatever was to come.
+abbrev pub unless_refused : Result Unit SinkFailed → Result Outcome Fault → Result Outcome Fault
+unless_refused (Ok done) ending = ending
+unless_refused (Err refused) ending = Err WriteFailed
 
 -- A text is printed: all of it, or a beginning of it up to the first write that fails. [own]
-pub record Prints {S : Type 0} (taken : S → Option (List ℕ)) (failed : S → ℕ) (old new : S) (text : List ℕ) (outcome : Outcome)
-    (result : Result Outcome Fault) : Type 0 where
-  pub ok : IfOk result (λ answered. answered ≡ outcome)
-  pub fault : IfErr result (λ fault. fault ≡ WriteFailed)
-  pub writes : Writes taken failed old new text (done result)
+pub record Prints {S : Type 0} (taken : S → Option (List ℕ)) (failed : S → ℕ) (old new : S) (text : List ℕ)
+    (ending result : Result Outcome Fault) : Type 0 where
+  pub written : Result Unit SinkFailed
+  pub writes : Writes taken failed old new text written
+  pub result_is : result ≡ unless_refused written ending
 
 -- There is an output, which is printed; or there is none, for a fault, and nothing is printed. [own]
-pub data Comes {S : Type 0} (taken : S → Option (List ℕ)) (failed : S → ℕ) (old new : S) (Output : List ℕ → Outcome → Type 0)
-    (NoOutput : Fault → Type 0) (result : Result Outcome Fault) : Type 0 where
-  prints : (text : List ℕ) (outcome : Outcome) → Output text outcome → Prints taken failed old new text outcome result →
+pub data Comes {S : Type 0} (taken : S → Option (List ℕ)) (failed : S → ℕ) (old new : S)
+    (Output : List ℕ → Result Outcome Fault → Type 0) (NoOutput : Fault → Type 0) (result : Result Outcome Fault) : Type 0 where
+  prints : (text : List ℕ) (ending : Result Outcome Fault) → Output text ending → Prints taken failed old new text ending result →
       Comes taken failed old new Output NoOutput result
   fails : (fault : Fault) → result ≡ Err fault → NoOutput fault → new ≡ old → Comes taken failed old new Output NoOutput result
 
@@ -143,13 +150,29 @@ abbrev pub Tells : {S : Type 0} → (S → Option (List ℕ)) → (S → ℕ) �
 Tells taken failed old new (Ok outcome) = new ≡ old
 Tells taken failed old new (Err fault) = (written : Result Unit SinkFailed) × Writes taken failed old new (fault_text fault) written
 
--- What a job comes to: what it prints, its status, and what is told of a fault. `files` are those that were read, of so many as
--- there are. [own]
-pub record Performs {O E : Type 0} (out_taken : O → Option (List ℕ)) (out_failed : O → ℕ) (old_out new_out : O)
+-- What was printed is sent off, whatever was to come. [own]
+pub record SendsOff {S : Type 0} (taken sent : S → Option (List ℕ)) (failed : S → ℕ) (old new : S)
+    (ending result : Result Outcome Fault) : Type 0 where
+  pub flushed : Result Unit SinkFailed
+  pub sends : Sends taken sent failed old new flushed
+  pub result_is : result ≡ unless_refused flushed ending
+
+-- What was printed is sent off, a fault is told, and the status is that of the outcome or of the fault. [own]
+pub record Closes {O E : Type 0} (out_taken out_sent : O → Option (List ℕ)) (out_failed : O → ℕ) (old_out new_out : O)
+    (err_taken : E → Option (List ℕ)) (err_failed : E → ℕ) (old_err new_err : E) (ending : Result Outcome Fault)
+    (status : ℕ) : Type 0 where
+  pub result : Result Outcome Fault
+  pub sends : SendsOff out_taken out_sent out_failed old_out new_out ending result
+  pub tells : Tells err_taken err_failed old_err new_err result
+  pub status_is : status ≡ status_of result
+
+-- What a job comes to: what it prints, which is sent off, its status, and what is told of a fault. `files` are those that were
+-- read, of so many as there are; `printed` is the output before it was sent off. [own]
+pub record Performs {O E : Type 0} (out_taken out_sent : O → Option (List ℕ)) (out_failed : O → ℕ) (old_out new_out : O)
     (err_taken : E → Option (List ℕ)) (err_failed : E → ℕ) (old_err new_err : E) (job : Job) (files : List File)
     (count status : ℕ) : Type 0 where
+  pub printed : O
   pub result : Result Outcome Fault
-  pub comes : Comes out_taken out_failed old_out new_out (IsOutput job files) (HasNoOutput job files) result
+  pub comes : Comes out_taken out_failed old_out printed (IsOutput job files) (HasNoOutput job files) result
   pub asked : IfErr result (IsAsked count files)
-  pub status_is : status ≡ status_of result
-  pub tells : Tells err_taken err_failed old_err new_err result
+  pub closes : Closes out_taken out_sent out_failed printed new_out err_taken err_failed old_err new_err result status

@@ -6,7 +6,7 @@ ghost use Rattle.std.specs.List.{flat_map};
 ghost use Rattle.ostrace.specs.Taken.{Writes};
 ghost use Rattle.osworld.specs.Fits.{ids_of};
 ghost use Rattle.mcos.specs.Checks.{check_text, core_text, line_at, standing_line, standing_word};
-ghost use Rattle.mcos.specs.Performs.{Comes, HasNoConfig, HasNoCut, IsCheckOutput, IsCutOf, IsCutOutput, IsNotCut};
+ghost use Rattle.mcos.specs.Performs.{Comes, HasNoConfig, HasNoCut, IsCheckOutput, IsCutOf, IsCutOutput, IsNotCut, NoFault};
 ghost use Rattle.mcos.specs.Texts.{IsAsked};
 
 use crate::faults::Fault;
@@ -26,10 +26,11 @@ pub fn check<S: Source, O: Sink>(
     out: &mut O,
 ) -> Result<Outcome, Fault>
     requires { O.failed out.old < 2 ^ 48 }
-    ensures comes { Comes O.taken O.failed out.old out.new (IsCheckOutput (S.files source.new))
+    ensures comes { Comes O.taken O.failed out.old out.new (NoFault (IsCheckOutput (S.files source.new)))
         (HasNoConfig (S.files source.new)) result }
     ensures ahead { length (S.files source.new) ≤ max (length (S.files source.old)) 1 }
     ensures asked { IfErr result (IsAsked (S.count source.new) (S.files source.new)) }
+    ensures count { S.count source.new ≡ S.count source.old }
     ensures known { S.known source.new ≡ S.known source.old }
 {
     let config = config_in(alloc, source)?;
@@ -96,10 +97,11 @@ pub fn cut_out<S: Source, O: Sink>(
     out: &mut O,
 ) -> Result<Outcome, Fault>
     requires { O.failed out.old < 2 ^ 48 }
-    ensures comes { Comes O.taken O.failed out.old out.new (IsCutOutput core (S.files source.new))
+    ensures comes { Comes O.taken O.failed out.old out.new (NoFault (IsCutOutput core (S.files source.new)))
         (HasNoCut core (S.files source.new)) result }
     ensures ahead { length (S.files source.new) ≤ max (length (S.files source.old)) 1 }
     ensures asked { IfErr result (IsAsked (S.count source.new) (S.files source.new)) }
+    ensures count { S.count source.new ≡ S.count source.old }
     ensures known { S.known source.new ≡ S.known source.old }
 {
     let config = config_in(alloc, source)?;

@@ -1,6 +1,6 @@
 //! Files on disk as bytes.
 
-ghost use Rattle.std.specs.Prelude.{◌≡◌, ◌+◌, [], IfOk, None, vec_len};
+ghost use Rattle.std.specs.Prelude.{◌≡◌, ◌+◌, [], IfOk, None, length};
 ghost use Rattle.mcos.specs.declared.files.TheConstants.{LARGEST, PIECE};
 ghost use Rattle.mcos.specs.Files.{HasFewerThan};
 
@@ -75,7 +75,7 @@ impl<'r, 'p, R: Files + AllocGlobal> Source for Paths<'r, 'p, R> {
 
     ghost known = { λ _. None };
 
-    ghost count = { λ paths. vec_len paths.paths };
+    ghost count = { λ paths. length paths.paths.items };
 
     fn read(&mut self, at: usize) -> Result<(), AllocError> {
         if at < self.files.len() {

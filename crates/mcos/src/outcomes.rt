@@ -3,12 +3,14 @@
 ghost use Rattle.std.specs.Prelude.{◌≡◌};
 ghost use Rattle.mcos.specs.Performs.{outcome_of, outcome_status};
 
-/// The exit status of a job that was done; of a run, in which every started core ended. The status of
-/// wrong usage is `clap`'s 2.
+/// The exit status of a job that was done; of a run, in which every started core ended.
 pub const DONE: u8 = 0;
 
 /// The exit status of a fault.
 pub const FAULT: u8 = 1;
+
+/// The exit status of words that are no job, as `clap` has it.
+pub const USAGE: u8 = 2;
 
 /// The exit status of a run in which a started core did not end.
 pub const STALLED: u8 = 3;

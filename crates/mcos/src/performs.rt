@@ -1,27 +1,26 @@
 //! Doing a job over its files' bytes.
 
 ghost use Rattle.std.specs.Prelude.{◌≡◌, ◌<◌, ◌≤◌, ◌^◌, IfErr, length, max};
-ghost use Rattle.ostrace.specs.Taken.{Writes};
-ghost use Rattle.mcos.specs.Faults.{fault_text};
 ghost use Rattle.mcos.specs.Jobs.{paths_of};
 ghost use Rattle.mcos.specs.Performs.{Comes, HasNoOutput, IsOutput, Performs};
 ghost use Rattle.mcos.specs.Runs.{StopsAtFaults};
 ghost use Rattle.mcos.specs.Texts.{IsAsked};
 
 use crate::checks::{check, cut_out};
+use crate::endings::close;
 use crate::faults::Fault;
 use crate::jobs::Job;
-use crate::outcomes::{FAULT, Outcome};
+use crate::outcomes::Outcome;
+use crate::outputs::Output;
 use crate::runs::run;
 use crate::sources::{Given, Source};
-use itoa::Buffer;
-use ostrace::{Sink, WriteFailed, write_all};
+use ostrace::Sink;
 use std::alloc::Global;
 
 /// Does the job over its files' bytes, one entry for each of its paths, `None` where the file could not be
-/// read; prints to `out`, or a fault's line to `err`, and answers the exit status: 0 done, 1 fault,
-/// 3 stalled.
-pub fn perform<O: Sink, E: Sink>(
+/// read; prints to `out` and sends that off, tells a fault by its line to `err`, and answers the exit status:
+/// 0 done, 1 fault, 3 stalled.
+pub fn perform<O: Output, E: Sink>(
     alloc: Global,
     job: &Job,
     files: &[Option<Vec<u8>>],
@@ -30,7 +29,7 @@ pub fn perform<O: Sink, E: Sink>(
 ) -> u8
     requires out { O.failed out.old < 2 ^ 48 }
     requires err { E.failed err.old < 2 ^ 48 }
-    ensures { Performs O.taken O.failed out.old out.new E.taken E.failed err.old err.new
+    ensures { Performs O.taken O.sent O.failed out.old out.new E.taken E.failed err.old err.new
         job.now files.now (length files.now) result }
 {
     perform_from(alloc, job, &mut Given { files }, out, err)
@@ -38,7 +37,7 @@ pub fn perform<O: Sink, E: Sink>(
 
 /// The same over files that are read one by one: each is judged before the next is read, none is read
 /// after one with a fault or without a path of the job, and none is called unreadable that was not read.
-pub fn perform_from<S: Source, O: Sink, E: Sink>(
+pub fn perform_from<S: Source, O: Output, E: Sink>(
     alloc: Global,
     job: &Job,
     source: &mut S,
@@ -47,19 +46,15 @@ pub fn perform_from<S: Source, O: Sink, E: Sink>(
 ) -> u8
     requires out { O.failed out.old < 2 ^ 48 }
     requires err { E.failed err.old < 2 ^ 48 }
-    ensures performs { Performs O.taken O.failed out.old out.new E.taken E.failed err.old err.new
+    ensures performs { Performs O.taken O.sent O.failed out.old out.new E.taken E.failed err.old err.new
         job.now (S.files source.new) (S.count source.new) result }
     ensures stops { StopsAtFaults (length (S.files source.old)) (S.files source.new) }
     ensures named { length (S.files source.new) ≤ max (length (S.files source.old)) (length (paths_of job.now)) }
+    ensures count { S.count source.new ≡ S.count source.old }
     ensures known { S.known source.new ≡ S.known source.old }
 {
-    match print(alloc, job, source, out) {
-        Ok(outcome) => outcome.status(),
-        Err(fault) => {
-            let _ = fault_line(err, fault);
-            FAULT
-        }
-    }
+    let result = print(alloc, job, source, out);
+    close(result, out, err)
 }
 
 // Prints what the job asks for.
@@ -75,6 +70,7 @@ fn print<S: Source, O: Sink>(
     ensures stops { StopsAtFaults (length (S.files source.old)) (S.files source.new) }
     ensures named { length (S.files source.new) ≤ max (length (S.files source.old)) (length (paths_of job.now)) }
     ensures asked { IfErr result (IsAsked (S.count source.new) (S.files source.new)) }
+    ensures count { S.count source.new ≡ S.count source.old }
     ensures known { S.known source.new ≡ S.known source.old }
 {
     match job {
@@ -82,17 +78,4 @@ fn print<S: Source, O: Sink>(
         Job::Check { .. } => check(alloc, source, out),
         Job::Cut { core, .. } => cut_out(alloc, *core, source, out),
     }
-}
-
-/// Prints the line of a fault.
-pub fn fault_line<E: Sink>(err: &mut E, fault: Fault) -> Result<(), WriteFailed>
-    requires { E.failed err.old < 2 ^ 48 }
-    ensures { Writes E.taken E.failed err.old err.new (fault_text fault) result }
-{
-    write_all(err, b"fault ")?;
-    let mut digits = Buffer::new();
-    write_all(err, digits.format(fault.number()).as_bytes())?;
-    write_all(err, b" ")?;
-    write_all(err, fault.name().as_bytes())?;
-    write_all(err, b"\n")
 }

@@ -21,6 +21,7 @@ pub fn config_in<S: Source>(alloc: Global, source: &mut S) -> Result<Config, Fau
         → IsFaultOf faults_of (text_at (S.files source.new) 0) fault) }
     ensures ahead { length (S.files source.new) ≤ max (length (S.files source.old)) 1 }
     ensures asked { IfErr result (IsAsked (S.count source.new) (S.files source.new)) }
+    ensures count { S.count source.new ≡ S.count source.old }
     ensures known { S.known source.new ≡ S.known source.old }
 {
     source.read(0)?;
@@ -42,6 +43,7 @@ pub fn stimuli_in<S: Source>(
     ensures ahead { length (S.files source.new) ≤ max (length (S.files source.old)) 2 }
     ensures keeps { KeepsBelow 1 (S.files source.old) (S.files source.new) }
     ensures asked { IfErr result (IsAsked (S.count source.new) (S.files source.new)) }
+    ensures count { S.count source.new ≡ S.count source.old }
     ensures known { S.known source.new ≡ S.known source.old }
 {
     source.read(1)?;
@@ -62,6 +64,7 @@ pub fn schedule_in<S: Source>(
     ensures ahead { length (S.files source.new) ≤ max (length (S.files source.old)) 3 }
     ensures keeps { KeepsBelow 2 (S.files source.old) (S.files source.new) }
     ensures asked { IfErr result (IsAsked (S.count source.new) (S.files source.new)) }
+    ensures count { S.count source.new ≡ S.count source.old }
     ensures known { S.known source.new ≡ S.known source.old }
 {
     source.read(2)?;

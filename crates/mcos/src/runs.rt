@@ -1,11 +1,11 @@
 //! A run: its files are read and played, and the reports printed.
 
-ghost use Rattle.std.specs.Prelude.{◌≡◌, ◌+◌, ◌<◌, ◌≤◌, ◌^◌, ◌++◌, IfOk, IfErr, Some, length, max};
+ghost use Rattle.std.specs.Prelude.{◌≡◌, ◌+◌, ◌<◌, ◌≤◌, ◌^◌, ◌++◌, IfOk, IfErr, Ok, Some, length, max};
 ghost use Rattle.ostrace.specs.Taken.{Writes};
 ghost use Rattle.ostrace.specs.Trace.{text_of};
 ghost use Rattle.osworld.specs.Ends.{have_all_ended};
 ghost use Rattle.mcos.specs.Jobs.{listed, path_in};
-ghost use Rattle.mcos.specs.Performs.{Comes, HasNoReports, IsRunOutput, Prints, outcome_of};
+ghost use Rattle.mcos.specs.Performs.{Comes, HasNoReports, IsRunOutput, NoFault, Prints, outcome_of};
 ghost use Rattle.mcos.specs.Runs.{IsPlayed, StopsAtFaults, last_line, run_text};
 ghost use Rattle.mcos.specs.Texts.{IsAsked};
 
@@ -28,11 +28,12 @@ pub fn run<S: Source, O: Sink>(
     out: &mut O,
 ) -> Result<Outcome, Fault>
     requires { O.failed out.old < 2 ^ 48 }
-    ensures comes { Comes O.taken O.failed out.old out.new (IsRunOutput (path_in schedule.entry) (S.files source.new))
+    ensures comes { Comes O.taken O.failed out.old out.new (NoFault (IsRunOutput (path_in schedule.entry) (S.files source.new)))
         (HasNoReports (path_in schedule.entry) (S.files source.new)) result }
     ensures stops { StopsAtFaults (length (S.files source.old)) (S.files source.new) }
     ensures named { length (S.files source.new) ≤ max (length (S.files source.old)) (2 + length (listed (path_in schedule.entry))) }
     ensures asked { IfErr result (IsAsked (S.count source.new) (S.files source.new)) }
+    ensures count { S.count source.new ≡ S.count source.old }
     ensures known { S.known source.new ≡ S.known source.old }
 {
     let (config, reports) = play(alloc, schedule, source)?;
@@ -50,6 +51,7 @@ fn play<S: Source>(
     ensures stops { StopsAtFaults (length (S.files source.old)) (S.files source.new) }
     ensures named { length (S.files source.new) ≤ max (length (S.files source.old)) (2 + length (listed (path_in schedule.entry))) }
     ensures asked { IfErr result (IsAsked (S.count source.new) (S.files source.new)) }
+    ensures count { S.count source.new ≡ S.count source.old }
     ensures known { S.known source.new ≡ S.known source.old }
 {
     let config = config_in(alloc, source)?;
@@ -68,7 +70,7 @@ fn play<S: Source>(
 fn print<O: Sink>(config: &Config, out: &mut O, reports: &[Report]) -> Result<Outcome, Fault>
     requires { O.failed out.old < 2 ^ 48 }
     ensures { Prints O.taken O.failed out.old out.new (run_text config.now reports.now)
-        (outcome_of (have_all_ended config.now reports.now)) result }
+        (Ok (outcome_of (have_all_ended config.now reports.now))) result }
 {
     let ended = have_all_ended(config.plan(), reports);
     write_run(config, out, reports, ended)?;

@@ -1,15 +1,17 @@
 //! The worked examples, from text to text.
 
 mod limits;
+mod program;
 
-ghost use Rattle.std.specs.Prelude.{None, Some, length};
+ghost use Rattle.std.specs.Prelude.{◌≡◌, None, Some, length};
 
 use crate::jobs::{Job, job_of};
+use crate::outputs::Output;
 use crate::performs::{perform, perform_from};
 use crate::sources::{Given, Source};
 use osbase::CoreId;
 use osconf::{Config, read_config, read_stimuli};
-use ostrace::{MemorySink, Sink, write_reports};
+use ostrace::{MemorySink, Sink, WriteFailed, write_reports};
 use osworld::{default_schedule, run_world};
 use std::alloc::{AllocError, Global};
 use std::process::Abort;
@@ -511,12 +513,27 @@ fn other_words_are_wrong_usage(rt: HostRuntime) -> Result<(), Fail> {
     Ok(())
 }
 
-/// Takes one byte at a time, and fails at one of the writes.
+/// Takes one byte at a time, and fails at one of the writes or at the flush behind them.
 #[derive(Drop)]
 struct Failing {
     bytes: Vec<u8>,
     left: u64,
     failed: u64,
+    /// How many of the bytes are sent off.
+    sent: usize,
+}
+
+impl Failing {
+    fn new(bytes: Vec<u8>, left: u64) -> Failing
+        ensures { result.failed ≡ 0 }
+    {
+        Failing {
+            bytes,
+            left,
+            failed: 0,
+            sent: 0,
+        }
+    }
 }
 
 impl Sink for Failing {
@@ -537,17 +554,26 @@ impl Sink for Failing {
     }
 }
 
+impl Output for Failing {
+    ghost sent = { λ _. None };
+
+    fn flush(&mut self) -> Result<(), WriteFailed> {
+        if self.left == 0 {
+            self.failed += 1;
+            return Err(WriteFailed);
+        }
+        self.sent = self.bytes.len();
+        Ok(())
+    }
+}
+
 #[test]
 fn a_refused_write_leaves_a_beginning_of_the_text(rt: HostRuntime) -> Result<(), Fail> {
     let alloc = rt.alloc();
     let texts = [Some(BORDER), Some(r#"{"0":"op op","1":"op op"}"#)];
     let files = files_of(alloc, texts.as_slice())?;
     for left in 0..210 {
-        let mut out = Failing {
-            bytes: Vec::new(alloc),
-            left,
-            failed: 0,
-        };
+        let mut out = Failing::new(Vec::new(alloc), left);
         let mut err = MemorySink::new(Vec::new(alloc));
         let status = perform(alloc, &run_of(None), files.as_slice(), &mut out, &mut err);
         if status == 1 {
@@ -555,6 +581,7 @@ fn a_refused_write_leaves_a_beginning_of_the_text(rt: HostRuntime) -> Result<(),
             assert_eq!(rt; out.bytes.len() as u64, left);
         } else {
             assert_eq!(rt; out.bytes.as_slice(), BORDER_TRACE.as_bytes());
+            assert_eq!(rt; out.sent, BORDER_TRACE.len());
         }
         assert!(rt; BORDER_TRACE.as_bytes().starts_with(out.bytes.as_slice()));
     }

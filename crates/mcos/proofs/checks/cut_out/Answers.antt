@@ -1,4 +1,4 @@
-use Rattle.std.proofs.Common.{refl}
+use Rattle.std.proofs.Common.{Ok, refl}
 use Rattle.std.proofs.lemmas.Result.{err_from_is_err_and}
 use Rattle.mcos.specs.declared.outcomes.Outcome.TheVariants.{Done}
 use Rattle.mcos.specs.Checks.{cut_text}
@@ -21,12 +21,12 @@ returns-in_err-write_line-clause-comes g c =
     let p = err_from_is_err_and c.from_residual-in_err-write_line.result c.from_residual-in_err-write_line.ensures.1 in
     let plan = c.in_ok-config.config in
     let text = c.in_ok-text.ensures.ok in
-    prints (cut_text plan c.args.core) Done (record { plan = plan; config = c.in_ok-config.ensures.ok; separate = text.0; text_is = refl; outcome_is = refl })
-    (Prints-failed _ _ _ _ (cut_text plan c.args.core) Done _ p.0 _ p.1 p.2 (rw (c.as_str.ensures.value, text.1) at c.in_err-write_line.ensures))
+    prints (cut_text plan c.args.core) (Ok Done) (record { plan = plan; config = c.in_ok-config.ensures.ok; separate = text.0; text_is = refl; outcome_is = refl })
+    (Prints-failed _ _ _ _ (cut_text plan c.args.core) (Ok Done) _ p.0 _ p.1 p.2 (rw (c.as_str.ensures.value, text.1) at c.in_err-write_line.ensures))
 
 pub returns-clause-comes : goal.returns-clause-comes
 returns-clause-comes g c =
     let plan = c.in_ok-config.config in
     let text = c.in_ok-text.ensures.ok in
-    prints (cut_text plan c.args.core) Done (record { plan = plan; config = c.in_ok-config.ensures.ok; separate = text.0; text_is = refl; outcome_is = refl })
-    (Prints-ok _ _ _ _ (cut_text plan c.args.core) Done _ (rw (c.as_str.ensures.value, text.1) at c.in_ok-write_line.ensures))
+    prints (cut_text plan c.args.core) (Ok Done) (record { plan = plan; config = c.in_ok-config.ensures.ok; separate = text.0; text_is = refl; outcome_is = refl })
+    (Prints-ok _ _ _ _ (cut_text plan c.args.core) (Ok Done) _ (rw (c.as_str.ensures.value, text.1) at c.in_ok-write_line.ensures))

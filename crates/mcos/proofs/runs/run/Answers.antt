@@ -1,4 +1,4 @@
-use Rattle.std.proofs.Common.{refl}
+use Rattle.std.proofs.Common.{Ok, refl}
 use Rattle.std.proofs.lemmas.Result.{err_from_is_err_and}
 use Rattle.osworld.specs.Ends.{have_all_ended}
 use Rattle.mcos.specs.Performs.{fails, outcome_of, prints}
@@ -14,6 +14,6 @@ pub returns-clause-comes : goal.returns-clause-comes
 returns-clause-comes g c =
     let plan = c.in_ok-config.config in
     let reports = c.in_ok-config.reports.items in
-    prints (run_text plan reports) (outcome_of (have_all_ended plan reports))
+    prints (run_text plan reports) (Ok (outcome_of (have_all_ended plan reports)))
     (record { plan = plan; reports = reports; played = c.in_ok-config.ensures.ok; text_is = refl; outcome_is = refl })
     (rw c.as_slice.ensures.value at c.print.ensures)

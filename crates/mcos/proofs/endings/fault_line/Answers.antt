@@ -3,7 +3,7 @@ use Rattle.std.specs.Fmt.{decimal}
 use Rattle.ostrace.proofs.Writing.{Writes-begun, Writes-then, Wrote-all}
 use Rattle.mcos.specs.declared.faults.Fault.{Fault}
 use Rattle.mcos.specs.Faults.{fault_name, fault_number}
-use Rattle.mcos.proofs.performs.fault_line.Goals as goal
+use Rattle.mcos.proofs.endings.fault_line.Goals as goal
 
 -- what stands behind the number, behind the word `fault `, ..
 abbrev named : Fault → List ℕ
