@@ -7,7 +7,7 @@ use Rattle.mcos.specs.declared.faults.Fault.TheVariants.{Text, Unreadable}
 use Rattle.mcos.specs.declared.jobs.Job.{Job}
 use Rattle.mcos.specs.declared.jobs.Job.TheVariants.{Run, Check, Cut}
 use Rattle.mcos.specs.Jobs.{paths_of}
-use Rattle.mcos.specs.Performs.{Closes, HasNoOutput, Performs, fails}
+use Rattle.mcos.specs.Performs.{HasNoOutput, IsPrinted, fails}
 use Rattle.mcos.specs.Texts.{File}
 
 -- a job has as many paths as it lists
@@ -22,12 +22,6 @@ no_memory-output (Cut config core) files = λ apart. absurd (apart refl)
 readable : Text NoMemory ≡ Unreadable → ⊥
 readable e = cc
 
-module _ {O E : Type 0} (out_taken out_sent : O → Option (List ℕ)) (out_failed : O → ℕ) (old_out new_out : O) (err_taken : E → Option (List ℕ)) (err_failed : E → ℕ) (old_err new_err : E) where
-  pub Performs-unread : (job : Job) (count status : ℕ) → Closes out_taken out_sent out_failed old_out new_out err_taken err_failed old_err new_err (Err (Text NoMemory)) status → Performs out_taken out_sent out_failed old_out new_out err_taken err_failed old_err new_err job [] count status
-  Performs-unread job count status closed = record {
-    printed = old_out;
-    result = Err (Text NoMemory);
-    comes = fails (Text NoMemory) refl (no_memory-output job []) refl;
-    asked = λ e. absurd (readable e);
-    closes = closed;
-  }
+-- where there was no memory for the paths, nothing was read and nothing printed
+pub unread : {O : Type 0} (taken : O → Option (List ℕ)) (failed : O → ℕ) (out : O) (job : Job) (count : ℕ) → IsPrinted taken failed out out job [] count (Err (Text NoMemory))
+unread taken failed out job count = record { comes = fails (Text NoMemory) refl (no_memory-output job []) refl; asked = λ e. absurd (readable e) }

@@ -22,7 +22,6 @@ use Rattle.oswrite.specs.Writing.{config_text}
 use Rattle.mcos.specs.Checks.{check_text, cut_text}
 use Rattle.mcos.specs.Faults.{fault_text}
 use Rattle.mcos.specs.Jobs.{path_in}
-use Rattle.mcos.specs.Outputs.{Sends}
 use Rattle.mcos.specs.Runs.{HasSchedule, IsGiven, IsPlayed, run_text}
 use Rattle.mcos.specs.Texts.{File, IsAsked, IsFaultOf, Means, text_at}
 
@@ -150,29 +149,17 @@ abbrev pub Tells : {S : Type 0} → (S → Option (List ℕ)) → (S → ℕ) �
 Tells taken failed old new (Ok outcome) = new ≡ old
 Tells taken failed old new (Err fault) = (written : Result Unit SinkFailed) × Writes taken failed old new (fault_text fault) written
 
--- What was printed is sent off, whatever was to come. [own]
-pub record SendsOff {S : Type 0} (taken sent : S → Option (List ℕ)) (failed : S → ℕ) (old new : S)
-    (ending result : Result Outcome Fault) : Type 0 where
-  pub flushed : Result Unit SinkFailed
-  pub sends : Sends taken sent failed old new flushed
-  pub result_is : result ≡ unless_refused flushed ending
+-- What a job over these files comes to, of so many as there are: it prints what it asks for, or has a fault. [own]
+pub record IsPrinted {O : Type 0} (taken : O → Option (List ℕ)) (failed : O → ℕ) (old new : O) (job : Job) (files : List File)
+    (count : ℕ) (result : Result Outcome Fault) : Type 0 where
+  pub comes : Comes taken failed old new (IsOutput job files) (HasNoOutput job files) result
+  pub asked : IfErr result (IsAsked count files)
 
--- What was printed is sent off, a fault is told, and the status is that of the outcome or of the fault. [own]
-pub record Closes {O E : Type 0} (out_taken out_sent : O → Option (List ℕ)) (out_failed : O → ℕ) (old_out new_out : O)
-    (err_taken : E → Option (List ℕ)) (err_failed : E → ℕ) (old_err new_err : E) (ending : Result Outcome Fault)
-    (status : ℕ) : Type 0 where
-  pub result : Result Outcome Fault
-  pub sends : SendsOff out_taken out_sent out_failed old_out new_out ending result
-  pub tells : Tells err_taken err_failed old_err new_err result
-  pub status_is : status ≡ status_of result
-
--- What a job comes to: what it prints, which is sent off, its status, and what is told of a fault. `files` are those that were
--- read, of so many as there are; `printed` is the output before it was sent off. [own]
-pub record Performs {O E : Type 0} (out_taken out_sent : O → Option (List ℕ)) (out_failed : O → ℕ) (old_out new_out : O)
+-- What a job comes to: what it prints, its status, and what is told of a fault. [own]
+pub record Performs {O E : Type 0} (out_taken : O → Option (List ℕ)) (out_failed : O → ℕ) (old_out new_out : O)
     (err_taken : E → Option (List ℕ)) (err_failed : E → ℕ) (old_err new_err : E) (job : Job) (files : List File)
     (count status : ℕ) : Type 0 where
-  pub printed : O
   pub result : Result Outcome Fault
-  pub comes : Comes out_taken out_failed old_out printed (IsOutput job files) (HasNoOutput job files) result
-  pub asked : IfErr result (IsAsked count files)
-  pub closes : Closes out_taken out_sent out_failed printed new_out err_taken err_failed old_err new_err result status
+  pub printed : IsPrinted out_taken out_failed old_out new_out job files count result
+  pub tells : Tells err_taken err_failed old_err new_err result
+  pub status_is : status ≡ status_of result

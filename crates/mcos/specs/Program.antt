@@ -15,8 +15,35 @@ use Rattle.mcos.specs.declared.program.NoWords.{NoWords}
 use Rattle.mcos.specs.declared.program.NoWords.TheVariants as none
 use Rattle.mcos.specs.CommandLine.{AsksFor, command_line}
 use Rattle.mcos.specs.Jobs.{paths_of}
-use Rattle.mcos.specs.Performs.{Closes, Performs, Prints}
+use Rattle.mcos.specs.Outputs.{Sends}
+use Rattle.mcos.specs.Performs.{IsPrinted, Prints, Tells, status_of, unless_refused}
 use Rattle.mcos.specs.Texts.{File}
+
+-- What was printed is sent off, whatever was to come. [own]
+pub record SendsOff {S : Type 0} (taken sent : S → Option (List ℕ)) (failed : S → ℕ) (old new : S)
+    (ending result : Result Outcome Fault) : Type 0 where
+  pub flushed : Result Unit SinkFailed
+  pub sends : Sends taken sent failed old new flushed
+  pub result_is : result ≡ unless_refused flushed ending
+
+-- What was printed is sent off, a fault is told, and the status is that of the outcome or of the fault. [own]
+pub record Closes {O E : Type 0} (out_taken out_sent : O → Option (List ℕ)) (out_failed : O → ℕ) (old_out new_out : O)
+    (err_taken : E → Option (List ℕ)) (err_failed : E → ℕ) (old_err new_err : E) (ending : Result Outcome Fault)
+    (status : ℕ) : Type 0 where
+  pub result : Result Outcome Fault
+  pub sends : SendsOff out_taken out_sent out_failed old_out new_out ending result
+  pub tells : Tells err_taken err_failed old_err new_err result
+  pub status_is : status ≡ status_of result
+
+-- What a job comes to over these files: what it prints, which is sent off, its status, and what is told of a fault; `printed`
+-- is the output before it was sent off. [own]
+pub record Does {O E : Type 0} (out_taken out_sent : O → Option (List ℕ)) (out_failed : O → ℕ) (old_out new_out : O)
+    (err_taken : E → Option (List ℕ)) (err_failed : E → ℕ) (old_err new_err : E) (job : Job) (files : List File)
+    (count status : ℕ) : Type 0 where
+  pub printed : O
+  pub result : Result Outcome Fault
+  pub prints : IsPrinted out_taken out_failed old_out printed job files count result
+  pub closes : Closes out_taken out_sent out_failed printed new_out err_taken err_failed old_err new_err result status
 
 -- A mistake in the words is told by a text, as far as it can be written, and the status is 2. [own]
 pub record IsMistaken {S : Type 0} (taken : S → Option (List ℕ)) (failed : S → ℕ) (old new : S) (text : List ℕ)
@@ -52,7 +79,7 @@ module _ {O E : Type 0} (out_taken out_sent : O → Option (List ℕ)) (out_fail
   -- The words ask for a job, which is done; or for none, by a kind of error that they have. [own]
   pub data Obeys (words : List (List ℕ)) (status : ℕ) : Type 0 where
     does : (job : Job) (files : List File) → AsksFor words job →
-        Performs out_taken out_sent out_failed old_out new_out err_taken err_failed old_err new_err job files
+        Does out_taken out_sent out_failed old_out new_out err_taken err_failed old_err new_err job files
         (length (paths_of job)) status → Obeys words status
     refuses : (kind : ErrorKind) → (kind ≡ OutOfMemory) ⊎ IsAmong kind (fault_of command_line words) → Refuses kind status →
         Obeys words status

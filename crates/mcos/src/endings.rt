@@ -3,7 +3,8 @@
 ghost use Rattle.std.specs.Prelude.{◌≡◌, ◌<◌, ◌≤◌, ◌^◌};
 ghost use Rattle.ostrace.specs.Taken.{Writes};
 ghost use Rattle.mcos.specs.Faults.{fault_text};
-ghost use Rattle.mcos.specs.Performs.{Closes, SendsOff, Tells, status_of};
+ghost use Rattle.mcos.specs.Performs.{Tells, status_of};
+ghost use Rattle.mcos.specs.Program.{Closes, SendsOff};
 
 use crate::faults::Fault;
 use crate::outcomes::{FAULT, Outcome};

@@ -8,8 +8,8 @@ ghost use Rattle.osplan.specs.declared.faults.ConfFault.TheVariants.{NoMemory};
 ghost use Rattle.mcos.specs.declared.outcomes.Outcome.TheVariants.{Done};
 ghost use Rattle.mcos.specs.declared.program.NoWords.TheVariants as no_words;
 ghost use Rattle.mcos.specs.Jobs.{paths_of};
-ghost use Rattle.mcos.specs.Performs.{Performs, Prints};
-ghost use Rattle.mcos.specs.Program.{Answers, IsMistaken, Obeys, Refuses, is_request, no_text};
+ghost use Rattle.mcos.specs.Performs.{IsPrinted, Prints};
+ghost use Rattle.mcos.specs.Program.{Answers, Does, IsMistaken, Obeys, Refuses, is_request, no_text};
 ghost use Rattle.mcos.specs.Texts.{File};
 
 use crate::endings::close;
@@ -18,7 +18,7 @@ use crate::files::Paths;
 use crate::jobs::{Job, job_of};
 use crate::outcomes::{Outcome, USAGE};
 use crate::outputs::Output;
-use crate::performs::perform_from;
+use crate::performs::print_from;
 use clap::Error;
 use clap::error::ErrorKind;
 use ostrace::{Sink, write_all};
@@ -92,13 +92,24 @@ fn do_job<R: Files + AllocGlobal, O: Output, E: Sink>(
 ) -> u8
     requires out { O.failed out.old < 2 ^ 48 }
     requires err { E.failed err.old < 2 ^ 48 }
-    ensures { (files : List File) × Performs O.taken O.sent O.failed out.old out.new E.taken E.failed err.old err.new
+    ensures { (files : List File) × Does O.taken O.sent O.failed out.old out.new E.taken E.failed err.old err.new
         job.now files (length (paths_of job.now)) result }
 {
-    match job.paths(rt.alloc()) {
-        Ok(paths) => perform_from(rt.alloc(), job, &mut Paths::new(rt, paths), out, err),
-        Err(refused) => close(Err(Fault::from(refused)), out, err),
-    }
+    let result = print_job(rt, job, out);
+    close(result, out, err)
+}
+
+// Prints what the job asks for, over the files at its paths.
+fn print_job<R: Files + AllocGlobal, O: Sink>(
+    rt: &R,
+    job: &Job,
+    out: &mut O,
+) -> Result<Outcome, Fault>
+    requires { O.failed out.old < 2 ^ 48 }
+    ensures { (files : List File) × IsPrinted O.taken O.failed out.old out.new job.now files (length (paths_of job.now)) result }
+{
+    let paths = job.paths(rt.alloc())?;
+    print_from(rt.alloc(), job, &mut Paths::new(rt, paths), out)
 }
 
 // Prints the help or the version that is asked for in place of a job, or tells a mistake in the words, each in

@@ -7,7 +7,7 @@ ghost use Rattle.std.specs.Prelude.{◌≡◌, None, Some, length};
 
 use crate::jobs::{Job, job_of};
 use crate::outputs::Output;
-use crate::performs::{perform, perform_from};
+use crate::performs::{perform, print_from};
 use crate::sources::{Given, Source};
 use osbase::CoreId;
 use osconf::{Config, read_config, read_stimuli};
@@ -459,8 +459,7 @@ fn no_file_is_read_after_one_with_a_fault(rt: HostRuntime) -> Result<(), Fail> {
             count: 0,
         };
         let mut out = MemorySink::new(Vec::new(alloc));
-        let mut err = MemorySink::new(Vec::new(alloc));
-        perform_from(alloc, job, &mut source, &mut out, &mut err);
+        let _ = print_from(alloc, job, &mut source, &mut out);
         assert_eq!(rt; source.count, *count);
     }
     Ok(())

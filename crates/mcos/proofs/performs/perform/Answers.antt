@@ -6,4 +6,11 @@ same : {A : Type 0} (x y : A) → Some x ≡ Some y → x ≡ y
 same x y e = cc
 
 pub returns : goal.returns
-returns g c = rw (same _ _ c.perform_from.ensures.known) at c.perform_from.ensures.performs
+returns g c =
+    let files = same _ _ c.print_from-result.ensures.known in
+    record {
+      result = c.print_from-result.result;
+      printed = record { comes = rw files at c.print_from-result.ensures.comes; asked = rw files at c.print_from-result.ensures.asked };
+      tells = c.tell.ensures.told;
+      status_is = c.tell.ensures.status;
+    }

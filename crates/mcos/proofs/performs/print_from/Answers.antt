@@ -1,5 +1,5 @@
 use Rattle.mcos.specs.Runs.{at_config}
-use Rattle.mcos.proofs.performs.print.Goals as goal
+use Rattle.mcos.proofs.performs.print_from.Goals as goal
 
 pub returns-in-Run-clause-comes : goal.returns-in-Run-clause-comes
 returns-in-Run-clause-comes g c = rw c.in-Run.is c.run.ensures.comes
