@@ -114,6 +114,7 @@ fn are_numbers_distinct(cores: &[CoreText]) -> bool
     true
 }
 
+/// Whether every core number stands once, and every name.
 pub fn is_each_once(text: &ConfigText, objects: &Objects) -> bool
     requires objects { objects.now.declared ≡ declarations text.now.cores }
     ensures { result ≡ is_each_once text.now }

@@ -1,4 +1,4 @@
--- An operation's text and what it says, there and back: by its row, and by the kinds of its arguments.
+-- An operation's form, its text and the form that the text has: by its row, and by the kinds of its arguments.
 use Rattle.std.proofs.Common.{◌≡◌, ℕ, ◌==◌, not, true, false, Option, Some, None, option_map, option_and_then, List, [], ◌∷◌, length, map, refl, ap, ◌∙◌}
 use Rattle.std.specs.List.{list_all}
 use Rattle.std.proofs.lemmas.Bool.{and_parts, and_from}
@@ -26,7 +26,7 @@ args_of-none byte (k ∷ ks) (w ∷ ws) args apart e =
     let m = both (arg_of k w) (args_of ks ws) args e in
     and_from _ _ (arg_of-none byte k w m.0 apart m.2) (args_of-none byte ks ws m.1 apart m.3)
 
--- ---- steps
+-- ---- options
 
 pub chained : {A B : Type 0} (f : A → Option B) (o : Option A) (b : B) → option_and_then f o ≡ Some b → (a : A) × (o ≡ Some a) × (f a ≡ Some b)
 chained f None b e = cc
