@@ -1,5 +1,5 @@
 -- A job and its paths, and what it comes to where there was no memory for them.
-use Rattle.std.proofs.Common.{◌≡◌, ◌∙◌, ℕ, List, [], Option, Err, ap, map, refl, sym, length}
+use Rattle.std.proofs.Common.{◌≡◌, ◌∙◌, ℕ, List, [], Option, Err, ap, arith, map, refl, sym, length}
 use Rattle.std.proofs.lemmas.List.{length-map}
 use Rattle.std.specs.Borrow.{Bor}
 use Rattle.osplan.specs.declared.faults.ConfFault.TheVariants.{NoMemory}
@@ -7,7 +7,9 @@ use Rattle.mcos.specs.declared.faults.Fault.TheVariants.{Text, Unreadable}
 use Rattle.mcos.specs.declared.jobs.Job.{Job}
 use Rattle.mcos.specs.declared.jobs.Job.TheVariants.{Run, Check, Cut}
 use Rattle.mcos.specs.Jobs.{paths_of}
-use Rattle.mcos.specs.Performs.{HasNoOutput, IsPrinted, fails}
+use Rattle.mcos.specs.Performs.{HasNoOutput, fails}
+use Rattle.mcos.specs.Program.{PrintsJob}
+use Rattle.mcos.specs.Runs.{at_config}
 use Rattle.mcos.specs.Texts.{File}
 
 -- a job has as many paths as it lists
@@ -23,5 +25,10 @@ readable : Text NoMemory ≡ Unreadable → ⊥
 readable e = cc
 
 -- where there was no memory for the paths, nothing was read and nothing printed
-pub unread : {O : Type 0} (taken : O → Option (List ℕ)) (failed : O → ℕ) (out : O) (job : Job) (count : ℕ) → IsPrinted taken failed out out job [] count (Err (Text NoMemory))
-unread taken failed out job count = record { comes = fails (Text NoMemory) refl (no_memory-output job []) refl; asked = λ e. absurd (readable e) }
+pub unread : {O : Type 0} (taken : O → Option (List ℕ)) (failed : O → ℕ) (out : O) (job : Job) → PrintsJob taken failed out out job (Err (Text NoMemory))
+unread taken failed out job = record {
+  files = [];
+  prints = record { comes = fails (Text NoMemory) refl (no_memory-output job []) refl; asked = λ e. absurd (readable e) };
+  stops = at_config (omega arith);
+  named = omega arith;
+}

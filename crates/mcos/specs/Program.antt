@@ -1,5 +1,5 @@
 -- What the program answers to its words. [own]
-use Rattle.std.specs.Prelude.{◌≡◌, ◌≢◌, ◌⊎◌, ℕ, Bool, true, false, Option, Result, Ok, Err, List, codes, length}
+use Rattle.std.specs.Prelude.{◌≡◌, ◌≢◌, ◌≤◌, ◌⊎◌, ℕ, Bool, true, false, Option, Result, Ok, Err, List, codes, length}
 use Rattle.clap.specs.Words.{IsAmong, fault_of}
 use Rattle.clap.specs.declared.error.kind.ErrorKind.{ErrorKind}
 use Rattle.clap.specs.declared.error.kind.ErrorKind.TheVariants.{DisplayHelp, DisplayVersion, OutOfMemory}
@@ -17,6 +17,7 @@ use Rattle.mcos.specs.CommandLine.{AsksFor, command_line}
 use Rattle.mcos.specs.Jobs.{paths_of}
 use Rattle.mcos.specs.Outputs.{Sends}
 use Rattle.mcos.specs.Performs.{IsPrinted, Prints, Tells, status_of, unless_refused}
+use Rattle.mcos.specs.Runs.{StopsAtFaults}
 use Rattle.mcos.specs.Texts.{File}
 
 -- What was printed is sent off, whatever was to come. [own]
@@ -35,14 +36,20 @@ pub record Closes {O E : Type 0} (out_taken out_sent : O → Option (List ℕ)) 
   pub tells : Tells err_taken err_failed old_err new_err result
   pub status_is : status ≡ status_of result
 
--- What a job comes to over these files: what it prints, which is sent off, its status, and what is told of a fault; `printed`
--- is the output before it was sent off. [own]
-pub record Does {O E : Type 0} (out_taken out_sent : O → Option (List ℕ)) (out_failed : O → ℕ) (old_out new_out : O)
-    (err_taken : E → Option (List ℕ)) (err_failed : E → ℕ) (old_err new_err : E) (job : Job) (files : List File)
-    (count status : ℕ) : Type 0 where
+-- What a job prints from the files at its paths: none is read behind one with a fault, and no other. [own]
+pub record PrintsJob {O : Type 0} (taken : O → Option (List ℕ)) (failed : O → ℕ) (old new : O) (job : Job)
+    (result : Result Outcome Fault) : Type 0 where
+  pub files : List File
+  pub prints : IsPrinted taken failed old new job files (length (paths_of job)) result
+  pub stops : StopsAtFaults 0 files
+  pub named : length files ≤ length (paths_of job)
+
+-- A job is done: it is printed, and what was printed is sent off. [own]
+pub record DoesJob {O E : Type 0} (out_taken out_sent : O → Option (List ℕ)) (out_failed : O → ℕ) (old_out new_out : O)
+    (err_taken : E → Option (List ℕ)) (err_failed : E → ℕ) (old_err new_err : E) (job : Job) (status : ℕ) : Type 0 where
   pub printed : O
   pub result : Result Outcome Fault
-  pub prints : IsPrinted out_taken out_failed old_out printed job files count result
+  pub prints : PrintsJob out_taken out_failed old_out printed job result
   pub closes : Closes out_taken out_sent out_failed printed new_out err_taken err_failed old_err new_err result status
 
 -- A mistake in the words is told by a text, as far as it can be written, and the status is 2. [own]
@@ -78,9 +85,8 @@ module _ {O E : Type 0} (out_taken out_sent : O → Option (List ℕ)) (out_fail
 
   -- The words ask for a job, which is done; or for none, by a kind of error that they have. [own]
   pub data Obeys (words : List (List ℕ)) (status : ℕ) : Type 0 where
-    does : (job : Job) (files : List File) → AsksFor words job →
-        Does out_taken out_sent out_failed old_out new_out err_taken err_failed old_err new_err job files
-        (length (paths_of job)) status → Obeys words status
+    does : (job : Job) → AsksFor words job →
+        DoesJob out_taken out_sent out_failed old_out new_out err_taken err_failed old_err new_err job status → Obeys words status
     refuses : (kind : ErrorKind) → (kind ≡ OutOfMemory) ⊎ IsAmong kind (fault_of command_line words) → Refuses kind status →
         Obeys words status
 

@@ -1,16 +1,14 @@
 //! The program: what it answers to its words.
 
-ghost use Rattle.std.specs.Prelude.{◌≡◌, ◌≢◌, ◌<◌, ◌^◌, IfErr, List, Ok, OnOk, length, map};
+ghost use Rattle.std.specs.Prelude.{◌≡◌, ◌≢◌, ◌<◌, ◌^◌, IfErr, Ok, OnOk, map};
 ghost use Rattle.std.specs.Result.{result_map_both};
 ghost use Rattle.clap.specs.Words.{kind_of};
 ghost use Rattle.clap.specs.declared.error.kind.ErrorKind.TheVariants.{OutOfMemory};
 ghost use Rattle.osplan.specs.declared.faults.ConfFault.TheVariants.{NoMemory};
 ghost use Rattle.mcos.specs.declared.outcomes.Outcome.TheVariants.{Done};
 ghost use Rattle.mcos.specs.declared.program.NoWords.TheVariants as no_words;
-ghost use Rattle.mcos.specs.Jobs.{paths_of};
-ghost use Rattle.mcos.specs.Performs.{IsPrinted, Prints};
-ghost use Rattle.mcos.specs.Program.{Answers, Does, IsMistaken, Obeys, Refuses, is_request, no_text};
-ghost use Rattle.mcos.specs.Texts.{File};
+ghost use Rattle.mcos.specs.Performs.{Prints};
+ghost use Rattle.mcos.specs.Program.{Answers, DoesJob, IsMistaken, Obeys, PrintsJob, Refuses, is_request};
 
 use crate::endings::close;
 use crate::faults::Fault;
@@ -92,8 +90,7 @@ fn do_job<R: Files + AllocGlobal, O: Output, E: Sink>(
 ) -> u8
     requires out { O.failed out.old < 2 ^ 48 }
     requires err { E.failed err.old < 2 ^ 48 }
-    ensures { (files : List File) × Does O.taken O.sent O.failed out.old out.new E.taken E.failed err.old err.new
-        job.now files (length (paths_of job.now)) result }
+    ensures { DoesJob O.taken O.sent O.failed out.old out.new E.taken E.failed err.old err.new job.now result }
 {
     let result = print_job(rt, job, out);
     close(result, out, err)
@@ -106,7 +103,7 @@ fn print_job<R: Files + AllocGlobal, O: Sink>(
     out: &mut O,
 ) -> Result<Outcome, Fault>
     requires { O.failed out.old < 2 ^ 48 }
-    ensures { (files : List File) × IsPrinted O.taken O.failed out.old out.new job.now files (length (paths_of job.now)) result }
+    ensures { PrintsJob O.taken O.failed out.old out.new job.now result }
 {
     let paths = job.paths(rt.alloc())?;
     print_from(rt.alloc(), job, &mut Paths::new(rt, paths), out)

@@ -1,4 +1,4 @@
-use Rattle.std.proofs.Common.{◌≡◌, ◌∙◌, [], Err, ap, length}
+use Rattle.std.proofs.Common.{◌≡◌, ◌∙◌, Err, ap, arith, length}
 use Rattle.std.proofs.lemmas.Result.{err_from_is_err_and}
 use Rattle.mcos.specs.Jobs.{paths_of}
 use Rattle.mcos.proofs.Unread.{unread, listed_paths}
@@ -7,10 +7,16 @@ use Rattle.mcos.proofs.program.print_job.Goals as goal
 pub returns-in_err-paths : goal.returns-in_err-paths
 returns-in_err-paths g c =
     let p = err_from_is_err_and c.from_residual.result c.from_residual.ensures.1 in
-    ([], rw (p.1 ∙ ap Err p.2) (unread _ _ c.args.out.now c.args.job.now _))
+    rw (p.1 ∙ ap Err p.2) (unread _ _ c.args.out.now c.args.job.now)
 
 pub returns : goal.returns
 returns g c =
     let count : length c.print_from.new.source.paths.items ≡ length (paths_of c.args.job.now) =
     c.print_from.ensures.count ∙ rw c.new.ensures.paths (listed_paths c.in_ok-paths.paths.items c.args.job.now c.in_ok-paths.ensures) in
-    (c.print_from.new.source.files.items, record { comes = c.print_from.ensures.comes; asked = rw count at c.print_from.ensures.asked })
+    let none : length c.new.result.files.items ≡ 0 = ap length c.new.ensures.files in
+    record {
+      files = c.print_from.new.source.files.items;
+      prints = record { comes = c.print_from.ensures.comes; asked = rw count at c.print_from.ensures.asked };
+      stops = rw none at c.print_from.ensures.stops;
+      named = omega (arith, none, c.print_from.ensures.named);
+    }
