@@ -580,7 +580,6 @@ fn a_refused_write_leaves_a_beginning_of_the_text(rt: HostRuntime) -> Result<(),
             assert_eq!(rt; out.bytes.len() as u64, left);
         } else {
             assert_eq!(rt; out.bytes.as_slice(), BORDER_TRACE.as_bytes());
-            assert_eq!(rt; out.sent, BORDER_TRACE.len());
         }
         assert!(rt; BORDER_TRACE.as_bytes().starts_with(out.bytes.as_slice()));
     }
