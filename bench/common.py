@@ -137,6 +137,6 @@ def write(folder, name, value):
     return path
 
 
-def stimuli_of(count):
+def stimuli_of(count, cores=CORES):
     """So many `op` for each core."""
-    return {str(core): " ".join(["op"] * count) for core in range(CORES)}
+    return {str(core): " ".join(["op"] * count) for core in range(cores)}

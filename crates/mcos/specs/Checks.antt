@@ -1,5 +1,5 @@
 -- What `check` and `cut` print. [own]
-use Rattle.std.specs.Prelude.{ℕ, ◌++◌, if◌then◌else◌, is_some, List, [], codes}
+use Rattle.std.specs.Prelude.{ℕ, ◌++◌, if◌then◌else◌, is_some, List, [], ◌∷◌, codes}
 use Rattle.std.specs.Fmt.{decimal}
 use Rattle.std.specs.List.{flat_map}
 use Rattle.osbase.specs.declared.references.CoreId.{CoreId}
@@ -8,6 +8,7 @@ use Rattle.osplan.specs.declared.separate.Standing.{Standing}
 use Rattle.osplan.specs.declared.separate.Standing.TheVariants.{Separate, Bound, Off}
 use Rattle.osplan.specs.Separate.{cut_of, standing_of}
 use Rattle.osplan.specs.View.{core_of}
+use Rattle.ostrace.specs.Trace.{line_end, spaced}
 use Rattle.oswrite.specs.Writing.{config_text}
 use Rattle.osworld.specs.Fits.{ids_of}
 
@@ -18,7 +19,7 @@ standing_word Off = codes "off"
 
 -- The line of a configured core. [own]
 abbrev pub core_text : CoreId → Standing → List ℕ
-core_text id standing = codes "core " ++ (decimal id.number ++ (codes " " ++ (standing_word standing ++ codes "\n")))
+core_text id standing = spaced (codes "core" ∷ decimal id.number ∷ standing_word standing ∷ []) ++ line_end
 
 abbrev pub standing_line : Plan → CoreId → List ℕ
 standing_line plan id = core_text id (standing_of plan id)

@@ -1,7 +1,8 @@
 -- The printed numbers and words of faults. [own]
-use Rattle.std.specs.Prelude.{ℕ, List, ◌++◌, codes}
+use Rattle.std.specs.Prelude.{ℕ, List, [], ◌∷◌, ◌++◌, codes}
 use Rattle.std.specs.Fmt.{decimal}
 use Rattle.osplan.specs.Fault.{fault_number as conf_fault_number, fault_name as conf_fault_name}
+use Rattle.ostrace.specs.Trace.{line_end, spaced}
 use Rattle.mcos.specs.declared.faults.Fault.{Fault}
 use Rattle.mcos.specs.declared.faults.Fault.TheVariants.{Text, NoMemoryToRun, WriteFailed, Unreadable}
 
@@ -19,4 +20,4 @@ fault_name Unreadable = codes "Unreadable"
 
 -- The line of a fault, with its end. [own]
 abbrev pub fault_text : Fault → List ℕ
-fault_text fault = codes "fault " ++ (decimal (fault_number fault) ++ (codes " " ++ (fault_name fault ++ codes "\n")))
+fault_text fault = spaced (codes "fault" ∷ decimal (fault_number fault) ∷ fault_name fault ∷ []) ++ line_end

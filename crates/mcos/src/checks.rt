@@ -13,10 +13,9 @@ use crate::faults::Fault;
 use crate::outcomes::Outcome;
 use crate::readings::config_in;
 use crate::sources::Source;
-use itoa::Buffer;
 use osbase::{CORE_NUMBERS, CoreId};
 use osconf::{Config, Standing, config_text, cut, standing_of};
-use ostrace::{Sink, WriteFailed, write_all};
+use ostrace::{Sink, Word, WriteFailed, write_all, write_ended_words};
 use std::alloc::Global;
 
 /// Prints `ok`, and for each configured core by ascending number whether it is separate, bound or off.
@@ -71,12 +70,8 @@ fn write_core<O: Sink>(out: &mut O, core: CoreId, standing: Standing) -> Result<
     requires { O.failed out.old < 2 ^ 48 }
     ensures { Writes O.taken O.failed out.old out.new (core_text core standing) result }
 {
-    write_all(out, b"core ")?;
-    let mut digits = Buffer::new();
-    write_all(out, digits.format(core.number).as_bytes())?;
-    write_all(out, b" ")?;
-    write_all(out, word_of(standing).as_bytes())?;
-    write_all(out, b"\n")
+    let number = Word::Whole(u32::from(core.number));
+    write_ended_words(out, "core", &[number, Word::Text(word_of(standing))])
 }
 
 fn word_of(standing: Standing) -> &'static str

@@ -9,8 +9,7 @@ ghost use Rattle.mcos.specs.Program.{Closes, SendsOff};
 use crate::faults::Fault;
 use crate::outcomes::{FAULT, Outcome};
 use crate::outputs::Output;
-use itoa::Buffer;
-use ostrace::{Sink, WriteFailed, write_all};
+use ostrace::{Sink, Word, WriteFailed, write_ended_words};
 
 /// Sends off what was printed, also before a fault is told, and then tells the fault. Answers the exit status.
 pub fn close<O: Output, E: Sink>(ending: Result<Outcome, Fault>, out: &mut O, err: &mut E) -> u8
@@ -50,10 +49,6 @@ pub fn fault_line<E: Sink>(err: &mut E, fault: Fault) -> Result<(), WriteFailed>
     requires { E.failed err.old < 2 ^ 48 }
     ensures { Writes E.taken E.failed err.old err.new (fault_text fault) result }
 {
-    write_all(err, b"fault ")?;
-    let mut digits = Buffer::new();
-    write_all(err, digits.format(fault.number()).as_bytes())?;
-    write_all(err, b" ")?;
-    write_all(err, fault.name().as_bytes())?;
-    write_all(err, b"\n")
+    let number = Word::Whole(u32::from(fault.number()));
+    write_ended_words(err, "fault", &[number, Word::Text(fault.name())])
 }

@@ -1,10 +1,9 @@
 //! Doing a job over its files' bytes.
 
-ghost use Rattle.std.specs.Prelude.{◌≡◌, ◌<◌, ◌≤◌, ◌^◌, IfErr, length, max};
+ghost use Rattle.std.specs.Prelude.{◌≡◌, ◌<◌, ◌≤◌, ◌^◌, length, max};
 ghost use Rattle.mcos.specs.Jobs.{paths_of};
-ghost use Rattle.mcos.specs.Performs.{Comes, HasNoOutput, IsOutput, Performs};
+ghost use Rattle.mcos.specs.Performs.{IsPrinted, Performs};
 ghost use Rattle.mcos.specs.Runs.{StopsAtFaults};
-ghost use Rattle.mcos.specs.Texts.{IsAsked};
 
 use crate::checks::{check, cut_out};
 use crate::endings::tell;
@@ -44,11 +43,9 @@ pub fn print_from<S: Source, O: Sink>(
     out: &mut O,
 ) -> Result<Outcome, Fault>
     requires { O.failed out.old < 2 ^ 48 }
-    ensures comes { Comes O.taken O.failed out.old out.new (IsOutput job.now (S.files source.new))
-        (HasNoOutput job.now (S.files source.new)) result }
+    ensures printed { IsPrinted O.taken O.failed out.old out.new job.now (S.files source.new) (S.count source.new) result }
     ensures stops { StopsAtFaults (length (S.files source.old)) (S.files source.new) }
     ensures named { length (S.files source.new) ≤ max (length (S.files source.old)) (length (paths_of job.now)) }
-    ensures asked { IfErr result (IsAsked (S.count source.new) (S.files source.new)) }
     ensures count { S.count source.new ≡ S.count source.old }
     ensures known { S.known source.new ≡ S.known source.old }
 {

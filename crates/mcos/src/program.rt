@@ -8,7 +8,7 @@ ghost use Rattle.osplan.specs.declared.faults.ConfFault.TheVariants.{NoMemory};
 ghost use Rattle.mcos.specs.declared.outcomes.Outcome.TheVariants.{Done};
 ghost use Rattle.mcos.specs.declared.program.NoWords.TheVariants as no_words;
 ghost use Rattle.mcos.specs.Performs.{Prints};
-ghost use Rattle.mcos.specs.Program.{Answers, DoesJob, IsMistaken, Obeys, PrintsJob, Refuses, is_request};
+ghost use Rattle.mcos.specs.Program.{Answers, DoesJob, IsMistaken, PrintsJob, Refuses, is_request};
 
 use crate::endings::close;
 use crate::faults::Fault;
@@ -54,28 +54,14 @@ pub fn answer<R: Files + AllocGlobal, S: AsStr + Drop, O: Output, E: Sink>(
     ensures { Answers O.taken O.sent O.failed out.old out.new E.taken E.failed err.old err.new
         (result_map_both (λ words. map S.text words.items) (λ none. none) words) result }
 {
-    match words {
-        Ok(words) => obey(rt, words.as_slice(), out, err),
-        Err(NoWords::NoMemory) => close(Err(Fault::from(AllocError)), out, err),
+    let words = match words {
+        Ok(words) => words,
+        Err(NoWords::NoMemory) => return close(Err(Fault::from(AllocError)), out, err),
         Err(NoWords::NotText) => {
-            mistake("error: a word of the command line is not UTF-8\n", err)
+            return mistake("error: a word of the command line is not UTF-8\n", err);
         }
-    }
-}
-
-// Does the job of the words, or says why they ask for none.
-fn obey<R: Files + AllocGlobal, S: AsStr, O: Output, E: Sink>(
-    rt: &R,
-    words: &[S],
-    out: &mut O,
-    err: &mut E,
-) -> u8
-    requires out { O.failed out.old < 2 ^ 48 }
-    requires err { E.failed err.old < 2 ^ 48 }
-    ensures { Obeys O.taken O.sent O.failed out.old out.new E.taken E.failed err.old err.new
-        (map S.text words.now) result }
-{
-    match job_of(rt.alloc(), words) {
+    };
+    match job_of(rt.alloc(), words.as_slice()) {
         Ok(job) => do_job(rt, &job, out, err),
         Err(error) => refuse(rt.alloc(), &error, out, err),
     }

@@ -43,7 +43,7 @@ const BESIDE: &str =
     r#"{"cores":[{"id":0,"start":[1,2],"tasks":[{"name":"A","prio":1,"auto":["M"],"script":"ActivateTask B;TerminateTask"}]},{"id":1,"tasks":[{"name":"B","prio":1,"script":"TerminateTask"}]},{"id":2,"tasks":[{"name":"V","prio":1,"auto":["M"],"script":"TerminateTask"}]}]}"#;
 
 const ALONE: &str =
-    r#"{"cap":16,"cores":[{"id":2,"start":[],"tasks":[{"activations":1,"auto":["M"],"name":"V","prio":1,"script":"TerminateTask"}]}],"master":2,"version":1}
+    r#"{"cap":16,"cores":[{"id":2,"resources":[],"start":[],"tasks":[{"activations":1,"auto":["M"],"name":"V","preemptable":true,"prio":1,"script":"TerminateTask"}]}],"master":2,"version":1}
 "#;
 
 const ALONE_TRACE: &str = "core 2\nhook Startup\nact V\npre V\npost V\nend V\nended\n";
@@ -67,6 +67,62 @@ const MUTUAL_TRACE: &str =
 const FULL_SCHEDULE: &str =
     r#""0o 1l 1o 0o 0l 1l 0o 1o 0l 1l 0o 1o 0o 1o 0s1 0o 0o 1s0 0o 1o 0s1 1s0 0o 1o 0o 1o 0l 1l 0l 1l""#;
 
+/// Tasks of one core: the greatest priority first, and of equal jobs the one that was activated first, also where it
+/// was preempted.
+const OLDEST: &str =
+    r#"{"cores":[{"id":0,"tasks":[{"name":"X","prio":1,"auto":["M"],"script":"ActivateTask Y;ActivateTask H;TerminateTask"},{"name":"Y","prio":1,"script":"TerminateTask"},{"name":"Z","prio":1,"script":"TerminateTask"},{"name":"H","prio":2,"script":"ActivateTask Z;TerminateTask"}]}]}"#;
+
+const OLDEST_TRACE: &str =
+    "core 0\nhook Startup\nact X\npre X\nact Y\nstat X ActivateTask E_OK\nact H\nstat X ActivateTask E_OK\npost X\npre H\nact Z\nstat H ActivateTask E_OK\npost H\nend H\npre X\npost X\nend X\npre Y\npost Y\nend Y\npre Z\npost Z\nend Z\nended\n";
+
+/// A task that cannot be preempted: Schedule lets a job of greater priority run, and none of equal priority.
+const SCHEDULING: &str =
+    r#"{"cores":[{"id":0,"tasks":[{"name":"N","prio":1,"preemptable":false,"auto":["M"],"script":"ActivateTask E;Schedule;ActivateTask U;Schedule;TerminateTask"},{"name":"E","prio":1,"script":"TerminateTask"},{"name":"U","prio":2,"script":"TerminateTask"}]}]}"#;
+
+const SCHEDULING_TRACE: &str =
+    "core 0\nhook Startup\nact N\npre N\nact E\nstat N ActivateTask E_OK\nstat N Schedule E_OK\nact U\nstat N ActivateTask E_OK\nstat N Schedule E_OK\npost N\npre U\npost U\nend U\npre N\npost N\nend N\npre E\npost E\nend E\nended\n";
+
+/// A job that holds a resource runs at its ceiling, until it gives the resource back.
+const CEILING: &str =
+    r#"{"cores":[{"id":0,"tasks":[{"name":"L","prio":1,"auto":["M"],"script":"GetResource R;ActivateTask H;ReleaseResource R;TerminateTask"},{"name":"H","prio":2,"script":"TerminateTask"}],"resources":[{"name":"R","ceiling":2}]}]}"#;
+
+const CEILING_TRACE: &str =
+    "core 0\nhook Startup\nact L\npre L\nstat L GetResource E_OK\nact H\nstat L ActivateTask E_OK\nstat L ReleaseResource E_OK\npost L\npre H\npost H\nend H\npre L\npost L\nend L\nended\n";
+
+/// A job that holds a resource does not give way.
+const KEEPING: &str =
+    r#"{"cores":[{"id":0,"tasks":[{"name":"N","prio":1,"preemptable":false,"auto":["M"],"script":"GetResource R;ActivateTask U;Schedule;ReleaseResource R;TerminateTask"},{"name":"U","prio":2,"script":"TerminateTask"}],"resources":[{"name":"R","ceiling":1}]}]}"#;
+
+const KEEPING_TRACE: &str =
+    "core 0\nhook Startup\nact N\npre N\nstat N GetResource E_OK\nact U\nstat N ActivateTask E_OK\nstat N Schedule E_OS_RESOURCE\nhook Error E_OS_RESOURCE\nstat N ReleaseResource E_OK\npost N\nend N\npre U\npost U\nend U\nended\n";
+
+/// Refused services of resources; releasing one of two keeps the other's ceiling, and a job's end gives all back.
+const RESOURCES: &str =
+    r#"{"cores":[{"id":0,"tasks":[{"name":"A","prio":1,"auto":["M"],"script":"GetResource ?;GetResource LOW;GetResource R;GetResource R;GetResource S;ReleaseResource R;ActivateTask B;ReleaseResource S;TerminateTask;ReleaseResource LOW"},{"name":"B","prio":2,"script":"GetResource R;ReleaseResource ?;ReleaseResource R;ReleaseResource R;TerminateTask"}],"resources":[{"name":"R","ceiling":3},{"name":"S","ceiling":1},{"name":"LOW","ceiling":0}]}]}"#;
+
+const RESOURCES_TRACE: &str =
+    "core 0\nhook Startup\nact A\npre A\nstat A GetResource E_OS_ID\nhook Error E_OS_ID\nstat A GetResource E_OS_ACCESS\nhook Error E_OS_ACCESS\nstat A GetResource E_OK\nstat A GetResource E_OS_ACCESS\nhook Error E_OS_ACCESS\nstat A GetResource E_OK\nstat A ReleaseResource E_OS_NOFUNC\nhook Error E_OS_NOFUNC\nact B\nstat A ActivateTask E_OK\nstat A ReleaseResource E_OK\nstat A TerminateTask E_OS_RESOURCE\nhook Error E_OS_RESOURCE\nstat A ReleaseResource E_OS_ACCESS\nhook Error E_OS_ACCESS\nhook Error E_OS_MISSINGEND\npost A\nend A\npre B\nstat B GetResource E_OK\nstat B ReleaseResource E_OS_ID\nhook Error E_OS_ID\nstat B ReleaseResource E_OK\nstat B ReleaseResource E_OS_NOFUNC\nhook Error E_OS_NOFUNC\npost B\nend B\nended\n";
+
+/// Two cores, each of whose first task activates the other's second one while it awaits the reply to its own call.
+const CROSSED: &str =
+    r#"{"cores":[{"id":0,"start":[1],"tasks":[{"name":"A","prio":2,"auto":["M"],"script":"ActivateTask D;TerminateTask"},{"name":"C","prio":1,"script":"TerminateTask"}]},{"id":1,"tasks":[{"name":"B","prio":2,"auto":["M"],"script":"ActivateTask C;TerminateTask"},{"name":"D","prio":1,"script":"TerminateTask"}]}]}"#;
+
+const CROSSED_TRACE: &str =
+    "core 0\nstart 1 E_OK\nhook Startup\nact A\npre A\nout 1 ActivateTask D\nact C\nin 1 ActivateTask C E_OK\nstat A ActivateTask E_OK\npost A\nend A\npre C\npost C\nend C\ncore 1\nhook Startup\nact B\npre B\nout 0 ActivateTask C\nact D\nin 0 ActivateTask D E_OK\nstat B ActivateTask E_OK\npost B\nend B\npre D\npost D\nend D\nended\n";
+
+/// A core by itself that adds to a variable.
+const ADDING: &str =
+    r#"{"cores":[{"id":2,"tasks":[{"name":"V","prio":1,"auto":["M"],"script":"add v0 3;TerminateTask"}]}],"master":2}"#;
+
+const ADDING_TRACE: &str = "core 2\nhook Startup\nact V\npre V\nvar V v0 3\npost V\nend V\nended\n";
+
+/// A task whose second job finds the variables of its first, and neither its position nor its status.
+const VARIABLES: &str =
+    r#"{"cores":[{"id":0,"tasks":[{"name":"A","prio":1,"auto":["M"],"activations":2,"script":"status v1;jz v0 4;set v2 -5;jump 8;ActivateTask A;ActivateTask A;status v1;add v0 9223372036854775807;add v0 2;addv v2 v2;jz v2 12;TerminateTask;jump 0"}]}]}"#;
+
+const VARIABLES_TRACE: &str =
+    "core 0\nhook Startup\nact A\npre A\nvar A v1 0\nact A\nstat A ActivateTask E_OK\nstat A ActivateTask E_OS_LIMIT\nhook Error E_OS_LIMIT\nvar A v1 4\nvar A v0 9223372036854775807\nvar A v0 9223372036854775807\nvar A v2 0\nvar A v1 4\nvar A v2 -5\nvar A v0 9223372036854775807\nvar A v2 -10\npost A\nend A\npre A\nvar A v1 0\nvar A v2 -5\nended\n";
+
 /// The texts of an example, and what they come to.
 struct Example {
     config: &'static str,
@@ -77,7 +133,7 @@ struct Example {
     status: u8,
 }
 
-const EXAMPLES: [Example; 17] = [
+const EXAMPLES: [Example; 26] = [
     Example {
         config: BORDER,
         stimuli: r#"{"0":"op op","1":"op op"}"#,
@@ -159,6 +215,70 @@ const EXAMPLES: [Example; 17] = [
         status: 0,
     },
     Example {
+        config: OLDEST,
+        stimuli: r#"{"0":"op op op op op op op"}"#,
+        schedule: None,
+        out: OLDEST_TRACE,
+        err: "",
+        status: 0,
+    },
+    Example {
+        config: ADDING,
+        stimuli: r#"{"2":"op op"}"#,
+        schedule: None,
+        out: ADDING_TRACE,
+        err: "",
+        status: 0,
+    },
+    Example {
+        config: SCHEDULING,
+        stimuli: r#"{"0":"op op op op op op op"}"#,
+        schedule: None,
+        out: SCHEDULING_TRACE,
+        err: "",
+        status: 0,
+    },
+    Example {
+        config: CEILING,
+        stimuli: r#"{"0":"op op op op op"}"#,
+        schedule: None,
+        out: CEILING_TRACE,
+        err: "",
+        status: 0,
+    },
+    Example {
+        config: KEEPING,
+        stimuli: r#"{"0":"op op op op op op"}"#,
+        schedule: None,
+        out: KEEPING_TRACE,
+        err: "",
+        status: 0,
+    },
+    Example {
+        config: RESOURCES,
+        stimuli: r#"{"0":"op op op op op op op op op op op op op op op op"}"#,
+        schedule: None,
+        out: RESOURCES_TRACE,
+        err: "",
+        status: 0,
+    },
+    Example {
+        config: CROSSED,
+        stimuli: r#"{"0":"op op op","1":"op op op"}"#,
+        schedule: None,
+        out: CROSSED_TRACE,
+        err: "",
+        status: 0,
+    },
+    Example {
+        config: VARIABLES,
+        stimuli: r#"{"0":"op op op op op op op op op op op op op op op op op op op op op"}"#,
+        schedule: None,
+        out: VARIABLES_TRACE,
+        err: "",
+        status: 0,
+    },
+    Example {
         config: r#"{"cores":["#,
         stimuli: "{}",
         schedule: None,
@@ -188,6 +308,14 @@ const EXAMPLES: [Example; 17] = [
         schedule: None,
         out: "",
         err: "fault 5 UnknownName\n",
+        status: 1,
+    },
+    Example {
+        config: r#"{"cores":[{"id":0,"tasks":[{"name":"A","prio":1,"script":"GetResource R"}]},{"id":1,"resources":[{"name":"R","ceiling":1}]}]}"#,
+        stimuli: "x",
+        schedule: None,
+        out: "",
+        err: "fault 6 WrongCore\n",
         status: 1,
     },
     Example {

@@ -1,10 +1,13 @@
 -- References that test as the same are equal, and each tests as the same as itself.
 use Rattle.std.proofs.Common.{◌≡◌, ℕ, Bool, true, false, nat_eq, refl, ap, sym, ◌∙◌}
 use Rattle.std.proofs.lemmas.Bool.{eqb-true, eq-eqb, and_parts, and_from, false≢true}
+use Rattle.osbase.specs.declared.objects.ObjectKind.{ObjectKind}
+use Rattle.osbase.specs.declared.objects.ObjectKind.TheVariants.{Task, Resource, Alarm}
 use Rattle.osbase.specs.declared.references.CoreId.{CoreId}
 use Rattle.osbase.specs.declared.references.TaskRef.{TaskRef}
 use Rattle.osbase.specs.declared.references.IsrRef.{IsrRef}
 use Rattle.osbase.specs.declared.references.Runner.{Runner}
+use Rattle.osbase.specs.Objects.{same_kind}
 use Rattle.osbase.specs.History.{same_core, same_task, same_isr, same_runner}
 
 pub same_core-true : (a b : CoreId) → same_core a b ≡ true → a ≡ b
@@ -51,3 +54,14 @@ same_runner-true (Runner.Isr a) (Runner.Task b) e = cc
 pub same_runner-refl : (r : Runner) → same_runner r r ≡ true
 same_runner-refl (Runner.Task t) = same_task-refl t
 same_runner-refl (Runner.Isr i) = same_task-refl (record { core = i.core; index = i.index })
+
+pub same_kind-true : (k j : ObjectKind) → same_kind k j ≡ true → k ≡ j
+same_kind-true Task Task e = refl
+same_kind-true Resource Resource e = refl
+same_kind-true Alarm Alarm e = refl
+same_kind-true k j e = absurd (false≢true e)
+
+pub same_kind-self : (k : ObjectKind) → same_kind k k ≡ true
+same_kind-self Task = refl
+same_kind-self Resource = refl
+same_kind-self Alarm = refl

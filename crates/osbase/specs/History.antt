@@ -2,8 +2,12 @@
 --
 -- A history is the list of what a core took and did, the newest first, so that every reading is a
 -- fold with a named step. The kernel stores no history: it keeps the readings.
-use Rattle.std.specs.Prelude.{ℕ, suc, ◌+◌, ◌==◌, ◌&&◌, nat_lt, ℤ, Bool, false, if◌then◌else◌, Option, Some, None, List, [], ◌∷◌, ◌++◌, length, drop, replicate}
+use Rattle.std.specs.Prelude.{ℕ, suc, ◌+◌, ◌==◌, ◌&&◌, nat_lt, ℤ, Bool, true, false, if◌then◌else◌, Option, Some, None, List, [], ◌∷◌, ◌++◌, length, drop, replicate}
+use Rattle.std.specs.List.{list_any}
 use Rattle.osbase.specs.declared.statuses.Status.{Status}
+use Rattle.osbase.specs.declared.statuses.Status.TheVariants.{EOk}
+use Rattle.osbase.specs.declared.statuses.ServiceId.{ServiceId}
+use Rattle.osbase.specs.declared.statuses.ServiceId.TheVariants.{Schedule}
 use Rattle.osbase.specs.declared.references.CoreId.{CoreId}
 use Rattle.osbase.specs.declared.references.TaskRef.{TaskRef}
 use Rattle.osbase.specs.declared.references.IsrRef.{IsrRef}
@@ -15,6 +19,7 @@ use Rattle.osbase.specs.declared.items.Item.{Item}
 use Rattle.osbase.specs.declared.marks.Mark.{Mark}
 use Rattle.osbase.specs.declared.turns.TheConstants.{CORES}
 use Rattle.osbase.specs.declared.histories.Job.{Job}
+use Rattle.osbase.specs.declared.histories.HeldResource.{HeldResource}
 use Rattle.osbase.specs.declared.histories.OpenCall.{OpenCall}
 use Rattle.osbase.specs.declared.histories.Sent.{Sent}
 use Rattle.osbase.specs.declared.histories.Phase.{Phase}
@@ -25,6 +30,9 @@ pub data Note : Type 0 where
   Opened : OpenCall → Note
   -- an envelope for the core that is named joins the outbox
   Queued : CoreId → Envelope → Note
+  -- the runner's oldest live job takes a resource, and gives one back
+  Taken : Runner → HeldResource → Note
+  Given : Runner → ℕ → Note
   -- an operation of the runner's oldest live job is done, with this status and value
   Done : Runner → Status → Option ℤ → Note
 
@@ -124,6 +132,54 @@ oldest_of (Some t) jobs = oldest (Runner.Task t) jobs
 
 abbrev pub current_job : History → Option Job
 current_job h = oldest_of (current_task h) (live_jobs h)
+
+-- No two jobs of a core have one stamp.
+abbrev pub same_job : Job → Job → Bool
+same_job a b = a.stamp == b.stamp
+
+-- The runner whose call of Schedule was granted in the item in hand: it gives way for that item, and no longer.
+-- [OSEK/VDX OS 2.2.3, section 13.2.3.4]
+abbrev pub gives_way : ServiceId → Status → Bool
+gives_way Schedule EOk = true
+gives_way service status = false
+
+abbrev pub giving_way_after : Entry → Option Runner → Option Runner
+giving_way_after (Took item) r = None
+giving_way_after (Printed (Mark.ServiceReturned q service status value)) r = if gives_way service status then Some q else r
+giving_way_after e r = r
+
+abbrev pub giving_way : History → Option Runner
+giving_way [] = None
+giving_way (e ∷ h) = giving_way_after e (giving_way h)
+
+-- The resources that the runner's oldest live job holds, the newest first: it took them and did not give them back. With its
+-- end they are given back. [OSEK/VDX OS 2.2.3, section 8.2; at a job's end: AUTOSAR SWS OS 4.x, SWS_Os_00070]
+abbrev pub without_resource : ℕ → List HeldResource → List HeldResource
+without_resource index [] = []
+without_resource index (x ∷ held) = if x.index == index then held else x ∷ without_resource index held
+
+abbrev pub held_after : Runner → Entry → List HeldResource → List HeldResource
+held_after r (Noted (Taken q x)) held = if same_runner q r then x ∷ held else held
+held_after r (Noted (Given q index)) held = if same_runner q r then without_resource index held else held
+held_after r (Printed (Mark.Terminated t)) held = if same_runner (Runner.Task t) r then [] else held
+held_after r (Printed (Mark.IsrLeft i)) held = if same_runner (Runner.Isr i) r then [] else held
+held_after r e held = held
+
+abbrev pub held_by : Runner → History → List HeldResource
+held_by r [] = []
+held_by r (e ∷ h) = held_after r e (held_by r h)
+
+-- The greater of two priorities, and the greatest ceiling of held resources; 0 of none. [OSEK/VDX OS 2.2.3, section 8.5]
+abbrev pub greater : ℕ → ℕ → ℕ
+greater a b = if nat_lt a b then b else a
+
+abbrev pub greatest_ceiling : List HeldResource → ℕ
+greatest_ceiling [] = 0
+greatest_ceiling (x ∷ held) = greater x.ceiling (greatest_ceiling held)
+
+-- The resource of this index is among these.
+abbrev pub is_held : ℕ → List HeldResource → Bool
+is_held index held = list_any (λ (x : HeldResource). x.index == index) held
 
 -- Of the jobs of greatest priority the first. In a list by stamps it is the one of smallest stamp.
 abbrev pub better_of : (Job → ℕ) → Job → Option Job → Job

@@ -1,11 +1,21 @@
 -- Objects of every kind, and which of them a call across cores names.
+use Rattle.std.specs.Prelude.{Bool, true, false}
 use Rattle.osbase.specs.declared.references.TaskRef.{TaskRef}
+use Rattle.osbase.specs.declared.references.ResourceRef.{ResourceRef}
 use Rattle.osbase.specs.declared.references.AlarmRef.{AlarmRef}
-use Rattle.osbase.specs.declared.objects.ObjectKind.TheVariants.{Task, Alarm}
+use Rattle.osbase.specs.declared.objects.ObjectKind.{ObjectKind}
+use Rattle.osbase.specs.declared.objects.ObjectKind.TheVariants.{Task, Resource, Alarm}
 use Rattle.osbase.specs.declared.objects.Place.{Place}
 use Rattle.osbase.specs.declared.objects.Object.{Object}
 use Rattle.osbase.specs.declared.messages.RemoteCall.{RemoteCall}
 use Rattle.osbase.specs.declared.messages.RemoteCall.TheVariants.{ActivateTask, SetEvent, SetRelAlarm, SetAbsAlarm, CancelAlarm, GetAlarm}
+
+-- Equality of kinds.
+abbrev pub same_kind : ObjectKind → ObjectKind → Bool
+same_kind Task Task = true
+same_kind Resource Resource = true
+same_kind Alarm Alarm = true
+same_kind kind other = false
 
 -- Where a reference's object stands, and the reference of a place. [own]
 abbrev pub task_place : TaskRef → Place
@@ -14,11 +24,20 @@ task_place t = record { core = t.core; index = t.index }
 abbrev pub task_of : Place → TaskRef
 task_of p = record { core = p.core; index = p.index }
 
+abbrev pub resource_place : ResourceRef → Place
+resource_place r = record { core = r.core; index = r.index }
+
+abbrev pub resource_of : Place → ResourceRef
+resource_of p = record { core = p.core; index = p.index }
+
 abbrev pub alarm_place : AlarmRef → Place
 alarm_place a = record { core = a.core; index = a.index }
 
 abbrev pub task_object : TaskRef → Object
 task_object t = record { kind = Task; place = task_place t }
+
+abbrev pub resource_object : ResourceRef → Object
+resource_object r = record { kind = Resource; place = resource_place r }
 
 abbrev pub alarm_object : AlarmRef → Object
 alarm_object a = record { kind = Alarm; place = alarm_place a }

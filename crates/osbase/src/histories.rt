@@ -47,6 +47,14 @@ pub struct Job {
     pub stamp: u64,
 }
 
+/// A resource that a job holds: its index among its core's own, of which alone a job holds any, and its
+/// ceiling priority (OSEK/VDX OS 2.2.3, section 8.5).
+#[derive(Clone, Copy, Debug, PartialEq, Eq)]
+pub struct HeldResource {
+    pub index: u8,
+    pub ceiling: u8,
+}
+
 /// A service of a job that awaits the reply of another core.
 #[derive(Clone, Copy, Debug, PartialEq, Eq)]
 pub struct OpenCall {

@@ -14,7 +14,7 @@ pub mod references;
 pub mod statuses;
 pub mod turns;
 
-pub use histories::{Job, OpenCall, Phase, Sent};
+pub use histories::{HeldResource, Job, OpenCall, Phase, Sent};
 pub use items::{Agreement, CoreSet, Item, Stimulus};
 pub use lists::{List, Name};
 pub use marks::Mark;

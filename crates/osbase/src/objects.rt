@@ -1,15 +1,25 @@
 //! Objects of every kind, as the operations of scripts and the calls across cores name them.
 
 ghost use Rattle.std.specs.Prelude.{◌≡◌};
-ghost use Rattle.osbase.specs.Objects.{alarm_object, alarm_place, task_object, task_of, task_place};
+ghost use Rattle.osbase.specs.Objects.{alarm_object, alarm_place, resource_object, resource_of, resource_place, same_kind, task_object, task_of, task_place};
 
-use crate::references::{AlarmRef, CoreId, TaskRef};
+use crate::references::{AlarmRef, CoreId, ResourceRef, TaskRef};
 
 /// The kinds of objects that operations and calls can name so far.
 #[derive(Clone, Copy, Debug, PartialEq, Eq)]
 pub enum ObjectKind {
     Task,
+    Resource,
     Alarm,
+}
+
+impl ObjectKind {
+    /// Whether both are one kind.
+    pub fn is(self, other: ObjectKind) -> bool
+        ensures { result ≡ same_kind self other }
+    {
+        self == other
+    }
 }
 
 /// Where an object stands: its core, and its place among that core's objects of its kind.
@@ -53,6 +63,38 @@ impl TaskRef {
     {
         Object {
             kind: ObjectKind::Task,
+            place: self.place(),
+        }
+    }
+}
+
+impl ResourceRef {
+    /// The resource that stands at this place.
+    pub fn at(place: Place) -> Self
+        ensures { result ≡ resource_of place }
+    {
+        ResourceRef {
+            core: place.core,
+            index: place.index,
+        }
+    }
+
+    /// Where the resource stands.
+    pub fn place(self) -> Place
+        ensures { result ≡ resource_place self }
+    {
+        Place {
+            core: self.core,
+            index: self.index,
+        }
+    }
+
+    /// The resource as an object of its kind.
+    pub fn object(self) -> Object
+        ensures { result ≡ resource_object self }
+    {
+        Object {
+            kind: ObjectKind::Resource,
             place: self.place(),
         }
     }

@@ -1,31 +1,42 @@
 -- One fact for each service: what it does to one history it does to every history that reads the same to it.
-use Rattle.std.proofs.Common.{◌≡◌, ◌||◌, Bool, true, false, not, cond, Option, Some, None, List, [], ◌∷◌, refl, ap, subst, ℤ}
+use Rattle.std.proofs.Common.{◌≡◌, ◌||◌, Bool, true, false, not, cond, Option, Some, None, is_none, List, [], ◌∷◌, refl, ap, subst, ℤ, pos}
 use Rattle.std.specs.List.{list_all}
+use Rattle.std.specs.Option.{option_map_or}
+use Rattle.osres.specs.Resources.{is_occupied}
 use Rattle.std.proofs.lemmas.Bool.{and_parts}
 use Rattle.osbase.specs.declared.statuses.Status.{Status}
 use Rattle.osbase.specs.declared.statuses.ServiceId.{ServiceId}
 use Rattle.osbase.specs.declared.references.CoreId.{CoreId}
+use Rattle.osbase.specs.declared.references.ResourceRef.{ResourceRef}
 use Rattle.osbase.specs.declared.references.TaskRef.{TaskRef}
 use Rattle.osbase.specs.declared.references.Runner.{Runner}
+use Rattle.osbase.specs.declared.references.Variable.{Variable}
 use Rattle.osbase.specs.declared.objects.Object.{Object}
 use Rattle.osbase.specs.declared.messages.RemoteCall.{RemoteCall}
 use Rattle.osbase.specs.declared.messages.RemoteCall.TheVariants as Remote
 use Rattle.osbase.specs.declared.messages.Message.{Message}
 use Rattle.osbase.specs.declared.marks.Mark.{Mark}
 use Rattle.osbase.specs.declared.histories.OpenCall.{OpenCall}
-use Rattle.osbase.specs.History.{Entry, History, Took, Printed, Noted, Opened, Queued, Done}
+use Rattle.osbase.specs.declared.histories.HeldResource.{HeldResource}
+use Rattle.osbase.specs.History.{Entry, History, Took, Printed, Noted, Opened, Queued, Taken, Given, Done}
 use Rattle.osbase.specs.Marks.{core_of_runner, names_only}
+use Rattle.osbase.specs.Words.{status_number}
+use Rattle.oscript.specs.declared.Frame.{Frame}
 use Rattle.oscript.specs.declared.Op.{Op}
+use Rattle.oscript.specs.Frames.{value_of}
 use Rattle.oscript.specs.Rows.{objects_of}
 use Rattle.osplan.specs.View.{View}
+use Rattle.osjobs.specs.Priorities.{held_in, holds_any, is_newest}
 use Rattle.osstate.specs.Queries.{is_at_limit}
-use Rattle.osstate.specs.Readings.{is_own, knows_started}
+use Rattle.osstate.specs.Readings.{frame_at, held_resources, is_own, knows_started, resource_of}
 use Rattle.oscall.specs.declared.returning.Answer.{Answer}
 use Rattle.oscall.specs.Border.{answer_to, border_checks, calls, core_of_call, crosses, effect_of, replies, reports_served, returns_with, serves_action, serves_request}
 use Rattle.oscall.specs.Checks.{Check, first_failing, is_ok_status}
 use Rattle.oscall.specs.Operations.{operates}
 use Rattle.oscall.specs.Returning.{answers, asks, queues, reports, returns}
-use Rattle.oscall.specs.Tasks.{activates, ends, ends_unasked, termination_checks}
+use Rattle.oscall.specs.Variables.{sets, sum_of}
+use Rattle.oscall.specs.Tasks.{activates, ends, ends_unasked, is_isr}
+use Rattle.oscall.specs.Resources.{gives, is_below, takes}
 
 -- Which cores one asks, or answers: every one, and none.
 abbrev pub anybody : CoreId → Bool
@@ -46,6 +57,8 @@ seen_as v master ids = record v { is_master = master; cores = ids }
 pub record ServesSame (v : View) (may : CoreId → Bool) (h k : History) : Type 0 where
   pub started : (core : CoreId) → (is_own v core || may core) ≡ true → knows_started h core ≡ knows_started k core
   pub limit : (t : TaskRef) → is_at_limit v t h ≡ is_at_limit v t k
+  pub frame : (r : Runner) → frame_at v r h ≡ frame_at v r k
+  pub held : held_resources v h ≡ held_resources v k
 
 -- A note of the core itself, or a mark that names only objects of cores that pass: neither an item nor what goes to
 -- another core.
@@ -111,6 +124,11 @@ module _ (v : View) (master : Bool) (ids : List CoreId) (may answered names : Co
   answers-carried r service checks checks' same does does' h k n p q =
       subst (λ (s : Status). R (answers r service checks does h) (cond (is_ok_status s) (does' k) (returns r service s None k))) same
       (either-carried (is_ok_status (first_failing checks)) (does h) _ (does' k) _ q (returns-carried r service (first_failing checks) None h k n p))
+
+  -- A service that acts alike, and whose checks look at what is held.
+  held-carried : (checks : List (List HeldResource) → List Check) (r : Runner) (service : ServiceId) (does : History → History) (h k : History) → IsNamed r → R h k → R (does h) (does k) → R (answers r service (checks (held_resources v h)) does h) (answers r service (checks (held_resources v k)) does k)
+  held-carried checks r service does h k n p q =
+      answers-carried r service (checks (held_resources v h)) (checks (held_resources v k)) (ap (λ (held : List (List HeldResource)). first_failing (checks held)) (kept.reads h k p).held) does does h k n p q
 
   -- ---- one fact for each call that is served
 
@@ -178,17 +196,60 @@ module _ (v : View) (master : Bool) (ids : List CoreId) (may answered names : Co
   abbrev Carried : Op → Type 0
   Carried op = (r : Runner) (h k : History) → IsNamed r → IsAllowed v may op → R h k → R (operates v r op h) (operates other r op k)
 
-  work-carried : Carried Op.Work
-  work-carried r h k n allowed p = kept.local (Noted (Done r Status.EOk None)) h k refl p
+  done-carried : (r : Runner) (h k : History) → R h k → R (Noted (Done r Status.EOk None) ∷ h) (Noted (Done r Status.EOk None) ∷ k)
+  done-carried r h k p = kept.local (Noted (Done r Status.EOk None)) h k refl p
+
+  -- A number that is read off the runner's frame, which is the same in both.
+  sets-carried : (f : Frame → ℤ) (x : Variable) (r : Runner) (h k : History) → IsNamed r → R h k → R (sets r x (f (frame_at v r h)) h) (sets r x (f (frame_at v r k)) k)
+  sets-carried f x r h k n p =
+      subst (λ (frame : Frame). R (sets r x (f (frame_at v r h)) h) (sets r x (f frame) k)) ((kept.reads h k p).frame r)
+      (kept.local (Noted (Done r Status.EOk (Some (f (frame_at v r h))))) _ _ refl (printed-carried (Mark.VariableSet r x (f (frame_at v r h))) h k n p))
 
   activate-carried : (target : Option TaskRef) → Carried (Op.ActivateTask target)
   activate-carried None r h k n allowed p = calls-carried r ServiceId.ActivateTask None h k n tt p
   activate-carried (Some t) r h k n allowed p = calls-carried r ServiceId.ActivateTask (Some (Remote.ActivateTask t)) h k n (and_parts _ true allowed).0 p
 
   terminate-carried : Carried Op.TerminateTask
-  terminate-carried r h k n allowed p = answers-carried r ServiceId.TerminateTask (termination_checks r) (termination_checks r) refl (ends r) (ends r) h k n p (ends-carried r h k n p)
+  terminate-carried r h k n allowed p =
+      held-carried (λ held. (is_isr r, Status.EOsCallevel) ∷ (holds_any (held_in r held), Status.EOsResource) ∷ []) r ServiceId.TerminateTask (ends r) h k n p (ends-carried r h k n p)
+
+  schedule-carried : Carried Op.Schedule
+  schedule-carried r h k n allowed p =
+      let granted = returns-carried r ServiceId.Schedule Status.EOk None h k n p in
+      held-carried (λ held. (is_isr r, Status.EOsCallevel) ∷ (holds_any (held_in r held), Status.EOsResource) ∷ []) r ServiceId.Schedule (returns r ServiceId.Schedule Status.EOk None) h k n p granted
+
+  takes-carried : (r : Runner) (x : Option HeldResource) (h k : History) → R h k → R (takes r x h) (takes r x k)
+  takes-carried r None h k p = p
+  takes-carried r (Some x) h k p = kept.local (Noted (Taken r x)) h k refl p
+
+  get-carried : (target : Option ResourceRef) → Carried (Op.GetResource target)
+  get-carried target r h k n allowed p =
+      let x = resource_of v.own target in
+      held-carried (λ held. (is_none x, Status.EOsId) ∷ (option_map_or (λ (y : HeldResource). is_occupied y.index held || is_below v r y) x false, Status.EOsAccess) ∷ []) r ServiceId.GetResource
+      (λ h. returns r ServiceId.GetResource Status.EOk None (takes r x h)) h k n p
+      (returns-carried r ServiceId.GetResource Status.EOk None _ _ n (takes-carried r x h k p))
+
+  gives-carried : (r : Runner) (x : Option HeldResource) (h k : History) → R h k → R (gives r x h) (gives r x k)
+  gives-carried r None h k p = p
+  gives-carried r (Some x) h k p = kept.local (Noted (Given r x.index)) h k refl p
+
+  release-carried : (target : Option ResourceRef) → Carried (Op.ReleaseResource target)
+  release-carried target r h k n allowed p =
+      let x = resource_of v.own target in
+      held-carried (λ held. (is_none x, Status.EOsId) ∷ (option_map_or (is_below v r) x false, Status.EOsAccess) ∷ (option_map_or (λ (y : HeldResource). not (is_newest y.index (held_in r held))) x false, Status.EOsNofunc) ∷ []) r ServiceId.ReleaseResource
+      (λ h. returns r ServiceId.ReleaseResource Status.EOk None (gives r x h)) h k n p
+      (returns-carried r ServiceId.ReleaseResource Status.EOk None _ _ n (gives-carried r x h k p))
 
   pub operates-carried : (op : Op) → Carried op
-  operates-carried Op.Work = work-carried
-  operates-carried (Op.ActivateTask target) = activate-carried target
-  operates-carried Op.TerminateTask = terminate-carried
+  operates-carried Op.Work r h k n allowed p = done-carried r h k p
+  operates-carried (Op.Set x z) r h k n allowed p = sets-carried (λ frame. z) x r h k n p
+  operates-carried (Op.Add x z) r h k n allowed p = sets-carried (λ frame. sum_of (value_of x frame) z) x r h k n p
+  operates-carried (Op.AddVariable x y) r h k n allowed p = sets-carried (λ frame. sum_of (value_of x frame) (value_of y frame)) x r h k n p
+  operates-carried (Op.StoreStatus x) r h k n allowed p = sets-carried (λ frame. pos (status_number frame.status)) x r h k n p
+  operates-carried (Op.Jump place) r h k n allowed p = done-carried r h k p
+  operates-carried (Op.JumpIfZero x place) r h k n allowed p = done-carried r h k p
+  operates-carried (Op.ActivateTask target) r h k n allowed p = activate-carried target r h k n allowed p
+  operates-carried Op.TerminateTask r h k n allowed p = terminate-carried r h k n allowed p
+  operates-carried Op.Schedule r h k n allowed p = schedule-carried r h k n allowed p
+  operates-carried (Op.GetResource target) r h k n allowed p = get-carried target r h k n allowed p
+  operates-carried (Op.ReleaseResource target) r h k n allowed p = release-carried target r h k n allowed p

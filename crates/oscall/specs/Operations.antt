@@ -6,13 +6,23 @@ use Rattle.osbase.specs.declared.references.Runner.{Runner}
 use Rattle.osbase.specs.declared.messages.RemoteCall.TheVariants as Remote
 use Rattle.osbase.specs.History.{History, Noted, Done}
 use Rattle.oscript.specs.declared.Op.{Op}
-use Rattle.oscript.specs.declared.Op.TheVariants as Op
 use Rattle.osplan.specs.View.{View}
-use Rattle.oscall.specs.Tasks.{terminates}
+use Rattle.oscall.specs.Tasks.{schedules, terminates}
+use Rattle.oscall.specs.Resources.{gets_resource, releases_resource}
 use Rattle.oscall.specs.Border.{calls}
+use Rattle.oscall.specs.Variables.{adds, adds_variable, sets, stores_status}
 
--- `work` has no effect but to be done. [own: one operation is one unit of a script]
+-- `work` and a jump have no effect but to be done. [own: one operation is one unit of a script]
 abbrev pub operates : View → Runner → Op → History → History
 operates v r Op.Work h = Noted (Done r EOk None) ∷ h
+operates v r (Op.Set x n) h = sets r x n h
+operates v r (Op.Add x n) h = adds v r x n h
+operates v r (Op.AddVariable x y) h = adds_variable v r x y h
+operates v r (Op.StoreStatus x) h = stores_status v r x h
+operates v r (Op.Jump n) h = Noted (Done r EOk None) ∷ h
+operates v r (Op.JumpIfZero x n) h = Noted (Done r EOk None) ∷ h
 operates v r (Op.ActivateTask target) h = calls v r Service.ActivateTask (option_map Remote.ActivateTask target) h
-operates v r Op.TerminateTask h = terminates r h
+operates v r Op.TerminateTask h = terminates v r h
+operates v r Op.Schedule h = schedules v r h
+operates v r (Op.GetResource target) h = gets_resource v r target h
+operates v r (Op.ReleaseResource target) h = releases_resource v r target h

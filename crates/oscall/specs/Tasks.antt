@@ -1,15 +1,17 @@
 -- The services of tasks.
-use Rattle.std.specs.Prelude.{Bool, true, false, List, [], ◌∷◌}
-use Rattle.osbase.specs.declared.statuses.Status.TheVariants.{EOsCallevel, EOsLimit, EOsMissingend}
+use Rattle.std.specs.Prelude.{Bool, true, false, None, List, [], ◌∷◌}
+use Rattle.osbase.specs.declared.statuses.Status.TheVariants.{EOk, EOsCallevel, EOsLimit, EOsResource, EOsMissingend}
 use Rattle.osbase.specs.declared.statuses.ServiceId.TheVariants as ServiceId
 use Rattle.osbase.specs.declared.references.TaskRef.{TaskRef}
 use Rattle.osbase.specs.declared.references.Runner.{Runner}
 use Rattle.osbase.specs.declared.marks.Mark.TheVariants as Mark
 use Rattle.osbase.specs.History.{History}
 use Rattle.osplan.specs.View.{View}
+use Rattle.osjobs.specs.Priorities.{holds_any}
 use Rattle.osstate.specs.Queries.{is_at_limit}
+use Rattle.osstate.specs.Readings.{resources_of}
 use Rattle.oscall.specs.Checks.{Check}
-use Rattle.oscall.specs.Returning.{answers, prints}
+use Rattle.oscall.specs.Returning.{answers, prints, returns}
 use Rattle.oscall.specs.Service.{Service, no_value}
 
 -- A job of the task begins. [OSEK/VDX OS 2.2.3, section 4.3]
@@ -34,13 +36,20 @@ abbrev pub ends_unasked : Runner → History → History
 ends_unasked (Runner.Task t) h = ends (Runner.Task t) (prints (Mark.ErrorHook EOsMissingend) h)
 ends_unasked (Runner.Isr i) h = ends (Runner.Isr i) h
 
--- A job ends itself: for tasks only. [OSEK/VDX OS 2.2.3, section 13.2.3.2]
+-- What only a task may call, and no job that holds a resource: it would keep others from it for as long as it likes.
+-- [OSEK/VDX OS 2.2.3, section 8.1, 13.2.3.2 and 13.2.3.4]
 abbrev pub is_isr : Runner → Bool
 is_isr (Runner.Task t) = false
 is_isr (Runner.Isr i) = true
 
-abbrev pub termination_checks : Runner → List Check
-termination_checks r = (is_isr r, EOsCallevel) ∷ []
+abbrev pub task_checks : View → Runner → History → List Check
+task_checks v r h = (is_isr r, EOsCallevel) ∷ (holds_any (resources_of v r h), EOsResource) ∷ []
 
-abbrev pub terminates : Runner → History → History
-terminates r h = answers r ServiceId.TerminateTask (termination_checks r) (ends r) h
+-- A job ends itself. [OSEK/VDX OS 2.2.3, section 13.2.3.2]
+abbrev pub terminates : View → Runner → History → History
+terminates v r h = answers r ServiceId.TerminateTask (task_checks v r h) (ends r) h
+
+-- A job of a task that can not be preempted lets a job of greater priority run: it gives way by the E_OK with which the
+-- service returns. [OSEK/VDX OS 2.2.3, section 13.2.3.4]
+abbrev pub schedules : View → Runner → History → History
+schedules v r h = answers r ServiceId.Schedule (task_checks v r h) (returns r ServiceId.Schedule EOk None) h

@@ -3,8 +3,8 @@
 ghost use Rattle.std.specs.Prelude.{◌≡◌, ◌<◌, Some, IfSome, IsTrue, false, length};
 ghost use Rattle.osbase.specs.declared.turns.TheConstants.{CORES};
 ghost use Rattle.osbase.specs.Phases.{is_before_live};
+ghost use Rattle.osjobs.specs.Priorities.{is_own_runner};
 ghost use Rattle.osstate.specs.Does.{Effects, HasRoom, Reads, service_entries, service_marks};
-ghost use Rattle.osstate.specs.Sound.{is_own_runner};
 ghost use Rattle.oscall.specs.Border.{answer_to, calls, core_of_call, crosses, effect_of, has_service, is_known_call, is_served, prints_served, serves_action, serves_request};
 
 use crate::returning::{Answer, ask, finish, refuse, report};

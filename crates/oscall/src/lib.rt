@@ -5,10 +5,14 @@
 
 pub mod border;
 pub mod operations;
+pub mod resources;
 pub mod returning;
 pub mod tasks;
+pub mod variables;
 
 pub use border::{call, has_service, serve_action, serve_request};
 pub use operations::operate;
-pub use returning::{Answer, ask, finish, is_ok, refuse, report};
-pub use tasks::{activate, end, end_unasked, terminate};
+pub use resources::{get_resource, release_resource};
+pub use returning::{Answer, accept, ask, finish, is_ok, refuse, report};
+pub use tasks::{activate, end, end_unasked, schedule, terminate};
+pub use variables::{add, add_variable, set, store_status};

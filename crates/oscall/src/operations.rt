@@ -7,7 +7,9 @@ ghost use Rattle.osstate.specs.Sound.{Acts, has_objects_of};
 ghost use Rattle.oscall.specs.Operations.{operates};
 
 use crate::border::call;
-use crate::tasks::terminate;
+use crate::resources::{get_resource, release_resource};
+use crate::tasks::{schedule, terminate};
+use crate::variables::{add, add_variable, set, store_status};
 use osbase::{Mark, RemoteCall, Runner, ServiceId, Status, TaskRef};
 use oscript::Op;
 use osstate::CoreState;
@@ -28,11 +30,20 @@ pub fn operate<const P: usize, const J: usize, const OUT: usize>(
 {
     match op {
         Op::Work => state.complete(runner, Status::EOk, None),
+        Op::Set(variable, number) => set(state, runner, variable, number, marks),
+        Op::Add(variable, number) => add(state, runner, variable, number, marks),
+        Op::AddVariable(variable, other) => add_variable(state, runner, variable, other, marks),
+        Op::StoreStatus(variable) => store_status(state, runner, variable, marks),
+        Op::Jump(_) => state.complete(runner, Status::EOk, None),
+        Op::JumpIfZero(_, _) => state.complete(runner, Status::EOk, None),
         Op::ActivateTask(target) => {
             let target = activation_of(target);
             call(state, runner, ServiceId::ActivateTask, target, marks);
         }
         Op::TerminateTask => terminate(state, runner, marks),
+        Op::Schedule => schedule(state, runner, marks),
+        Op::GetResource(target) => get_resource(state, runner, target, marks),
+        Op::ReleaseResource(target) => release_resource(state, runner, target, marks),
     }
 }
 

@@ -1,9 +1,10 @@
 //! How a service returns to its caller.
 
 ghost use Rattle.std.specs.Prelude.{◌≡◌, ◌<◌, None, IsTrue, length};
+ghost use Rattle.osbase.specs.declared.statuses.Status.TheVariants.{EOk};
 ghost use Rattle.osbase.specs.declared.turns.TheConstants.{CORES};
+ghost use Rattle.osjobs.specs.Priorities.{is_own_runner};
 ghost use Rattle.osstate.specs.Does.{Effects, HasRoom};
-ghost use Rattle.osstate.specs.Sound.{is_own_runner};
 ghost use Rattle.oscall.specs.Checks.{is_ok_status};
 ghost use Rattle.oscall.specs.Returning.{asks, reports, returns};
 
@@ -77,6 +78,24 @@ pub fn refuse<const P: usize, const J: usize, const OUT: usize>(
 {
     let answer = Answer {
         status,
+        value: None,
+    };
+    finish(state, runner, service, answer, marks);
+}
+
+/// A service without a value that has had its effect returns with E_OK.
+pub fn accept<const P: usize, const J: usize, const OUT: usize>(
+    state: &mut CoreState<'_, P, J, OUT>,
+    runner: Runner,
+    service: ServiceId,
+    marks: &mut Vec<Mark>,
+)
+    requires own { IsTrue (is_own_runner state.old.view.own runner) }
+    requires room { HasRoom 3 2 state.old marks.old }
+    ensures { Effects 3 2 (λ v h. returns runner service EOk None h) state.old state.new marks.old marks.new }
+{
+    let answer = Answer {
+        status: Status::EOk,
         value: None,
     };
     finish(state, runner, service, answer, marks);

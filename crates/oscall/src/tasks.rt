@@ -2,13 +2,15 @@
 
 ghost use Rattle.std.specs.Prelude.{◌≡◌, IsTrue, false};
 ghost use Rattle.osbase.specs.Phases.{is_before_live};
+ghost use Rattle.osjobs.specs.Priorities.{is_own_runner};
 ghost use Rattle.osstate.specs.Does.{Effects, HasRoom, Reads};
-ghost use Rattle.osstate.specs.Sound.{Acts, is_own_runner};
+ghost use Rattle.osstate.specs.Sound.{Acts};
+ghost use Rattle.oscall.specs.Checks.{first_failing};
 ghost use Rattle.oscall.specs.Service.{answer_by, effect_by};
-ghost use Rattle.oscall.specs.Tasks.{activation, ends, ends_unasked, terminates};
+ghost use Rattle.oscall.specs.Tasks.{activation, ends, ends_unasked, schedules, task_checks, terminates};
 
-use crate::returning::Answer;
-use osbase::{Mark, Runner, Status, TaskRef};
+use crate::returning::{Answer, finish, is_ok, refuse};
+use osbase::{Mark, Runner, ServiceId, Status, TaskRef};
 use osstate::CoreState;
 
 /// A task is activated where it stands, which is where the number of its live jobs is known
@@ -79,19 +81,61 @@ pub fn end_unasked<const P: usize, const J: usize, const OUT: usize>(
     }
 }
 
-/// A running job of one of the core's tasks ends itself, which has no check that could fail
-/// (OSEK/VDX OS 2.2.3, section 13.2.3.2).
+// The first check that fails of those that a job makes which ends itself or gives way: one that holds a resource
+// may do neither (OSEK/VDX OS 2.2.3, section 8.1).
+fn status_of_task<const P: usize, const J: usize, const OUT: usize>(
+    state: &CoreState<'_, P, J, OUT>,
+    runner: Runner,
+) -> Status
+    requires own { IsTrue (is_own_runner state.now.view.own runner) }
+    ensures { Reads (λ v h. first_failing (task_checks v runner h)) state.now result }
+{
+    match runner {
+        Runner::Task(_) => {
+            if state.holds_resource(runner) {
+                Status::EOsResource
+            } else {
+                Status::EOk
+            }
+        }
+        Runner::Isr(_) => Status::EOsCallevel,
+    }
+}
+
+/// A running job of one of the core's tasks ends itself (OSEK/VDX OS 2.2.3, section 13.2.3.2). One that holds a
+/// resource answers E_OS_RESOURCE and goes on.
 pub fn terminate<const P: usize, const J: usize, const OUT: usize>(
     state: &mut CoreState<'_, P, J, OUT>,
     runner: Runner,
     marks: &mut Vec<Mark>,
 )
     requires acts { Acts state.old runner }
-    requires room { HasRoom 2 2 state.old marks.old }
-    ensures { Effects 2 2 (λ v h. terminates runner h) state.old state.new marks.old marks.new }
+    requires room { HasRoom 3 2 state.old marks.old }
+    ensures { Effects 3 2 (λ v h. terminates v runner h) state.old state.new marks.old marks.new }
 {
-    match runner {
-        Runner::Task(_) => end(state, runner, marks),
-        Runner::Isr(_) => unreachable!(),
+    let status = status_of_task(state, runner);
+    if is_ok(status) {
+        end(state, runner, marks);
+    } else {
+        refuse(state, runner, ServiceId::TerminateTask, status, marks);
     }
+}
+
+/// A running job of one of the core's tasks lets a job of greater priority run, also where its task can not
+/// be preempted (OSEK/VDX OS 2.2.3, section 13.2.3.4). One that holds a resource answers E_OS_RESOURCE and does not
+/// give way.
+pub fn schedule<const P: usize, const J: usize, const OUT: usize>(
+    state: &mut CoreState<'_, P, J, OUT>,
+    runner: Runner,
+    marks: &mut Vec<Mark>,
+)
+    requires own { IsTrue (is_own_runner state.old.view.own runner) }
+    requires room { HasRoom 3 2 state.old marks.old }
+    ensures { Effects 3 2 (λ v h. schedules v runner h) state.old state.new marks.old marks.new }
+{
+    let answer = Answer {
+        status: status_of_task(state, runner),
+        value: None,
+    };
+    finish(state, runner, ServiceId::Schedule, answer, marks);
 }

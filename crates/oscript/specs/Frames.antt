@@ -1,9 +1,10 @@
 -- Where a job stands in its script, read off a history.
-use Rattle.std.specs.Prelude.{◌+◌, ℤ, pos, Bool, if◌then◌else◌, Option, is_some, List, [], ◌∷◌, slice_get}
+use Rattle.std.specs.Prelude.{ℕ, ◌+◌, ◌==◌, ℤ, pos, negsuc, Bool, false, if◌then◌else◌, Option, Some, None, is_some, List, [], ◌∷◌, slice_get, slice_index_or, slice_set}
 use Rattle.std.specs.Option.{option_map_or}
 use Rattle.osbase.specs.declared.statuses.Status.{Status}
 use Rattle.osbase.specs.declared.statuses.Status.TheVariants.{EOk}
 use Rattle.osbase.specs.declared.references.Runner.{Runner}
+use Rattle.osbase.specs.declared.references.Variable.{Variable}
 use Rattle.osbase.specs.declared.marks.Mark.TheVariants as Mark
 use Rattle.osbase.specs.History.{Entry, History, Printed, Noted, Done, same_runner}
 use Rattle.oscript.specs.declared.Op.{Op}
@@ -17,6 +18,20 @@ use Rattle.oscript.specs.Rows.{form_of_op}
 abbrev pub op_has_status : Op → Bool
 op_has_status op = is_some (service_of (form_of_op op).0)
 
+-- The variable that gets the operation's value, if it has one. [own]
+abbrev pub result_of : Op → Option Variable
+result_of (Op.Set x n) = Some x
+result_of (Op.Add x n) = Some x
+result_of (Op.AddVariable x y) = Some x
+result_of (Op.StoreStatus x) = Some x
+result_of op = None
+
+-- The place in the script at which an operation lets its job go on, other than at the next. [own]
+abbrev pub position_of : Op → Option ℕ
+position_of (Op.Jump n) = Some n
+position_of (Op.JumpIfZero x n) = Some n
+position_of op = None
+
 -- What a job does at its place: the operation there, or its end past the last. [own]
 abbrev pub action_at : List Op → Frame → Action
 action_at script frame = option_map_or Perform (slice_get script frame.pc) End
@@ -29,10 +44,35 @@ new_frame = record { pc = 0; status = EOk; vars = pos 0 ∷ pos 0 ∷ pos 0 ∷ 
 abbrev pub rewound : Frame → Frame
 rewound frame = record frame { pc = 0; status = EOk }
 
--- After an operation the job stands at the next one, and a service's status is its last status.
+-- The number that a variable holds.
+abbrev pub value_of : Variable → Frame → ℤ
+value_of x frame = slice_index_or frame.vars x.index (pos 0)
+
+abbrev pub is_zero : ℤ → Bool
+is_zero (pos n) = n == 0
+is_zero (negsuc n) = false
+
+-- Where a job goes on: at the next operation, or at the one that a jump names. [own]
+abbrev pub place_after : Op → Frame → ℕ
+place_after (Op.Jump n) frame = n
+place_after (Op.JumpIfZero x n) frame = if is_zero (value_of x frame) then n else frame.pc + 1
+place_after op frame = frame.pc + 1
+
+abbrev pub with_value : Variable → ℤ → Frame → Frame
+with_value x n frame = record frame { vars = slice_set frame.vars x.index n }
+
+-- A value goes to the variable that it is for.
+abbrev pub stored : Option Variable → Option ℤ → Frame → Frame
+stored (Some x) (Some n) frame = with_value x n frame
+stored (Some x) None frame = frame
+stored None value frame = frame
+
+-- After an operation the job stands where it goes on, a service's status is its last status, and a value is its
+-- variable's. [own]
 abbrev pub completed_by : Action → Frame → Status → Option ℤ → Frame
 completed_by End frame status value = frame
-completed_by (Perform op) frame status value = record frame { pc = frame.pc + 1; status = (if op_has_status op then status else frame.status) }
+completed_by (Perform op) frame status value =
+    stored (result_of op) value (record frame { pc = place_after op frame; status = (if op_has_status op then status else frame.status) })
 
 abbrev pub completed : List Op → Frame → Status → Option ℤ → Frame
 completed script frame status value = completed_by (action_at script frame) frame status value

@@ -1,14 +1,16 @@
 -- The grammar of operations: a row for each. An operation as its verb and its arguments, and the objects that it names.
-use Rattle.std.specs.Prelude.{ℕ, Option, Some, None, List, [], ◌∷◌, codes, option_map, filter_map, slice_get}
-use Rattle.osbase.specs.Objects.{task_of, task_place}
+use Rattle.std.specs.Prelude.{ℕ, ◌&&◌, nat_le, ℤ, pos, negsuc, Bool, true, false, if◌then◌else◌, Option, Some, None, List, [], ◌∷◌, codes, option_map, filter_map, slice_get}
+use Rattle.osbase.specs.Objects.{resource_of, resource_place, same_kind, task_of, task_place}
 use Rattle.osbase.specs.Words.{service_name}
 use Rattle.osbase.specs.declared.objects.Object.{Object as Named}
-use Rattle.osbase.specs.declared.objects.ObjectKind.TheVariants.{Task}
+use Rattle.osbase.specs.declared.objects.ObjectKind.{ObjectKind}
+use Rattle.osbase.specs.declared.objects.ObjectKind.TheVariants.{Task, Resource}
 use Rattle.osbase.specs.declared.objects.Place.{Place}
+use Rattle.osbase.specs.declared.references.ResourceRef.{ResourceRef}
 use Rattle.osbase.specs.declared.references.TaskRef.{TaskRef}
+use Rattle.osbase.specs.declared.references.Variable.{Variable as VariableRef}
 use Rattle.osbase.specs.declared.statuses.ServiceId.TheVariants as Service
 use Rattle.osbase.specs.declared.statuses.ServiceId.{ServiceId}
-use Rattle.oscript.specs.declared.Op.TheVariants as Op
 use Rattle.oscript.specs.declared.Op.{Op}
 use Rattle.oscript.specs.declared.rows.Arg.TheVariants.{Object, Number, Int, Variable}
 use Rattle.oscript.specs.declared.rows.Arg.{Arg}
@@ -17,8 +19,7 @@ use Rattle.oscript.specs.declared.rows.Args.{Args}
 use Rattle.oscript.specs.declared.rows.Form.{Form}
 use Rattle.oscript.specs.declared.rows.Kind.{Kind}
 use Rattle.oscript.specs.declared.rows.Row.{Row}
-use Rattle.oscript.specs.declared.rows.TheConstants.{TASK}
-use Rattle.oscript.specs.declared.rows.Verb.TheVariants as Verb
+use Rattle.oscript.specs.declared.rows.TheConstants.{POSITION, RESOURCE, TASK}
 use Rattle.oscript.specs.declared.rows.Verb.{Verb}
 
 -- The arguments, from the left.
@@ -42,8 +43,17 @@ service_row service kinds = (service_name service, kinds, Some service)
 -- The row of each operation. [own; services as OSEK/VDX OS 2.2.3 and AUTOSAR SWS OS 4.x name them]
 abbrev pub row_of : Verb → List ℕ × Args Kind × Option ServiceId
 row_of Verb.Work = plain_row (codes "work") Zero
+row_of Verb.Set = plain_row (codes "set") (Two Kind.Variable Kind.Int)
+row_of Verb.Add = plain_row (codes "add") (Two Kind.Variable Kind.Int)
+row_of Verb.AddVariable = plain_row (codes "addv") (Two Kind.Variable Kind.Variable)
+row_of Verb.StoreStatus = plain_row (codes "status") (One Kind.Variable)
+row_of Verb.Jump = plain_row (codes "jump") (One POSITION)
+row_of Verb.JumpIfZero = plain_row (codes "jz") (Two Kind.Variable POSITION)
 row_of Verb.ActivateTask = service_row Service.ActivateTask (One TASK)
 row_of Verb.TerminateTask = service_row Service.TerminateTask Zero
+row_of Verb.Schedule = service_row Service.Schedule Zero
+row_of Verb.GetResource = service_row Service.GetResource (One RESOURCE)
+row_of Verb.ReleaseResource = service_row Service.ReleaseResource (One RESOURCE)
 
 abbrev pub word_of : Verb → List ℕ
 word_of verb = (row_of verb).0
@@ -59,21 +69,58 @@ service_of verb = (row_of verb).2
 abbrev pub form_view : Form Place → Verb × List (Arg Place)
 form_view form = (form.verb, items form.args)
 
--- ---- arguments by their places. One that is not of its kind is taken as the invalid identifier.
+-- ---- arguments by their places. One that is not of its kind is taken as the invalid identifier, as 0 or as v0.
 
-abbrev pub task_in : Option (Arg Place) → Option TaskRef
-task_in (Some (Object Task target)) = option_map task_of target
-task_in arg = None
+-- Where the object of a kind stands that an argument names.
+abbrev pub place_in : ObjectKind → Option (Arg Place) → Option Place
+place_in kind (Some (Object other target)) = if same_kind kind other then target else None
+place_in kind arg = None
+
+abbrev pub place_at : ObjectKind → List (Arg Place) → ℕ → Option Place
+place_at kind args i = place_in kind (slice_get args i)
 
 abbrev pub task_at : List (Arg Place) → ℕ → Option TaskRef
-task_at args i = task_in (slice_get args i)
+task_at args i = option_map task_of (place_at Task args i)
+
+abbrev pub resource_at : List (Arg Place) → ℕ → Option ResourceRef
+resource_at args i = option_map resource_of (place_at Resource args i)
+
+abbrev pub int_in : Option (Arg Place) → ℤ
+int_in (Some (Int n)) = n
+int_in arg = pos 0
+
+abbrev pub int_at : List (Arg Place) → ℕ → ℤ
+int_at args i = int_in (slice_get args i)
+
+abbrev pub number_in : Option (Arg Place) → ℕ
+number_in (Some (Number n)) = n
+number_in arg = 0
+
+abbrev pub number_at : List (Arg Place) → ℕ → ℕ
+number_at args i = number_in (slice_get args i)
+
+abbrev pub variable_in : Option (Arg Place) → VariableRef
+variable_in (Some (Variable x)) = record { index = x }
+variable_in arg = record { index = 0 }
+
+abbrev pub variable_at : List (Arg Place) → ℕ → VariableRef
+variable_at args i = variable_in (slice_get args i)
 
 -- ---- operations and their forms
 
 abbrev pub op_by : Verb → List (Arg Place) → Op
 op_by Verb.Work args = Op.Work
+op_by Verb.Set args = Op.Set (variable_at args 0) (int_at args 1)
+op_by Verb.Add args = Op.Add (variable_at args 0) (int_at args 1)
+op_by Verb.AddVariable args = Op.AddVariable (variable_at args 0) (variable_at args 1)
+op_by Verb.StoreStatus args = Op.StoreStatus (variable_at args 0)
+op_by Verb.Jump args = Op.Jump (number_at args 0)
+op_by Verb.JumpIfZero args = Op.JumpIfZero (variable_at args 0) (number_at args 1)
 op_by Verb.ActivateTask args = Op.ActivateTask (task_at args 0)
 op_by Verb.TerminateTask args = Op.TerminateTask
+op_by Verb.Schedule args = Op.Schedule
+op_by Verb.GetResource args = Op.GetResource (resource_at args 0)
+op_by Verb.ReleaseResource args = Op.ReleaseResource (resource_at args 0)
 
 -- The operation of a form. [own]
 abbrev pub op_of : Verb × List (Arg Place) → Op
@@ -82,11 +129,47 @@ op_of form = op_by form.0 form.1
 abbrev pub task_argument : Option TaskRef → Arg Place
 task_argument target = Object Task (option_map task_place target)
 
+abbrev pub resource_argument : Option ResourceRef → Arg Place
+resource_argument target = Object Resource (option_map resource_place target)
+
 -- The form of an operation. [own]
 abbrev pub form_of_op : Op → Verb × List (Arg Place)
 form_of_op Op.Work = (Verb.Work, [])
+form_of_op (Op.Set x n) = (Verb.Set, Variable x.index ∷ Int n ∷ [])
+form_of_op (Op.Add x n) = (Verb.Add, Variable x.index ∷ Int n ∷ [])
+form_of_op (Op.AddVariable x y) = (Verb.AddVariable, Variable x.index ∷ Variable y.index ∷ [])
+form_of_op (Op.StoreStatus x) = (Verb.StoreStatus, Variable x.index ∷ [])
+form_of_op (Op.Jump n) = (Verb.Jump, Number n ∷ [])
+form_of_op (Op.JumpIfZero x n) = (Verb.JumpIfZero, Variable x.index ∷ Number n ∷ [])
 form_of_op (Op.ActivateTask target) = (Verb.ActivateTask, task_argument target ∷ [])
 form_of_op Op.TerminateTask = (Verb.TerminateTask, [])
+form_of_op Op.Schedule = (Verb.Schedule, [])
+form_of_op (Op.GetResource target) = (Verb.GetResource, resource_argument target ∷ [])
+form_of_op (Op.ReleaseResource target) = (Verb.ReleaseResource, resource_argument target ∷ [])
+
+-- ---- arguments of their kinds
+
+-- A signed number of 64 bits.
+abbrev pub is_int : ℤ → Bool
+is_int (pos n) = nat_le n 9223372036854775807
+is_int (negsuc n) = nat_le n 9223372036854775807
+
+-- The argument is one of the kind.
+abbrev pub is_of : Kind → Arg Place → Bool
+is_of (Kind.Object kind) (Object other target) = same_kind kind other
+is_of (Kind.Number low high) (Number n) = nat_le low n && nat_le n high
+is_of Kind.Int (Int n) = is_int n
+is_of Kind.Variable (Variable x) = nat_le x 7
+is_of kind arg = false
+
+abbrev pub are_of : List Kind → List (Arg Place) → Bool
+are_of [] [] = true
+are_of (kind ∷ kinds) (arg ∷ args) = is_of kind arg && are_of kinds args
+are_of kinds args = false
+
+-- The operation's arguments are of the kinds of its row. [own]
+abbrev pub is_in_form : Op → Bool
+is_in_form op = are_of (kinds_of (form_of_op op).0) (form_of_op op).1
 
 -- ---- the objects of an operation
 
@@ -104,3 +187,9 @@ objects_in args = filter_map object_in args
 -- The objects that an operation names, in the order of its arguments. [own]
 abbrev pub objects_of : Op → List Named
 objects_of op = objects_in (form_of_op op).1
+
+-- The operation may name no object of another core. [own]
+abbrev pub names_own_only : Op → Bool
+names_own_only (Op.GetResource target) = true
+names_own_only (Op.ReleaseResource target) = true
+names_own_only op = false

@@ -3,10 +3,10 @@
 
 pub mod rows;
 
-ghost use Rattle.std.specs.Prelude.{◌≡◌};
-ghost use Rattle.oscript.specs.Frames.{action_at, completed, new_frame, op_has_status, rewound};
+ghost use Rattle.std.specs.Prelude.{◌≡◌, ◌<◌, ◌^◌};
+ghost use Rattle.oscript.specs.Frames.{action_at, completed, new_frame, op_has_status, place_after, position_of, result_of, rewound, stored, value_of, with_value};
 
-use osbase::{List, Status, TaskRef};
+use osbase::{List, ResourceRef, Status, TaskRef, Variable};
 pub use rows::{Arg, Args, Form, Kind, Row, VERBS, Verb, form_of_op, op_of, row_of};
 
 /// One operation of a script. In place of an object, `None` is the invalid identifier, `?`.
@@ -14,10 +14,28 @@ pub use rows::{Arg, Args, Form, Kind, Row, VERBS, Verb, form_of_op, op_of, row_o
 pub enum Op {
     /// Does nothing.
     Work,
+    /// The variable becomes this number.
+    Set(Variable, i64),
+    /// The variable becomes its sum with this number.
+    Add(Variable, i64),
+    /// The first variable becomes the sum of both.
+    AddVariable(Variable, Variable),
+    /// The variable becomes the number of the job's last status.
+    StoreStatus(Variable),
+    /// Goes on at the operation of this number, or past the last.
+    Jump(u32),
+    /// Goes on there if the variable is 0, else at the next operation.
+    JumpIfZero(Variable, u32),
     /// ActivateTask (OSEK/VDX OS 2.2.3, section 13.2.3.1).
     ActivateTask(Option<TaskRef>),
     /// TerminateTask (OSEK/VDX OS 2.2.3, section 13.2.3.2).
     TerminateTask,
+    /// Schedule (OSEK/VDX OS 2.2.3, section 13.2.3.4).
+    Schedule,
+    /// GetResource (OSEK/VDX OS 2.2.3, section 13.3.3.1).
+    GetResource(Option<ResourceRef>),
+    /// ReleaseResource (OSEK/VDX OS 2.2.3, section 13.3.3.2).
+    ReleaseResource(Option<ResourceRef>),
 }
 
 impl Op {
@@ -26,6 +44,30 @@ impl Op {
         ensures { result ≡ op_has_status self }
     {
         row_of(form_of_op(self).verb).service.is_some()
+    }
+
+    /// The variable that gets the operation's value, if it has one.
+    pub fn result(self) -> Option<Variable>
+        ensures { result ≡ result_of self }
+    {
+        match self {
+            Op::Set(variable, _) => Some(variable),
+            Op::Add(variable, _) => Some(variable),
+            Op::AddVariable(variable, _) => Some(variable),
+            Op::StoreStatus(variable) => Some(variable),
+            _ => None,
+        }
+    }
+
+    /// The place in the script at which the operation lets the job go on, other than at the next.
+    pub fn position(self) -> Option<u32>
+        ensures { result ≡ position_of self }
+    {
+        match self {
+            Op::Jump(position) => Some(position),
+            Op::JumpIfZero(_, position) => Some(position),
+            _ => None,
+        }
     }
 }
 
@@ -62,6 +104,47 @@ impl Frame {
         }
     }
 
+    /// The number that the variable holds; 0 of a variable that there is not.
+    pub fn value(&self, variable: Variable) -> i64
+        ensures { result ≡ value_of variable self.now }
+    {
+        match self.vars.get(usize::from(variable.index)) {
+            Some(value) => *value,
+            None => 0,
+        }
+    }
+
+    // The place of the operation that comes after this one.
+    fn place_after(&self, op: Op) -> usize
+        requires { self.now.pc < 2 ^ 63 }
+        ensures { result ≡ place_after op self.now }
+    {
+        match op {
+            Op::Jump(position) => position as usize,
+            Op::JumpIfZero(variable, position) if self.value(variable) == 0 => position as usize,
+            _ => self.pc + 1,
+        }
+    }
+
+    fn set(&mut self, variable: Variable, value: i64)
+        ensures { self.new ≡ with_value variable value self.old }
+    {
+        let place = usize::from(variable.index);
+        if place < self.vars.len() {
+            self.vars[place] = value;
+        }
+    }
+
+    // Puts a value into the variable that it is for.
+    fn store(&mut self, variable: Option<Variable>, value: Option<i64>)
+        ensures { self.new ≡ stored variable value self.old }
+    {
+        match (variable, value) {
+            (Some(variable), Some(value)) => self.set(variable, value),
+            _ => {}
+        }
+    }
+
     /// Goes back to operation 0 with status E_OK, as the next job of the task or ISR begins: only
     /// the variables stay.
     pub fn rewind(&mut self)
@@ -83,15 +166,15 @@ pub fn next(script: &Script, frame: &Frame) -> Action
 }
 
 /// Goes on after the operation at the frame's place, which answered this status and value. Past
-/// the last operation nothing changes. No operation takes a value yet.
+/// the last operation nothing changes.
 pub fn complete(script: &Script, frame: &mut Frame, status: Status, value: Option<i64>)
     ensures { frame.new ≡ completed script.now frame.old status value }
 {
-    let _ = value;
     if let Some(op) = script.as_slice().get(frame.pc) {
+        frame.pc = frame.place_after(*op);
         if op.has_status() {
             frame.status = status;
         }
-        frame.pc += 1;
+        frame.store(op.result(), value);
     }
 }

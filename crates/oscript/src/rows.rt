@@ -2,11 +2,11 @@
 //! that it names.
 
 ghost use Rattle.std.specs.Prelude.{◌≡◌, filter_map, option_map, slice_get};
-ghost use Rattle.osbase.specs.Objects.{task_of};
-ghost use Rattle.oscript.specs.Rows.{form_of_op, form_view, items, object_in, objects_of, op_of, plain_row, row_of, row_view, service_row, task_at, task_argument};
+ghost use Rattle.osbase.specs.Objects.{resource_of, task_of};
+ghost use Rattle.oscript.specs.Rows.{form_of_op, form_view, int_at, items, names_own_only, number_at, object_in, objects_of, op_of, place_at, plain_row, resource_argument, resource_at, row_of, row_view, service_row, task_at, task_argument, variable_at};
 
 use crate::Op;
-use osbase::{Object, ObjectKind, Place, ServiceId, TaskRef};
+use osbase::{Object, ObjectKind, Place, ResourceRef, ServiceId, TaskRef, Variable};
 
 /// What an argument of an operation has to be.
 #[derive(Clone, Copy, Debug, PartialEq, Eq)]
@@ -34,8 +34,17 @@ pub enum Args<A> {
 #[derive(Clone, Copy, Debug, PartialEq, Eq)]
 pub enum Verb {
     Work,
+    Set,
+    Add,
+    AddVariable,
+    StoreStatus,
+    Jump,
+    JumpIfZero,
     ActivateTask,
     TerminateTask,
+    Schedule,
+    GetResource,
+    ReleaseResource,
 }
 
 /// One row of the grammar: an operation's word, the kinds of its arguments, and the service that it
@@ -48,10 +57,29 @@ pub struct Row {
 }
 
 /// Every operation.
-pub const VERBS: [Verb; 3] = [Verb::Work, Verb::ActivateTask, Verb::TerminateTask];
+pub const VERBS: [Verb; 12] = [
+    Verb::Work,
+    Verb::Set,
+    Verb::Add,
+    Verb::AddVariable,
+    Verb::StoreStatus,
+    Verb::Jump,
+    Verb::JumpIfZero,
+    Verb::ActivateTask,
+    Verb::TerminateTask,
+    Verb::Schedule,
+    Verb::GetResource,
+    Verb::ReleaseResource,
+];
 
 /// A task's name, or `?`.
 pub const TASK: Kind = Kind::Object(ObjectKind::Task);
+
+/// A resource's name, or `?`.
+pub const RESOURCE: Kind = Kind::Object(ObjectKind::Resource);
+
+/// A place in a script: that of an operation, or past the last of the most that there may be.
+pub const POSITION: Kind = Kind::Number(0, 256);
 
 fn plain_row(word: &'static str, kinds: Args<Kind>) -> Row
     ensures { row_view result ≡ plain_row word.now kinds }
@@ -80,8 +108,17 @@ pub fn row_of(verb: Verb) -> Row
 {
     match verb {
         Verb::Work => plain_row("work", Args::Zero),
+        Verb::Set => plain_row("set", Args::Two(Kind::Variable, Kind::Int)),
+        Verb::Add => plain_row("add", Args::Two(Kind::Variable, Kind::Int)),
+        Verb::AddVariable => plain_row("addv", Args::Two(Kind::Variable, Kind::Variable)),
+        Verb::StoreStatus => plain_row("status", Args::One(Kind::Variable)),
+        Verb::Jump => plain_row("jump", Args::One(POSITION)),
+        Verb::JumpIfZero => plain_row("jz", Args::Two(Kind::Variable, POSITION)),
         Verb::ActivateTask => service_row(ServiceId::ActivateTask, Args::One(TASK)),
         Verb::TerminateTask => service_row(ServiceId::TerminateTask, Args::Zero),
+        Verb::Schedule => service_row(ServiceId::Schedule, Args::Zero),
+        Verb::GetResource => service_row(ServiceId::GetResource, Args::One(RESOURCE)),
+        Verb::ReleaseResource => service_row(ServiceId::ReleaseResource, Args::One(RESOURCE)),
     }
 }
 
@@ -119,6 +156,16 @@ impl<A: Copy> Args<A> {
     }
 }
 
+// Where the object of this kind stands that the argument at this place names.
+fn place_at(args: Args<Arg<Place>>, kind: ObjectKind, i: usize) -> Option<Place>
+    ensures { result ≡ place_at kind (items args) i }
+{
+    match args.get(i) {
+        Some(Arg::Object(other, target)) if kind.is(other) => target,
+        _ => None,
+    }
+}
+
 fn task_in(target: Option<Place>) -> Option<TaskRef>
     ensures { result ≡ option_map task_of target }
 {
@@ -129,21 +176,71 @@ fn task_in(target: Option<Place>) -> Option<TaskRef>
 fn task_at(args: Args<Arg<Place>>, i: usize) -> Option<TaskRef>
     ensures { result ≡ task_at (items args) i }
 {
+    task_in(place_at(args, ObjectKind::Task, i))
+}
+
+fn resource_in(target: Option<Place>) -> Option<ResourceRef>
+    ensures { result ≡ option_map resource_of target }
+{
+    Some(ResourceRef::at(target?))
+}
+
+// The resource that the argument at this place names.
+fn resource_at(args: Args<Arg<Place>>, i: usize) -> Option<ResourceRef>
+    ensures { result ≡ resource_at (items args) i }
+{
+    resource_in(place_at(args, ObjectKind::Resource, i))
+}
+
+// The signed number at this place.
+fn int_at(args: Args<Arg<Place>>, i: usize) -> i64
+    ensures { result ≡ int_at (items args) i }
+{
     match args.get(i) {
-        Some(Arg::Object(ObjectKind::Task, target)) => task_in(target),
-        _ => None,
+        Some(Arg::Int(n)) => n,
+        _ => 0,
     }
 }
 
-/// The operation of a form. An argument that is not of its kind is taken as the invalid identifier.
+// The whole number at this place.
+fn number_at(args: Args<Arg<Place>>, i: usize) -> u32
+    ensures { result ≡ number_at (items args) i }
+{
+    match args.get(i) {
+        Some(Arg::Number(n)) => n,
+        _ => 0,
+    }
+}
+
+// The variable at this place.
+fn variable_at(args: Args<Arg<Place>>, i: usize) -> Variable
+    ensures { result ≡ variable_at (items args) i }
+{
+    match args.get(i) {
+        Some(Arg::Variable(index)) => Variable { index },
+        _ => Variable { index: 0 },
+    }
+}
+
+/// The operation of a form. An argument that is not of its kind is taken as the invalid identifier, as 0
+/// or as `v0`.
 pub fn op_of(form: Form<Place>) -> Op
     ensures { result ≡ op_of (form_view form) }
 {
     let args = form.args;
     match form.verb {
         Verb::Work => Op::Work,
+        Verb::Set => Op::Set(variable_at(args, 0), int_at(args, 1)),
+        Verb::Add => Op::Add(variable_at(args, 0), int_at(args, 1)),
+        Verb::AddVariable => Op::AddVariable(variable_at(args, 0), variable_at(args, 1)),
+        Verb::StoreStatus => Op::StoreStatus(variable_at(args, 0)),
+        Verb::Jump => Op::Jump(number_at(args, 0)),
+        Verb::JumpIfZero => Op::JumpIfZero(variable_at(args, 0), number_at(args, 1)),
         Verb::ActivateTask => Op::ActivateTask(task_at(args, 0)),
         Verb::TerminateTask => Op::TerminateTask,
+        Verb::Schedule => Op::Schedule,
+        Verb::GetResource => Op::GetResource(resource_at(args, 0)),
+        Verb::ReleaseResource => Op::ReleaseResource(resource_at(args, 0)),
     }
 }
 
@@ -162,14 +259,49 @@ fn task_argument(target: Option<TaskRef>) -> Arg<Place>
     }
 }
 
+fn resource_argument(target: Option<ResourceRef>) -> Arg<Place>
+    ensures { result ≡ resource_argument target }
+{
+    match target {
+        Some(resource) => Arg::Object(ObjectKind::Resource, Some(resource.place())),
+        None => Arg::Object(ObjectKind::Resource, None),
+    }
+}
+
+fn variable_argument(variable: Variable) -> Arg<Place>
+    ensures { result ≡ Arg.Variable variable.index }
+{
+    Arg::Variable(variable.index)
+}
+
 /// The form of an operation.
 pub fn form_of_op(op: Op) -> Form<Place>
     ensures { form_view result ≡ form_of_op op }
 {
     match op {
         Op::Work => formed(Verb::Work, Args::Zero),
+        Op::Set(x, n) => formed(Verb::Set, Args::Two(variable_argument(x), Arg::Int(n))),
+        Op::Add(x, n) => formed(Verb::Add, Args::Two(variable_argument(x), Arg::Int(n))),
+        Op::AddVariable(x, y) => formed(
+            Verb::AddVariable,
+            Args::Two(variable_argument(x), variable_argument(y)),
+        ),
+        Op::StoreStatus(x) => formed(Verb::StoreStatus, Args::One(variable_argument(x))),
+        Op::Jump(position) => formed(Verb::Jump, Args::One(Arg::Number(position))),
+        Op::JumpIfZero(x, position) => formed(
+            Verb::JumpIfZero,
+            Args::Two(variable_argument(x), Arg::Number(position)),
+        ),
         Op::ActivateTask(target) => formed(Verb::ActivateTask, Args::One(task_argument(target))),
         Op::TerminateTask => formed(Verb::TerminateTask, Args::Zero),
+        Op::Schedule => formed(Verb::Schedule, Args::Zero),
+        Op::GetResource(target) => {
+            formed(Verb::GetResource, Args::One(resource_argument(target)))
+        }
+        Op::ReleaseResource(target) => formed(
+            Verb::ReleaseResource,
+            Args::One(resource_argument(target)),
+        ),
     }
 }
 
@@ -203,5 +335,16 @@ impl Op {
         ensures { filter_map (λ o. o) result ≡ objects_of self }
     {
         objects_in(form_of_op(self).args)
+    }
+
+    /// Whether the operation may name no object of another core.
+    pub fn names_own_only(self) -> bool
+        ensures { result ≡ names_own_only self }
+    {
+        match self {
+            Op::GetResource(_) => true,
+            Op::ReleaseResource(_) => true,
+            _ => false,
+        }
     }
 }

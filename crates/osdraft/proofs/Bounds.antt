@@ -14,18 +14,19 @@ use Rattle.oscript.specs.declared.Op.TheVariants.{Work}
 use Rattle.osforms.specs.Operation.{op_meant}
 use Rattle.osforms.proofs.Operations.{meant-passes}
 use Rattle.osplan.specs.declared.faults.ConfFault.{ConfFault}
-use Rattle.osplan.specs.declared.faults.ConfFault.TheVariants.{Limit, DuplicateName, UnknownName}
+use Rattle.osplan.specs.declared.faults.ConfFault.TheVariants.{Limit, DuplicateName, UnknownName, WrongCore, BadScript}
 use Rattle.osread.specs.Faults.{failing}
 use Rattle.osdraft.specs.declared.shapes.ConfigText.{ConfigText}
 use Rattle.osdraft.specs.declared.shapes.CoreText.{CoreText}
 use Rattle.osdraft.specs.declared.shapes.TaskText.{TaskText}
 use Rattle.osdraft.specs.declared.declarations.Declaration.{Declaration}
-use Rattle.osdraft.specs.Check.{sizes_of, numbers_of, is_text_within, is_each_once, are_known, tests_of}
+use Rattle.osdraft.specs.Check.{sizes_of, numbers_of, is_text_within, is_each_once, are_known, are_near, are_operations, tests_of}
 use Rattle.osdraft.specs.Declarations.{number_id, declarations, place_of}
 use Rattle.osdraft.specs.Operation.{operations_of, op_of}
 use Rattle.osdraft.specs.Meaning.{only_mode, task_plan, core_plan, plan_of}
 use Rattle.osdraft.proofs.Numbers.{plan-numbers, numbers-kept, bytes-equal, any-map, list_all-total, list_any-by}
 use Rattle.osdraft.proofs.Standing.{place-known}
+use Rattle.osdraft.proofs.Known.{near_kept}
 
 -- ---- the parts of the plan
 
@@ -60,11 +61,13 @@ row-passes : (fault : ConfFault) (passes : Bool) (faults : List ConfFault) → c
 row-passes fault true faults e = (refl, e)
 row-passes fault false faults e = cc
 
-pub faultless : (t : ConfigText) → failing (tests_of t) ≡ [] → (is_text_within t ≡ true) × (is_each_once t ≡ true) × (are_known t ≡ true)
+pub faultless : (t : ConfigText) → failing (tests_of t) ≡ [] → (is_text_within t ≡ true) × (is_each_once t ≡ true) × (are_known t ≡ true) × (are_near t ≡ true) × (are_operations t ≡ true)
 faultless t none =
     let first = row-passes Limit (is_text_within t) _ none in
     let second = row-passes DuplicateName (is_each_once t) _ first.1 in
-    (first.0, second.0, (row-passes UnknownName (are_known t) _ second.1).0)
+    let third = row-passes UnknownName (are_known t) _ second.1 in
+    let fourth = row-passes WrongCore (are_near t) _ third.1 in
+    (first.0, second.0, third.0, fourth.0, (row-passes BadScript (are_operations t) _ fourth.1).0)
 
 pub bounds-of : (t : ConfigText) → failing (tests_of t) ≡ [] → limits.is_within_limits (plan_of t) ≡ true
 bounds-of t none =
@@ -72,5 +75,6 @@ bounds-of t none =
     let inside = (and_parts (is_between 1 1 t.version) (is_within (sizes_of t)) passed.0).1 in
     let distinct = ap are_numbers_distinct (numbers-kept t inside) ∙ (and_parts (are_numbers_distinct (numbers_of t.cores)) _ passed.1).0 in
     let objects = declarations t.cores in
-    and_from _ _ (and_from _ _ (and_from _ _ (ap is_within (plan-numbers t inside) ∙ inside) distinct) (master-found objects t.cores t.master (and_parts _ _ passed.2).0))
-    (list_all-total (limits.is_core_known (plan_of t)) (core_plan objects) (core-known t (place-known t distinct)) t.cores)
+    and_from _ _ (and_from _ _ (and_from _ _ (and_from _ _ (ap is_within (plan-numbers t inside) ∙ inside) distinct) (master-found objects t.cores t.master (and_parts _ _ passed.2).0))
+    (list_all-total (limits.is_core_known (plan_of t)) (core_plan objects) (core-known t (place-known t distinct)) t.cores))
+    (near_kept objects t.cores ∙ passed.3)

@@ -5,3 +5,4 @@ pub mod Least
 pub mod Bounds
 pub mod Sayings
 pub mod Known
+pub mod Indexing

@@ -9,10 +9,11 @@ use Rattle.osbase.specs.declared.objects.Place.{Place}
 use Rattle.osbase.specs.Names.{is_name}
 use Rattle.osplan.proofs.Tests.{find-holds, find-passes}
 use Rattle.osdraft.specs.declared.shapes.CoreText.{CoreText}
+use Rattle.osdraft.specs.declared.shapes.ResourceText.{ResourceText}
 use Rattle.osdraft.specs.declared.shapes.TaskText.{TaskText}
 use Rattle.osdraft.specs.declared.declarations.Declaration.{Declaration}
-use Rattle.osdraft.specs.Check.{has_named_tasks}
-use Rattle.osdraft.specs.Declarations.{task_declaration, declared_by, declarations, has_name}
+use Rattle.osdraft.specs.Check.{has_named_tasks, has_named_resources, has_named_objects}
+use Rattle.osdraft.specs.Declarations.{task_declaration, resource_declaration, declared_tasks, declared_resources, declared_by, declarations, has_name}
 
 tasks-named : (core : CoreText) (n : ℕ) (tasks : List TaskText) → list_all (λ (task : TaskText). is_name task.name) tasks ≡ true → list_all (λ (d : Declaration). is_name d.name) (map (task_declaration core) (enumerate_from n tasks)) ≡ true
 tasks-named core n [] named = refl
@@ -20,11 +21,23 @@ tasks-named core n (task ∷ tasks) named =
     let parts = and_parts (is_name task.name) _ named in
     and_from _ _ parts.0 (tasks-named core (n + 1) tasks parts.1)
 
-pub declared-named : (cores : List CoreText) → list_all has_named_tasks cores ≡ true → list_all (λ (d : Declaration). is_name d.name) (declarations cores) ≡ true
+resources-named : (core : CoreText) (n : ℕ) (resources : List ResourceText) → list_all (λ (resource : ResourceText). is_name resource.name) resources ≡ true
+    → list_all (λ (d : Declaration). is_name d.name) (map (resource_declaration core) (enumerate_from n resources)) ≡ true
+resources-named core n [] named = refl
+resources-named core n (resource ∷ resources) named =
+    let parts = and_parts (is_name resource.name) _ named in
+    and_from _ _ parts.0 (resources-named core (n + 1) resources parts.1)
+
+objects-named : (core : CoreText) → has_named_objects core ≡ true → list_all (λ (d : Declaration). is_name d.name) (declared_by core) ≡ true
+objects-named core named =
+    let parts = and_parts (has_named_tasks core) (has_named_resources core) named in
+    list_all-append (λ (d : Declaration). is_name d.name) (declared_tasks core) (declared_resources core) ∙ and_from _ _ (tasks-named core 0 core.tasks parts.0) (resources-named core 0 core.resources parts.1)
+
+pub declared-named : (cores : List CoreText) → list_all has_named_objects cores ≡ true → list_all (λ (d : Declaration). is_name d.name) (declarations cores) ≡ true
 declared-named [] named = refl
 declared-named (core ∷ cores) named =
-    let parts = and_parts (has_named_tasks core) (list_all has_named_tasks cores) named in
-    list_all-append (λ (d : Declaration). is_name d.name) (declared_by core) (declarations cores) ∙ and_from _ _ (tasks-named core 0 core.tasks parts.0) (declared-named cores parts.1)
+    let parts = and_parts (has_named_objects core) (list_all has_named_objects cores) named in
+    list_all-append (λ (d : Declaration). is_name d.name) (declared_by core) (declarations cores) ∙ and_from _ _ (objects-named core parts.0) (declared-named cores parts.1)
 
 pub if-named : (objects : List Declaration) (name : List ℕ) (d : Declaration) (found : Option Place) → list_all (λ (d : Declaration). is_name d.name) objects ≡ true → find (has_name name) objects ≡ Some d → IfSome found (λ place. is_name name ≡ true)
 if-named objects name d None named is = tt

@@ -1,22 +1,24 @@
 -- The plan of a text has the text's numbers, which are within their limits.
-use Rattle.std.proofs.Common.{inl, inr, ◌≡◌, ℕ, ◌||◌, ◌≤◌, Bool, true, false, cond, eqb, leb, List, [], ◌∷◌, map, Option, Some, None, refl, sym, ap, ◌∙◌, arith}
+use Rattle.std.proofs.Common.{inl, inr, ◌≡◌, ℕ, ◌*◌, ◌||◌, ◌≤◌, Bool, true, false, cond, eqb, leb, nat_le, sum_by, List, [], ◌∷◌, length, map, unwrap_or, Option, Some, None, refl, sym, ap, ◌∙◌, arith}
 use Rattle.std.specs.List.{list_all, list_any}
 use Rattle.std.proofs.lemmas.Bool.{and_parts, and_from, le-leb, true≢false, eq-eqb, eqb-true, or_cases, or_left, or_right}
 use Rattle.std.proofs.lemmas.List.{length-map}
-use Rattle.std.proofs.lemmas.List.Folds.{list_all-map}
+use Rattle.std.proofs.lemmas.List.Folds.{fold-map, list_all-map}
+use Rattle.std.proofs.lemmas.List.Sums.{sum_by-cons}
 use Rattle.osplan.specs.declared.plans.Core.{Core}
 use Rattle.osplan.specs.Limits as limits
-use Rattle.osplan.specs.Limits.{TaskSizes, CoreSizes, Sizes, is_between, is_start, is_task_within, is_core_within, is_within, number_of, same_number}
+use Rattle.osplan.specs.Limits.{TaskSizes, CoreSizes, Sizes, is_between, is_ceiling, is_start, is_task_within, is_core_within, is_within, jobs_of, number_of, same_number}
 use Rattle.osplan.proofs.Tests.{all-weaker}
 use Rattle.osplan.proofs.Within.{between}
 use Rattle.osdraft.specs.declared.shapes.ConfigText.{ConfigText}
 use Rattle.osdraft.specs.declared.shapes.CoreText.{CoreText}
+use Rattle.osdraft.specs.declared.shapes.ResourceText.{ResourceText}
 use Rattle.osdraft.specs.declared.shapes.TaskText.{TaskText}
 use Rattle.osdraft.specs.declared.declarations.Declaration.{Declaration}
 use Rattle.osdraft.specs.Check.{task_sizes, core_sizes, sizes_of, numbers_of}
 use Rattle.osdraft.specs.Declarations.{byte_of, number_id, declarations}
 use Rattle.osdraft.specs.Operation.{operations_of, op_of}
-use Rattle.osdraft.specs.Meaning.{task_plan, core_plan, plan_of}
+use Rattle.osdraft.specs.Meaning.{task_plan, resource_plan, core_plan, plan_of}
 
 -- ---- numbers within their limits are bytes
 
@@ -44,19 +46,39 @@ task-bytes s h =
     let numbers = and_parts _ _ (and_parts _ _ h).0 in
     (is-byte _ _ s.priority numbers.0 (omega arith), is-byte _ _ s.activations numbers.1 (omega arith))
 
-pub core-bytes : (s : CoreSizes) → is_core_within s ≡ true → IsByte s.number × (list_all is_start s.start ≡ true) × (list_all is_task_within s.tasks ≡ true)
+pub core-bytes : (s : CoreSizes) → is_core_within s ≡ true → IsByte s.number × (list_all is_start s.start ≡ true) × (list_all is_task_within s.tasks ≡ true) × (list_all is_ceiling s.resources ≡ true)
 core-bytes s h =
-    let tasks = and_parts _ (list_all is_task_within s.tasks) h in
+    let resources = and_parts _ (list_all is_ceiling s.resources) h in
+    let count = and_parts _ (nat_le (length s.resources) 16) resources.0 in
+    let tasks = and_parts _ (list_all is_task_within s.tasks) (and_parts _ (nat_le (sum_by jobs_of s.tasks) 64) count.0).0 in
     let numbers = and_parts _ _ (and_parts _ _ tasks.0).0 in
-    (is-byte _ _ s.number numbers.0 (omega arith), numbers.1, tasks.1)
+    (is-byte _ _ s.number numbers.0 (omega arith), numbers.1, tasks.1, resources.1)
 
 pub cap-byte : (s : Sizes) → is_within s ≡ true → IsByte s.cap
 cap-byte s h = is-byte _ _ s.cap (and_parts _ (is_between _ _ s.cap) (and_parts _ _ (and_parts _ _ h).0).0).1 (omega arith)
 
+-- ---- jobs within their limits are few
+
+most : (low high : ℕ) (number : Option ℕ) → is_between low high number ≡ true → unwrap_or number 0 ≤ high
+most low high None h = absurd (true≢false (sym h))
+most low high (Some n) h = (between low high n h).1
+
+most-jobs : (s : TaskSizes) → is_task_within s ≡ true → jobs_of s ≤ 64
+most-jobs s h = most 1 64 s.activations (and_parts _ _ (and_parts _ _ h).0).1
+
+pub few_jobs : (tasks : List TaskText) → list_all (λ (task : TaskText). is_task_within (task_sizes task)) tasks ≡ true → sum_by (λ (task : TaskText). jobs_of (task_sizes task)) tasks ≤ 64 * length tasks
+few_jobs [] h = omega arith
+few_jobs (task ∷ tasks) h =
+    let parts = and_parts (is_task_within (task_sizes task)) _ h in
+    let first = most-jobs (task_sizes task) parts.0 in
+    let sum = sum_by-cons (λ (task : TaskText). jobs_of (task_sizes task)) task tasks in
+    let rest = few_jobs tasks parts.1 in
+    omega arith
+
 -- ---- lists of tests
 
 -- what is asked of each element's numbers, and how many there are
-pub ruleset mapped = (list_all-map, length-map)
+pub ruleset mapped = (list_all-map, length-map, fold-map)
 
 pub any-map : {X Y : Type 0} (p : Y → Bool) (f : X → Y) (xs : List X) → list_any p (map f xs) ≡ list_any (λ x. p (f x)) xs
 any-map p f [] = refl
@@ -97,6 +119,9 @@ module _ (objects : List Declaration) where
       let activations : Some (byte_of task.activations) ≡ task.activations = bytes.1 in
       rw (priority, activations, length-map (operations_of task.script) (op_of objects)) refl
 
+  resource-numbers : (resource : ResourceText) → is_ceiling resource.ceiling ≡ true → limits.ceiling_of (resource_plan resource) ≡ resource.ceiling
+  resource-numbers resource h = is-byte _ _ resource.ceiling h (omega arith)
+
   core-numbers : (core : CoreText) → is_core_within (core_sizes core) ≡ true → limits.core_sizes (core_plan objects core) ≡ core_sizes core
   core-numbers core h =
       let bytes = core-bytes (core_sizes core) h in
@@ -105,6 +130,8 @@ module _ (objects : List Declaration) where
         number,
         map-back number_of number_id is_start (λ n low. is-byte _ _ n low (omega arith)) core.start bytes.1,
         map-same limits.task_sizes (task_plan objects) task_sizes (λ task. is_task_within (task_sizes task)) task-numbers core.tasks (sym (list_all-map is_task_within task_sizes core.tasks) ∙ bytes.2),
+        map-same limits.ceiling_of resource_plan (λ (resource : ResourceText). resource.ceiling) (λ (resource : ResourceText). is_ceiling resource.ceiling) resource-numbers core.resources
+            (sym (list_all-map is_ceiling (λ (resource : ResourceText). resource.ceiling) core.resources) ∙ bytes.3),
       ) refl
 
 abbrev pub is_inside : CoreText → Bool

@@ -1,8 +1,14 @@
 -- What a text without a fault means can be said by a text.
-use Rattle.std.proofs.Common.{◌≡◌, ℕ, ◌+◌, true, List, [], ◌∷◌, ◌++◌, map, refl, sym, ap, ◌∙◌}
+use Rattle.std.proofs.Common.{◌≡◌, ℕ, ◌+◌, ◌&&◌, true, List, [], ◌∷◌, ◌++◌, map, Option, Some, None, unwrap_or, refl, sym, ap, ◌∙◌}
 use Rattle.std.specs.List.{list_all, enumerate_from, flat_map}
 use Rattle.std.proofs.lemmas.Bool.{and_parts, and_from}
 use Rattle.std.proofs.lemmas.List.{map-append}
+use Rattle.oscript.specs.declared.Op.{Op}
+use Rattle.oscript.specs.declared.Op.TheVariants.{Work}
+use Rattle.oscript.specs.Rows.{is_in_form}
+use Rattle.osforms.specs.Operation.{op_meant}
+use Rattle.osforms.proofs.Operations.{meant-in-form}
+use Rattle.osplan.specs.declared.plans.Resource.{Resource}
 use Rattle.osplan.specs.declared.plans.Task.{Task}
 use Rattle.osplan.specs.Expressible as said
 use Rattle.osplan.specs.Limits.{are_numbers_distinct}
@@ -10,12 +16,15 @@ use Rattle.osbase.specs.Names.{is_name}
 use Rattle.osplan.specs.Expressible.{mode_name, is_only_mode}
 use Rattle.osdraft.specs.declared.shapes.ConfigText.{ConfigText}
 use Rattle.osdraft.specs.declared.shapes.CoreText.{CoreText}
+use Rattle.osdraft.specs.declared.shapes.ResourceText.{ResourceText}
 use Rattle.osdraft.specs.declared.shapes.TaskText.{TaskText}
 use Rattle.osread.specs.Faults.{failing}
 use Rattle.osdraft.specs.declared.declarations.Declaration.{Declaration}
-use Rattle.osdraft.specs.Check.{numbers_of, has_named_tasks, tests_of}
-use Rattle.osdraft.specs.Declarations.{task_declaration, declared_by, declarations}
-use Rattle.osdraft.specs.Meaning.{only_mode, task_plan, core_plan, plan_of}
+use Rattle.osdraft.specs.Check.{numbers_of, has_named_tasks, has_named_resources, has_named_objects, is_task_script, is_core_script, tests_of}
+use Rattle.osdraft.specs.Declarations.{task_declaration, resource_declaration, declared_tasks, declared_resources, declared_by, declarations, place_of}
+use Rattle.osdraft.specs.Operation.{is_operation, op_of, operations_of}
+use Rattle.osdraft.specs.Meaning.{only_mode, task_plan, resource_plan, core_plan, plan_of}
+use Rattle.osplan.proofs.Tests.{all-both}
 use Rattle.osdraft.proofs.Numbers.{list_all-by, list_all-total}
 use Rattle.osdraft.proofs.Bounds.{faultless}
 
@@ -26,21 +35,52 @@ tasks-named : (objects : List Declaration) (core : CoreText) (n : ℕ) (tasks : 
 tasks-named objects core n [] = refl
 tasks-named objects core n (task ∷ tasks) = ap (λ names. task.name ∷ names) (tasks-named objects core (n + 1) tasks)
 
+resources-named : (core : CoreText) (n : ℕ) (resources : List ResourceText)
+    → map (λ (resource : Resource). resource.name) (map resource_plan resources) ≡ map (λ (d : Declaration). d.name) (map (resource_declaration core) (enumerate_from n resources))
+resources-named core n [] = refl
+resources-named core n (resource ∷ resources) = ap (λ names. resource.name ∷ names) (resources-named core (n + 1) resources)
+
+objects-named : (objects : List Declaration) (core : CoreText) → said.object_names (core_plan objects core) ≡ map (λ (d : Declaration). d.name) (declared_by core)
+objects-named objects core =
+    ap (λ names. names ++ map (λ (resource : Resource). resource.name) (map resource_plan core.resources)) (tasks-named objects core 0 core.tasks)
+    ∙ ap (λ names. map (λ (d : Declaration). d.name) (declared_tasks core) ++ names) (resources-named core 0 core.resources)
+    ∙ sym (map-append (λ (d : Declaration). d.name) (declared_tasks core) (declared_resources core))
+
 names-kept : (objects : List Declaration) (cores : List CoreText) → flat_map said.object_names (map (core_plan objects) cores) ≡ map (λ (d : Declaration). d.name) (declarations cores)
 names-kept objects [] = refl
 names-kept objects (core ∷ cores) =
-    ap (λ names. names ++ flat_map said.object_names (map (core_plan objects) cores)) (tasks-named objects core 0 core.tasks)
+    ap (λ names. names ++ flat_map said.object_names (map (core_plan objects) cores)) (objects-named objects core)
     ∙ ap (λ names. map (λ (d : Declaration). d.name) (declared_by core) ++ names) (names-kept objects cores)
     ∙ sym (map-append (λ (d : Declaration). d.name) (declared_by core) (declarations cores))
 
 -- ---- the parts
 
-core-said : (objects : List Declaration) (core : CoreText) → has_named_tasks core ≡ true → said.is_core_expressible (core_plan objects core) ≡ true
-core-said objects core named =
-    and_from _ _ (and_from _ _ (and_from _ _ (list_all-by (λ (task : TaskText). is_name task.name) said.is_task_expressible (task_plan objects) (λ task e. and_from _ _ e (list_all-total is_only_mode (λ (name : List ℕ). only_mode) (λ name. refl) task.auto)) core.tasks named) refl) refl) refl
+op-said : (objects : List Declaration) (text : List ℕ) → is_in_form (op_of objects text) ≡ true
+op-said objects text = by (op_meant (place_of objects) text) refl
+  where
+    by : (o : Option Op) → op_meant (place_of objects) text ≡ o → is_in_form (unwrap_or o Work) ≡ true
+    by None e = refl
+    by (Some op) e = meant-in-form (place_of objects) text op e
 
-pub expressible-of : (t : ConfigText) → list_all has_named_tasks t.cores ≡ true → failing (tests_of t) ≡ [] → said.is_expressible (plan_of t) ≡ true
+task-said : (objects : List Declaration) (task : TaskText) → (is_name task.name && is_task_script objects task) ≡ true → said.is_task_expressible (task_plan objects task) ≡ true
+task-said objects task h =
+    let parts = and_parts (is_name task.name) (is_task_script objects task) h in
+    let script = and_parts (list_all is_operation (operations_of task.script)) _ parts.1 in
+    and_from _ _ (and_from _ _ parts.0 (list_all-total is_only_mode (λ (name : List ℕ). only_mode) (λ name. refl) task.auto))
+    (and_from _ _ (list_all-total is_in_form (op_of objects) (op-said objects) (operations_of task.script)) script.1)
+
+core-said : (objects : List Declaration) (core : CoreText) → (has_named_objects core && is_core_script objects core) ≡ true → said.is_core_expressible (core_plan objects core) ≡ true
+core-said objects core h =
+    let parts = and_parts (has_named_objects core) (is_core_script objects core) h in
+    let named = and_parts (has_named_tasks core) (has_named_resources core) parts.0 in
+    let tasks = all-both (λ (task : TaskText). is_name task.name) (is_task_script objects) core.tasks named.0 parts.1 in
+    let resources = list_all-by (λ (resource : ResourceText). is_name resource.name) said.is_resource_expressible resource_plan (λ resource e. e) core.resources named.1 in
+    and_from _ _ (and_from _ _ (and_from _ _ (and_from _ _ (list_all-by (λ (task : TaskText). is_name task.name && is_task_script objects task) said.is_task_expressible (task_plan objects) (task-said objects) core.tasks tasks) resources) refl) refl) refl
+
+pub expressible-of : (t : ConfigText) → list_all has_named_objects t.cores ≡ true → failing (tests_of t) ≡ [] → said.is_expressible (plan_of t) ≡ true
 expressible-of t named none =
-    let once = and_parts (are_numbers_distinct (numbers_of t.cores)) _ (faultless t none).1 in
+    let passed = faultless t none in
+    let once = and_parts (are_numbers_distinct (numbers_of t.cores)) _ passed.1 in
     let objects = declarations t.cores in
-    and_from _ _ (list_all-by has_named_tasks said.is_core_expressible (core_plan objects) (core-said objects) t.cores named) (ap (λ names. said.are_distinct (mode_name ∷ names)) (names-kept objects t.cores) ∙ once.1)
+    let cores = all-both has_named_objects (is_core_script objects) t.cores named passed.4 in
+    and_from _ _ (list_all-by (λ (core : CoreText). has_named_objects core && is_core_script objects core) said.is_core_expressible (core_plan objects) (core-said objects) t.cores cores) (ap (λ names. said.are_distinct (mode_name ∷ names)) (names-kept objects t.cores) ∙ once.1)

@@ -1,9 +1,11 @@
 -- The objects that a text declares are objects of its plan.
 use Rattle.std.proofs.Common.{◌≡◌, ℕ, suc, ◌+◌, ◌≤◌, Bool, true, false, not, cond, List, [], ◌∷◌, length, map, Option, Some, None, option_and_then, refl, sym, ap, ◌∙◌, arith}
 use Rattle.std.specs.List.{list_all, enumerate_from, find, AllByRecursion}
-use Rattle.std.proofs.lemmas.Bool.{and_parts, and_from, or_parts, not-true, le-leb, true≢false}
+use Rattle.std.proofs.lemmas.Bool.{and_parts, and_from, or_parts, not-true, le-leb}
 use Rattle.std.proofs.lemmas.List.{length-map}
 use Rattle.std.proofs.lemmas.List.Folds.{list_all-append}
+use Rattle.osbase.specs.Objects.{same_kind}
+use Rattle.osbase.proofs.Same.{same_kind-true}
 use Rattle.osbase.specs.declared.objects.ObjectKind.{ObjectKind}
 use Rattle.osbase.specs.declared.objects.Object.{Object}
 use Rattle.osbase.specs.declared.objects.Place.{Place}
@@ -14,9 +16,10 @@ use Rattle.osplan.specs.Limits.{number_of, numbers_of, has_number, are_numbers_d
 use Rattle.osplan.proofs.Tests.{find-passes}
 use Rattle.osdraft.specs.declared.shapes.ConfigText.{ConfigText}
 use Rattle.osdraft.specs.declared.shapes.CoreText.{CoreText}
+use Rattle.osdraft.specs.declared.shapes.ResourceText.{ResourceText}
 use Rattle.osdraft.specs.declared.shapes.TaskText.{TaskText}
 use Rattle.osdraft.specs.declared.declarations.Declaration.{Declaration}
-use Rattle.osdraft.specs.Declarations.{byte_of, task_declaration, declared_by, declarations, has_name, is_kind, place_in, place_of}
+use Rattle.osdraft.specs.Declarations.{byte_of, task_declaration, resource_declaration, declared_tasks, declared_resources, declared_by, declarations, has_name, place_in, place_of}
 use Rattle.osdraft.specs.Meaning.{core_plan, plan_of}
 use Rattle.osdraft.proofs.Numbers.{byte-at_most}
 
@@ -56,30 +59,36 @@ module _ (t : ConfigText) where
       let count : length (planned core).tasks ≡ length core.tasks = length-map core.tasks _ in
       and_from _ _ (rw found (rw count (le-leb (suc (byte_of (Some n))) (length core.tasks) (omega arith)))) (tasks-there core (n + 1) tasks found (omega arith))
 
+  resources-there : (core : CoreText) (n : ℕ) (resources : List ResourceText) → IsFound (plan_of t).cores (planned core) → n + length resources ≤ length core.resources
+      → list_all is_there (map (resource_declaration core) (enumerate_from n resources)) ≡ true
+  resources-there core n [] found within = refl
+  resources-there core n (resource ∷ resources) found within =
+      let below : byte_of (Some n) ≤ n = byte-at_most n in
+      let count : length (planned core).resources ≡ length core.resources = length-map core.resources _ in
+      and_from _ _ (rw found (rw count (le-leb (suc (byte_of (Some n))) (length core.resources) (omega arith)))) (resources-there core (n + 1) resources found (omega arith))
+
+  objects-there : (core : CoreText) → IsFound (plan_of t).cores (planned core) → list_all is_there (declared_by core) ≡ true
+  objects-there core found =
+      list_all-append is_there (declared_tasks core) (declared_resources core) ∙ and_from _ _ (tasks-there core 0 core.tasks found (omega arith)) (resources-there core 0 core.resources found (omega arith))
+
   all-there : (cores : List CoreText) → AllByRecursion (IsFound (plan_of t).cores) (map planned cores) → list_all is_there (declarations cores) ≡ true
   all-there [] found = refl
   all-there (core ∷ cores) found =
-      list_all-append is_there (declared_by core) (declarations cores) ∙ and_from _ _ (tasks-there core 0 core.tasks found.0 (omega arith)) (all-there cores found.1)
+      list_all-append is_there (declared_by core) (declarations cores) ∙ and_from _ _ (objects-there core found.0) (all-there cores found.1)
 
 -- ---- what a name stands for
 
-kind-is : (kind other : ObjectKind) → is_kind kind other ≡ true → kind ≡ other
-kind-is ObjectKind.Task ObjectKind.Task same = refl
-kind-is ObjectKind.Alarm ObjectKind.Alarm same = refl
-kind-is ObjectKind.Task ObjectKind.Alarm same = absurd (true≢false (sym same))
-kind-is ObjectKind.Alarm ObjectKind.Task same = absurd (true≢false (sym same))
-
-place-is : (kind : ObjectKind) (d : Declaration) (place : Place) (b : Bool) → is_kind d.kind kind ≡ b → cond b (Some (object_of d).place) None ≡ Some place → object_of d ≡ record { kind = kind; place = place }
+place-is : (kind : ObjectKind) (d : Declaration) (place : Place) (b : Bool) → same_kind d.kind kind ≡ b → cond b (Some (object_of d).place) None ≡ Some place → object_of d ≡ record { kind = kind; place = place }
 place-is kind d place true same is =
     let there : (object_of d).place ≡ place = cc in
-    ap (λ (k : ObjectKind). let o : Object = record { kind = k; place = (object_of d).place } in o) (kind-is d.kind kind same) ∙ ap (λ (p : Place). let o : Object = record { kind = kind; place = p } in o) there
+    ap (λ (k : ObjectKind). let o : Object = record { kind = k; place = (object_of d).place } in o) (same_kind-true d.kind kind same) ∙ ap (λ (p : Place). let o : Object = record { kind = kind; place = p } in o) there
 place-is kind d place false same is = cc
 
 found-there : (t : ConfigText) (kind : ObjectKind) (name : List ℕ) (place : Place) (o : Option Declaration) → find (has_name name) (declarations t.cores) ≡ o → option_and_then (place_in kind) o ≡ Some place → list_all (is_there t) (declarations t.cores) ≡ true
     → is_object (plan_of t) (record { kind = kind; place = place }) ≡ true
 found-there t kind name place None found is there = cc
 found-there t kind name place (Some d) found is there =
-    ap (is_object (plan_of t)) (sym (place-is kind d place (is_kind d.kind kind) refl is)) ∙ find-passes (has_name name) (is_there t) (declarations t.cores) d there found
+    ap (is_object (plan_of t)) (sym (place-is kind d place (same_kind d.kind kind) refl is)) ∙ find-passes (has_name name) (is_there t) (declarations t.cores) d there found
 
 -- A name that has a place stands for an object of the plan.
 pub place-known : (t : ConfigText) → are_numbers_distinct (numbers_of (plan_of t).cores) ≡ true → (kind : ObjectKind) (name : List ℕ) (place : Place) → place_of (declarations t.cores) kind name ≡ Some place

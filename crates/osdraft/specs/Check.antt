@@ -4,16 +4,18 @@ use Rattle.std.specs.Prelude.{ℕ, ◌&&◌, Bool, Option, List, [], ◌∷◌, 
 use Rattle.std.specs.List.{list_all}
 use Rattle.std.specs.Str.{bytes_eq}
 use Rattle.osbase.specs.Names.{is_name}
-use Rattle.osplan.specs.Expressible.{are_distinct, mode_name}
-use Rattle.osplan.specs.Limits.{TaskSizes, CoreSizes, Sizes, is_between, is_within, has_number, are_numbers_distinct}
-use Rattle.osplan.specs.declared.faults.ConfFault.TheVariants.{Limit, DuplicateName, UnknownName, BadScript}
+use Rattle.osbase.specs.declared.references.CoreId.{CoreId}
+use Rattle.osplan.specs.Expressible.{are_distinct, is_jumping_within, mode_name}
+use Rattle.osplan.specs.Limits.{TaskSizes, CoreSizes, Sizes, is_between, is_within, has_number, are_numbers_distinct, stays_on}
+use Rattle.osplan.specs.declared.faults.ConfFault.TheVariants.{Limit, DuplicateName, UnknownName, WrongCore, BadScript}
 use Rattle.osdraft.specs.declared.shapes.ConfigText.{ConfigText}
 use Rattle.osdraft.specs.declared.shapes.CoreText.{CoreText}
+use Rattle.osdraft.specs.declared.shapes.ResourceText.{ResourceText}
 use Rattle.osdraft.specs.declared.shapes.TaskText.{TaskText}
 use Rattle.osread.specs.Faults.{Tests}
 use Rattle.osdraft.specs.declared.declarations.Declaration.{Declaration}
-use Rattle.osdraft.specs.Declarations.{declarations}
-use Rattle.osdraft.specs.Operation.{operations_of, is_operation_known, is_operation}
+use Rattle.osdraft.specs.Declarations.{declarations, id_of}
+use Rattle.osdraft.specs.Operation.{operations_of, op_of, is_operation_known, is_operation}
 
 -- ---- limits: those of a configuration, over the text's numbers
 
@@ -21,7 +23,12 @@ abbrev pub task_sizes : TaskText → TaskSizes
 task_sizes task = record { priority = task.prio; activations = task.activations; operations = length (operations_of task.script) }
 
 abbrev pub core_sizes : CoreText → CoreSizes
-core_sizes core = record { number = core.id; start = core.start; tasks = map task_sizes core.tasks }
+core_sizes core = record {
+  number = core.id;
+  start = core.start;
+  tasks = map task_sizes core.tasks;
+  resources = map (λ (resource : ResourceText). resource.ceiling) core.resources;
+}
 
 -- There is one mode.
 abbrev pub sizes_of : ConfigText → Sizes
@@ -47,9 +54,15 @@ is_each_once t = are_numbers_distinct (numbers_of t.cores) && are_distinct (name
 
 -- ---- names and numbers that name nothing
 
--- Each task of the core has a name in form, as in every shape.
+-- Each object of the core has a name in form, as in every shape.
 abbrev pub has_named_tasks : CoreText → Bool
 has_named_tasks core = list_all (λ (task : TaskText). is_name task.name) core.tasks
+
+abbrev pub has_named_resources : CoreText → Bool
+has_named_resources core = list_all (λ (resource : ResourceText). is_name resource.name) core.resources
+
+abbrev pub has_named_objects : CoreText → Bool
+has_named_objects core = has_named_tasks core && has_named_resources core
 
 abbrev pub are_operations_known : List Declaration → List ℕ → Bool
 are_operations_known objects script = list_all (is_operation_known objects) (operations_of script)
@@ -67,19 +80,39 @@ is_core_known objects core = list_all (is_task_known objects) core.tasks
 abbrev pub are_known : ConfigText → Bool
 are_known t = has_number (numbers_of t.cores) t.master && list_all (is_core_known (declarations t.cores)) t.cores
 
+-- ---- names of other cores' objects
+
+-- The operation that the text means names no object of another core than this one, where it may name the core's own alone.
+abbrev pub is_operation_near : List Declaration → CoreId → List ℕ → Bool
+is_operation_near objects id text = stays_on id (op_of objects text)
+
+abbrev pub is_script_near : List Declaration → CoreId → List ℕ → Bool
+is_script_near objects id script = list_all (is_operation_near objects id) (operations_of script)
+
+abbrev pub is_core_near : List Declaration → CoreText → Bool
+is_core_near objects core = list_all (λ (task : TaskText). is_script_near objects (id_of core) task.script) core.tasks
+
+-- So it is with each operation of each core's scripts.
+abbrev pub are_near : ConfigText → Bool
+are_near t = list_all (is_core_near (declarations t.cores)) t.cores
+
 -- ---- scripts
 
-abbrev pub is_task_script : TaskText → Bool
-is_task_script task = list_all is_operation (operations_of task.script)
+-- Each operation of the script is in good form, and lets the job go on within the script.
+abbrev pub is_script : List Declaration → List ℕ → Bool
+is_script objects script = list_all is_operation (operations_of script) && is_jumping_within (map (op_of objects) (operations_of script))
 
-abbrev pub is_core_script : CoreText → Bool
-is_core_script core = list_all is_task_script core.tasks
+abbrev pub is_task_script : List Declaration → TaskText → Bool
+is_task_script objects task = is_script objects task.script
 
--- Each operation of each script is in good form.
+abbrev pub is_core_script : List Declaration → CoreText → Bool
+is_core_script objects core = list_all (is_task_script objects) core.tasks
+
+-- So it is with each script.
 abbrev pub are_operations : ConfigText → Bool
-are_operations t = list_all is_core_script t.cores
+are_operations t = list_all (is_core_script (declarations t.cores)) t.cores
 
 -- ---- the table, in ascending order of faults
 
 abbrev pub tests_of : ConfigText → Tests
-tests_of t = (Limit, is_text_within t) ∷ (DuplicateName, is_each_once t) ∷ (UnknownName, are_known t) ∷ (BadScript, are_operations t) ∷ []
+tests_of t = (Limit, is_text_within t) ∷ (DuplicateName, is_each_once t) ∷ (UnknownName, are_known t) ∷ (WrongCore, are_near t) ∷ (BadScript, are_operations t) ∷ []

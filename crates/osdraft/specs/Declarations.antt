@@ -1,12 +1,14 @@
 -- The objects that a configuration's text declares, in one list, and what a name stands for by it. [own]
-use Rattle.std.specs.Prelude.{ℕ, nat_le, Bool, true, false, Option, Some, None, option_and_then, if◌then◌else◌, List, map, find}
+use Rattle.std.specs.Prelude.{ℕ, nat_le, Bool, Option, Some, None, option_and_then, if◌then◌else◌, List, ◌++◌, map, find}
 use Rattle.std.specs.List.{enumerate_from, flat_map}
 use Rattle.std.specs.Str.{bytes_eq}
+use Rattle.osbase.specs.Objects.{same_kind}
 use Rattle.osbase.specs.declared.references.CoreId.{CoreId}
 use Rattle.osbase.specs.declared.objects.ObjectKind.{ObjectKind}
-use Rattle.osbase.specs.declared.objects.ObjectKind.TheVariants.{Task, Alarm}
+use Rattle.osbase.specs.declared.objects.ObjectKind.TheVariants.{Task, Resource}
 use Rattle.osbase.specs.declared.objects.Place.{Place}
 use Rattle.osdraft.specs.declared.shapes.CoreText.{CoreText}
+use Rattle.osdraft.specs.declared.shapes.ResourceText.{ResourceText}
 use Rattle.osdraft.specs.declared.shapes.TaskText.{TaskText}
 use Rattle.osdraft.specs.declared.declarations.Declaration.{Declaration}
 
@@ -27,9 +29,19 @@ id_of core = number_id core.id
 abbrev pub task_declaration : CoreText → ℕ × TaskText → Declaration
 task_declaration core p = record { name = p.1.name; kind = Task; core = id_of core; index = p.0 }
 
--- A core declares its tasks, in their order. No other kind can be configured yet.
+abbrev pub declared_tasks : CoreText → List Declaration
+declared_tasks core = map (task_declaration core) (enumerate_from 0 core.tasks)
+
+-- The resource of a core at an index.
+abbrev pub resource_declaration : CoreText → ℕ × ResourceText → Declaration
+resource_declaration core p = record { name = p.1.name; kind = Resource; core = id_of core; index = p.0 }
+
+abbrev pub declared_resources : CoreText → List Declaration
+declared_resources core = map (resource_declaration core) (enumerate_from 0 core.resources)
+
+-- A core declares its tasks, then its resources, in their order. No other kind can be configured yet.
 abbrev pub declared_by : CoreText → List Declaration
-declared_by core = map (task_declaration core) (enumerate_from 0 core.tasks)
+declared_by core = declared_tasks core ++ declared_resources core
 
 -- All objects, core by core.
 abbrev pub declarations : List CoreText → List Declaration
@@ -40,14 +52,9 @@ declarations cores = flat_map declared_by cores
 abbrev pub has_name : List ℕ → Declaration → Bool
 has_name name declaration = bytes_eq declaration.name name
 
-abbrev pub is_kind : ObjectKind → ObjectKind → Bool
-is_kind Task Task = true
-is_kind Alarm Alarm = true
-is_kind kind other = false
-
 -- Where the object stands, if it is of this kind.
 abbrev pub place_in : ObjectKind → Declaration → Option Place
-place_in kind declaration = if is_kind declaration.kind kind then Some (record { core = declaration.core; index = byte_of (Some declaration.index) }) else None
+place_in kind declaration = if same_kind declaration.kind kind then Some (record { core = declaration.core; index = byte_of (Some declaration.index) }) else None
 
 -- Where the object of a kind and a name stands.
 abbrev pub place_of : List Declaration → ObjectKind → List ℕ → Option Place

@@ -3,3 +3,4 @@ pub mod Operation
 pub mod Shape
 pub mod Check
 pub mod Meaning
+pub mod Index

@@ -4,6 +4,7 @@ use Rattle.std.specs.Option.{option_map_or}
 use Rattle.osbase.specs.declared.references.ModeId.{ModeId}
 use Rattle.osplan.specs.declared.plans.Plan.{Plan}
 use Rattle.osplan.specs.declared.plans.Core.{Core}
+use Rattle.osplan.specs.declared.plans.Resource.{Resource}
 use Rattle.osplan.specs.declared.plans.Task.{Task}
 use Rattle.osplan.specs.declared.plans.CoreMode.TheVariants.{Named}
 use Rattle.serde_json.specs.Data.{Data}
@@ -12,6 +13,7 @@ use Rattle.osplan.specs.declared.faults.ConfFault.{ConfFault}
 use Rattle.osplan.specs.declared.faults.ConfFault.TheVariants.{NotJson, Shape}
 use Rattle.osdraft.specs.declared.shapes.ConfigText.{ConfigText}
 use Rattle.osdraft.specs.declared.shapes.CoreText.{CoreText}
+use Rattle.osdraft.specs.declared.shapes.ResourceText.{ResourceText}
 use Rattle.osdraft.specs.declared.shapes.TaskText.{TaskText}
 use Rattle.osplan.specs.Expressible.{mode_name}
 use Rattle.osread.specs.Faults.{IsLeast, failing, if_faultless}
@@ -32,8 +34,12 @@ task_plan objects task = record {
   priority = byte_of task.prio;
   auto = map (λ (name : List ℕ). only_mode) task.auto;
   activations = byte_of task.activations;
+  preemptable = task.preemptable;
   script = map (op_of objects) (operations_of task.script);
 }
+
+abbrev pub resource_plan : ResourceText → Resource
+resource_plan resource = record { name = resource.name; ceiling = byte_of resource.ceiling }
 
 abbrev pub core_plan : List Declaration → CoreText → Core
 core_plan objects core = record {
@@ -41,17 +47,18 @@ core_plan objects core = record {
   mode = Named only_mode;
   start = map number_id core.start;
   tasks = map (task_plan objects) core.tasks;
+  resources = map resource_plan core.resources;
   isrs = [];
   alarms = [];
   tables = [];
 }
 
--- The plans of a task and of a core whose names are known and whose operations are in good form.
+-- The plans of a task and of a core whose names are known and whose scripts have no fault.
 abbrev pub known_task : List Declaration → TaskText → Option Task
-known_task objects task = value_if (is_task_known objects task && is_task_script task) (task_plan objects task)
+known_task objects task = value_if (is_task_known objects task && is_task_script objects task) (task_plan objects task)
 
 abbrev pub known_core : List Declaration → CoreText → Option Core
-known_core objects core = value_if (is_core_known objects core && is_core_script core) (core_plan objects core)
+known_core objects core = value_if (is_core_known objects core && is_core_script objects core) (core_plan objects core)
 
 abbrev pub plan_of : ConfigText → Plan
 plan_of t = record {

@@ -1,32 +1,44 @@
 -- The shape of a configuration: the members and their types, before any limit or name is judged. [own]
-use Rattle.std.specs.Prelude.{Option, Some, [], ◌∷◌, codes}
+use Rattle.std.specs.Prelude.{true, Option, Some, [], ◌∷◌, codes}
 use Rattle.serde_json.specs.Data.{Data}
-use Rattle.serde_json.specs.Find.{as_str}
+use Rattle.serde_json.specs.Find.{as_bool, as_str}
 use Rattle.osdraft.specs.declared.shapes.ConfigText.{ConfigText}
 use Rattle.osdraft.specs.declared.shapes.CoreText.{CoreText}
+use Rattle.osdraft.specs.declared.shapes.ResourceText.{ResourceText}
 use Rattle.osdraft.specs.declared.shapes.TaskText.{TaskText}
 use Rattle.osread.specs.Reading.{◌>>=◌}
 use Rattle.osread.specs.Json.{whole_of, name_of, each_of, member_of, member_or, only_members}
 
--- A task: its name, priority and script; the modes of its autostart, none by default; its activation limit, 1 by default.
+-- A task: its name, priority and script; the modes of its autostart, none by default; its activation limit, 1 by default; whether it
+-- can be preempted, which is so by default.
 unfoldable pub task_shape : Data → Option TaskText
 task_shape d = do
-  _ ← only_members (codes "name" ∷ codes "prio" ∷ codes "auto" ∷ codes "activations" ∷ codes "script" ∷ []) d
+  _ ← only_members (codes "name" ∷ codes "prio" ∷ codes "auto" ∷ codes "activations" ∷ codes "preemptable" ∷ codes "script" ∷ []) d
   name ← member_of name_of (codes "name") d
   prio ← member_of whole_of (codes "prio") d
   auto ← member_or (each_of name_of) [] (codes "auto") d
   activations ← member_or whole_of (Some 1) (codes "activations") d
+  preemptable ← member_or as_bool true (codes "preemptable") d
   script ← member_of as_str (codes "script") d
-  Some (record { name = name; prio = prio; auto = auto; activations = activations; script = script })
+  Some (record { name = name; prio = prio; auto = auto; activations = activations; preemptable = preemptable; script = script })
 
--- A core: its number; the cores that it starts and its tasks, none by default.
+-- A resource: its name and ceiling.
+unfoldable pub resource_shape : Data → Option ResourceText
+resource_shape d = do
+  _ ← only_members (codes "name" ∷ codes "ceiling" ∷ []) d
+  name ← member_of name_of (codes "name") d
+  ceiling ← member_of whole_of (codes "ceiling") d
+  Some (record { name = name; ceiling = ceiling })
+
+-- A core: its number; the cores that it starts, its tasks and its resources, none by default.
 unfoldable pub core_shape : Data → Option CoreText
 core_shape d = do
-  _ ← only_members (codes "id" ∷ codes "start" ∷ codes "tasks" ∷ []) d
+  _ ← only_members (codes "id" ∷ codes "start" ∷ codes "tasks" ∷ codes "resources" ∷ []) d
   id ← member_of whole_of (codes "id") d
   start ← member_or (each_of whole_of) [] (codes "start") d
   tasks ← member_or (each_of task_shape) [] (codes "tasks") d
-  Some (record { id = id; start = start; tasks = tasks })
+  resources ← member_or (each_of resource_shape) [] (codes "resources") d
+  Some (record { id = id; start = start; tasks = tasks; resources = resources })
 
 -- A configuration: its version, 1 by default; the size of a mailbox, 16 by default; the master core, 0 by default; its cores.
 unfoldable pub config_shape : Data → Option ConfigText

@@ -1,23 +1,32 @@
 //! The tests of a configuration's text, one for each fault past its shape, in ascending order.
 
-ghost use Rattle.std.specs.Prelude.{◌≡◌, ◌==◌, ◌&&◌, true, false, Some, map};
+ghost use Rattle.std.specs.Prelude.{◌≡◌, ◌==◌, ◌&&◌, ◌<◌, ◌^◌, true, false, Some, map, sum_by};
 ghost use Rattle.std.specs.List.{list_all, slice_split};
 ghost use Rattle.osdraft.specs.declared.shapes.CoreText.{CoreText as Core};
+ghost use Rattle.osdraft.specs.declared.shapes.ResourceText.{ResourceText as Resource};
 ghost use Rattle.osdraft.specs.declared.shapes.TaskText.{TaskText as Task};
-ghost use Rattle.osplan.specs.Limits.{are_numbers_distinct, has_number, is_between, is_core_within, is_start, is_task_within, is_within, same_number};
+ghost use Rattle.osplan.specs.Limits.{are_numbers_distinct, has_number, is_between, is_ceiling, is_core_within, is_start, is_task_within, is_within, jobs_of, same_number};
 ghost use Rattle.osread.specs.Faults.{failing, first_fault};
 ghost use Rattle.osdraft.specs.Declarations.{declarations};
 ghost use Rattle.osdraft.specs.Operation.{is_operation_known};
-ghost use Rattle.osdraft.specs.Check.{task_sizes, core_sizes, sizes_of, numbers_of, is_text_within, is_each_once, are_operations_known, is_mode_name, is_task_known, is_core_known, are_known, are_operations, tests_of};
+ghost use Rattle.osdraft.specs.Check.{are_near, is_core_near, is_operation_near, is_script_near, task_sizes, core_sizes, sizes_of, numbers_of, is_text_within, is_each_once, are_operations_known, is_mode_name, is_task_known, is_core_known, are_known, are_operations, tests_of};
 
+use crate::declarations::number_id;
 use crate::places::{MODE, Objects};
-use crate::shapes::{ConfigText, CoreText, TaskText};
-use osforms::is_known;
-use osplan::ConfFault;
+use crate::shapes::{ConfigText, CoreText, ResourceText, TaskText};
+use osbase::CoreId;
+use osforms::{is_known, op_meant};
+use osplan::{ConfFault, stays_on};
 use osread::{Text, Whole, part_count};
 
 /// The most tasks of a core.
-const TASKS: usize = 1;
+const TASKS: usize = 32;
+
+/// The most jobs of all a core's tasks at once.
+const JOBS: u64 = 64;
+
+/// The most resources of a core.
+const RESOURCES: usize = 16;
 
 /// The most cores.
 const CORES: usize = 8;
@@ -54,14 +63,40 @@ fn are_tasks_within(tasks: &[TaskText]) -> bool
     tasks.iter().all(is_task_within)
 }
 
-#[tactic(auto, using(crate::proofs::Numbers::mapped))]
+fn jobs_of(task: &TaskText) -> u64
+    ensures { result ≡ jobs_of (task_sizes task.now) }
+{
+    task.activations.unwrap_or(0)
+}
+
+fn jobs_of_all(tasks: &[TaskText]) -> u64
+    requires { sum_by (λ (task : Task). jobs_of (task_sizes task)) tasks.now < 2 ^ 64 }
+    ensures { result ≡ sum_by (λ (task : Task). jobs_of (task_sizes task)) tasks.now }
+{
+    tasks.iter().map(jobs_of).sum()
+}
+
+fn are_ceilings_within(resources: &[ResourceText]) -> bool
+    ensures { result ≡ list_all (λ (resource : Resource). is_ceiling resource.ceiling) resources.now }
+{
+    resources
+        .iter()
+        .all(|resource| is_between(0, 31, resource.ceiling))
+}
+
+#[tactic(auto, using(crate::proofs::Numbers::mapped, crate::proofs::Numbers::few_jobs))]
 fn is_core_within(core: &CoreText) -> bool
     ensures { result ≡ is_core_within (core_sizes core.now) }
 {
+    // The sum fits, since the tasks are judged before it.
+    let tasks = core.tasks.as_slice();
     is_between(0, 7, core.id)
         && are_starts_within(core.start.as_slice())
-        && core.tasks.len() <= TASKS
-        && are_tasks_within(core.tasks.as_slice())
+        && tasks.len() <= TASKS
+        && are_tasks_within(tasks)
+        && jobs_of_all(tasks) <= JOBS
+        && core.resources.len() <= RESOURCES
+        && are_ceilings_within(core.resources.as_slice())
 }
 
 fn are_cores_within(cores: &[CoreText]) -> bool
@@ -184,16 +219,63 @@ fn are_known(text: &ConfigText, objects: &Objects) -> bool
     has_core(cores, text.master) && are_cores_known(objects, cores)
 }
 
-/// The fault of a text without those, some name of which names nothing or some operation of which is not
-/// in good form.
+fn is_operation_near(objects: &Objects, id: CoreId, text: &str) -> bool
+    ensures { result ≡ is_operation_near objects.now.declared id text.now }
+{
+    match op_meant(objects, text) {
+        Some(op) => stays_on(id, op),
+        None => true,
+    }
+}
+
+fn are_parts_near(objects: &Objects, id: CoreId, script: &str) -> bool
+    ensures { result ≡ list_all (is_operation_near objects.now.declared id) (slice_split (λ b. b == 59) script.now) }
+{
+    script
+        .split(';')
+        .all(|text| is_operation_near(objects, id, text))
+}
+
+fn is_script_near(objects: &Objects, id: CoreId, script: &str) -> bool
+    ensures { result ≡ is_script_near objects.now.declared id script.now }
+{
+    script.is_empty() || are_parts_near(objects, id, script)
+}
+
+fn is_core_near(objects: &Objects, core: &CoreText) -> bool
+    ensures { result ≡ is_core_near objects.now.declared core.now }
+{
+    core.tasks.as_slice().iter().all(|task| is_script_near(
+        objects,
+        number_id(core.id),
+        task.script.as_str(),
+    ))
+}
+
+fn are_near(text: &ConfigText, objects: &Objects) -> bool
+    requires objects { objects.now.declared ≡ declarations text.now.cores }
+    ensures { result ≡ are_near text.now }
+{
+    text.cores
+        .as_slice()
+        .iter()
+        .all(|core| is_core_near(objects, core))
+}
+
+/// The fault of a text without those, some name of which names nothing or what it may not name, or some script of
+/// which is not in good form.
 pub fn fault_of_names(text: &ConfigText, objects: &Objects) -> ConfFault
     requires objects { objects.now.declared ≡ declarations text.now.cores }
     requires checked { (is_text_within text.now && is_each_once text.now) ≡ true }
-    requires faulty { (are_known text.now && are_operations text.now) ≡ false }
+    requires faulty { (are_known text.now && are_near text.now && are_operations text.now) ≡ false }
     ensures { first_fault (failing (tests_of text.now)) ≡ Some result }
 {
     if are_known(text, objects) {
-        ConfFault::BadScript
+        if are_near(text, objects) {
+            ConfFault::BadScript
+        } else {
+            ConfFault::WrongCore
+        }
     } else {
         ConfFault::UnknownName
     }

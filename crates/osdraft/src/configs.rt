@@ -5,7 +5,7 @@ ghost use Rattle.std.specs.List.{list_all};
 ghost use Rattle.serde_json.specs.View.{view};
 ghost use Rattle.osdraft.specs.Shape.{config_shape};
 ghost use Rattle.osread.specs.Faults.{failing, first_fault, GivesOr};
-ghost use Rattle.osdraft.specs.Check.{has_named_tasks, tests_of};
+ghost use Rattle.osdraft.specs.Check.{has_named_objects, tests_of};
 ghost use Rattle.osdraft.specs.Meaning.{plan_of, config_of, IsLeastFault};
 
 use crate::checks::{fault_of_names, is_each_once, is_within};
@@ -19,7 +19,7 @@ use std::alloc::Global;
 
 fn shape_of(alloc: Global, value: &Value) -> Result<ConfigText<'_>, ConfFault>
     ensures shape { GivesOr ConfFault.Shape (λ x. x) result (config_shape (view value.now)) }
-    ensures named { IfOk result (λ text. IsTrue (list_all has_named_tasks text.cores)) }
+    ensures named { IfOk result (λ text. IsTrue (list_all has_named_objects text.cores)) }
 {
     match ConfigReader.read(alloc, value) {
         Ok(text) => Ok(text),
@@ -30,7 +30,7 @@ fn shape_of(alloc: Global, value: &Value) -> Result<ConfigText<'_>, ConfFault>
 
 // Names and operations are judged while the plan is made, and again where it cannot be.
 fn plan_if_faultless(alloc: Global, text: &ConfigText) -> Result<Plan, ConfFault>
-    requires named { IsTrue (list_all has_named_tasks text.now.cores) }
+    requires named { IsTrue (list_all has_named_objects text.now.cores) }
     ensures ok { IfOk result (λ plan. (failing (tests_of text.now) ≡ []) × (plan ≡ plan_of text.now)) }
     ensures fault { IfErr result (λ fault. fault ≢ ConfFault.NoMemory → first_fault (failing (tests_of text.now)) ≡ Some fault) }
 {

@@ -1,7 +1,7 @@
 //! The objects that a configuration's text declares, in one list.
 
 ghost use Rattle.std.specs.Prelude.{◌≡◌, ◌++◌, IfOk, OnOk};
-ghost use Rattle.osdraft.specs.Declarations.{byte_of, declarations, declared_by, has_name, number_id};
+ghost use Rattle.osdraft.specs.Declarations.{byte_of, declarations, declared_by, declared_resources, declared_tasks, number_id};
 
 use crate::shapes::CoreText;
 use osbase::{CoreId, List, ObjectKind};
@@ -37,19 +37,11 @@ pub fn number_id(number: Whole) -> CoreId
     }
 }
 
-/// Whether the object has this name. Names commonly begin alike, so their ends are compared first.
-pub fn has_name(name: &str, declaration: &Declaration) -> bool
-    ensures { result ≡ has_name name.now declaration.now }
-{
-    let own = declaration.name.as_str();
-    own.as_bytes().last() == name.as_bytes().last() && own == name
-}
-
-fn declare<'t>(
+fn declare_tasks<'t>(
     declared: &mut List<Declaration<'t>>,
     core: &'t CoreText<'t>,
 ) -> Result<(), AllocError>
-    ensures { OnOk result (declared.new ≡ declared.old ++ declared_by core.now) }
+    ensures { OnOk result (declared.new ≡ declared.old ++ declared_tasks core.now) }
 {
     for (index, task) in core.tasks.as_slice().iter().enumerate() {
         declared.push(Declaration {
@@ -60,6 +52,33 @@ fn declare<'t>(
         })?;
     }
     Ok(())
+}
+
+fn declare_resources<'t>(
+    declared: &mut List<Declaration<'t>>,
+    core: &'t CoreText<'t>,
+) -> Result<(), AllocError>
+    ensures { OnOk result (declared.new ≡ declared.old ++ declared_resources core.now) }
+{
+    for (index, resource) in core.resources.as_slice().iter().enumerate() {
+        declared.push(Declaration {
+            name: Text::of(resource.name.as_str()),
+            kind: ObjectKind::Resource,
+            core: number_id(core.id),
+            index,
+        })?;
+    }
+    Ok(())
+}
+
+fn declare<'t>(
+    declared: &mut List<Declaration<'t>>,
+    core: &'t CoreText<'t>,
+) -> Result<(), AllocError>
+    ensures { OnOk result (declared.new ≡ declared.old ++ declared_by core.now) }
+{
+    declare_tasks(declared, core)?;
+    declare_resources(declared, core)
 }
 
 /// The objects of these cores.

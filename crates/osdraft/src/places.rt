@@ -6,28 +6,24 @@ ghost use Rattle.std.specs.Str.{bytes_eq};
 ghost use Rattle.osbase.specs.Names.{is_name};
 ghost use Rattle.osplan.specs.Expressible.{are_distinct};
 ghost use Rattle.osdraft.specs.declared.declarations.Declaration.{Declaration as Declared};
-ghost use Rattle.osdraft.specs.Check.{has_named_tasks, names_of};
-ghost use Rattle.osdraft.specs.Declarations.{declarations, has_name, is_kind, place_in};
+ghost use Rattle.osdraft.specs.Check.{has_named_objects, names_of};
+ghost use Rattle.osdraft.specs.Declarations.{declarations, has_name, place_in};
+ghost use Rattle.osdraft.specs.Index.{Indexes};
 
-use crate::declarations::{Declaration, byte_of, declarations_of, has_name};
+use crate::declarations::{Declaration, byte_of, declarations_of};
 use crate::shapes::CoreText;
 use osbase::{List, ObjectKind, Place};
 use osforms::Places;
 use std::alloc::{AllocError, Global};
+use std::collections::BTreeMap;
 
 /// The name of the only mode.
 pub const MODE: &str = "M";
 
-fn is_kind(kind: ObjectKind, other: ObjectKind) -> bool
-    ensures { result ≡ is_kind kind other }
-{
-    kind == other
-}
-
 fn place_in(kind: ObjectKind, declaration: &Declaration) -> Option<Place>
     ensures { result ≡ place_in kind declaration.now }
 {
-    if is_kind(declaration.kind, kind) {
+    if declaration.kind.is(kind) {
         Some(Place {
             core: declaration.core,
             index: byte_of(Some(declaration.index as u64)),
@@ -37,58 +33,70 @@ fn place_in(kind: ObjectKind, declaration: &Declaration) -> Option<Place>
     }
 }
 
-// The first object that has the name.
-fn declared_as<'d, 't>(name: &str, declared: &'d [Declaration<'t>]) -> Option<&'d Declaration<'t>>
-    ensures { option_copied result ≡ find (has_name name.now) declared.now }
-{
-    declared
-        .iter()
-        .find(|declaration| has_name(name, declaration))
+/// Which object of a list has a name, and whether no two have one.
+#[derive(Drop)]
+struct Index<'t> {
+    // Of each name where its first object stands in the list.
+    first: BTreeMap<&'t str, usize>,
+    are_apart: bool,
 }
 
-fn is_declared(name: &str, declared: &[Declaration]) -> bool
-    ensures { result ≡ list_any (λ later. bytes_eq later name.now) (map (λ (d : Declared). d.name) declared.now) }
+fn index_of<'t>(alloc: Global, declared: &[Declaration<'t>]) -> Result<Index<'t>, AllocError>
+    ensures { IfOk result (λ index. Indexes declared.now index.first index.are_apart declared.now) }
 {
-    declared_as(name, declared).is_some()
-}
-
-fn are_distinct(declared: &[Declaration]) -> bool
-    ensures { result ≡ are_distinct (map (λ (d : Declared). d.name) declared.now) }
-{
-    let mut declared = declared;
-    while let [declaration, later @ ..] = declared {
-        if is_declared(declaration.name.as_str(), later) {
-            return false;
-        }
-        declared = later;
+    let mut first = BTreeMap::new(alloc);
+    let mut are_apart = true;
+    let mut place = declared.len();
+    // From the last one on, so that of one name the first one stays.
+    while place > 0 {
+        place -= 1;
+        let later = first.insert(declared[place].name.as_str(), place)?;
+        are_apart &= later.is_none();
     }
-    true
+    Ok(Index { first, are_apart })
 }
 
 /// The objects that a text's cores declare.
-#[derive(Debug, Drop)]
+#[derive(Drop)]
 pub struct Objects<'t> {
     declared: List<Declaration<'t>>,
+    index: Index<'t>,
     ghost named: { IsTrue (list_all (λ (d : Declared). is_name d.name) declared) },
+    ghost indexed: { Indexes declared index.first index.are_apart declared },
 }
 
 impl<'t> Objects<'t> {
     /// The objects of these cores, whose names are in form, as in every shape.
     pub fn of(alloc: Global, cores: &'t [CoreText<'t>]) -> Result<Self, AllocError>
-        requires named { IsTrue (list_all has_named_tasks cores.now) }
+        requires named { IsTrue (list_all has_named_objects cores.now) }
         ensures { IfOk result (λ objects. objects.declared ≡ declarations cores.now) }
     {
-        Ok(Objects {
-            declared: declarations_of(alloc, cores)?,
-        })
+        let declared = declarations_of(alloc, cores)?;
+        let index = index_of(alloc, declared.as_slice())?;
+        Ok(Objects { declared, index })
     }
 
     /// Whether the names of the only mode and of all objects are different.
     pub fn are_named_apart(&self) -> bool
         ensures { result ≡ are_distinct (names_of self.now.declared) }
     {
-        let declared = self.declared.as_slice();
-        !is_declared(MODE, declared) && are_distinct(declared)
+        !self.is_declared(MODE) && self.index.are_apart
+    }
+
+    fn is_declared(&self, name: &str) -> bool
+        ensures { result ≡ list_any (λ later. bytes_eq later name.now) (map (λ (d : Declared). d.name) self.now.declared) }
+    {
+        self.find(name).is_some()
+    }
+
+    // The first object that has the name.
+    fn find(&self, name: &str) -> Option<&Declaration<'t>>
+        ensures { option_copied result ≡ find (has_name name.now) self.now.declared }
+    {
+        match self.index.first.get(name) {
+            Some(place) => self.declared.as_slice().get(*place),
+            None => None,
+        }
     }
 }
 
@@ -98,7 +106,7 @@ impl Places for Objects<'_> {
     ghost place = { λ objects. place_of objects.declared };
 
     fn place(&self, kind: ObjectKind, name: &str) -> Option<Place> {
-        match declared_as(name, self.declared.as_slice()) {
+        match self.find(name) {
             Some(declaration) => place_in(kind, declaration),
             None => None,
         }

@@ -1,21 +1,23 @@
 //! The configuration that a text without a fault means.
 
-ghost use Rattle.std.specs.Prelude.{◌≡◌, ◌&&◌, ℕ, IfOk, List as Items, map, true};
+ghost use Rattle.std.specs.Prelude.{◌≡◌, ◌&&◌, ℕ, IfOk, List as Items, map, Some, true};
 ghost use Rattle.std.specs.List.{list_all};
+ghost use Rattle.osplan.specs.Expressible.{goes_within, is_jumping_within};
+ghost use Rattle.osplan.specs.Limits as limits;
 ghost use Rattle.osread.specs.Reading.{Gives, value_if};
 ghost use Rattle.osdraft.specs.Declarations.{declarations, number_id};
 ghost use Rattle.osdraft.specs.Operation.{is_operation, known_op, op_of, operations_of};
-ghost use Rattle.osdraft.specs.Check.{are_operations_known, is_task_known, is_core_known, are_known, is_task_script, is_core_script, are_operations};
-ghost use Rattle.osdraft.specs.Meaning.{only_mode, task_plan, core_plan, known_task, known_core, plan_of};
+ghost use Rattle.osdraft.specs.Check.{are_operations_known, is_task_known, is_core_known, is_core_near, are_known, are_near, is_script, is_task_script, is_core_script, are_operations};
+ghost use Rattle.osdraft.specs.Meaning.{only_mode, task_plan, resource_plan, core_plan, known_task, known_core, plan_of};
 
 use crate::checks::{are_mode_names, has_core};
 use crate::declarations::{byte_of, number_id};
 use crate::places::{MODE, Objects};
-use crate::shapes::{ConfigText, CoreText, TaskText};
+use crate::shapes::{ConfigText, CoreText, ResourceText, TaskText};
 use osbase::{CoreId, List, ModeId, Name};
 use oscript::{Op, Script};
 use osforms::op_meant;
-use osplan::{Core, CoreMode, Plan, Task};
+use osplan::{Core, CoreMode, Plan, Resource, Task};
 use osread::{PartReader, Reader, Refusal, Text, Whole, read_each, read_parts};
 use std::alloc::{AllocError, Global};
 
@@ -30,10 +32,37 @@ impl PartReader<Op> for Objects<'_> {
     }
 }
 
-fn script_of(alloc: Global, objects: &Objects, script: &str) -> Result<Script, Refusal>
+fn operations_of(alloc: Global, objects: &Objects, script: &str) -> Result<Script, Refusal>
     ensures { Gives (λ x. x) result (value_if (are_operations_known objects.now.declared script.now && list_all is_operation (operations_of script.now)) (map (op_of objects.now.declared) (operations_of script.now))) }
 {
     read_parts(alloc, objects, script, ';')
+}
+
+// Whether the operation lets its job go on within a script of so many operations, or past the last.
+fn goes_within(count: usize, op: Op) -> bool
+    ensures { result ≡ goes_within count op }
+{
+    match op.position() {
+        Some(position) => position as usize <= count,
+        None => true,
+    }
+}
+
+fn is_jumping_within(script: &[Op]) -> bool
+    ensures { result ≡ is_jumping_within script.now }
+{
+    script.iter().all(|op| goes_within(script.len(), *op))
+}
+
+fn script_of(alloc: Global, objects: &Objects, script: &str) -> Result<Script, Refusal>
+    ensures { Gives (λ x. x) result (value_if (are_operations_known objects.now.declared script.now && is_script objects.now.declared script.now) (map (op_of objects.now.declared) (operations_of script.now))) }
+{
+    let operations = operations_of(alloc, objects, script)?;
+    if is_jumping_within(operations.as_slice()) {
+        Ok(operations)
+    } else {
+        Err(Refusal::Unfit)
+    }
 }
 
 fn modes_of(alloc: Global, names: &[Text]) -> Result<Vec<ModeId>, AllocError>
@@ -57,6 +86,7 @@ impl<'e> Reader<'e, TaskText<'e>, Task> for Objects<'e> {
             priority: byte_of(task.prio),
             auto: List::from_vec(modes_of(alloc, task.auto.as_slice())?),
             activations: byte_of(task.activations),
+            preemptable: task.preemptable,
             script: script_of(alloc, self, task.script.as_str())?,
         })
     }
@@ -67,9 +97,33 @@ fn tasks_of<'e>(
     objects: &Objects<'e>,
     tasks: &'e [TaskText<'e>],
 ) -> Result<List<Task>, Refusal>
-    ensures { Gives (λ x. x) result (value_if (list_all (is_task_known objects.now.declared) tasks.now && list_all is_task_script tasks.now) (map (task_plan objects.now.declared) tasks.now)) }
+    ensures { Gives (λ x. x) result (value_if (list_all (is_task_known objects.now.declared) tasks.now && list_all (is_task_script objects.now.declared) tasks.now) (map (task_plan objects.now.declared) tasks.now)) }
 {
     read_each(alloc, objects, tasks)
+}
+
+// Makes the plan of a resource.
+impl<'e> Reader<'e, ResourceText<'e>, Resource> for Objects<'e> {
+    ghost shape = { λ _ resource. Some (resource_plan resource) };
+
+    ghost passes = { λ _ _. true };
+
+    fn read(&self, alloc: Global, resource: &'e ResourceText<'e>) -> Result<Resource, Refusal> {
+        Ok(Resource {
+            name: Name::new(alloc, resource.name.as_str())?,
+            ceiling: byte_of(resource.ceiling),
+        })
+    }
+}
+
+fn resources_of<'e>(
+    alloc: Global,
+    objects: &Objects<'e>,
+    resources: &'e [ResourceText<'e>],
+) -> Result<List<Resource>, Refusal>
+    ensures { Gives (λ x. x) result (Some (map resource_plan resources.now)) }
+{
+    read_each(alloc, objects, resources)
 }
 
 fn ids_of(alloc: Global, numbers: &[Whole]) -> Result<Vec<CoreId>, AllocError>
@@ -93,6 +147,7 @@ impl<'e> Reader<'e, CoreText<'e>, Core> for Objects<'e> {
             mode: CoreMode::Named(ONLY_MODE),
             start: List::from_vec(ids_of(alloc, core.start.as_slice())?),
             tasks: tasks_of(alloc, self, core.tasks.as_slice())?,
+            resources: resources_of(alloc, self, core.resources.as_slice())?,
             isrs: List::new(alloc),
             alarms: List::new(alloc),
             tables: List::new(alloc),
@@ -105,19 +160,43 @@ fn cores_of<'e>(
     objects: &Objects<'e>,
     cores: &'e [CoreText<'e>],
 ) -> Result<List<Core>, Refusal>
-    ensures { Gives (λ x. x) result (value_if (list_all (is_core_known objects.now.declared) cores.now && list_all is_core_script cores.now) (map (core_plan objects.now.declared) cores.now)) }
+    ensures { Gives (λ x. x) result (value_if (list_all (is_core_known objects.now.declared) cores.now && list_all (is_core_script objects.now.declared) cores.now) (map (core_plan objects.now.declared) cores.now)) }
 {
     read_each(alloc, objects, cores)
 }
 
-/// The plan of a text. `Unfit` where a name in it names nothing, or an operation is not in good form.
+fn are_near(cores: &[Core]) -> bool
+    ensures { result ≡ list_all limits.is_core_near cores.now }
+{
+    cores.iter().all(|core| core.is_near())
+}
+
+// The plans of cores, each of whose scripts names no object of another core where it may not.
+#[tactic(auto, using(crate::proofs::Known::near_kept))]
+fn near_cores_of<'e>(
+    alloc: Global,
+    objects: &Objects<'e>,
+    cores: &'e [CoreText<'e>],
+) -> Result<List<Core>, Refusal>
+    ensures { Gives (λ x. x) result (value_if (list_all (is_core_known objects.now.declared) cores.now && list_all (is_core_near objects.now.declared) cores.now && list_all (is_core_script objects.now.declared) cores.now) (map (core_plan objects.now.declared) cores.now)) }
+{
+    let planned = cores_of(alloc, objects, cores)?;
+    if are_near(planned.as_slice()) {
+        Ok(planned)
+    } else {
+        Err(Refusal::Unfit)
+    }
+}
+
+/// The plan of a text. `Unfit` where a name in it names nothing, or what it may not name, an operation is not in
+/// good form, or one goes on outside of its script.
 pub fn plan_of<'e>(
     alloc: Global,
     text: &'e ConfigText<'e>,
     objects: &Objects<'e>,
 ) -> Result<Plan, Refusal>
     requires objects { objects.now.declared ≡ declarations text.now.cores }
-    ensures { Gives (λ x. x) result (value_if (are_known text.now && are_operations text.now) (plan_of text.now)) }
+    ensures { Gives (λ x. x) result (value_if (are_known text.now && are_near text.now && are_operations text.now) (plan_of text.now)) }
 {
     let cores = text.cores.as_slice();
     if !has_core(cores, text.master) {
@@ -129,6 +208,6 @@ pub fn plan_of<'e>(
         cap: byte_of(text.cap),
         master: number_id(text.master),
         modes,
-        cores: cores_of(alloc, objects, cores)?,
+        cores: near_cores_of(alloc, objects, cores)?,
     })
 }

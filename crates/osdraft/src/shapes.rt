@@ -3,13 +3,13 @@
 
 ghost use Rattle.std.specs.List.{list_all};
 ghost use Rattle.osbase.specs.Names.{is_name};
-ghost use Rattle.osdraft.specs.Check.{has_named_tasks};
-ghost use Rattle.osdraft.specs.Shape.{task_shape, core_shape, config_shape};
+ghost use Rattle.osdraft.specs.Check.{has_named_objects};
+ghost use Rattle.osdraft.specs.Shape.{task_shape, resource_shape, core_shape, config_shape};
 
 use osbase::List;
 use osread::{
-    JsonReader, ListOf, NameReader, Refusal, Text, TextReader, Whole, WholeReader, at, at_or,
-    only_members,
+    BoolReader, JsonReader, ListOf, NameReader, Refusal, Text, TextReader, Whole, WholeReader, at,
+    at_or, only_members,
 };
 use serde_json::Value;
 use std::alloc::Global;
@@ -21,7 +21,15 @@ pub struct TaskText<'v> {
     pub prio: Whole,
     pub auto: List<Text<'v>>,
     pub activations: Whole,
+    pub preemptable: bool,
     pub script: Text<'v>,
+}
+
+/// A resource as a text has it.
+#[derive(Debug, Drop)]
+pub struct ResourceText<'v> {
+    pub name: Text<'v>,
+    pub ceiling: Whole,
 }
 
 /// A core as a text has it.
@@ -30,6 +38,7 @@ pub struct CoreText<'v> {
     pub id: Whole,
     pub start: List<Whole>,
     pub tasks: List<TaskText<'v>>,
+    pub resources: List<ResourceText<'v>>,
 }
 
 /// A configuration as a text has it.
@@ -52,7 +61,17 @@ impl<'v> JsonReader<'v, TaskText<'v>> for TaskReader {
 
     #[tactic(auto, unfolding(crate::specs::Shape::task_shape))]
     fn read(&self, alloc: Global, value: &'v Value) -> Result<TaskText<'v>, Refusal> {
-        only_members(value, &["name", "prio", "auto", "activations", "script"])?;
+        only_members(
+            value,
+            &[
+                "name",
+                "prio",
+                "auto",
+                "activations",
+                "preemptable",
+                "script",
+            ],
+        )?;
         Ok(TaskText {
             name: at(alloc, value, "name", &NameReader)?,
             prio: at(alloc, value, "prio", &WholeReader)?,
@@ -64,7 +83,27 @@ impl<'v> JsonReader<'v, TaskText<'v>> for TaskReader {
                 List::new(alloc),
             )?,
             activations: at_or(alloc, value, "activations", &WholeReader, Some(1))?,
+            preemptable: at_or(alloc, value, "preemptable", &BoolReader, true)?,
             script: at(alloc, value, "script", &TextReader)?,
+        })
+    }
+}
+
+// Reads a resource.
+#[derive(Clone, Copy, Debug)]
+struct ResourceReader;
+
+impl<'v> JsonReader<'v, ResourceText<'v>> for ResourceReader {
+    ghost shape = { λ _ d. resource_shape d };
+
+    ghost passes = { λ _ resource. is_name resource.name };
+
+    #[tactic(auto, unfolding(crate::specs::Shape::resource_shape))]
+    fn read(&self, alloc: Global, value: &'v Value) -> Result<ResourceText<'v>, Refusal> {
+        only_members(value, &["name", "ceiling"])?;
+        Ok(ResourceText {
+            name: at(alloc, value, "name", &NameReader)?,
+            ceiling: at(alloc, value, "ceiling", &WholeReader)?,
         })
     }
 }
@@ -76,11 +115,11 @@ struct CoreReader;
 impl<'v> JsonReader<'v, CoreText<'v>> for CoreReader {
     ghost shape = { λ _ d. core_shape d };
 
-    ghost passes = { λ _ core. has_named_tasks core };
+    ghost passes = { λ _ core. has_named_objects core };
 
     #[tactic(auto, unfolding(crate::specs::Shape::core_shape))]
     fn read(&self, alloc: Global, value: &'v Value) -> Result<CoreText<'v>, Refusal> {
-        only_members(value, &["id", "start", "tasks"])?;
+        only_members(value, &["id", "start", "tasks", "resources"])?;
         Ok(CoreText {
             id: at(alloc, value, "id", &WholeReader)?,
             start: at_or(
@@ -97,6 +136,13 @@ impl<'v> JsonReader<'v, CoreText<'v>> for CoreReader {
                 &ListOf { of: TaskReader },
                 List::new(alloc),
             )?,
+            resources: at_or(
+                alloc,
+                value,
+                "resources",
+                &ListOf { of: ResourceReader },
+                List::new(alloc),
+            )?,
         })
     }
 }
@@ -108,7 +154,7 @@ pub struct ConfigReader;
 impl<'v> JsonReader<'v, ConfigText<'v>> for ConfigReader {
     ghost shape = { λ _ d. config_shape d };
 
-    ghost passes = { λ _ config. list_all has_named_tasks config.cores };
+    ghost passes = { λ _ config. list_all has_named_objects config.cores };
 
     #[tactic(auto, unfolding(crate::specs::Shape::config_shape))]
     fn read(&self, alloc: Global, value: &'v Value) -> Result<ConfigText<'v>, Refusal> {

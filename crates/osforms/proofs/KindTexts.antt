@@ -14,6 +14,7 @@ use Rattle.osbase.specs.declared.objects.ObjectKind.{ObjectKind}
 use Rattle.oscript.specs.declared.rows.Arg.{Arg}
 use Rattle.oscript.specs.declared.rows.Arg.TheVariants.{Object, Number, Int, Variable}
 use Rattle.osbase.specs.Names.{is_name, is_name_part}
+use Rattle.oscript.specs.Rows.{is_int}
 use Rattle.osforms.specs.Word.{is_unpadded, is_decimal, number_in, int_of, variable_of, target_of}
 use Rattle.osforms.specs.Form.{arg_of, arg_text}
 use Rattle.osforms.proofs.Numerals.{own, int_of-plain, decimal-digits}
@@ -42,7 +43,7 @@ pub record IsApart (byte : ℕ) : Type 0 where
 number-none : (byte low high : ℕ) (word : List ℕ) (n : ℕ) → IsApart byte → number_in low high word ≡ Some n → has_none byte word ≡ true
 number-none byte low high word n apart e = all-none is_ascii_digit byte word apart.digit (decimal-digits word (cond-some (is_decimal word) _ n e).0)
 
-either : {A : Type 0} (b : Bool) (x y : Option A) (z : A) → cond b x y ≡ Some z → ((b ≡ true) × (x ≡ Some z)) ⊎ ((b ≡ false) × (y ≡ Some z))
+pub either : {A : Type 0} (b : Bool) (x y : Option A) (z : A) → cond b x y ≡ Some z → ((b ≡ true) × (x ≡ Some z)) ⊎ ((b ≡ false) × (y ≡ Some z))
 either true x y z e = inl (refl, e)
 either false x y z e = inr (refl, e)
 
@@ -161,11 +162,6 @@ variable-digit x most =
 
 pub variable-back : (x : ℕ) → x ≤ 7 → ReadsBack Kind.Variable (Variable x)
 variable-back x most = ap (λ ds. option_map Variable (variable_of (118 ∷ ds))) (decimal_digit x (omega arith)) ∙ ap (option_map Variable) (variable-digit x most)
-
--- the limits of 64 bits
-abbrev pub is_int : ℤ → Bool
-is_int (pos n) = nat_le n 9223372036854775807
-is_int (negsuc n) = nat_le n 9223372036854775807
 
 minus-no-digit : (digits ys : List ℕ) → list_all is_ascii_digit digits ≡ true → digits ≡ 45 ∷ ys → ⊥
 minus-no-digit digits ys all is = let f : list_all is_ascii_digit (45 ∷ ys) ≡ true = ap (list_all is_ascii_digit) (sym is) ∙ all in cc

@@ -7,4 +7,5 @@ pub mod RoundTrip
 pub mod LastWord
 pub mod Meant
 pub mod ArgsTexts
+pub mod Fitting
 pub mod Operations

@@ -1,8 +1,8 @@
 -- Operations and their texts, there and back, by what names stand for.
-use Rattle.std.proofs.Common.{◌≡◌, ℕ, ◌==◌, ◌≤◌, not, Bool, true, false, Option, Some, None, is_some, option_map, option_and_then, List, [], ◌∷◌, length, map, refl, ap, ◌∙◌, arith}
+use Rattle.std.proofs.Common.{◌≡◌, ℕ, ◌==◌, ◌≤◌, nat_le, not, Bool, true, false, Option, Some, None, is_some, option_map, option_and_then, List, [], ◌∷◌, length, map, refl, ap, ◌∙◌, arith}
 use Rattle.std.specs.List.{list_all}
 use Rattle.std.specs.Option.{option_map_or}
-use Rattle.std.proofs.lemmas.Bool.{and_parts, and_from, leb-true}
+use Rattle.std.proofs.lemmas.Bool.{and_parts, and_from, false≢true, leb-true}
 use Rattle.osbase.specs.declared.objects.ObjectKind.{ObjectKind}
 use Rattle.osbase.specs.declared.objects.Place.{Place}
 use Rattle.osbase.specs.declared.objects.Object.{Object as Named}
@@ -11,14 +11,15 @@ use Rattle.oscript.specs.declared.Op.{Op}
 use Rattle.oscript.specs.declared.rows.Kind.{Kind}
 use Rattle.oscript.specs.declared.rows.Arg.{Arg}
 use Rattle.oscript.specs.declared.rows.Arg.TheVariants.{Object, Number, Int, Variable}
-use Rattle.oscript.specs.Rows.{kinds_of}
-use Rattle.oscript.specs.Rows.{op_of, form_of_op, objects_in, objects_of}
+use Rattle.oscript.specs.Rows.{are_of, form_of_op, is_in_form, is_of, kinds_of, objects_in, objects_of, op_of}
 use Rattle.oscript.proofs.Arguments.{rest-pass}
-use Rattle.osforms.specs.Form.{form_of}
+use Rattle.osforms.specs.Form.{form_of, words_of}
 use Rattle.osforms.specs.Operation.{resolve_arg, resolve_args, resolved, named, op_meant, is_formed, is_known, op_text}
 use Rattle.osforms.proofs.Joining.{has_none}
 use Rattle.osforms.proofs.KindTexts.{mapped, is_kind, ReadsBack, invalid-back, name-back, number-back, int-back, variable-back, IsApart}
-use Rattle.osforms.proofs.Rows.{IsOf, AreOf, is-row, is-op}
+use Rattle.osforms.proofs.Rows.{is-row, is-op}
+use Rattle.osforms.proofs.Fitting.{args-fit, formed-args}
+use Rattle.osbase.proofs.Same.{same_kind-true}
 use Rattle.osforms.proofs.RoundTrip.{both, chained, AreArgs, form_text-back, form_text-none, form_text-some}
 
 -- ---- what a text means
@@ -47,6 +48,15 @@ module _ (place : ObjectKind → List ℕ → Option Place) (p : Named → Bool)
       let r = mapped (λ args. (c.0.0, args)) (resolve_args place c.0.1) m.0 c.2 in
       rw (← m.2, ← r.2) ((is-row c.0.0).3 p r.0 (args-pass c.0.1 r.0 r.1))
 
+-- Each argument of the operation that a text means is of its kind.
+pub meant-in-form : (place : ObjectKind → List ℕ → Option Place) (text : List ℕ) (op : Op) → op_meant place text ≡ Some op → is_in_form op ≡ true
+meant-in-form place text op e =
+    let m = mapped op_of (option_and_then (resolved place) (form_of text)) op e in
+    let c = chained (resolved place) (form_of text) m.0 m.1 in
+    let r = mapped (λ args. (c.0.0, args)) (resolve_args place c.0.1) m.0 c.2 in
+    let f = formed-args (words_of text) c.0 c.1 in
+    rw (← m.2, ← r.2) ((is-row c.0.0).4 r.0 (args-fit place (kinds_of c.0.0) f.0 c.0.1 r.0 f.1 r.1))
+
 -- A text that means an operation is in good form, and its names are known.
 pub meant-known : (place : ObjectKind → List ℕ → Option Place) (text : List ℕ) (op : Op) → op_meant place text ≡ Some op → (is_formed text ≡ true) × (is_known place text ≡ true)
 meant-known place text op e =
@@ -62,23 +72,25 @@ pub record IsNamed (place : ObjectKind → List ℕ → Option Place) (name : Ob
   pub found : place object.kind (name object.kind object.place) ≡ Some object.place
 
 module _ (place : ObjectKind → List ℕ → Option Place) (name : ObjectKind → Place → List ℕ) (p : Named → Bool) (known : (object : Named) → p object ≡ true → IsNamed place name object) where
-  arg-back : (k : Kind) (a : Arg Place) (args : List (Arg Place)) → is_kind k ≡ true → IsOf k a → list_all p (objects_in (a ∷ args)) ≡ true → ReadsBack k (named name a)
-  arg-back (Kind.Object k) (Object j None) args fits is all = rw is (invalid-back j)
-  arg-back (Kind.Object k) (Object j (Some found)) args fits is all = rw is (name-back j (name j found) (known (record { kind = j; place = found }) (and_parts (p (record { kind = j; place = found })) _ all).0).in_form)
+  arg-back : (k : Kind) (a : Arg Place) (args : List (Arg Place)) → is_kind k ≡ true → is_of k a ≡ true → list_all p (objects_in (a ∷ args)) ≡ true → ReadsBack k (named name a)
+  arg-back (Kind.Object k) (Object j None) args fits is all = rw (same_kind-true k j is) (invalid-back j)
+  arg-back (Kind.Object k) (Object j (Some found)) args fits is all = rw (same_kind-true k j is) (name-back j (name j found) (known (record { kind = j; place = found }) (and_parts (p (record { kind = j; place = found })) _ all).0).in_form)
   arg-back (Kind.Number low high) (Number n) args fits is all =
       let most : high ≤ 4294967295 = leb-true high 4294967295 fits in
-      let short : n ≤ high = is.1 in
-      ap (option_map Number) (number-back low high n is.0 is.1 (omega arith))
+      let parts = and_parts (nat_le low n) (nat_le n high) is in
+      let short : n ≤ high = leb-true n high parts.1 in
+      ap (option_map Number) (number-back low high n (leb-true low n parts.0) short (omega arith))
   arg-back Kind.Int (Int z) args fits is all = int-back z is
-  arg-back Kind.Variable (Variable x) args fits is all = variable-back x is
-  arg-back k a args fits is all = absurd is
+  arg-back Kind.Variable (Variable x) args fits is all = variable-back x (leb-true x 7 is)
+  arg-back k a args fits is all = absurd (false≢true is)
 
-  args-back : (ks : List Kind) (args : List (Arg Place)) → list_all is_kind ks ≡ true → AreOf ks args → list_all p (objects_in args) ≡ true → AreArgs ks (map (named name) args)
+  args-back : (ks : List Kind) (args : List (Arg Place)) → list_all is_kind ks ≡ true → are_of ks args ≡ true → list_all p (objects_in args) ≡ true → AreArgs ks (map (named name) args)
   args-back [] [] fit are all = tt
   args-back (k ∷ ks) (a ∷ args) fit are all =
       let fits = and_parts (is_kind k) (list_all is_kind ks) fit in
-      (arg-back k a args fits.0 are.0 all, args-back ks args fits.1 are.1 (rest-pass p a args all))
-  args-back ks args fit are all = absurd are
+      let is = and_parts (is_of k a) (are_of ks args) are in
+      (arg-back k a args fits.0 is.0 all, args-back ks args fits.1 is.1 (rest-pass p a args all))
+  args-back ks args fit are all = absurd (false≢true are)
 
   arg-resolved : (a : Arg Place) (args : List (Arg Place)) → list_all p (objects_in (a ∷ args)) ≡ true → resolve_arg place (named name a) ≡ Some a
   arg-resolved (Object kind None) args all = refl
@@ -91,20 +103,20 @@ module _ (place : ObjectKind → List ℕ → Option Place) (name : ObjectKind �
   args-resolved [] all = refl
   args-resolved (a ∷ args) all = rw (arg-resolved a args all, args-resolved args (rest-pass p a args all)) refl
 
-  are-args : (op : Op) → list_all p (objects_of op) ≡ true → AreArgs (kinds_of (form_of_op op).0) (map (named name) (form_of_op op).1)
-  are-args op all = args-back (kinds_of (form_of_op op).0) (form_of_op op).1 (is-row (form_of_op op).0).2 (is-op op).1 all
+  are-args : (op : Op) → is_in_form op ≡ true → list_all p (objects_of op) ≡ true → AreArgs (kinds_of (form_of_op op).0) (map (named name) (form_of_op op).1)
+  are-args op fit all = args-back (kinds_of (form_of_op op).0) (form_of_op op).1 (is-row (form_of_op op).0).2 fit all
 
   -- It means that operation,
-  pub text-meant : (op : Op) → list_all p (objects_of op) ≡ true → op_meant place (op_text name op) ≡ Some op
-  text-meant op all =
+  pub text-meant : (op : Op) → is_in_form op ≡ true → list_all p (objects_of op) ≡ true → op_meant place (op_text name op) ≡ Some op
+  text-meant op fit all =
       let form = form_of_op op in
-      ap (λ f. option_map op_of (option_and_then (resolved place) f)) (form_text-back form.0 (map (named name) form.1) (are-args op all))
+      ap (λ f. option_map op_of (option_and_then (resolved place) f)) (form_text-back form.0 (map (named name) form.1) (are-args op fit all))
       ∙ ap (λ args. option_map op_of (option_map (λ as_. (form.0, as_)) args)) (args-resolved form.1 all)
-      ∙ ap Some (is-op op).0
+      ∙ ap Some (is-op op)
 
   -- and has no byte that no argument has, other than the space.
-  pub text-none : (byte : ℕ) → IsApart byte → (32 == byte) ≡ false → (op : Op) → list_all p (objects_of op) ≡ true → has_none byte (op_text name op) ≡ true
-  text-none byte apart other op all = form_text-none byte apart other (form_of_op op).0 (map (named name) (form_of_op op).1) (are-args op all)
+  pub text-none : (byte : ℕ) → IsApart byte → (32 == byte) ≡ false → (op : Op) → is_in_form op ≡ true → list_all p (objects_of op) ≡ true → has_none byte (op_text name op) ≡ true
+  text-none byte apart other op fit all = form_text-none byte apart other (form_of_op op).0 (map (named name) (form_of_op op).1) (are-args op fit all)
 
 pub text-some : (name : ObjectKind → Place → List ℕ) (op : Op) → not (length (op_text name op) == 0) ≡ true
 text-some name op = form_text-some (form_of_op op).0 (map (named name) (form_of_op op).1)

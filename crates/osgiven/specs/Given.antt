@@ -101,14 +101,15 @@ schedule_tests plan d = (Limit, has_words_within 1000000 d) ∷ (BadSchedule, is
 
 -- ---- the faults and the meaning of a text
 
-abbrev pub faults_by : (Data → Tests) → List ℕ → List ConfFault
-faults_by tests text = option_map_or (λ d. failing (tests d)) (read text) (NotJson ∷ [])
+abbrev pub faults_by : (Data → Tests) → Option Data → List ConfFault
+faults_by tests None = NotJson ∷ []
+faults_by tests (Some d) = failing (tests d)
 
 abbrev pub stimuli_faults : Plan → List ℕ → List ConfFault
-stimuli_faults plan text = faults_by (stimuli_tests plan) text
+stimuli_faults plan text = faults_by (stimuli_tests plan) (read text)
 
 abbrev pub schedule_faults : Plan → List ℕ → List ConfFault
-schedule_faults plan text = faults_by (schedule_tests plan) text
+schedule_faults plan text = faults_by (schedule_tests plan) (read text)
 
 abbrev pub meaning_by : {A : Type 0} → (Data → Tests) → (Data → Option A) → Data → Option A
 meaning_by tests mean d = option_and_then (if_faultless (failing (tests d))) (mean d)

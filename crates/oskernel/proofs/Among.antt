@@ -1,6 +1,7 @@
 -- A core's history alone, and the same where it was started by another core and passed the second gate with
 -- others: it reads the same, with each stamp later by what came before.
-use Rattle.std.proofs.Common.{◌≡◌, ℕ, suc, ◌+◌, nat_eq, nat_lt, Bool, true, false, cond, Option, Some, None, option_map, List, [], ◌∷◌, ◌++◌, length, map, refl, sym, ap, ◌∙◌, arith}
+use Rattle.std.proofs.Common.{◌≡◌, ◌||◌, ℕ, suc, ◌+◌, nat_eq, nat_lt, Bool, true, false, cond, Option, Some, None, option_map, List, [], ◌∷◌, ◌++◌, length, map, refl, sym, ap, ◌∙◌, arith}
+use Rattle.std.specs.Option.{option_map_or}
 use Rattle.std.proofs.lemmas.Bool.Decides.{nat_tests}
 use Rattle.std.proofs.lemmas.List.{map-append}
 use Rattle.osbase.specs.declared.references.TaskRef.{TaskRef}
@@ -8,12 +9,17 @@ use Rattle.osbase.specs.declared.references.Runner.{Runner}
 use Rattle.osbase.specs.declared.items.CoreSet.{CoreSet}
 use Rattle.osbase.specs.declared.items.Item.{Item}
 use Rattle.osbase.specs.declared.marks.Mark.{Mark}
+use Rattle.osbase.specs.declared.histories.HeldResource.{HeldResource}
 use Rattle.osbase.specs.declared.histories.Job.{Job}
-use Rattle.osbase.specs.History.{History, Entry, Took, Printed, agreement_after, agreement_of, better_of, current_after, current_task, first_greatest, job_count, jobs_after, live_jobs, marks_of, oldest, oldest_of, open_after, open_call, phase_after, phase_of, same_runner, without_oldest}
+use Rattle.osbase.specs.Sets.{numbers_from}
+use Rattle.osres.specs.declared.resources.TheConstants.{TASKS}
+use Rattle.osbase.specs.History.{History, Entry, Took, Printed, agreement_after, agreement_of, better_of, current_after, current_job, current_task, first_greatest, giving_way, giving_way_after, greater, greatest_ceiling, held_after, held_by, job_count, jobs_after, live_jobs, marks_of, oldest, oldest_of, open_after, open_call, phase_after, phase_of, same_runner, without_oldest}
 use Rattle.oscript.specs.declared.Op.{Op}
 use Rattle.oscript.specs.Frames.{frame_after, frame_of}
+use Rattle.osplan.specs.declared.plans.Core.{Core}
 use Rattle.osplan.specs.View.{View}
-use Rattle.osstate.specs.Readings.{best_job, running, static_priority}
+use Rattle.osjobs.specs.Priorities.{held_in, highest_of, is_preemptable, priority_by, raised_of, static_priority}
+use Rattle.osstate.specs.Readings.{best_job, current_priority, held_resources, running, task_ref}
 use Rattle.osstate.proofs.ReadLemmas.{filter-able}
 
 -- The set at the second gate in place of the core's own one.
@@ -48,6 +54,27 @@ current-same s m k = reads-same current_task (λ e h j p. ap (current_after e) p
     by : (b : Bool) → current_task (base_of b) ≡ None
     by true = refl
     by false = refl
+
+giving_way-same : (s : CoreSet) (m : Bool) (k : History) → giving_way (among s (base_of m) k) ≡ giving_way k
+giving_way-same s m k = reads-same giving_way (λ e h j p. ap (giving_way_after e) p) (λ a b h. refl) s (base_of m) k (by m)
+  where
+    by : (b : Bool) → giving_way (base_of b) ≡ None
+    by true = refl
+    by false = refl
+
+held-same : (r : Runner) (s : CoreSet) (m : Bool) (k : History) → held_by r (among s (base_of m) k) ≡ held_by r k
+held-same r s m k = reads-same (held_by r) (λ e h j p. ap (held_after r e) p) (λ a b h. refl) s (base_of m) k (by m)
+  where
+    by : (b : Bool) → held_by r (base_of b) ≡ []
+    by true = refl
+    by false = refl
+
+pub resources-same : (v : View) (s : CoreSet) (m : Bool) (k : History) → held_resources v (among s (base_of m) k) ≡ held_resources v k
+resources-same v s m k = each (numbers_from 0 TASKS)
+  where
+    each : (ns : List ℕ) → map (λ (n : ℕ). held_by (Runner.Task (task_ref v.own n)) (among s (base_of m) k)) ns ≡ map (λ (n : ℕ). held_by (Runner.Task (task_ref v.own n)) k) ns
+    each [] = refl
+    each (n ∷ ns) = rw (held-same (Runner.Task (task_ref v.own n)) s m k, each ns) refl
 
 pub open-same : (s : CoreSet) (m : Bool) (k : History) → open_call (among s (base_of m) k) ≡ open_call k
 open-same s m k = reads-same open_call (λ e h j p. ap (open_after e) p) (λ a b h. refl) s (base_of m) k (by m)
@@ -148,25 +175,50 @@ running-later v s m k =
     ∙ ap (oldest_of (current_task k)) (jobs-later s m k)
     ∙ later-oldest_of (delay m) (current_task k) (live_jobs k)
 
-later-better : (d : ℕ) (p : Runner → ℕ) (j : Job) (o : Option Job) → better_of (λ (i : Job). p i.runner) (later d j) (option_map (later d) o) ≡ later d (better_of (λ (i : Job). p i.runner) j o)
-later-better d p j None = refl
-later-better d p j (Some i) = by (nat_lt (p j.runner) (p i.runner))
+later-better : (d : ℕ) (p q : Job → ℕ) → ((j : Job) → p (later d j) ≡ q j) → (j : Job) (o : Option Job) → better_of p (later d j) (option_map (later d) o) ≡ later d (better_of q j o)
+later-better d p q same j None = refl
+later-better d p q same j (Some i) =
+    ap (λ (m : ℕ). cond (nat_lt m (p (later d i))) (later d i) (later d j)) (same j)
+    ∙ ap (λ (m : ℕ). cond (nat_lt (q j) m) (later d i) (later d j)) (same i)
+    ∙ by (nat_lt (q j) (q i))
   where
     by : (b : Bool) → cond b (later d i) (later d j) ≡ later d (cond b i j)
     by true = refl
     by false = refl
 
-later-greatest : (d : ℕ) (p : Runner → ℕ) (js : List Job) → first_greatest (λ (i : Job). p i.runner) (map (later d) js) ≡ option_map (later d) (first_greatest (λ (i : Job). p i.runner) js)
-later-greatest d p [] = refl
-later-greatest d p (j ∷ js) =
-    ap (λ (o : Option Job). Some (better_of (λ (i : Job). p i.runner) (later d j) o)) (later-greatest d p js)
-    ∙ ap Some (later-better d p j (first_greatest (λ (i : Job). p i.runner) js))
-
-pub best-later : (v : View) (s : CoreSet) (m : Bool) (k : History) → best_job v (among s (base_of m) k) ≡ option_map (later (delay m)) (best_job v k)
-best-later v s m k =
-    ap (first_greatest (λ (i : Job). static_priority v.own i.runner)) (filter-able v (among s (base_of m) k) (live_jobs (among s (base_of m) k)) ∙ jobs-later s m k)
-    ∙ later-greatest (delay m) (static_priority v.own) (live_jobs k)
-    ∙ ap (λ (js : List Job). option_map (later (delay m)) (first_greatest (λ (i : Job). static_priority v.own i.runner) js)) (sym (filter-able v k (live_jobs k)))
+later-greatest : (d : ℕ) (p q : Job → ℕ) → ((j : Job) → p (later d j) ≡ q j) → (js : List Job) → first_greatest p (map (later d) js) ≡ option_map (later d) (first_greatest q js)
+later-greatest d p q same [] = refl
+later-greatest d p q same (j ∷ js) =
+    ap (λ (o : Option Job). Some (better_of p (later d j) o)) (later-greatest d p q same js)
+    ∙ ap Some (later-better d p q same j (first_greatest q js))
 
 pub stamp-later : (d a b : ℕ) → nat_eq (a + d) (b + d) ≡ nat_eq a b
 stamp-later d a b = grind (arith, nat_tests)
+
+-- The raised job is the same, and so is each job's priority.
+later-raised : (d : ℕ) (core : Core) (way : Option Runner) (o : Option Job) → raised_of core way (option_map (later d) o) ≡ option_map (later d) (raised_of core way o)
+later-raised d core way None = refl
+later-raised d core way (Some j) = by (is_preemptable core j.runner || option_map_or (same_runner j.runner) way false)
+  where
+    by : (b : Bool) → cond b None (Some (later d j)) ≡ option_map (later d) (cond b None (Some j))
+    by true = refl
+    by false = refl
+
+later-priority : (d : ℕ) (core : Core) (held : List (List HeldResource)) (raised : Option Job) (j : Job) → priority_by core held (option_map (later d) raised) (later d j) ≡ priority_by core held raised j
+later-priority d core held None j = refl
+later-priority d core held (Some i) j =
+    ap (λ (b : Bool). greater (greater (static_priority core j.runner) (greatest_ceiling (held_in j.runner held))) (cond b (highest_of core.tasks) 0)) (stamp-later d j.stamp i.stamp)
+
+pub best-later : (v : View) (s : CoreSet) (m : Bool) (k : History) → best_job v (among s (base_of m) k) ≡ option_map (later (delay m)) (best_job v k)
+best-later v s m k =
+    ap (first_greatest (current_priority v (among s (base_of m) k))) (filter-able v (among s (base_of m) k) (live_jobs (among s (base_of m) k)) ∙ jobs-later s m k)
+    ∙ later-greatest (delay m) (current_priority v (among s (base_of m) k)) (current_priority v k) priority (live_jobs k)
+    ∙ ap (λ (js : List Job). option_map (later (delay m)) (first_greatest (current_priority v k) js)) (sym (filter-able v k (live_jobs k)))
+  where
+    priority : (j : Job) → current_priority v (among s (base_of m) k) (later (delay m) j) ≡ current_priority v k j
+    priority j =
+        ap (λ (held : List (List HeldResource)). priority_by v.own held (raised_of v.own (giving_way (among s (base_of m) k)) (current_job (among s (base_of m) k))) (later (delay m) j)) (resources-same v s m k)
+        ∙ ap (λ (way : Option Runner). priority_by v.own (held_resources v k) (raised_of v.own way (current_job (among s (base_of m) k))) (later (delay m) j)) (giving_way-same s m k)
+        ∙ ap (λ (o : Option Job). priority_by v.own (held_resources v k) (raised_of v.own (giving_way k) o) (later (delay m) j)) (running-later v s m k)
+        ∙ ap (λ (o : Option Job). priority_by v.own (held_resources v k) o (later (delay m) j)) (later-raised (delay m) v.own (giving_way k) (current_job k))
+        ∙ later-priority (delay m) v.own (held_resources v k) (raised_of v.own (giving_way k) (current_job k)) j

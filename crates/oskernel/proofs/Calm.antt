@@ -6,7 +6,7 @@ use Rattle.osbase.specs.declared.items.Item.{Item}
 use Rattle.osbase.specs.declared.references.Runner.{Runner}
 use Rattle.osbase.specs.declared.marks.Mark.TheVariants as Mark
 use Rattle.osbase.specs.declared.histories.OpenCall.{OpenCall}
-use Rattle.osbase.specs.History.{Entry, History, Took, Printed, Noted, Done, closed_by, open_call, outbox}
+use Rattle.osbase.specs.History.{Entry, History, Took, Printed, Noted, Taken, Given, Done, closed_by, open_call, outbox}
 use Rattle.osplan.specs.View.{View}
 use Rattle.oscall.proofs.Carried.{anybody, is_local, nobody}
 use Rattle.osstate.specs.State.{state_of}
@@ -32,6 +32,8 @@ calm-local names (Printed (Mark.Terminated t)) h is p = record { closed = closed
 calm-local names (Printed (Mark.IsrLeft i)) h is p = record { closed = closed-still (Runner.Isr i) (open_call h) p.closed; empty = p.empty }
 calm-local names (Printed m) h is p = record { closed = p.closed; empty = p.empty }
 calm-local names (Noted (Done r s value)) h is p = record { closed = closed-still r (open_call h) p.closed; empty = p.empty }
+calm-local names (Noted (Taken r x)) h is p = record { closed = p.closed; empty = p.empty }
+calm-local names (Noted (Given r index)) h is p = record { closed = p.closed; empty = p.empty }
 calm-local names e h is p = absurd (false≢true is)
 
 calm-holds : Holds nobody nobody anybody Calm

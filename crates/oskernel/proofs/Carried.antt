@@ -16,7 +16,7 @@ use Rattle.osbase.specs.declared.marks.Mark.{Mark}
 use Rattle.osbase.specs.declared.histories.Job.{Job}
 use Rattle.osbase.specs.declared.histories.OpenCall.{OpenCall}
 use Rattle.osbase.specs.declared.histories.Phase.{Phase}
-use Rattle.osbase.specs.History.{History, Printed, Took, agreement_of, current_task, open_call}
+use Rattle.osbase.specs.History.{History, Printed, Took, agreement_of, current_task, open_call, same_job}
 use Rattle.osbase.specs.Marks.{core_of_runner, names_only}
 use Rattle.osbase.specs.Phases.{is_scheduling}
 use Rattle.oscript.specs.declared.Op.{Op}
@@ -30,7 +30,7 @@ use Rattle.osstate.specs.Readings.{best_job, frame_at, is_own, phase_at, running
 use Rattle.oscall.specs.Border.{core_of_call}
 use Rattle.oscall.specs.Tasks.{activates}
 use Rattle.oscall.proofs.Carried.{IsAllowed, IsKept, seen_as, anybody, either-carried, printed-carried, operates-carried, request-carried, action-carried, returns-carried, ends_unasked-carried}
-use Rattle.oskernel.specs.Step.{after, autostarts, closes, dispatches, effect, enters, gate_mark, goes_on, goes_to, leaves, starts_in, performs, same_job}
+use Rattle.oskernel.specs.Step.{after, autostarts, closes, dispatches, effect, enters, gate_mark, goes_on, goes_to, leaves, starts_in, performs}
 
 -- A request comes from a core that may be answered, and the call that it brings, or an action, is for an object that marks
 -- may name.

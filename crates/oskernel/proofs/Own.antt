@@ -13,7 +13,7 @@ use Rattle.osbase.specs.declared.histories.Job.{Job}
 use Rattle.osbase.specs.History.{Entry, History, Took, Printed, Noted, better_of, current_after, current_task, first_greatest, live_jobs, marks_of, oldest, oldest_of, same_runner, same_task, without_oldest}
 use Rattle.osbase.specs.Marks.{core_of_runner, names_only}
 use Rattle.osplan.specs.View.{View}
-use Rattle.osstate.specs.Readings.{is_own, static_priority}
+use Rattle.osstate.specs.Readings.{current_priority, is_own}
 use Rattle.osstate.proofs.ReadLemmas.{filter-able}
 use Rattle.oscall.proofs.Carried.{is_local, nobody}
 use Rattle.oskernel.specs.Step.{after, history_from}
@@ -105,8 +105,8 @@ module _ (v : View) where
       record {
         current = current-own (is_own v) h p.own;
         runs = oldest-own (is_own v) (current_task h) (live_jobs h) jobs;
-        best = ap (λ (js : List Job). passes_job (is_own v) (first_greatest (λ (j : Job). static_priority v.own j.runner) js)) (filter-able v h (live_jobs h))
-            ∙ greatest-own (is_own v) (λ (j : Job). static_priority v.own j.runner) (live_jobs h) jobs;
+        best = ap (λ (js : List Job). passes_job (is_own v) (first_greatest (current_priority v h) js)) (filter-able v h (live_jobs h))
+            ∙ greatest-own (is_own v) (current_priority v h) (live_jobs h) jobs;
         awaits = rw p.calm.closed refl;
       }
 

@@ -12,11 +12,11 @@ use Rattle.osbase.specs.History.{Entry, History, Took, Printed, Noted}
 use Rattle.osbase.proofs.Same.{same_core-true}
 use Rattle.osplan.specs.View.{View}
 use Rattle.osstate.specs.Queries.{is_at_limit}
-use Rattle.osstate.specs.Readings.{best_job, is_own, knows_started, running, script_of}
+use Rattle.osstate.specs.Readings.{best_job, frame_at, held_resources, is_own, knows_started, running, script_of}
 use Rattle.osstate.specs.Sound.{activation_limit}
 use Rattle.oscall.proofs.Carried.{anybody, is_local, IsKept, nobody, seen_as, ServesSame}
 use Rattle.oskernel.specs.Step.{after, effect}
-use Rattle.oskernel.proofs.Among.{agreement-same, among, base_of, best-later, count-same, current-same, delay, frame-same, later, open-same, phase-same, running-later, stamp-later}
+use Rattle.oskernel.proofs.Among.{agreement-same, among, base_of, best-later, count-same, current-same, delay, frame-same, later, open-same, phase-same, resources-same, running-later, stamp-later}
 use Rattle.oskernel.proofs.Carried.{acting-anybody, after-carried, is_going, is_replied, runner_of, ScriptsAllow, SteersSame}
 
 -- What the core alone sees.
@@ -66,6 +66,8 @@ module _ (v : View) (ids : List CoreId) (s : CoreSet) where
   serves h k p = record {
     started = λ core own. let same = same_core-true core v.core (own_only (is_own v core) own) in ap (knows_started h) same ∙ p.started ∙ ap (knows_started k) (sym same);
     limit = λ t. ap (is_at_limit v t) p.same ∙ ap (nat_le (activation_limit v.own (Runner.Task t))) (count-same s v.is_master (Runner.Task t) k);
+    frame = λ r. ap (frame_at v r) p.same ∙ frame-same (script_of v.own r) r s v.is_master k;
+    held = ap (held_resources v) p.same ∙ resources-same v s v.is_master k;
   }
     where
       own_only : (b : Bool) → (b || false) ≡ true → b ≡ true

@@ -14,7 +14,7 @@ use Rattle.osbase.specs.declared.items.Item.{Item}
 use Rattle.osbase.specs.declared.marks.Mark.{Mark}
 use Rattle.osbase.specs.declared.histories.Job.{Job}
 use Rattle.osbase.specs.declared.histories.OpenCall.{OpenCall}
-use Rattle.osbase.specs.History.{History, Took, open_call, current_task, agreement_of}
+use Rattle.osbase.specs.History.{History, Took, same_job, open_call, current_task, agreement_of}
 use Rattle.osbase.specs.Phases.{is_scheduling}
 use Rattle.oscript.specs.declared.Action.{Action}
 use Rattle.oscript.specs.declared.Action.TheVariants.{Perform, End}
@@ -96,10 +96,6 @@ effect v (Item.Granted spinlock) h = h
 effect v (Item.Tried spinlock taken) h = h
 effect v (Item.Freed spinlock) h = h
 effect v (Item.Halt core status) h = h
-
--- No two jobs of a core have one stamp.
-abbrev pub same_job : Job → Job → Bool
-same_job a b = a.stamp == b.stamp
 
 -- PostTaskHook of the current task, if there is one, and PreTaskHook of the runner's.
 -- [OSEK/VDX OS 2.2.3, section 11.5]

@@ -15,9 +15,9 @@ use osbase::{
     ServiceId, Status, Stimulus,
 };
 use oscall::{has_service, is_ok};
+use osjobs::equality::{both, is_same_core};
 use osplan::CoreMode;
 use osstate::CoreState;
-use osstate::equality::{both, is_same_core};
 
 /// Whether an item may be taken, but for how many were taken.
 pub(crate) fn is_admitted<const P: usize, const J: usize, const OUT: usize>(

@@ -1,21 +1,23 @@
 //! What follows from an item.
 
-ghost use Rattle.std.specs.Prelude.{◌≡◌, ◌==◌, ◌+◌, ◌<◌, ◌≤◌, ◌∷◌, ◌++◌, ◌||◌, [], if◌then◌else◌, Some, IsSome, IfSome, IsTrue, false, length, vec_len, vec_capacity};
+ghost use Rattle.std.specs.Prelude.{◌&&◌, is_none, ◌≡◌, ◌==◌, ◌+◌, ◌<◌, ◌≤◌, ◌∷◌, ◌++◌, ◌||◌, [], if◌then◌else◌, Some, IsSome, IfSome, IsTrue, false, length, vec_len, vec_capacity};
 ghost use Rattle.std.specs.List.{list_any};
 ghost use Rattle.std.specs.Option.{option_map_or};
 ghost use Rattle.osbase.specs.declared.turns.TheConstants.{CORES};
-ghost use Rattle.osbase.specs.History.{Took, agreement_of, current_task, job_count, open_call, outbox_after, phase_after};
-ghost use Rattle.osbase.specs.Phases.{is_before_live, is_past_first_gate};
+ghost use Rattle.osbase.specs.History.{Took, agreement_of, current_task, job_count, open_call, outbox_after, phase_after, same_job};
+ghost use Rattle.osbase.specs.Phases.{is_before_live, is_scheduling, is_past_first_gate};
 ghost use Rattle.osbase.specs.Runs.{is_stimulus};
 ghost use Rattle.oscript.specs.Frames.{action_at};
+ghost use Rattle.osjobs.specs.Jobs.{is_plain};
+ghost use Rattle.osjobs.specs.Priorities.{is_own_runner};
 ghost use Rattle.osstate.specs.Does.{Adds, Does, Effects, HasRoom, Reads, item_entries, item_marks, service_entries, service_marks};
 ghost use Rattle.osstate.specs.Queries.{running_in};
 ghost use Rattle.osstate.specs.Readings.{frame_at, running, script_of, task_refs};
-ghost use Rattle.osstate.specs.Sound.{Acts, activation_limit, is_agreed, is_first_gate, is_own_runner, is_plain, is_posted, is_sender_known};
+ghost use Rattle.osstate.specs.Sound.{Acts, activation_limit, is_agreed, is_first_gate, is_posted, is_sender_known};
 ghost use Rattle.oscall.specs.Tasks.{activates};
 ghost use Rattle.oskernel.specs.Admission.{admits};
 ghost use Rattle.oskernel.specs.Bounded.{step_entries};
-ghost use Rattle.oskernel.specs.Step.{autostarts, closes, dispatches, effect, enters, gate_mark, goes_on, goes_to, leaves, performs, receives, same_job, starts_in, stimulates};
+ghost use Rattle.oskernel.specs.Step.{autostarts, closes, dispatches, effect, enters, gate_mark, goes_on, goes_to, leaves, performs, receives, starts_in, stimulates};
 ghost use Rattle.oskernel.specs.Taking.{TakesItem, agreement_on, is_acting, is_answered, is_filling, is_known, is_request, is_second_gate};
 
 use osbase::{
@@ -284,10 +286,18 @@ pub(crate) fn dispatch<const P: usize, const J: usize, const OUT: usize>(
     requires { HasRoom 2 2 state.old marks.old }
     ensures { Effects 2 2 (λ v h. dispatches v h) state.old state.new marks.old marks.new }
 {
-    if state.phase().is_scheduling() && state.awaited_call().is_none() {
+    if may_dispatch(state) {
         let best = state.best_job();
         go_to(state, best, marks);
     }
+}
+
+fn may_dispatch<const P: usize, const J: usize, const OUT: usize>(
+    state: &CoreState<'_, P, J, OUT>,
+) -> bool
+    ensures { result ≡ (is_scheduling state.now.progress.phase && is_none state.now.border.open_call) }
+{
+    state.phase().is_scheduling() && state.awaited_call().is_none()
 }
 
 // Going to the best job: nothing if it is the running one (OSEK/VDX OS 2.2.3, section 4.4 and 4.6).

@@ -1,6 +1,6 @@
 //! A kernel by itself, item by item.
 
-ghost use Rattle.std.specs.Prelude.{◌≡◌, ◌∷◌, [], if◌then◌else◌, nat_lt, IsTrue, IfOk, IsSome, sum_by, ◌≤◌};
+ghost use Rattle.std.specs.Prelude.{◌≡◌, ◌∷◌, [], if◌then◌else◌, nat_lt, IsTrue, IfOk, IsSome, sum_by, ◌≤◌, true};
 ghost use Rattle.std.specs.List.{list_all};
 ghost use Rattle.osplan.specs.declared.plans.Task.{Task as TaskValue};
 ghost use Rattle.osplan.specs.Limits.{is_within_limits};
@@ -34,7 +34,7 @@ const TASK_B: TaskRef = TaskRef {
 };
 
 fn task(alloc: Global, name: &str, is_auto: bool, ops: &[Op]) -> Result<Task, AllocError>
-    ensures { IfOk result (λ task. task ≡ record { name = name.now; priority = 1; auto = (if is_auto then MODE ∷ [] else []); activations = 1; script = ops.now }) }
+    ensures { IfOk result (λ task. task ≡ record { name = name.now; priority = 1; auto = (if is_auto then MODE ∷ [] else []); activations = 1; preemptable = true; script = ops.now }) }
 {
     let auto = if is_auto { &[MODE][..] } else { &[] };
     Ok(Task {
@@ -42,12 +42,13 @@ fn task(alloc: Global, name: &str, is_auto: bool, ops: &[Op]) -> Result<Task, Al
         priority: 1,
         auto: List::from_vec(auto.to_vec(alloc)?),
         activations: 1,
+        preemptable: true,
         script: List::from_vec(ops.to_vec(alloc)?),
     })
 }
 
 fn core(alloc: Global, id: CoreId, start: &[CoreId], task: Task) -> Result<Core, AllocError>
-    ensures { IfOk result (λ core. core ≡ record { id = id; mode = CoreMode.Named MODE; start = start.now; tasks = task ∷ []; isrs = []; alarms = []; tables = [] }) }
+    ensures { IfOk result (λ core. core ≡ record { id = id; mode = CoreMode.Named MODE; start = start.now; tasks = task ∷ []; resources = []; isrs = []; alarms = []; tables = [] }) }
 {
     let mut tasks = List::new(alloc);
     tasks.push(task)?;
@@ -56,6 +57,7 @@ fn core(alloc: Global, id: CoreId, start: &[CoreId], task: Task) -> Result<Core,
         mode: CoreMode::Named(MODE),
         start: List::from_vec(start.to_vec(alloc)?),
         tasks,
+        resources: List::new(alloc),
         isrs: List::new(alloc),
         alarms: List::new(alloc),
         tables: List::new(alloc),

@@ -17,11 +17,12 @@ use Rattle.osplan.specs.declared.plans.Task.{Task}
 use Rattle.osplan.specs.declared.plans.CoreMode.{CoreMode}
 use Rattle.osplan.specs.declared.plans.CoreMode.TheVariants.{Named, DontCare}
 use Rattle.osplan.specs.declared.plans.Isr.{Isr}
+use Rattle.osplan.specs.declared.plans.Resource.{Resource}
 use Rattle.osplan.specs.declared.plans.Alarm.{Alarm}
 use Rattle.osplan.specs.declared.plans.Table.{Table}
 use Rattle.osplan.specs.View.{core_of}
 use Rattle.osplan.specs.Objects.{object_count}
-use Rattle.osplan.specs.Limits.{core_sizes, sizes_of, is_core_within, is_within, is_object, is_op_known, is_mode, is_core_mode, is_task_known, is_core_known, is_within_limits}
+use Rattle.osplan.specs.Limits.{core_sizes, sizes_of, is_core_within, is_within, is_object, is_op_known, is_mode, is_core_mode, is_task_known, is_core_known, is_core_near, is_within_limits}
 use Rattle.osplan.specs.Expressible.{is_core_expressible, is_expressible, are_distinct, object_names}
 use Rattle.osplan.specs.Separate.{agree, alone_of, has_operation, is_agreed_mode, is_named_elsewhere, is_on, is_separate, is_separate_core, is_started, names_other}
 use Rattle.osplan.proofs.Distinct.{distinct-kept, distinct-front, distinct-back}
@@ -34,9 +35,9 @@ agree-self (Named m) = eq-eqb m.index m.index refl
 agree-self DontCare = refl
 
 -- a core is its parts
-pub core-parts : (core : Core) (start : List CoreId) (tasks : List Task) (isrs : List Isr) (alarms : List Alarm) (tables : List Table) → start ≡ core.start → tasks ≡ core.tasks → isrs ≡ core.isrs → alarms ≡ core.alarms → tables ≡ core.tables
-    → (let copy : Core = record { id = core.id; mode = core.mode; start = start; tasks = tasks; isrs = isrs; alarms = alarms; tables = tables } in copy ≡ core)
-core-parts core start tasks isrs alarms tables a b c d e = rw (a, b, c, d, e) refl
+pub core-parts : (core : Core) (start : List CoreId) (tasks : List Task) (resources : List Resource) (isrs : List Isr) (alarms : List Alarm) (tables : List Table) → start ≡ core.start → tasks ≡ core.tasks → resources ≡ core.resources → isrs ≡ core.isrs → alarms ≡ core.alarms → tables ≡ core.tables
+    → (let copy : Core = record { id = core.id; mode = core.mode; start = start; tasks = tasks; resources = resources; isrs = isrs; alarms = alarms; tables = tables } in copy ≡ core)
+core-parts core start tasks resources isrs alarms tables a b c d e f = rw (a, b, c, d, e, f) refl
 
 -- ---- names
 
@@ -91,9 +92,9 @@ module _ (plan : Plan) (id : CoreId) (core : Core) (found : core_of plan id ≡ 
   sizes-alone : is_within (sizes_of plan) ≡ true → is_core_within (core_sizes core) ≡ true → is_within (sizes_of (alone_of plan id core)) ≡ true
   sizes-alone whole mine = and_from _ _ (and_from _ _ (and_parts _ _ (and_parts _ _ whole).0).0 refl) (and_from _ _ mine refl)
 
-  plan-alone : LimitParts plan → is_core_within (core_sizes core) ≡ true → is_core_known plan core ≡ true → has_operation (names_other core.id) core ≡ false → is_within_limits (alone_of plan id core) ≡ true
-  plan-alone limits within known inside =
-      and_from _ _ (and_from _ _ (and_from _ _ (sizes-alone limits.sizes within) refl) (rw mine refl)) (and_from _ _ (core-alone known inside) refl)
+  plan-alone : LimitParts plan → is_core_within (core_sizes core) ≡ true → is_core_known plan core ≡ true → is_core_near core ≡ true → has_operation (names_other core.id) core ≡ false → is_within_limits (alone_of plan id core) ≡ true
+  plan-alone limits within known near inside =
+      and_from _ _ (and_from _ _ (and_from _ _ (and_from _ _ (sizes-alone limits.sizes within) refl) (rw mine refl)) (and_from _ _ (core-alone known inside) refl)) (and_from _ _ near refl)
 
   -- ---- what a text can say
   expressible-alone : TextParts plan → is_core_expressible core ≡ true → are_distinct (object_names core) ≡ true → is_expressible (alone_of plan id core) ≡ true
@@ -140,7 +141,7 @@ whole-alone plan id core limits expressible found separate =
     let same = same_core-true core.id id (find-holds (λ (c : Core). same_core c.id id) plan.cores core found) in
     record {
       expressible_core = mine;
-      limits = plan-alone plan id core found same inside within (pick (is_core_known plan) inside.known) parts.inward;
+      limits = plan-alone plan id core found same inside within (pick (is_core_known plan) inside.known) (pick is_core_near inside.near) parts.inward;
       expressible = expressible-alone plan id core found same said mine (pick (λ (c : Core). are_distinct (object_names c)) (each-distinct plan.cores (distinct-back plan.modes (flat_map object_names plan.cores) said.names)));
       separate = separate-alone plan id core found same parts;
     }

@@ -1,17 +1,17 @@
 -- What the tests of a configuration say, by name, and what a kernel needs of a core.
-use Rattle.std.proofs.Common.{◌≡◌, ℕ, ◌≤◌, true, nat_eq, nat_le, nat_lt, List, [], ◌∷◌, length, map, Some, is_some, IsTrue, sym, ◌∙◌, arith, sum_by}
+use Rattle.std.proofs.Common.{◌≡◌, ℕ, ◌+◌, ◌≤◌, true, nat_eq, nat_le, nat_lt, [], length, map, Some, is_some, IsTrue, sym, ◌∙◌, arith, sum_by}
 use Rattle.std.specs.List.{list_all}
 use Rattle.std.proofs.lemmas.Bool.{and_parts, leb-true, le-leb, lt-ltb}
 use Rattle.std.proofs.lemmas.List.{length-map}
-use Rattle.std.proofs.lemmas.List.Folds.{list_all-map}
+use Rattle.std.proofs.lemmas.List.Folds.{fold-map, list_all-map}
 use Rattle.osbase.specs.declared.references.CoreId.{CoreId}
 use Rattle.osbase.specs.History.{same_core}
 use Rattle.osplan.specs.declared.plans.Plan.{Plan}
 use Rattle.osplan.specs.declared.plans.Core.{Core}
 use Rattle.osplan.specs.declared.plans.Task.{Task}
 use Rattle.osplan.specs.View.{core_of}
-use Rattle.osplan.specs.Limits.{is_between, task_sizes, core_sizes, sizes_of, is_task_within, is_core_within, is_within, is_core_known, numbers_of, are_numbers_distinct, is_within_limits}
-use Rattle.osplan.specs.Expressible.{are_mode_name, is_in_only_mode, are_distinct, declared_names, is_task_expressible, is_core_expressible, is_expressible}
+use Rattle.osplan.specs.Limits.{TaskSizes, is_between, jobs_of, task_sizes, core_sizes, sizes_of, is_task_within, is_core_within, is_within, is_ceiling, ceiling_of, is_core_known, is_core_near, numbers_of, are_numbers_distinct, is_within_limits}
+use Rattle.osplan.specs.Expressible.{are_mode_name, is_in_only_mode, are_distinct, declared_names, is_task_expressible, is_resource_expressible, is_core_expressible, is_expressible}
 use Rattle.osplan.proofs.Tests.{all-weaker, find-passes, none-from}
 
 -- ---- the parts of both tests
@@ -22,10 +22,12 @@ pub record LimitParts (plan : Plan) : Type 0 where
   pub distinct : are_numbers_distinct (numbers_of plan.cores) ≡ true
   pub master : is_some (core_of plan plan.master) ≡ true
   pub known : list_all (is_core_known plan) plan.cores ≡ true
+  pub near : list_all is_core_near plan.cores ≡ true
 
 pub limit-parts : (plan : Plan) → IsTrue (is_within_limits plan) → LimitParts plan
 limit-parts plan h =
-    let known = and_parts _ (list_all (is_core_known plan) plan.cores) h in
+    let near = and_parts _ (list_all is_core_near plan.cores) h in
+    let known = and_parts _ (list_all (is_core_known plan) plan.cores) near.0 in
     let master = and_parts _ (is_some (core_of plan plan.master)) known.0 in
     let distinct = and_parts (is_within (sizes_of plan)) (are_numbers_distinct (numbers_of plan.cores)) master.0 in
     let cores = and_parts _ (list_all is_core_within (map core_sizes plan.cores)) distinct.0 in
@@ -35,6 +37,7 @@ limit-parts plan h =
       distinct = distinct.1;
       master = master.1;
       known = known.1;
+      near = near.1;
     }
 
 pub record TextParts (plan : Plan) : Type 0 where
@@ -52,6 +55,7 @@ text-parts plan h =
 pub record CoreTextParts (core : Core) : Type 0 where
   pub mode : is_in_only_mode core.mode ≡ true
   pub tasks : list_all is_task_expressible core.tasks ≡ true
+  pub resources : list_all is_resource_expressible core.resources ≡ true
   pub isrs : core.isrs ≡ []
   pub alarms : core.alarms ≡ []
   pub tables : core.tables ≡ []
@@ -61,10 +65,12 @@ core-text-parts core h =
     let tables = and_parts _ (nat_eq (length core.tables) 0) h in
     let alarms = and_parts _ (nat_eq (length core.alarms) 0) tables.0 in
     let isrs = and_parts _ (nat_eq (length core.isrs) 0) alarms.0 in
-    let tasks = and_parts (is_in_only_mode core.mode) (list_all is_task_expressible core.tasks) isrs.0 in
+    let resources = and_parts _ (list_all is_resource_expressible core.resources) isrs.0 in
+    let tasks = and_parts (is_in_only_mode core.mode) (list_all is_task_expressible core.tasks) resources.0 in
     record {
       mode = tasks.0;
       tasks = tasks.1;
+      resources = resources.1;
       isrs = none-from core.isrs isrs.1;
       alarms = none-from core.alarms alarms.1;
       tables = none-from core.tables tables.1;
@@ -72,33 +78,31 @@ core-text-parts core h =
 
 -- ---- what a kernel needs
 
--- The core has its place among the flags of all cores, and its tasks and their jobs have room.
+-- The core has its place among the flags of all cores, and its tasks, their jobs and its resources have room.
 pub record FitsKernel (core : Core) : Type 0 where
   pub number : nat_lt core.id.number 16 ≡ true
   pub tasks : length core.tasks ≤ 32
   pub priorities : list_all (λ (t : Task). nat_lt t.priority 32) core.tasks ≡ true
   pub some : list_all (λ (t : Task). nat_le 1 t.activations) core.tasks ≡ true
   pub activations : sum_by (λ (t : Task). t.activations) core.tasks ≤ 64
+  pub resources : length core.resources ≤ 16
 
 pub between : (low high n : ℕ) → is_between low high (Some n) ≡ true → (low ≤ n) × (n ≤ high)
 between low high n h = let parts = and_parts (nat_le low n) (nat_le n high) h in (leb-true low n parts.0, leb-true n high parts.1)
 
-task-fits : (task : Task) → is_task_within (task_sizes task) ≡ true → (nat_lt task.priority 32 ≡ true) × (nat_le 1 task.activations ≡ true) × (task.activations ≤ 64)
+task-fits : (task : Task) → is_task_within (task_sizes task) ≡ true → (nat_lt task.priority 32 ≡ true) × (nat_le 1 task.activations ≡ true)
 task-fits task h =
     let numbers = and_parts _ _ (and_parts _ _ h).0 in
     let priority = between _ _ task.priority numbers.0 in
     let activations = between _ _ task.activations numbers.1 in
-    (lt-ltb task.priority 32 (omega arith), le-leb 1 task.activations (omega arith), omega arith)
-
--- The limits of one task at most.
-sum-fits : (tasks : List Task) → length tasks ≤ 1 → list_all (λ (t : Task). is_task_within (task_sizes t)) tasks ≡ true → sum_by (λ (t : Task). t.activations) tasks ≤ 64
-sum-fits [] few within = omega arith
-sum-fits (task ∷ []) few within = let low : task.activations ≤ 64 = (task-fits task (and_parts _ true within).0).2 in omega arith
-sum-fits (task ∷ other ∷ tasks) few within = absurd (omega arith)
+    (lt-ltb task.priority 32 (omega arith), le-leb 1 task.activations (omega arith))
 
 pub fits : (core : Core) → is_core_within (core_sizes core) ≡ true → FitsKernel core
 fits core h =
-    let tasks = and_parts _ (list_all is_task_within (map task_sizes core.tasks)) h in
+    let resources = and_parts _ (nat_le (length (map ceiling_of core.resources)) 16) (and_parts _ (list_all is_ceiling (map ceiling_of core.resources)) h).0 in
+    let held = leb-true (length (map ceiling_of core.resources)) _ resources.1 in
+    let sum = and_parts _ (nat_le (sum_by jobs_of (map task_sizes core.tasks)) 64) resources.0 in
+    let tasks = and_parts _ (list_all is_task_within (map task_sizes core.tasks)) sum.0 in
     let few = and_parts _ _ tasks.0 in
     let number = between _ _ core.id.number (and_parts _ _ few.0).0 in
     let count = leb-true (length (map task_sizes core.tasks)) _ few.1 in
@@ -108,7 +112,8 @@ fits core h =
       tasks = omega (arith, length-map core.tasks task_sizes);
       priorities = all-weaker _ _ (λ t h. (task-fits t h).0) core.tasks each;
       some = all-weaker _ _ (λ t h. (task-fits t h).1) core.tasks each;
-      activations = sum-fits core.tasks (omega (arith, length-map core.tasks task_sizes)) each;
+      activations = rw (← fold-map (λ (jobs : ℕ) (s : TaskSizes). jobs + jobs_of s) task_sizes 0 core.tasks) (leb-true _ 64 sum.1);
+      resources = omega (arith, length-map core.resources ceiling_of);
     }
 
 -- Each configured core fits.

@@ -1,13 +1,18 @@
--- What a text can say of a configuration so far, beside its limits: names in form and all different, one mode, and no ISR,
--- alarm or table. [own]
+-- What a text can say of a configuration so far, beside its limits: names in form and all different, one mode, scripts that
+-- stay within themselves, and no ISR, alarm or table. [own]
 -- Each is a test, so that a literal configuration passes it by computation.
-use Rattle.std.specs.Prelude.{ℕ, ◌==◌, ◌&&◌, Bool, true, false, not, List, [], ◌∷◌, ◌++◌, length, map, codes}
+use Rattle.std.specs.Prelude.{ℕ, ◌==◌, ◌&&◌, nat_le, Bool, true, false, not, List, [], ◌∷◌, ◌++◌, length, map, codes}
 use Rattle.std.specs.List.{list_all, list_any, flat_map}
+use Rattle.std.specs.Option.{option_map_or}
 use Rattle.std.specs.Str.{bytes_eq}
 use Rattle.osbase.specs.declared.references.ModeId.{ModeId}
 use Rattle.osbase.specs.Names.{is_name}
+use Rattle.oscript.specs.declared.Op.{Op}
+use Rattle.oscript.specs.Frames.{position_of}
+use Rattle.oscript.specs.Rows.{is_in_form}
 use Rattle.osplan.specs.declared.plans.Plan.{Plan}
 use Rattle.osplan.specs.declared.plans.Core.{Core}
+use Rattle.osplan.specs.declared.plans.Resource.{Resource}
 use Rattle.osplan.specs.declared.plans.Task.{Task}
 use Rattle.osplan.specs.declared.plans.CoreMode.{CoreMode}
 use Rattle.osplan.specs.declared.plans.CoreMode.TheVariants.{Named, DontCare}
@@ -33,22 +38,37 @@ abbrev pub are_distinct : List (List ℕ) → Bool
 are_distinct [] = true
 are_distinct (name ∷ names) = not (list_any (λ later. bytes_eq later name) names) && are_distinct names
 
--- The names of a core's objects. No other kind than tasks can be configured yet.
+-- The names of a core's objects: tasks, then resources. No other kind can be configured yet.
 abbrev pub object_names : Core → List (List ℕ)
-object_names core = map (λ (task : Task). task.name) core.tasks
+object_names core = map (λ (task : Task). task.name) core.tasks ++ map (λ (resource : Resource). resource.name) core.resources
 
 -- Every name that a configuration declares: those of its modes, and those of its objects core by core.
 abbrev pub declared_names : Plan → List (List ℕ)
 declared_names plan = plan.modes ++ flat_map object_names plan.cores
 
--- A task has a name in form, and starts by itself in no mode but the only one.
+-- In a script of so many operations, the operation lets the job go on at one of them, or past the last.
+abbrev pub goes_within : ℕ → Op → Bool
+goes_within count op = option_map_or (λ (n : ℕ). nat_le n count) (position_of op) true
+
+abbrev pub is_jumping_within : List Op → Bool
+is_jumping_within script = list_all (goes_within (length script)) script
+
+-- A script's operations have arguments of their kinds, and go on within the script.
+abbrev pub is_script_expressible : List Op → Bool
+is_script_expressible script = list_all is_in_form script && is_jumping_within script
+
+-- A task has a name in form, starts by itself in no mode but the only one, and has such a script.
 abbrev pub is_task_expressible : Task → Bool
-is_task_expressible task = is_name task.name && list_all is_only_mode task.auto
+is_task_expressible task = is_name task.name && list_all is_only_mode task.auto && is_script_expressible task.script
+
+-- A resource has a name in form.
+abbrev pub is_resource_expressible : Resource → Bool
+is_resource_expressible resource = is_name resource.name
 
 -- A core is of the only mode, and has no ISR, alarm or table.
 abbrev pub is_core_expressible : Core → Bool
 is_core_expressible core =
-    is_in_only_mode core.mode && list_all is_task_expressible core.tasks
+    is_in_only_mode core.mode && list_all is_task_expressible core.tasks && list_all is_resource_expressible core.resources
     && (length core.isrs == 0) && (length core.alarms == 0) && (length core.tables == 0)
 
 -- The whole configuration can be said by a text; the names that it declares are different.

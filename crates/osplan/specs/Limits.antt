@@ -1,20 +1,22 @@
 -- The limits of a configuration's numbers, each said once: a text that is read, the configuration that it means and the text that
 -- is written of it are judged by one test of their numbers. And that each reference of a configuration names an object of it.
 -- Each is a test, so that a literal configuration passes it by computation.
-use Rattle.std.specs.Prelude.{ℕ, ◌==◌, ◌&&◌, nat_le, nat_lt, Bool, true, false, not, Option, Some, None, is_some, List, [], ◌∷◌, length, map}
+use Rattle.std.specs.Prelude.{ℕ, ◌==◌, ◌&&◌, nat_le, nat_lt, Bool, true, false, not, Option, Some, None, is_some, unwrap_or, List, [], ◌∷◌, length, map, sum_by}
 use Rattle.std.specs.List.{list_all, list_any}
 use Rattle.std.specs.Option.{option_map_or}
 use Rattle.osbase.specs.declared.references.CoreId.{CoreId}
 use Rattle.osbase.specs.declared.references.ModeId.{ModeId}
 use Rattle.osbase.specs.declared.objects.Object.{Object}
 use Rattle.oscript.specs.declared.Op.{Op}
-use Rattle.oscript.specs.Rows.{objects_of}
+use Rattle.oscript.specs.Rows.{names_own_only, objects_of}
 use Rattle.osplan.specs.declared.plans.Plan.{Plan}
 use Rattle.osplan.specs.declared.plans.Core.{Core}
+use Rattle.osplan.specs.declared.plans.Resource.{Resource}
 use Rattle.osplan.specs.declared.plans.Task.{Task}
 use Rattle.osplan.specs.declared.plans.CoreMode.{CoreMode}
 use Rattle.osplan.specs.declared.plans.CoreMode.TheVariants.{Named, DontCare}
 use Rattle.osplan.specs.Objects.{has_index}
+use Rattle.osplan.specs.Separate.{names_other}
 use Rattle.osplan.specs.View.{core_of}
 
 -- ---- the numbers that have limits. A number that a text has below 0 is none.
@@ -28,6 +30,7 @@ pub record CoreSizes : Type 0 where
   pub number : Option ℕ
   pub start : List (Option ℕ)
   pub tasks : List TaskSizes
+  pub resources : List (Option ℕ)
 
 pub record Sizes : Type 0 where
   pub modes : ℕ
@@ -50,11 +53,20 @@ is_task_within s = is_between 0 31 s.priority && is_between 1 64 s.activations &
 abbrev pub is_start : Option ℕ → Bool
 is_start number = is_between 0 255 number
 
--- A core: number 0 to 7 [own], and at most one task so far [own], so that its activation limits sum to at most 64.
+-- A resource's ceiling, among the priorities: 0 to 31 [OSEK/VDX OS 2.2.3, section 8.5; the highest is own].
+abbrev pub is_ceiling : Option ℕ → Bool
+is_ceiling number = is_between 0 31 number
+
+-- How many jobs of the task there may be at once; 0 where that number is not there, with which no task is within its limits.
+abbrev pub jobs_of : TaskSizes → ℕ
+jobs_of s = unwrap_or s.activations 0
+
+-- A core: number 0 to 7, at most 32 tasks, at most 64 jobs of all its tasks at once, and at most 16 resources. [own]
 abbrev pub is_core_within : CoreSizes → Bool
 is_core_within s =
     is_between 0 7 s.number && list_all is_start s.start
-    && nat_le (length s.tasks) 1 && list_all is_task_within s.tasks
+    && nat_le (length s.tasks) 32 && list_all is_task_within s.tasks && nat_le (sum_by jobs_of s.tasks) 64
+    && nat_le (length s.resources) 16 && list_all is_ceiling s.resources
 
 -- The whole: 1 to 8 application modes, mailboxes of 1 to 16 envelopes, 1 to 8 cores. [own]
 abbrev pub is_within : Sizes → Bool
@@ -91,8 +103,16 @@ number_of id = Some id.number
 abbrev pub numbers_of : List Core → List (Option ℕ)
 numbers_of cores = map (λ (c : Core). number_of c.id) cores
 
+abbrev pub ceiling_of : Resource → Option ℕ
+ceiling_of resource = Some resource.ceiling
+
 abbrev pub core_sizes : Core → CoreSizes
-core_sizes core = record { number = number_of core.id; start = map number_of core.start; tasks = map task_sizes core.tasks }
+core_sizes core = record {
+  number = number_of core.id;
+  start = map number_of core.start;
+  tasks = map task_sizes core.tasks;
+  resources = map ceiling_of core.resources;
+}
 
 abbrev pub sizes_of : Plan → Sizes
 sizes_of plan = record { modes = length plan.modes; cap = Some plan.cap; cores = map core_sizes plan.cores }
@@ -122,8 +142,17 @@ is_task_known plan task = list_all (is_op_known plan) task.script && list_all (i
 abbrev pub is_core_known : Plan → Core → Bool
 is_core_known plan core = is_core_mode plan core.mode && list_all (is_task_known plan) core.tasks
 
--- The whole configuration is within the limits, with different cores, a configured master, and no reference to what is not there.
+-- On the core of this number the operation names no object of another core, where it may name its own alone.
+abbrev pub stays_on : CoreId → Op → Bool
+stays_on id op = not (names_own_only op && names_other id op)
+
+-- So it is with each operation of the core's scripts. [own]
+abbrev pub is_core_near : Core → Bool
+is_core_near core = list_all (λ (task : Task). list_all (stays_on core.id) task.script) core.tasks
+
+-- The whole configuration is within the limits, with different cores, a configured master, no reference to what is not there, and
+-- none to another core's objects where only a core's own may be named.
 abbrev pub is_within_limits : Plan → Bool
 is_within_limits plan =
     is_within (sizes_of plan) && are_numbers_distinct (numbers_of plan.cores) && is_some (core_of plan plan.master)
-    && list_all (is_core_known plan) plan.cores
+    && list_all (is_core_known plan) plan.cores && list_all is_core_near plan.cores

@@ -6,14 +6,16 @@ use Rattle.osbase.specs.declared.objects.Place.{Place}
 use Rattle.osbase.specs.declared.references.AlarmRef.{AlarmRef}
 use Rattle.osbase.specs.declared.references.IsrRef.{IsrRef}
 use Rattle.osbase.specs.declared.references.ModeId.{ModeId}
+use Rattle.osbase.specs.declared.references.ResourceRef.{ResourceRef}
 use Rattle.osbase.specs.declared.references.Runner.{Runner}
 use Rattle.osbase.specs.declared.references.TableRef.{TableRef}
 use Rattle.osbase.specs.declared.references.TaskRef.{TaskRef}
-use Rattle.osbase.specs.Objects.{alarm_place, task_place}
+use Rattle.osbase.specs.Objects.{alarm_place, resource_place, task_place}
 use Rattle.osplan.specs.declared.plans.Alarm.{Alarm}
 use Rattle.osplan.specs.declared.plans.Core.{Core}
 use Rattle.osplan.specs.declared.plans.Isr.{Isr}
 use Rattle.osplan.specs.declared.plans.Plan.{Plan}
+use Rattle.osplan.specs.declared.plans.Resource.{Resource}
 use Rattle.osplan.specs.declared.plans.Table.{Table}
 use Rattle.osplan.specs.declared.plans.Task.{Task}
 use Rattle.osplan.specs.View.{core_of}
@@ -26,6 +28,7 @@ name_of_mode plan mode = option_map_or (λ (name : List ℕ). name) (slice_get p
 -- The name of a core's object of a kind.
 abbrev pub name_in : ObjectKind → Core → ℕ → List ℕ
 name_in ObjectKind.Task core index = option_map_or (λ (task : Task). task.name) (slice_get core.tasks index) []
+name_in ObjectKind.Resource core index = option_map_or (λ (resource : Resource). resource.name) (slice_get core.resources index) []
 name_in ObjectKind.Alarm core index = option_map_or (λ (alarm : Alarm). alarm.name) (slice_get core.alarms index) []
 
 abbrev pub name_of : Plan → ObjectKind → Place → List ℕ
@@ -33,6 +36,9 @@ name_of plan kind place = option_map_or (λ (core : Core). name_in kind core pla
 
 abbrev pub task_name : Plan → TaskRef → List ℕ
 task_name plan task = name_of plan ObjectKind.Task (task_place task)
+
+abbrev pub resource_name : Plan → ResourceRef → List ℕ
+resource_name plan resource = name_of plan ObjectKind.Resource (resource_place resource)
 
 abbrev pub alarm_name : Plan → AlarmRef → List ℕ
 alarm_name plan alarm = name_of plan ObjectKind.Alarm (alarm_place alarm)

@@ -1,10 +1,12 @@
 -- What one core sees of a configuration.
 use Rattle.std.specs.Prelude.{ℕ, if◌then◌else◌, Bool, Option, None, List, [], find, map, is_some, slice_get, unwrap_or}
 use Rattle.osbase.specs.declared.references.CoreId.{CoreId}
+use Rattle.osbase.specs.declared.references.ResourceRef.{ResourceRef}
 use Rattle.osbase.specs.declared.references.TaskRef.{TaskRef}
 use Rattle.osbase.specs.History.{same_core}
 use Rattle.osplan.specs.declared.plans.Plan.{Plan}
 use Rattle.osplan.specs.declared.plans.Core.{Core}
+use Rattle.osplan.specs.declared.plans.Resource.{Resource}
 use Rattle.osplan.specs.declared.plans.Task.{Task}
 use Rattle.osplan.specs.declared.plans.CoreMode.TheVariants.{DontCare}
 
@@ -14,7 +16,7 @@ core_of plan id = find (λ core. same_core core.id id) plan.cores
 
 -- A core that is not configured has nothing.
 abbrev pub no_core : CoreId → Core
-no_core id = record { id = id; mode = DontCare; start = []; tasks = []; isrs = []; alarms = []; tables = [] }
+no_core id = record { id = id; mode = DontCare; start = []; tasks = []; resources = []; isrs = []; alarms = []; tables = [] }
 
 -- What a core is started with: its number and whether it is the master, and its own part of the configuration, which has
 -- its mode, its start list and its objects; the configuration's modes, and the numbers of the configured cores. An
@@ -48,3 +50,7 @@ is_configured v id = is_some (find (same_core id) v.cores)
 -- The task of this reference, if it is one of the core's own.
 abbrev pub own_task : Core → TaskRef → Option Task
 own_task core t = if same_core t.core core.id then slice_get core.tasks t.index else None
+
+-- The resource of this reference, if it is one of the core's own.
+abbrev pub own_resource : Core → ResourceRef → Option Resource
+own_resource core r = if same_core r.core core.id then slice_get core.resources r.index else None

@@ -10,5 +10,5 @@ pub mod plans;
 pub mod separate;
 
 pub use faults::ConfFault;
-pub use plans::{Alarm, Config, Core, CoreMode, Isr, Plan, Table, Task};
-pub use separate::{Standing, cut, is_separate, standing_of};
+pub use plans::{Alarm, Config, Core, CoreMode, Isr, Plan, Resource, Table, Task};
+pub use separate::{Standing, cut, is_separate, standing_of, stays_on};

@@ -1,10 +1,10 @@
 //! The names of modes and objects, by their places.
 
 ghost use Rattle.std.specs.Prelude.{◌≡◌};
-ghost use Rattle.osplan.specs.Names.{alarm_name, isr_name, name_of_mode, name_in, name_of, runner_name, table_name, task_name};
+ghost use Rattle.osplan.specs.Names.{alarm_name, isr_name, name_of_mode, name_in, name_of, resource_name, runner_name, table_name, task_name};
 
 use crate::plans::{Core, Plan};
-use osbase::{AlarmRef, IsrRef, ModeId, ObjectKind, Place, Runner, TableRef, TaskRef};
+use osbase::{AlarmRef, IsrRef, ModeId, ObjectKind, Place, ResourceRef, Runner, TableRef, TaskRef};
 
 impl Core {
     fn name_in(&self, kind: ObjectKind, index: u8) -> &str
@@ -14,6 +14,10 @@ impl Core {
         match kind {
             ObjectKind::Task => match self.tasks.as_slice().get(index) {
                 Some(task) => task.name.as_str(),
+                None => "",
+            },
+            ObjectKind::Resource => match self.resources.as_slice().get(index) {
+                Some(resource) => resource.name.as_str(),
                 None => "",
             },
             ObjectKind::Alarm => match self.alarms.as_slice().get(index) {
@@ -50,6 +54,12 @@ impl Plan {
         ensures { result.now ≡ task_name self.now task }
     {
         self.name_of(ObjectKind::Task, task.place())
+    }
+
+    pub fn resource_name(&self, resource: ResourceRef) -> &str
+        ensures { result.now ≡ resource_name self.now resource }
+    {
+        self.name_of(ObjectKind::Resource, resource.place())
     }
 
     pub fn alarm_name(&self, alarm: AlarmRef) -> &str

@@ -1,11 +1,13 @@
 //! The parts of a configuration, and the configuration that keeps its limits.
 
 ghost use Rattle.std.specs.Prelude.{◌≡◌, ◌↔◌, IsTrue, Option, option_copied};
+ghost use Rattle.std.specs.List.{list_all};
 ghost use Rattle.osplan.specs.Objects.{is_own_object, object_count};
 ghost use Rattle.osplan.specs.View.{core_of};
-ghost use Rattle.osplan.specs.Limits.{is_within_limits};
+ghost use Rattle.osplan.specs.Limits.{is_core_near, is_within_limits, stays_on};
 ghost use Rattle.osplan.specs.Expressible.{is_expressible};
 
+use crate::separate::stays_on;
 use osbase::{CoreId, List, ModeId, Name, Object, ObjectKind};
 use oscript::Script;
 use std::marker::Model;
@@ -20,7 +22,18 @@ pub struct Task {
     pub auto: List<ModeId>,
     /// How many jobs of the task may be live at once.
     pub activations: u8,
+    /// Whether a task of greater priority takes the processor before this one ends or gives way
+    /// (OSEK/VDX OS 2.2.3, section 4.6).
+    pub preemptable: bool,
     pub script: Script,
+}
+
+/// A resource (OSEK/VDX OS 2.2.3, section 8).
+#[derive(Debug, Drop)]
+pub struct Resource {
+    pub name: Name,
+    /// The ceiling priority, 0 to 31: whoever holds the resource has at least this priority.
+    pub ceiling: u8,
 }
 
 /// A category 2 ISR. None can be configured yet.
@@ -56,6 +69,7 @@ pub struct Core {
     /// The cores that it starts before StartOS, configured or not.
     pub start: List<CoreId>,
     pub tasks: List<Task>,
+    pub resources: List<Resource>,
     pub isrs: List<Isr>,
     pub alarms: List<Alarm>,
     pub tables: List<Table>,
@@ -113,7 +127,24 @@ impl Config {
     }
 }
 
+fn is_script_near(id: CoreId, task: &Task) -> bool
+    ensures { result ≡ list_all (stays_on id) task.now.script }
+{
+    task.script.as_slice().iter().all(|op| stays_on(id, *op))
+}
+
 impl Core {
+    /// Whether no operation of the core's scripts names an object of another core, where it may name the
+    /// core's own alone.
+    pub fn is_near(&self) -> bool
+        ensures { result ≡ is_core_near self.now }
+    {
+        self.tasks
+            .as_slice()
+            .iter()
+            .all(|task| is_script_near(self.id, task))
+    }
+
     /// Whether the object is one of the core's own.
     pub fn has(&self, object: Object) -> bool
         ensures { result ≡ is_own_object self.now object }
@@ -127,6 +158,7 @@ impl Core {
     {
         match kind {
             ObjectKind::Task => self.tasks.len(),
+            ObjectKind::Resource => self.resources.len(),
             ObjectKind::Alarm => self.alarms.len(),
         }
     }

@@ -6,13 +6,13 @@ ghost use Rattle.std.specs.Option.{option_map_or};
 ghost use Rattle.osbase.specs.History.{same_core};
 ghost use Rattle.osbase.specs.Sets.{has_core};
 ghost use Rattle.osbase.specs.declared.turns.TheConstants.{CORES};
-ghost use Rattle.osplan.specs.Limits.{is_within_limits};
+ghost use Rattle.osplan.specs.Limits.{is_within_limits, stays_on};
 ghost use Rattle.osplan.specs.Expressible.{is_core_expressible};
 ghost use Rattle.osplan.specs.Flags.{is_named_by_one_of, is_next, AreStarted};
 ghost use Rattle.osplan.specs.Separate.{agree, alone_of, cut_of, has_operation, is_among, is_named_elsewhere, is_agreed_mode, is_on, is_separate, is_separate_core, is_started, names_mode, names_other, names_own, standing_of};
 
 use crate::faults::ConfFault;
-use crate::plans::{Config, Core, CoreMode, Plan, Task};
+use crate::plans::{Config, Core, CoreMode, Plan, Resource, Task};
 use osbase::{CORE_NUMBERS, CORES, CoreId, CoreSet, List, Name, Object};
 use oscript::Op;
 use std::alloc::{AllocError, Global};
@@ -144,6 +144,13 @@ fn names_other(id: CoreId, op: Op) -> bool
     is_any_off(id, &op.objects())
 }
 
+/// Whether the operation names no object of another core, where it may name the core's own alone.
+pub fn stays_on(id: CoreId, op: Op) -> bool
+    ensures { result ≡ stays_on id op }
+{
+    !(op.names_own_only() && names_other(id, op))
+}
+
 fn is_script_outward(id: CoreId, task: &Task) -> bool
     ensures { result ≡ list_any (names_other id) task.now.script }
 {
@@ -218,6 +225,7 @@ fn copied_task(alloc: Global, task: &Task) -> Result<Task, AllocError>
         priority: task.priority,
         auto: List::from_vec(task.auto.as_slice().to_vec(alloc)?),
         activations: task.activations,
+        preemptable: task.preemptable,
         script: List::from_vec(task.script.as_slice().to_vec(alloc)?),
     })
 }
@@ -228,6 +236,25 @@ fn copied_tasks(alloc: Global, tasks: &[Task]) -> Result<List<Task>, AllocError>
     let mut copies = List::new(alloc);
     for task in tasks {
         copies.push(copied_task(alloc, task)?)?;
+    }
+    Ok(copies)
+}
+
+fn copied_resource(alloc: Global, resource: &Resource) -> Result<Resource, AllocError>
+    ensures { IfOk result (λ copy. copy ≡ resource.now) }
+{
+    Ok(Resource {
+        name: Name::new(alloc, resource.name.as_str())?,
+        ceiling: resource.ceiling,
+    })
+}
+
+fn copied_resources(alloc: Global, resources: &[Resource]) -> Result<List<Resource>, AllocError>
+    ensures { IfOk result (λ copies. copies ≡ resources.now) }
+{
+    let mut copies = List::new(alloc);
+    for resource in resources {
+        copies.push(copied_resource(alloc, resource)?)?;
     }
     Ok(copies)
 }
@@ -251,6 +278,7 @@ fn copied_core(alloc: Global, core: &Core) -> Result<Core, AllocError>
         mode: core.mode,
         start: List::from_vec(core.start.as_slice().to_vec(alloc)?),
         tasks: copied_tasks(alloc, core.tasks.as_slice())?,
+        resources: copied_resources(alloc, core.resources.as_slice())?,
         isrs: List::new(alloc),
         alarms: List::new(alloc),
         tables: List::new(alloc),

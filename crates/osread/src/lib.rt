@@ -21,5 +21,7 @@ pub use loops::{Reader, read_each};
 pub use members::{at, at_or, only_members};
 pub use parts::{PartReader, read_parts};
 pub use refusals::Refusal;
-pub use values::{JsonReader, ListOf, NameReader, Text, TextReader, Whole, WholeReader};
+pub use values::{
+    BoolReader, JsonReader, ListOf, NameReader, Text, TextReader, Whole, WholeReader,
+};
 pub use words::part_count;

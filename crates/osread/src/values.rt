@@ -4,7 +4,7 @@ ghost use Rattle.std.specs.Prelude.{◌≡◌, Bool, true, IfOk, IsTrue, Option,
 ghost use Rattle.std.specs.List.{list_all};
 ghost use Rattle.osbase.specs.Names.{is_name};
 ghost use Rattle.serde_json.specs.Data.{Data};
-ghost use Rattle.serde_json.specs.Find.{as_str};
+ghost use Rattle.serde_json.specs.Find.{as_bool, as_str};
 ghost use Rattle.serde_json.specs.View.{view};
 ghost use Rattle.osread.specs.Reading.{Gives, each};
 ghost use Rattle.osread.specs.Json.{whole_of, if_name, name_of, each_of};
@@ -49,6 +49,23 @@ impl<'v> JsonReader<'v, Whole> for WholeReader {
                 Some(_) => Ok(None),
                 None => Err(Refusal::Unfit),
             },
+        }
+    }
+}
+
+/// Reads a truth value.
+#[derive(Clone, Copy, Debug)]
+pub struct BoolReader;
+
+impl<'v> JsonReader<'v, bool> for BoolReader {
+    ghost shape = { λ _ d. as_bool d };
+
+    ghost passes = { λ _ _. true };
+
+    fn read(&self, _alloc: Global, value: &'v Value) -> Result<bool, Refusal> {
+        match value.as_bool() {
+            Some(truth) => Ok(truth),
+            None => Err(Refusal::Unfit),
         }
     }
 }

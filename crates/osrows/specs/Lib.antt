@@ -1,5 +1,10 @@
 pub mod Parts
 pub mod Border
+pub mod Ceiling
+pub mod Keeping
 pub mod Laws
 pub mod Limit
+pub mod Oldest
 pub mod Refusals
+pub mod Scheduling
+pub mod Variables

@@ -2,6 +2,8 @@
 use Rattle.std.specs.Prelude.{ℕ, true, false, Option, None, List, [], ◌∷◌, codes, replicate}
 use Rattle.std.specs.Option.{option_map}
 use Rattle.osbase.specs.declared.references.CoreId.{CoreId}
+use Rattle.osbase.specs.declared.references.ResourceRef.{ResourceRef}
+use Rattle.osbase.specs.declared.references.Runner.TheVariants as Runner
 use Rattle.osbase.specs.declared.references.TaskRef.{TaskRef}
 use Rattle.osbase.specs.declared.references.ModeId.{ModeId}
 use Rattle.osbase.specs.declared.items.CoreSet.{CoreSet}
@@ -10,6 +12,7 @@ use Rattle.osbase.specs.declared.items.Item.{Item}
 use Rattle.osbase.specs.declared.marks.Mark.{Mark}
 use Rattle.osbase.specs.declared.messages.Message.{Message}
 use Rattle.osbase.specs.declared.messages.RemoteCall.TheVariants as Remote
+use Rattle.osbase.specs.declared.statuses.ServiceId.{ServiceId}
 use Rattle.osbase.specs.declared.statuses.Status.{Status}
 use Rattle.osbase.specs.History.{marks_of}
 use Rattle.oscript.specs.declared.Op.{Op}
@@ -27,21 +30,42 @@ core n = record { number = n }
 abbrev pub mode : ModeId
 mode = record { index = 0 }
 
--- a core's first task
+-- a core's task, and its first one
+abbrev pub task_at : ℕ → ℕ → TaskRef
+task_at n index = record { core = core n; index = index }
+
 abbrev pub first_task : ℕ → TaskRef
-first_task n = record { core = core n; index = 0 }
+first_task n = task_at n 0
 
 -- a task of priority 1 that is started by itself in mode M
 abbrev pub auto_task : List ℕ → List Op → Task
-auto_task name script = record { name = name; priority = 1; auto = mode ∷ []; activations = 1; script = script }
+auto_task name script = record { name = name; priority = 1; auto = mode ∷ []; activations = 1; preemptable = true; script = script }
 
 -- a task of priority 1 that is not
 abbrev pub task : List ℕ → List Op → Task
-task name script = record { name = name; priority = 1; auto = []; activations = 1; script = script }
+task name script = record { name = name; priority = 1; auto = []; activations = 1; preemptable = true; script = script }
 
--- a core with one task
+-- a task of another priority
+abbrev pub with_priority : ℕ → Task → Task
+with_priority n t = record t { priority = n }
+
+-- and one that cannot be preempted
+abbrev pub without_preemption : Task → Task
+without_preemption t = record t { preemptable = false }
+
+-- a core with these tasks, and with one
+abbrev pub core_of : ℕ → List CoreId → List Task → Core
+core_of n start tasks = record { id = core n; mode = Named mode; start = start; tasks = tasks; resources = []; isrs = []; alarms = []; tables = [] }
+
 abbrev pub core_with : ℕ → List CoreId → Task → Core
-core_with n start t = record { id = core n; mode = Named mode; start = start; tasks = t ∷ []; isrs = []; alarms = []; tables = [] }
+core_with n start t = core_of n start (t ∷ [])
+
+-- with one resource, of this name and ceiling
+abbrev pub with_resource : List ℕ → ℕ → Core → Core
+with_resource name ceiling c = record c { resources = record { name = name; ceiling = ceiling } ∷ [] }
+
+abbrev pub first_resource : ℕ → ResourceRef
+first_resource n = record { core = core n; index = 0 }
 
 -- a configuration with the defaults
 abbrev pub plan_of : List Core → Plan
@@ -68,6 +92,13 @@ replied from number status = Item.Received (core from) number (Message.Reply sta
 -- the items after the last stimulus of a core to its end
 abbrev pub end : List Item
 end = Item.PassEnd ∷ Item.Last None ∷ []
+
+-- the lines of a service of a task, and those of its end
+abbrev pub returned : TaskRef → ServiceId → Status → List Mark
+returned t service status = Mark.ServiceReturned (Runner.Task t) service status None ∷ []
+
+abbrev pub ended : TaskRef → List Mark
+ended t = Mark.PostTaskHook t ∷ Mark.Terminated t ∷ []
 
 -- what a core prints for items, if each may be taken in turn
 abbrev pub marks_alone : Plan → ℕ → List Item → Option (List Mark)

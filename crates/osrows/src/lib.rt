@@ -2,6 +2,11 @@
 #![tactic(auto)]
 
 pub mod border;
+pub mod ceiling;
+pub mod keeping;
 pub mod laws;
 pub mod limit;
+pub mod oldest;
 pub mod refusals;
+pub mod scheduling;
+pub mod variables;

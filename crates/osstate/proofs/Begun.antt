@@ -6,7 +6,7 @@ use Rattle.std.proofs.lemmas.Bool.{false≢true, and_parts}
 use Rattle.std.proofs.lemmas.List.{length-replicate}
 use Rattle.osbase.specs.declared.references.CoreId.{CoreId}
 use Rattle.osbase.specs.declared.objects.Object.{Object}
-use Rattle.osbase.specs.declared.histories.Job.{Job}
+use Rattle.osbase.specs.declared.histories.HeldResource.{HeldResource}
 use Rattle.osbase.specs.declared.histories.Sent.{Sent}
 use Rattle.osbase.specs.declared.turns.TheConstants.{CORES}
 use Rattle.osbase.specs.History.{same_core}
@@ -22,8 +22,10 @@ use Rattle.osplan.specs.declared.plans.Task.{Task}
 use Rattle.osplan.specs.View.{View, core_of, no_core, view_from, view_of}
 use Rattle.osplan.specs.Limits.{is_within_limits, is_core_known, is_task_known, is_object, is_op_known}
 use Rattle.osplan.specs.Objects.{has_index, may_name}
+use Rattle.osres.specs.declared.resources.TheConstants.{TASKS}
+use Rattle.osjobs.specs.Jobs.{JobState, first_jobs}
 use Rattle.osstate.specs.declared.progress.Progress.{Progress}
-use Rattle.osstate.specs.State.{state_of}
+use Rattle.osstate.specs.State.{state_of, tasks_from}
 use Rattle.osstate.specs.Steps.{state_from, first_border, first_progress, first_state, first_tasks}
 use Rattle.osstate.specs.Sound.{IsSound, is_agreed, has_objects_of}
 use Rattle.osbase.proofs.Same.{same_core-comm, same_core-true}
@@ -61,14 +63,15 @@ pub view-own : (plan : Plan) (id : CoreId) (core : Core) → core_of plan id ≡
 view-own plan id core found =
     ap (λ (i : CoreId). view_from plan i core) (id_is plan id core found) ∙ ap (λ (o : Option Core). view_from plan id (unwrap_or o (no_core id))) (sym found)
 
-frames-begun : (first count : ℕ) → map (λ (n : ℕ). new_frame) (numbers_from first count) ≡ replicate count new_frame
-frames-begun first zero = refl
-frames-begun first (suc count) = ap (λ (fs : List Frame). new_frame ∷ fs) (frames-begun (first + 1) count)
+all-begun : {X : Type 0} (x : X) (first count : ℕ) → map (λ (n : ℕ). x) (numbers_from first count) ≡ replicate count x
+all-begun x first zero = refl
+all-begun x first (suc count) = ap (λ xs. x ∷ xs) (all-begun x (first + 1) count)
 
 -- The state before any item stands for the empty history.
 pub state-begun : (plan : Plan) (id : CoreId) (core : Core) → core_of plan id ≡ Some core → first_state plan core (same_core core.id plan.master) ≡ state_of (view_of plan id) []
 state-begun plan id core found =
-    ap (λ (fs : List Frame). state_from plan core (first_progress (same_core core.id plan.master)) (record { jobs = []; current = None; frames = fs }) first_border) (sym (frames-begun 0 (length core.tasks)))
+    ap (λ (fs : List Frame). state_from plan core (first_progress (same_core core.id plan.master)) (tasks_from first_jobs fs) first_border) (sym (all-begun new_frame 0 (length core.tasks)))
+    ∙ ap (λ (held : List (List HeldResource)). state_from plan core (first_progress (same_core core.id plan.master)) (tasks_from (record first_jobs { held = held }) (map (λ (n : ℕ). new_frame) (numbers_from 0 (length core.tasks)))) first_border) (sym (all-begun [] 0 TASKS))
     ∙ ap (λ (v : View). state_of v []) (view-own plan id core found)
 
 zeros_low : (n k : ℕ) → get_or (replicate n 0) k 0 ≤ 0
@@ -86,6 +89,7 @@ sound-begun priorities room plan id core master limits found below sum = record 
   bounded = subst (λ (v : View). list_all (λ (t : Task). nat_lt t.priority priorities) v.own.tasks ≡ true) (sym (view-own plan id core found)) below;
   limits = subst (λ (v : View). sum_by (λ (t : Task). t.activations) v.own.tasks ≤ room) (sym (view-own plan id core found)) sum;
   some = fits.some;
+  resources = fits.resources;
   scripts = known_scripts plan id core (find-passes (λ (c : Core). same_core c.id id) (is_core_known plan) plan.cores core (limit-parts plan limits).known found) found;
   jobs = (λ r. omega arith);
   idle = (λ e. refl);
@@ -105,12 +109,12 @@ sound-begun priorities room plan id core master limits found below sum = record 
     fits = core-fits plan id core limits found
 
 -- The parts of a state before any item, each with what it is.
-pub parts-begun : (plan : Plan) (core : Core) (b : Bool) (p : Progress) (n : ℕ) (jobs : List Job) (frames : List Frame) (outbox : List Sent) → p ≡ first_progress b → n ≡ length core.tasks → jobs ≡ [] → frames ≡ replicate n new_frame → outbox ≡ []
-    → state_from plan core p (record { jobs = jobs; current = None; frames = frames }) (record first_border { outbox = outbox }) ≡ first_state plan core b
+pub parts-begun : (plan : Plan) (core : Core) (b : Bool) (p : Progress) (n : ℕ) (jobs : JobState) (frames : List Frame) (outbox : List Sent) → p ≡ first_progress b → n ≡ length core.tasks → jobs ≡ first_jobs → frames ≡ replicate n new_frame → outbox ≡ []
+    → state_from plan core p (tasks_from jobs frames) (record first_border { outbox = outbox }) ≡ first_state plan core b
 parts-begun plan core b p n jobs frames outbox progress count no_jobs new_frames no_outbox =
-    ap (λ (q : Progress). state_from plan core q (record { jobs = jobs; current = None; frames = frames }) (record first_border { outbox = outbox })) progress
-    ∙ ap (λ (js : List Job). state_from plan core (first_progress b) (record { jobs = js; current = None; frames = frames }) (record first_border { outbox = outbox })) no_jobs
-    ∙ ap (λ (fs : List Frame). state_from plan core (first_progress b) (record { jobs = []; current = None; frames = fs }) (record first_border { outbox = outbox })) (new_frames ∙ ap (λ (m : ℕ). replicate m new_frame) count)
+    ap (λ (q : Progress). state_from plan core q (tasks_from jobs frames) (record first_border { outbox = outbox })) progress
+    ∙ ap (λ (js : JobState). state_from plan core (first_progress b) (tasks_from js frames) (record first_border { outbox = outbox })) no_jobs
+    ∙ ap (λ (fs : List Frame). state_from plan core (first_progress b) (tasks_from first_jobs fs) (record first_border { outbox = outbox })) (new_frames ∙ ap (λ (m : ℕ). replicate m new_frame) count)
     ∙ ap (λ (out : List Sent). state_from plan core (first_progress b) (first_tasks (length core.tasks)) (record first_border { outbox = out })) no_outbox
 
 -- A configured core's number is among those that a core sees.

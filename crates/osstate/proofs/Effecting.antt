@@ -5,7 +5,7 @@ use Rattle.osbase.specs.declared.references.CoreId.{CoreId}
 use Rattle.osbase.specs.declared.messages.Message.{Message}
 use Rattle.osbase.specs.declared.marks.Mark.{Mark}
 use Rattle.osbase.specs.declared.turns.TheConstants.{CORES}
-use Rattle.osbase.specs.History.{History, Entry, Note, Printed, Noted, Queued, marks_of, queued_count}
+use Rattle.osbase.specs.History.{History, Entry, Note, Printed, Noted, Queued, queued_count}
 use Rattle.osplan.specs.View.{View}
 use Rattle.osstate.specs.State.{KernelState, Stands, state_of}
 use Rattle.osstate.specs.Steps.{next_envelope, state_after}

@@ -1,5 +1,5 @@
 -- What an entry does to the state is what it does to each reading of the history.
-use Rattle.std.proofs.Common.{◌≡◌, ℕ, zero, suc, ◌+◌, ◌<◌, nat_eq, Bool, true, false, cond, Option, None, is_some, List, [], ◌∷◌, length, map, refl, ap, sym, ◌∙◌, arith, add-one, get_or, slice_index, ℤ}
+use Rattle.std.proofs.Common.{◌≡◌, ℕ, zero, suc, ◌+◌, ◌≤◌, ◌<◌, nat_eq, Bool, true, false, cond, Option, None, is_some, List, [], ◌∷◌, length, map, refl, ap, sym, ◌∙◌, arith, add-one, get_or, slice_index, ℤ}
 use Rattle.std.specs.List.{slice_get, slice_set}
 use Rattle.std.proofs.lemmas.Bool.{false≢true, eqb-true, ltb-true, false_from_ne_true, cond-true, cond-false}
 use Rattle.osbase.specs.declared.statuses.Status.{Status}
@@ -10,7 +10,8 @@ use Rattle.osbase.specs.declared.messages.Message.{Message}
 use Rattle.osbase.specs.declared.items.Item.{Item}
 use Rattle.osbase.specs.declared.marks.Mark.{Mark}
 use Rattle.osbase.specs.declared.turns.TheConstants.{CORES}
-use Rattle.osbase.specs.History.{History, Entry, Took, Printed, Noted, Opened, Queued, Done, same_core, same_task, queued_count, received_count}
+use Rattle.osbase.specs.History.{History, Entry, Took, Printed, Noted, Opened, Queued, Taken, Given, Done, held_after, held_by, same_core, same_task, queued_count, received_count, without_resource}
+use Rattle.osbase.specs.declared.histories.HeldResource.{HeldResource}
 use Rattle.osbase.specs.declared.histories.OpenCall.{OpenCall}
 use Rattle.osbase.specs.Sets.{core_ids}
 use Rattle.osbase.proofs.Same.{same_core-true, same_core-refl, same_task-true, same_task-refl}
@@ -20,16 +21,21 @@ use Rattle.oscript.specs.Frames.{new_frame, completed, frame_after, rewound}
 use Rattle.osplan.specs.declared.plans.Core.{Core}
 use Rattle.osplan.specs.declared.plans.Task.{Task}
 use Rattle.osplan.specs.View.{View, own_task}
-use Rattle.osstate.specs.Readings.{script_of, frame_at, frames_at, task_ref}
+use Rattle.osres.specs.declared.resources.TheConstants.{TASKS}
+use Rattle.osres.specs.Resources.{held_at}
+use Rattle.osjobs.specs.Jobs.{is_plain}
+use Rattle.osjobs.specs.Priorities.{is_own_runner}
+use Rattle.osstate.specs.Readings.{script_of, frame_at, frames_at, held_resources, task_ref}
 use Rattle.osstate.specs.State.{KernelState, state_of}
 use Rattle.osstate.specs.Steps.{state_after, one_more, next_envelope}
-use Rattle.osstate.specs.Sound.{is_own_runner, is_plain, is_sender_known}
+use Rattle.osstate.specs.Sound.{is_sender_known}
 use Rattle.osstate.specs.Does.{Notes}
 
 -- Two states that agree in every part are one.
-changed : (s : KernelState) (entries : ℕ) (frames : List Frame) (queued received : List ℕ) → entries ≡ s.progress.entries → frames ≡ s.tasks.frames → queued ≡ s.border.queued → received ≡ s.border.received → record s { progress = record s.progress { entries = entries }; tasks = record s.tasks { frames = frames }; border = record s.border { queued = queued; received = received } } ≡ s
-changed s entries frames queued received same_entries same_frames same_queued same_received =
-    ap (λ (x : ℕ). record s { progress = record s.progress { entries = x }; tasks = record s.tasks { frames = frames }; border = record s.border { queued = queued; received = received } }) same_entries
+changed : (s : KernelState) (entries : ℕ) (held : List (List HeldResource)) (frames : List Frame) (queued received : List ℕ) → entries ≡ s.progress.entries → held ≡ s.tasks.held → frames ≡ s.tasks.frames → queued ≡ s.border.queued → received ≡ s.border.received → record s { progress = record s.progress { entries = entries }; tasks = record s.tasks { held = held; frames = frames }; border = record s.border { queued = queued; received = received } } ≡ s
+changed s entries held frames queued received same_entries same_held same_frames same_queued same_received =
+    ap (λ (x : ℕ). record s { progress = record s.progress { entries = x }; tasks = record s.tasks { held = held; frames = frames }; border = record s.border { queued = queued; received = received } }) same_entries
+    ∙ ap (λ (x : List (List HeldResource)). record s { tasks = record s.tasks { held = x; frames = frames }; border = record s.border { queued = queued; received = received } }) same_held
     ∙ ap (λ (x : List Frame). record s { tasks = record s.tasks { frames = x }; border = record s.border { queued = queued; received = received } }) same_frames
     ∙ ap (λ (x : List ℕ). record s { border = record s.border { queued = x; received = received } }) same_queued
     ∙ ap (λ (x : List ℕ). record s { border = record s.border { received = x } }) same_received
@@ -86,12 +92,30 @@ frames-set v h t e f own changes others =
     ∙ table-set (λ n. frame_at v (Runner.Task (task_ref v.own n)) h) (λ n. frame_at v (Runner.Task (task_ref v.own n)) (e ∷ h)) 0 (length v.own.tasks) t.index t.index (omega arith) place.1
     (λ m apart. sym (others (task_ref v.own m) (false_from_ne_true (same_task t (task_ref v.own m)) (λ q. apart (sym (ap (λ (r : TaskRef). r.index) (same_task-true t (task_ref v.own m) q)))))))
 
+-- ---- held resources by task index
+
+-- a change of what one task holds alone
+held-set : (v : View) (h : History) (t : TaskRef) (e : Entry) (f : List HeldResource → List HeldResource) → length v.own.tasks ≤ TASKS → is_some (own_task v.own t) ≡ true
+    → held_after (Runner.Task t) e (held_by (Runner.Task t) h) ≡ f (held_by (Runner.Task t) h)
+    → ((r : TaskRef) → same_task t r ≡ false → held_after (Runner.Task r) e (held_by (Runner.Task r) h) ≡ held_by (Runner.Task r) h)
+    → slice_set (held_resources v h) t.index (f (held_at t.index (held_resources v h))) ≡ held_resources v (e ∷ h)
+held-set v h t e f few own changes others =
+    let place = own_place v.own t own in
+    let inside : t.index < TASKS = omega (arith, place.1, few) in
+    let here : held_at t.index (held_resources v h) ≡ held_by (Runner.Task t) h =
+    table-at (λ n. held_by (Runner.Task (task_ref v.own n)) h) 0 TASKS t.index t.index [] (omega arith) inside
+    ∙ ap (λ (r : TaskRef). held_by (Runner.Task r) h) (sym place.0) in
+    ap (λ (x : List HeldResource). slice_set (held_resources v h) t.index (f x)) here
+    ∙ ap (slice_set (held_resources v h) t.index) (sym changes ∙ ap (λ (r : TaskRef). held_by (Runner.Task r) (e ∷ h)) place.0)
+    ∙ table-set (λ n. held_by (Runner.Task (task_ref v.own n)) h) (λ n. held_by (Runner.Task (task_ref v.own n)) (e ∷ h)) 0 TASKS t.index t.index (omega arith) inside
+    (λ m apart. sym (others (task_ref v.own m) (false_from_ne_true (same_task t (task_ref v.own m)) (λ q. apart (sym (ap (λ (r : TaskRef). r.index) (same_task-true t (task_ref v.own m) q)))))))
+
 -- ---- each kind of entry
 
 pub took : (item : Item) → is_sender_known item ≡ true → (v : View) (h : History) → state_after (Took item) (state_of v h) ≡ state_of v (Took item ∷ h)
 took (Item.Received from number m) known v h =
-    changed (state_of v (Took (Item.Received from number m) ∷ h)) _ _ _ _ (add-one _) refl refl (counts_one (λ (s : CoreId). received_count s h) from (ltb-true from.number CORES known))
-took item known v h = changed (state_of v (Took item ∷ h)) _ _ _ _ (add-one _) refl refl refl
+    changed (state_of v (Took (Item.Received from number m) ∷ h)) _ _ _ _ _ (add-one _) refl refl refl (counts_one (λ (s : CoreId). received_count s h) from (ltb-true from.number CORES known))
+took item known v h = changed (state_of v (Took item ∷ h)) _ _ _ _ _ (add-one _) refl refl refl refl
 
 -- a mark other than a task's end changes no frame
 abbrev pub is_no_end : Mark → Bool
@@ -104,11 +128,14 @@ plain-no_end m plain = refl
 
 pub printed : (m : Mark) → is_no_end m ≡ true → (v : View) (h : History) → state_after (Printed m) (state_of v h) ≡ state_of v (Printed m ∷ h)
 printed (Mark.Terminated t) e v h = absurd (false≢true e)
-printed m e v h = changed (state_of v (Printed m ∷ h)) _ _ _ _ (add-one _) refl refl refl
+printed m e v h = changed (state_of v (Printed m ∷ h)) _ _ _ _ _ (add-one _) refl refl refl refl
 
-pub terminated : (t : TaskRef) (v : View) (h : History) → is_some (own_task v.own t) ≡ true → state_after (Printed (Mark.Terminated t)) (state_of v h) ≡ state_of v (Printed (Mark.Terminated t) ∷ h)
-terminated t v h own =
-    changed (state_of v (Printed (Mark.Terminated t) ∷ h)) _ _ _ _ (add-one _)
+pub terminated : (t : TaskRef) (v : View) (h : History) → length v.own.tasks ≤ TASKS → is_some (own_task v.own t) ≡ true → state_after (Printed (Mark.Terminated t)) (state_of v h) ≡ state_of v (Printed (Mark.Terminated t) ∷ h)
+terminated t v h few own =
+    changed (state_of v (Printed (Mark.Terminated t) ∷ h)) _ _ _ _ _ (add-one _)
+    (held-set v h t (Printed (Mark.Terminated t)) (λ held. []) few own
+    (cond-true (same_task t t) [] (held_by (Runner.Task t) h) (same_task-refl t))
+    (λ r apart. cond-false (same_task t r) [] (held_by (Runner.Task r) h) apart))
     (frames-set v h t (Printed (Mark.Terminated t)) rewound own
     (cond-true (same_task t t) (rewound (frame_at v (Runner.Task t) h)) (frame_at v (Runner.Task t) h) (same_task-refl t))
     (λ r apart. cond-false (same_task t r) (rewound (frame_at v (Runner.Task r) h)) (frame_at v (Runner.Task r) h) apart))
@@ -117,19 +144,37 @@ terminated t v h own =
 pub done : (r : Runner) (status : Status) (value : Option ℤ) (v : View) (h : History) → is_own_runner v.own r ≡ true → state_after (Noted (Done r status value)) (state_of v h) ≡ state_of v (Noted (Done r status value) ∷ h)
 done (Runner.Isr i) status value v h own = absurd (false≢true own)
 done (Runner.Task t) status value v h own =
-    changed (state_of v (Noted (Done (Runner.Task t) status value) ∷ h)) _ _ _ _ (add-one _)
+    changed (state_of v (Noted (Done (Runner.Task t) status value) ∷ h)) _ _ _ _ _ (add-one _) refl
     (frames-set v h t (Noted (Done (Runner.Task t) status value)) (λ f. completed (script_of v.own (Runner.Task t)) f status value) own
     (cond-true (same_task t t) (completed (script_of v.own (Runner.Task t)) (frame_at v (Runner.Task t) h) status value) (frame_at v (Runner.Task t) h) (same_task-refl t))
     (λ r apart. cond-false (same_task t r) (completed (script_of v.own (Runner.Task r)) (frame_at v (Runner.Task r) h) status value) (frame_at v (Runner.Task r) h) apart))
     refl refl
 
+pub taken : (r : Runner) (x : HeldResource) (v : View) (h : History) → length v.own.tasks ≤ TASKS → is_own_runner v.own r ≡ true → state_after (Noted (Taken r x)) (state_of v h) ≡ state_of v (Noted (Taken r x) ∷ h)
+taken (Runner.Isr i) x v h few own = absurd (false≢true own)
+taken (Runner.Task t) x v h few own =
+    changed (state_of v (Noted (Taken (Runner.Task t) x) ∷ h)) _ _ _ _ _ (add-one _)
+    (held-set v h t (Noted (Taken (Runner.Task t) x)) (λ held. x ∷ held) few own
+    (cond-true (same_task t t) (x ∷ held_by (Runner.Task t) h) (held_by (Runner.Task t) h) (same_task-refl t))
+    (λ r apart. cond-false (same_task t r) (x ∷ held_by (Runner.Task r) h) (held_by (Runner.Task r) h) apart))
+    refl refl refl
+
+pub given : (r : Runner) (index : ℕ) (v : View) (h : History) → length v.own.tasks ≤ TASKS → is_own_runner v.own r ≡ true → state_after (Noted (Given r index)) (state_of v h) ≡ state_of v (Noted (Given r index) ∷ h)
+given (Runner.Isr i) index v h few own = absurd (false≢true own)
+given (Runner.Task t) index v h few own =
+    changed (state_of v (Noted (Given (Runner.Task t) index) ∷ h)) _ _ _ _ _ (add-one _)
+    (held-set v h t (Noted (Given (Runner.Task t) index)) (without_resource index) few own
+    (cond-true (same_task t t) (without_resource index (held_by (Runner.Task t) h)) (held_by (Runner.Task t) h) (same_task-refl t))
+    (λ r apart. cond-false (same_task t r) (without_resource index (held_by (Runner.Task r) h)) (held_by (Runner.Task r) h) apart))
+    refl refl refl
+
 pub opened : (call : OpenCall) (v : View) (h : History) → state_after (Noted (Opened call)) (state_of v h) ≡ state_of v (Noted (Opened call) ∷ h)
-opened call v h = changed (state_of v (Noted (Opened call) ∷ h)) _ _ _ _ (add-one _) refl refl refl
+opened call v h = changed (state_of v (Noted (Opened call) ∷ h)) _ _ _ _ _ (add-one _) refl refl refl refl
 
 pub queued : (to : CoreId) (message : Message) → to.number < CORES → (v : View) (h : History) → state_after (Noted (Queued to (next_envelope (state_of v h) to message))) (state_of v h) ≡ state_of v (Noted (Queued to (record { number = queued_count to h; message = message })) ∷ h)
 queued to message known v h =
     ap (λ (n : ℕ). state_after (Noted (Queued to (record { number = n; message = message }))) (state_of v h)) (count_at (λ (d : CoreId). queued_count d h) to known)
-    ∙ changed (state_of v (Noted (Queued to (record { number = queued_count to h; message = message })) ∷ h)) _ _ _ _ (add-one _) refl (counts_one (λ (d : CoreId). queued_count d h) to known) refl
+    ∙ changed (state_of v (Noted (Queued to (record { number = queued_count to h; message = message })) ∷ h)) _ _ _ _ _ (add-one _) refl refl (counts_one (λ (d : CoreId). queued_count d h) to known) refl
 
 -- ---- a state that went on by an entry stands for the history with it
 

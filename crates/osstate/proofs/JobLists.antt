@@ -1,6 +1,5 @@
 -- Lists of jobs: how many are a runner's, after one was added or taken out.
-use Rattle.std.proofs.Common.{◌≡◌, ℕ, suc, ◌≤◌, ◌<◌, Bool, true, false, cond, List, [], ◌∷◌, ◌++◌, refl, ap, sym, subst, ◌∙◌, arith, length, take, drop, get_or, drop-cons}
-use Rattle.std.specs.List.{remove}
+use Rattle.std.proofs.Common.{◌≡◌, ℕ, suc, ◌≤◌, ◌<◌, Bool, true, false, cond, List, [], ◌∷◌, ◌++◌, refl, ap, sym, subst, ◌∙◌, arith}
 use Rattle.osbase.specs.declared.references.Runner.{Runner}
 use Rattle.osbase.specs.declared.histories.Job.{Job}
 use Rattle.osbase.specs.History.{same_runner, without_oldest, job_count}
@@ -45,9 +44,3 @@ within_append limit js j within below r =
     cases : (b : Bool) → same_runner j.runner r ≡ b → cond b (suc (job_count r js)) (job_count r js) ≤ limit r
     cases true e = subst (λ (q : Runner). suc (job_count q js) ≤ limit q) (same_runner-true j.runner r e) (omega (arith, below))
     cases false e = within r
-
--- the first job of the runner taken out by its place
-pub remove_first : (r : Runner) (js : List Job) (i : ℕ) (x : Job) → i < length js → x ≡ get_or js i x → same_runner x.runner r ≡ true → without_oldest r js ≡ take i js ++ without_oldest r (drop i js) → remove js i ≡ without_oldest r js
-remove_first r js i x h e same first =
-    let rest : drop i js ≡ x ∷ drop (suc i) js = drop-cons js i x h ∙ ap (λ (y : Job). y ∷ drop (suc i) js) (sym e) in
-    sym (first ∙ ap (λ (ds : List Job). take i js ++ without_oldest r ds) rest ∙ rw same)

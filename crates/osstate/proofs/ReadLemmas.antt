@@ -1,6 +1,7 @@
 -- What is read off the state is what is read off the history.
 use Rattle.std.proofs.Common.{◌≡◌, Bool, true, false, cond, Option, Some, None, List, [], ◌∷◌, refl, ap, sym, subst, ◌∙◌}
 use Rattle.std.specs.List.{filter, list_all, slice_get}
+use Rattle.std.proofs.lemmas.Bool.{true≢false}
 use Rattle.std.specs.Option.{option_map_or}
 use Rattle.osbase.specs.declared.references.TaskRef.{TaskRef}
 use Rattle.osbase.specs.declared.references.Runner.{Runner}
@@ -15,11 +16,13 @@ use Rattle.osplan.specs.declared.plans.Core.{Core}
 use Rattle.osplan.specs.declared.plans.Task.{Task}
 use Rattle.osplan.specs.View.{View, own_task}
 use Rattle.osplan.proofs.Tests.{passes-at}
+use Rattle.osjobs.specs.Priorities.{is_own_runner}
 use Rattle.osstate.specs.Does.{Reads}
 use Rattle.osstate.specs.Queries.{best_in, next_action_in}
-use Rattle.osstate.specs.Readings.{best_job, frame_at, is_able, script_of, static_priority}
-use Rattle.osstate.specs.Sound.{is_action_known, has_objects_of, is_own_runner}
+use Rattle.osstate.specs.Readings.{best_job, current_priority, frame_at, is_able, script_of}
+use Rattle.osstate.specs.Sound.{is_action_known, has_objects_of}
 use Rattle.osstate.specs.State.{KernelState, Stands, state_of}
+use Rattle.osstate.specs.Steps.{frame_in}
 use Rattle.osstate.proofs.Histories.{frame-own}
 
 -- What is asked of the state is asked of the state that the history leads to.
@@ -33,7 +36,15 @@ filter-able v h (j ∷ js) = ap (λ (xs : List Job). j ∷ xs) (filter-able v h 
 
 pub reads_best : (s : KernelState) (o : Option Job) → o ≡ best_in s → Reads (λ v h. best_job v h) s o
 reads_best s o is v h stands =
-    read best_in is stands ∙ ap (first_greatest (λ (j : Job). static_priority v.own j.runner)) (sym (filter-able v h (live_jobs h)))
+    read best_in is stands ∙ ap (first_greatest (current_priority v h)) (sym (filter-able v h (live_jobs h)))
+
+frame-in : (v : View) (h : History) (r : Runner) → is_own_runner v.own r ≡ true → frame_in r (state_of v h).tasks.frames ≡ frame_at v r h
+frame-in v h (Runner.Isr i) own = absurd (true≢false (sym own))
+frame-in v h (Runner.Task t) own = frame-own v h t own
+
+pub reads_frame : (s : KernelState) (r : Runner) (f : Frame) → is_own_runner s.view.own r ≡ true → f ≡ frame_in r s.tasks.frames → Reads (λ v h. frame_at v r h) s f
+reads_frame s r f own is v h stands =
+    read (λ (q : KernelState). frame_in r q.tasks.frames) is stands ∙ frame-in v h r (subst (λ (q : KernelState). is_own_runner q.view.own r ≡ true) stands.is own)
 
 action-in : (v : View) (h : History) (r : Runner) → is_own_runner v.own r ≡ true → next_action_in r (state_of v h) ≡ action_at (script_of v.own r) (frame_at v r h)
 action-in v h (Runner.Isr i) own = refl

@@ -12,7 +12,9 @@ use Rattle.osbase.specs.History.{same_core, same_runner, job_count, oldest, olde
 use Rattle.osplan.specs.declared.plans.Core.{Core}
 use Rattle.osplan.specs.declared.plans.Task.{Task}
 use Rattle.osplan.specs.View.{own_task}
-use Rattle.osstate.specs.Sound.{activation_limit, is_current, is_own_runner}
+use Rattle.osjobs.specs.Jobs.{is_current}
+use Rattle.osjobs.specs.Priorities.{is_own_runner}
+use Rattle.osstate.specs.Sound.{activation_limit}
 use Rattle.osbase.proofs.Same.{same_core-true, same_core-refl, same_runner-refl, same_task-refl}
 use Rattle.osstate.proofs.JobLists.{job_count-rest}
 

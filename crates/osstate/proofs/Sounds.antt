@@ -14,10 +14,11 @@ use Rattle.osbase.specs.declared.marks.Mark.TheVariants as Mark
 use Rattle.osbase.specs.declared.histories.Job.{Job}
 use Rattle.osbase.specs.declared.histories.OpenCall.{OpenCall}
 use Rattle.osbase.specs.History.{Printed, Took, agreement_after, began_after, closed_by, job_count, same_runner, without_oldest, phase_on}
+use Rattle.osjobs.specs.Priorities.{is_own_runner}
 use Rattle.osstate.specs.State.{KernelState}
-use Rattle.osstate.specs.Steps.{one_more, progress_after, received_after, state_after, tasks_after}
+use Rattle.osstate.specs.Steps.{one_more, progress_after, received_after, state_after}
 use Rattle.osbase.specs.Phases.{is_before_live, is_past_first_gate}
-use Rattle.osstate.specs.Sound.{IsSound, activation_limit, is_agreed, is_first_gate, is_own_runner}
+use Rattle.osstate.specs.Sound.{IsSound, activation_limit, is_agreed, is_first_gate}
 use Rattle.osstate.proofs.JobLists.{within_append, job_count-without_oldest}
 use Rattle.osstate.proofs.Room.{length_within}
 
@@ -29,6 +30,7 @@ activated priorities room t s sound below live = record {
   limits = sound.limits;
   some = sound.some;
   scripts = sound.scripts;
+  resources = sound.resources;
   jobs = within_append (activation_limit s.view.own) s.tasks.jobs (record { runner = Runner.Task t; stamp = s.progress.entries }) sound.jobs below;
   idle = (λ e. absurd (false≢true (sym live ∙ e)));
   agreed = sound.agreed;
@@ -44,15 +46,15 @@ pub still_own : (test : Runner → Bool) (r : Runner) (open_call : Option OpenCa
 still_own test r None own = tt
 still_own test r (Some call) own = elim (same_runner call.runner r) as (λ b. IfSome (cond b None (Some call)) (λ call. IsTrue (test call.runner))) [ true ↦ tt | false ↦ own ]
 
--- whatever task is in the running state, which is told by the marks of its hooks
-pub terminated : (priorities room : ℕ) (t : TaskRef) (current : Option TaskRef) (s : KernelState) → IsSound priorities room s → IsSound priorities room (record (state_after (Printed (Mark.Terminated t)) s) { tasks = record (tasks_after s.view.own (Printed (Mark.Terminated t)) s.progress.entries s.tasks) { current = current } })
-terminated priorities room t current s sound = record {
+pub terminated : (priorities room : ℕ) (t : TaskRef) (s : KernelState) → IsSound priorities room s → IsSound priorities room (state_after (Printed (Mark.Terminated t)) s)
+terminated priorities room t s sound = record {
   tasks = sound.tasks;
   frames = length-set s.tasks.frames t.index _ ∙ sound.frames;
   bounded = sound.bounded;
   limits = sound.limits;
   some = sound.some;
   scripts = sound.scripts;
+  resources = sound.resources;
   jobs = (λ r. omega (arith, sound.jobs r, job_count-without_oldest r (Runner.Task t) s.tasks.jobs));
   idle = (λ e. ap (without_oldest (Runner.Task t)) (sound.idle e));
   agreed = sound.agreed;
@@ -100,7 +102,7 @@ agreed-on item p agreement onward agreed past = agreed (onward past)
 pub taken : (priorities room : ℕ) (item : Item) (outbox : List Sent) (s : KernelState) → IsSound priorities room s
     → (is_before_live (phase_on item s.progress.phase) ≡ true → is_before_live s.progress.phase ≡ true)
     → (is_past_first_gate (phase_on item s.progress.phase) ≡ true → (is_first_gate item || is_past_first_gate s.progress.phase) ≡ true)
-    → IsSound priorities room (record s { progress = progress_after (Took item) s.progress; border = record s.border { outbox = outbox; received = received_after (Took item) s.border.received } })
+    → IsSound priorities room (record s { progress = progress_after (Took item) s.progress; tasks = record s.tasks { giving_way = None }; border = record s.border { outbox = outbox; received = received_after (Took item) s.border.received } })
 taken priorities room item outbox s sound forward onward = record {
   tasks = sound.tasks;
   frames = sound.frames;
@@ -108,6 +110,7 @@ taken priorities room item outbox s sound forward onward = record {
   limits = sound.limits;
   some = sound.some;
   scripts = sound.scripts;
+  resources = sound.resources;
   jobs = sound.jobs;
   idle = (λ e. sound.idle (forward e));
   agreed = agreed-on item s.progress.phase s.progress.agreement onward sound.agreed;

@@ -3,22 +3,27 @@ use Rattle.std.specs.Prelude.{Bool, nat_le, Option}
 use Rattle.osbase.specs.declared.references.Runner.{Runner}
 use Rattle.osbase.specs.declared.references.TaskRef.{TaskRef}
 use Rattle.osbase.specs.declared.histories.Job.{Job}
-use Rattle.osbase.specs.History.{History, first_greatest, job_count, oldest_of}
+use Rattle.osbase.specs.History.{History, job_count}
 use Rattle.oscript.specs.declared.Action.{Action}
 use Rattle.oscript.specs.Frames.{action_at}
 use Rattle.osplan.specs.View.{View}
-use Rattle.osstate.specs.Readings.{script_of, static_priority}
+use Rattle.osjobs.specs.Jobs.{best_among, raised_among, running_among}
+use Rattle.osstate.specs.Readings.{script_of}
 use Rattle.osstate.specs.Sound.{activation_limit}
-use Rattle.osstate.specs.State.{KernelState, state_of}
+use Rattle.osstate.specs.State.{KernelState, jobs_in, state_of}
 use Rattle.osstate.specs.Steps.{frame_in}
 
 -- The running job. [OSEK/VDX OS 2.2.3, section 4.2]
 abbrev pub running_in : KernelState → Option Job
-running_in s = oldest_of s.tasks.current s.tasks.jobs
+running_in s = running_among (jobs_in s.tasks)
 
--- The job to run: of the live jobs of greatest priority the oldest.
+-- The job that is raised.
+abbrev pub raised_in : KernelState → Option Job
+raised_in s = raised_among s.view.own (jobs_in s.tasks)
+
+-- The job to run: of the live jobs of greatest current priority the oldest.
 abbrev pub best_in : KernelState → Option Job
-best_in s = first_greatest (λ j. static_priority s.view.own j.runner) s.tasks.jobs
+best_in s = best_among s.view.own (jobs_in s.tasks)
 
 -- What the runner's oldest live job does next.
 abbrev pub next_action_in : Runner → KernelState → Action

@@ -1,20 +1,25 @@
 -- What is read off a core's history with what the core sees of its configuration.
-use Rattle.std.specs.Prelude.{ℕ, Bool, true, Option, List, [], filter, length, map, slice_get}
+use Rattle.std.specs.Prelude.{ℕ, Bool, true, Option, Some, None, List, [], filter, length, map, option_map, slice_get}
 use Rattle.std.specs.List.{enumerate_from}
 use Rattle.std.specs.Option.{option_map_or}
 use Rattle.osbase.specs.declared.references.CoreId.{CoreId}
+use Rattle.osbase.specs.declared.references.ResourceRef.{ResourceRef}
 use Rattle.osbase.specs.declared.references.TaskRef.{TaskRef}
 use Rattle.osbase.specs.declared.references.Runner.{Runner}
 use Rattle.osbase.specs.declared.histories.Job.{Job}
+use Rattle.osbase.specs.declared.histories.HeldResource.{HeldResource}
 use Rattle.osbase.specs.declared.histories.Phase.{Phase}
-use Rattle.osbase.specs.History.{History, same_core, current_job, live_jobs, first_greatest, started_cores, phase_of}
+use Rattle.osbase.specs.History.{History, same_core, current_job, giving_way, held_by, live_jobs, first_greatest, started_cores, phase_of}
 use Rattle.osbase.specs.Sets.{has_core, numbers_from}
 use Rattle.oscript.specs.declared.Op.{Op}
 use Rattle.oscript.specs.declared.Frame.{Frame}
 use Rattle.oscript.specs.Frames.{frame_of}
 use Rattle.osplan.specs.declared.plans.Core.{Core}
+use Rattle.osplan.specs.declared.plans.Resource.{Resource}
 use Rattle.osplan.specs.declared.plans.Task.{Task}
-use Rattle.osplan.specs.View.{View, own_task}
+use Rattle.osplan.specs.View.{View, own_resource, own_task}
+use Rattle.osres.specs.declared.resources.TheConstants.{TASKS}
+use Rattle.osjobs.specs.Priorities.{held_in, priority_by, raised_of}
 
 -- The object is one of this core's.
 abbrev pub is_own : View → CoreId → Bool
@@ -29,15 +34,28 @@ script_of core (Runner.Isr i) = []
 abbrev pub frame_at : View → Runner → History → Frame
 frame_at v r h = frame_of (script_of v.own r) r h
 
--- The static priority of a runner. [OSEK/VDX OS 2.2.3, section 4.5]
-abbrev pub static_priority : Core → Runner → ℕ
-static_priority core (Runner.Task t) = option_map_or (λ (task : Task). task.priority) (own_task core t) 0
-static_priority core (Runner.Isr i) = 0
+-- A task of the core by its index.
+abbrev pub task_ref : Core → ℕ → TaskRef
+task_ref core index = record { core = core.id; index = index }
 
--- The current priority of a job: its static one, since nothing raises it yet.
--- [OSEK/VDX OS 2.2.3, section 4.5 and 8.5]
+-- What the jobs of each task hold, in index order: of a task only the oldest job holds any.
+abbrev pub held_resources : View → History → List (List HeldResource)
+held_resources v h = map (λ (n : ℕ). held_by (Runner.Task (task_ref v.own n)) h) (numbers_from 0 TASKS)
+
+-- What the runner's oldest live job holds, the newest first.
+abbrev pub resources_of : View → Runner → History → List HeldResource
+resources_of v r h = held_in r (held_resources v h)
+
+-- A resource that a script names, as a job would hold it; none for the invalid identifier, and for one that is not the core's own,
+-- which the scripts of no configuration name.
+abbrev pub resource_of : Core → Option ResourceRef → Option HeldResource
+resource_of core None = None
+resource_of core (Some r) = option_map (λ (x : Resource). record { index = r.index; ceiling = x.ceiling }) (own_resource core r)
+
+-- The current priority of a job: the greatest of its static one, of the ceilings of what its task holds and, for the running
+-- job of a task that can not be preempted, of all tasks. [OSEK/VDX OS 2.2.3, section 4.5, 4.6.2 and 8.5]
 abbrev pub current_priority : View → History → Job → ℕ
-current_priority v h j = static_priority v.own j.runner
+current_priority v h j = priority_by v.own (held_resources v h) (raised_of v.own (giving_way h) (current_job h)) j
 
 -- A live job that may run: each of them, since only tasks have jobs and none of them can wait yet.
 -- [OSEK/VDX OS 2.2.3, section 4.2]
@@ -64,10 +82,6 @@ phase_at v h = phase_of v.is_master h
 -- The next core of the start list. [AUTOSAR SWS OS 4.x, StartCore; that there is a list is this project's own]
 abbrev pub next_start : View → ℕ → Option CoreId
 next_start v began = slice_get v.own.start began
-
--- A task of the core by its index.
-abbrev pub task_ref : Core → ℕ → TaskRef
-task_ref core index = record { core = core.id; index = index }
 
 -- The core's tasks by reference, in index order.
 abbrev pub task_refs : Core → List (TaskRef × Task)

@@ -1,14 +1,12 @@
 -- What holds of the state of every kernel: that nothing runs out of its room. All of it is this project's own.
-use Rattle.std.specs.Prelude.{◌≡◌, ℕ, ◌≤◌, ◌<◌, nat_le, nat_lt, Bool, true, false, IsTrue, IfSome, Option, Some, None, is_some, [], length, slice_index, sum_by}
+use Rattle.std.specs.Prelude.{◌≡◌, ℕ, ◌≤◌, ◌<◌, nat_le, nat_lt, Bool, true, false, IsTrue, IfSome, Option, Some, [], length, slice_index, sum_by}
 use Rattle.std.specs.List.{list_all}
 use Rattle.std.specs.Option.{option_map_or}
 use Rattle.osbase.specs.declared.references.Runner.{Runner}
-use Rattle.osbase.specs.declared.references.TaskRef.{TaskRef}
 use Rattle.osbase.specs.declared.items.Agreement.{Agreement}
 use Rattle.osbase.specs.declared.items.Item.{Item}
-use Rattle.osbase.specs.declared.marks.Mark.{Mark}
 use Rattle.osbase.specs.declared.turns.TheConstants.{CORES}
-use Rattle.osbase.specs.History.{job_count, same_runner}
+use Rattle.osbase.specs.History.{job_count}
 use Rattle.osbase.specs.Phases.{is_before_live, is_past_first_gate}
 use Rattle.oscript.specs.declared.Op.{Op}
 use Rattle.oscript.specs.Rows.{objects_of}
@@ -18,6 +16,9 @@ use Rattle.osplan.specs.declared.plans.Core.{Core}
 use Rattle.osplan.specs.declared.plans.Task.{Task}
 use Rattle.osplan.specs.Objects.{may_name}
 use Rattle.osplan.specs.View.{own_task}
+use Rattle.osres.specs.declared.held.TheConstants.{RESOURCES}
+use Rattle.osjobs.specs.Jobs.{is_current}
+use Rattle.osjobs.specs.Priorities.{is_own_runner}
 use Rattle.osstate.specs.State.{KernelState}
 
 -- The first gate came to a mode or to none, and not to a conflict.
@@ -25,16 +26,6 @@ abbrev pub is_agreed : Option Agreement → Bool
 is_agreed (Some (Agreement.Mode m)) = true
 is_agreed (Some Agreement.NoMode) = true
 is_agreed other = false
-
--- The runner is one of the core's own tasks.
-abbrev pub is_own_runner : Core → Runner → Bool
-is_own_runner core (Runner.Task t) = is_some (own_task core t)
-is_own_runner core (Runner.Isr i) = false
-
--- The runner is the task in the running state.
-abbrev pub is_current : Option TaskRef → Runner → Bool
-is_current None r = false
-is_current (Some t) r = same_runner r (Runner.Task t)
 
 -- The runner is the core's own and in the running state, with a live job: it is the one that acts.
 pub record Acts (s : KernelState) (r : Runner) : Type 0 where
@@ -55,15 +46,6 @@ has_objects_of core op = list_all (may_name core) (objects_of op)
 abbrev pub is_action_known : Core → Action → Bool
 is_action_known core (Perform op) = has_objects_of core op
 is_action_known core End = true
-
--- A mark that changes nothing of the state but how many entries the history has.
-abbrev pub is_plain : Mark → Bool
-is_plain (Mark.Activated t) = false
-is_plain (Mark.Terminated t) = false
-is_plain (Mark.IsrLeft i) = false
-is_plain (Mark.PreTaskHook t) = false
-is_plain (Mark.PostTaskHook t) = false
-is_plain m = true
 
 -- A post takes the front of the outbox.
 abbrev pub is_posted : Item → Bool
@@ -90,8 +72,10 @@ pub record IsSound (priorities room : ℕ) (s : KernelState) : Type 0 where
   pub bounded : IsTrue (list_all (λ (t : Task). nat_lt t.priority priorities) s.view.own.tasks)
   pub limits : sum_by (λ (t : Task). t.activations) s.view.own.tasks ≤ room
   pub some : IsTrue (list_all (λ (t : Task). nat_le 1 t.activations) s.view.own.tasks)
-  -- and whose scripts name on this core only these
+  -- and whose scripts name on this core only its own objects
   pub scripts : IsTrue (list_all (λ (t : Task). list_all (has_objects_of s.view.own) t.script) s.view.own.tasks)
+  -- at most as many resources as there are places for
+  pub resources : length s.view.own.resources ≤ RESOURCES
   -- no runner has more live jobs than it may have, and none before the core schedules
   pub jobs : (r : Runner) → job_count r s.tasks.jobs ≤ activation_limit s.view.own r
   pub idle : IsTrue (is_before_live s.progress.phase) → s.tasks.jobs ≡ []

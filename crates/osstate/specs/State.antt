@@ -2,22 +2,34 @@
 use Rattle.std.specs.Prelude.{◌≡◌, ℕ, Option, List, length, map}
 use Rattle.osbase.specs.declared.references.CoreId.{CoreId}
 use Rattle.osbase.specs.declared.references.TaskRef.{TaskRef}
+use Rattle.osbase.specs.declared.references.Runner.{Runner}
 use Rattle.osbase.specs.declared.histories.Job.{Job}
+use Rattle.osbase.specs.declared.histories.HeldResource.{HeldResource}
 use Rattle.osbase.specs.declared.histories.OpenCall.{OpenCall}
 use Rattle.osbase.specs.declared.histories.Sent.{Sent}
-use Rattle.osbase.specs.History.{History, began_count, agreement_of, started_cores, live_jobs, current_task, open_call, outbox, queued_count, received_count, item_count}
+use Rattle.osbase.specs.History.{History, began_count, agreement_of, started_cores, live_jobs, current_task, giving_way, open_call, outbox, queued_count, received_count, item_count}
 use Rattle.osbase.specs.Sets.{core_ids}
 use Rattle.oscript.specs.declared.Frame.{Frame}
 use Rattle.osplan.specs.View.{View}
+use Rattle.osjobs.specs.Jobs.{JobState}
 use Rattle.osstate.specs.declared.progress.Progress.{Progress}
-use Rattle.osstate.specs.Readings.{phase_at, frames_at}
+use Rattle.osstate.specs.Readings.{phase_at, frames_at, held_resources}
 
--- The core's tasks: the live jobs in the order of their stamps, the task in the running state, and where the oldest job
--- of each task stands, in index order.
+-- The core's tasks: the live jobs in the order of their stamps, the task in the running state, the runner that gives way
+-- within the item in hand, the resources that each task's oldest job holds, in index order, and where it stands.
 pub record TaskState : Type 0 where
   pub jobs : List Job
   pub current : Option TaskRef
+  pub giving_way : Option Runner
+  pub held : List (List HeldResource)
   pub frames : List Frame
+
+-- The jobs of these, and the tasks of a core of these jobs and frames.
+abbrev pub jobs_in : TaskState → JobState
+jobs_in s = record { jobs = s.jobs; current = s.current; giving_way = s.giving_way; held = s.held }
+
+abbrev pub tasks_from : JobState → List Frame → TaskState
+tasks_from s frames = record { jobs = s.jobs; current = s.current; giving_way = s.giving_way; held = s.held; frames = frames }
 
 -- What crosses the core's border: the call that awaits its reply, the envelopes that wait to be posted, and how many were
 -- queued for each core and received from it, by core number.
@@ -46,7 +58,7 @@ progress_of v h = record {
 }
 
 abbrev pub tasks_of : View → History → TaskState
-tasks_of v h = record { jobs = live_jobs h; current = current_task h; frames = frames_at v h }
+tasks_of v h = record { jobs = live_jobs h; current = current_task h; giving_way = giving_way h; held = held_resources v h; frames = frames_at v h }
 
 abbrev pub border_of : History → BorderState
 border_of h = record {

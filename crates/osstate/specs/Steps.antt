@@ -7,15 +7,16 @@ use Rattle.osbase.specs.declared.messages.Envelope.{Envelope}
 use Rattle.osbase.specs.declared.items.Item.TheVariants as Item
 use Rattle.osbase.specs.declared.marks.Mark.TheVariants as Mark
 use Rattle.osbase.specs.declared.turns.TheConstants.{CORES}
-use Rattle.osbase.specs.History.{Entry, Took, Printed, Noted, Queued, Done, first_phase, phase_after, began_after, agreement_after, started_after, items_after, jobs_after, current_after, open_after, outbox_after, no_cores}
+use Rattle.osbase.specs.History.{Entry, Took, Printed, Noted, Queued, Done, first_phase, phase_after, began_after, agreement_after, started_after, items_after, open_after, outbox_after, no_cores}
 use Rattle.oscript.specs.declared.Frame.{Frame}
 use Rattle.oscript.specs.Frames.{new_frame, rewound, completed}
 use Rattle.osplan.specs.declared.plans.Plan.{Plan}
 use Rattle.osplan.specs.declared.plans.Core.{Core}
 use Rattle.osplan.specs.View.{view_from}
+use Rattle.osjobs.specs.Jobs.{first_jobs, jobs_by}
 use Rattle.osstate.specs.declared.progress.Progress.{Progress}
 use Rattle.osstate.specs.Readings.{script_of}
-use Rattle.osstate.specs.State.{KernelState, TaskState, BorderState}
+use Rattle.osstate.specs.State.{KernelState, TaskState, BorderState, jobs_in, tasks_from}
 
 -- ---- where the core stands
 
@@ -50,14 +51,10 @@ frames_after core (Printed (Mark.Terminated t)) frames = with_frame (Runner.Task
 frames_after core e frames = frames
 
 abbrev pub tasks_after : Core → Entry → ℕ → TaskState → TaskState
-tasks_after core e stamp s = record {
-  jobs = jobs_after e stamp s.jobs;
-  current = current_after e s.current;
-  frames = frames_after core e s.frames;
-}
+tasks_after core e stamp s = tasks_from (jobs_by e stamp (jobs_in s)) (frames_after core e s.frames)
 
 abbrev pub first_tasks : ℕ → TaskState
-first_tasks count = record { jobs = []; current = None; frames = replicate count new_frame }
+first_tasks count = tasks_from first_jobs (replicate count new_frame)
 
 -- ---- the border
 

@@ -6,10 +6,10 @@ ghost use Rattle.osbase.specs.History.{Took, closed_by as call_closed_by, outbox
 ghost use Rattle.osstate.specs.Sound.{is_posted, is_sender_known};
 ghost use Rattle.osstate.specs.Steps.{one_more, received_after};
 
-use crate::equality::is_same_runner;
 use crate::slots::SentSlot;
 use arrayvec::ArrayVec;
 use osbase::{CORES, CoreId, Item, OpenCall, Runner};
+use osjobs::equality::is_same_runner;
 
 /// What crosses a core's border, with room for `OUT` envelopes.
 #[derive(Drop)]

@@ -4,11 +4,10 @@
 #![tactic(auto)]
 
 mod border;
-pub mod equality;
+mod frames;
 pub mod progress;
 mod slots;
 pub mod state;
-mod tasks;
 
 pub use progress::Progress;
 pub use state::CoreState;

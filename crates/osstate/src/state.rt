@@ -1,34 +1,39 @@
 //! The state of a core.
 
-ghost use Rattle.std.specs.Prelude.{◌≡◌, ◌==◌, ◌||◌, ◌∷◌, ◌<◌, ◌≤◌, ◌^◌, [], nat_lt, IsTrue, IsSome, IfSome, false, length, nat_le, slice_get, slice_index, sum_by};
+ghost use Rattle.std.specs.Prelude.{◌≡◌, ◌==◌, ◌||◌, ◌∷◌, ◌<◌, ◌≤◌, ◌^◌, [], nat_lt, IsTrue, IsSome, IfSome, false, true, length, nat_le, slice_get, slice_index, sum_by};
 ghost use Rattle.std.specs.List.{list_all};
 ghost use Rattle.osbase.specs.declared.turns.TheConstants.{CORES};
-ghost use Rattle.osbase.specs.History.{Took, Printed, Noted, Opened, Queued, Done, job_count, phase_after, queued_count, same_core};
+ghost use Rattle.osbase.specs.History.{Took, Printed, Noted, Opened, Queued, Taken, Given, Done, job_count, phase_after, queued_count, same_core};
 ghost use Rattle.osbase.specs.Phases.{is_before_live, is_past_first_gate};
 ghost use Rattle.osbase.specs.Sets.{has_core};
 ghost use Rattle.osplan.specs.declared.plans.Task.{Task as TaskValue};
 ghost use Rattle.osplan.specs.Objects.{is_own_object};
 ghost use Rattle.osplan.specs.View.{core_of, is_configured, own_task, view_of};
+ghost use Rattle.osjobs.specs.Jobs.{is_current, is_plain};
+ghost use Rattle.osjobs.specs.Priorities.{held_in, holds_any, is_newest, is_own_runner, static_priority};
 ghost use Rattle.osstate.specs.Does.{Effects, HasRoom, Notes, Reads, Remarks};
 ghost use Rattle.osstate.specs.Queries.{best_in, is_at_limit_in, next_action_in, running_in};
-ghost use Rattle.osstate.specs.Readings.{best_job, frame_at, is_own, next_start, script_of};
+ghost use Rattle.osstate.specs.Readings.{best_job, frame_at, held_resources, is_own, next_start, resource_of, resources_of, script_of};
 ghost use Rattle.oscript.specs.Frames.{action_at};
-ghost use Rattle.osstate.specs.Sound.{activation_limit, is_action_known, is_agreed, is_current, is_first_gate, is_own_runner, is_plain, is_posted, is_sender_known};
+ghost use Rattle.osstate.specs.Sound.{activation_limit, is_action_known, is_agreed, is_first_gate, is_posted, is_sender_known};
+ghost use Rattle.osres.specs.Resources.{is_occupied};
 ghost use Rattle.osstate.specs.State.{state_of};
-ghost use Rattle.osstate.specs.Steps.{next_envelope, state_after};
+ghost use Rattle.osstate.specs.Steps.{frame_in, next_envelope, state_after};
 
 use crate::border::{self, Border};
-use crate::equality::is_same_core;
+use crate::frames;
 use crate::progress::Progress;
-use crate::slots::{JobSlot, SentSlot};
-use crate::tasks::{self, Tasks};
+use crate::slots::{FrameSlot, SentSlot};
 use arrayvec::ArrayVec;
 use osbase::{
-    Agreement, CORES, CoreId, Envelope, Item, Job, Mark, Message, Object, OpenCall, Phase, Runner,
-    Sent, Status, TaskRef,
+    Agreement, CORES, CoreId, Envelope, HeldResource, Item, Job, Mark, Message, Object, OpenCall,
+    Phase, ResourceRef, Runner, Sent, Status, TaskRef,
 };
-use oscript::Action;
+use oscript::{Action, Frame};
+use osjobs::equality::is_same_core;
+use osjobs::{Jobs, own};
 use osplan::{Config, Core, CoreMode, Task};
+use osres::RESOURCES;
 use std::marker::Model;
 
 /// The whole state of a core, with room for `J` live jobs and `OUT` envelopes; priorities are below `P`.
@@ -38,21 +43,23 @@ pub struct CoreState<'a, const P: usize, const J: usize, const OUT: usize> {
     // The core's own part of the configuration, so that no step looks it up.
     core: &'a Core,
     progress: Progress,
-    tasks: Tasks<J>,
+    jobs: Jobs<J>,
+    // Where each task stands in its script, in index order.
+    frames: ArrayVec<FrameSlot, 32>,
     border: Border<OUT>,
 }
 
 impl<'a, const P: usize, const J: usize, const OUT: usize> Model for CoreState<'a, P, J, OUT> {
-    ghost use Rattle.osstate.specs.State.{KernelState};
+    ghost use Rattle.osstate.specs.State.{KernelState, tasks_from};
 
     ghost Value = { KernelState };
 
     ghost use Rattle.osstate.specs.Steps.{state_from};
     ghost use Rattle.osstate.specs.Sound.{IsSound};
 
-    ghost view = { λ s. state_from s.config.now s.core.now s.progress (record { jobs = s.tasks.jobs.items; current = s.tasks.current; frames = s.tasks.frames.items }) (record { open_call = s.border.open_call; outbox = s.border.outbox.items; queued = s.border.queued; received = s.border.received }) };
+    ghost view = { λ s. state_from s.config.now s.core.now s.progress (tasks_from s.jobs s.frames.items) (record { open_call = s.border.open_call; outbox = s.border.outbox.items; queued = s.border.queued; received = s.border.received }) };
 
-    ghost invariant = { λ s. IsSound P J (state_from s.config.now s.core.now s.progress (record { jobs = s.tasks.jobs.items; current = s.tasks.current; frames = s.tasks.frames.items }) (record { open_call = s.border.open_call; outbox = s.border.outbox.items; queued = s.border.queued; received = s.border.received })) };
+    ghost invariant = { λ s. IsSound P J (state_from s.config.now s.core.now s.progress (tasks_from s.jobs s.frames.items) (record { open_call = s.border.open_call; outbox = s.border.outbox.items; queued = s.border.queued; received = s.border.received })) };
 }
 
 impl<'a, const P: usize, const J: usize, const OUT: usize> CoreState<'a, P, J, OUT> {
@@ -68,16 +75,13 @@ impl<'a, const P: usize, const J: usize, const OUT: usize> CoreState<'a, P, J, O
             Some(core) => core,
             None => unreachable!(),
         };
-        let frames = tasks::new_frames(core.tasks.len());
+        let frames = frames::new_frames(core.tasks.len());
         CoreState {
             config,
             core,
             progress: Progress::new(is_same_core(core.id, plan.master)),
-            tasks: Tasks {
-                jobs: ArrayVec::new(),
-                current: None,
-                frames,
-            },
+            jobs: Jobs::new(),
+            frames,
             border: Border {
                 open_call: None,
                 outbox: ArrayVec::new(),
@@ -99,6 +103,7 @@ impl<'a, const P: usize, const J: usize, const OUT: usize> CoreState<'a, P, J, O
         ensures idle { IsTrue (is_before_live self.old.progress.phase) → self.old.tasks.jobs ≡ [] }
     {
         self.progress.take_item(item);
+        self.jobs.take_item(item);
         border::post_by(&mut self.border.outbox, item);
         border::receive_by(&mut self.border.received, item);
     }
@@ -111,11 +116,7 @@ impl<'a, const P: usize, const J: usize, const OUT: usize> CoreState<'a, P, J, O
         ensures state { self.new ≡ state_after (Printed (Mark.Activated task)) self.old }
         ensures effects { Effects 1 1 (λ v h. Printed (Mark.Activated task) ∷ h) self.old self.new marks.old marks.new }
     {
-        let job = Job {
-            runner: Runner::Task(task),
-            stamp: self.progress.entries,
-        };
-        self.tasks.jobs.push(JobSlot { job });
+        self.jobs.activate(task, self.progress.entries);
         self.progress.entries += 1;
         marks.push_reserved(Mark::Activated(task));
     }
@@ -129,8 +130,8 @@ impl<'a, const P: usize, const J: usize, const OUT: usize> CoreState<'a, P, J, O
         ensures state { self.new ≡ state_after (Printed (Mark.Terminated task)) self.old }
         ensures effects { Effects 1 1 (λ v h. Printed (Mark.Terminated task) ∷ h) self.old self.new marks.old marks.new }
     {
-        tasks::remove_oldest(&mut self.tasks.jobs, Runner::Task(task));
-        tasks::rewind_frame(&mut self.tasks.frames, task);
+        self.jobs.terminate(task);
+        frames::rewind_frame(&mut self.frames, task);
         self.border.open_call = border::closed_by(Runner::Task(task), self.border.open_call);
         self.progress.entries += 1;
         marks.push_reserved(Mark::Terminated(task));
@@ -142,7 +143,7 @@ impl<'a, const P: usize, const J: usize, const OUT: usize> CoreState<'a, P, J, O
         ensures state { self.new ≡ state_after (Printed (Mark.PreTaskHook task)) self.old }
         ensures effects { Effects 1 1 (λ v h. Printed (Mark.PreTaskHook task) ∷ h) self.old self.new marks.old marks.new }
     {
-        self.tasks.current = Some(task);
+        self.jobs.enter(task);
         self.progress.entries += 1;
         marks.push_reserved(Mark::PreTaskHook(task));
     }
@@ -155,18 +156,19 @@ impl<'a, const P: usize, const J: usize, const OUT: usize> CoreState<'a, P, J, O
         ensures effects { Effects 1 1 (λ v h. Printed (Mark.PostTaskHook task) ∷ h) self.old self.new marks.old marks.new }
         ensures left { self.new.tasks.current ≡ None }
     {
-        self.tasks.current = None;
+        self.jobs.leave(task);
         self.progress.entries += 1;
         marks.push_reserved(Mark::PostTaskHook(task));
     }
 
-    /// A mark that changes nothing of the state but how long the history is.
+    /// A mark that begins and ends no job, and by which no task enters or leaves the running state.
     pub fn print(&mut self, mark: Mark, marks: &mut Vec<Mark>)
         requires plain { IsTrue (is_plain mark) }
         requires room { HasRoom 1 1 self.old marks.old }
         ensures state { self.new ≡ state_after (Printed mark) self.old }
         ensures effects { Effects 1 1 (λ v h. Printed mark ∷ h) self.old self.new marks.old marks.new }
     {
+        self.jobs.print(&mark);
         self.progress.entries += 1;
         marks.push_reserved(mark);
     }
@@ -199,6 +201,39 @@ impl<'a, const P: usize, const J: usize, const OUT: usize> CoreState<'a, P, J, O
         self.progress.entries += 1;
     }
 
+    /// The oldest live job of one of the core's tasks takes a resource that is free (OSEK/VDX OS 2.2.3,
+    /// section 8.2).
+    pub fn take_resource(&mut self, runner: Runner, resource: HeldResource)
+        requires own { IsTrue (is_own_runner self.old.view.own runner) }
+        requires place { resource.index < RESOURCES }
+        requires free { is_occupied resource.index self.old.tasks.held ≡ false }
+        requires count { self.old.progress.entries < 2 ^ 63 }
+        ensures state { self.new ≡ state_after (Noted (Taken runner resource)) self.old }
+        ensures remarks { Remarks 1 (λ v h. Noted (Taken runner resource) ∷ h) self.old self.new }
+    {
+        match runner {
+            Runner::Task(task) => self.jobs.take(task, resource),
+            Runner::Isr(_) => unreachable!(),
+        }
+        self.progress.entries += 1;
+    }
+
+    /// The oldest live job of one of the core's tasks gives the newest of its resources back
+    /// (OSEK/VDX OS 2.2.3, section 8.2).
+    pub fn give_resource(&mut self, runner: Runner, index: u8)
+        requires own { IsTrue (is_own_runner self.old.view.own runner) }
+        requires newest { is_newest index (held_in runner self.old.tasks.held) ≡ true }
+        requires count { self.old.progress.entries < 2 ^ 63 }
+        ensures state { self.new ≡ state_after (Noted (Given runner index)) self.old }
+        ensures remarks { Remarks 1 (λ v h. Noted (Given runner index) ∷ h) self.old self.new }
+    {
+        match runner {
+            Runner::Task(task) => self.jobs.give(task, index),
+            Runner::Isr(_) => unreachable!(),
+        }
+        self.progress.entries += 1;
+    }
+
     /// An operation of the oldest live job of one of the core's tasks is done.
     pub fn complete(&mut self, runner: Runner, status: Status, value: Option<i64>)
         requires own { IsTrue (is_own_runner self.old.view.own runner) }
@@ -208,7 +243,7 @@ impl<'a, const P: usize, const J: usize, const OUT: usize> CoreState<'a, P, J, O
     {
         match runner {
             Runner::Task(task) => {
-                tasks::complete_frame(self.core, &mut self.tasks.frames, task, status, value);
+                frames::complete_frame(self.core, &mut self.frames, task, status, value);
             }
             Runner::Isr(_) => unreachable!(),
         }
@@ -258,7 +293,7 @@ impl<'a, const P: usize, const J: usize, const OUT: usize> CoreState<'a, P, J, O
         ensures value { result ≡ self.now.tasks.current }
         ensures current { IfSome result (λ task. IsTrue (is_current self.now.tasks.current (Runner.Task task))) }
     {
-        self.tasks.current
+        self.jobs.current()
     }
 
     /// The front of the outbox.
@@ -360,17 +395,74 @@ impl<'a, const P: usize, const J: usize, const OUT: usize> CoreState<'a, P, J, O
         ensures own { IfSome result (λ job. IsTrue (is_own_runner self.now.view.own job.runner)) }
         ensures current { IfSome result (λ job. IsTrue (is_current self.now.tasks.current job.runner)) }
     {
-        let task = self.tasks.current?;
-        tasks::oldest_job(self.tasks.jobs.as_slice(), Runner::Task(task))
+        self.jobs.running()
     }
 
-    /// The job to run: of the live jobs of greatest priority the oldest (OSEK/VDX OS 2.2.3, section 4.4 and 4.5).
+    /// The job to run: of the live jobs of greatest current priority the oldest (OSEK/VDX OS 2.2.3, section 4.4
+    /// and 4.5).
     pub fn best_job(&self) -> Option<Job>
         ensures value { result ≡ best_in self.now }
         ensures reads { Reads (λ v h. best_job v h) self.now result }
         ensures own { IfSome result (λ job. IsTrue (is_own_runner self.now.view.own job.runner)) }
     {
-        tasks::first_greatest(self.core, self.tasks.jobs.as_slice())
+        self.jobs.best(self.core)
+    }
+
+    /// A resource of the core that a script names, as a job would hold it; none for the invalid identifier, and for
+    /// one of another core.
+    pub fn resource(&self, target: Option<ResourceRef>) -> Option<HeldResource>
+        ensures value { result ≡ resource_of self.now.view.own target }
+        ensures reads { Reads (λ v h. resource_of v.own target) self.now result }
+        ensures place { IfSome result (λ x. x.index < RESOURCES) }
+    {
+        let target = target?;
+        let resource = own::resource_of(self.core, target)?;
+        Some(HeldResource {
+            index: target.index,
+            ceiling: resource.ceiling,
+        })
+    }
+
+    /// The priority of one of the core's tasks as it is configured (OSEK/VDX OS 2.2.3, section 4.5).
+    pub fn static_priority(&self, runner: Runner) -> u8
+        requires { IsTrue (is_own_runner self.now.view.own runner) }
+        ensures value { result ≡ static_priority self.now.view.own runner }
+        ensures reads { Reads (λ v h. static_priority v.own runner) self.now result }
+    {
+        osjobs::static_priority(self.core, runner)
+    }
+
+    /// Whether a job of the core holds the resource of this index.
+    pub fn is_occupied(&self, index: u8) -> bool
+        requires { index < RESOURCES }
+        ensures value { result ≡ is_occupied index self.now.tasks.held }
+        ensures reads { Reads (λ v h. is_occupied index (held_resources v h)) self.now result }
+    {
+        self.jobs.is_occupied(index)
+    }
+
+    /// Whether the resource of this index is the newest that the job of one of the core's tasks holds.
+    pub fn is_newest(&self, runner: Runner, index: u8) -> bool
+        requires own { IsTrue (is_own_runner self.now.view.own runner) }
+        ensures value { result ≡ is_newest index (held_in runner self.now.tasks.held) }
+        ensures reads { Reads (λ v h. is_newest index (resources_of v runner h)) self.now result }
+    {
+        match runner {
+            Runner::Task(task) => self.jobs.is_newest(task, index),
+            Runner::Isr(_) => unreachable!(),
+        }
+    }
+
+    /// Whether the job of one of the core's tasks holds a resource.
+    pub fn holds_resource(&self, runner: Runner) -> bool
+        requires own { IsTrue (is_own_runner self.now.view.own runner) }
+        ensures value { result ≡ holds_any (held_in runner self.now.tasks.held) }
+        ensures reads { Reads (λ v h. holds_any (resources_of v runner h)) self.now result }
+    {
+        match runner {
+            Runner::Task(task) => self.jobs.holds_any(task),
+            Runner::Isr(_) => unreachable!(),
+        }
     }
 
     /// Whether as many jobs of one of the core's tasks are live as it may have.
@@ -378,11 +470,31 @@ impl<'a, const P: usize, const J: usize, const OUT: usize> CoreState<'a, P, J, O
         requires own { IsTrue (is_own_runner self.now.view.own (Runner.Task task)) }
         ensures { result ≡ is_at_limit_in task self.now }
     {
-        let limit = match tasks::task_of(self.core, task) {
+        let limit = match own::task_of(self.core, task) {
             Some(own) => usize::from(own.activations),
             None => unreachable!(),
         };
-        limit <= tasks::count_jobs(self.tasks.jobs.as_slice(), Runner::Task(task))
+        limit <= self.jobs.count(Runner::Task(task))
+    }
+
+    /// Where the oldest live job of one of the core's tasks stands, with the task's variables.
+    pub fn frame(&self, runner: Runner) -> Frame
+        requires own { IsTrue (is_own_runner self.now.view.own runner) }
+        ensures value { result ≡ frame_in runner self.now.tasks.frames }
+        ensures reads { Reads (λ v h. frame_at v runner h) self.now result }
+    {
+        match runner {
+            Runner::Task(task) => self.frame_of(task),
+            Runner::Isr(_) => unreachable!(),
+        }
+    }
+
+    fn frame_of(&self, task: TaskRef) -> Frame
+        requires { IsSome (own_task self.now.view.own task) }
+        ensures { result ≡ frame_in (Runner.Task task) self.now.tasks.frames }
+    {
+        let slot = &self.frames.as_slice()[usize::from(task.index)];
+        slot.frame
     }
 
     /// What the oldest live job of one of the core's tasks does next.
@@ -403,9 +515,9 @@ impl<'a, const P: usize, const J: usize, const OUT: usize> CoreState<'a, P, J, O
         ensures value { result ≡ next_action_in (Runner.Task task) self.now }
         ensures known { IsTrue (is_action_known self.now.view.own result) }
     {
-        match tasks::task_of(self.core, task) {
+        match own::task_of(self.core, task) {
             Some(own) => {
-                let slot = &self.tasks.frames.as_slice()[usize::from(task.index)];
+                let slot = &self.frames.as_slice()[usize::from(task.index)];
                 oscript::next(&own.script, &slot.frame)
             }
             None => unreachable!(),

@@ -8,6 +8,7 @@ mod words;
 
 pub use reports::write_reports;
 pub use sinks::{MemorySink, Sink, WriteFailed, WriteSink, write_all};
+pub use words::{Word, write_ended_words};
 
 #[cfg(test)]
 mod tests;

@@ -9,23 +9,15 @@ ghost use Rattle.ostrace.specs.Trace.{block_of, line_end, line_of, lines_of, tex
 
 use crate::lines::write_line;
 use crate::sinks::{Sink, WriteFailed, write_all};
-use crate::words::{Word, write_words};
+use crate::words::{Word, write_ended_words};
 use osbase::{CoreId, Mark, Report};
 use osplan::{Config, Plan};
-
-fn write_title<S: Sink>(out: &mut S, core: CoreId) -> Result<(), WriteFailed>
-    requires { S.failed out.old < 2 ^ 48 }
-    ensures { Writes S.taken S.failed out.old out.new (title_of core) result }
-{
-    write_words(out, "core", &[Word::Whole(u32::from(core.number))])
-}
 
 fn write_ended_title<S: Sink>(out: &mut S, core: CoreId) -> Result<(), WriteFailed>
     requires { S.failed out.old < 2 ^ 48 }
     ensures { Writes S.taken S.failed out.old out.new (title_of core ++ line_end) result }
 {
-    write_title(out, core)?;
-    write_all(out, b"\n")
+    write_ended_words(out, "core", &[Word::Whole(u32::from(core.number))])
 }
 
 fn write_ended_line<S: Sink>(plan: &Plan, out: &mut S, mark: &Mark) -> Result<(), WriteFailed>

@@ -4,6 +4,7 @@ ghost use Rattle.std.specs.Prelude.{◌≡◌, ◌^◌, ◌<◌, ◌++◌, codes
 ghost use Rattle.std.specs.Fmt.{decimal, signed_decimal};
 ghost use Rattle.ostrace.specs.Taken.{Writes};
 ghost use Rattle.ostrace.specs.Pieces.{led_text, word_text};
+ghost use Rattle.ostrace.specs.Trace.{line_end};
 
 use crate::sinks::{Sink, WriteFailed, write_all};
 use itoa::Buffer;
@@ -89,4 +90,17 @@ pub fn write_words<S: Sink>(out: &mut S, first: &str, others: &[Word]) -> Result
 {
     write_text(out, first)?;
     write_led(out, others)
+}
+
+/// Writes a line: a first word, other words each after a space, and its end.
+pub fn write_ended_words<S: Sink>(
+    out: &mut S,
+    first: &str,
+    others: &[Word],
+) -> Result<(), WriteFailed>
+    requires { S.failed out.old < 2 ^ 48 }
+    ensures { Writes S.taken S.failed out.old out.new ((first.now ++ led_text others.now) ++ line_end) result }
+{
+    write_words(out, first, others)?;
+    write_all(out, b"\n")
 }

@@ -1,6 +1,6 @@
 -- What a turn of a core asks of what it shares with the others, and the item to which the answer leads: one table for
 -- the turns of a listed run, for how the items of all cores fit, and for whoever runs a core. [own]
-use Rattle.std.specs.Prelude.{if◌then◌else◌, Option, Some, None, option_map, true, List, [], ◌∷◌}
+use Rattle.std.specs.Prelude.{if◌then◌else◌, Bool, true, Option, Some, None, option_map, List, [], ◌∷◌}
 use Rattle.osbase.specs.declared.statuses.Status.TheVariants.{EOsId}
 use Rattle.osbase.specs.declared.references.CoreId.{CoreId}
 use Rattle.osbase.specs.declared.items.Item.{Item}
@@ -26,8 +26,8 @@ use Rattle.osworld.specs.declared.asks.Answer.{Answer}
 use Rattle.osworld.specs.declared.asks.Answer.TheVariants.{Replied, HasRoom, Found, Unasked}
 
 -- StartCore of a core that is not configured is answered without the board. [AUTOSAR SWS OS 4.x, StartCore: E_OS_ID]
-abbrev pub starting : View → CoreId → Ask
-starting v k = if is_configured v k then OfBoard (Start k) else StartUnknown k
+abbrev pub starting : CoreId → Bool → Ask
+starting k there = if there then OfBoard (Start k) else StartUnknown k
 
 -- The next stimulus, or else the core drains.
 abbrev pub going_on : Option Stimulus → Ask
@@ -35,7 +35,7 @@ going_on (Some stimulus) = TakeStimulus stimulus
 going_on None = OfBoard Drain
 
 abbrev pub own_asked : View → Option Stimulus → Want → Option Ask
-own_asked v next (Want.Start k) = Some (starting v k)
+own_asked v next (Want.Start k) = Some (starting k (is_configured v k))
 own_asked v next Want.Enter = Some (OfBoard (Enter v.own.mode))
 own_asked v next Want.Ready = Some (OfBoard MakeReady)
 own_asked v next (Want.Post to) = Some (Room to)

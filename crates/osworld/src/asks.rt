@@ -1,10 +1,9 @@
 //! What a turn of a core asks of what it shares with the others, and the item to which the answer leads.
 
-ghost use Rattle.std.specs.Prelude.{◌≡◌, find, if◌then◌else◌, is_some};
-ghost use Rattle.osbase.specs.History.{same_core};
-ghost use Rattle.osplan.specs.Separate.{configured_ids};
-ghost use Rattle.osplan.specs.View.{view_of};
-ghost use Rattle.osworld.specs.Asking.{going_on, look_asked, named_by, own_asked, passing, replied};
+ghost use Rattle.std.specs.Prelude.{◌≡◌};
+ghost use Rattle.osbase.specs.declared.references.CoreId.{CoreId as CoreIdValue};
+ghost use Rattle.osplan.specs.View.{is_configured, view_of};
+ghost use Rattle.osworld.specs.Asking.{going_on, look_asked, named_by, own_asked, passing, replied, starting};
 
 use osbase::{CoreId, Envelope, Item, Phase, Status, Stimulus};
 use osboard::{BoardCall, BoardReply, BoardView};
@@ -55,7 +54,7 @@ pub fn own_asked(plan: &Plan, id: CoreId, want: Want, next: Option<Stimulus>) ->
 
 // StartCore of a core that is not configured is answered without the board (AUTOSAR SWS OS 4.x, StartCore).
 fn starting(core: CoreId, is_configured: bool) -> Ask
-    ensures { result ≡ (if is_configured then Ask.OfBoard (BoardCall.Start core) else Ask.StartUnknown core) }
+    ensures { result ≡ starting core is_configured }
 {
     if is_configured {
         Ask::OfBoard(BoardCall::Start(core))
@@ -66,7 +65,7 @@ fn starting(core: CoreId, is_configured: bool) -> Ask
 
 // Every core sees alike which cores are configured.
 fn is_configured(plan: &Plan, core: CoreId) -> bool
-    ensures { result ≡ is_some (find (same_core core) (configured_ids plan.now)) }
+    ensures { (id : CoreIdValue) → result ≡ is_configured (view_of plan.now id) core }
 {
     plan.core(core).is_some()
 }

@@ -3,6 +3,7 @@ use Rattle.std.proofs.Common.{◌≡◌, ℕ, true, List, [], ◌∷◌, ◌++�
 use Rattle.std.specs.List.{list_all, flat_map}
 use Rattle.std.proofs.lemmas.Bool.{and_from}
 use Rattle.std.proofs.lemmas.List.{length-map}
+use Rattle.std.proofs.lemmas.Simd.{map-map}
 use Rattle.osbase.specs.History.{same_core}
 use Rattle.oscript.specs.declared.Op.{Op}
 use Rattle.osforms.proofs.Operations.{meant-known}
@@ -19,17 +20,19 @@ use Rattle.osdraft.specs.Meaning.{config_of, config_of_shape, plan_of}
 use Rattle.osdraft.specs.Shape.{config_shape}
 use Rattle.osread.specs.Faults.{failing}
 use Rattle.osdraft.specs.declared.declarations.Declaration.{Declaration}
+use Rattle.osdraft.specs.declared.shapes.ResourceText.{ResourceText}
 use Rattle.osdraft.specs.Declarations.{declarations, place_of}
 use Rattle.osdraft.specs.Operation.{operations_of, is_operation_known, is_operation}
-use Rattle.osdraft.specs.Check.{task_sizes, core_sizes, sizes_of, numbers_of, is_text_within, is_each_once, is_mode_name, is_task_known, is_core_known, are_known, is_task_script, is_core_script, are_operations, tests_of}
+use Rattle.osdraft.specs.Check.{task_sizes, core_sizes, sizes_of, numbers_of, is_text_within, is_each_once, is_mode_name, is_task_known, is_core_known, are_known, are_near, is_task_script, is_core_script, are_operations, tests_of}
 use Rattle.osplan.specs.Names.{name_of_mode}
 use Rattle.oswrite.specs.Writing.{config_data, op_text, script_text}
 use Rattle.osplan.proofs.Tests.{any-find}
 use Rattle.osplan.proofs.Within.{LimitParts, TextParts, limit-parts, text-parts}
 use Rattle.osdraft.proofs.Numbers.{any-map, list_all-by, map-same}
-use Rattle.oswrite.proofs.Reshaped.{task_said, core_said, config_said, modes-are, mode-text, config-shape}
+use Rattle.osdraft.proofs.Known.{near_kept}
+use Rattle.oswrite.proofs.Reshaped.{task_said, resource_said, core_said, config_said, modes-are, mode-text, config-shape}
 use Rattle.oswrite.proofs.Placed.{names-said}
-use Rattle.oswrite.proofs.Restored.{is_kept_task, is_kept_core, kept-task, kept-core, kept-cores, op-meant, script-back, plan-back}
+use Rattle.oswrite.proofs.Restored.{is_kept_task, is_kept_core, kept-task, kept-core, kept-cores, is_kept_op, op-meant, ops-back, script-back, plan-back}
 
 module _ (plan : Plan) (inside : IsTrue (limits.is_within_limits plan)) (sayable : IsTrue (said.is_expressible plan)) where
   abbrev objects : List Declaration
@@ -48,11 +51,12 @@ module _ (plan : Plan) (inside : IsTrue (limits.is_within_limits plan)) (sayable
 
   task-numbers : (task : Task) → is_kept_task plan task ≡ true → task_sizes (task_said plan task) ≡ limits.task_sizes task
   task-numbers task h =
-      let count : length (operations_of (script_text plan task.script)) ≡ length task.script = ap length (script-back plan inside sayable task.script (kept-task plan task h).known) ∙ length-map task.script (op_text plan) in
+      let count : length (operations_of (script_text plan task.script)) ≡ length task.script = ap length (script-back plan inside sayable task.script (kept-task plan task h).operations) ∙ length-map task.script (op_text plan) in
       rw count refl
 
   core-numbers : (core : Core) → is_kept_core plan core ≡ true → core_sizes (core_said plan core) ≡ limits.core_sizes core
-  core-numbers core h = rw (map-same task_sizes (task_said plan) limits.task_sizes (is_kept_task plan) task-numbers core.tasks (kept-core plan core h).tasks) refl
+  core-numbers core h =
+      rw (map-same task_sizes (task_said plan) limits.task_sizes (is_kept_task plan) task-numbers core.tasks (kept-core plan core h).tasks, map-map (λ (r : ResourceText). r.ceiling) resource_said core.resources) refl
 
   plan-numbers : sizes_of (config_said plan) ≡ limits.sizes_of plan
   plan-numbers = rw (map-same core_sizes (core_said plan) limits.core_sizes (is_kept_core plan) core-numbers plan.cores cores, ap length (modes-are plan.modes parts.modes)) refl
@@ -73,7 +77,7 @@ module _ (plan : Plan) (inside : IsTrue (limits.is_within_limits plan)) (sayable
 
   -- ---- what names name
 
-  op-known : (op : Op) → limits.is_op_known plan op ≡ true → is_operation_known objects (op_text plan op) ≡ true
+  op-known : (op : Op) → is_kept_op plan op ≡ true → is_operation_known objects (op_text plan op) ≡ true
   op-known op h = (meant-known (place_of objects) (op_text plan op) op (op-meant plan inside sayable op h)).1
 
   mode-known : (name : List ℕ) → name ≡ said.mode_name → is_mode_name name ≡ true
@@ -83,7 +87,7 @@ module _ (plan : Plan) (inside : IsTrue (limits.is_within_limits plan)) (sayable
   task-known task h =
       let k = kept-task plan task h in
       and_from _ _ (list_all-by said.is_only_mode is_mode_name (name_of_mode plan) (λ m e. mode-known (name_of_mode plan m) (mode-text plan parts.modes m e)) task.auto k.auto)
-      (rw (script-back plan inside sayable task.script k.known) (list_all-by (limits.is_op_known plan) (is_operation_known objects) (op_text plan) op-known task.script k.known))
+      (rw (script-back plan inside sayable task.script k.operations) (list_all-by (is_kept_op plan) (is_operation_known objects) (op_text plan) op-known task.script k.operations))
 
   core-known : (core : Core) → is_kept_core plan core ≡ true → is_core_known objects (core_said plan core) ≡ true
   core-known core h = list_all-by (is_kept_task plan) (is_task_known objects) (task_said plan) task-known core.tasks (kept-core plan core h).tasks
@@ -93,24 +97,29 @@ module _ (plan : Plan) (inside : IsTrue (limits.is_within_limits plan)) (sayable
       and_from _ _ (ap (λ numbers. has_number numbers (number_of plan.master)) (numbers-kept plan.cores) ∙ any-map (λ id. same_number id (number_of plan.master)) (λ (c : Core). number_of c.id) plan.cores ∙ (any-find (λ (c : Core). same_core c.id plan.master) plan.cores ∙ bounds.master))
       (list_all-by (is_kept_core plan) (is_core_known objects) (core_said plan) core-known plan.cores cores)
 
+  -- ---- scripts that stay on their cores: what the text means is the configuration
+
+  near : are_near (config_said plan) ≡ true
+  near = sym (near_kept objects (map (core_said plan) plan.cores)) ∙ ap (λ (p : Plan). list_all limits.is_core_near p.cores) (plan-back plan inside sayable) ∙ bounds.near
+
   -- ---- operations
 
-  op-form : (op : Op) → limits.is_op_known plan op ≡ true → is_operation (op_text plan op) ≡ true
+  op-form : (op : Op) → is_kept_op plan op ≡ true → is_operation (op_text plan op) ≡ true
   op-form op h = (meant-known (place_of objects) (op_text plan op) op (op-meant plan inside sayable op h)).0
 
-  task-script : (task : Task) → is_kept_task plan task ≡ true → is_task_script (task_said plan task) ≡ true
+  task-script : (task : Task) → is_kept_task plan task ≡ true → is_task_script objects (task_said plan task) ≡ true
   task-script task h =
       let k = kept-task plan task h in
-      rw (script-back plan inside sayable task.script k.known) (list_all-by (limits.is_op_known plan) is_operation (op_text plan) op-form task.script k.known)
+      rw (script-back plan inside sayable task.script k.operations) (and_from _ _ (list_all-by (is_kept_op plan) is_operation (op_text plan) op-form task.script k.operations) (ap said.is_jumping_within (ops-back plan inside sayable task.script k.operations) ∙ k.jumps))
 
-  core-script : (core : Core) → is_kept_core plan core ≡ true → is_core_script (core_said plan core) ≡ true
-  core-script core h = list_all-by (is_kept_task plan) is_task_script (task_said plan) task-script core.tasks (kept-core plan core h).tasks
+  core-script : (core : Core) → is_kept_core plan core ≡ true → is_core_script objects (core_said plan core) ≡ true
+  core-script core h = list_all-by (is_kept_task plan) (is_task_script objects) (task_said plan) task-script core.tasks (kept-core plan core h).tasks
 
   operations : are_operations (config_said plan) ≡ true
-  operations = list_all-by (is_kept_core plan) is_core_script (core_said plan) core-script plan.cores cores
+  operations = list_all-by (is_kept_core plan) (is_core_script objects) (core_said plan) core-script plan.cores cores
 
   pub faultless : failing (tests_of (config_said plan)) ≡ []
-  faultless = rw (within, once, known, operations) refl
+  faultless = rw (within, once, known, near, operations) refl
 
 -- so it means the configuration
 pub config-back : (plan : Plan) (text : List ℕ) → IsTrue (limits.is_within_limits plan) → IsTrue (said.is_expressible plan) → read text ≡ Some (config_data plan) → config_of text ≡ Some plan

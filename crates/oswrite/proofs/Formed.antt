@@ -1,63 +1,91 @@
--- What the place of a task finds in a configuration.
-use Rattle.std.proofs.Common.{◌≡◌, ℕ, zero, suc, ◌<◌, Bool, true, false, nat_lt, List, [], ◌∷◌, length, Option, Some, None, refl, sym, ap, ◌∙◌, arith}
-use Rattle.std.specs.List.{list_all, slice_get}
+-- What the place of an object finds in a configuration.
+use Rattle.std.proofs.Common.{◌≡◌, ℕ, zero, suc, ◌<◌, ◌≤◌, true, false, nat_lt, List, [], ◌∷◌, length, Option, Some, None, IsTrue, refl, sym, ap, ◌∙◌, arith}
+use Rattle.std.specs.List.{slice_get}
 use Rattle.std.specs.Option.{option_map_or}
 use Rattle.std.proofs.lemmas.Bool.{and_parts, true≢false, ltb-true}
-use Rattle.osbase.specs.declared.objects.ObjectKind.TheVariants as ObjectKind
-use Rattle.osbase.specs.declared.objects.Place.{Place}
+use Rattle.osbase.specs.declared.objects.ObjectKind.{ObjectKind}
 use Rattle.osbase.specs.declared.objects.Object.{Object}
 use Rattle.osbase.specs.History.{same_core}
 use Rattle.osbase.specs.Names.{is_name}
 use Rattle.osplan.specs.declared.plans.Plan.{Plan}
 use Rattle.osplan.specs.declared.plans.Core.{Core}
+use Rattle.osplan.specs.declared.plans.Resource.{Resource}
 use Rattle.osplan.specs.declared.plans.Task.{Task}
+use Rattle.osplan.specs.Objects.{object_count}
 use Rattle.osplan.specs.View.{core_of}
-use Rattle.osplan.specs.Limits.{is_object}
-use Rattle.osplan.specs.Expressible.{is_task_expressible, is_core_expressible}
+use Rattle.osplan.specs.Limits.{is_object, is_within_limits}
+use Rattle.osplan.specs.Expressible.{is_script_expressible, is_task_expressible, is_resource_expressible, is_core_expressible, is_expressible}
 use Rattle.osplan.proofs.Tests.{find-passes, passes-at}
-use Rattle.osplan.proofs.Within.{core-text-parts}
+use Rattle.osplan.proofs.Within.{CoreTextParts, FitsKernel, core-fits, core-text-parts, text-parts}
 use Rattle.osplan.specs.Names.{name_in, name_of}
-
--- the task at this place
-abbrev pub task_at : Place → Object
-task_at place = record { kind = ObjectKind.Task; place = place }
-
--- The core and the task that stand there.
-pub record Names (plan : Plan) (target : Place) (core : Core) (task : Task) : Type 0 where
-  pub core_is : core_of plan target.core ≡ Some core
-  pub task_is : slice_get core.tasks target.index ≡ Some task
-  pub name_is : name_of plan ObjectKind.Task target ≡ task.name
+use Rattle.osdraft.specs.Declarations.{declared_by}
+use Rattle.oswrite.proofs.Reshaped.{core_said}
+use Rattle.oswrite.proofs.Placed.{Stands, declared_at, task-stands, resource-stands}
 
 get-some : {X : Type 0} (xs : List X) (i : ℕ) → i < length xs → (x : X) × (slice_get xs i ≡ Some x)
 get-some [] i lt = absurd (omega arith)
 get-some (x ∷ xs) zero lt = (x, refl)
 get-some (x ∷ xs) (suc i) lt = get-some xs i (omega arith)
 
-names-if : (plan : Plan) (target : Place) (o : Option Core) → core_of plan target.core ≡ o → option_map_or (λ (c : Core). nat_lt target.index (length c.tasks)) o false ≡ true
-    → (core : Core) × (task : Task) × Names plan target core task
-names-if plan target None found known = absurd (true≢false (sym known))
-names-if plan target (Some core) found known =
-    let task = get-some core.tasks target.index (ltb-true target.index (length core.tasks) known) in (
-      core,
-      task.0,
+-- The name of a core's object of this kind and index: it is in form, and the core's text declares it.
+pub record Named (plan : Plan) (core : Core) (kind : ObjectKind) (index : ℕ) (name : List ℕ) : Type 0 where
+  pub name_is : name_in kind core index ≡ name
+  pub in_form : is_name name ≡ true
+  pub declared : Stands (declared_by (core_said plan core)) (declared_at plan core kind name index)
+  pub low : index ≤ 255
+
+name-at : (plan : Plan) (core : Core) → CoreTextParts core → FitsKernel core → (kind : ObjectKind) (index : ℕ) → index < object_count kind core → (name : List ℕ) × Named plan core kind index name
+name-at plan core said fits ObjectKind.Task index within =
+    let task = get-some core.tasks index within in
+    let few : length core.tasks ≤ 32 = fits.tasks in
+    let sayable : is_task_expressible task.0 ≡ true = passes-at is_task_expressible core.tasks index task.0 said.tasks task.1 in (
+      task.0.name,
       record {
-        core_is = found;
-        task_is = task.1;
-        name_is = ap (λ (o : Option Core). option_map_or (λ (c : Core). name_in ObjectKind.Task c target.index) o []) found ∙ ap (λ (o : Option Task). option_map_or (λ (t : Task). t.name) o []) task.1;
+        name_is = ap (λ (o : Option Task). option_map_or (λ (t : Task). t.name) o []) task.1;
+        in_form = (and_parts (is_name task.0.name) _ (and_parts _ (is_script_expressible task.0.script) sayable).0).0;
+        declared = task-stands plan core index task.0 task.1;
+        low = omega arith;
       },
     )
+name-at plan core said fits ObjectKind.Resource index within =
+    let resource = get-some core.resources index within in
+    let few : length core.resources ≤ 16 = fits.resources in (
+      resource.0.name,
+      record {
+        name_is = ap (λ (o : Option Resource). option_map_or (λ (r : Resource). r.name) o []) resource.1;
+        in_form = passes-at is_resource_expressible core.resources index resource.0 said.resources resource.1;
+        declared = resource-stands plan core index resource.0 resource.1;
+        low = omega arith;
+      },
+    )
+name-at plan core said fits ObjectKind.Alarm index within =
+    let none : length core.alarms ≡ 0 = ap length said.alarms in
+    absurd (omega arith)
 
-pub names-task : (plan : Plan) (target : Place) → is_object plan (task_at target) ≡ true → (core : Core) × (task : Task) × Names plan target core task
-names-task plan target known = names-if plan target (core_of plan target.core) refl known
+-- The core on which an object stands, and its name.
+pub record Found (plan : Plan) (object : Object) (core : Core) (name : List ℕ) : Type 0 where
+  pub core_is : core_of plan object.place.core ≡ Some core
+  pub name_is : name_of plan object.kind object.place ≡ name
+  pub fits : FitsKernel core
+  pub named : Named plan core object.kind object.place.index name
 
-pub found-passes : (plan : Plan) (target : Place) (core : Core) (task : Task) (q : Core → Bool) → Names plan target core task → list_all q plan.cores ≡ true → q core ≡ true
-found-passes plan target core task q names all = find-passes (λ (c : Core). same_core c.id target.core) q plan.cores core all names.core_is
+module _ (plan : Plan) (inside : IsTrue (is_within_limits plan)) (sayable : IsTrue (is_expressible plan)) where
+  found-if : (object : Object) (o : Option Core) → core_of plan object.place.core ≡ o → option_map_or (λ (c : Core). nat_lt object.place.index (object_count object.kind c)) o false ≡ true
+      → (core : Core) × (name : List ℕ) × Found plan object core name
+  found-if object None is known = absurd (true≢false (sym known))
+  found-if object (Some core) is known =
+      let said = core-text-parts core (find-passes (λ (c : Core). same_core c.id object.place.core) is_core_expressible plan.cores core (text-parts plan sayable).cores is) in
+      let fits = core-fits plan object.place.core core inside is in
+      let name = name-at plan core said fits object.kind object.place.index (ltb-true object.place.index (object_count object.kind core) known) in (
+        core,
+        name.0,
+        record {
+          core_is = is;
+          name_is = ap (λ (o : Option Core). option_map_or (λ (c : Core). name_in object.kind c object.place.index) o []) is ∙ name.1.name_is;
+          fits = fits;
+          named = name.1;
+        },
+      )
 
--- a task that is named has a name in form
-pub named-form : (plan : Plan) → list_all is_core_expressible plan.cores ≡ true → (target : Place) → is_object plan (task_at target) ≡ true → is_name (name_of plan ObjectKind.Task target) ≡ true
-named-form plan said target known =
-    let found = names-task plan target known in
-    let core = found.0 in
-    let task = found.1 in
-    let within : is_task_expressible task ≡ true = passes-at is_task_expressible core.tasks target.index task (core-text-parts core (found-passes plan target core task is_core_expressible found.2 said)).tasks found.2.task_is in
-    rw found.2.name_is (and_parts (is_name task.name) _ within).0
+  pub found : (object : Object) → is_object plan object ≡ true → (core : Core) × (name : List ℕ) × Found plan object core name
+  found object known = found-if object (core_of plan object.place.core) refl known

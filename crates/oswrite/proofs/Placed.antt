@@ -1,102 +1,134 @@
--- A task's name stands for the task, since no other has it.
-use Rattle.std.proofs.Common.{◌≡◌, ℕ, zero, suc, ◌+◌, ◌≤◌, Bool, true, false, not, cond, is_some, List, [], ◌∷◌, ◌++◌, map, Some, option_and_then, inl, inr, refl, sym, ap, ◌∙◌, subst, arith}
+-- An object's name stands for the object, since no other has it.
+use Rattle.std.proofs.Common.{◌≡◌, ℕ, zero, suc, ◌+◌, ◌≤◌, ◌⊎◌, Bool, true, false, not, cond, List, [], ◌∷◌, ◌++◌, map, Option, Some, option_and_then, inl, inr, refl, sym, ap, ◌∙◌, subst, arith}
 use Rattle.std.specs.List.{list_any, enumerate_from, find, flat_map, slice_get}
-use Rattle.std.specs.Option.{option_or}
 use Rattle.std.specs.Str.{bytes_eq}
-use Rattle.std.proofs.lemmas.Bool.{and_parts, not-true, true≢false, eqb-true, cases_Bool}
+use Rattle.std.proofs.lemmas.Bool.{and_parts, not-true, or_left, or_right, true≢false, eqb-true, cases_Bool}
 use Rattle.std.proofs.lemmas.List.{map-append}
-use Rattle.std.proofs.lemmas.List.Folds.{find-append}
 use Rattle.std.proofs.lemmas.Slice.Eq.{bytes_eq-Decides}
-use Rattle.osbase.specs.declared.objects.ObjectKind.TheVariants as ObjectKind
+use Rattle.osbase.specs.declared.objects.ObjectKind.{ObjectKind}
 use Rattle.osbase.specs.declared.objects.Place.{Place}
 use Rattle.osbase.specs.History.{same_core}
+use Rattle.osbase.proofs.Same.{same_kind-self}
 use Rattle.osplan.specs.declared.plans.Plan.{Plan}
 use Rattle.osplan.specs.declared.plans.Core.{Core}
+use Rattle.osplan.specs.declared.plans.Resource.{Resource}
 use Rattle.osplan.specs.declared.plans.Task.{Task}
 use Rattle.osplan.specs.Expressible.{are_distinct, object_names}
-use Rattle.osplan.proofs.Tests.{any-find, find-holds}
-use Rattle.osplan.proofs.Distinct.{distinct-front, distinct-back}
+use Rattle.osplan.proofs.Tests.{find-holds}
 use Rattle.osdraft.specs.declared.shapes.CoreText.{CoreText}
 use Rattle.osdraft.specs.declared.declarations.Declaration.{Declaration}
-use Rattle.osdraft.specs.Declarations.{byte_of, id_of, task_declaration, declared_by, declarations, has_name, place_in, place_of}
+use Rattle.osdraft.specs.Declarations.{byte_of, id_of, task_declaration, resource_declaration, declared_tasks, declared_resources, declared_by, declarations, has_name, place_in, place_of}
 use Rattle.osdraft.proofs.Numbers.{any-map, byte-small}
-use Rattle.oswrite.proofs.Reshaped.{task_said, core_said}
-
-bytes_eq-same : (name : List ℕ) → bytes_eq name name ≡ true
-bytes_eq-same name = (bytes_eq-Decides name name).1 refl
+use Rattle.oswrite.proofs.Reshaped.{task_said, resource_said, core_said}
 
 abbrev pub names : List Declaration → List (List ℕ)
 names objects = map (λ (d : Declaration). d.name) objects
 
--- where no name stands twice, what is found at the end is found
-find-behind : (front back : List Declaration) (name : List ℕ) (d : Declaration) → are_distinct (names (front ++ back)) ≡ true → find (has_name name) back ≡ Some d → find (has_name name) (front ++ back) ≡ Some d
-find-behind [] back name d distinct found = found
-find-behind (x ∷ front) back name d distinct found =
-    let parts = and_parts (not (list_any (λ later. bytes_eq later x.name) (names (front ++ back)))) (are_distinct (names (front ++ back))) distinct in
-    let rest = find-behind front back name d parts.1 found in
-    elim (cases_Bool (has_name name x)) as (λ _. find (has_name name) (x ∷ front ++ back) ≡ Some d) [
+-- ---- where no name stands twice, each object is found by its name
+
+-- the object is one of the list
+abbrev pub Stands : List Declaration → Declaration → Type 0
+Stands [] d = ⊥
+Stands (x ∷ xs) d = (x ≡ d) ⊎ Stands xs d
+
+stands-any : (objects : List Declaration) (d : Declaration) → Stands objects d → list_any (has_name d.name) objects ≡ true
+stands-any [] d among = absurd among
+stands-any (x ∷ xs) d (inl is) = or_left _ _ (ap (has_name d.name) is ∙ (bytes_eq-Decides d.name d.name).1 refl)
+stands-any (x ∷ xs) d (inr later) = or_right (has_name d.name x) _ (stands-any xs d later)
+
+pub stands-found : (objects : List Declaration) (d : Declaration) → are_distinct (names objects) ≡ true → Stands objects d → find (has_name d.name) objects ≡ Some d
+stands-found [] d distinct among = absurd among
+stands-found (x ∷ xs) d distinct (inl is) = rw (ap (has_name d.name) is ∙ (bytes_eq-Decides d.name d.name).1 refl) (ap Some is)
+stands-found (x ∷ xs) d distinct (inr later) =
+    let parts = and_parts (not (list_any (λ later. bytes_eq later x.name) (names xs))) (are_distinct (names xs)) distinct in
+    let rest = stands-found xs d parts.1 later in
+    elim (cases_Bool (has_name d.name x)) as (λ _. find (has_name d.name) (x ∷ xs) ≡ Some d) [
       | inl same ↦
-          let is : x.name ≡ name = (bytes_eq-Decides x.name name).0 same in
-          let among : list_any (has_name name) (front ++ back) ≡ true = any-find (has_name name) (front ++ back) ∙ ap is_some rest in
-          let again : list_any (λ later. bytes_eq later x.name) (names (front ++ back)) ≡ true = any-map (λ later. bytes_eq later x.name) (λ (d : Declaration). d.name) (front ++ back) ∙ ap (λ n. list_any (has_name n) (front ++ back)) is ∙ among in
+          let is : x.name ≡ d.name = (bytes_eq-Decides x.name d.name).0 same in
+          let again : list_any (λ later. bytes_eq later x.name) (names xs) ≡ true = any-map (λ later. bytes_eq later x.name) (λ (d : Declaration). d.name) xs ∙ ap (λ n. list_any (has_name n) xs) is ∙ stands-any xs d later in
           absurd (true≢false (sym again ∙ not-true _ parts.0))
       | inr other ↦ rw other rest
     ]
 
+stands-front : (front back : List Declaration) (d : Declaration) → Stands front d → Stands (front ++ back) d
+stands-front [] back d among = absurd among
+stands-front (x ∷ front) back d (inl is) = inl is
+stands-front (x ∷ front) back d (inr later) = inr (stands-front front back d later)
+
+stands-back : (front back : List Declaration) (d : Declaration) → Stands back d → Stands (front ++ back) d
+stands-back [] back d among = among
+stands-back (x ∷ front) back d among = inr (stands-back front back d among)
+
+-- what is declared of an element stands at the element's place
+stands-at : {X Y : Type 0} (declare : ℕ × Y → Declaration) (said : X → Y) (n : ℕ) (xs : List X) (i : ℕ) (x : X) → slice_get xs i ≡ Some x → Stands (map declare (enumerate_from n (map said xs))) (declare (n + i, said x))
+stands-at declare said n [] i x is = cc
+stands-at declare said n (y ∷ ys) zero x is =
+    let same : y ≡ x = cc in
+    let index : n ≡ n + 0 = omega arith in
+    inl (ap (λ z. declare (n, said z)) same ∙ ap (λ k. declare (k, said x)) index)
+stands-at declare said n (y ∷ ys) (suc i) x is =
+    let index : n + 1 + i ≡ n + suc i = omega arith in
+    inr (subst (λ k. Stands (map declare (enumerate_from (n + 1) (map said ys))) (declare (k, said x))) index (stands-at declare said (n + 1) ys i x is))
+
+stands-first : {X Y : Type 0} (declare : ℕ × Y → Declaration) (said : X → Y) (xs : List X) (i : ℕ) (x : X) → slice_get xs i ≡ Some x → Stands (map declare (enumerate_from 0 (map said xs))) (declare (i, said x))
+stands-first declare said xs i x is =
+    let index : 0 + i ≡ i = omega arith in
+    subst (λ k. Stands (map declare (enumerate_from 0 (map said xs))) (declare (k, said x))) index (stands-at declare said 0 xs i x is)
+
 module _ (plan : Plan) where
-  -- the names that a text declares are the configuration's
+  -- ---- the names that a text declares are the configuration's
+
   tasks-named : (core : CoreText) (n : ℕ) (tasks : List Task) → names (map (task_declaration core) (enumerate_from n (map (task_said plan) tasks))) ≡ map (λ (task : Task). task.name) tasks
   tasks-named core n [] = refl
   tasks-named core n (task ∷ tasks) = ap (λ rest. task.name ∷ rest) (tasks-named core (n + 1) tasks)
+
+  resources-named : (core : CoreText) (n : ℕ) (resources : List Resource) → names (map (resource_declaration core) (enumerate_from n (map resource_said resources))) ≡ map (λ (resource : Resource). resource.name) resources
+  resources-named core n [] = refl
+  resources-named core n (resource ∷ resources) = ap (λ rest. resource.name ∷ rest) (resources-named core (n + 1) resources)
+
+  objects-named : (core : Core) → names (declared_by (core_said plan core)) ≡ object_names core
+  objects-named core =
+      map-append (λ (d : Declaration). d.name) (declared_tasks (core_said plan core)) (declared_resources (core_said plan core))
+      ∙ ap (λ first. first ++ names (declared_resources (core_said plan core))) (tasks-named (core_said plan core) 0 core.tasks) ∙ ap (λ rest. map (λ (task : Task). task.name) core.tasks ++ rest) (resources-named (core_said plan core) 0 core.resources)
 
   pub names-said : (cores : List Core) → names (declarations (map (core_said plan) cores)) ≡ flat_map object_names cores
   names-said [] = refl
   names-said (core ∷ cores) =
       map-append (λ (d : Declaration). d.name) (declared_by (core_said plan core)) (declarations (map (core_said plan) cores))
-      ∙ ap (λ first. first ++ names (declarations (map (core_said plan) cores))) (tasks-named (core_said plan core) 0 core.tasks) ∙ ap (λ rest. object_names core ++ rest) (names-said cores)
+      ∙ ap (λ first. first ++ names (declarations (map (core_said plan) cores))) (objects-named core) ∙ ap (λ rest. object_names core ++ rest) (names-said cores)
 
-  abbrev declared_at : CoreText → Task → ℕ → Declaration
-  declared_at core task index = record { name = task.name; kind = ObjectKind.Task; core = id_of core; index = index }
+  -- ---- the objects of a core
 
-  in-core : (core : CoreText) (n : ℕ) (tasks : List Task) (i : ℕ) (task : Task) → are_distinct (names (map (task_declaration core) (enumerate_from n (map (task_said plan) tasks)))) ≡ true → slice_get tasks i ≡ Some task
-      → find (has_name task.name) (map (task_declaration core) (enumerate_from n (map (task_said plan) tasks))) ≡ Some (declared_at core task (n + i))
-  in-core core n [] i task distinct is = cc
-  in-core core n (x ∷ xs) zero task distinct is =
-      let same : x ≡ task = cc in
-      let index : n ≡ n + 0 = omega arith in
-      rw (ap (λ (t : Task). bytes_eq t.name task.name) same ∙ bytes_eq-same task.name) (ap (λ (t : Task). Some (declared_at core t n)) same ∙ ap (λ k. Some (declared_at core task k)) index)
-  in-core core n (x ∷ xs) (suc i) task distinct is =
-      let later = in-core core (n + 1) xs i task (and_parts _ (are_distinct (names (map (task_declaration core) (enumerate_from (n + 1) (map (task_said plan) xs))))) distinct).1 is in
-      let index : n + 1 + i ≡ n + suc i = omega arith in
-      find-behind (task_declaration core (n, task_said plan x) ∷ []) _ task.name _ distinct later ∙ ap (λ k. Some (declared_at core task k)) index
+  abbrev pub declared_at : Core → ObjectKind → List ℕ → ℕ → Declaration
+  declared_at core kind name index = record { name = name; kind = kind; core = id_of (core_said plan core); index = index }
 
-  in-cores-if : (core : Core) (cores : List Core) (target : Place) (found : Core) (task : Task) (b : Bool) → same_core core.id target.core ≡ b → are_distinct (names (declarations (map (core_said plan) (core ∷ cores)))) ≡ true
-      → cond b (Some core) (find (λ (c : Core). same_core c.id target.core) cores) ≡ Some found → slice_get found.tasks target.index ≡ Some task
-      → (find (λ (c : Core). same_core c.id target.core) cores ≡ Some found → find (has_name task.name) (declarations (map (core_said plan) cores)) ≡ Some (declared_at (core_said plan found) task target.index))
-      → find (has_name task.name) (declarations (map (core_said plan) (core ∷ cores))) ≡ Some (declared_at (core_said plan found) task target.index)
-  in-cores-if core cores target found task true same distinct e is later =
-      let mine : core ≡ found = cc in
-      let own = distinct-front (names (declared_by (core_said plan core))) (names (declarations (map (core_said plan) cores))) (sym (ap are_distinct (map-append (λ (d : Declaration). d.name) (declared_by (core_said plan core)) (declarations (map (core_said plan) cores)))) ∙ distinct) in
-      let index : 0 + target.index ≡ target.index = omega arith in
-      find-append (has_name task.name) (declared_by (core_said plan core)) (declarations (map (core_said plan) cores))
-      ∙ ap (λ o. option_or o (find (has_name task.name) (declarations (map (core_said plan) cores)))) (in-core (core_said plan core) 0 core.tasks target.index task own (subst (λ (c : Core). slice_get c.tasks target.index ≡ Some task) (sym mine) is))
-      ∙ ap (λ (c : Core). Some (declared_at (core_said plan c) task (0 + target.index))) mine ∙ ap (λ k. Some (declared_at (core_said plan found) task k)) index
-  in-cores-if core cores target found task false same distinct e is later =
-      find-behind (declared_by (core_said plan core)) (declarations (map (core_said plan) cores)) task.name _ distinct (later e)
+  pub task-stands : (core : Core) (i : ℕ) (task : Task) → slice_get core.tasks i ≡ Some task → Stands (declared_by (core_said plan core)) (declared_at core ObjectKind.Task task.name i)
+  task-stands core i task is =
+      stands-front (declared_tasks (core_said plan core)) (declared_resources (core_said plan core)) _ (stands-first (task_declaration (core_said plan core)) (task_said plan) core.tasks i task is)
 
-  in-cores : (cores : List Core) (target : Place) (found : Core) (task : Task) → are_distinct (names (declarations (map (core_said plan) cores))) ≡ true
-      → find (λ (c : Core). same_core c.id target.core) cores ≡ Some found → slice_get found.tasks target.index ≡ Some task
-      → find (has_name task.name) (declarations (map (core_said plan) cores)) ≡ Some (declared_at (core_said plan found) task target.index)
-  in-cores [] target found task distinct e is = cc
-  in-cores (core ∷ cores) target found task distinct e is =
-      let rest = distinct-back (names (declared_by (core_said plan core))) (names (declarations (map (core_said plan) cores))) (sym (ap are_distinct (map-append (λ (d : Declaration). d.name) (declared_by (core_said plan core)) (declarations (map (core_said plan) cores)))) ∙ distinct) in
-      in-cores-if core cores target found task (same_core core.id target.core) refl distinct e is (λ e. in-cores cores target found task rest e is)
+  pub resource-stands : (core : Core) (i : ℕ) (resource : Resource) → slice_get core.resources i ≡ Some resource → Stands (declared_by (core_said plan core)) (declared_at core ObjectKind.Resource resource.name i)
+  resource-stands core i resource is =
+      stands-back (declared_tasks (core_said plan core)) (declared_resources (core_said plan core)) _ (stands-first (resource_declaration (core_said plan core)) resource_said core.resources i resource is)
 
-  pub placed : (cores : List Core) (target : Place) (found : Core) (task : Task) → are_distinct (flat_map object_names cores) ≡ true → target.core.number ≤ 255 → target.index ≤ 255
-      → find (λ (c : Core). same_core c.id target.core) cores ≡ Some found → slice_get found.tasks target.index ≡ Some task → place_of (declarations (map (core_said plan) cores)) ObjectKind.Task task.name ≡ Some target
-  placed cores target found task distinct low index e is =
+  in-cores-if : (core : Core) (rest : List Declaration) (found : Core) (others : Option Core) (d : Declaration) (b : Bool) → cond b (Some core) others ≡ Some found → Stands (declared_by (core_said plan found)) d
+      → (others ≡ Some found → Stands rest d) → Stands (declared_by (core_said plan core) ++ rest) d
+  in-cores-if core rest found others d true e among later =
+      let mine : found ≡ core = cc in
+      stands-front (declared_by (core_said plan core)) rest d (subst (λ (c : Core). Stands (declared_by (core_said plan c)) d) mine among)
+  in-cores-if core rest found others d false e among later = stands-back (declared_by (core_said plan core)) rest d (later e)
+
+  in-cores : (cores : List Core) (target : Place) (found : Core) (d : Declaration) → find (λ (c : Core). same_core c.id target.core) cores ≡ Some found → Stands (declared_by (core_said plan found)) d
+      → Stands (declarations (map (core_said plan) cores)) d
+  in-cores [] target found d e among = cc
+  in-cores (core ∷ cores) target found d e among =
+      in-cores-if core (declarations (map (core_said plan) cores)) found (find (λ (c : Core). same_core c.id target.core) cores) d (same_core core.id target.core) e among (λ later. in-cores cores target found d later among)
+
+  pub placed : (cores : List Core) (kind : ObjectKind) (target : Place) (found : Core) (name : List ℕ) → are_distinct (flat_map object_names cores) ≡ true → target.core.number ≤ 255 → target.index ≤ 255
+      → find (λ (c : Core). same_core c.id target.core) cores ≡ Some found → Stands (declared_by (core_said plan found)) (declared_at found kind name target.index) → place_of (declarations (map (core_said plan) cores)) kind name ≡ Some target
+  placed cores kind target found name distinct low index e among =
       let number : found.id.number ≡ target.core.number = eqb-true found.id.number target.core.number (find-holds (λ (c : Core). same_core c.id target.core) cores found e) in
       let id : byte_of (Some found.id.number) ≡ target.core.number = ap (λ n. byte_of (Some n)) number ∙ byte-small target.core.number low in
-      ap (option_and_then (place_in ObjectKind.Task)) (in-cores cores target found task (ap are_distinct (names-said cores) ∙ distinct) e is)
-      ∙ ap (λ (n : ℕ). let p : Place = record { core = record { number = n }; index = byte_of (Some target.index) } in Some p) id
-      ∙ ap (λ (n : ℕ). let p : Place = record { core = target.core; index = n } in Some p) (byte-small target.index index)
+      ap (option_and_then (place_in kind)) (stands-found (declarations (map (core_said plan) cores)) (declared_at found kind name target.index) (ap are_distinct (names-said cores) ∙ distinct) (in-cores cores target found _ e among))
+      ∙ rw (same_kind-self kind)
+      (ap (λ (n : ℕ). let p : Place = record { core = record { number = n }; index = byte_of (Some target.index) } in Some p) id
+      ∙ ap (λ (n : ℕ). let p : Place = record { core = target.core; index = n } in Some p) (byte-small target.index index))

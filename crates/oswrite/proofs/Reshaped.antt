@@ -8,28 +8,33 @@ use Rattle.serde_json.specs.View.{items_of}
 use Rattle.osbase.specs.declared.references.ModeId.{ModeId}
 use Rattle.osplan.specs.declared.plans.Plan.{Plan}
 use Rattle.osplan.specs.declared.plans.Core.{Core}
+use Rattle.osplan.specs.declared.plans.Resource.{Resource}
 use Rattle.osplan.specs.declared.plans.Task.{Task}
 use Rattle.osbase.specs.Names.{is_name}
-use Rattle.osplan.specs.Limits.{number_of}
-use Rattle.osplan.specs.Expressible.{mode_name, are_mode_name, is_only_mode, is_task_expressible, is_core_expressible}
+use Rattle.osplan.specs.Limits.{ceiling_of, number_of}
+use Rattle.osplan.specs.Expressible.{mode_name, are_mode_name, is_only_mode, is_script_expressible, is_task_expressible, is_resource_expressible, is_core_expressible}
 use Rattle.osdraft.specs.declared.shapes.ConfigText.{ConfigText}
 use Rattle.osdraft.specs.declared.shapes.CoreText.{CoreText}
+use Rattle.osdraft.specs.declared.shapes.ResourceText.{ResourceText}
 use Rattle.osdraft.specs.declared.shapes.TaskText.{TaskText}
 use Rattle.osread.specs.Reading.{each}
 use Rattle.osread.specs.Json.{elements, whole_of, name_of}
-use Rattle.osdraft.specs.Shape.{task_shape, core_shape, config_shape}
+use Rattle.osdraft.specs.Shape.{task_shape, resource_shape, core_shape, config_shape}
 use Rattle.osplan.specs.Names.{name_of_mode}
 use Rattle.osplan.proofs.Within.{core-text-parts}
-use Rattle.oswrite.specs.Writing.{script_text, id_data, mode_data, task_data, core_data, config_data}
+use Rattle.oswrite.specs.Writing.{script_text, id_data, mode_data, task_data, resource_data, core_data, config_data}
 use Rattle.osread.proofs.Contents.{elements-items_of}
 
 -- ---- what the text says
 
 abbrev pub task_said : Plan → Task → TaskText
-task_said plan task = record { name = task.name; prio = Some task.priority; auto = map (name_of_mode plan) task.auto; activations = Some task.activations; script = script_text plan task.script }
+task_said plan task = record { name = task.name; prio = Some task.priority; auto = map (name_of_mode plan) task.auto; activations = Some task.activations; preemptable = task.preemptable; script = script_text plan task.script }
+
+abbrev pub resource_said : Resource → ResourceText
+resource_said resource = record { name = resource.name; ceiling = ceiling_of resource }
 
 abbrev pub core_said : Plan → Core → CoreText
-core_said plan core = record { id = number_of core.id; start = map number_of core.start; tasks = map (task_said plan) core.tasks }
+core_said plan core = record { id = number_of core.id; start = map number_of core.start; tasks = map (task_said plan) core.tasks; resources = map resource_said core.resources }
 
 abbrev pub config_said : Plan → ConfigText
 config_said plan = record { version = Some 1; cap = Some plan.cap; master = number_of plan.master; cores = map (core_said plan) plan.cores }
@@ -71,14 +76,22 @@ module _ (plan : Plan) (modes : are_mode_name plan.modes ≡ true) where
   task-shape : (task : Task) → is_task_expressible task ≡ true → task_shape (task_data plan task) ≡ Some (task_said plan task)
   unfolding task_shape
   task-shape task h =
-      let parts = and_parts (is_name task.name) (list_all is_only_mode task.auto) h in
+      let parts = and_parts (is_name task.name) (list_all is_only_mode task.auto) (and_parts _ (is_script_expressible task.script) h).0 in
       rw (parts.0, each-items name_of (mode_data plan) (name_of_mode plan) is_only_mode mode-shape task.auto parts.1) refl
+
+  resource-shape : (resource : Resource) → is_resource_expressible resource ≡ true → resource_shape (resource_data resource) ≡ Some (resource_said resource)
+  unfolding resource_shape
+  resource-shape resource h = rw h refl
 
   core-shape : (core : Core) → is_core_expressible core ≡ true → core_shape (core_data plan core) ≡ Some (core_said plan core)
   unfolding core_shape
   core-shape core h =
-      let tasks = (core-text-parts core h).tasks in
-      rw (each-items whole_of id_data number_of (λ id. true) (λ id e. refl) core.start (always core.start), each-items task_shape (task_data plan) (task_said plan) is_task_expressible task-shape core.tasks tasks) refl
+      let parts = core-text-parts core h in
+      rw (
+        each-items resource_shape resource_data resource_said is_resource_expressible resource-shape core.resources parts.resources,
+        each-items whole_of id_data number_of (λ id. true) (λ id e. refl) core.start (always core.start),
+        each-items task_shape (task_data plan) (task_said plan) is_task_expressible task-shape core.tasks parts.tasks,
+      ) refl
 
   pub config-shape : list_all is_core_expressible plan.cores ≡ true → config_shape (config_data plan) ≡ Some (config_said plan)
   unfolding config_shape

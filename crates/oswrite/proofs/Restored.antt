@@ -1,43 +1,41 @@
 -- What the text of a configuration means is the configuration.
-use Rattle.std.proofs.Common.{◌≡◌, ℕ, ◌<◌, ◌≤◌, Bool, true, false, ◌&&◌, nat_lt, List, length, map, Option, Some, None, unwrap_or, IsTrue, refl, sym, ap, ◌∙◌, arith}
+use Rattle.std.proofs.Common.{◌≡◌, ℕ, ◌<◌, Bool, true, ◌&&◌, List, map, Option, Some, unwrap_or, IsTrue, refl, sym, ap, ◌∙◌, arith}
 use Rattle.std.specs.List.{list_all, flat_map}
-use Rattle.std.specs.Option.{option_map_or}
 use Rattle.std.proofs.lemmas.Bool.{and_parts, ltb-true, true≢false, eqb-true}
 use Rattle.std.proofs.lemmas.List.Folds.{list_all-map}
-use Rattle.std.proofs.lemmas.Option.{slice_get_within}
 use Rattle.osbase.specs.declared.references.CoreId.{CoreId}
-use Rattle.osbase.specs.declared.objects.ObjectKind.{ObjectKind}
-use Rattle.osbase.specs.declared.objects.Place.{Place}
 use Rattle.osbase.specs.declared.objects.Object.{Object}
 use Rattle.osbase.specs.History.{same_core}
 use Rattle.osbase.specs.Names.{is_name}
 use Rattle.oscript.specs.declared.Op.{Op}
 use Rattle.oscript.specs.declared.Op.TheVariants.{Work}
+use Rattle.oscript.specs.Rows.{is_in_form}
 use Rattle.osforms.specs.Operation.{op_meant}
+use Rattle.osforms.proofs.Joining.{has_none}
 use Rattle.osforms.proofs.Operations.{IsNamed, text-meant, text-none, text-some}
 use Rattle.osplan.specs.declared.plans.Plan.{Plan}
 use Rattle.osplan.specs.declared.plans.Core.{Core}
+use Rattle.osplan.specs.declared.plans.Resource.{Resource}
 use Rattle.osplan.specs.declared.plans.Task.{Task}
 use Rattle.osplan.specs.declared.plans.CoreMode.{CoreMode}
 use Rattle.osplan.specs.declared.plans.CoreMode.TheVariants.{Named, DontCare}
-use Rattle.osplan.specs.View.{core_of}
 use Rattle.osplan.specs.Limits as limits
 use Rattle.osplan.specs.Limits.{task_sizes, core_sizes, number_of, is_start, is_task_within, is_core_within}
 use Rattle.osplan.specs.Expressible as said
-use Rattle.osplan.proofs.Tests.{all-both, all-weaker, find-holds, find-passes}
+use Rattle.osplan.proofs.Tests.{all-both, all-weaker, find-holds}
 use Rattle.osplan.proofs.Distinct.{distinct-back}
 use Rattle.osplan.proofs.Starting.{master-low}
-use Rattle.osplan.proofs.Within.{TextParts, CoreTextParts, limit-parts, text-parts, core-text-parts, core-fits}
+use Rattle.osplan.proofs.Within.{TextParts, CoreTextParts, limit-parts, text-parts, core-text-parts}
 use Rattle.osdraft.specs.declared.declarations.Declaration.{Declaration}
 use Rattle.osdraft.specs.Declarations.{byte_of, number_id, declarations, place_of}
 use Rattle.osdraft.specs.Operation.{operations_of, op_of}
-use Rattle.osdraft.specs.Meaning.{only_mode, task_plan, core_plan, plan_of}
+use Rattle.osdraft.specs.Meaning.{only_mode, task_plan, resource_plan, core_plan, plan_of}
 use Rattle.osplan.specs.Names.{name_of, name_of_mode}
 use Rattle.oswrite.specs.Writing.{op_text, script_text}
 use Rattle.osdraft.proofs.Numbers.{IsByte, byte-small, is-byte, task-bytes, core-bytes, cap-byte, map-back}
 use Rattle.oswrite.proofs.Joining.{parts-pieces}
-use Rattle.oswrite.proofs.Formed.{task_at, names-task, named-form}
-use Rattle.oswrite.proofs.Reshaped.{task_said, core_said, config_said, modes-are, mode-is}
+use Rattle.oswrite.proofs.Formed.{found}
+use Rattle.oswrite.proofs.Reshaped.{task_said, resource_said, core_said, config_said, modes-are, mode-is}
 use Rattle.oswrite.proofs.Placed.{placed}
 
 id-back : (id : CoreId) → IsByte (number_of id) → number_id (number_of id) ≡ id
@@ -47,7 +45,10 @@ mode-back : (mode : CoreMode) → said.is_in_only_mode mode ≡ true → Named o
 mode-back (Named m) h = ap Named (sym (mode-is m h))
 mode-back DontCare h = absurd (true≢false (sym h))
 
--- ---- what each task and each core of a configuration keeps
+-- ---- what each operation, each task and each core of a configuration keeps
+
+abbrev pub is_kept_op : Plan → Op → Bool
+is_kept_op plan op = limits.is_op_known plan op && is_in_form op
 
 abbrev pub is_kept_task : Plan → Task → Bool
 is_kept_task plan task = is_task_within (task_sizes task) && limits.is_task_known plan task && said.is_task_expressible task
@@ -57,7 +58,8 @@ is_kept_core plan core = is_core_within (core_sizes core) && limits.is_core_know
 
 pub record KeptTask (plan : Plan) (task : Task) : Type 0 where
   pub within : is_task_within (task_sizes task) ≡ true
-  pub known : list_all (limits.is_op_known plan) task.script ≡ true
+  pub operations : list_all (is_kept_op plan) task.script ≡ true
+  pub jumps : said.is_jumping_within task.script ≡ true
   pub auto : list_all said.is_only_mode task.auto ≡ true
 
 pub record KeptCore (plan : Plan) (core : Core) : Type 0 where
@@ -69,7 +71,14 @@ pub kept-task : (plan : Plan) (task : Task) → is_kept_task plan task ≡ true 
 kept-task plan task h =
     let sayable = and_parts _ (said.is_task_expressible task) h in
     let within = and_parts (is_task_within (task_sizes task)) (limits.is_task_known plan task) sayable.0 in
-    record { within = within.0; known = (and_parts _ _ within.1).0; auto = (and_parts (is_name task.name) _ sayable.1).1 }
+    let parts = and_parts _ (said.is_script_expressible task.script) sayable.1 in
+    let script = and_parts (list_all is_in_form task.script) (said.is_jumping_within task.script) parts.1 in
+    record {
+      within = within.0;
+      operations = all-both (limits.is_op_known plan) is_in_form task.script (and_parts _ _ within.1).0 script.0;
+      jumps = script.1;
+      auto = (and_parts (is_name task.name) _ parts.0).1;
+    }
 
 pub kept-core : (plan : Plan) (core : Core) → is_kept_core plan core ≡ true → KeptCore plan core
 kept-core plan core h =
@@ -98,45 +107,43 @@ module _ (plan : Plan) (inside : IsTrue (limits.is_within_limits plan)) (sayable
   abbrev parts : TextParts plan
   parts = text-parts plan sayable
 
-  target-back : (target : Place) → limits.is_object plan (task_at target) ≡ true → place_of objects ObjectKind.Task (name_of plan ObjectKind.Task target) ≡ Some target
-  target-back target known =
-      let found = names-task plan target known in
-      let fits = core-fits plan target.core found.0 inside found.2.core_is in
-      let number : found.0.id.number ≡ target.core.number = eqb-true found.0.id.number target.core.number (find-holds (λ (c : Core). same_core c.id target.core) plan.cores found.0 found.2.core_is) in
-      let low : found.0.id.number < 16 = ltb-true found.0.id.number 16 fits.number in
-      let few : length found.0.tasks ≤ 32 = fits.tasks in
-      let index : target.index < length found.0.tasks = slice_get_within found.0.tasks target.index found.1 found.2.task_is in
-      ap (place_of objects ObjectKind.Task) found.2.name_is ∙ placed plan plan.cores target found.0 found.1 (distinct-back plan.modes (flat_map said.object_names plan.cores) parts.names) (omega arith) (omega arith) found.2.core_is found.2.task_is
-
-  -- there is no alarm
-  no-alarm : (target : Place) (o : Option Core) → core_of plan target.core ≡ o → option_map_or (λ (c : Core). nat_lt target.index (length c.alarms)) o false ≡ true → ⊥
-  no-alarm target None found known = true≢false (sym known)
-  no-alarm target (Some core) found known =
-      let none = (core-text-parts core (find-passes (λ (c : Core). same_core c.id target.core) said.is_core_expressible plan.cores core parts.cores found)).alarms in
-      let there : target.index < length core.alarms = ltb-true target.index (length core.alarms) known in
-      let empty : length core.alarms ≡ 0 = ap length none in
-      omega arith
-
   -- Each object of the configuration has a name in form, which stands for it.
   object-named : (object : Object) → limits.is_object plan object ≡ true → IsNamed (place_of objects) (name_of plan) object
-  object-named object known = by object.kind object.place known
-    where
-      by : (kind : ObjectKind) (place : Place) → limits.is_object plan (record { kind = kind; place = place }) ≡ true → IsNamed (place_of objects) (name_of plan) (record { kind = kind; place = place })
-      by ObjectKind.Task place there = record { in_form = named-form plan parts.cores place there; found = target-back place there }
-      by ObjectKind.Alarm place there = absurd (no-alarm place (core_of plan place.core) refl there)
+  object-named object known =
+      let here = found plan inside sayable object known in
+      let core = here.0 in
+      let name = here.1 in
+      let number : core.id.number ≡ object.place.core.number = eqb-true core.id.number object.place.core.number (find-holds (λ (c : Core). same_core c.id object.place.core) plan.cores core here.2.core_is) in
+      let low : core.id.number < 16 = ltb-true core.id.number 16 here.2.fits.number in
+      record {
+        in_form = rw here.2.name_is here.2.named.in_form;
+        found = ap (place_of objects object.kind) here.2.name_is
+            ∙ placed plan plan.cores object.kind object.place core name (distinct-back plan.modes (flat_map said.object_names plan.cores) parts.names) (omega arith) here.2.named.low here.2.core_is here.2.named.declared;
+      }
 
-  pub op-meant : (op : Op) → limits.is_op_known plan op ≡ true → op_meant (place_of objects) (op_text plan op) ≡ Some op
-  op-meant = text-meant (place_of objects) (name_of plan) (limits.is_object plan) object-named
+  pub op-meant : (op : Op) → is_kept_op plan op ≡ true → op_meant (place_of objects) (op_text plan op) ≡ Some op
+  op-meant op h =
+      let parts = and_parts (limits.is_op_known plan op) (is_in_form op) h in
+      text-meant (place_of objects) (name_of plan) (limits.is_object plan) object-named op parts.1 parts.0
 
-  op-back : (op : Op) → limits.is_op_known plan op ≡ true → op_of objects (op_text plan op) ≡ op
+  op-none : (op : Op) → is_kept_op plan op ≡ true → has_none 59 (op_text plan op) ≡ true
+  op-none op h =
+      let parts = and_parts (limits.is_op_known plan op) (is_in_form op) h in
+      text-none (place_of objects) (name_of plan) (limits.is_object plan) object-named 59 (record { digit = refl; part = refl; minus = refl; invalid = refl; letter = refl }) refl op parts.1 parts.0
+
+  op-back : (op : Op) → is_kept_op plan op ≡ true → op_of objects (op_text plan op) ≡ op
   op-back op known = ap (λ o. unwrap_or o Work) (op-meant op known)
 
   -- a script's text has the texts of its operations
-  pub script-back : (script : List Op) → list_all (limits.is_op_known plan) script ≡ true → operations_of (script_text plan script) ≡ map (op_text plan) script
+  pub script-back : (script : List Op) → list_all (is_kept_op plan) script ≡ true → operations_of (script_text plan script) ≡ map (op_text plan) script
   script-back script known =
       parts-pieces (op_text plan) 59 script refl
-      (all-weaker (limits.is_op_known plan) _ (text-none (place_of objects) (name_of plan) (limits.is_object plan) object-named 59 (record { digit = refl; part = refl; minus = refl; invalid = refl; letter = refl }) refl) script known)
-      (all-weaker (limits.is_op_known plan) _ (λ op h. text-some (name_of plan) op) script known)
+      (all-weaker (is_kept_op plan) _ op-none script known)
+      (all-weaker (is_kept_op plan) _ (λ op h. text-some (name_of plan) op) script known)
+
+  -- and means them
+  pub ops-back : (script : List Op) → list_all (is_kept_op plan) script ≡ true → map (op_of objects) (map (op_text plan) script) ≡ script
+  ops-back script known = map-back (op_of objects) (op_text plan) (is_kept_op plan) op-back script known
 
   task-back : (task : Task) → is_kept_task plan task ≡ true → task_plan objects (task_said plan task) ≡ task
   task-back task h =
@@ -148,9 +155,12 @@ module _ (plan : Plan) (inside : IsTrue (limits.is_within_limits plan)) (sayable
         priority,
         activations,
         map-back (λ (name : List ℕ). only_mode) (name_of_mode plan) said.is_only_mode (λ m e. sym (mode-is m e)) task.auto kept.auto,
-        script-back task.script kept.known,
-        map-back (op_of objects) (op_text plan) (limits.is_op_known plan) op-back task.script kept.known,
+        script-back task.script kept.operations,
+        ops-back task.script kept.operations,
       ) refl
+
+  resource-back : (resource : Resource) → limits.is_ceiling (limits.ceiling_of resource) ≡ true → resource_plan (resource_said resource) ≡ resource
+  resource-back resource h = ap (λ (number : Option ℕ). let r : Resource = record { name = resource.name; ceiling = unwrap_or number 0 } in r) (is-byte _ _ (limits.ceiling_of resource) h (omega arith))
 
   core-back : (core : Core) → is_kept_core plan core ≡ true → core_plan objects (core_said plan core) ≡ core
   core-back core h =
@@ -161,6 +171,7 @@ module _ (plan : Plan) (inside : IsTrue (limits.is_within_limits plan)) (sayable
         mode-back core.mode kept.said.mode,
         map-back number_id number_of (λ id. is_start (number_of id)) (λ id e. id-back id (is-byte _ _ (number_of id) e (omega arith))) core.start (sym (list_all-map is_start number_of core.start) ∙ bytes.1),
         map-back (task_plan objects) (task_said plan) (is_kept_task plan) task-back core.tasks kept.tasks,
+        map-back resource_plan resource_said (λ (resource : Resource). limits.is_ceiling (limits.ceiling_of resource)) resource-back core.resources (sym (list_all-map limits.is_ceiling limits.ceiling_of core.resources) ∙ bytes.3),
         kept.said.isrs,
         kept.said.alarms,
         kept.said.tables,

@@ -1,7 +1,7 @@
 -- The JSON data that a configuration is written as: every member, in ascending order of names. [own]
 use Rattle.std.specs.Prelude.{ℕ, List, map, codes}
 use Rattle.std.specs.List.{join_by}
-use Rattle.serde_json.specs.Data.{unsigned, Data, number, string, array, object, no_members, member}
+use Rattle.serde_json.specs.Data.{unsigned, Data, boolean, number, string, array, object, no_members, member}
 use Rattle.serde_json.specs.View.{items_of}
 use Rattle.serde_json.specs.Written.{compact_text}
 use Rattle.osbase.specs.declared.references.CoreId.{CoreId}
@@ -10,6 +10,7 @@ use Rattle.oscript.specs.declared.Op.{Op}
 use Rattle.osforms.specs.Operation as forms
 use Rattle.osplan.specs.declared.plans.Plan.{Plan}
 use Rattle.osplan.specs.declared.plans.Core.{Core}
+use Rattle.osplan.specs.declared.plans.Resource.{Resource}
 use Rattle.osplan.specs.declared.plans.Task.{Task}
 use Rattle.osplan.specs.Names.{name_of_mode, name_of}
 
@@ -37,21 +38,29 @@ id_data id = whole_data id.number
 abbrev pub mode_data : Plan → ModeId → Data
 mode_data plan mode = string (name_of_mode plan mode)
 
--- A task: its activation limit, the modes of its autostart, its name, priority and script.
+-- A task: its activation limit, the modes of its autostart, its name, whether it can be preempted, its priority and script.
 abbrev pub task_data : Plan → Task → Data
 task_data plan task = object
     (member (codes "activations") (whole_data task.activations)
     (member (codes "auto") (list_data (mode_data plan) task.auto)
     (member (codes "name") (string task.name)
+    (member (codes "preemptable") (boolean task.preemptable)
     (member (codes "prio") (whole_data task.priority)
-    (member (codes "script") (string (script_text plan task.script)) no_members)))))
+    (member (codes "script") (string (script_text plan task.script)) no_members))))))
 
--- A core: its number, the cores that it starts, and its tasks.
+-- A resource: its ceiling and name.
+abbrev pub resource_data : Resource → Data
+resource_data resource = object
+    (member (codes "ceiling") (whole_data resource.ceiling)
+    (member (codes "name") (string resource.name) no_members))
+
+-- A core: its number, its resources, the cores that it starts, and its tasks.
 abbrev pub core_data : Plan → Core → Data
 core_data plan core = object
     (member (codes "id") (id_data core.id)
+    (member (codes "resources") (list_data resource_data core.resources)
     (member (codes "start") (list_data id_data core.start)
-    (member (codes "tasks") (list_data (task_data plan) core.tasks) no_members)))
+    (member (codes "tasks") (list_data (task_data plan) core.tasks) no_members))))
 
 -- A configuration: the size of a mailbox, its cores, the master core and the version, 1.
 abbrev pub config_data : Plan → Data

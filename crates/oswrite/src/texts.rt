@@ -4,12 +4,12 @@ ghost use Rattle.std.specs.Prelude.{◌≡◌, IfOk, Some, string_bytes};
 ghost use Rattle.serde_json.specs.Data.{Data};
 ghost use Rattle.serde_json.specs.View.{view};
 ghost use Rattle.osdraft.specs.Meaning.{config_of};
-ghost use Rattle.oswrite.specs.Writing.{script_text, id_data, mode_data, list_data, task_data, core_data, config_data, config_text};
+ghost use Rattle.oswrite.specs.Writing.{script_text, id_data, mode_data, list_data, resource_data, task_data, core_data, config_data, config_text};
 
 use osbase::{CoreId, ModeId, ObjectKind, Place};
 use oscript::Op;
 use osforms::{Names, op_text};
-use osplan::{Config, Core, Plan, Task};
+use osplan::{Config, Core, Plan, Resource, Task};
 use serde_json::{Value, json};
 use std::alloc::{AllocError, Global};
 
@@ -87,8 +87,20 @@ impl Writer<Task> for PlanWriter<'_> {
             "activations": u64::from(task.activations),
             "auto": auto,
             "name": task.name.as_str(),
+            "preemptable": task.preemptable,
             "prio": u64::from(task.priority),
             "script": script
+        })
+    }
+}
+
+impl Writer<Resource> for PlanWriter<'_> {
+    ghost written = { λ _. resource_data };
+
+    fn value(&self, alloc: Global, resource: &Resource) -> Result<Value, AllocError> {
+        json!(in alloc; {
+            "ceiling": u64::from(resource.ceiling),
+            "name": resource.name.as_str()
         })
     }
 }
@@ -97,10 +109,12 @@ impl Writer<Core> for PlanWriter<'_> {
     ghost written = { λ writer. core_data writer.plan.now };
 
     fn value(&self, alloc: Global, core: &Core) -> Result<Value, AllocError> {
+        let resources = list_value(alloc, self, core.resources.as_slice())?;
         let start = list_value(alloc, self, core.start.as_slice())?;
         let tasks = list_value(alloc, self, core.tasks.as_slice())?;
         json!(in alloc; {
             "id": u64::from(core.id.number),
+            "resources": resources,
             "start": start,
             "tasks": tasks
         })

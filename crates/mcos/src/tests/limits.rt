@@ -7,6 +7,9 @@ use std::test::Fail;
 
 const CORES: u8 = 8;
 
+/// The tasks of a core, each with two jobs at once.
+const TASKS: u8 = 32;
+
 /// The operations of a script.
 const OPERATIONS: u32 = 256;
 
@@ -22,20 +25,39 @@ fn repeated(alloc: Global, text: &str, count: u32) -> Result<String, AllocError>
     Ok(all)
 }
 
-// A name of 128 letters, another one for each core.
-fn name_of(alloc: Global, core: u8) -> Result<String, AllocError> {
-    let mut name = repeated(alloc, "N", 127)?;
-    name.push_str(format!(in alloc; "{core}")?.as_str())?;
+// A name of 128 characters, another one for each task of each core.
+fn name_of(alloc: Global, core: u8, task: u8) -> Result<String, AllocError> {
+    let mut name = repeated(alloc, "N", 124)?;
+    name.push_str(format!(in alloc; "_{core}{task:02}")?.as_str())?;
     Ok(name)
 }
 
-// Eight cores, all started by the first, each with the longest name and the longest script.
+// A core's tasks, with the longest names and the longest scripts. The first one starts by itself.
+fn tasks_of(alloc: Global, core: u8, script: &str) -> Result<String, AllocError> {
+    let mut tasks = String::new(alloc);
+    for task in 0..TASKS {
+        let separator = if task == 0 { "" } else { "," };
+        let auto = if task == 0 { r#""M""# } else { "" };
+        let name = name_of(alloc, core, task)?;
+        tasks.push_str(separator)?;
+        tasks.push_str(r#"{"name":""#)?;
+        tasks.push_str(name.as_str())?;
+        tasks.push_str(r#"","prio":31,"activations":2,"auto":["#)?;
+        tasks.push_str(auto)?;
+        tasks.push_str(r#"],"script":""#)?;
+        tasks.push_str(script)?;
+        tasks.push_str(r#"TerminateTask"}"#)?;
+    }
+    Ok(tasks)
+}
+
+// Eight cores, all started by the first.
 fn largest_config(alloc: Global) -> Result<String, AllocError> {
     let script = repeated(alloc, "work;", OPERATIONS - 1)?;
     let mut text = String::from_str(alloc, r#"{"version":1,"cap":16,"master":0,"cores":["#)?;
     for core in 0..CORES {
         let start = if core == 0 { "1,2,3,4,5,6,7" } else { "" };
-        let name = name_of(alloc, core)?;
+        let tasks = tasks_of(alloc, core, script.as_str())?;
         let separator = if core == 0 { "" } else { "," };
         let id = format!(in alloc; "{core}")?;
         text.push_str(separator)?;
@@ -43,11 +65,9 @@ fn largest_config(alloc: Global) -> Result<String, AllocError> {
         text.push_str(id.as_str())?;
         text.push_str(r#","start":["#)?;
         text.push_str(start)?;
-        text.push_str(r#"],"tasks":[{"name":""#)?;
-        text.push_str(name.as_str())?;
-        text.push_str(r#"","prio":31,"activations":64,"auto":["M"],"script":""#)?;
-        text.push_str(script.as_str())?;
-        text.push_str(r#"TerminateTask"}]}"#)?;
+        text.push_str(r#"],"tasks":["#)?;
+        text.push_str(tasks.as_str())?;
+        text.push_str("]}")?;
     }
     text.push_str("]}")?;
     Ok(text)
@@ -87,11 +107,11 @@ fn served_by(alloc: Global, core: u8) -> Result<String, AllocError> {
     Ok(served)
 }
 
-// What each core prints: its task runs once.
+// What each core prints: its first task runs once.
 fn trace(alloc: Global) -> Result<String, AllocError> {
     let mut text = String::new(alloc);
     for core in 0..CORES {
-        let name = name_of(alloc, core)?;
+        let name = name_of(alloc, core, 0)?;
         let starts = if core == 0 {
             starts(alloc)?
         } else {

@@ -124,6 +124,14 @@ fn an_object_of_another_shape(rt: HostRuntime) -> Result<(), Fail> {
         r#"{"cores":[{"id":0,"tasks":[{"name":"A","prio":1}]}]}"#,
         r#"{"cores":[{"id":0,"tasks":[{"name":"A","prio":1,"script":"","id":0}]}]}"#,
         r#"{"cores":[{"id":0,"tasks":[{"name":"A","prio":1,"script":""},null]}]}"#,
+        r#"{"cores":[{"id":0,"resources":[{}]}]}"#,
+        r#"{"cores":[{"id":0,"resources":[[]]}]}"#,
+        r#"{"cores":[{"id":0,"resources":["R"]}]}"#,
+        r#"{"cores":[{"id":0,"resources":[{"ceiling":1}]}]}"#,
+        r#"{"cores":[{"id":0,"resources":[{"name":"R"}]}]}"#,
+        r#"{"cores":[{"id":0,"resources":[{"name":"R","ceiling":1,"prio":1}]}]}"#,
+        r#"{"cores":[{"id":0,"resources":[{"name":"R","ceiling":1},null]}]}"#,
+        r#"{"cores":[{"id":0}],"resources":[]}"#,
     ];
     for text in texts {
         assert_eq!(rt;
@@ -163,6 +171,7 @@ fn a_member_that_is_no_whole_number(rt: HostRuntime) -> Result<(), Fail> {
         r#"{"cores":[{"id":0,"start":[@]}]}"#,
         r#"{"cores":[{"id":0,"tasks":[{"name":"A","prio":@,"script":""}]}]}"#,
         r#"{"cores":[{"id":0,"tasks":[{"name":"A","prio":1,"activations":@,"script":""}]}]}"#,
+        r#"{"cores":[{"id":0,"resources":[{"name":"R","ceiling":@}]}]}"#,
     ] {
         answers(&rt, rt.alloc(), text, &values, Some(ConfFault::Shape))?;
     }
@@ -176,6 +185,7 @@ fn a_member_that_is_no_list(rt: HostRuntime) -> Result<(), Fail> {
         r#"{"cores":@}"#,
         r#"{"cores":[{"id":0,"start":@}]}"#,
         r#"{"cores":[{"id":0,"tasks":@}]}"#,
+        r#"{"cores":[{"id":0,"resources":@}]}"#,
         r#"{"cores":[{"id":0,"tasks":[{"name":"A","prio":1,"auto":@,"script":""}]}]}"#,
     ] {
         answers(&rt, rt.alloc(), text, &values, Some(ConfFault::Shape))?;
@@ -188,10 +198,20 @@ fn a_member_that_is_no_text(rt: HostRuntime) -> Result<(), Fail> {
     let values = ["null", "true", "0", "[]", "[\"A\"]", "{}"];
     for text in [
         r#"{"cores":[{"id":0,"tasks":[{"name":@,"prio":1,"script":""}]}]}"#,
+        r#"{"cores":[{"id":0,"resources":[{"name":@,"ceiling":1}]}]}"#,
         r#"{"cores":[{"id":0,"tasks":[{"name":"A","prio":1,"auto":[@],"script":""}]}]}"#,
         r#"{"cores":[{"id":0,"tasks":[{"name":"A","prio":1,"script":@}]}]}"#,
     ] {
         answers(&rt, rt.alloc(), text, &values, Some(ConfFault::Shape))?;
     }
     Ok(())
+}
+
+#[test]
+fn a_member_that_is_no_truth_value(rt: HostRuntime) -> Result<(), Fail> {
+    let values = ["null", "1", "0", "\"true\"", "\"\"", "[]", "[true]", "{}"];
+    let text =
+        r#"{"cores":[{"id":0,"tasks":[{"name":"A","prio":1,"preemptable":@,"script":""}]}]}"#;
+    answers(&rt, rt.alloc(), text, &values, Some(ConfFault::Shape))?;
+    answers(&rt, rt.alloc(), text, &["true", "false"], None)
 }

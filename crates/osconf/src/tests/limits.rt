@@ -2,6 +2,7 @@
 
 use super::{answers, repeated};
 use crate::{ConfFault, read_config};
+use std::alloc::{AllocError, Global};
 use std::test::Fail;
 
 // A member's lowest and highest numbers, between what is just outside.
@@ -25,6 +26,10 @@ fn each_number_has_its_limits(rt: HostRuntime) -> Result<(), Fail> {
         (
             r#"{"cores":[{"id":0,"tasks":[{"name":"A","prio":1,"activations":@,"script":""}]}]}"#,
             ["0", "1", "64", "65"],
+        ),
+        (
+            r#"{"cores":[{"id":0,"resources":[{"name":"R","ceiling":@}]}]}"#,
+            ["-1", "0", "31", "32"],
         ),
     ];
     let far = [
@@ -86,11 +91,71 @@ fn how_many_cores_and_tasks(rt: HostRuntime) -> Result<(), Fail> {
         r#"{"id":0},{"id":1},{"id":2},{"id":3},{"id":4},{"id":5},{"id":6},{"id":7},{"id":0}"#;
     answers(&rt, rt.alloc(), cores, &["{\"id\":0}", eight], None)?;
     answers(&rt, rt.alloc(), cores, &["", nine], Some(ConfFault::Limit))?;
-    let tasks = r#"{"cores":[{"id":0,"tasks":[@]}]}"#;
-    let one = r#"{"name":"A","prio":1,"script":""}"#;
-    let two = r#"{"name":"A","prio":1,"script":""},{"name":"B","prio":1,"script":""}"#;
-    answers(&rt, rt.alloc(), tasks, &["", one], None)?;
-    answers(&rt, rt.alloc(), tasks, &[two], Some(ConfFault::Limit))
+    let tasks =
+        r#"{"cores":[{"id":0,"tasks":[@]},{"id":1,"tasks":[{"name":"A","prio":1,"script":""}]}]}"#;
+    for (count, fault) in [
+        (0, None),
+        (1, None),
+        (2, None),
+        (32, None),
+        (33, Some(ConfFault::Limit)),
+        (300, Some(ConfFault::Limit)),
+    ] {
+        let listed = tasks_of(rt.alloc(), count, 1)?;
+        answers(&rt, rt.alloc(), tasks, &[listed.as_str()], fault)?;
+    }
+    Ok(())
+}
+
+// So many tasks, of which each may have so many jobs.
+fn tasks_of(alloc: Global, count: u32, activations: u32) -> Result<String, AllocError> {
+    let mut tasks = String::new(alloc);
+    for index in 0..count {
+        let separator = if index == 0 { "" } else { "," };
+        let task = format!(in alloc;
+            "{separator}{{\"name\":\"T{index}\",\"prio\":1,\"activations\":{activations},\"script\":\"\"}}"
+        )?;
+        tasks.push_str(task.as_str())?;
+    }
+    Ok(tasks)
+}
+
+// The jobs of all a core's tasks are at most 64 at once; other cores have 64 of their own.
+#[test]
+fn how_many_jobs(rt: HostRuntime) -> Result<(), Fail> {
+    let text =
+        r#"{"cores":[{"id":0,"tasks":[@]},{"id":1,"tasks":[{"name":"A","prio":1,"activations":64,"script":""}]}]}"#;
+    for (count, activations, fault) in [
+        (1, 64, None),
+        (2, 32, None),
+        (2, 33, Some(ConfFault::Limit)),
+        (2, 64, Some(ConfFault::Limit)),
+        (32, 2, None),
+        (32, 3, Some(ConfFault::Limit)),
+        (32, 64, Some(ConfFault::Limit)),
+    ] {
+        let tasks = tasks_of(rt.alloc(), count, activations)?;
+        answers(&rt, rt.alloc(), text, &[tasks.as_str()], fault)?;
+    }
+    let two =
+        r#"{"cores":[{"id":0,"tasks":[{"name":"A","prio":1,"activations":63,"script":""},{"name":"B","prio":1,"activations":@,"script":""}]}]}"#;
+    answers(&rt, rt.alloc(), two, &["1"], None)?;
+    let more = ["0", "2", "-1", "65", "18446744073709551553"];
+    answers(&rt, rt.alloc(), two, &more, Some(ConfFault::Limit))?;
+    // By default a task has one job at once.
+    let default =
+        r#"{"cores":[{"id":0,"tasks":[{"name":"A","prio":1,"script":""},{"name":"B","prio":1,"activations":@,"script":""}]}]}"#;
+    answers(&rt, rt.alloc(), default, &["63"], None)?;
+    answers(&rt, rt.alloc(), default, &["64"], Some(ConfFault::Limit))
+}
+
+// Each task of a core has its own limits.
+#[test]
+fn the_numbers_of_a_later_task(rt: HostRuntime) -> Result<(), Fail> {
+    let text =
+        r#"{"cores":[{"id":0,"tasks":[{"name":"A","prio":31,"script":""},{"name":"B","prio":@,"script":""}]}]}"#;
+    answers(&rt, rt.alloc(), text, &["0", "31"], None)?;
+    answers(&rt, rt.alloc(), text, &["-1", "32"], Some(ConfFault::Limit))
 }
 
 #[test]

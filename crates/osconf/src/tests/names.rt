@@ -1,8 +1,9 @@
 //! Names: their form, and what stands twice.
 
-use super::{answers, repeated};
+use super::{answers, filled, repeated};
 use crate::{ConfFault, read_config};
 use osbase::CoreId;
+use oscript::Op;
 use std::test::Fail;
 
 #[test]
@@ -181,15 +182,46 @@ fn names_and_numbers_that_stand_twice(rt: HostRuntime) -> Result<(), Fail> {
         &["0", "1", "2"],
         Some(ConfFault::DuplicateName),
     )?;
-    let tasks =
-        r#"{"cores":[{"id":0,"tasks":[{"name":"A","prio":1,"script":""}]},{"id":1},{"id":2,"tasks":[{"name":"@","prio":1,"script":""}]}]}"#;
-    answers(&rt, rt.alloc(), tasks, &["a", "AA", "m", "MM"], None)?;
-    // A task's name is no other task's, and not the mode's.
-    answers(
-        &rt,
-        rt.alloc(),
-        tasks,
-        &["A", "\\u0041", "M"],
-        Some(ConfFault::DuplicateName),
-    )
+    // A task's name is no other task's, on its core or on another one, and not the mode's.
+    for tasks in [
+        r#"{"cores":[{"id":0,"tasks":[{"name":"A","prio":1,"script":""}]},{"id":1},{"id":2,"tasks":[{"name":"@","prio":1,"script":""}]}]}"#,
+        r#"{"cores":[{"id":0,"tasks":[{"name":"A","prio":1,"script":""},{"name":"B","prio":1,"script":""},{"name":"@","prio":1,"script":""}]}]}"#,
+    ] {
+        answers(&rt, rt.alloc(), tasks, &["a", "AA", "m", "MM"], None)?;
+        answers(
+            &rt,
+            rt.alloc(),
+            tasks,
+            &["A", "\\u0041", "M"],
+            Some(ConfFault::DuplicateName),
+        )?;
+    }
+    Ok(())
+}
+
+// A task is found by its name, wherever it stands among its core's.
+#[test]
+fn a_name_among_many(rt: HostRuntime) -> Result<(), Fail> {
+    let text =
+        r#"{"cores":[{"id":3,"tasks":[{"name":"A","prio":1,"script":"ActivateTask @"},{"name":"B","prio":1,"script":""}]},{"id":1,"tasks":[{"name":"C","prio":1,"script":""},{"name":"D","prio":1,"script":""},{"name":"E","prio":1,"script":""}]}],"master":3}"#;
+    let places = [
+        ("A", (3, 0)),
+        ("B", (3, 1)),
+        ("C", (1, 0)),
+        ("D", (1, 1)),
+        ("E", (1, 2)),
+    ];
+    for (name, place) in places {
+        let filled = filled(rt.alloc(), text, name)?;
+        let config = read_config(rt.alloc(), filled.as_str())?;
+        let core = config.plan().core(CoreId { number: 3 }).ok_or("core 3")?;
+        let task = core.tasks.as_slice().first().ok_or("task A")?;
+        match task.script.as_slice().first().ok_or("an operation")? {
+            Op::ActivateTask(Some(target)) => {
+                assert_eq!(rt; (target.core.number, target.index), place, "{name}");
+            }
+            _ => assert!(rt; false, "{name}"),
+        }
+    }
+    answers(&rt, rt.alloc(), text, &["F"], Some(ConfFault::UnknownName))
 }

@@ -28,6 +28,7 @@ fn task(alloc: Global, name: &str) -> Result<Task, AllocError> {
         priority: 1,
         auto: List::new(alloc),
         activations: 1,
+        preemptable: true,
         script: List::new(alloc),
     })
 }
@@ -40,6 +41,7 @@ fn core(alloc: Global, number: u8, only: Task) -> Result<Core, AllocError> {
         mode: CoreMode::Named(ModeId { index: 0 }),
         start: List::new(alloc),
         tasks,
+        resources: List::new(alloc),
         isrs: List::new(alloc),
         alarms: List::new(alloc),
         tables: List::new(alloc),
@@ -106,6 +108,7 @@ pub fn bare_config(alloc: Global) -> Result<Config, AllocError> {
         mode: CoreMode::Named(ModeId { index: 0 }),
         start: List::new(alloc),
         tasks: List::new(alloc),
+        resources: List::new(alloc),
         isrs: List::new(alloc),
         alarms: List::new(alloc),
         tables: List::new(alloc),

@@ -10,7 +10,7 @@ returns g c =
     let files = same _ _ c.print_from-result.ensures.known in
     record {
       result = c.print_from-result.result;
-      printed = record { comes = rw files at c.print_from-result.ensures.comes; asked = rw files at c.print_from-result.ensures.asked };
+      printed = rw files at c.print_from-result.ensures.printed;
       tells = c.tell.ensures.told;
       status_is = c.tell.ensures.status;
     }

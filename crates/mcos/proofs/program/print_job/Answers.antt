@@ -16,7 +16,7 @@ returns g c =
     let none : length c.new.result.files.items ≡ 0 = ap length c.new.ensures.files in
     record {
       files = c.print_from.new.source.files.items;
-      prints = record { comes = c.print_from.ensures.comes; asked = rw count at c.print_from.ensures.asked };
+      prints = rw count at c.print_from.ensures.printed;
       stops = rw none at c.print_from.ensures.stops;
       named = omega (arith, none, c.print_from.ensures.named);
     }

@@ -1,11 +1,13 @@
-use Rattle.std.proofs.Common.{◌≡◌, true, Option, Some, None, IfSome, IsTrue, option_map, rules, subst, sym}
+use Rattle.std.proofs.Common.{◌≡◌, true, Option, Some, None, IfSome, IsTrue, option_map, refl, rules, subst, sym, lit≤, SFits, w64}
 use Rattle.std.proofs.lemmas.Bool.{and_parts}
+use Rattle.std.proofs.lemmas.Int.{to_z-of_z}
 use Rattle.osbase.specs.declared.references.TaskRef.{TaskRef}
 use Rattle.osbase.specs.declared.messages.RemoteCall.{RemoteCall}
 use Rattle.osbase.specs.declared.messages.RemoteCall.TheVariants as Remote
 use Rattle.oscript.specs.declared.Op.{Op}
 use Rattle.osplan.specs.declared.plans.Core.{Core}
 use Rattle.osstate.specs.Sound.{has_objects_of}
+use Rattle.osstate.proofs.Effecting.{as_effect}
 use Rattle.oscall.specs.Border.{is_known_call}
 use Rattle.oscall.proofs.operations.operate.Goals as goal
 
@@ -17,3 +19,13 @@ pub call-requires : goal.call-requires
 call-requires g c =
     let named : has_objects_of c.args.state.now.view.own (Op.ActivateTask c.in-ActivateTask.target) ≡ true = subst (λ (op : Op). has_objects_of c.args.state.now.view.own op ≡ true) c.in-ActivateTask.is c.requires.known in
     (search rules, (search rules, (subst (λ (o : Option RemoteCall). IfSome o (λ call. IsTrue (is_known_call c.args.state.now.view.own call))) (sym c.activation_of-target.ensures) (known c.args.state.now.view.own c.in-ActivateTask.target named), search rules)))
+
+pub returns-in-Set : goal.returns-in-Set
+returns-in-Set g c =
+    let number : SFits w64 c.in-Set.number = search rules in
+    rw c.in-Set.is (as_effect (λ v h stands. refl) (lit≤ tt) (lit≤ tt) (simp to_z-of_z at c.set.ensures))
+
+pub returns-in-Add : goal.returns-in-Add
+returns-in-Add g c =
+    let number : SFits w64 c.in-Add.number = search rules in
+    rw c.in-Add.is (as_effect (λ v h stands. refl) (lit≤ tt) (lit≤ tt) (simp to_z-of_z at c.add.ensures))

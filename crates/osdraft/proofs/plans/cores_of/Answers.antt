@@ -4,4 +4,4 @@ use Rattle.osdraft.proofs.Known.{each_if}
 use Rattle.osdraft.proofs.plans.cores_of.Goals as goal
 
 pub returns : goal.returns
-returns c = rw (← each_if (is_core_known c.args.objects.now.declared) is_core_script (core_plan c.args.objects.now.declared) c.args.cores.now) c.read_each.ensures.shape
+returns c = rw (← each_if (is_core_known c.args.objects.now.declared) (is_core_script c.args.objects.now.declared) (core_plan c.args.objects.now.declared) c.args.cores.now) c.read_each.ensures.shape

@@ -5,7 +5,7 @@ use Rattle.osstate.specs.Readings.{running}
 use Rattle.osstate.specs.State.{KernelState}
 use Rattle.osstate.proofs.Effecting.{as_effect}
 use Rattle.osstate.proofs.ReadLemmas.{read}
-use Rattle.oskernel.specs.Step.{same_job}
+use Rattle.osbase.specs.History.{same_job}
 use Rattle.oskernel.proofs.effects.go_to.Goals as goal
 
 pub returns-then-not-is_running : goal.returns-then-not-is_running

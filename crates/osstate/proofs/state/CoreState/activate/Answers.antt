@@ -10,13 +10,13 @@ use Rattle.osstate.proofs.Effecting.{printing}
 use Rattle.osstate.proofs.Histories.{printed}
 use Rattle.osstate.proofs.state.CoreState.activate.Goals as goal
 
-pub push-requires : goal.push-requires
-push-requires g c =
+pub activate-requires : goal.activate-requires
+activate-requires g c =
     (search rules, place g.row.P g.row.J c.args.task _ c.self.invariant (subst (λ (s : KernelState). job_count (Runner.Task c.args.task) s.tasks.jobs < activation_limit s.view.own (Runner.Task c.args.task)) (sym c.self.view_is) c.requires.limit))
 
 pub invariant_of-self : goal.invariant_of-self
 invariant_of-self g c =
-    rw c.push.ensures.items (activated g.row.P g.row.J c.args.task _ c.self.invariant
+    rw c.activate.ensures (activated g.row.P g.row.J c.args.task _ c.self.invariant
     (subst (λ (s : KernelState). job_count (Runner.Task c.args.task) s.tasks.jobs < activation_limit s.view.own (Runner.Task c.args.task)) (sym c.self.view_is) c.requires.limit)
     (subst (λ (s : KernelState). is_before_live s.progress.phase ≡ false) (sym c.self.view_is) c.requires.live))
 

@@ -1,6 +1,6 @@
 use Rattle.std.proofs.Common.{◌≡◌, true, rules, subst}
 use Rattle.osplan.specs.View.{View}
-use Rattle.osstate.specs.Sound.{is_own_runner}
+use Rattle.osjobs.specs.Priorities.{is_own_runner}
 use Rattle.osstate.proofs.Effecting.{noting}
 use Rattle.osstate.proofs.Histories.{done}
 use Rattle.osstate.proofs.state.CoreState.complete.Goals as goal

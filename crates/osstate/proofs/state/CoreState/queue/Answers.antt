@@ -10,6 +10,7 @@ invariant_of-self g c = rw c.count_one.ensures (record {
   bounded = c.self.invariant.bounded;
   limits = c.self.invariant.limits;
   some = c.self.invariant.some;
+  resources = c.self.invariant.resources;
   scripts = c.self.invariant.scripts;
   jobs = c.self.invariant.jobs;
   idle = c.self.invariant.idle;

@@ -9,7 +9,7 @@ use Rattle.osstate.proofs.state.CoreState.take_item.Goals as goal
 
 pub invariant_of-self : goal.invariant_of-self
 invariant_of-self g c =
-    rw (c.take_item.ensures, c.receive_by.ensures) (taken g.row.P g.row.J c.args.item.now _ _ c.self.invariant
+    rw (c.take_item.ensures, c.take_item-2.ensures, c.receive_by.ensures) (taken g.row.P g.row.J c.args.item.now _ _ c.self.invariant
     (subst (λ (s : KernelState). is_before_live (phase_on c.args.item.now s.progress.phase) ≡ true → is_before_live s.progress.phase ≡ true) (sym c.self.view_is) c.requires.forward)
     (subst (λ (s : KernelState). is_past_first_gate (phase_on c.args.item.now s.progress.phase) ≡ true → (is_first_gate c.args.item.now || is_past_first_gate s.progress.phase) ≡ true) (sym c.self.view_is) c.requires.onward))
 

@@ -1,0 +1,12 @@
+-- A list of jobs without the first one of a runner.
+use Rattle.std.proofs.Common.{◌≡◌, ℕ, suc, ◌<◌, true, List, ◌∷◌, ◌++◌, ap, sym, ◌∙◌, length, take, drop, get_or, drop-cons}
+use Rattle.std.specs.List.{remove}
+use Rattle.osbase.specs.declared.references.Runner.{Runner}
+use Rattle.osbase.specs.declared.histories.Job.{Job}
+use Rattle.osbase.specs.History.{same_runner, without_oldest}
+
+-- the first job of the runner taken out by its place
+pub remove_first : (r : Runner) (js : List Job) (i : ℕ) (x : Job) → i < length js → x ≡ get_or js i x → same_runner x.runner r ≡ true → without_oldest r js ≡ take i js ++ without_oldest r (drop i js) → remove js i ≡ without_oldest r js
+remove_first r js i x h e same first =
+    let rest : drop i js ≡ x ∷ drop (suc i) js = drop-cons js i x h ∙ ap (λ (y : Job). y ∷ drop (suc i) js) (sym e) in
+    sym (first ∙ ap (λ (ds : List Job). take i js ++ without_oldest r ds) rest ∙ rw same)

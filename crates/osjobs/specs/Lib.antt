@@ -1,0 +1,2 @@
+pub mod Priorities
+pub mod Jobs

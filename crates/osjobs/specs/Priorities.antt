@@ -1,0 +1,58 @@
+-- A job's priority, and what it comes from: its task, the resources that are held, and whether the job is raised.
+use Rattle.std.specs.Prelude.{ℕ, ◌==◌, ◌||◌, Bool, true, false, if◌then◌else◌, Option, Some, None, is_some, List, [], ◌∷◌}
+use Rattle.std.specs.Option.{option_map_or}
+use Rattle.osbase.specs.declared.references.Runner.{Runner}
+use Rattle.osbase.specs.declared.histories.Job.{Job}
+use Rattle.osbase.specs.declared.histories.HeldResource.{HeldResource}
+use Rattle.osbase.specs.History.{same_job, same_runner, greater, greatest_ceiling}
+use Rattle.osplan.specs.declared.plans.Core.{Core}
+use Rattle.osplan.specs.declared.plans.Task.{Task}
+use Rattle.osplan.specs.View.{own_task}
+use Rattle.osres.specs.Resources.{held_at}
+
+-- The runner is one of the core's own tasks.
+abbrev pub is_own_runner : Core → Runner → Bool
+is_own_runner core (Runner.Task t) = is_some (own_task core t)
+is_own_runner core (Runner.Isr i) = false
+
+-- The static priority of a runner. [OSEK/VDX OS 2.2.3, section 4.5]
+abbrev pub static_priority : Core → Runner → ℕ
+static_priority core (Runner.Task t) = option_map_or (λ (task : Task). task.priority) (own_task core t) 0
+static_priority core (Runner.Isr i) = 0
+
+-- The runner is no task, or one that can be preempted. [OSEK/VDX OS 2.2.3, section 4.6]
+abbrev pub is_preemptable : Core → Runner → Bool
+is_preemptable core (Runner.Task t) = option_map_or (λ (task : Task). task.preemptable) (own_task core t) true
+is_preemptable core (Runner.Isr i) = true
+
+-- The greatest static priority of these tasks.
+abbrev pub highest_of : List Task → ℕ
+highest_of [] = 0
+highest_of (task ∷ tasks) = greater task.priority (highest_of tasks)
+
+-- The job that is raised, of these: the running one of a task that can not be preempted, unless it gives way.
+-- [OSEK/VDX OS 2.2.3, section 4.6.2; that it is a raised priority is this project's own]
+abbrev pub raised_of : Core → Option Runner → Option Job → Option Job
+raised_of core way None = None
+raised_of core way (Some j) = if is_preemptable core j.runner || option_map_or (same_runner j.runner) way false then None else Some j
+
+-- What the runner's jobs hold. An ISR holds none.
+abbrev pub held_in : Runner → List (List HeldResource) → List HeldResource
+held_in (Runner.Task t) all = held_at t.index all
+held_in (Runner.Isr i) all = []
+
+-- The resource of this index is the newest of these, and whether there is any.
+abbrev pub is_newest : ℕ → List HeldResource → Bool
+is_newest index [] = false
+is_newest index (x ∷ held) = x.index == index
+
+abbrev pub holds_any : List HeldResource → Bool
+holds_any [] = false
+holds_any (x ∷ held) = true
+
+-- The priority of a job where these resources are held and this job is raised, to the greatest priority of the core's tasks.
+-- A further job of a task that holds resources comes behind the one that does, whatever its priority.
+abbrev pub priority_by : Core → List (List HeldResource) → Option Job → Job → ℕ
+priority_by core held raised j =
+    greater (greater (static_priority core j.runner) (greatest_ceiling (held_in j.runner held)))
+    (if option_map_or (same_job j) raised false then highest_of core.tasks else 0)

@@ -1,0 +1,261 @@
+//! The live jobs of a core.
+
+ghost use Rattle.std.specs.Prelude.{◌≡◌, ◌<◌, ◌≤◌, false, length, remove, IsTrue, IfSome, IfNone};
+ghost use Rattle.std.specs.List.{All};
+ghost use Rattle.osbase.specs.History.{Took, Printed, Noted, Taken, Given, giving_way_after, gives_way, job_count, oldest, without_oldest};
+ghost use Rattle.osres.specs.Resources.{held_at, is_occupied};
+ghost use Rattle.osjobs.specs.Jobs.{best_among, first_jobs, is_current, is_plain, jobs_by, running_among};
+ghost use Rattle.osjobs.specs.Priorities.{holds_any, is_newest, is_own_runner};
+
+use crate::equality::is_same_runner;
+use crate::priorities;
+use crate::slots::JobSlot;
+use arrayvec::ArrayVec;
+use osbase::{HeldResource, Item, Job, Mark, Runner, ServiceId, Status, TaskRef};
+use osplan::Core;
+use osres::{RESOURCES, Resources, TASKS};
+use std::marker::Model;
+
+/// The live jobs of a core, with room for `J` of them, the task in the running state, who gives way, and the resources
+/// that jobs hold.
+#[derive(Drop)]
+pub struct Jobs<const J: usize> {
+    // In the order of their stamps.
+    jobs: ArrayVec<JobSlot, J>,
+    // The task in the running state.
+    current: Option<TaskRef>,
+    // Who gives way within the item in hand.
+    giving_way: Option<Runner>,
+    resources: Resources,
+}
+
+impl<const J: usize> Model for Jobs<J> {
+    ghost use Rattle.osjobs.specs.Jobs.{JobState};
+
+    ghost Value = { JobState };
+
+    ghost view = { λ s. record { jobs = s.jobs.items; current = s.current; giving_way = s.giving_way; held = s.resources } };
+}
+
+impl<const J: usize> Jobs<J> {
+    /// No job.
+    pub fn new() -> Self
+        ensures { result ≡ first_jobs }
+    {
+        Jobs {
+            jobs: ArrayVec::new(),
+            current: None,
+            giving_way: None,
+            resources: Resources::new(),
+        }
+    }
+
+    /// With an item nobody gives way (OSEK/VDX OS 2.2.3, section 13.2.3.4).
+    pub fn take_item(&mut self, _item: &Item)
+        ensures { self.new ≡ jobs_by (Took _item.now) 0 self.old }
+    {
+        self.giving_way = None;
+    }
+
+    /// A job of the task begins, with this stamp (OSEK/VDX OS 2.2.3, section 4.3).
+    pub fn activate(&mut self, task: TaskRef, stamp: u64)
+        requires { length self.old.jobs < J }
+        ensures { self.new ≡ jobs_by (Printed (Mark.Activated task)) stamp self.old }
+    {
+        let job = Job {
+            runner: Runner::Task(task),
+            stamp,
+        };
+        self.jobs.push(JobSlot { job });
+    }
+
+    /// The oldest job of a task has ended, which left the running state: it gives back all that it holds.
+    pub fn terminate(&mut self, task: TaskRef)
+        requires task { task.index < TASKS }
+        requires job { 0 < job_count (Runner.Task task) self.old.jobs }
+        requires left { self.old.current ≡ None }
+        ensures { self.new ≡ jobs_by (Printed (Mark.Terminated task)) 0 self.old }
+    {
+        remove_oldest(&mut self.jobs, Runner::Task(task));
+        self.resources.give_all(task.index);
+    }
+
+    /// A task enters the running state.
+    pub fn enter(&mut self, task: TaskRef)
+        ensures { self.new ≡ jobs_by (Printed (Mark.PreTaskHook task)) 0 self.old }
+    {
+        self.current = Some(task);
+    }
+
+    /// The task in the running state leaves it.
+    pub fn leave(&mut self, _task: TaskRef)
+        requires { IsTrue (is_current self.old.current (Runner.Task _task)) }
+        ensures { self.new ≡ jobs_by (Printed (Mark.PostTaskHook _task)) 0 self.old }
+    {
+        self.current = None;
+    }
+
+    /// A mark that begins and ends no job is printed, and by which no task enters or leaves the running state.
+    pub fn print(&mut self, mark: &Mark)
+        requires { IsTrue (is_plain mark.now) }
+        ensures { self.new ≡ jobs_by (Printed mark.now) 0 self.old }
+    {
+        self.giving_way = giving_way_by(mark, self.giving_way);
+    }
+
+    /// The oldest job of a task takes a resource that is free (OSEK/VDX OS 2.2.3, section 8.2).
+    pub fn take(&mut self, task: TaskRef, resource: HeldResource)
+        requires task { task.index < TASKS }
+        requires place { resource.index < RESOURCES }
+        requires free { is_occupied resource.index self.old.held ≡ false }
+        ensures { self.new ≡ jobs_by (Noted (Taken (Runner.Task task) resource)) 0 self.old }
+    {
+        self.resources.take(task.index, resource);
+    }
+
+    /// The oldest job of a task gives the newest of its resources back (OSEK/VDX OS 2.2.3, section 8.2).
+    pub fn give(&mut self, task: TaskRef, _index: u8)
+        requires task { task.index < TASKS }
+        requires newest { IsTrue (is_newest _index (held_at task.index self.old.held)) }
+        ensures { self.new ≡ jobs_by (Noted (Given (Runner.Task task) _index)) 0 self.old }
+    {
+        self.resources.give(task.index);
+    }
+
+    /// The task in the running state.
+    pub fn current(&self) -> Option<TaskRef>
+        ensures { result ≡ self.now.current }
+    {
+        self.current
+    }
+
+    /// The running job: the oldest live job of the task in the running state.
+    pub fn running(&self) -> Option<Job>
+        ensures { result ≡ running_among self.now }
+    {
+        let task = self.current?;
+        oldest_job(self.jobs.as_slice(), Runner::Task(task))
+    }
+
+    /// How many jobs of this runner are live.
+    pub fn count(&self, runner: Runner) -> usize
+        ensures { result ≡ job_count runner self.now.jobs }
+    {
+        count_jobs(self.jobs.as_slice(), runner)
+    }
+
+    /// The job to run: of the live jobs of greatest current priority the oldest (OSEK/VDX OS 2.2.3, section 4.4
+    /// and 4.5).
+    pub fn best(&self, core: &Core) -> Option<Job>
+        requires own { All (λ j. IsTrue (is_own_runner core.now j.runner)) self.now.jobs }
+        requires tasks { length core.now.tasks ≤ TASKS }
+        ensures best { result ≡ best_among core.now self.now }
+        ensures own { IfSome result (λ j. IsTrue (is_own_runner core.now j.runner)) }
+    {
+        let raised = priorities::raised_of(core, self.giving_way, self.running());
+        priorities::first_greatest(core, &self.resources, raised, self.jobs.as_slice())
+    }
+
+    /// Whether a job holds the resource of this index.
+    pub fn is_occupied(&self, index: u8) -> bool
+        requires { index < RESOURCES }
+        ensures { result ≡ is_occupied index self.now.held }
+    {
+        self.resources.is_occupied(index)
+    }
+
+    /// Whether the resource of this index is the newest that the job of a task holds.
+    pub fn is_newest(&self, task: TaskRef, index: u8) -> bool
+        requires { task.index < TASKS }
+        ensures { result ≡ is_newest index (held_at task.index self.now.held) }
+    {
+        match self.resources.newest(task.index) {
+            Some(newest) => newest.index == index,
+            None => false,
+        }
+    }
+
+    /// Whether the job of a task holds a resource.
+    pub fn holds_any(&self, task: TaskRef) -> bool
+        requires { task.index < TASKS }
+        ensures { result ≡ holds_any (held_at task.index self.now.held) }
+    {
+        !self.resources.is_free(task.index)
+    }
+}
+
+// Takes the oldest job of this runner, which has one, out of the list.
+fn remove_oldest<const J: usize>(jobs: &mut ArrayVec<JobSlot, J>, runner: Runner)
+    requires { 0 < job_count runner jobs.old.items }
+    ensures { jobs.new.items ≡ without_oldest runner jobs.old.items }
+{
+    let Some(place) = oldest_place(jobs.as_slice(), runner) else {
+        unreachable!()
+    };
+    jobs.remove(place);
+}
+
+// The place of the oldest job of this runner.
+fn oldest_place(jobs: &[JobSlot], runner: Runner) -> Option<usize>
+    ensures found { IfSome result (λ place. remove jobs.now place ≡ without_oldest runner jobs.now) }
+    ensures within { IfSome result (λ place. place < length jobs.now) }
+    ensures none { IfNone result (without_oldest runner jobs.now ≡ jobs.now) }
+    ensures absent { IfNone result (job_count runner jobs.now ≡ 0) }
+{
+    for (place, slot) in jobs.iter().enumerate() {
+        if is_same_runner(slot.job.runner, runner) {
+            return Some(place);
+        }
+    }
+    None
+}
+
+// The oldest job of this runner.
+fn oldest_job(jobs: &[JobSlot], runner: Runner) -> Option<Job>
+    ensures { result ≡ oldest runner jobs.now }
+{
+    for slot in jobs {
+        if is_same_runner(slot.job.runner, runner) {
+            return Some(slot.job);
+        }
+    }
+    None
+}
+
+// How many jobs of this runner are live.
+fn count_jobs(jobs: &[JobSlot], runner: Runner) -> usize
+    ensures { result ≡ job_count runner jobs.now }
+{
+    let mut count = 0;
+    for slot in jobs {
+        if is_same_runner(slot.job.runner, runner) {
+            count += 1;
+        }
+    }
+    count
+}
+
+// Whether a service that returned so makes its caller give way (OSEK/VDX OS 2.2.3, section 13.2.3.4).
+fn gives_way(service: ServiceId, status: Status) -> bool
+    ensures { result ≡ gives_way service status }
+{
+    matches!((service, status), (ServiceId::Schedule, Status::EOk))
+}
+
+// Who gives way once this mark is printed.
+fn giving_way_by(mark: &Mark, giving_way: Option<Runner>) -> Option<Runner>
+    ensures { result ≡ giving_way_after (Printed mark.now) giving_way }
+{
+    if let Mark::ServiceReturned {
+        runner,
+        service,
+        status,
+        value: _,
+    } = mark
+    {
+        if gives_way(*service, *status) {
+            return Some(*runner);
+        }
+    }
+    giving_way
+}

@@ -1,0 +1,13 @@
+//! The live jobs of a core: which there are, which one runs, who gives way, and what they hold.
+//!
+//! Nothing here takes memory.
+#![tactic(auto)]
+
+pub mod equality;
+pub mod jobs;
+pub mod own;
+mod priorities;
+mod slots;
+
+pub use jobs::Jobs;
+pub use priorities::static_priority;

@@ -1,0 +1,159 @@
+//! A job's priority, and the first of the jobs of greatest priority.
+
+ghost use Rattle.std.specs.Prelude.{◌≡◌, ◌≤◌, false, if◌then◌else◌, length, nat_lt, IsTrue, IsSome, IfSome};
+ghost use Rattle.std.specs.List.{All};
+ghost use Rattle.std.specs.Option.{option_map_or};
+ghost use Rattle.osbase.specs.History.{first_greatest as greatest_job, greatest_ceiling, same_runner};
+ghost use Rattle.osplan.specs.View.{own_task};
+ghost use Rattle.osjobs.specs.Priorities.{held_in, highest_of, is_own_runner, is_preemptable, priority_by, raised_of, static_priority};
+
+use crate::equality::is_same_runner;
+use crate::own::task_of;
+use crate::slots::JobSlot;
+use osbase::{Job, Runner, TaskRef};
+use osplan::{Core, Task};
+use osres::{Resources, TASKS, greater};
+
+fn is_preemptable(core: &Core, runner: Runner) -> bool
+    ensures { result ≡ is_preemptable core.now runner }
+{
+    match runner {
+        Runner::Task(task) => match task_of(core, task) {
+            Some(own) => own.preemptable,
+            None => true,
+        },
+        Runner::Isr(_) => true,
+    }
+}
+
+fn is_giving_way(giving_way: Option<Runner>, runner: Runner) -> bool
+    ensures { result ≡ option_map_or (same_runner runner) giving_way false }
+{
+    match giving_way {
+        Some(other) => is_same_runner(runner, other),
+        None => false,
+    }
+}
+
+/// The running job, if it is raised: that of a task that can not be preempted, unless it gives way.
+pub(crate) fn raised_of(
+    core: &Core,
+    giving_way: Option<Runner>,
+    running: Option<Job>,
+) -> Option<Job>
+    ensures { result ≡ raised_of core.now giving_way running }
+{
+    let job = running?;
+    if is_preemptable(core, job.runner) || is_giving_way(giving_way, job.runner) {
+        return None;
+    }
+    Some(job)
+}
+
+// A job with its current priority.
+#[derive(Clone, Copy)]
+struct Ranked {
+    job: Job,
+    priority: u8,
+}
+
+/// Of the jobs of greatest current priority the first, where these resources are held and this job is raised
+/// (OSEK/VDX OS 2.2.3, section 4.4 and 4.5).
+pub(crate) fn first_greatest(
+    core: &Core,
+    resources: &Resources,
+    raised: Option<Job>,
+    jobs: &[JobSlot],
+) -> Option<Job>
+    requires own { All (λ j. IsTrue (is_own_runner core.now j.runner)) jobs.now }
+    requires tasks { length core.now.tasks ≤ TASKS }
+    ensures greatest { result ≡ greatest_job (priority_by core.now resources.now raised) jobs.now }
+    ensures own { IfSome result (λ j. IsTrue (is_own_runner core.now j.runner)) }
+{
+    let mut best: Option<Ranked> = None;
+    let mut place = jobs.len();
+    while place > 0 {
+        place -= 1;
+        let slot = &jobs[place];
+        let job = slot.job;
+        let priority = priority_of(core, resources, raised, job);
+        best = Some(better_of(Ranked { job, priority }, best));
+    }
+    match best {
+        Some(ranked) => Some(ranked.job),
+        None => None,
+    }
+}
+
+// Of two jobs of equal priority the first.
+fn better_of(ranked: Ranked, best: Option<Ranked>) -> Ranked
+    ensures { result ≡ option_map_or (λ other. if nat_lt ranked.priority other.priority then other else ranked) best ranked }
+{
+    match best {
+        Some(other) if ranked.priority < other.priority => other,
+        _ => ranked,
+    }
+}
+
+// The current priority of a job, where these resources are held and this job is raised.
+fn priority_of(core: &Core, resources: &Resources, raised: Option<Job>, job: Job) -> u8
+    requires own { IsTrue (is_own_runner core.now job.runner) }
+    requires tasks { length core.now.tasks ≤ TASKS }
+    ensures { result ≡ priority_by core.now resources.now raised job }
+{
+    let priority = greater(
+        static_priority(core, job.runner),
+        ceiling_of(core, resources, job.runner),
+    );
+    match raised {
+        Some(other) if job.stamp == other.stamp => {
+            greater(priority, highest_of(core.tasks.as_slice()))
+        }
+        _ => priority,
+    }
+}
+
+fn ceiling_of(core: &Core, resources: &Resources, runner: Runner) -> u8
+    requires own { IsTrue (is_own_runner core.now runner) }
+    requires tasks { length core.now.tasks ≤ TASKS }
+    ensures { result ≡ greatest_ceiling (held_in runner resources.now) }
+{
+    match runner {
+        Runner::Task(task) => resources.ceiling(task.index),
+        Runner::Isr(_) => unreachable!(),
+    }
+}
+
+// The greatest static priority of these tasks.
+fn highest_of(tasks: &[Task]) -> u8
+    ensures { result ≡ highest_of tasks.now }
+{
+    let mut highest = 0;
+    let mut place = tasks.len();
+    while place > 0 {
+        place -= 1;
+        highest = greater(tasks[place].priority, highest);
+    }
+    highest
+}
+
+/// The priority of one of the core's tasks as it is configured.
+pub fn static_priority(core: &Core, runner: Runner) -> u8
+    requires { IsTrue (is_own_runner core.now runner) }
+    ensures { result ≡ static_priority core.now runner }
+{
+    match runner {
+        Runner::Task(task) => task_priority(core, task),
+        Runner::Isr(_) => unreachable!(),
+    }
+}
+
+fn task_priority(core: &Core, task: TaskRef) -> u8
+    requires { IsSome (own_task core.now task) }
+    ensures { result ≡ static_priority core.now (Runner.Task task) }
+{
+    match task_of(core, task) {
+        Some(own) => own.priority,
+        None => unreachable!(),
+    }
+}

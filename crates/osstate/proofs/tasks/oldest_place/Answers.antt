@@ -1,7 +1,0 @@
-use Rattle.std.proofs.Common.{rules}
-use Rattle.osstate.proofs.JobLists.{remove_first}
-use Rattle.osstate.proofs.tasks.oldest_place.Goals as goal
-
-pub returns-then-is_same_runner-clause-found : goal.returns-then-is_same_runner-clause-found
-returns-then-is_same_runner-clause-found c =
-    remove_first c.args.runner c.args.jobs.now c.loop-place.place c.index-jobs-place.result (search rules) c.index-jobs-place.is (search rules) c.loop-place.invariant.first
