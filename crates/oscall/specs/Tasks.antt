@@ -36,12 +36,13 @@ abbrev pub ends_unasked : Runner → History → History
 ends_unasked (Runner.Task t) h = ends (Runner.Task t) (prints (Mark.ErrorHook EOsMissingend) h)
 ends_unasked (Runner.Isr i) h = ends (Runner.Isr i) h
 
--- What only a task may call, and no job that holds a resource: it would keep others from it for as long as it likes.
--- [OSEK/VDX OS 2.2.3, section 8.1, 13.2.3.2 and 13.2.3.4]
+-- The runner is an ISR.
 abbrev pub is_isr : Runner → Bool
 is_isr (Runner.Task t) = false
 is_isr (Runner.Isr i) = true
 
+-- What TerminateTask and Schedule check: that a task calls, then that its job holds no resource.
+-- [OSEK/VDX OS 2.2.3, section 8.2, 13.2.3.2 and 13.2.3.4]
 abbrev pub task_checks : View → Runner → History → List Check
 task_checks v r h = (is_isr r, EOsCallevel) ∷ (holds_any (resources_of v r h), EOsResource) ∷ []
 
@@ -49,7 +50,7 @@ task_checks v r h = (is_isr r, EOsCallevel) ∷ (holds_any (resources_of v r h),
 abbrev pub terminates : View → Runner → History → History
 terminates v r h = answers r ServiceId.TerminateTask (task_checks v r h) (ends r) h
 
--- A job of a task that can not be preempted lets a job of greater priority run: it gives way by the E_OK with which the
--- service returns. [OSEK/VDX OS 2.2.3, section 13.2.3.4]
+-- Schedule answers E_OK, and by that line its caller gives way within this item. It tells only where the caller's task cannot
+-- be preempted. [OSEK/VDX OS 2.2.3, section 13.2.3.4]
 abbrev pub schedules : View → Runner → History → History
 schedules v r h = answers r ServiceId.Schedule (task_checks v r h) (returns r ServiceId.Schedule EOk None) h

@@ -21,7 +21,7 @@ fn is_below<const P: usize, const J: usize, const OUT: usize>(
     resource.ceiling < state.static_priority(runner)
 }
 
-/// A running job of one of the core's tasks takes a resource (OSEK/VDX OS 2.2.3, section 13.3.3.1). The invalid
+/// A running job of one of the core's tasks takes a resource (OSEK/VDX OS 2.2.3, section 13.4.3.1). The invalid
 /// identifier answers E_OS_ID; a resource that a job holds, or whose ceiling is below the static priority of the
 /// caller, E_OS_ACCESS. Neither has another effect.
 pub fn get_resource<const P: usize, const J: usize, const OUT: usize>(
@@ -46,7 +46,7 @@ pub fn get_resource<const P: usize, const J: usize, const OUT: usize>(
 }
 
 /// A running job of one of the core's tasks gives back the newest of the resources that it holds (OSEK/VDX OS
-/// 2.2.3, section 13.3.3.2). The invalid identifier answers E_OS_ID; a resource whose ceiling is below the
+/// 2.2.3, section 13.4.3.2). The invalid identifier answers E_OS_ID; a resource whose ceiling is below the
 /// static priority of the caller E_OS_ACCESS; one that the caller does not hold, or holds below a newer one,
 /// E_OS_NOFUNC. None of these has another effect.
 pub fn release_resource<const P: usize, const J: usize, const OUT: usize>(

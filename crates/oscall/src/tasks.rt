@@ -82,7 +82,7 @@ pub fn end_unasked<const P: usize, const J: usize, const OUT: usize>(
 }
 
 // The first check that fails of those that a job makes which ends itself or gives way: one that holds a resource
-// may do neither (OSEK/VDX OS 2.2.3, section 8.1).
+// may do neither (OSEK/VDX OS 2.2.3, section 8.2).
 fn status_of_task<const P: usize, const J: usize, const OUT: usize>(
     state: &CoreState<'_, P, J, OUT>,
     runner: Runner,
@@ -121,7 +121,7 @@ pub fn terminate<const P: usize, const J: usize, const OUT: usize>(
     }
 }
 
-/// A running job of one of the core's tasks lets a job of greater priority run, also where its task can not
+/// A running job of one of the core's tasks lets a job of greater priority run, also where its task cannot
 /// be preempted (OSEK/VDX OS 2.2.3, section 13.2.3.4). One that holds a resource answers E_OS_RESOURCE and does not
 /// give way.
 pub fn schedule<const P: usize, const J: usize, const OUT: usize>(

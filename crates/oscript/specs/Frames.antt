@@ -40,7 +40,7 @@ action_at script frame = option_map_or Perform (slice_get script frame.pc) End
 abbrev pub new_frame : Frame
 new_frame = record { pc = 0; status = EOk; vars = pos 0 ∷ pos 0 ∷ pos 0 ∷ pos 0 ∷ pos 0 ∷ pos 0 ∷ pos 0 ∷ pos 0 ∷ [] }
 
--- The next job of the same task or ISR begins again, with the variables of the last. [own]
+-- The next job of the same task or ISR begins again, with the variables as the last one left them. [own]
 abbrev pub rewound : Frame → Frame
 rewound frame = record frame { pc = 0; status = EOk }
 

@@ -32,9 +32,9 @@ pub enum Op {
     TerminateTask,
     /// Schedule (OSEK/VDX OS 2.2.3, section 13.2.3.4).
     Schedule,
-    /// GetResource (OSEK/VDX OS 2.2.3, section 13.3.3.1).
+    /// GetResource (OSEK/VDX OS 2.2.3, section 13.4.3.1).
     GetResource(Option<ResourceRef>),
-    /// ReleaseResource (OSEK/VDX OS 2.2.3, section 13.3.3.2).
+    /// ReleaseResource (OSEK/VDX OS 2.2.3, section 13.4.3.2).
     ReleaseResource(Option<ResourceRef>),
 }
 

@@ -54,13 +54,13 @@ is_each_once t = are_numbers_distinct (numbers_of t.cores) && are_distinct (name
 
 -- ---- names and numbers that name nothing
 
--- Each object of the core has a name in form, as in every shape.
 abbrev pub has_named_tasks : CoreText → Bool
 has_named_tasks core = list_all (λ (task : TaskText). is_name task.name) core.tasks
 
 abbrev pub has_named_resources : CoreText → Bool
 has_named_resources core = list_all (λ (resource : ResourceText). is_name resource.name) core.resources
 
+-- Each object of the core has a name in form, as in every shape.
 abbrev pub has_named_objects : CoreText → Bool
 has_named_objects core = has_named_tasks core && has_named_resources core
 

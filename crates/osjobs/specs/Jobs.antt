@@ -48,7 +48,7 @@ jobs_by e stamp s = record {
 abbrev pub first_jobs : JobState
 first_jobs = record { jobs = []; current = None; giving_way = None; held = replicate TASKS [] }
 
--- A mark that begins and ends no job, and by which no task enters or leaves the running state.
+-- A mark that begins and ends no task's job, and by which no task enters or leaves the running state.
 abbrev pub is_plain : Mark → Bool
 is_plain (Mark.Activated t) = false
 is_plain (Mark.Terminated t) = false

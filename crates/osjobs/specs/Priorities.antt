@@ -30,7 +30,7 @@ abbrev pub highest_of : List Task → ℕ
 highest_of [] = 0
 highest_of (task ∷ tasks) = greater task.priority (highest_of tasks)
 
--- The job that is raised, of these: the running one of a task that can not be preempted, unless it gives way.
+-- The job that is raised, of these: the running one of a task that cannot be preempted, unless it gives way.
 -- [OSEK/VDX OS 2.2.3, section 4.6.2; that it is a raised priority is this project's own]
 abbrev pub raised_of : Core → Option Runner → Option Job → Option Job
 raised_of core way None = None
@@ -51,7 +51,8 @@ holds_any [] = false
 holds_any (x ∷ held) = true
 
 -- The priority of a job where these resources are held and this job is raised, to the greatest priority of the core's tasks.
--- A further job of a task that holds resources comes behind the one that does, whatever its priority.
+-- A further job of a task that holds resources counts with these ceilings too; it comes behind the one that holds them, so it is
+-- never the best.
 abbrev pub priority_by : Core → List (List HeldResource) → Option Job → Job → ℕ
 priority_by core held raised j =
     greater (greater (static_priority core j.runner) (greatest_ceiling (held_in j.runner held)))

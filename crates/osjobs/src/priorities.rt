@@ -35,7 +35,7 @@ fn is_giving_way(giving_way: Option<Runner>, runner: Runner) -> bool
     }
 }
 
-/// The running job, if it is raised: that of a task that can not be preempted, unless it gives way.
+/// The running job, if it is raised: that of a task that cannot be preempted, unless it gives way.
 pub(crate) fn raised_of(
     core: &Core,
     giving_way: Option<Runner>,

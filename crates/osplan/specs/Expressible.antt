@@ -1,5 +1,5 @@
--- What a text can say of a configuration so far, beside its limits: names in form and all different, one mode, scripts that
--- stay within themselves, and no ISR, alarm or table. [own]
+-- What a text can say of a configuration so far, beside its limits: names in form and all different, one mode, scripts whose
+-- arguments are of their kinds and that stay within themselves, and no ISR, alarm or table. [own]
 -- Each is a test, so that a literal configuration passes it by computation.
 use Rattle.std.specs.Prelude.{ℕ, ◌==◌, ◌&&◌, nat_le, Bool, true, false, not, List, [], ◌∷◌, ◌++◌, length, map, codes}
 use Rattle.std.specs.List.{list_all, list_any, flat_map}

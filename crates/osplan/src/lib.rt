@@ -1,7 +1,7 @@
 //! The configuration of an operating system, what one core sees of it, and which cores are separate.
 //!
-//! A `Config` is within the limits, every reference in it names an object of it, and a text can say it:
-//! the layers above test none of these again.
+//! A `Config` is within the limits, every reference in it names an object of it, where it must one of its own
+//! core, and a text can say it: the layers above test none of these again.
 #![tactic(auto)]
 
 pub mod faults;

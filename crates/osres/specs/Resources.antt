@@ -9,7 +9,7 @@ use Rattle.osres.specs.declared.resources.TheConstants.{TASKS}
 abbrev pub held_at : ℕ → List (List HeldResource) → List HeldResource
 held_at task all = slice_index_or all task []
 
--- A job of some task holds the resource of this index. [OSEK/VDX OS 2.2.3, section 8.3]
+-- A job of some task holds the resource of this index. [OSEK/VDX OS 2.2.3, section 8.1]
 abbrev pub is_occupied : ℕ → List (List HeldResource) → Bool
 is_occupied index all = list_any (is_held index) all
 

@@ -1,5 +1,5 @@
--- A job that holds a resource does not give way: Schedule is refused, so that of a task that cannot be preempted goes on before one
--- of greater priority. [OSEK/VDX OS 2.2.3, section 13.2.3.4]
+-- A job that holds a resource does not give way: Schedule is refused, so the job of a task that cannot be preempted goes on before
+-- one of greater priority. [OSEK/VDX OS 2.2.3, section 13.2.3.4]
 use Rattle.std.specs.Prelude.{Some, List, [], ◌∷◌, ◌++◌, codes, replicate}
 use Rattle.osbase.specs.declared.statuses.Status.TheVariants.{EOk, EOsResource}
 use Rattle.osbase.specs.declared.statuses.ServiceId.{ServiceId}

@@ -47,13 +47,13 @@ abbrev pub resources_of : View → Runner → History → List HeldResource
 resources_of v r h = held_in r (held_resources v h)
 
 -- A resource that a script names, as a job would hold it; none for the invalid identifier, and for one that is not the core's own,
--- which the scripts of no configuration name.
+-- which no script of an accepted configuration names.
 abbrev pub resource_of : Core → Option ResourceRef → Option HeldResource
 resource_of core None = None
 resource_of core (Some r) = option_map (λ (x : Resource). record { index = r.index; ceiling = x.ceiling }) (own_resource core r)
 
 -- The current priority of a job: the greatest of its static one, of the ceilings of what its task holds and, for the running
--- job of a task that can not be preempted, of all tasks. [OSEK/VDX OS 2.2.3, section 4.5, 4.6.2 and 8.5]
+-- job of a task that cannot be preempted, unless it gives way, of all tasks. [OSEK/VDX OS 2.2.3, section 4.5, 4.6.2 and 8.5]
 abbrev pub current_priority : View → History → Job → ℕ
 current_priority v h j = priority_by v.own (held_resources v h) (raised_of v.own (giving_way h) (current_job h)) j
 

@@ -24,7 +24,7 @@ pub record TaskState : Type 0 where
   pub held : List (List HeldResource)
   pub frames : List Frame
 
--- The jobs of these, and the tasks of a core of these jobs and frames.
+-- The part of it that `osjobs` keeps, and the whole from that part and the frames.
 abbrev pub jobs_in : TaskState → JobState
 jobs_in s = record { jobs = s.jobs; current = s.current; giving_way = s.giving_way; held = s.held }
 
