@@ -2,7 +2,7 @@
 use Rattle.std.proofs.Common.{◌≡◌, ℕ, ◌+◌, ◌<◌, ◌&&◌, Bool, true, false, not, cond, List, ◌∷◌, length, map, drop, get_or, Some, is_some, option_and_then, refl, sym, ap, subst, ◌∙◌}
 use Rattle.std.specs.List.{find, list_any, slice_get}
 use Rattle.std.specs.Borrow.{Bor}
-use Rattle.std.specs.BTreeMap.{BTreeMap}
+use Rattle.std.specs.HashMap.{HashMap}
 use Rattle.std.specs.Map.{update}
 use Rattle.std.specs.Str.{bytes_eq}
 use Rattle.osplan.specs.Expressible.{are_distinct}
@@ -19,7 +19,7 @@ pub among : (name : List ℕ) (objects : List Declaration) → list_any (λ late
 among name objects = any-map (λ later. bytes_eq later name) (λ (d : Declaration). d.name) objects ∙ any-find (has_name name) objects
 
 -- one more object in front of those that are indexed
-module _ (whole objects : List Declaration) (d : Declaration) (place : ℕ) (first more : BTreeMap (Bor (List ℕ)) ℕ) (are_apart is_new : Bool) (here : slice_get whole place ≡ Some d) (so_far : Indexes whole first are_apart objects)
+module _ {S : Type 0} (whole objects : List Declaration) (d : Declaration) (place : ℕ) (first more : HashMap (Bor (List ℕ)) ℕ S) (are_apart is_new : Bool) (here : slice_get whole place ≡ Some d) (so_far : Indexes whole first are_apart objects)
     (stood : is_some (index_in first d.name) ≡ not is_new) (updates : (name : List ℕ) → index_in more name ≡ update bytes_eq (index_in first) d.name (Some place) name) where
   found-by : (name : List ℕ) (b : Bool) → option_and_then (slice_get whole) (cond b (Some place) (index_in first name)) ≡ cond b (Some d) (find (has_name name) objects)
   found-by name true = here
@@ -46,7 +46,7 @@ module _ (whole objects : List Declaration) (d : Declaration) (place : ℕ) (fir
   }
 
 -- the object at a place, in front of those behind it
-pub one_more : (objects : List Declaration) (d : Declaration) (place : ℕ) (first more : BTreeMap (Bor (List ℕ)) ℕ) (are_apart is_new : Bool) → place < length objects → d ≡ get_or objects place d → Indexes objects first are_apart (drop (place + 1) objects)
+pub one_more : {S : Type 0} (objects : List Declaration) (d : Declaration) (place : ℕ) (first more : HashMap (Bor (List ℕ)) ℕ S) (are_apart is_new : Bool) → place < length objects → d ≡ get_or objects place d → Indexes objects first are_apart (drop (place + 1) objects)
     → is_some (index_in first d.name) ≡ not is_new → ((name : List ℕ) → index_in more name ≡ update bytes_eq (index_in first) d.name (Some place) name) → Indexes objects more (are_apart && is_new) (drop place objects)
 one_more objects d place first more are_apart is_new within is so_far stood updates =
     subst (Indexes objects more (are_apart && is_new)) (sym (drop-here objects place d within is))

@@ -15,7 +15,7 @@ use crate::shapes::CoreText;
 use osbase::{List, ObjectKind, Place};
 use osforms::Places;
 use std::alloc::{AllocError, Global};
-use std::collections::BTreeMap;
+use std::collections::HashMap;
 
 /// The name of the only mode.
 pub const MODE: &str = "M";
@@ -37,14 +37,14 @@ fn place_in(kind: ObjectKind, declaration: &Declaration) -> Option<Place>
 #[derive(Drop)]
 struct Index<'t> {
     // Of each name where its first object stands in the list.
-    first: BTreeMap<&'t str, usize>,
+    first: HashMap<&'t str, usize>,
     are_apart: bool,
 }
 
 fn index_of<'t>(alloc: Global, declared: &[Declaration<'t>]) -> Result<Index<'t>, AllocError>
     ensures { IfOk result (λ index. Indexes declared.now index.first index.are_apart declared.now) }
 {
-    let mut first = BTreeMap::new(alloc);
+    let mut first = HashMap::new(alloc);
     let mut are_apart = true;
     let mut place = declared.len();
     // From the last one on, so that of one name the first one stays.
