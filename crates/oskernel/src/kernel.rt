@@ -2,6 +2,7 @@
 
 ghost use Rattle.std.specs.Prelude.{◌≡◌, ◌+◌, ◌≤◌, [], nat_lt, IsTrue, IsSome, vec_len, vec_capacity, sum_by};
 ghost use Rattle.std.specs.List.{list_all};
+ghost use Rattle.osplan.specs.declared.plans.Resource.{Resource as ResourceValue};
 ghost use Rattle.osplan.specs.declared.plans.Task.{Task as TaskValue};
 ghost use Rattle.osplan.specs.View.{core_of, view_of};
 ghost use Rattle.osbase.specs.History.{outbox};
@@ -28,7 +29,7 @@ const MOST_ITEMS: u64 = 1 << 48;
 /// a core.
 pub const STEP_MARKS: usize = 512;
 
-/// The kernel of one core, with room for `J` live jobs and `OUT` envelopes; priorities are below `P`.
+/// The kernel of one core, with room for `J` live jobs and `OUT` envelopes; priorities and ceilings are below `P`.
 #[derive(Drop)]
 pub struct Kernel<'a, const P: usize, const J: usize, const OUT: usize> {
     state: CoreState<'a, P, J, OUT>,
@@ -51,6 +52,7 @@ impl<'a, const P: usize, const J: usize, const OUT: usize> Kernel<'a, P, J, OUT>
     pub fn new(config: &'a Config, core: CoreId) -> Self
         requires configured { IsSome (core_of config.now core) }
         requires priorities { IsTrue (list_all (λ (t : TaskValue). nat_lt t.priority P) (view_of config.now core).own.tasks) }
+        requires ceilings { IsTrue (list_all (λ (r : ResourceValue). nat_lt r.ceiling P) (view_of config.now core).own.resources) }
         requires activations { sum_by (λ (t : TaskValue). t.activations) (view_of config.now core).own.tasks ≤ J }
         requires outbox { 8 ≤ OUT }
         ensures { result ≡ state_of (view_of config.now core) [] }

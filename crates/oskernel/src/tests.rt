@@ -2,6 +2,7 @@
 
 ghost use Rattle.std.specs.Prelude.{◌≡◌, ◌∷◌, [], if◌then◌else◌, nat_lt, IsTrue, IfOk, IsSome, sum_by, ◌≤◌, true};
 ghost use Rattle.std.specs.List.{list_all};
+ghost use Rattle.osplan.specs.declared.plans.Resource.{Resource as ResourceValue};
 ghost use Rattle.osplan.specs.declared.plans.Task.{Task as TaskValue};
 ghost use Rattle.osplan.specs.Limits.{is_within_limits};
 ghost use Rattle.osplan.specs.Expressible.{is_expressible};
@@ -70,6 +71,7 @@ fn two_cores(alloc: Global) -> Result<Plan, AllocError>
     ensures expressible { IfOk result (λ plan. IsTrue (is_expressible plan)) }
     ensures configured { IfOk result (λ plan. IsSome (core_of plan CORE_0)) }
     ensures priorities { IfOk result (λ plan. IsTrue (list_all (λ (t : TaskValue). nat_lt t.priority 32) (view_of plan CORE_0).own.tasks)) }
+    ensures ceilings { IfOk result (λ plan. IsTrue (list_all (λ (r : ResourceValue). nat_lt r.ceiling 32) (view_of plan CORE_0).own.resources)) }
     ensures activations { IfOk result (λ plan. sum_by (λ (t : TaskValue). t.activations) (view_of plan CORE_0).own.tasks ≤ 64) }
 {
     let mut modes = List::new(alloc);

@@ -8,6 +8,7 @@ use Rattle.osbase.specs.declared.references.CoreId.{CoreId}
 use Rattle.osbase.specs.History.{same_core}
 use Rattle.osplan.specs.declared.plans.Plan.{Plan}
 use Rattle.osplan.specs.declared.plans.Core.{Core}
+use Rattle.osplan.specs.declared.plans.Resource.{Resource}
 use Rattle.osplan.specs.declared.plans.Task.{Task}
 use Rattle.osplan.specs.View.{core_of}
 use Rattle.osplan.specs.Limits.{TaskSizes, is_between, jobs_of, task_sizes, core_sizes, sizes_of, is_task_within, is_core_within, is_within, is_ceiling, ceiling_of, is_core_known, is_core_near, numbers_of, are_numbers_distinct, is_within_limits}
@@ -86,6 +87,7 @@ pub record FitsKernel (core : Core) : Type 0 where
   pub some : list_all (λ (t : Task). nat_le 1 t.activations) core.tasks ≡ true
   pub activations : sum_by (λ (t : Task). t.activations) core.tasks ≤ 64
   pub resources : length core.resources ≤ 16
+  pub ceilings : list_all (λ (r : Resource). nat_lt r.ceiling 32) core.resources ≡ true
 
 pub between : (low high n : ℕ) → is_between low high (Some n) ≡ true → (low ≤ n) × (n ≤ high)
 between low high n h = let parts = and_parts (nat_le low n) (nat_le n high) h in (leb-true low n parts.0, leb-true n high parts.1)
@@ -97,9 +99,13 @@ task-fits task h =
     let activations = between _ _ task.activations numbers.1 in
     (lt-ltb task.priority 32 (omega arith), le-leb 1 task.activations (omega arith))
 
+resource-fits : (resource : Resource) → is_ceiling (ceiling_of resource) ≡ true → nat_lt resource.ceiling 32 ≡ true
+resource-fits resource h = let ceiling = between _ _ resource.ceiling h in lt-ltb resource.ceiling 32 (omega arith)
+
 pub fits : (core : Core) → is_core_within (core_sizes core) ≡ true → FitsKernel core
 fits core h =
-    let resources = and_parts _ (nat_le (length (map ceiling_of core.resources)) 16) (and_parts _ (list_all is_ceiling (map ceiling_of core.resources)) h).0 in
+    let ceilings = and_parts _ (list_all is_ceiling (map ceiling_of core.resources)) h in
+    let resources = and_parts _ (nat_le (length (map ceiling_of core.resources)) 16) ceilings.0 in
     let held = leb-true (length (map ceiling_of core.resources)) _ resources.1 in
     let sum = and_parts _ (nat_le (sum_by jobs_of (map task_sizes core.tasks)) 64) resources.0 in
     let tasks = and_parts _ (list_all is_task_within (map task_sizes core.tasks)) sum.0 in
@@ -114,6 +120,7 @@ fits core h =
       some = all-weaker _ _ (λ t h. (task-fits t h).1) core.tasks each;
       activations = rw (← fold-map (λ (jobs : ℕ) (s : TaskSizes). jobs + jobs_of s) task_sizes 0 core.tasks) (leb-true _ 64 sum.1);
       resources = omega (arith, length-map core.resources ceiling_of);
+      ceilings = all-weaker _ _ resource-fits core.resources (sym (list_all-map is_ceiling ceiling_of core.resources) ∙ ceilings.1);
     }
 
 -- Each configured core fits.

@@ -18,6 +18,7 @@ use Rattle.oscript.specs.declared.Frame.{Frame}
 use Rattle.oscript.specs.Frames.{new_frame}
 use Rattle.osplan.specs.declared.plans.Plan.{Plan}
 use Rattle.osplan.specs.declared.plans.Core.{Core}
+use Rattle.osplan.specs.declared.plans.Resource.{Resource}
 use Rattle.osplan.specs.declared.plans.Task.{Task}
 use Rattle.osplan.specs.View.{View, core_of, no_core, view_from, view_of}
 use Rattle.osplan.specs.Limits.{is_within_limits, is_core_known, is_task_known, is_object, is_op_known}
@@ -82,14 +83,16 @@ zeros_low (suc n) (suc k) = zeros_low n k
 -- And it is sound.
 pub sound-begun : (priorities room : ℕ) (plan : Plan) (id : CoreId) (core : Core) (master : Bool) → IsTrue (is_within_limits plan) → core_of plan id ≡ Some core
     → list_all (λ (t : Task). nat_lt t.priority priorities) (view_of plan id).own.tasks ≡ true
+    → list_all (λ (r : Resource). nat_lt r.ceiling priorities) (view_of plan id).own.resources ≡ true
     → sum_by (λ (t : Task). t.activations) (view_of plan id).own.tasks ≤ room → IsSound priorities room (first_state plan core master)
-sound-begun priorities room plan id core master limits found below sum = record {
+sound-begun priorities room plan id core master limits found below ceilings sum = record {
   tasks = fits.tasks;
   frames = length-replicate (length core.tasks) new_frame;
   bounded = subst (λ (v : View). list_all (λ (t : Task). nat_lt t.priority priorities) v.own.tasks ≡ true) (sym (view-own plan id core found)) below;
   limits = subst (λ (v : View). sum_by (λ (t : Task). t.activations) v.own.tasks ≤ room) (sym (view-own plan id core found)) sum;
   some = fits.some;
   resources = fits.resources;
+  ceilings = subst (λ (v : View). list_all (λ (r : Resource). nat_lt r.ceiling priorities) v.own.resources ≡ true) (sym (view-own plan id core found)) ceilings;
   scripts = known_scripts plan id core (find-passes (λ (c : Core). same_core c.id id) (is_core_known plan) plan.cores core (limit-parts plan limits).known found) found;
   jobs = (λ r. omega arith);
   idle = (λ e. refl);

@@ -13,6 +13,7 @@ use Rattle.oscript.specs.Rows.{objects_of}
 use Rattle.oscript.specs.declared.Action.{Action}
 use Rattle.oscript.specs.declared.Action.TheVariants.{Perform, End}
 use Rattle.osplan.specs.declared.plans.Core.{Core}
+use Rattle.osplan.specs.declared.plans.Resource.{Resource}
 use Rattle.osplan.specs.declared.plans.Task.{Task}
 use Rattle.osplan.specs.Objects.{may_name}
 use Rattle.osplan.specs.View.{own_task}
@@ -62,7 +63,7 @@ abbrev pub is_sender_known : Item → Bool
 is_sender_known (Item.Received from number m) = nat_lt from.number CORES
 is_sender_known item = true
 
--- What holds of every kernel's state; `priorities` bounds the priorities of its tasks, `room` is how many jobs it has
+-- What holds of every kernel's state; `priorities` bounds the priorities of its tasks and the ceilings of its resources, `room` is how many jobs it has
 -- places for.
 pub record IsSound (priorities room : ℕ) (s : KernelState) : Type 0 where
   -- at most 32 tasks, each with a frame and a priority below the bound, whose activation limits are at least 1 and sum to
@@ -74,8 +75,9 @@ pub record IsSound (priorities room : ℕ) (s : KernelState) : Type 0 where
   pub some : IsTrue (list_all (λ (t : Task). nat_le 1 t.activations) s.view.own.tasks)
   -- and whose scripts name on this core only its own objects
   pub scripts : IsTrue (list_all (λ (t : Task). list_all (has_objects_of s.view.own) t.script) s.view.own.tasks)
-  -- at most as many resources as there are places for
+  -- at most as many resources as there are places for, each with a ceiling below the bound
   pub resources : length s.view.own.resources ≤ RESOURCES
+  pub ceilings : IsTrue (list_all (λ (r : Resource). nat_lt r.ceiling priorities) s.view.own.resources)
   -- no runner has more live jobs than it may have, and none before the core schedules
   pub jobs : (r : Runner) → job_count r s.tasks.jobs ≤ activation_limit s.view.own r
   pub idle : IsTrue (is_before_live s.progress.phase) → s.tasks.jobs ≡ []

@@ -6,6 +6,7 @@ ghost use Rattle.osbase.specs.declared.turns.TheConstants.{CORES};
 ghost use Rattle.osbase.specs.History.{Took, Printed, Noted, Opened, Queued, Taken, Given, Done, job_count, phase_after, queued_count, same_core};
 ghost use Rattle.osbase.specs.Phases.{is_before_live, is_past_first_gate};
 ghost use Rattle.osbase.specs.Sets.{has_core};
+ghost use Rattle.osplan.specs.declared.plans.Resource.{Resource as ResourceValue};
 ghost use Rattle.osplan.specs.declared.plans.Task.{Task as TaskValue};
 ghost use Rattle.osplan.specs.Objects.{is_own_object};
 ghost use Rattle.osplan.specs.View.{core_of, is_configured, own_task, view_of};
@@ -36,7 +37,7 @@ use osplan::{Config, Core, CoreMode, Task};
 use osres::RESOURCES;
 use std::marker::Model;
 
-/// The whole state of a core, with room for `J` live jobs and `OUT` envelopes; priorities are below `P`.
+/// The whole state of a core, with room for `J` live jobs and `OUT` envelopes; priorities and ceilings are below `P`.
 #[derive(Drop)]
 pub struct CoreState<'a, const P: usize, const J: usize, const OUT: usize> {
     config: &'a Config,
@@ -67,6 +68,7 @@ impl<'a, const P: usize, const J: usize, const OUT: usize> CoreState<'a, P, J, O
     pub fn new(config: &'a Config, id: CoreId) -> Self
         requires configured { IsSome (core_of config.now id) }
         requires priorities { IsTrue (list_all (λ (t : TaskValue). nat_lt t.priority P) (view_of config.now id).own.tasks) }
+        requires ceilings { IsTrue (list_all (λ (r : ResourceValue). nat_lt r.ceiling P) (view_of config.now id).own.resources) }
         requires activations { sum_by (λ (t : TaskValue). t.activations) (view_of config.now id).own.tasks ≤ J }
         ensures { result ≡ state_of (view_of config.now id) [] }
     {

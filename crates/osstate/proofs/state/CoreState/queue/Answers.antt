@@ -11,6 +11,7 @@ invariant_of-self g c = rw c.count_one.ensures (record {
   limits = c.self.invariant.limits;
   some = c.self.invariant.some;
   resources = c.self.invariant.resources;
+  ceilings = c.self.invariant.ceilings;
   scripts = c.self.invariant.scripts;
   jobs = c.self.invariant.jobs;
   idle = c.self.invariant.idle;
