@@ -1,5 +1,6 @@
 //! The worked examples, from text to text.
 
+mod events;
 mod limits;
 mod program;
 
@@ -43,7 +44,7 @@ const BESIDE: &str =
     r#"{"cores":[{"id":0,"start":[1,2],"tasks":[{"name":"A","prio":1,"auto":["M"],"script":"ActivateTask B;TerminateTask"}]},{"id":1,"tasks":[{"name":"B","prio":1,"script":"TerminateTask"}]},{"id":2,"tasks":[{"name":"V","prio":1,"auto":["M"],"script":"TerminateTask"}]}]}"#;
 
 const ALONE: &str =
-    r#"{"cap":16,"cores":[{"id":2,"resources":[],"start":[],"tasks":[{"activations":1,"auto":["M"],"name":"V","preemptable":true,"prio":1,"script":"TerminateTask"}]}],"master":2,"version":1}
+    r#"{"cap":16,"cores":[{"id":2,"resources":[],"start":[],"tasks":[{"activations":1,"auto":["M"],"extended":false,"name":"V","preemptable":true,"prio":1,"script":"TerminateTask"}]}],"master":2,"version":1}
 "#;
 
 const ALONE_TRACE: &str = "core 2\nhook Startup\nact V\npre V\npost V\nend V\nended\n";
@@ -133,7 +134,7 @@ struct Example {
     status: u8,
 }
 
-const EXAMPLES: [Example; 26] = [
+const EXAMPLES: [Example; 27] = [
     Example {
         config: BORDER,
         stimuli: r#"{"0":"op op","1":"op op"}"#,
@@ -319,6 +320,14 @@ const EXAMPLES: [Example; 26] = [
         status: 1,
     },
     Example {
+        config: r#"{"cores":[{"id":0,"tasks":[{"name":"A","prio":1,"script":"ClearEvent 4294967296"}]}]}"#,
+        stimuli: "x",
+        schedule: None,
+        out: "",
+        err: "fault 8 BadMask\n",
+        status: 1,
+    },
+    Example {
         config: BORDER,
         stimuli: "x",
         schedule: None,
@@ -397,20 +406,25 @@ fn print(alloc: Global, job: &Job, texts: &[Option<&str>]) -> Result<Printed, Al
     })
 }
 
-#[test]
-fn examples_come_to_their_texts_and_statuses(rt: HostRuntime) -> Result<(), Fail> {
-    for example in EXAMPLES.as_slice() {
+// Plays each example, and compares.
+fn play(rt: &impl Abort, alloc: Global, examples: &[Example]) -> Result<(), Fail> {
+    for example in examples {
         let texts = [
             Some(example.config),
             Some(example.stimuli),
             example.schedule,
         ];
-        let printed = print(rt.alloc(), &run_of(example.schedule), texts.as_slice())?;
+        let printed = print(alloc, &run_of(example.schedule), texts.as_slice())?;
         assert_eq!(rt; printed.out.as_slice(), example.out.as_bytes());
         assert_eq!(rt; printed.err.as_slice(), example.err.as_bytes());
         assert_eq!(rt; printed.status, example.status);
     }
     Ok(())
+}
+
+#[test]
+fn examples_come_to_their_texts_and_statuses(rt: HostRuntime) -> Result<(), Fail> {
+    play(&rt, rt.alloc(), EXAMPLES.as_slice())
 }
 
 #[test]

@@ -2,8 +2,11 @@
 --
 -- A history is the list of what a core took and did, the newest first, so that every reading is a
 -- fold with a named step. The kernel stores no history: it keeps the readings.
-use Rattle.std.specs.Prelude.{ℕ, suc, ◌+◌, ◌==◌, ◌&&◌, nat_lt, ℤ, Bool, true, false, if◌then◌else◌, Option, Some, None, List, [], ◌∷◌, ◌++◌, length, drop, replicate}
+use Rattle.std.specs.Prelude.{ℕ, suc, ◌+◌, ◌==◌, ◌&&◌, nat_lt, ℤ, Bool, true, false, not, if◌then◌else◌, Option, Some, None, is_some, List, [], ◌∷◌, ◌++◌, length, drop, replicate}
+use Rattle.std.specs.Int.{bit_not, w32}
+use Rattle.std.specs.Int.Bits.{bit_and, bit_or}
 use Rattle.std.specs.List.{list_any}
+use Rattle.std.specs.Option.{option_map_or}
 use Rattle.osbase.specs.declared.statuses.Status.{Status}
 use Rattle.osbase.specs.declared.statuses.Status.TheVariants.{EOk}
 use Rattle.osbase.specs.declared.statuses.ServiceId.{ServiceId}
@@ -21,6 +24,7 @@ use Rattle.osbase.specs.declared.turns.TheConstants.{CORES}
 use Rattle.osbase.specs.declared.histories.Job.{Job}
 use Rattle.osbase.specs.declared.histories.HeldResource.{HeldResource}
 use Rattle.osbase.specs.declared.histories.OpenCall.{OpenCall}
+use Rattle.osbase.specs.declared.histories.TaskEvents.{TaskEvents}
 use Rattle.osbase.specs.declared.histories.Sent.{Sent}
 use Rattle.osbase.specs.declared.histories.Phase.{Phase}
 
@@ -87,14 +91,23 @@ item_count [] = 0
 item_count (e ∷ h) = items_after e (item_count h)
 
 -- Live jobs, the smallest stamp first. An activation begins a job, whose stamp is its place in the
--- history; an end ends the oldest live job of its task. [OSEK/VDX OS 2.2.3, section 4.3; the code has
+-- history; a release from waiting gives the oldest live job of its task, of which an extended task has one, a new stamp, so that it
+-- comes behind the others of its priority; an end ends the oldest live job of its task. [OSEK/VDX OS 2.2.3, section 4.3 and 4.5; the code has
 -- the same list, and no history to count places in.]
 abbrev pub without_oldest : Runner → List Job → List Job
 without_oldest r [] = []
 without_oldest r (j ∷ js) = if same_runner j.runner r then js else j ∷ without_oldest r js
 
+abbrev pub oldest : Runner → List Job → Option Job
+oldest r [] = None
+oldest r (j ∷ js) = if same_runner j.runner r then Some j else oldest r js
+
+abbrev pub stamped_anew : Runner → ℕ → List Job → List Job
+stamped_anew r stamp jobs = option_map_or (λ (j : Job). without_oldest r jobs ++ record j { stamp = stamp } ∷ []) (oldest r jobs) jobs
+
 abbrev pub jobs_after : Entry → ℕ → List Job → List Job
 jobs_after (Printed (Mark.Activated t)) stamp jobs = jobs ++ record { runner = Runner.Task t; stamp = stamp } ∷ []
+jobs_after (Printed (Mark.Released t)) stamp jobs = stamped_anew (Runner.Task t) stamp jobs
 jobs_after (Printed (Mark.Terminated t)) stamp jobs = without_oldest (Runner.Task t) jobs
 jobs_after e stamp jobs = jobs
 
@@ -102,23 +115,21 @@ abbrev pub live_jobs : History → List Job
 live_jobs [] = []
 live_jobs (e ∷ h) = jobs_after e (length h) (live_jobs h)
 
--- How many live jobs a runner has, and the oldest of them.
+-- How many live jobs a runner has.
 abbrev pub job_count : Runner → List Job → ℕ
 job_count r [] = 0
 job_count r (j ∷ js) = if same_runner j.runner r then suc (job_count r js) else job_count r js
 
-abbrev pub oldest : Runner → List Job → Option Job
-oldest r [] = None
-oldest r (j ∷ js) = if same_runner j.runner r then Some j else oldest r js
-
 -- The current task: it entered the running state and has not left it since.
 -- [OSEK/VDX OS 2.2.3, section 4.2; the code keeps the same task.]
+abbrev pub left_by : TaskRef → Option TaskRef → Option TaskRef
+left_by t None = None
+left_by t (Some u) = if same_task t u then None else Some u
+
 abbrev pub current_after : Entry → Option TaskRef → Option TaskRef
 current_after (Printed (Mark.PreTaskHook t)) current = Some t
-current_after (Printed (Mark.PostTaskHook t)) None = None
-current_after (Printed (Mark.PostTaskHook t)) (Some u) = if same_task t u then None else Some u
-current_after (Printed (Mark.Terminated t)) None = None
-current_after (Printed (Mark.Terminated t)) (Some u) = if same_task t u then None else Some u
+current_after (Printed (Mark.PostTaskHook t)) current = left_by t current
+current_after (Printed (Mark.Terminated t)) current = left_by t current
 current_after e current = current
 
 abbrev pub current_task : History → Option TaskRef
@@ -180,6 +191,48 @@ greatest_ceiling (x ∷ held) = greater x.ceiling (greatest_ceiling held)
 -- The resource of this index is among these.
 abbrev pub is_held : ℕ → List HeldResource → Bool
 is_held index held = list_any (λ (x : HeldResource). x.index == index) held
+
+-- The events of a task, each a bit of its mask: those that are set, and those that it waits for, if it waits. An activation of the
+-- task leaves none set, a setting adds events, a clearing takes them away; a task waits from its wait to its release. So an event is
+-- set where the last entry that concerns it sets it (IsLastWord, osevent/specs/Laws.antt).
+-- [OSEK/VDX OS 2.2.3, section 7 and 13.5.3; that an activation clears them: section 13.2.3.1]
+abbrev pub no_events : TaskEvents
+no_events = record { set = 0; awaited = None }
+
+abbrev pub with_set : ℕ → TaskEvents → TaskEvents
+with_set mask events = record events { set = bit_or events.set mask }
+
+abbrev pub with_cleared : ℕ → TaskEvents → TaskEvents
+with_cleared mask events = record events { set = bit_and events.set (bit_not w32 mask) }
+
+abbrev pub with_none_set : TaskEvents → TaskEvents
+with_none_set events = record events { set = 0 }
+
+abbrev pub with_awaited : Option ℕ → TaskEvents → TaskEvents
+with_awaited awaited events = record events { awaited = awaited }
+
+abbrev pub events_after : TaskRef → Entry → TaskEvents → TaskEvents
+events_after t (Printed (Mark.Activated u)) events = if same_task u t then with_none_set events else events
+events_after t (Printed (Mark.EventSet u mask)) events = if same_task u t then with_set mask events else events
+events_after t (Printed (Mark.EventCleared u mask)) events = if same_task u t then with_cleared mask events else events
+events_after t (Printed (Mark.EventAwaited u mask)) events = if same_task u t then with_awaited (Some mask) events else events
+events_after t (Printed (Mark.Released u)) events = if same_task u t then with_awaited None events else events
+events_after t e events = events
+
+abbrev pub events_of : TaskRef → History → TaskEvents
+events_of t [] = no_events
+events_of t (e ∷ h) = events_after t e (events_of t h)
+
+-- Two masks have an event in common.
+abbrev pub have_common : ℕ → ℕ → Bool
+have_common a b = not (bit_and a b == 0)
+
+-- The task waits, and for one of these events at least. [OSEK/VDX OS 2.2.3, section 4.2.1]
+abbrev pub is_waiting : TaskEvents → Bool
+is_waiting events = is_some events.awaited
+
+abbrev pub awaits_one_of : ℕ → TaskEvents → Bool
+awaits_one_of mask events = option_map_or (have_common mask) events.awaited false
 
 -- Of the jobs of greatest priority the first. In a list by stamps it is the one of smallest stamp.
 abbrev pub better_of : (Job → ℕ) → Job → Option Job → Job

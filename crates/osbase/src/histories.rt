@@ -55,6 +55,14 @@ pub struct HeldResource {
     pub ceiling: u8,
 }
 
+/// The events of a task, each a bit of a mask: those that are set, and those that it waits for, if it waits
+/// (OSEK/VDX OS 2.2.3, section 7).
+#[derive(Clone, Copy, Debug, PartialEq, Eq)]
+pub struct TaskEvents {
+    pub set: u32,
+    pub awaited: Option<u32>,
+}
+
 /// A service of a job that awaits the reply of another core.
 #[derive(Clone, Copy, Debug, PartialEq, Eq)]
 pub struct OpenCall {

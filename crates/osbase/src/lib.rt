@@ -14,7 +14,7 @@ pub mod references;
 pub mod statuses;
 pub mod turns;
 
-pub use histories::{HeldResource, Job, OpenCall, Phase, Sent};
+pub use histories::{HeldResource, Job, OpenCall, Phase, Sent, TaskEvents};
 pub use items::{Agreement, CoreSet, Item, Stimulus};
 pub use lists::{List, Name};
 pub use marks::Mark;
@@ -27,5 +27,5 @@ pub use references::{
 };
 pub use statuses::{ServiceId, Status};
 pub use turns::{
-    CORE_NUMBERS, CORES, Choice, CoreStimuli, Report, Schedule, Stimuli, Turn, stimuli_for,
+    CORE_NUMBERS, CORES, Choice, CoreStimuli, Report, Schedule, Stimuli, TASKS, Turn, stimuli_for,
 };

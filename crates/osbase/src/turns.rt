@@ -15,6 +15,9 @@ pub const CORES: usize = 16;
 /// The same bound in the type of a core's number.
 pub const CORE_NUMBERS: u8 = CORES as u8;
 
+/// The most tasks of a core.
+pub const TASKS: usize = 32;
+
 /// The stimuli of one core, in order.
 #[derive(Debug, Drop)]
 pub struct CoreStimuli {

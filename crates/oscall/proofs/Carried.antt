@@ -1,5 +1,5 @@
 -- One fact for each service: what it does to one history it does to every history that reads the same to it.
-use Rattle.std.proofs.Common.{◌≡◌, ◌||◌, Bool, true, false, not, cond, Option, Some, None, is_none, List, [], ◌∷◌, refl, ap, subst, ℤ, pos}
+use Rattle.std.proofs.Common.{◌≡◌, ◌==◌, ◌&&◌, ◌||◌, ℕ, nat_le, Bool, true, false, not, cond, Option, Some, None, is_none, option_map, List, [], ◌∷◌, refl, ap, subst, ◌∙◌, ℤ, pos}
 use Rattle.std.specs.List.{list_all}
 use Rattle.std.specs.Option.{option_map_or}
 use Rattle.osres.specs.Resources.{is_occupied}
@@ -18,7 +18,8 @@ use Rattle.osbase.specs.declared.messages.Message.{Message}
 use Rattle.osbase.specs.declared.marks.Mark.{Mark}
 use Rattle.osbase.specs.declared.histories.OpenCall.{OpenCall}
 use Rattle.osbase.specs.declared.histories.HeldResource.{HeldResource}
-use Rattle.osbase.specs.History.{Entry, History, Took, Printed, Noted, Opened, Queued, Taken, Given, Done}
+use Rattle.osbase.specs.declared.histories.TaskEvents.{TaskEvents}
+use Rattle.osbase.specs.History.{Entry, History, Took, Printed, Noted, Opened, Queued, Taken, Given, Done, awaits_one_of, have_common, job_count, live_jobs, same_runner}
 use Rattle.osbase.specs.Marks.{core_of_runner, names_only}
 use Rattle.osbase.specs.Words.{status_number}
 use Rattle.oscript.specs.declared.Frame.{Frame}
@@ -26,16 +27,20 @@ use Rattle.oscript.specs.declared.Op.{Op}
 use Rattle.oscript.specs.Frames.{value_of}
 use Rattle.oscript.specs.Rows.{objects_of}
 use Rattle.osplan.specs.View.{View}
-use Rattle.osjobs.specs.Priorities.{held_in, holds_any, is_newest}
-use Rattle.osstate.specs.Queries.{is_at_limit}
-use Rattle.osstate.specs.Readings.{frame_at, held_resources, is_own, knows_started, resource_of}
+use Rattle.osjobs.specs.Priorities.{events_in, held_in, holds_any, is_newest}
+use Rattle.osstate.specs.Queries.{is_at_limit, is_suspended}
+use Rattle.osstate.specs.Readings.{events_at, frame_at, held_resources, is_own, knows_started, resource_of, task_events}
+use Rattle.osstate.specs.Sound.{activation_limit}
 use Rattle.oscall.specs.declared.returning.Answer.{Answer}
 use Rattle.oscall.specs.Border.{answer_to, border_checks, calls, core_of_call, crosses, effect_of, replies, reports_served, returns_with, serves_action, serves_request}
+use Rattle.oscall.specs.Chaining.{chaining_checks, chains_here, chains_to, ends_caller, exceeds_limit, resumes}
+use Rattle.oscall.specs.Callers.{by_task, holding_none}
 use Rattle.oscall.specs.Checks.{Check, first_failing, is_ok_status}
+use Rattle.oscall.specs.Events.{begins_to_wait, by_extended, clearing_checks, clears, clears_and_returns, goes_on_or_waits, own_target, reading_checks, releases, sets_events, tells_events, waiting_checks}
 use Rattle.oscall.specs.Operations.{operates}
 use Rattle.oscall.specs.Returning.{answers, asks, queues, reports, returns}
 use Rattle.oscall.specs.Variables.{sets, sum_of}
-use Rattle.oscall.specs.Tasks.{activates, ends, ends_unasked, is_isr}
+use Rattle.oscall.specs.Tasks.{activates, ends, ends_unasked}
 use Rattle.oscall.specs.Resources.{gives, is_below, takes}
 
 -- Which cores one asks, or answers: every one, and none.
@@ -56,9 +61,10 @@ seen_as v master ids = record v { is_master = master; cores = ids }
 -- The readings that services look at are the same.
 pub record ServesSame (v : View) (may : CoreId → Bool) (h k : History) : Type 0 where
   pub started : (core : CoreId) → (is_own v core || may core) ≡ true → knows_started h core ≡ knows_started k core
-  pub limit : (t : TaskRef) → is_at_limit v t h ≡ is_at_limit v t k
+  pub jobs : (r : Runner) → job_count r (live_jobs h) ≡ job_count r (live_jobs k)
   pub frame : (r : Runner) → frame_at v r h ≡ frame_at v r k
   pub held : held_resources v h ≡ held_resources v k
+  pub events : task_events v h ≡ task_events v k
 
 -- A note of the core itself, or a mark that names only objects of cores that pass: neither an item nor what goes to
 -- another core.
@@ -130,17 +136,48 @@ module _ (v : View) (master : Bool) (ids : List CoreId) (may answered names : Co
   held-carried checks r service does h k n p q =
       answers-carried r service (checks (held_resources v h)) (checks (held_resources v k)) (ap (λ (held : List (List HeldResource)). first_failing (checks held)) (kept.reads h k p).held) does does h k n p q
 
+  limit-same : (t : TaskRef) (h k : History) → R h k → is_at_limit v t h ≡ is_at_limit v t k
+  limit-same t h k p = ap (nat_le (activation_limit v.own (Runner.Task t))) ((kept.reads h k p).jobs (Runner.Task t))
+
+  suspended-same : (t : TaskRef) (h k : History) → R h k → is_suspended v t h ≡ is_suspended v t k
+  suspended-same t h k p = ap (λ (n : ℕ). n == 0) ((kept.reads h k p).jobs (Runner.Task t))
+
   -- ---- one fact for each call that is served
 
+  -- What a service without a value answers, which has its effect where no check fails.
+  abbrev plain_answer : List Check → Option Answer
+  plain_answer checks = Some (record { status = first_failing checks; value = cond (is_ok_status (first_failing checks)) None None })
+
+  abbrev if_granted : List Check → History → History → History
+  if_granted checks h' h = cond (is_ok_status (first_failing checks)) h' h
+
+  granted-carried : (checks : Bool → List Check) (b c : Bool) → b ≡ c → (h' h k' k : History) → R h' k' → R h k → R (if_granted (checks b) h' h) (if_granted (checks c) k' k)
+  granted-carried checks b c same h' h k' k p' p =
+      subst (λ (d : Bool). R (if_granted (checks b) h' h) (if_granted (checks d) k' k)) same
+      (either-carried (is_ok_status (first_failing (checks b))) h' h k' k p' p)
+
+  abbrev limit_checks : Bool → List Check
+  limit_checks at_limit = (at_limit, Status.EOsLimit) ∷ []
+
+  abbrev state_checks : TaskRef → Bool → List Check
+  state_checks t suspended = by_extended v (Runner.Task t) ∷ (suspended, Status.EOsState) ∷ []
+
   answer-same : (call : RemoteCall) (h k : History) → R h k → answer_to call v h ≡ answer_to call other k
-  answer-same (Remote.ActivateTask t) h k p =
-      ap (λ (b : Bool). let answer : Answer = record { status = first_failing ((b, Status.EOsLimit) ∷ []); value = cond (is_ok_status (first_failing ((b, Status.EOsLimit) ∷ []))) None None } in Some answer) ((kept.reads h k p).limit t)
+  answer-same (Remote.ActivateTask t) h k p = ap (λ (b : Bool). plain_answer (limit_checks b)) (limit-same t h k p)
+  answer-same (Remote.SetEvent t mask) h k p = ap (λ (b : Bool). plain_answer (state_checks t b)) (suspended-same t h k p)
   answer-same call h k p = refl
+
+  releases-carried : (t : TaskRef) (mask : ℕ) (h k : History) → names t.core ≡ true → R h k → R (releases t mask v h) (releases t mask other k)
+  releases-carried t mask h k n p =
+      subst (λ (all : List TaskEvents). R (releases t mask v h) (cond (awaits_one_of mask (events_in (Runner.Task t) all)) (Printed (Mark.Released t) ∷ k) k)) (kept.reads h k p).events
+      (either-carried (awaits_one_of mask (events_at v (Runner.Task t) h)) (Printed (Mark.Released t) ∷ h) h (Printed (Mark.Released t) ∷ k) k (printed-carried _ h k n p) p)
 
   effect-carried : (call : RemoteCall) (h k : History) → names (core_of_call call) ≡ true → R h k → R (effect_of call v h) (effect_of call other k)
   effect-carried (Remote.ActivateTask t) h k n p =
-      subst (λ (b : Bool). R (effect_of (Remote.ActivateTask t) v h) (cond (is_ok_status (first_failing ((b, Status.EOsLimit) ∷ []))) (activates t k) k)) ((kept.reads h k p).limit t)
-      (either-carried (is_ok_status (first_failing ((is_at_limit v t h, Status.EOsLimit) ∷ []))) (activates t h) h (activates t k) k (printed-carried _ h k n p) p)
+      granted-carried limit_checks (is_at_limit v t h) (is_at_limit v t k) (limit-same t h k p) (activates t h) h (activates t k) k (printed-carried _ h k n p) p
+  effect-carried (Remote.SetEvent t mask) h k n p =
+      granted-carried (state_checks t) (is_suspended v t h) (is_suspended v t k) (suspended-same t h k p) (sets_events t mask v h) h (sets_events t mask other k) k
+      (releases-carried t mask _ _ n (printed-carried (Mark.EventSet t mask) h k n p)) p
   effect-carried call h k n p = p
 
   -- ---- calls across cores
@@ -205,18 +242,53 @@ module _ (v : View) (master : Bool) (ids : List CoreId) (may answered names : Co
       subst (λ (frame : Frame). R (sets r x (f (frame_at v r h)) h) (sets r x (f frame) k)) ((kept.reads h k p).frame r)
       (kept.local (Noted (Done r Status.EOk (Some (f (frame_at v r h))))) _ _ refl (printed-carried (Mark.VariableSet r x (f (frame_at v r h))) h k n p))
 
+  may_activate : (target : Option TaskRef) → IsAllowed v may (Op.ActivateTask target) → MayCall (option_map Remote.ActivateTask target)
+  may_activate None allowed = tt
+  may_activate (Some t) allowed = (and_parts _ true allowed).0
+
   activate-carried : (target : Option TaskRef) → Carried (Op.ActivateTask target)
-  activate-carried None r h k n allowed p = calls-carried r ServiceId.ActivateTask None h k n tt p
-  activate-carried (Some t) r h k n allowed p = calls-carried r ServiceId.ActivateTask (Some (Remote.ActivateTask t)) h k n (and_parts _ true allowed).0 p
+  activate-carried target r h k n allowed p = calls-carried r ServiceId.ActivateTask (option_map Remote.ActivateTask target) h k n (may_activate target allowed) p
 
   terminate-carried : Carried Op.TerminateTask
   terminate-carried r h k n allowed p =
-      held-carried (λ held. (is_isr r, Status.EOsCallevel) ∷ (holds_any (held_in r held), Status.EOsResource) ∷ []) r ServiceId.TerminateTask (ends r) h k n p (ends-carried r h k n p)
+      held-carried (λ held. by_task r ∷ (holds_any (held_in r held), Status.EOsResource) ∷ []) r ServiceId.TerminateTask (ends r) h k n p (ends-carried r h k n p)
+
+  -- ChainTask: what its caller's core checks, and what it does where nothing is refused.
+  chaining-same : (r : Runner) (target : Option TaskRef) (h k : History) → MayCall (option_map Remote.ActivateTask target) → R h k → first_failing (chaining_checks v r target h) ≡ first_failing (chaining_checks other r target k)
+  chaining-same r None h k allowed p = refl
+  chaining-same r (Some t) h k allowed p =
+      ap (λ (b : Bool). first_failing (by_task r ∷ (false, Status.EOsId) ∷ (not b, Status.EOsCore) ∷ holding_none v r h ∷ [])) ((kept.reads h k p).started t.core allowed)
+      ∙ ap (λ (held : List (List HeldResource)). first_failing (by_task r ∷ (false, Status.EOsId) ∷ (not (knows_started k t.core), Status.EOsCore) ∷ (holds_any (held_in r held), Status.EOsResource) ∷ [])) (kept.reads h k p).held
+
+  chains_here-carried : (r : Runner) (t : TaskRef) (h k : History) → IsNamed r → names t.core ≡ true → R h k → R (chains_here v r t h) (chains_here other r t k)
+  chains_here-carried r t h k n object p =
+      answers-carried r ServiceId.ChainTask ((exceeds_limit v r t h, Status.EOsLimit) ∷ []) ((exceeds_limit v r t k, Status.EOsLimit) ∷ [])
+      (ap (λ (b : Bool). first_failing ((not (same_runner r (Runner.Task t)) && b, Status.EOsLimit) ∷ [])) (limit-same t h k p))
+      (λ h. activates t (ends r h)) (λ k. activates t (ends r k)) h k n p (printed-carried _ _ _ object (ends-carried r h k n p))
+
+  chains_to-carried : (r : Runner) (target : Option TaskRef) (h k : History) → IsNamed r → MayCall (option_map Remote.ActivateTask target) → R h k → R (chains_to v r target h) (chains_to other r target k)
+  chains_to-carried r None h k n allowed p = p
+  chains_to-carried r (Some t) h k n allowed p = by (is_own v t.core) allowed
+    where
+      by : (b : Bool) → (b || may t.core) ≡ true
+          → R (cond b (chains_here v r t h) (asks r ServiceId.ChainTask t.core (Remote.ActivateTask t) h)) (cond b (chains_here other r t k) (asks r ServiceId.ChainTask t.core (Remote.ActivateTask t) k))
+      by true m = chains_here-carried r t h k n (kept.named t.core allowed) p
+      by false m = asks-carried r ServiceId.ChainTask (Remote.ActivateTask t) h k (kept.named t.core allowed) m p
+
+  chain-carried : (target : Option TaskRef) → Carried (Op.ChainTask target)
+  chain-carried target r h k n allowed p =
+      let object = may_activate target allowed in
+      answers-carried r ServiceId.ChainTask (chaining_checks v r target h) (chaining_checks other r target k) (chaining-same r target h k object p)
+      (chains_to v r target) (chains_to other r target) h k n p (chains_to-carried r target h k n object p)
+
+  pub resumes-carried : (r : Runner) (service : ServiceId) (s : Status) (value : Option ℤ) (h k : History) → IsNamed r → R h k → R (resumes r service s value h) (resumes r service s value k)
+  resumes-carried r service s value h k n p =
+      either-carried (ends_caller service s) (ends r h) _ (ends r k) _ (ends-carried r h k n p) (returns-carried r service s value h k n p)
 
   schedule-carried : Carried Op.Schedule
   schedule-carried r h k n allowed p =
       let granted = returns-carried r ServiceId.Schedule Status.EOk None h k n p in
-      held-carried (λ held. (is_isr r, Status.EOsCallevel) ∷ (holds_any (held_in r held), Status.EOsResource) ∷ []) r ServiceId.Schedule (returns r ServiceId.Schedule Status.EOk None) h k n p granted
+      held-carried (λ held. by_task r ∷ (holds_any (held_in r held), Status.EOsResource) ∷ []) r ServiceId.Schedule (returns r ServiceId.Schedule Status.EOk None) h k n p granted
 
   takes-carried : (r : Runner) (x : Option HeldResource) (h k : History) → R h k → R (takes r x h) (takes r x k)
   takes-carried r None h k p = p
@@ -240,6 +312,46 @@ module _ (v : View) (master : Bool) (ids : List CoreId) (may answered names : Co
       (λ h. returns r ServiceId.ReleaseResource Status.EOk None (gives r x h)) h k n p
       (returns-carried r ServiceId.ReleaseResource Status.EOk None _ _ n (gives-carried r x h k p))
 
+  set_event-carried : (target : Option TaskRef) (mask : ℕ) → Carried (Op.SetEvent target mask)
+  set_event-carried None mask r h k n allowed p = calls-carried r ServiceId.SetEvent None h k n tt p
+  set_event-carried (Some t) mask r h k n allowed p = calls-carried r ServiceId.SetEvent (Some (Remote.SetEvent t mask)) h k n (and_parts _ true allowed).0 p
+
+  clears-carried : (r : Runner) (mask : ℕ) (h k : History) → IsNamed r → R h k → R (clears r mask h) (clears r mask k)
+  clears-carried (Runner.Task t) mask h k n p = printed-carried _ h k n p
+  clears-carried (Runner.Isr i) mask h k n p = p
+
+  clear_event-carried : (mask : ℕ) → Carried (Op.ClearEvent mask)
+  clear_event-carried mask r h k n allowed p =
+      answers-carried r ServiceId.ClearEvent (clearing_checks v r) (clearing_checks v r) refl
+      (clears_and_returns r mask) (clears_and_returns r mask) h k n p
+      (returns-carried r ServiceId.ClearEvent Status.EOk None _ _ n (clears-carried r mask h k n p))
+
+  -- GetEvent of a task of the core, or of none.
+  reads_event-carried : (target : Option TaskRef) (r : Runner) (h k : History) → IsNamed r → R h k → R (answers r ServiceId.GetEvent (reading_checks v target h) (tells_events v r target) h) (answers r ServiceId.GetEvent (reading_checks other target k) (tells_events other r target) k)
+  reads_event-carried None r h k n p = returns-carried r ServiceId.GetEvent Status.EOsId None h k n p
+  reads_event-carried (Some t) r h k n p =
+      answers-carried r ServiceId.GetEvent (reading_checks v (Some t) h) (reading_checks other (Some t) k)
+      (ap (λ (b : Bool). first_failing ((false, Status.EOsId) ∷ state_checks t b)) (suspended-same t h k p))
+      (tells_events v r (Some t)) (tells_events other r (Some t)) h k n p
+      (subst (λ (all : List TaskEvents). R (tells_events v r (Some t) h) (returns r ServiceId.GetEvent Status.EOk (Some (pos (events_in (Runner.Task t) all).set)) k)) (kept.reads h k p).events
+      (returns-carried r ServiceId.GetEvent Status.EOk (Some (pos (events_at v (Runner.Task t) h).set)) h k n p))
+
+  begins_to_wait-carried : (r : Runner) (mask : ℕ) (h k : History) → IsNamed r → R h k → R (begins_to_wait r mask h) (begins_to_wait r mask k)
+  begins_to_wait-carried (Runner.Task t) mask h k n p = done-carried (Runner.Task t) _ _ (printed-carried _ _ _ n (printed-carried _ h k n p))
+  begins_to_wait-carried (Runner.Isr i) mask h k n p = p
+
+  goes_on_or_waits-carried : (r : Runner) (mask : ℕ) (h k : History) → IsNamed r → R h k → R (goes_on_or_waits v r mask h) (goes_on_or_waits other r mask k)
+  goes_on_or_waits-carried r mask h k n p =
+      subst (λ (all : List TaskEvents). R (goes_on_or_waits v r mask h) (cond (have_common mask (events_in r all).set) (returns r ServiceId.WaitEvent Status.EOk None k) (begins_to_wait r mask k))) (kept.reads h k p).events
+      (either-carried (have_common mask (events_at v r h).set) (returns r ServiceId.WaitEvent Status.EOk None h) (begins_to_wait r mask h) (returns r ServiceId.WaitEvent Status.EOk None k) (begins_to_wait r mask k)
+      (returns-carried r ServiceId.WaitEvent Status.EOk None h k n p) (begins_to_wait-carried r mask h k n p))
+
+  wait_event-carried : (mask : ℕ) → Carried (Op.WaitEvent mask)
+  wait_event-carried mask r h k n allowed p =
+      answers-carried r ServiceId.WaitEvent (waiting_checks v r h) (waiting_checks other r k)
+      (ap (λ (held : List (List HeldResource)). first_failing (by_task r ∷ by_extended v r ∷ (holds_any (held_in r held), Status.EOsResource) ∷ [])) (kept.reads h k p).held)
+      (goes_on_or_waits v r mask) (goes_on_or_waits other r mask) h k n p (goes_on_or_waits-carried r mask h k n p)
+
   pub operates-carried : (op : Op) → Carried op
   operates-carried Op.Work r h k n allowed p = done-carried r h k p
   operates-carried (Op.Set x z) r h k n allowed p = sets-carried (λ frame. z) x r h k n p
@@ -250,6 +362,11 @@ module _ (v : View) (master : Bool) (ids : List CoreId) (may answered names : Co
   operates-carried (Op.JumpIfZero x place) r h k n allowed p = done-carried r h k p
   operates-carried (Op.ActivateTask target) r h k n allowed p = activate-carried target r h k n allowed p
   operates-carried Op.TerminateTask r h k n allowed p = terminate-carried r h k n allowed p
+  operates-carried (Op.ChainTask target) r h k n allowed p = chain-carried target r h k n allowed p
   operates-carried Op.Schedule r h k n allowed p = schedule-carried r h k n allowed p
   operates-carried (Op.GetResource target) r h k n allowed p = get-carried target r h k n allowed p
   operates-carried (Op.ReleaseResource target) r h k n allowed p = release-carried target r h k n allowed p
+  operates-carried (Op.SetEvent target mask) r h k n allowed p = set_event-carried target mask r h k n allowed p
+  operates-carried (Op.ClearEvent mask) r h k n allowed p = clear_event-carried mask r h k n allowed p
+  operates-carried (Op.GetEvent target x) r h k n allowed p = reads_event-carried (own_target v.own target) r h k n p
+  operates-carried (Op.WaitEvent mask) r h k n allowed p = wait_event-carried mask r h k n allowed p

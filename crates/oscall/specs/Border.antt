@@ -23,11 +23,12 @@ use Rattle.oscall.specs.Checks.{Check}
 use Rattle.oscall.specs.Returning.{answers, asks, prints, queues, reports, returns}
 use Rattle.oscall.specs.Service.{Service, answer_by, effect_by}
 use Rattle.oscall.specs.Tasks.{activation}
+use Rattle.oscall.specs.Events.{setting}
 
 -- The table: a row for each call. None is served by nobody yet. [own]
 abbrev pub service_of : RemoteCall → Option Service
 service_of (ActivateTask t) = Some (activation t)
-service_of (SetEvent t mask) = None
+service_of (SetEvent t mask) = Some (setting t mask)
 service_of (SetRelAlarm a increment cycle) = None
 service_of (SetAbsAlarm a start cycle) = None
 service_of (CancelAlarm a) = None
@@ -59,7 +60,7 @@ effect_of call v h = option_map_or (λ (s : Service). effect_by s v h) (service_
 -- ---- for a job of this core
 
 -- The checks of the caller's core: the invalid identifier, and a core that was never started.
--- [OSEK/VDX OS 2.2.3, section 13.2.3.1; E_OS_CORE: own]
+-- [OSEK/VDX OS 2.2.3, section 13.2.3.1, 13.2.3.3 and 13.5.3.1; E_OS_CORE: own]
 abbrev pub border_checks : Option RemoteCall → History → List Check
 border_checks target h =
     (is_none target, EOsId)

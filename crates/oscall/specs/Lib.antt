@@ -1,8 +1,11 @@
 pub mod Checks
+pub mod Callers
 pub mod Returning
 pub mod Service
 pub mod Tasks
 pub mod Resources
+pub mod Events
 pub mod Border
+pub mod Chaining
 pub mod Variables
 pub mod Operations

@@ -1,16 +1,24 @@
 -- What an operation of a job does: a row for each.
-use Rattle.std.specs.Prelude.{None, option_map, ◌∷◌}
+use Rattle.std.specs.Prelude.{ℕ, Option, None, option_map, ◌∷◌}
 use Rattle.osbase.specs.declared.statuses.Status.TheVariants.{EOk}
 use Rattle.osbase.specs.declared.statuses.ServiceId.TheVariants as Service
+use Rattle.osbase.specs.declared.references.TaskRef.{TaskRef}
 use Rattle.osbase.specs.declared.references.Runner.{Runner}
+use Rattle.osbase.specs.declared.messages.RemoteCall.{RemoteCall}
 use Rattle.osbase.specs.declared.messages.RemoteCall.TheVariants as Remote
 use Rattle.osbase.specs.History.{History, Noted, Done}
 use Rattle.oscript.specs.declared.Op.{Op}
 use Rattle.osplan.specs.View.{View}
 use Rattle.oscall.specs.Tasks.{schedules, terminates}
 use Rattle.oscall.specs.Resources.{gets_resource, releases_resource}
+use Rattle.oscall.specs.Events.{clears_event, gets_event, waits_event}
 use Rattle.oscall.specs.Border.{calls}
+use Rattle.oscall.specs.Chaining.{chains}
 use Rattle.oscall.specs.Variables.{adds, adds_variable, sets, stores_status}
+
+-- The call that SetEvent of this task is.
+abbrev pub setting_call : Option TaskRef → ℕ → Option RemoteCall
+setting_call target mask = option_map (λ (t : TaskRef). Remote.SetEvent t mask) target
 
 -- `work` and a jump have no effect but to be done. [own: one operation is one unit of a script]
 abbrev pub operates : View → Runner → Op → History → History
@@ -22,7 +30,12 @@ operates v r (Op.StoreStatus x) h = stores_status v r x h
 operates v r (Op.Jump n) h = Noted (Done r EOk None) ∷ h
 operates v r (Op.JumpIfZero x n) h = Noted (Done r EOk None) ∷ h
 operates v r (Op.ActivateTask target) h = calls v r Service.ActivateTask (option_map Remote.ActivateTask target) h
+operates v r (Op.ChainTask target) h = chains v r target h
 operates v r Op.TerminateTask h = terminates v r h
 operates v r Op.Schedule h = schedules v r h
 operates v r (Op.GetResource target) h = gets_resource v r target h
 operates v r (Op.ReleaseResource target) h = releases_resource v r target h
+operates v r (Op.SetEvent target mask) h = calls v r Service.SetEvent (setting_call target mask) h
+operates v r (Op.ClearEvent mask) h = clears_event v r mask h
+operates v r (Op.GetEvent target x) h = gets_event v r target h
+operates v r (Op.WaitEvent mask) h = waits_event v r mask h

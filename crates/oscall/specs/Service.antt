@@ -9,7 +9,7 @@ use Rattle.oscall.specs.Checks.{Check, first_failing, is_ok_status}
 -- The checks that only the object's core can make, the effect, and the value that E_OK brings along. [own]
 pub record Service : Type 0 where
   pub checks : View → History → List Check
-  pub effect : History → History
+  pub effect : View → History → History
   pub value : View → History → Option ℤ
 
 -- A service without a value.
@@ -24,4 +24,4 @@ abbrev pub answer_by : Service → View → History → Answer
 answer_by s v h = record { status = status_by s v h; value = (if is_ok_status (status_by s v h) then s.value v h else None) }
 
 abbrev pub effect_by : Service → View → History → History
-effect_by s v h = if is_ok_status (status_by s v h) then s.effect h else h
+effect_by s v h = if is_ok_status (status_by s v h) then s.effect v h else h

@@ -1,15 +1,14 @@
 -- The services of tasks.
-use Rattle.std.specs.Prelude.{Bool, true, false, None, List, [], ◌∷◌}
-use Rattle.osbase.specs.declared.statuses.Status.TheVariants.{EOk, EOsCallevel, EOsLimit, EOsResource, EOsMissingend}
+use Rattle.std.specs.Prelude.{None, List, [], ◌∷◌}
+use Rattle.osbase.specs.declared.statuses.Status.TheVariants.{EOk, EOsLimit, EOsMissingend}
 use Rattle.osbase.specs.declared.statuses.ServiceId.TheVariants as ServiceId
 use Rattle.osbase.specs.declared.references.TaskRef.{TaskRef}
 use Rattle.osbase.specs.declared.references.Runner.{Runner}
 use Rattle.osbase.specs.declared.marks.Mark.TheVariants as Mark
 use Rattle.osbase.specs.History.{History}
 use Rattle.osplan.specs.View.{View}
-use Rattle.osjobs.specs.Priorities.{holds_any}
 use Rattle.osstate.specs.Queries.{is_at_limit}
-use Rattle.osstate.specs.Readings.{resources_of}
+use Rattle.oscall.specs.Callers.{by_task, holding_none}
 use Rattle.oscall.specs.Checks.{Check}
 use Rattle.oscall.specs.Returning.{answers, prints, returns}
 use Rattle.oscall.specs.Service.{Service, no_value}
@@ -23,7 +22,7 @@ abbrev pub activation_checks : TaskRef → View → History → List Check
 activation_checks t v h = (is_at_limit v t h, EOsLimit) ∷ []
 
 abbrev pub activation : TaskRef → Service
-activation t = record { checks = activation_checks t; effect = activates t; value = no_value }
+activation t = record { checks = activation_checks t; effect = λ v. activates t; value = no_value }
 
 -- The runner's oldest job ends by its own act: PostTaskHook comes first. [OSEK/VDX OS 2.2.3, section 11.5]
 abbrev pub ends : Runner → History → History
@@ -36,15 +35,10 @@ abbrev pub ends_unasked : Runner → History → History
 ends_unasked (Runner.Task t) h = ends (Runner.Task t) (prints (Mark.ErrorHook EOsMissingend) h)
 ends_unasked (Runner.Isr i) h = ends (Runner.Isr i) h
 
--- The runner is an ISR.
-abbrev pub is_isr : Runner → Bool
-is_isr (Runner.Task t) = false
-is_isr (Runner.Isr i) = true
-
 -- What TerminateTask and Schedule check: that a task calls, then that its job holds no resource.
 -- [OSEK/VDX OS 2.2.3, section 8.2, 13.2.3.2 and 13.2.3.4]
 abbrev pub task_checks : View → Runner → History → List Check
-task_checks v r h = (is_isr r, EOsCallevel) ∷ (holds_any (resources_of v r h), EOsResource) ∷ []
+task_checks v r h = by_task r ∷ holding_none v r h ∷ []
 
 -- A job ends itself. [OSEK/VDX OS 2.2.3, section 13.2.3.2]
 abbrev pub terminates : View → Runner → History → History

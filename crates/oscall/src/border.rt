@@ -7,16 +7,20 @@ ghost use Rattle.osjobs.specs.Priorities.{is_own_runner};
 ghost use Rattle.osstate.specs.Does.{Effects, HasRoom, Reads, service_entries, service_marks};
 ghost use Rattle.oscall.specs.Border.{answer_to, calls, core_of_call, crosses, effect_of, has_service, is_known_call, is_served, prints_served, serves_action, serves_request};
 
+use crate::events::set_event;
 use crate::returning::{Answer, ask, finish, refuse, report};
 use crate::tasks::activate;
 use osbase::{CoreId, Mark, Message, RemoteCall, Runner, ServiceId, Status};
 use osstate::CoreState;
 
-/// Whether a core serves the call for the core of its object: so far only ActivateTask.
+/// Whether a core serves the call for the core of its object: so far only ActivateTask and SetEvent.
 pub fn has_service(call: RemoteCall) -> bool
     ensures { result ≡ has_service call }
 {
-    matches!(call, RemoteCall::ActivateTask(_))
+    matches!(
+        call,
+        RemoteCall::ActivateTask(_) | RemoteCall::SetEvent { .. }
+    )
 }
 
 // The half of a service that the object's core does, for a job of its own and for another core alike: the
@@ -28,13 +32,14 @@ fn serve<const P: usize, const J: usize, const OUT: usize>(
 ) -> Answer
     requires served { IsTrue (is_served state.old.view call) }
     requires live { is_before_live state.old.progress.phase ≡ false }
-    requires room { HasRoom 1 1 state.old marks.old }
+    requires room { HasRoom 2 2 state.old marks.old }
     ensures answer { Reads (λ v h. answer_to call v h) state.old (Some result) }
-    ensures effects { Effects 1 1 (λ v h. effect_of call v h) state.old state.new marks.old marks.new }
+    ensures effects { Effects 2 2 (λ v h. effect_of call v h) state.old state.new marks.old marks.new }
     ensures border { state.new.border ≡ state.old.border }
 {
     match call {
         RemoteCall::ActivateTask(task) => activate(state, task, marks),
+        RemoteCall::SetEvent { task, mask } => set_event(state, task, mask, marks),
         _ => unreachable!(),
     }
 }
@@ -101,9 +106,9 @@ fn serve_for<const P: usize, const J: usize, const OUT: usize>(
 ) -> Answer
     requires served { IsTrue (is_served state.old.view call) }
     requires live { is_before_live state.old.progress.phase ≡ false }
-    requires room { HasRoom 2 2 state.old marks.old }
+    requires room { HasRoom 3 3 state.old marks.old }
     ensures answer { Reads (λ v h. answer_to call v h) state.old (Some result) }
-    ensures effects { Effects 2 2 (λ v h. prints_served from call result (effect_of call v h)) state.old state.new marks.old marks.new }
+    ensures effects { Effects 3 3 (λ v h. prints_served from call result (effect_of call v h)) state.old state.new marks.old marks.new }
     ensures border { state.new.border ≡ state.old.border }
 {
     let answer = serve(state, call, marks);

@@ -4,6 +4,8 @@
 #![tactic(auto)]
 
 pub mod border;
+pub mod chaining;
+pub mod events;
 pub mod operations;
 pub mod resources;
 pub mod returning;
@@ -11,8 +13,10 @@ pub mod tasks;
 pub mod variables;
 
 pub use border::{call, has_service, serve_action, serve_request};
+pub use chaining::{chain, resume};
+pub use events::{clear_event, get_event, set_event, wait_event};
 pub use operations::operate;
 pub use resources::{get_resource, release_resource};
-pub use returning::{Answer, accept, ask, finish, is_ok, refuse, report};
+pub use returning::{Answer, accept, ask, finish, is_ok, refuse, report, without_value};
 pub use tasks::{activate, end, end_unasked, schedule, terminate};
 pub use variables::{add, add_variable, set, store_status};

@@ -2,11 +2,14 @@
 
 ghost use Rattle.std.specs.Prelude.{◌≡◌, ◌<◌, IsTrue, false, length, option_map};
 ghost use Rattle.osbase.specs.Phases.{is_before_live};
+ghost use Rattle.osjobs.specs.Priorities.{is_own_runner};
 ghost use Rattle.osstate.specs.Does.{Effects, HasRoom, service_entries, service_marks};
-ghost use Rattle.osstate.specs.Sound.{Acts, has_objects_of};
-ghost use Rattle.oscall.specs.Operations.{operates};
+ghost use Rattle.osstate.specs.Sound.{has_objects_of};
+ghost use Rattle.oscall.specs.Operations.{operates, setting_call};
 
 use crate::border::call;
+use crate::chaining::chain;
+use crate::events::{clear_event, get_event, wait_event};
 use crate::resources::{get_resource, release_resource};
 use crate::tasks::{schedule, terminate};
 use crate::variables::{add, add_variable, set, store_status};
@@ -21,7 +24,7 @@ pub fn operate<const P: usize, const J: usize, const OUT: usize>(
     op: Op,
     marks: &mut Vec<Mark>,
 )
-    requires acts { Acts state.old runner }
+    requires own { IsTrue (is_own_runner state.old.view.own runner) }
     requires known { IsTrue (has_objects_of state.old.view.own op) }
     requires live { is_before_live state.old.progress.phase ≡ false }
     requires outbox { length state.old.border.outbox < OUT }
@@ -41,9 +44,17 @@ pub fn operate<const P: usize, const J: usize, const OUT: usize>(
             call(state, runner, ServiceId::ActivateTask, target, marks);
         }
         Op::TerminateTask => terminate(state, runner, marks),
+        Op::ChainTask(target) => chain(state, runner, target, marks),
         Op::Schedule => schedule(state, runner, marks),
         Op::GetResource(target) => get_resource(state, runner, target, marks),
         Op::ReleaseResource(target) => release_resource(state, runner, target, marks),
+        Op::SetEvent(target, mask) => {
+            let target = setting_of(target, mask);
+            call(state, runner, ServiceId::SetEvent, target, marks);
+        }
+        Op::ClearEvent(mask) => clear_event(state, runner, mask, marks),
+        Op::GetEvent(target, _) => get_event(state, runner, target, marks),
+        Op::WaitEvent(mask) => wait_event(state, runner, mask, marks),
     }
 }
 
@@ -52,4 +63,12 @@ fn activation_of(target: Option<TaskRef>) -> Option<RemoteCall>
     ensures { result ≡ option_map RemoteCall.ActivateTask target }
 {
     Some(RemoteCall::ActivateTask(target?))
+}
+
+// The call that SetEvent of this task is; the invalid identifier is for none.
+fn setting_of(target: Option<TaskRef>, mask: u32) -> Option<RemoteCall>
+    ensures { result ≡ setting_call target mask }
+{
+    let task = target?;
+    Some(RemoteCall::SetEvent { task, mask })
 }

@@ -18,6 +18,16 @@ pub struct Answer {
     pub value: Option<i64>,
 }
 
+/// What a service answers that has no value.
+pub fn without_value(status: Status) -> Answer
+    ensures { result ≡ record { status = status; value = None } }
+{
+    Answer {
+        status,
+        value: None,
+    }
+}
+
 /// Whether the status is E_OK.
 pub fn is_ok(status: Status) -> bool
     ensures { result ≡ is_ok_status status }
@@ -34,10 +44,9 @@ pub fn report<const P: usize, const J: usize, const OUT: usize>(
     requires { HasRoom 1 1 state.old marks.old }
     ensures { Effects 1 1 (λ v h. reports status h) state.old state.new marks.old marks.new }
 {
-    if let Status::EOk = status {
-        return;
+    if !is_ok(status) {
+        state.print(Mark::ErrorHook(status), marks);
     }
-    state.print(Mark::ErrorHook(status), marks);
 }
 
 /// A service returns to the job of one of the core's tasks: its status is printed, then ErrorHook is
@@ -76,11 +85,7 @@ pub fn refuse<const P: usize, const J: usize, const OUT: usize>(
     requires room { HasRoom 3 2 state.old marks.old }
     ensures { Effects 3 2 (λ v h. returns runner service status None h) state.old state.new marks.old marks.new }
 {
-    let answer = Answer {
-        status,
-        value: None,
-    };
-    finish(state, runner, service, answer, marks);
+    finish(state, runner, service, without_value(status), marks);
 }
 
 /// A service without a value that has had its effect returns with E_OK.
@@ -94,11 +99,7 @@ pub fn accept<const P: usize, const J: usize, const OUT: usize>(
     requires room { HasRoom 3 2 state.old marks.old }
     ensures { Effects 3 2 (λ v h. returns runner service EOk None h) state.old state.new marks.old marks.new }
 {
-    let answer = Answer {
-        status: Status::EOk,
-        value: None,
-    };
-    finish(state, runner, service, answer, marks);
+    finish(state, runner, service, without_value(Status::EOk), marks);
 }
 
 /// A service on another core's object: its request joins the outbox, and the call stays open until the

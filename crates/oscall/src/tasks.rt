@@ -1,15 +1,16 @@
 //! The services of tasks.
 
-ghost use Rattle.std.specs.Prelude.{◌≡◌, IsTrue, false};
+ghost use Rattle.std.specs.Prelude.{◌≡◌, ◌<◌, IsTrue, false};
+ghost use Rattle.osbase.specs.History.{job_count, without_oldest};
 ghost use Rattle.osbase.specs.Phases.{is_before_live};
 ghost use Rattle.osjobs.specs.Priorities.{is_own_runner};
 ghost use Rattle.osstate.specs.Does.{Effects, HasRoom, Reads};
-ghost use Rattle.osstate.specs.Sound.{Acts};
+ghost use Rattle.osstate.specs.Sound.{activation_limit};
 ghost use Rattle.oscall.specs.Checks.{first_failing};
 ghost use Rattle.oscall.specs.Service.{answer_by, effect_by};
 ghost use Rattle.oscall.specs.Tasks.{activation, ends, ends_unasked, schedules, task_checks, terminates};
 
-use crate::returning::{Answer, finish, is_ok, refuse};
+use crate::returning::{Answer, finish, is_ok, refuse, without_value};
 use osbase::{Mark, Runner, ServiceId, Status, TaskRef};
 use osstate::CoreState;
 
@@ -29,28 +30,24 @@ pub fn activate<const P: usize, const J: usize, const OUT: usize>(
     ensures border { state.new.border ≡ state.old.border }
 {
     if state.is_at_limit(task) {
-        return Answer {
-            status: Status::EOsLimit,
-            value: None,
-        };
+        return without_value(Status::EOsLimit);
     }
     state.activate(task, marks);
-    Answer {
-        status: Status::EOk,
-        value: None,
-    }
+    without_value(Status::EOk)
 }
 
 /// The oldest job of one of the core's tasks ends by its own act: PostTaskHook comes first
-/// (OSEK/VDX OS 2.2.3, section 11.5).
+/// (OSEK/VDX OS 2.2.3, section 11.5). So the task has fewer jobs than it may have.
 pub fn end<const P: usize, const J: usize, const OUT: usize>(
     state: &mut CoreState<'_, P, J, OUT>,
     runner: Runner,
     marks: &mut Vec<Mark>,
 )
-    requires acts { Acts state.old runner }
+    requires own { IsTrue (is_own_runner state.old.view.own runner) }
     requires room { HasRoom 2 2 state.old marks.old }
-    ensures { Effects 2 2 (λ v h. ends runner h) state.old state.new marks.old marks.new }
+    ensures effects { Effects 2 2 (λ v h. ends runner h) state.old state.new marks.old marks.new }
+    ensures jobs { state.new.tasks.jobs ≡ without_oldest runner state.old.tasks.jobs }
+    ensures below { job_count runner state.new.tasks.jobs < activation_limit state.new.view.own runner }
 {
     match runner {
         Runner::Task(task) => {
@@ -68,7 +65,7 @@ pub fn end_unasked<const P: usize, const J: usize, const OUT: usize>(
     runner: Runner,
     marks: &mut Vec<Mark>,
 )
-    requires acts { Acts state.old runner }
+    requires own { IsTrue (is_own_runner state.old.view.own runner) }
     requires room { HasRoom 3 3 state.old marks.old }
     ensures { Effects 3 3 (λ v h. ends_unasked runner h) state.old state.new marks.old marks.new }
 {
@@ -109,7 +106,7 @@ pub fn terminate<const P: usize, const J: usize, const OUT: usize>(
     runner: Runner,
     marks: &mut Vec<Mark>,
 )
-    requires acts { Acts state.old runner }
+    requires own { IsTrue (is_own_runner state.old.view.own runner) }
     requires room { HasRoom 3 2 state.old marks.old }
     ensures { Effects 3 2 (λ v h. terminates v runner h) state.old state.new marks.old marks.new }
 {

@@ -1,5 +1,6 @@
 -- The grammar of operations: a row for each. An operation as its verb and its arguments, and the objects that it names.
 use Rattle.std.specs.Prelude.{ℕ, ◌&&◌, nat_le, ℤ, pos, negsuc, Bool, true, false, if◌then◌else◌, Option, Some, None, List, [], ◌∷◌, codes, option_map, filter_map, slice_get}
+use Rattle.std.specs.List.{list_all}
 use Rattle.osbase.specs.Objects.{resource_of, resource_place, same_kind, task_of, task_place}
 use Rattle.osbase.specs.Words.{service_name}
 use Rattle.osbase.specs.declared.objects.Object.{Object as Named}
@@ -12,7 +13,7 @@ use Rattle.osbase.specs.declared.references.Variable.{Variable as VariableRef}
 use Rattle.osbase.specs.declared.statuses.ServiceId.TheVariants as Service
 use Rattle.osbase.specs.declared.statuses.ServiceId.{ServiceId}
 use Rattle.oscript.specs.declared.Op.{Op}
-use Rattle.oscript.specs.declared.rows.Arg.TheVariants.{Object, Number, Int, Variable}
+use Rattle.oscript.specs.declared.rows.Arg.TheVariants.{Object, Mask, Number, Int, Variable}
 use Rattle.oscript.specs.declared.rows.Arg.{Arg}
 use Rattle.oscript.specs.declared.rows.Args.TheVariants.{Zero, One, Two, Three}
 use Rattle.oscript.specs.declared.rows.Args.{Args}
@@ -51,9 +52,14 @@ row_of Verb.Jump = plain_row (codes "jump") (One POSITION)
 row_of Verb.JumpIfZero = plain_row (codes "jz") (Two Kind.Variable POSITION)
 row_of Verb.ActivateTask = service_row Service.ActivateTask (One TASK)
 row_of Verb.TerminateTask = service_row Service.TerminateTask Zero
+row_of Verb.ChainTask = service_row Service.ChainTask (One TASK)
 row_of Verb.Schedule = service_row Service.Schedule Zero
 row_of Verb.GetResource = service_row Service.GetResource (One RESOURCE)
 row_of Verb.ReleaseResource = service_row Service.ReleaseResource (One RESOURCE)
+row_of Verb.SetEvent = service_row Service.SetEvent (Two TASK Kind.Mask)
+row_of Verb.ClearEvent = service_row Service.ClearEvent (One Kind.Mask)
+row_of Verb.GetEvent = service_row Service.GetEvent (Two TASK Kind.Variable)
+row_of Verb.WaitEvent = service_row Service.WaitEvent (One Kind.Mask)
 
 abbrev pub word_of : Verb → List ℕ
 word_of verb = (row_of verb).0
@@ -84,6 +90,14 @@ task_at args i = option_map task_of (place_at Task args i)
 
 abbrev pub resource_at : List (Arg Place) → ℕ → Option ResourceRef
 resource_at args i = option_map resource_of (place_at Resource args i)
+
+-- The events of the mask at this place.
+abbrev pub mask_in : Option (Arg Place) → ℕ
+mask_in (Some (Mask mask)) = mask
+mask_in arg = 0
+
+abbrev pub mask_at : List (Arg Place) → ℕ → ℕ
+mask_at args i = mask_in (slice_get args i)
 
 abbrev pub int_in : Option (Arg Place) → ℤ
 int_in (Some (Int n)) = n
@@ -118,9 +132,14 @@ op_by Verb.Jump args = Op.Jump (number_at args 0)
 op_by Verb.JumpIfZero args = Op.JumpIfZero (variable_at args 0) (number_at args 1)
 op_by Verb.ActivateTask args = Op.ActivateTask (task_at args 0)
 op_by Verb.TerminateTask args = Op.TerminateTask
+op_by Verb.ChainTask args = Op.ChainTask (task_at args 0)
 op_by Verb.Schedule args = Op.Schedule
 op_by Verb.GetResource args = Op.GetResource (resource_at args 0)
 op_by Verb.ReleaseResource args = Op.ReleaseResource (resource_at args 0)
+op_by Verb.SetEvent args = Op.SetEvent (task_at args 0) (mask_at args 1)
+op_by Verb.ClearEvent args = Op.ClearEvent (mask_at args 0)
+op_by Verb.GetEvent args = Op.GetEvent (task_at args 0) (variable_at args 1)
+op_by Verb.WaitEvent args = Op.WaitEvent (mask_at args 0)
 
 -- The operation of a form. [own]
 abbrev pub op_of : Verb × List (Arg Place) → Op
@@ -143,9 +162,14 @@ form_of_op (Op.Jump n) = (Verb.Jump, Number n ∷ [])
 form_of_op (Op.JumpIfZero x n) = (Verb.JumpIfZero, Variable x.index ∷ Number n ∷ [])
 form_of_op (Op.ActivateTask target) = (Verb.ActivateTask, task_argument target ∷ [])
 form_of_op Op.TerminateTask = (Verb.TerminateTask, [])
+form_of_op (Op.ChainTask target) = (Verb.ChainTask, task_argument target ∷ [])
 form_of_op Op.Schedule = (Verb.Schedule, [])
 form_of_op (Op.GetResource target) = (Verb.GetResource, resource_argument target ∷ [])
 form_of_op (Op.ReleaseResource target) = (Verb.ReleaseResource, resource_argument target ∷ [])
+form_of_op (Op.SetEvent target mask) = (Verb.SetEvent, task_argument target ∷ Mask mask ∷ [])
+form_of_op (Op.ClearEvent mask) = (Verb.ClearEvent, Mask mask ∷ [])
+form_of_op (Op.GetEvent target x) = (Verb.GetEvent, task_argument target ∷ Variable x.index ∷ [])
+form_of_op (Op.WaitEvent mask) = (Verb.WaitEvent, Mask mask ∷ [])
 
 -- ---- arguments of their kinds
 
@@ -157,6 +181,7 @@ is_int (negsuc n) = nat_le n 9223372036854775807
 -- The argument is one of the kind.
 abbrev pub is_of : Kind → Arg Place → Bool
 is_of (Kind.Object kind) (Object other target) = same_kind kind other
+is_of Kind.Mask (Mask mask) = nat_le mask 4294967295
 is_of (Kind.Number low high) (Number n) = nat_le low n && nat_le n high
 is_of Kind.Int (Int n) = is_int n
 is_of Kind.Variable (Variable x) = nat_le x 7
@@ -177,6 +202,7 @@ is_in_form op = are_of (kinds_of (form_of_op op).0) (form_of_op op).1
 abbrev pub object_in : Arg Place → Option Named
 object_in (Object kind (Some place)) = Some (record { kind = kind; place = place })
 object_in (Object kind None) = None
+object_in (Mask mask) = None
 object_in (Number n) = None
 object_in (Int z) = None
 object_in (Variable x) = None
@@ -188,8 +214,18 @@ objects_in args = filter_map object_in args
 abbrev pub objects_of : Op → List Named
 objects_of op = objects_in (form_of_op op).1
 
+-- A mask has an event: 0 stands for one that is out of its range. [own]
+abbrev pub has_event : {R : Type 0} → Arg R → Bool
+has_event (Mask mask) = nat_le 1 mask
+has_event arg = true
+
+-- Each mask of the operation has an event. [own]
+abbrev pub has_masks : Op → Bool
+has_masks op = list_all has_event (form_of_op op).1
+
 -- The operation may name no object of another core. [own]
 abbrev pub names_own_only : Op → Bool
 names_own_only (Op.GetResource target) = true
 names_own_only (Op.ReleaseResource target) = true
+names_own_only (Op.GetEvent target x) = true
 names_own_only op = false

@@ -30,12 +30,22 @@ pub enum Op {
     ActivateTask(Option<TaskRef>),
     /// TerminateTask (OSEK/VDX OS 2.2.3, section 13.2.3.2).
     TerminateTask,
+    /// ChainTask (OSEK/VDX OS 2.2.3, section 13.2.3.3).
+    ChainTask(Option<TaskRef>),
     /// Schedule (OSEK/VDX OS 2.2.3, section 13.2.3.4).
     Schedule,
     /// GetResource (OSEK/VDX OS 2.2.3, section 13.4.3.1).
     GetResource(Option<ResourceRef>),
     /// ReleaseResource (OSEK/VDX OS 2.2.3, section 13.4.3.2).
     ReleaseResource(Option<ResourceRef>),
+    /// SetEvent of these events (OSEK/VDX OS 2.2.3, section 13.5.3.1).
+    SetEvent(Option<TaskRef>, u32),
+    /// ClearEvent of these of the caller (OSEK/VDX OS 2.2.3, section 13.5.3.2).
+    ClearEvent(u32),
+    /// GetEvent: the variable gets the events that are set (OSEK/VDX OS 2.2.3, section 13.5.3.3).
+    GetEvent(Option<TaskRef>, Variable),
+    /// WaitEvent for one of these of the caller (OSEK/VDX OS 2.2.3, section 13.5.3.4).
+    WaitEvent(u32),
 }
 
 impl Op {
@@ -55,6 +65,7 @@ impl Op {
             Op::Add(variable, _) => Some(variable),
             Op::AddVariable(variable, _) => Some(variable),
             Op::StoreStatus(variable) => Some(variable),
+            Op::GetEvent(_, variable) => Some(variable),
             _ => None,
         }
     }

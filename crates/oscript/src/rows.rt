@@ -3,7 +3,7 @@
 
 ghost use Rattle.std.specs.Prelude.{◌≡◌, filter_map, option_map, slice_get};
 ghost use Rattle.osbase.specs.Objects.{resource_of, task_of};
-ghost use Rattle.oscript.specs.Rows.{form_of_op, form_view, int_at, items, names_own_only, number_at, object_in, objects_of, op_of, place_at, plain_row, resource_argument, resource_at, row_of, row_view, service_row, task_at, task_argument, variable_at};
+ghost use Rattle.oscript.specs.Rows.{form_of_op, form_view, has_masks, int_at, items, mask_at, names_own_only, number_at, object_in, objects_of, op_of, place_at, plain_row, resource_argument, resource_at, row_of, row_view, service_row, task_at, task_argument, variable_at};
 
 use crate::Op;
 use osbase::{Object, ObjectKind, Place, ResourceRef, ServiceId, TaskRef, Variable};
@@ -13,6 +13,8 @@ use osbase::{Object, ObjectKind, Place, ResourceRef, ServiceId, TaskRef, Variabl
 pub enum Kind {
     /// The name of an object of this kind, or `?`.
     Object(ObjectKind),
+    /// Events, each a bit: a number of 1 to 4294967295.
+    Mask,
     /// A whole number of this range.
     Number(u32, u32),
     /// A signed number of 64 bits.
@@ -42,9 +44,14 @@ pub enum Verb {
     JumpIfZero,
     ActivateTask,
     TerminateTask,
+    ChainTask,
     Schedule,
     GetResource,
     ReleaseResource,
+    SetEvent,
+    ClearEvent,
+    GetEvent,
+    WaitEvent,
 }
 
 /// One row of the grammar: an operation's word, the kinds of its arguments, and the service that it
@@ -56,8 +63,10 @@ pub struct Row {
     pub service: Option<ServiceId>,
 }
 
-/// Every operation.
-pub const VERBS: [Verb; 12] = [
+/// Every operation. A word is looked for from the front, so what scripts have most stands first.
+pub const VERBS: [Verb; 17] = [
+    Verb::ActivateTask,
+    Verb::TerminateTask,
     Verb::Work,
     Verb::Set,
     Verb::Add,
@@ -65,11 +74,14 @@ pub const VERBS: [Verb; 12] = [
     Verb::StoreStatus,
     Verb::Jump,
     Verb::JumpIfZero,
-    Verb::ActivateTask,
-    Verb::TerminateTask,
+    Verb::ChainTask,
     Verb::Schedule,
     Verb::GetResource,
     Verb::ReleaseResource,
+    Verb::SetEvent,
+    Verb::ClearEvent,
+    Verb::GetEvent,
+    Verb::WaitEvent,
 ];
 
 /// A task's name, or `?`.
@@ -81,6 +93,7 @@ pub const RESOURCE: Kind = Kind::Object(ObjectKind::Resource);
 /// A place in a script: that of an operation, or past the last of the most that there may be.
 pub const POSITION: Kind = Kind::Number(0, 256);
 
+#[inline(always)]
 fn plain_row(word: &'static str, kinds: Args<Kind>) -> Row
     ensures { row_view result ≡ plain_row word.now kinds }
 {
@@ -92,6 +105,7 @@ fn plain_row(word: &'static str, kinds: Args<Kind>) -> Row
 }
 
 // A service's operation has the service's word.
+#[inline(always)]
 fn service_row(service: ServiceId, kinds: Args<Kind>) -> Row
     ensures { row_view result ≡ service_row service kinds }
 {
@@ -103,6 +117,7 @@ fn service_row(service: ServiceId, kinds: Args<Kind>) -> Row
 }
 
 /// The row of an operation.
+#[inline(always)]
 pub fn row_of(verb: Verb) -> Row
     ensures { row_view result ≡ row_of verb }
 {
@@ -116,9 +131,14 @@ pub fn row_of(verb: Verb) -> Row
         Verb::JumpIfZero => plain_row("jz", Args::Two(Kind::Variable, POSITION)),
         Verb::ActivateTask => service_row(ServiceId::ActivateTask, Args::One(TASK)),
         Verb::TerminateTask => service_row(ServiceId::TerminateTask, Args::Zero),
+        Verb::ChainTask => service_row(ServiceId::ChainTask, Args::One(TASK)),
         Verb::Schedule => service_row(ServiceId::Schedule, Args::Zero),
         Verb::GetResource => service_row(ServiceId::GetResource, Args::One(RESOURCE)),
         Verb::ReleaseResource => service_row(ServiceId::ReleaseResource, Args::One(RESOURCE)),
+        Verb::SetEvent => service_row(ServiceId::SetEvent, Args::Two(TASK, Kind::Mask)),
+        Verb::ClearEvent => service_row(ServiceId::ClearEvent, Args::One(Kind::Mask)),
+        Verb::GetEvent => service_row(ServiceId::GetEvent, Args::Two(TASK, Kind::Variable)),
+        Verb::WaitEvent => service_row(ServiceId::WaitEvent, Args::One(Kind::Mask)),
     }
 }
 
@@ -126,6 +146,8 @@ pub fn row_of(verb: Verb) -> Row
 #[derive(Clone, Copy, Debug, PartialEq, Eq)]
 pub enum Arg<R> {
     Object(ObjectKind, Option<R>),
+    /// Events; 0 stands for a mask that is out of its range.
+    Mask(u32),
     Number(u32),
     Int(i64),
     Variable(u8),
@@ -141,6 +163,7 @@ pub struct Form<R> {
 
 impl<A: Copy> Args<A> {
     /// The argument at this place, counted from 0.
+    #[inline(always)]
     pub fn get(self, i: usize) -> Option<A>
         ensures { result ≡ slice_get (items self) i }
     {
@@ -157,6 +180,7 @@ impl<A: Copy> Args<A> {
 }
 
 // Where the object of this kind stands that the argument at this place names.
+#[inline(always)]
 fn place_at(args: Args<Arg<Place>>, kind: ObjectKind, i: usize) -> Option<Place>
     ensures { result ≡ place_at kind (items args) i }
 {
@@ -166,6 +190,7 @@ fn place_at(args: Args<Arg<Place>>, kind: ObjectKind, i: usize) -> Option<Place>
     }
 }
 
+#[inline(always)]
 fn task_in(target: Option<Place>) -> Option<TaskRef>
     ensures { result ≡ option_map task_of target }
 {
@@ -173,12 +198,14 @@ fn task_in(target: Option<Place>) -> Option<TaskRef>
 }
 
 // The task that the argument at this place names.
+#[inline(always)]
 fn task_at(args: Args<Arg<Place>>, i: usize) -> Option<TaskRef>
     ensures { result ≡ task_at (items args) i }
 {
     task_in(place_at(args, ObjectKind::Task, i))
 }
 
+#[inline(always)]
 fn resource_in(target: Option<Place>) -> Option<ResourceRef>
     ensures { result ≡ option_map resource_of target }
 {
@@ -186,13 +213,26 @@ fn resource_in(target: Option<Place>) -> Option<ResourceRef>
 }
 
 // The resource that the argument at this place names.
+#[inline(always)]
 fn resource_at(args: Args<Arg<Place>>, i: usize) -> Option<ResourceRef>
     ensures { result ≡ resource_at (items args) i }
 {
     resource_in(place_at(args, ObjectKind::Resource, i))
 }
 
+// The mask at this place.
+#[inline(always)]
+fn mask_at(args: Args<Arg<Place>>, i: usize) -> u32
+    ensures { result ≡ mask_at (items args) i }
+{
+    match args.get(i) {
+        Some(Arg::Mask(mask)) => mask,
+        _ => 0,
+    }
+}
+
 // The signed number at this place.
+#[inline(always)]
 fn int_at(args: Args<Arg<Place>>, i: usize) -> i64
     ensures { result ≡ int_at (items args) i }
 {
@@ -203,6 +243,7 @@ fn int_at(args: Args<Arg<Place>>, i: usize) -> i64
 }
 
 // The whole number at this place.
+#[inline(always)]
 fn number_at(args: Args<Arg<Place>>, i: usize) -> u32
     ensures { result ≡ number_at (items args) i }
 {
@@ -213,6 +254,7 @@ fn number_at(args: Args<Arg<Place>>, i: usize) -> u32
 }
 
 // The variable at this place.
+#[inline(always)]
 fn variable_at(args: Args<Arg<Place>>, i: usize) -> Variable
     ensures { result ≡ variable_at (items args) i }
 {
@@ -224,6 +266,7 @@ fn variable_at(args: Args<Arg<Place>>, i: usize) -> Variable
 
 /// The operation of a form. An argument that is not of its kind is taken as the invalid identifier, as 0
 /// or as `v0`.
+#[inline(always)]
 pub fn op_of(form: Form<Place>) -> Op
     ensures { result ≡ op_of (form_view form) }
 {
@@ -238,9 +281,14 @@ pub fn op_of(form: Form<Place>) -> Op
         Verb::JumpIfZero => Op::JumpIfZero(variable_at(args, 0), number_at(args, 1)),
         Verb::ActivateTask => Op::ActivateTask(task_at(args, 0)),
         Verb::TerminateTask => Op::TerminateTask,
+        Verb::ChainTask => Op::ChainTask(task_at(args, 0)),
         Verb::Schedule => Op::Schedule,
         Verb::GetResource => Op::GetResource(resource_at(args, 0)),
         Verb::ReleaseResource => Op::ReleaseResource(resource_at(args, 0)),
+        Verb::SetEvent => Op::SetEvent(task_at(args, 0), mask_at(args, 1)),
+        Verb::ClearEvent => Op::ClearEvent(mask_at(args, 0)),
+        Verb::GetEvent => Op::GetEvent(task_at(args, 0), variable_at(args, 1)),
+        Verb::WaitEvent => Op::WaitEvent(mask_at(args, 0)),
     }
 }
 
@@ -294,6 +342,7 @@ pub fn form_of_op(op: Op) -> Form<Place>
         ),
         Op::ActivateTask(target) => formed(Verb::ActivateTask, Args::One(task_argument(target))),
         Op::TerminateTask => formed(Verb::TerminateTask, Args::Zero),
+        Op::ChainTask(target) => formed(Verb::ChainTask, Args::One(task_argument(target))),
         Op::Schedule => formed(Verb::Schedule, Args::Zero),
         Op::GetResource(target) => {
             formed(Verb::GetResource, Args::One(resource_argument(target)))
@@ -302,6 +351,16 @@ pub fn form_of_op(op: Op) -> Form<Place>
             Verb::ReleaseResource,
             Args::One(resource_argument(target)),
         ),
+        Op::SetEvent(target, mask) => formed(
+            Verb::SetEvent,
+            Args::Two(task_argument(target), Arg::Mask(mask)),
+        ),
+        Op::ClearEvent(mask) => formed(Verb::ClearEvent, Args::One(Arg::Mask(mask))),
+        Op::GetEvent(target, x) => formed(
+            Verb::GetEvent,
+            Args::Two(task_argument(target), variable_argument(x)),
+        ),
+        Op::WaitEvent(mask) => formed(Verb::WaitEvent, Args::One(Arg::Mask(mask))),
     }
 }
 
@@ -311,6 +370,7 @@ fn object_in(arg: Arg<Place>) -> Option<Object>
     match arg {
         Arg::Object(kind, Some(place)) => Some(Object { kind, place }),
         Arg::Object(_, None) => None,
+        Arg::Mask(_) => None,
         Arg::Number(_) => None,
         Arg::Int(_) => None,
         Arg::Variable(_) => None,
@@ -337,6 +397,18 @@ impl Op {
         objects_in(form_of_op(self).args)
     }
 
+    /// Whether each mask of the operation has an event.
+    pub fn has_masks(self) -> bool
+        ensures { result ≡ has_masks self }
+    {
+        match self {
+            Op::SetEvent(_, mask) => mask >= 1,
+            Op::ClearEvent(mask) => mask >= 1,
+            Op::WaitEvent(mask) => mask >= 1,
+            _ => true,
+        }
+    }
+
     /// Whether the operation may name no object of another core.
     pub fn names_own_only(self) -> bool
         ensures { result ≡ names_own_only self }
@@ -344,6 +416,7 @@ impl Op {
         match self {
             Op::GetResource(_) => true,
             Op::ReleaseResource(_) => true,
+            Op::GetEvent(_, _) => true,
             _ => false,
         }
     }

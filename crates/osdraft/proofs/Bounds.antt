@@ -14,13 +14,13 @@ use Rattle.oscript.specs.declared.Op.TheVariants.{Work}
 use Rattle.osforms.specs.Operation.{op_meant}
 use Rattle.osforms.proofs.Operations.{meant-passes}
 use Rattle.osplan.specs.declared.faults.ConfFault.{ConfFault}
-use Rattle.osplan.specs.declared.faults.ConfFault.TheVariants.{Limit, DuplicateName, UnknownName, WrongCore, BadScript}
+use Rattle.osplan.specs.declared.faults.ConfFault.TheVariants.{Limit, DuplicateName, UnknownName, WrongCore, BadMask, BadScript}
 use Rattle.osread.specs.Faults.{failing}
 use Rattle.osdraft.specs.declared.shapes.ConfigText.{ConfigText}
 use Rattle.osdraft.specs.declared.shapes.CoreText.{CoreText}
 use Rattle.osdraft.specs.declared.shapes.TaskText.{TaskText}
 use Rattle.osdraft.specs.declared.declarations.Declaration.{Declaration}
-use Rattle.osdraft.specs.Check.{sizes_of, numbers_of, is_text_within, is_each_once, are_known, are_near, are_operations, tests_of}
+use Rattle.osdraft.specs.Check.{sizes_of, numbers_of, is_text_within, is_each_once, are_known, are_near, are_masks, are_operations, tests_of}
 use Rattle.osdraft.specs.Declarations.{number_id, declarations, place_of}
 use Rattle.osdraft.specs.Operation.{operations_of, op_of}
 use Rattle.osdraft.specs.Meaning.{only_mode, task_plan, core_plan, plan_of}
@@ -61,13 +61,14 @@ row-passes : (fault : ConfFault) (passes : Bool) (faults : List ConfFault) → c
 row-passes fault true faults e = (refl, e)
 row-passes fault false faults e = cc
 
-pub faultless : (t : ConfigText) → failing (tests_of t) ≡ [] → (is_text_within t ≡ true) × (is_each_once t ≡ true) × (are_known t ≡ true) × (are_near t ≡ true) × (are_operations t ≡ true)
+pub faultless : (t : ConfigText) → failing (tests_of t) ≡ [] → (is_text_within t ≡ true) × (is_each_once t ≡ true) × (are_known t ≡ true) × (are_near t ≡ true) × (are_masks t ≡ true) × (are_operations t ≡ true)
 faultless t none =
     let first = row-passes Limit (is_text_within t) _ none in
     let second = row-passes DuplicateName (is_each_once t) _ first.1 in
     let third = row-passes UnknownName (are_known t) _ second.1 in
     let fourth = row-passes WrongCore (are_near t) _ third.1 in
-    (first.0, second.0, third.0, fourth.0, (row-passes BadScript (are_operations t) _ fourth.1).0)
+    let fifth = row-passes BadMask (are_masks t) _ fourth.1 in
+    (first.0, second.0, third.0, fourth.0, fifth.0, (row-passes BadScript (are_operations t) _ fifth.1).0)
 
 pub bounds-of : (t : ConfigText) → failing (tests_of t) ≡ [] → limits.is_within_limits (plan_of t) ≡ true
 bounds-of t none =

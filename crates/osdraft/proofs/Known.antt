@@ -1,17 +1,13 @@
 -- The plan of a text, which is made while its names and operations are judged.
-use Rattle.std.proofs.Common.{◌≡◌, ℕ, ◌&&◌, Bool, true, false, List, [], ◌∷◌, map, Option, Some, None, is_some, option_map, option_and_then, unwrap_or, refl, ap, ◌∙◌}
+use Rattle.std.proofs.Common.{◌≡◌, ℕ, ◌&&◌, ◌||◌, not, Bool, true, false, cond, List, [], ◌∷◌, map, Some, None, is_some, option_map, option_and_then, refl, sym, ap, ◌∙◌}
 use Rattle.std.specs.List.{list_all}
-use Rattle.std.specs.Option.{option_map_or}
 use Rattle.std.proofs.lemmas.List.Folds.{list_all-map}
-use Rattle.osbase.specs.declared.objects.ObjectKind.{ObjectKind}
-use Rattle.osbase.specs.declared.objects.Place.{Place}
 use Rattle.osbase.specs.declared.references.CoreId.{CoreId}
-use Rattle.oscript.specs.declared.Op.TheVariants.{Work}
-use Rattle.oscript.specs.declared.rows.Verb.{Verb}
-use Rattle.oscript.specs.declared.rows.Arg.{Arg}
+use Rattle.oscript.specs.declared.Op.{Op}
 use Rattle.oscript.specs.Rows as rows
-use Rattle.osforms.specs.Form.{form_of}
-use Rattle.osforms.specs.Operation.{resolved, op_meant}
+use Rattle.osforms.specs.Operation.{op_meant, has_masks, is_formed, is_known}
+use Rattle.osforms.proofs.Meant.{known_meant}
+use Rattle.osforms.proofs.Operations.{meant-known, meant_masks}
 use Rattle.osplan.specs.declared.plans.Task.{Task}
 use Rattle.osplan.specs.Limits as limits
 use Rattle.osdraft.specs.declared.shapes.CoreText.{CoreText}
@@ -25,18 +21,28 @@ use Rattle.osdraft.specs.Meaning.{core_plan, task_plan}
 
 -- ---- operations
 
-by-places : (o : Option (Verb × List (Arg Place))) → option_map rows.op_of o ≡ value_if (is_some o && true) (unwrap_or (option_map rows.op_of o) Work)
-by-places None = refl
-by-places (Some form) = refl
+with-true : (b : Bool) (op : Op) → value_if (b && true) op ≡ value_if b op
+with-true true op = refl
+with-true false op = refl
 
-by-form : (place : ObjectKind → List ℕ → Option Place) (o : Option (Verb × List (Arg (List ℕ))))
-    → option_map rows.op_of (option_and_then (resolved place) o) ≡ value_if (option_map_or (λ form. is_some (resolved place form)) o true && is_some o) (unwrap_or (option_map rows.op_of (option_and_then (resolved place) o)) Work)
-by-form place None = refl
-by-form place (Some form) = by-places (resolved place form)
+no-both : (f m : Bool) (op : Op) → value_if (not f && m && f) op ≡ None
+no-both true m op = refl
+no-both false true op = refl
+no-both false false op = refl
 
--- The operation that a text means is that of a text without a fault.
-pub meant : (objects : List Declaration) (text : List ℕ) → op_meant (place_of objects) text ≡ known_op objects text
-meant objects text = by-form (place_of objects) (form_of text)
+-- The operation that a text means is that of a text without a fault, if its masks have events.
+pub known_if : (objects : List Declaration) (text : List ℕ) (op : Op) → op_meant (place_of objects) text ≡ Some op → value_if (rows.has_masks op) op ≡ known_op objects text
+known_if objects text op e =
+    let place = place_of objects in
+    let m = meant-known place text op e in
+    rw (m.1, m.0, ← meant_masks place text op e, e) (sym (with-true (rows.has_masks op) op))
+
+-- A text that means none has a fault.
+pub unknown : (objects : List Declaration) (text : List ℕ) → op_meant (place_of objects) text ≡ None → None ≡ known_op objects text
+unknown objects text e =
+    let place = place_of objects in
+    let known : is_known place text ≡ not (is_formed text) = sym (known_meant place text) ∙ ap (λ o. is_some o || not (is_formed text)) e in
+    rw known (sym (no-both (is_formed text) (has_masks text) (op_of objects text)))
 
 -- ---- lists
 
@@ -44,19 +50,28 @@ pub each_made : {X Y : Type 0} (f : X → Y) (xs : List X) → each (λ x. Some 
 each_made f [] = refl
 each_made f (x ∷ xs) = ap (option_map (λ ys. f x ∷ ys)) (each_made f xs)
 
-both-pass : {Y : Type 0} (a b c d : Bool) (y : Y) (ys : List Y)
-    → option_and_then (λ z. option_map (λ zs. z ∷ zs) (value_if (c && d) ys)) (value_if (a && b) y) ≡ value_if ((a && c) && (b && d)) (y ∷ ys)
-both-pass true true true true y ys = refl
-both-pass true true true false y ys = refl
-both-pass true true false d y ys = refl
-both-pass true false true d y ys = refl
-both-pass true false false d y ys = refl
-both-pass false b c d y ys = refl
+both-pass : {Y : Type 0} (a b c d e f : Bool) (y : Y) (ys : List Y)
+    → option_and_then (λ z. option_map (λ zs. z ∷ zs) (value_if (d && e && f) ys)) (value_if (a && b && c) y) ≡ value_if ((a && d) && (b && e) && (c && f)) (y ∷ ys)
+both-pass true true true true true true y ys = refl
+both-pass true true true true true false y ys = refl
+both-pass true true true true false f y ys = refl
+both-pass true true true false e f y ys = refl
+both-pass true true false true true f y ys = refl
+both-pass true true false true false f y ys = refl
+both-pass true true false false e f y ys = refl
+both-pass true false c true e f y ys = refl
+both-pass true false c false e f y ys = refl
+both-pass false b c d e f y ys = refl
 
-pub each_if : {X Y : Type 0} (p q : X → Bool) (f : X → Y) (xs : List X) → each (λ x. value_if (p x && q x) (f x)) xs ≡ value_if (list_all p xs && list_all q xs) (map f xs)
-each_if p q f [] = refl
-each_if p q f (x ∷ xs) =
-    ap (λ rest. option_and_then (λ y. option_map (λ ys. y ∷ ys) rest) (value_if (p x && q x) (f x))) (each_if p q f xs) ∙ both-pass (p x) (q x) (list_all p xs) (list_all q xs) (f x) (map f xs)
+pub each_if : {X Y : Type 0} (p q r : X → Bool) (f : X → Y) (xs : List X) → each (λ x. value_if (p x && q x && r x) (f x)) xs ≡ value_if (list_all p xs && list_all q xs && list_all r xs) (map f xs)
+each_if p q r f [] = refl
+each_if p q r f (x ∷ xs) =
+    ap (λ rest. option_and_then (λ y. option_map (λ ys. y ∷ ys) rest) (value_if (p x && q x && r x) (f x))) (each_if p q r f xs)
+    ∙ both-pass (p x) (q x) (r x) (list_all p xs) (list_all q xs) (list_all r xs) (f x) (map f xs)
+
+pub few_if : {X : Type 0} (few p q r : Bool) (x : X) → cond few (value_if (p && q && r) x) None ≡ value_if (few && p && q && r) x
+few_if true p q r x = refl
+few_if false p q r x = refl
 
 -- ---- scripts
 

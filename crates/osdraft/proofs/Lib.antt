@@ -6,3 +6,4 @@ pub mod Bounds
 pub mod Sayings
 pub mod Known
 pub mod Indexing
+pub mod Counting

@@ -7,7 +7,7 @@ use Rattle.std.proofs.lemmas.List.Folds.{fold-map, list_all-map}
 use Rattle.std.proofs.lemmas.List.Sums.{sum_by-cons}
 use Rattle.osplan.specs.declared.plans.Core.{Core}
 use Rattle.osplan.specs.Limits as limits
-use Rattle.osplan.specs.Limits.{TaskSizes, CoreSizes, Sizes, is_between, is_ceiling, is_start, is_task_within, is_core_within, is_within, jobs_of, number_of, same_number}
+use Rattle.osplan.specs.Limits.{TaskSizes, CoreSizes, Sizes, is_between, is_ceiling, is_start, is_task_numbered, is_task_within, is_core_within, is_within, jobs_of, most_activations, number_of, same_number}
 use Rattle.osplan.proofs.Tests.{all-weaker}
 use Rattle.osplan.proofs.Within.{between}
 use Rattle.osdraft.specs.declared.shapes.ConfigText.{ConfigText}
@@ -41,9 +41,14 @@ is-byte low high (Some n) h small =
     let most : n ≤ high = (between low high n h).1 in
     ap Some (byte-small n (omega arith))
 
+few-activations : (extended : Bool) → most_activations extended ≤ 64
+few-activations true = omega arith
+few-activations false = omega arith
+
 pub task-bytes : (s : TaskSizes) → is_task_within s ≡ true → IsByte s.priority × IsByte s.activations
 task-bytes s h =
     let numbers = and_parts _ _ (and_parts _ _ h).0 in
+    let few : most_activations s.extended ≤ 64 = few-activations s.extended in
     (is-byte _ _ s.priority numbers.0 (omega arith), is-byte _ _ s.activations numbers.1 (omega arith))
 
 pub core-bytes : (s : CoreSizes) → is_core_within s ≡ true → IsByte s.number × (list_all is_start s.start ≡ true) × (list_all is_task_within s.tasks ≡ true) × (list_all is_ceiling s.resources ≡ true)
@@ -63,13 +68,17 @@ most : (low high : ℕ) (number : Option ℕ) → is_between low high number ≡
 most low high None h = absurd (true≢false (sym h))
 most low high (Some n) h = (between low high n h).1
 
-most-jobs : (s : TaskSizes) → is_task_within s ≡ true → jobs_of s ≤ 64
-most-jobs s h = most 1 64 s.activations (and_parts _ _ (and_parts _ _ h).0).1
+most-activated : (extended : Bool) (number : Option ℕ) → is_between 1 (most_activations extended) number ≡ true → unwrap_or number 0 ≤ 64
+most-activated true number h = let one : unwrap_or number 0 ≤ 1 = most 1 1 number h in omega arith
+most-activated false number h = most 1 64 number h
 
-pub few_jobs : (tasks : List TaskText) → list_all (λ (task : TaskText). is_task_within (task_sizes task)) tasks ≡ true → sum_by (λ (task : TaskText). jobs_of (task_sizes task)) tasks ≤ 64 * length tasks
+most-jobs : (s : TaskSizes) → is_task_numbered s ≡ true → jobs_of s ≤ 64
+most-jobs s h = most-activated s.extended s.activations (and_parts _ _ h).1
+
+pub few_jobs : (tasks : List TaskText) → list_all (λ (task : TaskText). is_task_numbered (task_sizes task)) tasks ≡ true → sum_by (λ (task : TaskText). jobs_of (task_sizes task)) tasks ≤ 64 * length tasks
 few_jobs [] h = omega arith
 few_jobs (task ∷ tasks) h =
-    let parts = and_parts (is_task_within (task_sizes task)) _ h in
+    let parts = and_parts (is_task_numbered (task_sizes task)) _ h in
     let first = most-jobs (task_sizes task) parts.0 in
     let sum = sum_by-cons (λ (task : TaskText). jobs_of (task_sizes task)) task tasks in
     let rest = few_jobs tasks parts.1 in

@@ -5,9 +5,10 @@ use Rattle.std.proofs.lemmas.Bool.{and_parts, and_from}
 use Rattle.std.proofs.lemmas.List.{map-append}
 use Rattle.oscript.specs.declared.Op.{Op}
 use Rattle.oscript.specs.declared.Op.TheVariants.{Work}
+use Rattle.oscript.specs.Rows as rows
 use Rattle.oscript.specs.Rows.{is_in_form}
-use Rattle.osforms.specs.Operation.{op_meant}
-use Rattle.osforms.proofs.Operations.{meant-in-form}
+use Rattle.osforms.specs.Operation.{op_meant, has_masks}
+use Rattle.osforms.proofs.Operations.{meant-in-form, meant_masks}
 use Rattle.osplan.specs.declared.plans.Resource.{Resource}
 use Rattle.osplan.specs.declared.plans.Task.{Task}
 use Rattle.osplan.specs.Expressible as said
@@ -20,7 +21,7 @@ use Rattle.osdraft.specs.declared.shapes.ResourceText.{ResourceText}
 use Rattle.osdraft.specs.declared.shapes.TaskText.{TaskText}
 use Rattle.osread.specs.Faults.{failing}
 use Rattle.osdraft.specs.declared.declarations.Declaration.{Declaration}
-use Rattle.osdraft.specs.Check.{numbers_of, has_named_tasks, has_named_resources, has_named_objects, is_task_script, is_core_script, tests_of}
+use Rattle.osdraft.specs.Check.{numbers_of, has_named_tasks, has_named_resources, has_named_objects, is_task_masked, is_core_masked, is_task_script, is_core_script, tests_of}
 use Rattle.osdraft.specs.Declarations.{task_declaration, resource_declaration, declared_tasks, declared_resources, declared_by, declarations, place_of}
 use Rattle.osdraft.specs.Operation.{is_operation, op_of, operations_of}
 use Rattle.osdraft.specs.Meaning.{only_mode, task_plan, resource_plan, core_plan, plan_of}
@@ -62,25 +63,36 @@ op-said objects text = by (op_meant (place_of objects) text) refl
     by None e = refl
     by (Some op) e = meant-in-form (place_of objects) text op e
 
-task-said : (objects : List Declaration) (task : TaskText) → (is_name task.name && is_task_script objects task) ≡ true → said.is_task_expressible (task_plan objects task) ≡ true
-task-said objects task h =
-    let parts = and_parts (is_name task.name) (is_task_script objects task) h in
-    let script = and_parts (list_all is_operation (operations_of task.script)) _ parts.1 in
-    and_from _ _ (and_from _ _ parts.0 (list_all-total is_only_mode (λ (name : List ℕ). only_mode) (λ name. refl) task.auto))
-    (and_from _ _ (list_all-total is_in_form (op_of objects) (op-said objects) (operations_of task.script)) script.1)
+op-masked : (objects : List Declaration) (text : List ℕ) → has_masks text ≡ true → rows.has_masks (op_of objects text) ≡ true
+op-masked objects text h = by (op_meant (place_of objects) text) refl
+  where
+    by : (o : Option Op) → op_meant (place_of objects) text ≡ o → rows.has_masks (unwrap_or o Work) ≡ true
+    by None e = refl
+    by (Some op) e = meant_masks (place_of objects) text op e ∙ h
 
-core-said : (objects : List Declaration) (core : CoreText) → (has_named_objects core && is_core_script objects core) ≡ true → said.is_core_expressible (core_plan objects core) ≡ true
+task-said : (objects : List Declaration) (task : TaskText) → (is_name task.name && is_task_masked task && is_task_script objects task) ≡ true → said.is_task_expressible (task_plan objects task) ≡ true
+task-said objects task h =
+    let parts = and_parts (is_name task.name && is_task_masked task) (is_task_script objects task) h in
+    let named = and_parts (is_name task.name) (is_task_masked task) parts.0 in
+    let script = and_parts (list_all is_operation (operations_of task.script)) _ parts.1 in
+    and_from _ _ (and_from _ _ named.0 (list_all-total is_only_mode (λ (name : List ℕ). only_mode) (λ name. refl) task.auto))
+    (and_from _ _ (and_from _ _ (list_all-total is_in_form (op_of objects) (op-said objects) (operations_of task.script)) (list_all-by has_masks rows.has_masks (op_of objects) (op-masked objects) (operations_of task.script) named.1)) script.1)
+
+core-said : (objects : List Declaration) (core : CoreText) → (has_named_objects core && is_core_masked core && is_core_script objects core) ≡ true → said.is_core_expressible (core_plan objects core) ≡ true
 core-said objects core h =
-    let parts = and_parts (has_named_objects core) (is_core_script objects core) h in
-    let named = and_parts (has_named_tasks core) (has_named_resources core) parts.0 in
-    let tasks = all-both (λ (task : TaskText). is_name task.name) (is_task_script objects) core.tasks named.0 parts.1 in
+    let parts = and_parts (has_named_objects core && is_core_masked core) (is_core_script objects core) h in
+    let first = and_parts (has_named_objects core) (is_core_masked core) parts.0 in
+    let named = and_parts (has_named_tasks core) (has_named_resources core) first.0 in
+    let masked = all-both (λ (task : TaskText). is_name task.name) is_task_masked core.tasks named.0 first.1 in
+    let tasks = all-both (λ (task : TaskText). is_name task.name && is_task_masked task) (is_task_script objects) core.tasks masked parts.1 in
     let resources = list_all-by (λ (resource : ResourceText). is_name resource.name) said.is_resource_expressible resource_plan (λ resource e. e) core.resources named.1 in
-    and_from _ _ (and_from _ _ (and_from _ _ (and_from _ _ (list_all-by (λ (task : TaskText). is_name task.name && is_task_script objects task) said.is_task_expressible (task_plan objects) (task-said objects) core.tasks tasks) resources) refl) refl) refl
+    and_from _ _ (and_from _ _ (and_from _ _ (and_from _ _ (list_all-by (λ (task : TaskText). is_name task.name && is_task_masked task && is_task_script objects task) said.is_task_expressible (task_plan objects) (task-said objects) core.tasks tasks) resources) refl) refl) refl
 
 pub expressible-of : (t : ConfigText) → list_all has_named_objects t.cores ≡ true → failing (tests_of t) ≡ [] → said.is_expressible (plan_of t) ≡ true
 expressible-of t named none =
     let passed = faultless t none in
     let once = and_parts (are_numbers_distinct (numbers_of t.cores)) _ passed.1 in
     let objects = declarations t.cores in
-    let cores = all-both has_named_objects (is_core_script objects) t.cores named passed.4 in
-    and_from _ _ (list_all-by (λ (core : CoreText). has_named_objects core && is_core_script objects core) said.is_core_expressible (core_plan objects) (core-said objects) t.cores cores) (ap (λ names. said.are_distinct (mode_name ∷ names)) (names-kept objects t.cores) ∙ once.1)
+    let masked = all-both has_named_objects is_core_masked t.cores named passed.4 in
+    let cores = all-both (λ (core : CoreText). has_named_objects core && is_core_masked core) (is_core_script objects) t.cores masked passed.5 in
+    and_from _ _ (list_all-by (λ (core : CoreText). has_named_objects core && is_core_masked core && is_core_script objects core) said.is_core_expressible (core_plan objects) (core-said objects) t.cores cores) (ap (λ names. said.are_distinct (mode_name ∷ names)) (names-kept objects t.cores) ∙ once.1)

@@ -1,13 +1,14 @@
 -- The tests of a configuration's text, a row for each fault past its shape that a text can have so far. Each is defined apart from
 -- the others, over the text as it stands. [own]
-use Rattle.std.specs.Prelude.{ℕ, ◌&&◌, Bool, Option, List, [], ◌∷◌, length, map}
+use Rattle.std.specs.Prelude.{ℕ, ◌&&◌, nat_le, Bool, Option, List, [], ◌∷◌, length, map}
 use Rattle.std.specs.List.{list_all}
 use Rattle.std.specs.Str.{bytes_eq}
 use Rattle.osbase.specs.Names.{is_name}
 use Rattle.osbase.specs.declared.references.CoreId.{CoreId}
+use Rattle.osforms.specs.Operation.{has_masks}
 use Rattle.osplan.specs.Expressible.{are_distinct, is_jumping_within, mode_name}
-use Rattle.osplan.specs.Limits.{TaskSizes, CoreSizes, Sizes, is_between, is_within, has_number, are_numbers_distinct, stays_on}
-use Rattle.osplan.specs.declared.faults.ConfFault.TheVariants.{Limit, DuplicateName, UnknownName, WrongCore, BadScript}
+use Rattle.osplan.specs.Limits.{TaskSizes, CoreSizes, Sizes, is_between, is_by, is_task_numbered, is_task_short, is_within, has_number, are_numbers_distinct, stays_on}
+use Rattle.osplan.specs.declared.faults.ConfFault.TheVariants.{Limit, DuplicateName, UnknownName, WrongCore, BadMask, BadScript}
 use Rattle.osdraft.specs.declared.shapes.ConfigText.{ConfigText}
 use Rattle.osdraft.specs.declared.shapes.CoreText.{CoreText}
 use Rattle.osdraft.specs.declared.shapes.ResourceText.{ResourceText}
@@ -20,7 +21,7 @@ use Rattle.osdraft.specs.Operation.{operations_of, op_of, is_operation_known, is
 -- ---- limits: those of a configuration, over the text's numbers
 
 abbrev pub task_sizes : TaskText → TaskSizes
-task_sizes task = record { priority = task.prio; activations = task.activations; operations = length (operations_of task.script) }
+task_sizes task = record { priority = task.prio; activations = task.activations; extended = task.extended; operations = length (operations_of task.script) }
 
 abbrev pub core_sizes : CoreText → CoreSizes
 core_sizes core = record {
@@ -37,6 +38,19 @@ sizes_of t = record { modes = 1; cap = t.cap; cores = map core_sizes t.cores }
 -- Of version 1, which a text alone has, and within the limits.
 abbrev pub is_text_within : ConfigText → Bool
 is_text_within t = is_between 1 1 t.version && is_within (sizes_of t)
+
+-- The script has no more operations than it may have; the other limits are those of numbers, and need no look at scripts.
+abbrev pub is_script_short : TaskText → Bool
+is_script_short task = is_task_short (task_sizes task)
+
+abbrev pub is_core_short : CoreText → Bool
+is_core_short core = list_all is_script_short core.tasks
+
+abbrev pub are_scripts_short : ConfigText → Bool
+are_scripts_short t = list_all is_core_short t.cores
+
+abbrev pub is_text_numbered : ConfigText → Bool
+is_text_numbered t = is_between 1 1 t.version && is_by is_task_numbered (sizes_of t)
 
 -- ---- names and numbers that stand twice
 
@@ -80,6 +94,19 @@ is_core_known objects core = list_all (is_task_known objects) core.tasks
 abbrev pub are_known : ConfigText → Bool
 are_known t = has_number (numbers_of t.cores) t.master && list_all (is_core_known (declarations t.cores)) t.cores
 
+-- A script whose operations are few and whose names are known can be read into a plan.
+abbrev pub are_operations_readable : List Declaration → List ℕ → Bool
+are_operations_readable objects script = nat_le (length (operations_of script)) 256 && are_operations_known objects script
+
+abbrev pub is_task_readable : List Declaration → TaskText → Bool
+is_task_readable objects task = list_all is_mode_name task.auto && are_operations_readable objects task.script
+
+abbrev pub is_core_readable : List Declaration → CoreText → Bool
+is_core_readable objects core = list_all (is_task_readable objects) core.tasks
+
+abbrev pub are_readable : ConfigText → Bool
+are_readable t = has_number (numbers_of t.cores) t.master && list_all (is_core_readable (declarations t.cores)) t.cores
+
 -- ---- names of other cores' objects
 
 -- The operation that the text means names no object of another core than this one, where it may name the core's own alone.
@@ -95,6 +122,18 @@ is_core_near objects core = list_all (λ (task : TaskText). is_script_near objec
 -- So it is with each operation of each core's scripts.
 abbrev pub are_near : ConfigText → Bool
 are_near t = list_all (is_core_near (declarations t.cores)) t.cores
+
+-- ---- masks
+
+abbrev pub is_task_masked : TaskText → Bool
+is_task_masked task = list_all has_masks (operations_of task.script)
+
+abbrev pub is_core_masked : CoreText → Bool
+is_core_masked core = list_all is_task_masked core.tasks
+
+-- Each mask in an operation in good form is in its range.
+abbrev pub are_masks : ConfigText → Bool
+are_masks t = list_all is_core_masked t.cores
 
 -- ---- scripts
 
@@ -115,4 +154,4 @@ are_operations t = list_all (is_core_script (declarations t.cores)) t.cores
 -- ---- the table, in ascending order of faults
 
 abbrev pub tests_of : ConfigText → Tests
-tests_of t = (Limit, is_text_within t) ∷ (DuplicateName, is_each_once t) ∷ (UnknownName, are_known t) ∷ (WrongCore, are_near t) ∷ (BadScript, are_operations t) ∷ []
+tests_of t = (Limit, is_text_within t) ∷ (DuplicateName, is_each_once t) ∷ (UnknownName, are_known t) ∷ (WrongCore, are_near t) ∷ (BadMask, are_masks t) ∷ (BadScript, are_operations t) ∷ []

@@ -21,7 +21,7 @@ use Rattle.osdraft.specs.Shape.{config_shape}
 use Rattle.osdraft.specs.declared.declarations.Declaration.{Declaration}
 use Rattle.osdraft.specs.Declarations.{byte_of, declarations, number_id, id_of}
 use Rattle.osdraft.specs.Operation.{operations_of, op_of}
-use Rattle.osdraft.specs.Check.{is_task_known, is_core_known, is_task_script, is_core_script, tests_of}
+use Rattle.osdraft.specs.Check.{is_task_readable, is_core_readable, is_task_masked, is_core_masked, is_task_script, is_core_script, tests_of}
 use Rattle.osread.specs.Reading.{value_if}
 
 -- There is one mode, of number 0.
@@ -34,6 +34,7 @@ task_plan objects task = record {
   priority = byte_of task.prio;
   auto = map (λ (name : List ℕ). only_mode) task.auto;
   activations = byte_of task.activations;
+  extended = task.extended;
   preemptable = task.preemptable;
   script = map (op_of objects) (operations_of task.script);
 }
@@ -53,12 +54,12 @@ core_plan objects core = record {
   tables = [];
 }
 
--- The plans of a task and of a core whose names are known and whose scripts have no fault.
+-- The plans of a task and of a core whose names are known, whose operations are few, whose masks are in their range and whose scripts have no fault.
 abbrev pub known_task : List Declaration → TaskText → Option Task
-known_task objects task = value_if (is_task_known objects task && is_task_script objects task) (task_plan objects task)
+known_task objects task = value_if (is_task_readable objects task && is_task_masked task && is_task_script objects task) (task_plan objects task)
 
 abbrev pub known_core : List Declaration → CoreText → Option Core
-known_core objects core = value_if (is_core_known objects core && is_core_script objects core) (core_plan objects core)
+known_core objects core = value_if (is_core_readable objects core && is_core_masked core && is_core_script objects core) (core_plan objects core)
 
 abbrev pub plan_of : ConfigText → Plan
 plan_of t = record {

@@ -2,7 +2,7 @@
 use Rattle.std.specs.Prelude.{ℕ, ◌&&◌, Bool, Option, unwrap_or, List}
 use Rattle.oscript.specs.declared.Op.{Op}
 use Rattle.oscript.specs.declared.Op.TheVariants.{Work}
-use Rattle.osforms.specs.Operation.{op_meant, is_formed, is_known}
+use Rattle.osforms.specs.Operation.{op_meant, has_masks, is_formed, is_known}
 use Rattle.osread.specs.Reading.{value_if, parts_of}
 use Rattle.osdraft.specs.declared.declarations.Declaration.{Declaration}
 use Rattle.osdraft.specs.Declarations.{place_of}
@@ -24,6 +24,6 @@ is_operation text = is_formed text
 abbrev pub op_of : List Declaration → List ℕ → Op
 op_of objects text = unwrap_or (op_meant (place_of objects) text) Work
 
--- The operation of a text that has neither fault.
+-- The operation of a text that has none of these faults.
 abbrev pub known_op : List Declaration → List ℕ → Option Op
-known_op objects text = value_if (is_operation_known objects text && is_operation text) (op_of objects text)
+known_op objects text = value_if (is_operation_known objects text && has_masks text && is_operation text) (op_of objects text)

@@ -1,5 +1,5 @@
 -- The shape of a configuration: the members and their types, before any limit or name is judged. [own]
-use Rattle.std.specs.Prelude.{true, Option, Some, [], ◌∷◌, codes}
+use Rattle.std.specs.Prelude.{true, false, Option, Some, [], ◌∷◌, codes}
 use Rattle.serde_json.specs.Data.{Data}
 use Rattle.serde_json.specs.Find.{as_bool, as_str}
 use Rattle.osdraft.specs.declared.shapes.ConfigText.{ConfigText}
@@ -10,17 +10,18 @@ use Rattle.osread.specs.Reading.{◌>>=◌}
 use Rattle.osread.specs.Json.{whole_of, name_of, each_of, member_of, member_or, only_members}
 
 -- A task: its name, priority and script; the modes of its autostart, none by default; its activation limit, 1 by default; whether it
--- can be preempted, which is so by default.
+-- is extended, which is not so by default, and whether it can be preempted, which is so.
 unfoldable pub task_shape : Data → Option TaskText
 task_shape d = do
-  _ ← only_members (codes "name" ∷ codes "prio" ∷ codes "auto" ∷ codes "activations" ∷ codes "preemptable" ∷ codes "script" ∷ []) d
+  _ ← only_members (codes "name" ∷ codes "prio" ∷ codes "auto" ∷ codes "activations" ∷ codes "extended" ∷ codes "preemptable" ∷ codes "script" ∷ []) d
   name ← member_of name_of (codes "name") d
   prio ← member_of whole_of (codes "prio") d
   auto ← member_or (each_of name_of) [] (codes "auto") d
   activations ← member_or whole_of (Some 1) (codes "activations") d
+  extended ← member_or as_bool false (codes "extended") d
   preemptable ← member_or as_bool true (codes "preemptable") d
   script ← member_of as_str (codes "script") d
-  Some (record { name = name; prio = prio; auto = auto; activations = activations; preemptable = preemptable; script = script })
+  Some (record { name = name; prio = prio; auto = auto; activations = activations; extended = extended; preemptable = preemptable; script = script })
 
 -- A resource: its name and ceiling.
 unfoldable pub resource_shape : Data → Option ResourceText

@@ -5,22 +5,20 @@ ghost use Rattle.std.specs.List.{list_all, slice_split};
 ghost use Rattle.osdraft.specs.declared.shapes.CoreText.{CoreText as Core};
 ghost use Rattle.osdraft.specs.declared.shapes.ResourceText.{ResourceText as Resource};
 ghost use Rattle.osdraft.specs.declared.shapes.TaskText.{TaskText as Task};
-ghost use Rattle.osplan.specs.Limits.{are_numbers_distinct, has_number, is_between, is_ceiling, is_core_within, is_start, is_task_within, is_within, jobs_of, same_number};
+ghost use Rattle.osforms.specs.Operation.{has_masks};
+ghost use Rattle.osplan.specs.Limits.{are_numbers_distinct, has_number, is_between, is_ceiling, is_core_by, is_start, is_task_numbered, jobs_of, most_activations, same_number};
 ghost use Rattle.osread.specs.Faults.{failing, first_fault};
 ghost use Rattle.osdraft.specs.Declarations.{declarations};
 ghost use Rattle.osdraft.specs.Operation.{is_operation_known};
-ghost use Rattle.osdraft.specs.Check.{are_near, is_core_near, is_operation_near, is_script_near, task_sizes, core_sizes, sizes_of, numbers_of, is_text_within, is_each_once, are_operations_known, is_mode_name, is_task_known, is_core_known, are_known, are_operations, tests_of};
+ghost use Rattle.osdraft.specs.Check.{are_masks, are_near, are_readable, are_scripts_short, is_core_short, is_script_short, is_text_numbered, is_core_masked, is_core_near, is_operation_near, is_script_near, task_sizes, core_sizes, sizes_of, numbers_of, is_text_within, is_each_once, are_operations_known, is_mode_name, is_task_known, is_core_known, is_task_masked, are_known, are_operations, tests_of};
 
 use crate::declarations::number_id;
 use crate::places::{MODE, Objects};
 use crate::shapes::{ConfigText, CoreText, ResourceText, TaskText};
-use osbase::CoreId;
-use osforms::{is_known, op_meant};
+use osbase::{CoreId, TASKS};
+use osforms::{has_masks, is_known, op_meant};
 use osplan::{ConfFault, stays_on};
 use osread::{Text, Whole, part_count};
-
-/// The most tasks of a core.
-const TASKS: usize = 32;
 
 /// The most jobs of all a core's tasks at once.
 const JOBS: u64 = 64;
@@ -32,7 +30,7 @@ const RESOURCES: usize = 16;
 const CORES: usize = 8;
 
 /// The most operations of a script.
-const OPERATIONS: usize = 256;
+pub(crate) const OPERATIONS: usize = 256;
 
 fn is_between(low: u64, high: u64, number: Whole) -> bool
     ensures { result ≡ is_between low high number }
@@ -43,12 +41,16 @@ fn is_between(low: u64, high: u64, number: Whole) -> bool
     }
 }
 
-fn is_task_within(task: &TaskText) -> bool
-    ensures { result ≡ is_task_within (task_sizes task.now) }
+fn most_activations(extended: bool) -> u64
+    ensures { result ≡ most_activations extended }
 {
-    is_between(0, 31, task.prio)
-        && is_between(1, 64, task.activations)
-        && part_count(task.script.as_str(), b';') <= OPERATIONS
+    if extended { 1 } else { 64 }
+}
+
+fn is_task_numbered(task: &TaskText) -> bool
+    ensures { result ≡ is_task_numbered (task_sizes task.now) }
+{
+    is_between(0, 31, task.prio) && is_between(1, most_activations(task.extended), task.activations)
 }
 
 fn are_starts_within(numbers: &[Whole]) -> bool
@@ -57,10 +59,10 @@ fn are_starts_within(numbers: &[Whole]) -> bool
     numbers.iter().all(|number| is_between(0, 255, *number))
 }
 
-fn are_tasks_within(tasks: &[TaskText]) -> bool
-    ensures { result ≡ list_all (λ (task : Task). is_task_within (task_sizes task)) tasks.now }
+fn are_tasks_numbered(tasks: &[TaskText]) -> bool
+    ensures { result ≡ list_all (λ (task : Task). is_task_numbered (task_sizes task)) tasks.now }
 {
-    tasks.iter().all(is_task_within)
+    tasks.iter().all(is_task_numbered)
 }
 
 fn jobs_of(task: &TaskText) -> u64
@@ -85,36 +87,55 @@ fn are_ceilings_within(resources: &[ResourceText]) -> bool
 }
 
 #[tactic(auto, using(crate::proofs::Numbers::mapped, crate::proofs::Numbers::few_jobs))]
-fn is_core_within(core: &CoreText) -> bool
-    ensures { result ≡ is_core_within (core_sizes core.now) }
+fn is_core_numbered(core: &CoreText) -> bool
+    ensures { result ≡ is_core_by is_task_numbered (core_sizes core.now) }
 {
     // The sum fits, since the tasks are judged before it.
     let tasks = core.tasks.as_slice();
     is_between(0, 7, core.id)
         && are_starts_within(core.start.as_slice())
         && tasks.len() <= TASKS
-        && are_tasks_within(tasks)
+        && are_tasks_numbered(tasks)
         && jobs_of_all(tasks) <= JOBS
         && core.resources.len() <= RESOURCES
         && are_ceilings_within(core.resources.as_slice())
 }
 
-fn are_cores_within(cores: &[CoreText]) -> bool
-    ensures { result ≡ list_all (λ (core : Core). is_core_within (core_sizes core)) cores.now }
+fn are_cores_numbered(cores: &[CoreText]) -> bool
+    ensures { result ≡ list_all (λ (core : Core). is_core_by is_task_numbered (core_sizes core)) cores.now }
 {
-    cores.iter().all(is_core_within)
+    cores.iter().all(is_core_numbered)
 }
 
-/// Whether the text is of version 1 and within the limits.
+/// Whether the text is of version 1 and within the limits, but for its scripts, whose operations are counted where they
+/// are read.
 #[tactic(auto, using(crate::proofs::Numbers::mapped))]
-pub fn is_within(text: &ConfigText) -> bool
-    ensures { result ≡ is_text_within text.now }
+pub fn is_numbered(text: &ConfigText) -> bool
+    ensures { result ≡ is_text_numbered text.now }
 {
     is_between(1, 1, text.version)
         && is_between(1, 16, text.cap)
         && 1 <= text.cores.len()
         && text.cores.len() <= CORES
-        && are_cores_within(text.cores.as_slice())
+        && are_cores_numbered(text.cores.as_slice())
+}
+
+fn is_script_short(task: &TaskText) -> bool
+    ensures { result ≡ is_script_short task.now }
+{
+    part_count(task.script.as_str(), b';') <= OPERATIONS
+}
+
+fn is_core_short(core: &CoreText) -> bool
+    ensures { result ≡ is_core_short core.now }
+{
+    core.tasks.as_slice().iter().all(is_script_short)
+}
+
+fn are_scripts_short(text: &ConfigText) -> bool
+    ensures { result ≡ are_scripts_short text.now }
+{
+    text.cores.as_slice().iter().all(is_core_short)
 }
 
 fn same_number(number: Whole, other: Whole) -> bool
@@ -262,21 +283,62 @@ fn are_near(text: &ConfigText, objects: &Objects) -> bool
         .all(|core| is_core_near(objects, core))
 }
 
-/// The fault of a text without those, some name of which names nothing or what it may not name, or some script of
-/// which is not in good form.
-pub fn fault_of_names(text: &ConfigText, objects: &Objects) -> ConfFault
+fn are_parts_masked(script: &str) -> bool
+    ensures { result ≡ list_all has_masks (slice_split (λ b. b == 59) script.now) }
+{
+    script.split(';').all(|text| has_masks(text))
+}
+
+fn is_task_masked(task: &TaskText) -> bool
+    ensures { result ≡ is_task_masked task.now }
+{
+    task.script.as_str().is_empty() || are_parts_masked(task.script.as_str())
+}
+
+fn is_core_masked(core: &CoreText) -> bool
+    ensures { result ≡ is_core_masked core.now }
+{
+    core.tasks.as_slice().iter().all(is_task_masked)
+}
+
+fn are_masks(text: &ConfigText) -> bool
+    ensures { result ≡ are_masks text.now }
+{
+    text.cores.as_slice().iter().all(is_core_masked)
+}
+
+// The fault of a text without those, some name of which names nothing or what it may not name, some mask of which is
+// out of its range, or some script of which is not in good form.
+fn fault_of_names(text: &ConfigText, objects: &Objects) -> ConfFault
     requires objects { objects.now.declared ≡ declarations text.now.cores }
     requires checked { (is_text_within text.now && is_each_once text.now) ≡ true }
-    requires faulty { (are_known text.now && are_near text.now && are_operations text.now) ≡ false }
+    requires faulty { (are_known text.now && are_near text.now && are_masks text.now && are_operations text.now) ≡ false }
     ensures { first_fault (failing (tests_of text.now)) ≡ Some result }
 {
-    if are_known(text, objects) {
-        if are_near(text, objects) {
-            ConfFault::BadScript
-        } else {
-            ConfFault::WrongCore
-        }
-    } else {
+    if !are_known(text, objects) {
         ConfFault::UnknownName
+    } else if !are_near(text, objects) {
+        ConfFault::WrongCore
+    } else if !are_masks(text) {
+        ConfFault::BadMask
+    } else {
+        ConfFault::BadScript
     }
+}
+
+/// The fault of a text within its numbers' limits that means no plan.
+#[tactic(auto, using(crate::proofs::Counting::within_split, crate::proofs::Counting::readable_split))]
+pub fn fault_of(text: &ConfigText, objects: &Objects) -> ConfFault
+    requires objects { objects.now.declared ≡ declarations text.now.cores }
+    requires numbered { is_text_numbered text.now ≡ true }
+    requires faulty { (is_each_once text.now && (are_readable text.now && are_near text.now && are_masks text.now && are_operations text.now)) ≡ false }
+    ensures { first_fault (failing (tests_of text.now)) ≡ Some result }
+{
+    if !are_scripts_short(text) {
+        return ConfFault::Limit;
+    }
+    if !is_each_once(text, objects) {
+        return ConfFault::DuplicateName;
+    }
+    fault_of_names(text, objects)
 }

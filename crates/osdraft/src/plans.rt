@@ -2,15 +2,16 @@
 
 ghost use Rattle.std.specs.Prelude.{◌≡◌, ◌&&◌, ℕ, IfOk, List as Items, map, Some, true};
 ghost use Rattle.std.specs.List.{list_all};
+ghost use Rattle.osforms.specs.Operation.{has_masks};
 ghost use Rattle.osplan.specs.Expressible.{goes_within, is_jumping_within};
 ghost use Rattle.osplan.specs.Limits as limits;
 ghost use Rattle.osread.specs.Reading.{Gives, value_if};
 ghost use Rattle.osdraft.specs.Declarations.{declarations, number_id};
 ghost use Rattle.osdraft.specs.Operation.{is_operation, known_op, op_of, operations_of};
-ghost use Rattle.osdraft.specs.Check.{are_operations_known, is_task_known, is_core_known, is_core_near, are_known, are_near, is_script, is_task_script, is_core_script, are_operations};
+ghost use Rattle.osdraft.specs.Check.{are_operations_readable, is_task_readable, is_core_readable, is_core_near, is_task_masked, is_core_masked, are_readable, are_near, are_masks, is_script, is_task_script, is_core_script, are_operations};
 ghost use Rattle.osdraft.specs.Meaning.{only_mode, task_plan, resource_plan, core_plan, known_task, known_core, plan_of};
 
-use crate::checks::{are_mode_names, has_core};
+use crate::checks::{OPERATIONS, are_mode_names, has_core};
 use crate::declarations::{byte_of, number_id};
 use crate::places::{MODE, Objects};
 use crate::shapes::{ConfigText, CoreText, ResourceText, TaskText};
@@ -28,14 +29,17 @@ impl PartReader<Op> for Objects<'_> {
     ghost shape = { λ objects. known_op objects.declared };
 
     fn read(&self, part: &str) -> Option<Op> {
-        op_meant(self, part)
+        match op_meant(self, part) {
+            Some(op) => { if op.has_masks() { Some(op) } else { None } }
+            None => None,
+        }
     }
 }
 
 fn operations_of(alloc: Global, objects: &Objects, script: &str) -> Result<Script, Refusal>
-    ensures { Gives (λ x. x) result (value_if (are_operations_known objects.now.declared script.now && list_all is_operation (operations_of script.now)) (map (op_of objects.now.declared) (operations_of script.now))) }
+    ensures { Gives (λ x. x) result (value_if (are_operations_readable objects.now.declared script.now && list_all has_masks (operations_of script.now) && list_all is_operation (operations_of script.now)) (map (op_of objects.now.declared) (operations_of script.now))) }
 {
-    read_parts(alloc, objects, script, ';')
+    read_parts(alloc, objects, script, ';', OPERATIONS)
 }
 
 // Whether the operation lets its job go on within a script of so many operations, or past the last.
@@ -55,7 +59,7 @@ fn is_jumping_within(script: &[Op]) -> bool
 }
 
 fn script_of(alloc: Global, objects: &Objects, script: &str) -> Result<Script, Refusal>
-    ensures { Gives (λ x. x) result (value_if (are_operations_known objects.now.declared script.now && is_script objects.now.declared script.now) (map (op_of objects.now.declared) (operations_of script.now))) }
+    ensures { Gives (λ x. x) result (value_if (are_operations_readable objects.now.declared script.now && list_all has_masks (operations_of script.now) && is_script objects.now.declared script.now) (map (op_of objects.now.declared) (operations_of script.now))) }
 {
     let operations = operations_of(alloc, objects, script)?;
     if is_jumping_within(operations.as_slice()) {
@@ -86,6 +90,7 @@ impl<'e> Reader<'e, TaskText<'e>, Task> for Objects<'e> {
             priority: byte_of(task.prio),
             auto: List::from_vec(modes_of(alloc, task.auto.as_slice())?),
             activations: byte_of(task.activations),
+            extended: task.extended,
             preemptable: task.preemptable,
             script: script_of(alloc, self, task.script.as_str())?,
         })
@@ -97,7 +102,7 @@ fn tasks_of<'e>(
     objects: &Objects<'e>,
     tasks: &'e [TaskText<'e>],
 ) -> Result<List<Task>, Refusal>
-    ensures { Gives (λ x. x) result (value_if (list_all (is_task_known objects.now.declared) tasks.now && list_all (is_task_script objects.now.declared) tasks.now) (map (task_plan objects.now.declared) tasks.now)) }
+    ensures { Gives (λ x. x) result (value_if (list_all (is_task_readable objects.now.declared) tasks.now && list_all is_task_masked tasks.now && list_all (is_task_script objects.now.declared) tasks.now) (map (task_plan objects.now.declared) tasks.now)) }
 {
     read_each(alloc, objects, tasks)
 }
@@ -160,7 +165,7 @@ fn cores_of<'e>(
     objects: &Objects<'e>,
     cores: &'e [CoreText<'e>],
 ) -> Result<List<Core>, Refusal>
-    ensures { Gives (λ x. x) result (value_if (list_all (is_core_known objects.now.declared) cores.now && list_all (is_core_script objects.now.declared) cores.now) (map (core_plan objects.now.declared) cores.now)) }
+    ensures { Gives (λ x. x) result (value_if (list_all (is_core_readable objects.now.declared) cores.now && list_all is_core_masked cores.now && list_all (is_core_script objects.now.declared) cores.now) (map (core_plan objects.now.declared) cores.now)) }
 {
     read_each(alloc, objects, cores)
 }
@@ -178,7 +183,7 @@ fn near_cores_of<'e>(
     objects: &Objects<'e>,
     cores: &'e [CoreText<'e>],
 ) -> Result<List<Core>, Refusal>
-    ensures { Gives (λ x. x) result (value_if (list_all (is_core_known objects.now.declared) cores.now && list_all (is_core_near objects.now.declared) cores.now && list_all (is_core_script objects.now.declared) cores.now) (map (core_plan objects.now.declared) cores.now)) }
+    ensures { Gives (λ x. x) result (value_if (list_all (is_core_readable objects.now.declared) cores.now && list_all (is_core_near objects.now.declared) cores.now && list_all is_core_masked cores.now && list_all (is_core_script objects.now.declared) cores.now) (map (core_plan objects.now.declared) cores.now)) }
 {
     let planned = cores_of(alloc, objects, cores)?;
     if are_near(planned.as_slice()) {
@@ -188,15 +193,16 @@ fn near_cores_of<'e>(
     }
 }
 
-/// The plan of a text. `Unfit` where a name in it names nothing, or what it may not name, an operation is not in
-/// good form, or one goes on outside of its script.
+/// The plan of a text. `Unfit` where a script has more operations than it may have, a name names nothing, or what it may
+/// not name, a mask is out of its range, an
+/// operation is not in good form, or one goes on outside of its script.
 pub fn plan_of<'e>(
     alloc: Global,
     text: &'e ConfigText<'e>,
     objects: &Objects<'e>,
 ) -> Result<Plan, Refusal>
     requires objects { objects.now.declared ≡ declarations text.now.cores }
-    ensures { Gives (λ x. x) result (value_if (are_known text.now && are_near text.now && are_operations text.now) (plan_of text.now)) }
+    ensures { Gives (λ x. x) result (value_if (are_readable text.now && are_near text.now && are_masks text.now && are_operations text.now) (plan_of text.now)) }
 {
     let cores = text.cores.as_slice();
     if !has_core(cores, text.master) {

@@ -21,6 +21,7 @@ pub struct TaskText<'v> {
     pub prio: Whole,
     pub auto: List<Text<'v>>,
     pub activations: Whole,
+    pub extended: bool,
     pub preemptable: bool,
     pub script: Text<'v>,
 }
@@ -68,6 +69,7 @@ impl<'v> JsonReader<'v, TaskText<'v>> for TaskReader {
                 "prio",
                 "auto",
                 "activations",
+                "extended",
                 "preemptable",
                 "script",
             ],
@@ -83,6 +85,7 @@ impl<'v> JsonReader<'v, TaskText<'v>> for TaskReader {
                 List::new(alloc),
             )?,
             activations: at_or(alloc, value, "activations", &WholeReader, Some(1))?,
+            extended: at_or(alloc, value, "extended", &BoolReader, false)?,
             preemptable: at_or(alloc, value, "preemptable", &BoolReader, true)?,
             script: at(alloc, value, "script", &TextReader)?,
         })

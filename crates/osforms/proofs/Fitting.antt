@@ -1,5 +1,5 @@
 -- What is read as an argument of a kind is one of the kind.
-use Rattle.std.proofs.Common.{inl, inr, ◌≡◌, ℕ, ◌-◌, ◌==◌, ◌&&◌, ◌≤◌, ℤ, pos, negsuc, nat_le, true, Option, Some, None, option_map, List, [], ◌∷◌, refl, sym, subst, arith}
+use Rattle.std.proofs.Common.{inl, inr, ◌≡◌, ℕ, ◌-◌, ◌==◌, ◌&&◌, ◌≤◌, ℤ, pos, negsuc, nat_le, true, Option, Some, None, option_map, unwrap_or, List, [], ◌∷◌, refl, sym, subst, arith}
 use Rattle.std.specs.Str.Parse.{digits_value}
 use Rattle.std.proofs.lemmas.Bool.{and_parts, and_from, le-leb, leb-true}
 use Rattle.osbase.specs.declared.objects.ObjectKind.{ObjectKind}
@@ -8,11 +8,11 @@ use Rattle.osbase.proofs.Same.{same_kind-self}
 use Rattle.oscript.specs.declared.rows.Kind.{Kind}
 use Rattle.oscript.specs.declared.rows.Verb.{Verb}
 use Rattle.oscript.specs.declared.rows.Arg.{Arg}
-use Rattle.oscript.specs.declared.rows.Arg.TheVariants.{Object, Number, Int, Variable}
+use Rattle.oscript.specs.declared.rows.Arg.TheVariants.{Object, Mask, Number, Int, Variable}
 use Rattle.oscript.specs.Rows.{are_of, is_int, is_of, kinds_of}
 use Rattle.osforms.specs.Form.{arg_of, args_of, form_of_verb, form_of_words, verb_of}
 use Rattle.osforms.specs.Operation.{resolve_arg, resolve_args}
-use Rattle.osforms.specs.Word.{bounded, int_of, is_decimal, number_in, target_of, variable_of}
+use Rattle.osforms.specs.Word.{bounded, int_of, is_decimal, mask_of, number_in, target_of, variable_of}
 use Rattle.osforms.proofs.KindTexts.{cond-some, either, mapped}
 use Rattle.osforms.proofs.RoundTrip.{both, chained}
 
@@ -26,6 +26,16 @@ bounded-between low high d n e =
 
 number-between : (low high : ℕ) (word : List ℕ) (n : ℕ) → number_in low high word ≡ Some n → (nat_le low n && nat_le n high) ≡ true
 number-between low high word n e = bounded-between low high (digits_value 10 word) n (cond-some (is_decimal word) _ n e).1
+
+most-of : (o : Option ℕ) → ((n : ℕ) → o ≡ Some n → nat_le n 4294967295 ≡ true) → nat_le (unwrap_or o 0) 4294967295 ≡ true
+most-of None most = refl
+most-of (Some n) most = most n refl
+
+mask-within : (word : List ℕ) (mask : ℕ) → mask_of word ≡ Some mask → nat_le mask 4294967295 ≡ true
+mask-within word mask e =
+    let value = cond-some (is_decimal word) (Some (unwrap_or (number_in 1 4294967295 word) 0)) mask e in
+    let same : unwrap_or (number_in 1 4294967295 word) 0 ≡ mask = cc in
+    rw (← same) (most-of (number_in 1 4294967295 word) (λ n is. (and_parts (nat_le 1 n) _ (number-between 1 4294967295 word n is)).1))
 
 int-within : (word : List ℕ) (z : ℤ) → int_of word ≡ Some z → is_int z ≡ true
 int-within [] z e = cc
@@ -61,6 +71,11 @@ module _ (place : ObjectKind → List ℕ → Option Place) where
   arg-fit (Kind.Object k) w a b e r =
       let m = mapped (Object k) (target_of w) a e in
       object-fit k m.0 b (subst (λ (q : Arg (List ℕ)). resolve_arg place q ≡ Some b) (sym m.2) r)
+  arg-fit Kind.Mask w a b e r =
+      let m = mapped Mask (mask_of w) a e in
+      let found : resolve_arg place (Mask m.0) ≡ Some b = subst (λ (q : Arg (List ℕ)). resolve_arg place q ≡ Some b) (sym m.2) r in
+      let is : Mask m.0 ≡ b = cc in
+      rw (← is) (mask-within w m.0 m.1)
   arg-fit (Kind.Number low high) w a b e r =
       let m = mapped Number (number_in low high w) a e in
       let found : resolve_arg place (Number m.0) ≡ Some b = subst (λ (q : Arg (List ℕ)). resolve_arg place q ≡ Some b) (sym m.2) r in

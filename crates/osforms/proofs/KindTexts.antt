@@ -1,5 +1,5 @@
 -- Each kind of argument: its text, once for each kind.
-use Rattle.std.proofs.Common.{rules, inl, inr, ◌≡◌, ℕ, zero, suc, ◌-◌, ◌+◌, ◌⊎◌, ◌≤◌, ◌<◌, ◌^◌, ◌==◌, ◌&&◌, ◌||◌, ℤ, pos, negsuc, Bool, true, false, not, cond, nat_le, Option, Some, None, option_map, List, [], ◌∷◌, length, get_or, codes, refl, sym, ap, ◌∙◌, arith}
+use Rattle.std.proofs.Common.{rules, inl, inr, ◌≡◌, ℕ, zero, suc, ◌-◌, ◌+◌, ◌⊎◌, ◌≤◌, ◌<◌, ◌^◌, ◌==◌, ◌&&◌, ◌||◌, ℤ, pos, negsuc, Bool, true, false, not, cond, nat_le, Option, Some, None, option_map, unwrap_or, List, [], ◌∷◌, length, get_or, codes, refl, sym, ap, ◌∙◌, arith}
 use Rattle.std.specs.Char.{is_ascii_digit, is_ascii_alphabetic}
 use Rattle.std.specs.Fmt.{decimal}
 use Rattle.std.specs.Int.{is_in_range}
@@ -12,10 +12,10 @@ use Rattle.std.proofs.lemmas.Grind.{common_steps}
 use Rattle.oscript.specs.declared.rows.Kind.{Kind}
 use Rattle.osbase.specs.declared.objects.ObjectKind.{ObjectKind}
 use Rattle.oscript.specs.declared.rows.Arg.{Arg}
-use Rattle.oscript.specs.declared.rows.Arg.TheVariants.{Object, Number, Int, Variable}
+use Rattle.oscript.specs.declared.rows.Arg.TheVariants.{Object, Mask, Number, Int, Variable}
 use Rattle.osbase.specs.Names.{is_name, is_name_part}
 use Rattle.oscript.specs.Rows.{is_int}
-use Rattle.osforms.specs.Word.{is_unpadded, is_decimal, number_in, int_of, variable_of, target_of}
+use Rattle.osforms.specs.Word.{is_unpadded, is_decimal, mask_of, number_in, int_of, variable_of, target_of}
 use Rattle.osforms.specs.Form.{arg_of, arg_text}
 use Rattle.osforms.proofs.Numerals.{own, int_of-plain, decimal-digits}
 use Rattle.osforms.proofs.Joining.{has_none, not-byte, all-none}
@@ -42,6 +42,9 @@ pub record IsApart (byte : ℕ) : Type 0 where
 
 number-none : (byte low high : ℕ) (word : List ℕ) (n : ℕ) → IsApart byte → number_in low high word ≡ Some n → has_none byte word ≡ true
 number-none byte low high word n apart e = all-none is_ascii_digit byte word apart.digit (decimal-digits word (cond-some (is_decimal word) _ n e).0)
+
+mask-none : (byte : ℕ) (word : List ℕ) (mask : ℕ) → IsApart byte → mask_of word ≡ Some mask → has_none byte word ≡ true
+mask-none byte word mask apart e = all-none is_ascii_digit byte word apart.digit (decimal-digits word (cond-some (is_decimal word) _ mask e).0)
 
 pub either : {A : Type 0} (b : Bool) (x y : Option A) (z : A) → cond b x y ≡ Some z → ((b ≡ true) × (x ≡ Some z)) ⊎ ((b ≡ false) × (y ≡ Some z))
 either true x y z e = inl (refl, e)
@@ -104,6 +107,7 @@ target-none byte word t apart e =
 -- the limits of a kind fit
 abbrev pub is_kind : Kind → Bool
 is_kind (Kind.Object k) = true
+is_kind Kind.Mask = true
 is_kind (Kind.Number low high) = nat_le high 4294967295
 is_kind Kind.Int = true
 is_kind Kind.Variable = true
@@ -111,6 +115,7 @@ is_kind Kind.Variable = true
 -- what is read as an argument has no byte that no argument has
 pub arg_of-none : (byte : ℕ) (k : Kind) (word : List ℕ) (a : Arg (List ℕ)) → IsApart byte → arg_of k word ≡ Some a → has_none byte word ≡ true
 arg_of-none byte (Kind.Object k) word a apart e = let m = mapped (Object k) (target_of word) a e in target-none byte word m.0 apart m.1
+arg_of-none byte Kind.Mask word a apart e = let m = mapped Mask (mask_of word) a e in mask-none byte word m.0 apart m.1
 arg_of-none byte (Kind.Number low high) word a apart e = let m = mapped Number (number_in low high word) a e in number-none byte low high word m.0 apart m.1
 arg_of-none byte Kind.Int word a apart e = let m = mapped Int (int_of word) a e in int-none byte word m.0 apart m.1
 arg_of-none byte Kind.Variable word a apart e = let m = mapped Variable (variable_of word) a e in variable-none byte word m.0 apart m.1
@@ -152,6 +157,13 @@ number-back low high n least most short =
     let low_test : nat_le low n ≡ true = search (rules, least) in
     let high_test : nat_le n high ≡ true = search (rules, most) in
     rw (unpadded, digits, value, low_test, high_test) refl
+
+mask-read : (word : List ℕ) (mask : ℕ) → number_in 1 4294967295 word ≡ Some mask → mask_of word ≡ Some mask
+mask-read word mask e =
+    ap (λ b. cond b (Some (unwrap_or (number_in 1 4294967295 word) 0)) None) (cond-some (is_decimal word) _ mask e).0 ∙ ap (λ o. Some (unwrap_or o 0)) e
+
+pub mask-back : (mask : ℕ) → 1 ≤ mask → mask ≤ 4294967295 → ReadsBack Kind.Mask (Mask mask)
+mask-back mask least most = ap (option_map Mask) (mask-read (decimal mask) mask (number-back 1 4294967295 mask least most (omega arith)))
 
 variable-digit : (x : ℕ) → x ≤ 7 → variable_of (118 ∷ (48 + x) ∷ []) ≡ Some x
 variable-digit x most =

@@ -9,3 +9,4 @@ pub mod Meant
 pub mod ArgsTexts
 pub mod Fitting
 pub mod Operations
+mod FirstWord

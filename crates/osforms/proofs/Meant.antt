@@ -1,21 +1,30 @@
 -- Arguments with the places of their names, word by word.
-use Rattle.std.proofs.Common.{inl, inr, ◌≡◌, ℕ, ◌||◌, not, Bool, true, false, Option, Some, None, is_some, option_map, option_and_then, List, [], ◌∷◌, codes, refl, sym, ap, ◌∙◌}
+use Rattle.std.proofs.Common.{inl, inr, ◌≡◌, ℕ, ◌||◌, not, Bool, true, false, Option, Some, None, is_some, find, option_map, option_and_then, List, [], ◌∷◌, codes, refl, sym, ap, subst, ◌∙◌}
 use Rattle.std.specs.Option.{option_map_or}
 use Rattle.std.specs.Str.{bytes_eq}
 use Rattle.std.proofs.lemmas.Bool.{cases_Bool}
 use Rattle.osbase.specs.declared.objects.ObjectKind.{ObjectKind}
 use Rattle.osbase.specs.declared.objects.Place.{Place}
 use Rattle.osbase.specs.Names.{is_name}
-use Rattle.oscript.specs.Rows.{kinds_of, op_of}
+use Rattle.oscript.specs.Rows.{kinds_of, op_of, word_of}
+use Rattle.oscript.specs.declared.rows.TheConstants.{VERBS}
 use Rattle.oscript.specs.declared.rows.Kind.{Kind}
 use Rattle.oscript.specs.declared.rows.Verb.{Verb}
 use Rattle.oscript.specs.declared.rows.Arg.{Arg}
-use Rattle.oscript.specs.declared.rows.Arg.TheVariants.{Object, Number, Int, Variable}
-use Rattle.osforms.specs.Word.{number_in, int_of, variable_of}
-use Rattle.osforms.specs.Form.{words_of, arg_of, args_of, and_then_rest, verb_of, form_of_verb, form_of_words, form_of}
+use Rattle.oscript.specs.declared.rows.Arg.TheVariants.{Object, Mask, Number, Int, Variable}
+use Rattle.osforms.specs.Word.{mask_of, number_in, int_of, variable_of}
+use Rattle.osforms.specs.Form.{is_first, words_behind, words_of, arg_of, args_of, and_then_rest, verb_of, form_of_verb, form_of_words, form_of}
 use Rattle.osforms.specs.Operation.{resolve_arg, resolve_args, resolved, arg_meant, args_meant, place_of_any, last_of, verb_meant, op_meant, is_formed, is_known}
 use Rattle.osforms.proofs.LastWord.{last-word, lone-rest, rest-none}
 use Rattle.osforms.proofs.Wording.{args_left}
+
+find-passes : {X : Type 0} (p : X → Bool) (xs : List X) (x : X) → find p xs ≡ Some x → p x ≡ true
+find-passes p [] x e = cc
+find-passes p (y ∷ ys) x e =
+    elim (cases_Bool (p y)) as (λ _. p x ≡ true) [
+      | inl passes ↦ let here : find p (y ∷ ys) ≡ Some y = rw passes refl in let same : y ≡ x = cc in subst (λ z. p z ≡ true) same passes
+      | inr fails ↦ let later : find p (y ∷ ys) ≡ find p ys = rw fails refl in find-passes p ys x (sym later ∙ e)
+    ]
 
 module _ (place : ObjectKind → List ℕ → Option Place) where
   pair : (o : Option (Arg (List ℕ))) (r : Option (List (Arg (List ℕ)))) → option_and_then (resolve_args place) (and_then_rest o r) ≡ and_then_rest (option_and_then (resolve_arg place) o) (option_and_then (resolve_args place) r)
@@ -63,6 +72,21 @@ module _ (place : ObjectKind → List ℕ → Option Place) where
   words_meant text word words are =
       ap (λ ws. option_map op_of (option_and_then (resolved place) (form_of_words ws))) are ∙ by-verb words (verb_of word)
 
+  by-first : (text : List ℕ) (words : List (List ℕ)) (verb : Verb) → words_of text ≡ words → find (λ v. is_first (word_of v) words) VERBS ≡ Some verb → op_meant place text ≡ option_and_then (λ ws. verb_meant place ws verb) (words_behind (word_of verb) words)
+  by-first text [] verb are found = cc
+  by-first text (word ∷ words) verb are found = words_meant text word words are ∙ ap (option_and_then (verb_meant place words)) found ∙ rw (find-passes (λ v. bytes_eq (word_of v) word) VERBS verb found) refl
+
+  -- An operation by its first word and what is behind it.
+  pub first_meant : (text : List ℕ) (verb : Verb) → find (λ v. is_first (word_of v) (words_of text)) VERBS ≡ Some verb → op_meant place text ≡ option_and_then (λ ws. verb_meant place ws verb) (words_behind (word_of verb) (words_of text))
+  first_meant text verb found = by-first text (words_of text) verb refl found
+
+  by-none : (text : List ℕ) (words : List (List ℕ)) → words_of text ≡ words → find (λ v. is_first (word_of v) words) VERBS ≡ None → op_meant place text ≡ None
+  by-none text [] are none = ap (λ ws. option_map op_of (option_and_then (resolved place) (form_of_words ws))) are
+  by-none text (word ∷ words) are none = words_meant text word words are ∙ ap (option_and_then (verb_meant place words)) none
+
+  pub no_first : (text : List ℕ) → find (λ v. is_first (word_of v) (words_of text)) VERBS ≡ None → op_meant place text ≡ None
+  no_first text none = by-none text (words_of text) refl none
+
 -- ---- where every name has a place, a text in good form means an operation
 
 kept : {A : Type 0} (f : A → Arg (List ℕ)) → ((a : A) → is_some (resolve_arg place_of_any (f a)) ≡ true) → (o : Option A) → is_some (option_and_then (resolve_arg place_of_any) (option_map f o)) ≡ is_some (option_map f o)
@@ -82,6 +106,7 @@ any-arg (Kind.Object k) w =
             | inr unnamed ↦ rw (other, unnamed) refl
           ]
     ]
+any-arg Kind.Mask w = kept Mask (λ mask. refl) (mask_of w)
 any-arg (Kind.Number low high) w = kept Number (λ n. refl) (number_in low high w)
 any-arg Kind.Int w = kept Int (λ z. refl) (int_of w)
 any-arg Kind.Variable w = kept Variable (λ x. refl) (variable_of w)

@@ -1,8 +1,8 @@
 -- Operations and their texts, there and back, by what names stand for.
-use Rattle.std.proofs.Common.{◌≡◌, ℕ, ◌==◌, ◌≤◌, nat_le, not, Bool, true, false, Option, Some, None, is_some, option_map, option_and_then, List, [], ◌∷◌, length, map, refl, ap, ◌∙◌, arith}
+use Rattle.std.proofs.Common.{◌≡◌, ℕ, ◌==◌, ◌≤◌, nat_le, not, Bool, true, false, Option, Some, None, is_some, option_map, option_and_then, List, [], ◌∷◌, length, map, refl, sym, ap, ◌∙◌, arith}
 use Rattle.std.specs.List.{list_all}
 use Rattle.std.specs.Option.{option_map_or}
-use Rattle.std.proofs.lemmas.Bool.{and_parts, and_from, false≢true, leb-true}
+use Rattle.std.proofs.lemmas.Bool.{and_parts, and_from, false≢true, leb-true, true≢false}
 use Rattle.osbase.specs.declared.objects.ObjectKind.{ObjectKind}
 use Rattle.osbase.specs.declared.objects.Place.{Place}
 use Rattle.osbase.specs.declared.objects.Object.{Object as Named}
@@ -10,13 +10,16 @@ use Rattle.osbase.specs.Names.{is_name}
 use Rattle.oscript.specs.declared.Op.{Op}
 use Rattle.oscript.specs.declared.rows.Kind.{Kind}
 use Rattle.oscript.specs.declared.rows.Arg.{Arg}
-use Rattle.oscript.specs.declared.rows.Arg.TheVariants.{Object, Number, Int, Variable}
-use Rattle.oscript.specs.Rows.{are_of, form_of_op, is_in_form, is_of, kinds_of, objects_in, objects_of, op_of}
+use Rattle.oscript.specs.declared.rows.Arg.TheVariants.{Object, Mask, Number, Int, Variable}
+use Rattle.oscript.specs.declared.rows.Verb.{Verb}
+use Rattle.oscript.specs.Rows as rows
+use Rattle.oscript.specs.Rows.{are_of, form_of_op, has_event, is_in_form, is_of, kinds_of, objects_in, objects_of, op_of}
 use Rattle.oscript.proofs.Arguments.{rest-pass}
 use Rattle.osforms.specs.Form.{form_of, words_of}
-use Rattle.osforms.specs.Operation.{resolve_arg, resolve_args, resolved, named, op_meant, is_formed, is_known, op_text}
+use Rattle.osforms.specs.Operation.{resolve_arg, resolve_args, resolved, named, op_meant, place_of_any, has_masks, is_formed, is_known, op_text}
 use Rattle.osforms.proofs.Joining.{has_none}
-use Rattle.osforms.proofs.KindTexts.{mapped, is_kind, ReadsBack, invalid-back, name-back, number-back, int-back, variable-back, IsApart}
+use Rattle.osforms.proofs.KindTexts.{mapped, is_kind, ReadsBack, invalid-back, name-back, mask-back, number-back, int-back, variable-back, IsApart}
+use Rattle.osforms.proofs.Meant.{any_meant}
 use Rattle.osforms.proofs.Rows.{is-row, is-op}
 use Rattle.osforms.proofs.Fitting.{args-fit, formed-args}
 use Rattle.osbase.proofs.Same.{same_kind-true}
@@ -24,12 +27,41 @@ use Rattle.osforms.proofs.RoundTrip.{both, chained, AreArgs, form_text-back, for
 
 -- ---- what a text means
 
+-- The operation that a text means has the text's form, with the places of its names.
+record Meant (place : ObjectKind → List ℕ → Option Place) (text : List ℕ) (op : Op) : Type 0 where
+  pub form : Verb × List (Arg (List ℕ))
+  pub args : List (Arg Place)
+  pub formed : form_of text ≡ Some form
+  pub placed : resolve_args place form.1 ≡ Some args
+  pub fit : are_of (kinds_of form.0) args ≡ true
+  pub verb_is : (form_of_op op).0 ≡ form.0
+  pub args_are : (form_of_op op).1 ≡ args
+
+meant-form : (place : ObjectKind → List ℕ → Option Place) (text : List ℕ) (op : Op) → op_meant place text ≡ Some op → Meant place text op
+meant-form place text op e =
+    let m = mapped op_of (option_and_then (resolved place) (form_of text)) op e in
+    let c = chained (resolved place) (form_of text) m.0 m.1 in
+    let r = mapped (λ args. (c.0.0, args)) (resolve_args place c.0.1) m.0 c.2 in
+    let f = formed-args (words_of text) c.0 c.1 in
+    let fit : are_of (kinds_of c.0.0) r.0 ≡ true = args-fit place (kinds_of c.0.0) f.0 c.0.1 r.0 f.1 r.1 in
+    let back : op ≡ op_of (c.0.0, r.0) = sym m.2 ∙ ap op_of (sym r.2) in
+    record {
+      form = c.0;
+      args = r.0;
+      formed = c.1;
+      placed = r.1;
+      fit = fit;
+      verb_is = ap (λ (o : Op). (form_of_op o).0) back ∙ (is-row c.0.0).3 r.0;
+      args_are = ap (λ (o : Op). (form_of_op o).1) back ∙ (is-row c.0.0).4 r.0 fit;
+    }
+
 module _ (place : ObjectKind → List ℕ → Option Place) (p : Named → Bool) (passes : (kind : ObjectKind) (name : List ℕ) (found : Place) → place kind name ≡ Some found → p (record { kind = kind; place = found }) ≡ true) where
   arg-passes : (shown : Arg (List ℕ)) (arg : Arg Place) (args : List (Arg Place)) → resolve_arg place shown ≡ Some arg → list_all p (objects_in args) ≡ true → list_all p (objects_in (arg ∷ args)) ≡ true
   arg-passes (Object kind None) arg args e all = let is : Object kind None ≡ arg = cc in rw (← is) all
   arg-passes (Object kind (Some name)) arg args e all =
       let m = mapped (λ found. Object kind (Some found)) (place kind name) arg e in
       rw (← m.2) (and_from _ _ (passes kind name m.0 m.1) all)
+  arg-passes (Mask mask) arg args e all = let is : Mask mask ≡ arg = cc in rw (← is) all
   arg-passes (Number n) arg args e all = let is : Number n ≡ arg = cc in rw (← is) all
   arg-passes (Int z) arg args e all = let is : Int z ≡ arg = cc in rw (← is) all
   arg-passes (Variable x) arg args e all = let is : Variable x ≡ arg = cc in rw (← is) all
@@ -42,27 +74,49 @@ module _ (place : ObjectKind → List ℕ → Option Place) (p : Named → Bool)
 
   -- Each object of the operation that a text means is one that some name stands for.
   pub meant-passes : (text : List ℕ) (op : Op) → op_meant place text ≡ Some op → list_all p (objects_of op) ≡ true
-  meant-passes text op e =
-      let m = mapped op_of (option_and_then (resolved place) (form_of text)) op e in
-      let c = chained (resolved place) (form_of text) m.0 m.1 in
-      let r = mapped (λ args. (c.0.0, args)) (resolve_args place c.0.1) m.0 c.2 in
-      rw (← m.2, ← r.2) ((is-row c.0.0).3 p r.0 (args-pass c.0.1 r.0 r.1))
+  meant-passes text op e = let m = meant-form place text op e in rw m.args_are (args-pass m.form.1 m.args m.placed)
 
--- Each argument of the operation that a text means is of its kind.
-pub meant-in-form : (place : ObjectKind → List ℕ → Option Place) (text : List ℕ) (op : Op) → op_meant place text ≡ Some op → is_in_form op ≡ true
-meant-in-form place text op e =
-    let m = mapped op_of (option_and_then (resolved place) (form_of text)) op e in
-    let c = chained (resolved place) (form_of text) m.0 m.1 in
-    let r = mapped (λ args. (c.0.0, args)) (resolve_args place c.0.1) m.0 c.2 in
-    let f = formed-args (words_of text) c.0 c.1 in
-    rw (← m.2, ← r.2) ((is-row c.0.0).4 r.0 (args-fit place (kinds_of c.0.0) f.0 c.0.1 r.0 f.1 r.1))
+module _ (place : ObjectKind → List ℕ → Option Place) where
+  -- Each argument of the operation that a text means is of its kind.
+  pub meant-in-form : (text : List ℕ) (op : Op) → op_meant place text ≡ Some op → is_in_form op ≡ true
+  meant-in-form text op e = let m = meant-form place text op e in rw (m.verb_is, m.args_are) m.fit
 
--- A text that means an operation is in good form, and its names are known.
-pub meant-known : (place : ObjectKind → List ℕ → Option Place) (text : List ℕ) (op : Op) → op_meant place text ≡ Some op → (is_formed text ≡ true) × (is_known place text ≡ true)
-meant-known place text op e =
-    let m = mapped op_of (option_and_then (resolved place) (form_of text)) op e in
-    let c = chained (resolved place) (form_of text) m.0 m.1 in
-    (ap is_some c.1, ap (λ o. option_map_or (λ form. is_some (resolved place form)) o true) c.1 ∙ ap is_some c.2)
+  -- A text that means an operation is in good form, and its names are known.
+  pub meant-known : (text : List ℕ) (op : Op) → op_meant place text ≡ Some op → (is_formed text ≡ true) × (is_known place text ≡ true)
+  meant-known text op e =
+      let m = meant-form place text op e in
+      let found : is_some (resolved place m.form) ≡ true = rw m.placed refl in
+      (ap is_some m.formed, ap (λ o. option_map_or (λ form. is_some (resolved place form)) o true) m.formed ∙ found)
+
+  arg-event : (shown : Arg (List ℕ)) (arg : Arg Place) → resolve_arg place shown ≡ Some arg → has_event arg ≡ has_event shown
+  arg-event (Object kind None) arg e = let is : Object kind None ≡ arg = cc in rw (← is) refl
+  arg-event (Object kind (Some name)) arg e =
+      let m = mapped (λ found. Object kind (Some found)) (place kind name) arg e in
+      rw (← m.2) refl
+  arg-event (Mask mask) arg e = let is : Mask mask ≡ arg = cc in rw (← is) refl
+  arg-event (Number n) arg e = let is : Number n ≡ arg = cc in rw (← is) refl
+  arg-event (Int z) arg e = let is : Int z ≡ arg = cc in rw (← is) refl
+  arg-event (Variable x) arg e = let is : Variable x ≡ arg = cc in rw (← is) refl
+
+  args-events : (shown : List (Arg (List ℕ))) (args : List (Arg Place)) → resolve_args place shown ≡ Some args → list_all has_event args ≡ list_all has_event shown
+  args-events [] args e = let is : [] ≡ args = cc in rw (← is) refl
+  args-events (a ∷ shown) args e =
+      let m = both (resolve_arg place a) (resolve_args place shown) args e in
+      rw (← m.4, arg-event a m.0 m.2, args-events shown m.1 m.3) refl
+
+  -- The masks of the operation that a text means are the text's.
+  pub meant_masks : (text : List ℕ) (op : Op) → op_meant place text ≡ Some op → rows.has_masks op ≡ has_masks text
+  meant_masks text op e =
+      let m = meant-form place text op e in
+      ap (list_all has_event) m.args_are ∙ args-events m.form.1 m.args m.placed ∙ sym (ap (λ o. option_map_or (λ form. list_all has_event form.1) o true) m.formed)
+
+-- A text that means no operation, whatever its names stand for, has none.
+masks-by : (text : List ℕ) (o : Option (Verb × List (Arg (List ℕ)))) → is_some o ≡ false → option_map_or (λ form. list_all has_event form.1) o true ≡ true
+masks-by text None none = refl
+masks-by text (Some form) none = absurd (true≢false none)
+
+pub no-masks : (text : List ℕ) → op_meant place_of_any text ≡ None → has_masks text ≡ true
+no-masks text none = masks-by text (form_of text) (sym (any_meant text) ∙ ap is_some none)
 
 -- ---- what an operation's text means
 
@@ -72,29 +126,32 @@ pub record IsNamed (place : ObjectKind → List ℕ → Option Place) (name : Ob
   pub found : place object.kind (name object.kind object.place) ≡ Some object.place
 
 module _ (place : ObjectKind → List ℕ → Option Place) (name : ObjectKind → Place → List ℕ) (p : Named → Bool) (known : (object : Named) → p object ≡ true → IsNamed place name object) where
-  arg-back : (k : Kind) (a : Arg Place) (args : List (Arg Place)) → is_kind k ≡ true → is_of k a ≡ true → list_all p (objects_in (a ∷ args)) ≡ true → ReadsBack k (named name a)
-  arg-back (Kind.Object k) (Object j None) args fits is all = rw (same_kind-true k j is) (invalid-back j)
-  arg-back (Kind.Object k) (Object j (Some found)) args fits is all = rw (same_kind-true k j is) (name-back j (name j found) (known (record { kind = j; place = found }) (and_parts (p (record { kind = j; place = found })) _ all).0).in_form)
-  arg-back (Kind.Number low high) (Number n) args fits is all =
+  arg-back : (k : Kind) (a : Arg Place) (args : List (Arg Place)) → is_kind k ≡ true → is_of k a ≡ true → has_event a ≡ true → list_all p (objects_in (a ∷ args)) ≡ true → ReadsBack k (named name a)
+  arg-back (Kind.Object k) (Object j None) args fits is some all = rw (same_kind-true k j is) (invalid-back j)
+  arg-back (Kind.Object k) (Object j (Some found)) args fits is some all = rw (same_kind-true k j is) (name-back j (name j found) (known (record { kind = j; place = found }) (and_parts (p (record { kind = j; place = found })) _ all).0).in_form)
+  arg-back Kind.Mask (Mask mask) args fits is some all = mask-back mask (leb-true 1 mask some) (leb-true mask 4294967295 is)
+  arg-back (Kind.Number low high) (Number n) args fits is some all =
       let most : high ≤ 4294967295 = leb-true high 4294967295 fits in
       let parts = and_parts (nat_le low n) (nat_le n high) is in
       let short : n ≤ high = leb-true n high parts.1 in
       ap (option_map Number) (number-back low high n (leb-true low n parts.0) short (omega arith))
-  arg-back Kind.Int (Int z) args fits is all = int-back z is
-  arg-back Kind.Variable (Variable x) args fits is all = variable-back x (leb-true x 7 is)
-  arg-back k a args fits is all = absurd (false≢true is)
+  arg-back Kind.Int (Int z) args fits is some all = int-back z is
+  arg-back Kind.Variable (Variable x) args fits is some all = variable-back x (leb-true x 7 is)
+  arg-back k a args fits is some all = absurd (false≢true is)
 
-  args-back : (ks : List Kind) (args : List (Arg Place)) → list_all is_kind ks ≡ true → are_of ks args ≡ true → list_all p (objects_in args) ≡ true → AreArgs ks (map (named name) args)
-  args-back [] [] fit are all = tt
-  args-back (k ∷ ks) (a ∷ args) fit are all =
+  args-back : (ks : List Kind) (args : List (Arg Place)) → list_all is_kind ks ≡ true → are_of ks args ≡ true → list_all has_event args ≡ true → list_all p (objects_in args) ≡ true → AreArgs ks (map (named name) args)
+  args-back [] [] fit are some all = tt
+  args-back (k ∷ ks) (a ∷ args) fit are some all =
       let fits = and_parts (is_kind k) (list_all is_kind ks) fit in
       let is = and_parts (is_of k a) (are_of ks args) are in
-      (arg-back k a args fits.0 is.0 all, args-back ks args fits.1 is.1 (rest-pass p a args all))
-  args-back ks args fit are all = absurd (false≢true are)
+      let events = and_parts (has_event a) (list_all has_event args) some in
+      (arg-back k a args fits.0 is.0 events.0 all, args-back ks args fits.1 is.1 events.1 (rest-pass p a args all))
+  args-back ks args fit are some all = absurd (false≢true are)
 
   arg-resolved : (a : Arg Place) (args : List (Arg Place)) → list_all p (objects_in (a ∷ args)) ≡ true → resolve_arg place (named name a) ≡ Some a
   arg-resolved (Object kind None) args all = refl
   arg-resolved (Object kind (Some found)) args all = rw (known (record { kind = kind; place = found }) (and_parts (p (record { kind = kind; place = found })) _ all).0).found refl
+  arg-resolved (Mask mask) args all = refl
   arg-resolved (Number n) args all = refl
   arg-resolved (Int z) args all = refl
   arg-resolved (Variable x) args all = refl
@@ -103,20 +160,20 @@ module _ (place : ObjectKind → List ℕ → Option Place) (name : ObjectKind �
   args-resolved [] all = refl
   args-resolved (a ∷ args) all = rw (arg-resolved a args all, args-resolved args (rest-pass p a args all)) refl
 
-  are-args : (op : Op) → is_in_form op ≡ true → list_all p (objects_of op) ≡ true → AreArgs (kinds_of (form_of_op op).0) (map (named name) (form_of_op op).1)
-  are-args op fit all = args-back (kinds_of (form_of_op op).0) (form_of_op op).1 (is-row (form_of_op op).0).2 fit all
+  are-args : (op : Op) → is_in_form op ≡ true → rows.has_masks op ≡ true → list_all p (objects_of op) ≡ true → AreArgs (kinds_of (form_of_op op).0) (map (named name) (form_of_op op).1)
+  are-args op fit some all = args-back (kinds_of (form_of_op op).0) (form_of_op op).1 (is-row (form_of_op op).0).2 fit some all
 
   -- It means that operation,
-  pub text-meant : (op : Op) → is_in_form op ≡ true → list_all p (objects_of op) ≡ true → op_meant place (op_text name op) ≡ Some op
-  text-meant op fit all =
+  pub text-meant : (op : Op) → is_in_form op ≡ true → rows.has_masks op ≡ true → list_all p (objects_of op) ≡ true → op_meant place (op_text name op) ≡ Some op
+  text-meant op fit some all =
       let form = form_of_op op in
-      ap (λ f. option_map op_of (option_and_then (resolved place) f)) (form_text-back form.0 (map (named name) form.1) (are-args op fit all))
+      ap (λ f. option_map op_of (option_and_then (resolved place) f)) (form_text-back form.0 (map (named name) form.1) (are-args op fit some all))
       ∙ ap (λ args. option_map op_of (option_map (λ as_. (form.0, as_)) args)) (args-resolved form.1 all)
       ∙ ap Some (is-op op)
 
   -- and has no byte that no argument has, other than the space.
-  pub text-none : (byte : ℕ) → IsApart byte → (32 == byte) ≡ false → (op : Op) → is_in_form op ≡ true → list_all p (objects_of op) ≡ true → has_none byte (op_text name op) ≡ true
-  text-none byte apart other op fit all = form_text-none byte apart other (form_of_op op).0 (map (named name) (form_of_op op).1) (are-args op fit all)
+  pub text-none : (byte : ℕ) → IsApart byte → (32 == byte) ≡ false → (op : Op) → is_in_form op ≡ true → rows.has_masks op ≡ true → list_all p (objects_of op) ≡ true → has_none byte (op_text name op) ≡ true
+  text-none byte apart other op fit some all = form_text-none byte apart other (form_of_op op).0 (map (named name) (form_of_op op).1) (are-args op fit some all)
 
 pub text-some : (name : ObjectKind → Place → List ℕ) (op : Op) → not (length (op_text name op) == 0) ≡ true
 text-some name op = form_text-some (form_of_op op).0 (map (named name) (form_of_op op).1)

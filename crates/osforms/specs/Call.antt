@@ -10,7 +10,7 @@ use Rattle.osbase.specs.declared.statuses.ServiceId.TheVariants as Service
 use Rattle.osbase.specs.Words.{service_name}
 use Rattle.osbase.specs.Objects.{task_object, alarm_object}
 use Rattle.oscript.specs.declared.rows.Arg.{Arg}
-use Rattle.oscript.specs.declared.rows.Arg.TheVariants.{Object, Number, Variable}
+use Rattle.oscript.specs.declared.rows.Arg.TheVariants.{Object, Mask, Number, Variable}
 use Rattle.oscript.specs.Rows.{items}
 use Rattle.osforms.specs.declared.calls.CallForm.{CallForm}
 use Rattle.osforms.specs.Form.{arg_text}
@@ -26,7 +26,7 @@ argument_of object = Object object.kind (Some object.place)
 -- The service that a call asks for, and its arguments.
 abbrev pub form_of_call : RemoteCall → ServiceId × List (Arg Place)
 form_of_call (Call.ActivateTask t) = (Service.ActivateTask, argument_of (task_object t) ∷ [])
-form_of_call (Call.SetEvent t mask) = (Service.SetEvent, argument_of (task_object t) ∷ Number mask ∷ [])
+form_of_call (Call.SetEvent t mask) = (Service.SetEvent, argument_of (task_object t) ∷ Mask mask ∷ [])
 form_of_call (Call.SetRelAlarm a increment cycle) = (Service.SetRelAlarm, argument_of (alarm_object a) ∷ Number increment ∷ Number cycle ∷ [])
 form_of_call (Call.SetAbsAlarm a start cycle) = (Service.SetAbsAlarm, argument_of (alarm_object a) ∷ Number start ∷ Number cycle ∷ [])
 form_of_call (Call.CancelAlarm a) = (Service.CancelAlarm, argument_of (alarm_object a) ∷ [])

@@ -1,5 +1,5 @@
 -- What an operation's text says: its verb and its arguments, whose names are not looked up yet. [own]
-use Rattle.std.specs.Prelude.{ℕ, ◌==◌, Option, Some, None, option_map, option_and_then, List, [], ◌∷◌, map, find, codes}
+use Rattle.std.specs.Prelude.{ℕ, ◌==◌, Bool, false, if◌then◌else◌, Option, Some, None, option_map, option_and_then, List, [], ◌∷◌, drop, map, find, codes}
 use Rattle.std.specs.Borrow.{Bor}
 use Rattle.std.specs.List.{slice_split, join_with_byte}
 use Rattle.std.specs.Str.{bytes_eq}
@@ -8,9 +8,9 @@ use Rattle.oscript.specs.declared.rows.Verb.{Verb}
 use Rattle.oscript.specs.declared.rows.Kind.{Kind}
 use Rattle.oscript.specs.declared.rows.TheConstants.{VERBS}
 use Rattle.oscript.specs.declared.rows.Arg.{Arg}
-use Rattle.oscript.specs.declared.rows.Arg.TheVariants.{Object, Number, Int, Variable}
+use Rattle.oscript.specs.declared.rows.Arg.TheVariants.{Object, Mask, Number, Int, Variable}
 use Rattle.oscript.specs.Rows.{word_of, kinds_of}
-use Rattle.osforms.specs.Word.{number_in, int_of, variable_of, target_of}
+use Rattle.osforms.specs.Word.{mask_of, number_in, int_of, variable_of, target_of}
 
 -- ---- reading
 
@@ -25,6 +25,7 @@ rest_words (Some rest) = words_of rest.now
 -- A word as an argument of a kind.
 abbrev pub arg_of : Kind → List ℕ → Option (Arg (List ℕ))
 arg_of (Kind.Object k) word = option_map (Object k) (target_of word)
+arg_of Kind.Mask word = option_map Mask (mask_of word)
 arg_of (Kind.Number low high) word = option_map Number (number_in low high word)
 arg_of Kind.Int word = option_map Int (int_of word)
 arg_of Kind.Variable word = option_map Variable (variable_of word)
@@ -39,6 +40,14 @@ args_of [] [] = Some []
 args_of [] (w ∷ ws) = None
 args_of (k ∷ ks) [] = None
 args_of (k ∷ ks) (w ∷ ws) = and_then_rest (arg_of k w) (args_of ks ws)
+
+-- The first word is this one, and the words behind it where it is.
+abbrev pub is_first : List ℕ → List (List ℕ) → Bool
+is_first word [] = false
+is_first word (first ∷ words) = bytes_eq word first
+
+abbrev pub words_behind : List ℕ → List (List ℕ) → Option (List (List ℕ))
+words_behind word words = if is_first word words then Some (drop 1 words) else None
 
 -- The operation of a word.
 abbrev pub verb_of : List ℕ → Option Verb
@@ -60,6 +69,7 @@ form_of text = form_of_words (words_of text)
 abbrev pub arg_text : Arg (List ℕ) → List ℕ
 arg_text (Object k None) = codes "?"
 arg_text (Object k (Some name)) = name
+arg_text (Mask mask) = decimal mask
 arg_text (Number n) = decimal n
 arg_text (Int z) = signed_decimal z
 arg_text (Variable x) = 118 ∷ decimal x

@@ -1,6 +1,7 @@
 -- Operations and their texts, by what names stand for. [own]
 use Rattle.std.specs.Prelude.{ℕ, ◌++◌, if◌then◌else◌, Bool, true, Option, Some, None, is_some, option_map, option_and_then, List, [], ◌∷◌, map}
 use Rattle.std.specs.Borrow.{Bor}
+use Rattle.std.specs.List.{list_all}
 use Rattle.std.specs.Option.{option_map_or}
 use Rattle.osbase.specs.Names.{is_name}
 use Rattle.osbase.specs.declared.objects.ObjectKind.{ObjectKind}
@@ -9,8 +10,8 @@ use Rattle.oscript.specs.declared.Op.{Op}
 use Rattle.oscript.specs.declared.rows.Verb.{Verb}
 use Rattle.oscript.specs.declared.rows.Arg.{Arg}
 use Rattle.oscript.specs.declared.rows.Kind.{Kind}
-use Rattle.oscript.specs.declared.rows.Arg.TheVariants.{Object, Number, Int, Variable}
-use Rattle.oscript.specs.Rows.{op_of, form_of_op, kinds_of}
+use Rattle.oscript.specs.declared.rows.Arg.TheVariants.{Object, Mask, Number, Int, Variable}
+use Rattle.oscript.specs.Rows.{op_of, form_of_op, has_event, kinds_of}
 use Rattle.osforms.specs.Form.{and_then_rest, arg_of, form_of, form_text, arg_text, rest_words}
 
 -- ---- from names to places
@@ -18,6 +19,7 @@ use Rattle.osforms.specs.Form.{and_then_rest, arg_of, form_of, form_text, arg_te
 abbrev pub resolve_arg : (ObjectKind → List ℕ → Option Place) → Arg (List ℕ) → Option (Arg Place)
 resolve_arg place (Object kind None) = Some (Object kind None)
 resolve_arg place (Object kind (Some name)) = option_map (λ found. Object kind (Some found)) (place kind name)
+resolve_arg place (Mask mask) = Some (Mask mask)
 resolve_arg place (Number n) = Some (Number n)
 resolve_arg place (Int z) = Some (Int z)
 resolve_arg place (Variable x) = Some (Variable x)
@@ -72,10 +74,15 @@ is_formed text = is_some (form_of text)
 abbrev pub is_known : (ObjectKind → List ℕ → Option Place) → List ℕ → Bool
 is_known place text = option_map_or (λ form. is_some (resolved place form)) (form_of text) true
 
+-- Each mask of a text in good form is in its range. A text in another form has no masks.
+abbrev pub has_masks : List ℕ → Bool
+has_masks text = option_map_or (λ form. list_all has_event form.1) (form_of text) true
+
 -- ---- from places to names
 
 abbrev pub named : (ObjectKind → Place → List ℕ) → Arg Place → Arg (List ℕ)
 named name (Object kind target) = Object kind (option_map (name kind) target)
+named name (Mask mask) = Mask mask
 named name (Number n) = Number n
 named name (Int z) = Int z
 named name (Variable x) = Variable x

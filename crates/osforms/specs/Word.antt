@@ -1,5 +1,5 @@
 -- Numbers, variables and names, each a word of an operation. [own]
-use Rattle.std.specs.Prelude.{ℕ, ◌-◌, ◌==◌, ◌&&◌, ℤ, pos, negsuc, nat_le, Bool, true, false, not, Option, Some, None, option_map, if◌then◌else◌, List, [], ◌∷◌, codes}
+use Rattle.std.specs.Prelude.{ℕ, ◌-◌, ◌==◌, ◌&&◌, ℤ, pos, negsuc, nat_le, Bool, true, false, not, Option, Some, None, option_map, unwrap_or, if◌then◌else◌, List, [], ◌∷◌, codes}
 use Rattle.std.specs.Char.{is_ascii_digit}
 use Rattle.std.specs.List.{list_all}
 use Rattle.std.specs.Str.{bytes_eq}
@@ -21,6 +21,10 @@ bounded low high n = if nat_le low n && nat_le n high then Some n else None
 -- One of this range.
 abbrev pub number_in : ℕ → ℕ → List ℕ → Option ℕ
 number_in low high word = if is_decimal word then bounded low high (digits_value 10 word) else None
+
+-- The events of a mask, each a bit: 1 to 4294967295. Any other decimal number stands as 0.
+abbrev pub mask_of : List ℕ → Option ℕ
+mask_of word = if is_decimal word then Some (unwrap_or (number_in 1 4294967295 word) 0) else None
 
 -- A signed number of 64 bits, with `-` before it where it is below 0.
 abbrev pub int_of : List ℕ → Option ℤ

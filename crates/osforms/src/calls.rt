@@ -34,7 +34,7 @@ pub fn form_of_call(call: RemoteCall) -> CallForm
     match call {
         RemoteCall::ActivateTask(_) => asked(ServiceId::ActivateTask, Args::One(object)),
         RemoteCall::SetEvent { mask, .. } => {
-            asked(ServiceId::SetEvent, Args::Two(object, Arg::Number(mask)))
+            asked(ServiceId::SetEvent, Args::Two(object, Arg::Mask(mask)))
         }
         RemoteCall::SetRelAlarm {
             increment,

@@ -13,6 +13,6 @@ mod words;
 mod writing;
 
 pub use calls::{CallForm, form_of_call};
-pub use parsing::{is_known, op_meant};
+pub use parsing::{has_masks, is_known, op_meant};
 pub use places::Places;
 pub use writing::{Names, op_text};

@@ -3,7 +3,7 @@
 ghost use Rattle.std.specs.Prelude.{◌≡◌, ◌≤◌, ◌-◌, negsuc, IfSome};
 ghost use Rattle.std.specs.Char.{is_ascii_digit};
 ghost use Rattle.std.specs.List.{list_all};
-ghost use Rattle.osforms.specs.Word.{is_unpadded, is_decimal, number_in, int_of, variable_of};
+ghost use Rattle.osforms.specs.Word.{is_unpadded, is_decimal, mask_of, number_in, int_of, variable_of};
 
 fn is_unpadded(word: &[u8]) -> bool
     ensures { result ≡ is_unpadded word.now }
@@ -49,6 +49,19 @@ pub fn number_in(low: u64, high: u64, word: &str) -> Option<u64>
     match word.parse::<u64>() {
         Ok(n) => { if low <= n && n <= high { Some(n) } else { None } }
         Err(_) => None,
+    }
+}
+
+/// The events of a mask: a decimal number of 1 to 4294967295. 0 of another decimal number.
+pub fn mask_of(word: &str) -> Option<u32>
+    ensures { result ≡ mask_of word.now }
+{
+    if !is_decimal(word) {
+        return None;
+    }
+    match number_in(1, 4294967295, word) {
+        Some(mask) => Some(mask as u32),
+        None => Some(0),
     }
 }
 

@@ -1,19 +1,19 @@
 //! Reading: operations in good form, with the places of their names.
 
-ghost use Rattle.std.specs.Prelude.{◌≡◌, ◌∷◌, [], option_map, List};
-ghost use Rattle.std.specs.Str.{bytes_eq};
+ghost use Rattle.std.specs.Prelude.{◌≡◌, ◌∷◌, [], find, option_map, List};
 ghost use Rattle.oscript.specs.declared.rows.Kind.{Kind};
 ghost use Rattle.oscript.specs.Rows.{word_of, items};
-ghost use Rattle.osforms.specs.Form.{rest_words, verb_of};
-ghost use Rattle.osforms.specs.Operation.{arg_meant, args_after, args_meant, is_formed, is_known, last_of, op_meant, two_of, verb_meant};
+ghost use Rattle.osforms.specs.Form.{is_first, rest_words, words_behind, words_of};
+ghost use Rattle.osforms.specs.Operation.{arg_meant, args_after, args_meant, has_masks, is_formed, is_known, last_of, op_meant, two_of, verb_meant};
 
-use crate::numbers::{int_of, number_in, variable_of};
+use crate::numbers::{int_of, mask_of, number_in, variable_of};
 use crate::places::{AnyName, Places};
 use crate::words::cut;
 use osbase::{ObjectKind, Place};
 use oscript::{Arg, Args, Form, Kind, Op, VERBS, Verb, op_of, row_of};
 
 // A place's name is in form, so it is not judged again.
+#[inline(always)]
 fn object_meant<P: Places>(places: &P, kind: ObjectKind, word: &str) -> Option<Arg<Place>>
     ensures { result ≡ arg_meant (P.place places.now) (Kind.Object kind) word.now }
 {
@@ -27,11 +27,13 @@ fn object_meant<P: Places>(places: &P, kind: ObjectKind, word: &str) -> Option<A
     }
 }
 
+#[inline(always)]
 fn arg_meant<P: Places>(places: &P, kind: Kind, word: &str) -> Option<Arg<Place>>
     ensures { result ≡ arg_meant (P.place places.now) kind word.now }
 {
     match kind {
         Kind::Object(kind) => object_meant(places, kind, word),
+        Kind::Mask => Some(Arg::Mask(mask_of(word)?)),
         Kind::Number(low, high) => {
             let n = number_in(u64::from(low), u64::from(high), word)?;
             Some(Arg::Number(n as u32))
@@ -42,6 +44,7 @@ fn arg_meant<P: Places>(places: &P, kind: Kind, word: &str) -> Option<Arg<Place>
 }
 
 // The next word as an argument of the kind, and what follows it.
+#[inline(always)]
 fn next_arg<'a, P: Places>(
     places: &P,
     kind: Kind,
@@ -55,6 +58,7 @@ fn next_arg<'a, P: Places>(
 
 // The last word as an argument of the kind. No argument has a space, so all that is left is that word.
 #[tactic(auto, using(crate::proofs::Meant::last_meant))]
+#[inline(always)]
 fn last_arg<P: Places>(places: &P, kind: Kind, rest: Option<&str>) -> Option<Arg<Place>>
     ensures { option_map last_of result ≡ args_meant (P.place places.now) (kind ∷ []) (rest_words rest.entry) }
 {
@@ -64,6 +68,7 @@ fn last_arg<P: Places>(places: &P, kind: Kind, rest: Option<&str>) -> Option<Arg
     }
 }
 
+#[inline(always)]
 fn last_two<P: Places>(
     places: &P,
     kind: Kind,
@@ -81,6 +86,7 @@ fn last_two<P: Places>(
     }
 }
 
+#[inline(always)]
 fn args_meant<P: Places>(
     places: &P,
     kinds: Args<Kind>,
@@ -111,18 +117,38 @@ fn args_meant<P: Places>(
     }
 }
 
-fn is_word(verb: Verb, word: &str) -> bool
-    ensures { result ≡ bytes_eq (word_of verb) word.now }
+// What follows a verb's word in a text that begins with this word.
+#[inline(always)]
+fn rest_of(verb: Verb, text: &str) -> Option<Option<&str>>
+    ensures { option_map rest_words result ≡ words_behind (word_of verb) (words_of text.now) }
 {
-    row_of(verb).word == word
+    match text.strip_prefix(row_of(verb).word) {
+        Some(rest) if rest.is_empty() => Some(None),
+        Some(rest) => match rest.strip_prefix(' ') {
+            Some(rest) => Some(Some(rest)),
+            None => None,
+        },
+        None => None,
+    }
 }
 
-fn verb_of(word: &str) -> Option<Verb>
-    ensures { result ≡ verb_of word.now }
+#[inline(always)]
+fn begins(text: &str, verb: Verb) -> bool
+    ensures { result ≡ is_first (word_of verb) (words_of text.now) }
 {
-    VERBS.iter().copied().find(|verb| is_word(*verb, word))
+    rest_of(verb, text).is_some()
 }
 
+// The verb of a text's first word. The words are short, so each is compared where it would stand, and the end of
+// the first one is not looked for.
+#[inline(always)]
+fn first_verb(text: &str) -> Option<Verb>
+    ensures { result ≡ find (λ verb. is_first (word_of verb) (words_of text.now)) VERBS }
+{
+    VERBS.iter().copied().find(|verb| begins(text, *verb))
+}
+
+#[inline(always)]
 fn verb_meant<P: Places>(places: &P, verb: Verb, rest: Option<&str>) -> Option<Op>
     ensures { result ≡ verb_meant (P.place places.now) (rest_words rest.entry) verb }
 {
@@ -137,9 +163,11 @@ fn verb_meant<P: Places>(places: &P, verb: Verb, rest: Option<&str>) -> Option<O
 pub fn op_meant<P: Places>(places: &P, text: &str) -> Option<Op>
     ensures { result ≡ op_meant (P.place places.now) text.now }
 {
-    let (word, rest) = cut(text);
-    match verb_of(word) {
-        Some(verb) => verb_meant(places, verb, rest),
+    match first_verb(text) {
+        Some(verb) => match rest_of(verb, text) {
+            Some(rest) => verb_meant(places, verb, rest),
+            None => None,
+        },
         None => None,
     }
 }
@@ -157,5 +185,15 @@ pub fn is_known<P: Places>(places: &P, text: &str) -> bool
     match op_meant(places, text) {
         Some(_) => true,
         None => !is_formed(text),
+    }
+}
+
+/// Whether each mask of a text in good form is in its range. A text in another form has no masks.
+pub fn has_masks(text: &str) -> bool
+    ensures { result ≡ has_masks text.now }
+{
+    match op_meant(&AnyName, text) {
+        Some(op) => op.has_masks(),
+        None => true,
     }
 }

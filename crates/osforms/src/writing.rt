@@ -34,6 +34,7 @@ fn push_arg<N: Names>(
     match arg {
         Arg::Object(_, None) => text.push_str("?")?,
         Arg::Object(kind, Some(place)) => text.push_str(names.name(kind, place))?,
+        Arg::Mask(mask) => text.push_str(mask.to_string(alloc)?.as_str())?,
         Arg::Number(n) => text.push_str(n.to_string(alloc)?.as_str())?,
         Arg::Int(n) => text.push_str(n.to_string(alloc)?.as_str())?,
         Arg::Variable(x) => {

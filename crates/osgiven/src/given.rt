@@ -1,6 +1,6 @@
 //! Reading what a run is given: stimuli and turns.
 
-ghost use Rattle.std.specs.Prelude.{◌≡◌, ◌≢◌, ◌≤◌, ◌<◌, ◌==◌, not, length, position, IfOk, IfErr, IfSome, Some, option_map, ℕ, List};
+ghost use Rattle.std.specs.Prelude.{◌≡◌, ◌≢◌, ◌≤◌, ◌<◌, ◌==◌, not, length, position, IsTrue, IfOk, IfErr, IfSome, Some, option_map, ℕ, List};
 ghost use Rattle.std.specs.Char.{is_ascii_digit};
 ghost use Rattle.std.specs.List.{list_all, slice_split};
 ghost use Rattle.std.specs.Borrow.{Bor};
@@ -230,10 +230,11 @@ impl PartReader<Turn> for TurnReader<'_> {
 }
 
 fn schedule_of(alloc: Global, plan: &Plan, value: &Value) -> Result<Schedule, Refusal>
+    requires few { IsTrue (has_words_within TURNS (view value.now)) }
     ensures { Gives (λ x. x) result (schedule_of_data plan.now (view value.now)) }
 {
     match value.as_str() {
-        Some(text) => read_parts(alloc, &TurnReader { plan }, text, ' '),
+        Some(text) => read_parts(alloc, &TurnReader { plan }, text, ' ', TURNS),
         None => Err(Refusal::Unfit),
     }
 }

@@ -1,14 +1,16 @@
 -- A job's priority, and what it comes from: its task, the resources that are held, and whether the job is raised.
-use Rattle.std.specs.Prelude.{ℕ, ◌==◌, ◌||◌, Bool, true, false, if◌then◌else◌, Option, Some, None, is_some, List, [], ◌∷◌}
+use Rattle.std.specs.Prelude.{ℕ, ◌==◌, ◌||◌, Bool, true, false, not, if◌then◌else◌, Option, Some, None, is_some, List, [], ◌∷◌}
 use Rattle.std.specs.Option.{option_map_or}
 use Rattle.osbase.specs.declared.references.Runner.{Runner}
 use Rattle.osbase.specs.declared.histories.Job.{Job}
 use Rattle.osbase.specs.declared.histories.HeldResource.{HeldResource}
-use Rattle.osbase.specs.History.{same_job, same_runner, greater, greatest_ceiling}
+use Rattle.osbase.specs.declared.histories.TaskEvents.{TaskEvents}
+use Rattle.osbase.specs.History.{same_job, same_runner, greater, greatest_ceiling, is_waiting, no_events}
 use Rattle.osplan.specs.declared.plans.Core.{Core}
 use Rattle.osplan.specs.declared.plans.Task.{Task}
 use Rattle.osplan.specs.View.{own_task}
 use Rattle.osres.specs.Resources.{held_at}
+use Rattle.osevent.specs.Events.{events_at}
 
 -- The runner is one of the core's own tasks.
 abbrev pub is_own_runner : Core → Runner → Bool
@@ -25,6 +27,11 @@ abbrev pub is_preemptable : Core → Runner → Bool
 is_preemptable core (Runner.Task t) = option_map_or (λ (task : Task). task.preemptable) (own_task core t) true
 is_preemptable core (Runner.Isr i) = true
 
+-- The runner is one of the core's extended tasks, which can wait for events. [OSEK/VDX OS 2.2.3, section 4.2.1]
+abbrev pub is_extended : Core → Runner → Bool
+is_extended core (Runner.Task t) = option_map_or (λ (task : Task). task.extended) (own_task core t) false
+is_extended core (Runner.Isr i) = false
+
 -- The greatest static priority of these tasks.
 abbrev pub highest_of : List Task → ℕ
 highest_of [] = 0
@@ -40,6 +47,15 @@ raised_of core way (Some j) = if is_preemptable core j.runner || option_map_or (
 abbrev pub held_in : Runner → List (List HeldResource) → List HeldResource
 held_in (Runner.Task t) all = held_at t.index all
 held_in (Runner.Isr i) all = []
+
+-- The events of the runner's task. An ISR has none.
+abbrev pub events_in : Runner → List TaskEvents → TaskEvents
+events_in (Runner.Task t) all = events_at t.index all
+events_in (Runner.Isr i) all = no_events
+
+-- A live job that may run: one of a task that does not wait; a task that can wait has one job. [OSEK/VDX OS 2.2.3, section 4.2.1]
+abbrev pub is_able_in : List TaskEvents → Job → Bool
+is_able_in events j = not (is_waiting (events_in j.runner events))
 
 -- The resource of this index is the newest of these, and whether there is any.
 abbrev pub is_newest : ℕ → List HeldResource → Bool

@@ -12,7 +12,8 @@ pub fn is_same_core(left: CoreId, right: CoreId) -> bool
     left.number == right.number
 }
 
-fn is_same_task(left: TaskRef, right: TaskRef) -> bool
+/// Whether these are one task.
+pub fn is_same_task(left: TaskRef, right: TaskRef) -> bool
     ensures { result ≡ same_task left right }
 {
     both(

@@ -1,23 +1,27 @@
 //! The live jobs of a core.
 
-ghost use Rattle.std.specs.Prelude.{◌≡◌, ◌<◌, ◌≤◌, false, length, remove, IsTrue, IfSome, IfNone};
+ghost use Rattle.std.specs.Prelude.{◌≡◌, ◌<◌, ◌≤◌, false, length, remove, slice_get, None, IsTrue, IfSome, IfNone};
 ghost use Rattle.std.specs.List.{All};
-ghost use Rattle.osbase.specs.History.{Took, Printed, Noted, Taken, Given, giving_way_after, gives_way, job_count, oldest, without_oldest};
+ghost use Rattle.osbase.specs.History.{Took, Printed, Noted, Taken, Given, giving_way_after, gives_way, job_count, left_by, oldest, stamped_anew, without_oldest};
 ghost use Rattle.osres.specs.Resources.{held_at, is_occupied};
-ghost use Rattle.osjobs.specs.Jobs.{best_among, first_jobs, is_current, is_plain, jobs_by, running_among};
+ghost use Rattle.osevent.specs.Events.{events_at};
+ghost use Rattle.osjobs.specs.Jobs.{best_among, first_jobs, is_plain, jobs_by, running_among};
 ghost use Rattle.osjobs.specs.Priorities.{holds_any, is_newest, is_own_runner};
 
-use crate::equality::is_same_runner;
+use crate::equality::{is_same_runner, is_same_task};
 use crate::priorities;
 use crate::slots::JobSlot;
 use arrayvec::ArrayVec;
-use osbase::{HeldResource, Item, Job, Mark, Runner, ServiceId, Status, TaskRef};
+use osbase::{
+    HeldResource, Item, Job, Mark, Runner, ServiceId, Status, TASKS, TaskEvents, TaskRef,
+};
+use osevent::Events;
 use osplan::Core;
-use osres::{RESOURCES, Resources, TASKS};
+use osres::{RESOURCES, Resources};
 use std::marker::Model;
 
-/// The live jobs of a core, with room for `J` of them, the task in the running state, who gives way, and the resources
-/// that jobs hold.
+/// The live jobs of a core, with room for `J` of them, the task in the running state, who gives way, the resources
+/// that jobs hold, and the tasks' events.
 #[derive(Drop)]
 pub struct Jobs<const J: usize> {
     // In the order of their stamps.
@@ -27,6 +31,7 @@ pub struct Jobs<const J: usize> {
     // Who gives way within the item in hand.
     giving_way: Option<Runner>,
     resources: Resources,
+    events: Events,
 }
 
 impl<const J: usize> Model for Jobs<J> {
@@ -34,7 +39,7 @@ impl<const J: usize> Model for Jobs<J> {
 
     ghost Value = { JobState };
 
-    ghost view = { λ s. record { jobs = s.jobs.items; current = s.current; giving_way = s.giving_way; held = s.resources } };
+    ghost view = { λ s. record { jobs = s.jobs.items; current = s.current; giving_way = s.giving_way; held = s.resources; events = s.events } };
 }
 
 impl<const J: usize> Jobs<J> {
@@ -47,6 +52,7 @@ impl<const J: usize> Jobs<J> {
             current: None,
             giving_way: None,
             resources: Resources::new(),
+            events: Events::new(),
         }
     }
 
@@ -57,7 +63,7 @@ impl<const J: usize> Jobs<J> {
         self.giving_way = None;
     }
 
-    /// A job of the task begins, with this stamp (OSEK/VDX OS 2.2.3, section 4.3).
+    /// A job of the task begins, with this stamp and no event set (OSEK/VDX OS 2.2.3, section 4.3 and 13.2.3.1).
     pub fn activate(&mut self, task: TaskRef, stamp: u64)
         requires { length self.old.jobs < J }
         ensures { self.new ≡ jobs_by (Printed (Mark.Activated task)) stamp self.old }
@@ -67,16 +73,16 @@ impl<const J: usize> Jobs<J> {
             stamp,
         };
         self.jobs.push(JobSlot { job });
+        self.events.begin(task.index);
     }
 
-    /// The oldest job of a task has ended, which left the running state: it gives back all that it holds.
+    /// The oldest job of a task has ended, if there is one: it gives back all that it holds, and runs no longer.
     pub fn terminate(&mut self, task: TaskRef)
         requires task { task.index < TASKS }
-        requires job { 0 < job_count (Runner.Task task) self.old.jobs }
-        requires left { self.old.current ≡ None }
         ensures { self.new ≡ jobs_by (Printed (Mark.Terminated task)) 0 self.old }
     {
-        remove_oldest(&mut self.jobs, Runner::Task(task));
+        self.leave(task);
+        take_oldest(&mut self.jobs, Runner::Task(task));
         self.resources.give_all(task.index);
     }
 
@@ -87,15 +93,45 @@ impl<const J: usize> Jobs<J> {
         self.current = Some(task);
     }
 
-    /// The task in the running state leaves it.
-    pub fn leave(&mut self, _task: TaskRef)
-        requires { IsTrue (is_current self.old.current (Runner.Task _task)) }
-        ensures { self.new ≡ jobs_by (Printed (Mark.PostTaskHook _task)) 0 self.old }
+    /// A task leaves the running state.
+    pub fn leave(&mut self, task: TaskRef)
+        ensures { self.new ≡ jobs_by (Printed (Mark.PostTaskHook task)) 0 self.old }
     {
-        self.current = None;
+        self.current = left_by(task, self.current);
     }
 
-    /// A mark that begins and ends no job is printed, and by which no task enters or leaves the running state.
+    /// Events of a task are set (OSEK/VDX OS 2.2.3, section 13.5.3.1).
+    pub fn set_events(&mut self, task: TaskRef, mask: u32)
+        ensures { self.new ≡ jobs_by (Printed (Mark.EventSet task mask)) 0 self.old }
+    {
+        self.events.set(task.index, mask);
+    }
+
+    /// Events of a task are cleared (OSEK/VDX OS 2.2.3, section 13.5.3.2).
+    pub fn clear_events(&mut self, task: TaskRef, mask: u32)
+        ensures { self.new ≡ jobs_by (Printed (Mark.EventCleared task mask)) 0 self.old }
+    {
+        self.events.clear(task.index, mask);
+    }
+
+    /// A task waits for one of these events (OSEK/VDX OS 2.2.3, section 13.5.3.4).
+    pub fn wait(&mut self, task: TaskRef, mask: u32)
+        ensures { self.new ≡ jobs_by (Printed (Mark.EventAwaited task mask)) 0 self.old }
+    {
+        self.events.await_mask(task.index, mask);
+    }
+
+    /// A task is released from waiting: its oldest job gets this stamp, behind all others (OSEK/VDX OS 2.2.3,
+    /// section 4.2.1 and 4.5).
+    pub fn release(&mut self, task: TaskRef, stamp: u64)
+        ensures { self.new ≡ jobs_by (Printed (Mark.Released task)) stamp self.old }
+    {
+        stamp_anew(&mut self.jobs, Runner::Task(task), stamp);
+        self.events.release(task.index);
+    }
+
+    /// A mark that begins and ends no job is printed, by which no task enters or leaves the running state and no
+    /// task's events change.
     pub fn print(&mut self, mark: &Mark)
         requires { IsTrue (is_plain mark.now) }
         ensures { self.new ≡ jobs_by (Printed mark.now) 0 self.old }
@@ -144,7 +180,7 @@ impl<const J: usize> Jobs<J> {
         count_jobs(self.jobs.as_slice(), runner)
     }
 
-    /// The job to run: of the live jobs of greatest current priority the oldest (OSEK/VDX OS 2.2.3, section 4.4
+    /// The job to run: of the able jobs of greatest current priority the oldest (OSEK/VDX OS 2.2.3, section 4.4
     /// and 4.5).
     pub fn best(&self, core: &Core) -> Option<Job>
         requires own { All (λ j. IsTrue (is_own_runner core.now j.runner)) self.now.jobs }
@@ -153,7 +189,13 @@ impl<const J: usize> Jobs<J> {
         ensures own { IfSome result (λ j. IsTrue (is_own_runner core.now j.runner)) }
     {
         let raised = priorities::raised_of(core, self.giving_way, self.running());
-        priorities::first_greatest(core, &self.resources, raised, self.jobs.as_slice())
+        priorities::first_greatest(
+            core,
+            &self.resources,
+            &self.events,
+            raised,
+            self.jobs.as_slice(),
+        )
     }
 
     /// Whether a job holds the resource of this index.
@@ -182,25 +224,54 @@ impl<const J: usize> Jobs<J> {
     {
         !self.resources.is_free(task.index)
     }
+
+    /// The events of a task (OSEK/VDX OS 2.2.3, section 7).
+    pub fn events(&self, task: TaskRef) -> TaskEvents
+        ensures { result ≡ events_at task.index self.now.events }
+    {
+        self.events.get(task.index)
+    }
 }
 
-// Takes the oldest job of this runner, which has one, out of the list.
-fn remove_oldest<const J: usize>(jobs: &mut ArrayVec<JobSlot, J>, runner: Runner)
-    requires { 0 < job_count runner jobs.old.items }
-    ensures { jobs.new.items ≡ without_oldest runner jobs.old.items }
+// The task in the running state, once this one left it.
+fn left_by(task: TaskRef, current: Option<TaskRef>) -> Option<TaskRef>
+    ensures { result ≡ left_by task current }
 {
-    let Some(place) = oldest_place(jobs.as_slice(), runner) else {
-        unreachable!()
-    };
-    jobs.remove(place);
+    match current {
+        Some(other) if is_same_task(task, other) => None,
+        _ => current,
+    }
+}
+
+// Takes the oldest job of this runner, if it has one, out of the list.
+fn take_oldest<const J: usize>(jobs: &mut ArrayVec<JobSlot, J>, runner: Runner) -> Option<Job>
+    ensures job { result ≡ oldest runner jobs.old.items }
+    ensures rest { jobs.new.items ≡ without_oldest runner jobs.old.items }
+    ensures room { IfSome result (λ j. length jobs.new.items < J) }
+    ensures none { IfNone result (jobs.new.items ≡ jobs.old.items) }
+{
+    let place = oldest_place(jobs.as_slice(), runner)?;
+    let slot = jobs.remove(place);
+    Some(slot.job)
+}
+
+// Gives the oldest job of this runner, if it has one, this stamp, and a place behind all others.
+fn stamp_anew<const J: usize>(jobs: &mut ArrayVec<JobSlot, J>, runner: Runner, stamp: u64)
+    ensures { jobs.new.items ≡ stamped_anew runner stamp jobs.old.items }
+{
+    if let Some(job) = take_oldest(jobs, runner) {
+        let job = Job { stamp, ..job };
+        jobs.push(JobSlot { job });
+    }
 }
 
 // The place of the oldest job of this runner.
 fn oldest_place(jobs: &[JobSlot], runner: Runner) -> Option<usize>
     ensures found { IfSome result (λ place. remove jobs.now place ≡ without_oldest runner jobs.now) }
     ensures within { IfSome result (λ place. place < length jobs.now) }
+    ensures job { IfSome result (λ place. slice_get jobs.now place ≡ oldest runner jobs.now) }
     ensures none { IfNone result (without_oldest runner jobs.now ≡ jobs.now) }
-    ensures absent { IfNone result (job_count runner jobs.now ≡ 0) }
+    ensures absent { IfNone result (oldest runner jobs.now ≡ None) }
 {
     for (place, slot) in jobs.iter().enumerate() {
         if is_same_runner(slot.job.runner, runner) {

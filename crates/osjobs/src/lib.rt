@@ -1,4 +1,4 @@
-//! The live jobs of a core: which there are, which one runs, who gives way, and what they hold.
+//! The live jobs of a core: which there are, which one runs, who gives way, what they hold, and their tasks' events.
 //!
 //! Nothing here takes memory.
 #![tactic(auto)]
@@ -10,4 +10,4 @@ mod priorities;
 mod slots;
 
 pub use jobs::Jobs;
-pub use priorities::static_priority;
+pub use priorities::{is_extended, static_priority};

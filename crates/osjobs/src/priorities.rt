@@ -1,18 +1,19 @@
 //! A job's priority, and the first of the jobs of greatest priority.
 
-ghost use Rattle.std.specs.Prelude.{◌≡◌, ◌≤◌, false, if◌then◌else◌, length, nat_lt, IsTrue, IsSome, IfSome};
+ghost use Rattle.std.specs.Prelude.{◌≡◌, ◌≤◌, false, filter, if◌then◌else◌, length, nat_lt, IsTrue, IsSome, IfSome};
 ghost use Rattle.std.specs.List.{All};
 ghost use Rattle.std.specs.Option.{option_map_or};
 ghost use Rattle.osbase.specs.History.{first_greatest as greatest_job, greatest_ceiling, same_runner};
 ghost use Rattle.osplan.specs.View.{own_task};
-ghost use Rattle.osjobs.specs.Priorities.{held_in, highest_of, is_own_runner, is_preemptable, priority_by, raised_of, static_priority};
+ghost use Rattle.osjobs.specs.Priorities.{held_in, highest_of, is_able_in, is_extended, is_own_runner, is_preemptable, priority_by, raised_of, static_priority};
 
 use crate::equality::is_same_runner;
 use crate::own::task_of;
 use crate::slots::JobSlot;
-use osbase::{Job, Runner, TaskRef};
+use osbase::{Job, Runner, TASKS, TaskRef};
+use osevent::{Events, is_waiting};
 use osplan::{Core, Task};
-use osres::{Resources, TASKS, greater};
+use osres::{Resources, greater};
 
 fn is_preemptable(core: &Core, runner: Runner) -> bool
     ensures { result ≡ is_preemptable core.now runner }
@@ -23,6 +24,19 @@ fn is_preemptable(core: &Core, runner: Runner) -> bool
             None => true,
         },
         Runner::Isr(_) => true,
+    }
+}
+
+/// Whether the runner is one of the core's extended tasks (OSEK/VDX OS 2.2.3, section 4.2.1).
+pub fn is_extended(core: &Core, runner: Runner) -> bool
+    ensures { result ≡ is_extended core.now runner }
+{
+    match runner {
+        Runner::Task(task) => match task_of(core, task) {
+            Some(own) => own.extended,
+            None => false,
+        },
+        Runner::Isr(_) => false,
     }
 }
 
@@ -57,17 +71,18 @@ struct Ranked {
     priority: u8,
 }
 
-/// Of the jobs of greatest current priority the first, where these resources are held and this job is raised
-/// (OSEK/VDX OS 2.2.3, section 4.4 and 4.5).
+/// Of the able jobs of greatest current priority the first, where these resources are held, these are the events
+/// and this job is raised (OSEK/VDX OS 2.2.3, section 4.4 and 4.5).
 pub(crate) fn first_greatest(
     core: &Core,
     resources: &Resources,
+    events: &Events,
     raised: Option<Job>,
     jobs: &[JobSlot],
 ) -> Option<Job>
     requires own { All (λ j. IsTrue (is_own_runner core.now j.runner)) jobs.now }
     requires tasks { length core.now.tasks ≤ TASKS }
-    ensures greatest { result ≡ greatest_job (priority_by core.now resources.now raised) jobs.now }
+    ensures greatest { result ≡ greatest_job (priority_by core.now resources.now raised) (filter (is_able_in events.now) jobs.now) }
     ensures own { IfSome result (λ j. IsTrue (is_own_runner core.now j.runner)) }
 {
     let mut best: Option<Ranked> = None;
@@ -76,12 +91,24 @@ pub(crate) fn first_greatest(
         place -= 1;
         let slot = &jobs[place];
         let job = slot.job;
-        let priority = priority_of(core, resources, raised, job);
-        best = Some(better_of(Ranked { job, priority }, best));
+        if is_able(events, job) {
+            let priority = priority_of(core, resources, raised, job);
+            best = Some(better_of(Ranked { job, priority }, best));
+        }
     }
     match best {
         Some(ranked) => Some(ranked.job),
         None => None,
+    }
+}
+
+// Whether a live job may run: one of a task that does not wait (OSEK/VDX OS 2.2.3, section 4.2.1).
+fn is_able(events: &Events, job: Job) -> bool
+    ensures { result ≡ is_able_in events.now job }
+{
+    match job.runner {
+        Runner::Task(task) => !is_waiting(events.get(task.index)),
+        Runner::Isr(_) => true,
     }
 }
 

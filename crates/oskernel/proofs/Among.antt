@@ -1,6 +1,7 @@
 -- A core's history alone, and the same where it was started by another core and passed the second gate with
 -- others: it reads the same, with each stamp later by what came before.
 use Rattle.std.proofs.Common.{◌≡◌, ◌||◌, ℕ, suc, ◌+◌, nat_eq, nat_lt, Bool, true, false, cond, Option, Some, None, option_map, List, [], ◌∷◌, ◌++◌, length, map, refl, sym, ap, ◌∙◌, arith}
+use Rattle.std.specs.List.{filter}
 use Rattle.std.specs.Option.{option_map_or}
 use Rattle.std.proofs.lemmas.Bool.Decides.{nat_tests}
 use Rattle.std.proofs.lemmas.List.{map-append}
@@ -11,16 +12,16 @@ use Rattle.osbase.specs.declared.items.Item.{Item}
 use Rattle.osbase.specs.declared.marks.Mark.{Mark}
 use Rattle.osbase.specs.declared.histories.HeldResource.{HeldResource}
 use Rattle.osbase.specs.declared.histories.Job.{Job}
+use Rattle.osbase.specs.declared.histories.TaskEvents.{TaskEvents}
 use Rattle.osbase.specs.Sets.{numbers_from}
-use Rattle.osres.specs.declared.resources.TheConstants.{TASKS}
-use Rattle.osbase.specs.History.{History, Entry, Took, Printed, agreement_after, agreement_of, better_of, current_after, current_job, current_task, first_greatest, giving_way, giving_way_after, greater, greatest_ceiling, held_after, held_by, job_count, jobs_after, live_jobs, marks_of, oldest, oldest_of, open_after, open_call, phase_after, phase_of, same_runner, without_oldest}
+use Rattle.osbase.specs.declared.turns.TheConstants.{TASKS}
+use Rattle.osbase.specs.History.{History, Entry, Took, Printed, agreement_after, agreement_of, better_of, current_after, current_job, current_task, events_after, events_of, first_greatest, giving_way, giving_way_after, greater, greatest_ceiling, held_after, held_by, job_count, jobs_after, live_jobs, marks_of, no_events, oldest, oldest_of, open_after, open_call, phase_after, phase_of, same_runner, stamped_anew, without_oldest}
 use Rattle.oscript.specs.declared.Op.{Op}
 use Rattle.oscript.specs.Frames.{frame_after, frame_of}
 use Rattle.osplan.specs.declared.plans.Core.{Core}
 use Rattle.osplan.specs.View.{View}
-use Rattle.osjobs.specs.Priorities.{held_in, highest_of, is_preemptable, priority_by, raised_of, static_priority}
-use Rattle.osstate.specs.Readings.{best_job, current_priority, held_resources, running, task_ref}
-use Rattle.osstate.proofs.ReadLemmas.{filter-able}
+use Rattle.osjobs.specs.Priorities.{held_in, highest_of, is_able_in, is_preemptable, priority_by, raised_of, static_priority}
+use Rattle.osstate.specs.Readings.{best_job, current_priority, held_resources, is_able, running, task_events, task_ref}
 
 -- The set at the second gate in place of the core's own one.
 abbrev pub with_set : CoreSet → Entry → Entry
@@ -62,6 +63,10 @@ giving_way-same s m k = reads-same giving_way (λ e h j p. ap (giving_way_after 
     by true = refl
     by false = refl
 
+each-same : {A : Type 0} (f g : ℕ → A) → ((n : ℕ) → f n ≡ g n) → (ns : List ℕ) → map f ns ≡ map g ns
+each-same f g same [] = refl
+each-same f g same (n ∷ ns) = rw (same n, each-same f g same ns) refl
+
 held-same : (r : Runner) (s : CoreSet) (m : Bool) (k : History) → held_by r (among s (base_of m) k) ≡ held_by r k
 held-same r s m k = reads-same (held_by r) (λ e h j p. ap (held_after r e) p) (λ a b h. refl) s (base_of m) k (by m)
   where
@@ -70,11 +75,17 @@ held-same r s m k = reads-same (held_by r) (λ e h j p. ap (held_after r e) p) (
     by false = refl
 
 pub resources-same : (v : View) (s : CoreSet) (m : Bool) (k : History) → held_resources v (among s (base_of m) k) ≡ held_resources v k
-resources-same v s m k = each (numbers_from 0 TASKS)
+resources-same v s m k = each-same _ _ (λ n. held-same (Runner.Task (task_ref v.own n)) s m k) (numbers_from 0 TASKS)
+
+events-same : (t : TaskRef) (s : CoreSet) (m : Bool) (k : History) → events_of t (among s (base_of m) k) ≡ events_of t k
+events-same t s m k = reads-same (events_of t) (λ e h j p. ap (events_after t e) p) (λ a b h. refl) s (base_of m) k (by m)
   where
-    each : (ns : List ℕ) → map (λ (n : ℕ). held_by (Runner.Task (task_ref v.own n)) (among s (base_of m) k)) ns ≡ map (λ (n : ℕ). held_by (Runner.Task (task_ref v.own n)) k) ns
-    each [] = refl
-    each (n ∷ ns) = rw (held-same (Runner.Task (task_ref v.own n)) s m k, each ns) refl
+    by : (b : Bool) → events_of t (base_of b) ≡ no_events
+    by true = refl
+    by false = refl
+
+pub task_events-same : (v : View) (s : CoreSet) (m : Bool) (k : History) → task_events v (among s (base_of m) k) ≡ task_events v k
+task_events-same v s m k = each-same _ _ (λ n. events-same (task_ref v.own n) s m k) (numbers_from 0 TASKS)
 
 pub open-same : (s : CoreSet) (m : Bool) (k : History) → open_call (among s (base_of m) k) ≡ open_call k
 open-same s m k = reads-same open_call (λ e h j p. ap (open_after e) p) (λ a b h. refl) s (base_of m) k (by m)
@@ -129,8 +140,24 @@ later-without d r (j ∷ js) = by (same_runner j.runner r) (later-without d r js
     by true rest = refl
     by false rest = ap (λ (ks : List Job). later d j ∷ ks) rest
 
+later-oldest : (d : ℕ) (r : Runner) (js : List Job) → oldest r (map (later d) js) ≡ option_map (later d) (oldest r js)
+later-oldest d r [] = refl
+later-oldest d r (j ∷ js) = by (same_runner j.runner r) (later-oldest d r js)
+  where
+    by : (b : Bool) → oldest r (map (later d) js) ≡ option_map (later d) (oldest r js) → cond b (Some (later d j)) (oldest r (map (later d) js)) ≡ option_map (later d) (cond b (Some j) (oldest r js))
+    by true rest = refl
+    by false rest = rest
+
+later-anew : (d : ℕ) (r : Runner) (n : ℕ) (js : List Job) → stamped_anew r (n + d) (map (later d) js) ≡ map (later d) (stamped_anew r n js)
+later-anew d r n js = rw (later-oldest d r js, later-without d r js) (by (oldest r js))
+  where
+    by : (o : Option Job) → option_map_or (λ (j : Job). map (later d) (without_oldest r js) ++ record j { stamp = n + d } ∷ []) (option_map (later d) o) (map (later d) js) ≡ map (later d) (option_map_or (λ (j : Job). without_oldest r js ++ record j { stamp = n } ∷ []) o js)
+    by None = refl
+    by (Some j) = sym (map-append (later d) (without_oldest r js) (record j { stamp = n } ∷ []))
+
 later-after : (d : ℕ) (e : Entry) (n : ℕ) (js : List Job) → jobs_after e (n + d) (map (later d) js) ≡ map (later d) (jobs_after e n js)
 later-after d (Printed (Mark.Activated t)) n js = sym (map-append (later d) js (record { runner = Runner.Task t; stamp = n } ∷ []))
+later-after d (Printed (Mark.Released t)) n js = later-anew d (Runner.Task t) n js
 later-after d (Printed (Mark.Terminated t)) n js = later-without d (Runner.Task t) js
 later-after d e n js = refl
 
@@ -156,14 +183,6 @@ later-count d r (j ∷ js) = ap (λ (n : ℕ). cond (same_runner j.runner r) (su
 
 pub count-same : (s : CoreSet) (m : Bool) (r : Runner) (k : History) → job_count r (live_jobs (among s (base_of m) k)) ≡ job_count r (live_jobs k)
 count-same s m r k = ap (job_count r) (jobs-later s m k) ∙ later-count (delay m) r (live_jobs k)
-
-later-oldest : (d : ℕ) (r : Runner) (js : List Job) → oldest r (map (later d) js) ≡ option_map (later d) (oldest r js)
-later-oldest d r [] = refl
-later-oldest d r (j ∷ js) = by (same_runner j.runner r) (later-oldest d r js)
-  where
-    by : (b : Bool) → oldest r (map (later d) js) ≡ option_map (later d) (oldest r js) → cond b (Some (later d j)) (oldest r (map (later d) js)) ≡ option_map (later d) (cond b (Some j) (oldest r js))
-    by true rest = refl
-    by false rest = rest
 
 later-oldest_of : (d : ℕ) (o : Option TaskRef) (js : List Job) → oldest_of o (map (later d) js) ≡ option_map (later d) (oldest_of o js)
 later-oldest_of d None js = refl
@@ -209,11 +228,24 @@ later-priority d core held None j = refl
 later-priority d core held (Some i) j =
     ap (λ (b : Bool). greater (greater (static_priority core j.runner) (greatest_ceiling (held_in j.runner held))) (cond b (highest_of core.tasks) 0)) (stamp-later d j.stamp i.stamp)
 
+-- A job is able whatever its stamp is.
+later-filter : (d : ℕ) (p q : Job → Bool) → ((j : Job) → p (later d j) ≡ q j) → (js : List Job) → filter p (map (later d) js) ≡ map (later d) (filter q js)
+later-filter d p q same [] = refl
+later-filter d p q same (j ∷ js) = rw (same j, later-filter d p q same js) (by (q j))
+  where
+    by : (b : Bool) → cond b (later d j ∷ map (later d) (filter q js)) (map (later d) (filter q js)) ≡ map (later d) (cond b (j ∷ filter q js) (filter q js))
+    by true = refl
+    by false = refl
+
+able-later : (v : View) (s : CoreSet) (m : Bool) (k : History) → filter (is_able v (among s (base_of m) k)) (live_jobs (among s (base_of m) k)) ≡ map (later (delay m)) (filter (is_able v k) (live_jobs k))
+able-later v s m k =
+    ap (filter (is_able v (among s (base_of m) k))) (jobs-later s m k)
+    ∙ later-filter (delay m) (is_able v (among s (base_of m) k)) (is_able v k) (λ j. ap (λ (all : List TaskEvents). is_able_in all j) (task_events-same v s m k)) (live_jobs k)
+
 pub best-later : (v : View) (s : CoreSet) (m : Bool) (k : History) → best_job v (among s (base_of m) k) ≡ option_map (later (delay m)) (best_job v k)
 best-later v s m k =
-    ap (first_greatest (current_priority v (among s (base_of m) k))) (filter-able v (among s (base_of m) k) (live_jobs (among s (base_of m) k)) ∙ jobs-later s m k)
-    ∙ later-greatest (delay m) (current_priority v (among s (base_of m) k)) (current_priority v k) priority (live_jobs k)
-    ∙ ap (λ (js : List Job). option_map (later (delay m)) (first_greatest (current_priority v k) js)) (sym (filter-able v k (live_jobs k)))
+    ap (first_greatest (current_priority v (among s (base_of m) k))) (able-later v s m k)
+    ∙ later-greatest (delay m) (current_priority v (among s (base_of m) k)) (current_priority v k) priority (filter (is_able v k) (live_jobs k))
   where
     priority : (j : Job) → current_priority v (among s (base_of m) k) (later (delay m) j) ≡ current_priority v k j
     priority j =

@@ -29,7 +29,7 @@ use Rattle.osplan.specs.View.{View}
 use Rattle.osstate.specs.Readings.{best_job, frame_at, is_own, phase_at, running, script_of, task_ref, task_refs}
 use Rattle.oscall.specs.Border.{core_of_call}
 use Rattle.oscall.specs.Tasks.{activates}
-use Rattle.oscall.proofs.Carried.{IsAllowed, IsKept, seen_as, anybody, either-carried, printed-carried, operates-carried, request-carried, action-carried, returns-carried, ends_unasked-carried}
+use Rattle.oscall.proofs.Carried.{IsAllowed, IsKept, seen_as, anybody, either-carried, printed-carried, operates-carried, request-carried, action-carried, resumes-carried, ends_unasked-carried}
 use Rattle.oskernel.specs.Step.{after, autostarts, closes, dispatches, effect, enters, gate_mark, goes_on, goes_to, leaves, starts_in, performs}
 
 -- A request comes from a core that may be answered, and the call that it brings, or an action, is for an object that marks
@@ -145,7 +145,7 @@ module _ (v : View) (master : Bool) (ids : List CoreId) (may replies names : Cor
 
   closes-carried : (o : Option OpenCall) (s : Status) (value : Option ℤ) → passes (λ (call : OpenCall). names (core_of_runner call.runner)) o ≡ true → (h k : History) → R h k → R (closes o s value h) (closes o s value k)
   closes-carried None s value n h k p = p
-  closes-carried (Some call) s value n h k p = returns-carried v master ids may replies names R kept call.runner call.service s value h k n p
+  closes-carried (Some call) s value n h k p = resumes-carried v master ids may replies names R kept call.runner call.service s value h k n p
 
   effect-carried : (item : Item) (h k : History) → is_replied replies names item ≡ true → R h k → R (effect v item h) (effect other item k)
   effect-carried (Item.Began core s) h k m p = printed _ h k refl p

@@ -1,8 +1,9 @@
 -- A core whose scripts name no other core's objects, and that takes no mail, prints marks of its own objects alone.
-use Rattle.std.proofs.Common.{◌≡◌, ℕ, Bool, true, false, nat_lt, not, cond, Option, Some, None, List, [], ◌∷◌, ◌++◌, refl, sym, ap, ◌∙◌}
-use Rattle.std.specs.List.{list_all}
+use Rattle.std.proofs.Common.{◌≡◌, ℕ, Bool, true, false, nat_lt, not, cond, Option, Some, None, List, [], ◌∷◌, ◌++◌, length, refl, sym, ap, ◌∙◌}
+use Rattle.std.specs.List.{filter, list_all}
 use Rattle.std.proofs.lemmas.Bool.{and_from, and_parts, false≢true, not-true}
 use Rattle.std.proofs.lemmas.List.Folds.{list_all-append}
+use Rattle.std.specs.Option.{option_map_or}
 use Rattle.std.proofs.Math.Bool.{or-false}
 use Rattle.osbase.specs.declared.references.TaskRef.{TaskRef}
 use Rattle.osbase.specs.declared.references.CoreId.{CoreId}
@@ -10,11 +11,10 @@ use Rattle.osbase.specs.declared.references.Runner.{Runner}
 use Rattle.osbase.specs.declared.items.Item.{Item}
 use Rattle.osbase.specs.declared.marks.Mark.{Mark}
 use Rattle.osbase.specs.declared.histories.Job.{Job}
-use Rattle.osbase.specs.History.{Entry, History, Took, Printed, Noted, better_of, current_after, current_task, first_greatest, live_jobs, marks_of, oldest, oldest_of, same_runner, same_task, without_oldest}
+use Rattle.osbase.specs.History.{Entry, History, Took, Printed, Noted, better_of, current_after, current_task, first_greatest, live_jobs, marks_of, oldest, oldest_of, same_runner, same_task, stamped_anew, without_oldest}
 use Rattle.osbase.specs.Marks.{core_of_runner, names_only}
 use Rattle.osplan.specs.View.{View}
-use Rattle.osstate.specs.Readings.{current_priority, is_own}
-use Rattle.osstate.proofs.ReadLemmas.{filter-able}
+use Rattle.osstate.specs.Readings.{current_priority, is_able, is_own}
 use Rattle.oscall.proofs.Carried.{is_local, nobody}
 use Rattle.oskernel.specs.Step.{after, history_from}
 use Rattle.oskernel.proofs.Calm.{Calm, calm-local, calm-took, mail-replied}
@@ -48,11 +48,32 @@ module _ (own : CoreId → Bool) where
       let parts = and_parts (own_job j) (list_all own_job js) all in
       chosen (list_all own_job) (same_runner j.runner r) js (j ∷ without_oldest r js) parts.1 (and_from _ _ parts.0 (rest-own r js parts.1))
 
+  able-own : (able : Job → Bool) (js : List Job) → list_all own_job js ≡ true → list_all own_job (filter able js) ≡ true
+  able-own able [] all = refl
+  able-own able (j ∷ js) all =
+      let parts = and_parts (own_job j) (list_all own_job js) all in
+      let rest = able-own able js parts.1 in
+      chosen (list_all own_job) (able j) (j ∷ filter able js) (filter able js) (and_from _ _ parts.0 rest) rest
+
+  oldest_found-own : (r : Runner) (js : List Job) → list_all own_job js ≡ true → passes_job own (oldest r js) ≡ true
+  oldest_found-own r [] all = refl
+  oldest_found-own r (j ∷ js) all =
+      let parts = and_parts (own_job j) (list_all own_job js) all in
+      chosen (passes_job own) (same_runner j.runner r) (Some j) (oldest r js) parts.0 (oldest_found-own r js parts.1)
+
+  anew-own : (r : Runner) (n : ℕ) (js : List Job) → list_all own_job js ≡ true → list_all own_job (stamped_anew r n js) ≡ true
+  anew-own r n js all = by (oldest r js) (oldest_found-own r js all)
+    where
+      by : (o : Option Job) → passes_job own o ≡ true → list_all own_job (option_map_or (λ (j : Job). without_oldest r js ++ record j { stamp = n } ∷ []) o js) ≡ true
+      by None found = all
+      by (Some j) found = list_all-append own_job (without_oldest r js) _ ∙ and_from _ _ (rest-own r js all) (and_from _ _ found refl)
+
   jobs-own : (h : History) → AreOwn (marks_of h) → list_all own_job (live_jobs h) ≡ true
   jobs-own [] all = refl
   jobs-own (Printed (Mark.Activated t) ∷ h) all =
       let parts = last-own (marks_of h) (Mark.Activated t) all in
       list_all-append own_job (live_jobs h) _ ∙ and_from _ _ (jobs-own h parts.0) (and_from _ _ parts.1 refl)
+  jobs-own (Printed (Mark.Released t) ∷ h) all = anew-own (Runner.Task t) (length h) (live_jobs h) (jobs-own h (last-own (marks_of h) (Mark.Released t) all).0)
   jobs-own (Printed (Mark.Terminated t) ∷ h) all = rest-own (Runner.Task t) (live_jobs h) (jobs-own h (last-own (marks_of h) (Mark.Terminated t) all).0)
   jobs-own (Printed m ∷ h) all = jobs-own h (last-own (marks_of h) m all).0
   jobs-own (Took i ∷ h) all = jobs-own h all
@@ -76,10 +97,7 @@ module _ (own : CoreId → Bool) where
 
   oldest-own : (o : Option TaskRef) (js : List Job) → list_all own_job js ≡ true → passes_job own (oldest_of o js) ≡ true
   oldest-own None js all = refl
-  oldest-own (Some t) [] all = refl
-  oldest-own (Some t) (j ∷ js) all =
-      let parts = and_parts (own_job j) (list_all own_job js) all in
-      chosen (passes_job own) (same_runner j.runner (Runner.Task t)) (Some j) (oldest (Runner.Task t) js) parts.0 (oldest-own (Some t) js parts.1)
+  oldest-own (Some t) js all = oldest_found-own (Runner.Task t) js all
 
   better-own : (p : Job → ℕ) (j : Job) (o : Option Job) → own_job j ≡ true → passes_job own o ≡ true → own_job (better_of p j o) ≡ true
   better-own p j None first rest = first
@@ -105,8 +123,7 @@ module _ (v : View) where
       record {
         current = current-own (is_own v) h p.own;
         runs = oldest-own (is_own v) (current_task h) (live_jobs h) jobs;
-        best = ap (λ (js : List Job). passes_job (is_own v) (first_greatest (current_priority v h) js)) (filter-able v h (live_jobs h))
-            ∙ greatest-own (is_own v) (current_priority v h) (live_jobs h) jobs;
+        best = greatest-own (is_own v) (current_priority v h) (filter (is_able v h) (live_jobs h)) (able-own (is_own v) (is_able v h) (live_jobs h) jobs);
         awaits = rw p.calm.closed refl;
       }
 

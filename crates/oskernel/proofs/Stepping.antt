@@ -1,5 +1,5 @@
 -- What a core that names no object of another core does at an item, it does alone.
-use Rattle.std.proofs.Common.{◌≡◌, ◌||◌, ℕ, nat_le, Bool, true, false, Option, Some, None, option_map, List, ◌∷◌, refl, sym, ap, ◌∙◌}
+use Rattle.std.proofs.Common.{◌≡◌, ◌||◌, ℕ, Bool, true, false, Option, Some, None, option_map, List, ◌∷◌, refl, sym, ap, ◌∙◌}
 use Rattle.std.proofs.lemmas.Bool.{false≢true}
 use Rattle.osbase.specs.declared.references.CoreId.{CoreId}
 use Rattle.osbase.specs.declared.references.Runner.{Runner}
@@ -8,15 +8,13 @@ use Rattle.osbase.specs.declared.items.Item.{Item}
 use Rattle.osbase.specs.declared.items.Stimulus.{Stimulus}
 use Rattle.osbase.specs.declared.histories.Job.{Job}
 use Rattle.osbase.specs.Sets.{has_core}
-use Rattle.osbase.specs.History.{Entry, History, Took, Printed, Noted}
+use Rattle.osbase.specs.History.{Entry, History, Took, Printed, Noted, job_count, live_jobs}
 use Rattle.osbase.proofs.Same.{same_core-true}
 use Rattle.osplan.specs.View.{View}
-use Rattle.osstate.specs.Queries.{is_at_limit}
-use Rattle.osstate.specs.Readings.{best_job, frame_at, held_resources, is_own, knows_started, running, script_of}
-use Rattle.osstate.specs.Sound.{activation_limit}
+use Rattle.osstate.specs.Readings.{best_job, frame_at, held_resources, is_own, knows_started, running, script_of, task_events}
 use Rattle.oscall.proofs.Carried.{anybody, is_local, IsKept, nobody, seen_as, ServesSame}
 use Rattle.oskernel.specs.Step.{after, effect}
-use Rattle.oskernel.proofs.Among.{agreement-same, among, base_of, best-later, count-same, current-same, delay, frame-same, later, open-same, phase-same, resources-same, running-later, stamp-later}
+use Rattle.oskernel.proofs.Among.{agreement-same, among, base_of, best-later, count-same, current-same, delay, frame-same, later, open-same, phase-same, resources-same, running-later, stamp-later, task_events-same}
 use Rattle.oskernel.proofs.Carried.{acting-anybody, after-carried, is_going, is_replied, runner_of, ScriptsAllow, SteersSame}
 
 -- What the core alone sees.
@@ -65,9 +63,10 @@ module _ (v : View) (ids : List CoreId) (s : CoreSet) where
   serves : (h k : History) → Along h k → ServesSame v nobody h k
   serves h k p = record {
     started = λ core own. let same = same_core-true core v.core (own_only (is_own v core) own) in ap (knows_started h) same ∙ p.started ∙ ap (knows_started k) (sym same);
-    limit = λ t. ap (is_at_limit v t) p.same ∙ ap (nat_le (activation_limit v.own (Runner.Task t))) (count-same s v.is_master (Runner.Task t) k);
+    jobs = λ r. ap (λ (n : History). job_count r (live_jobs n)) p.same ∙ count-same s v.is_master r k;
     frame = λ r. ap (frame_at v r) p.same ∙ frame-same (script_of v.own r) r s v.is_master k;
     held = ap (held_resources v) p.same ∙ resources-same v s v.is_master k;
+    events = ap (task_events v) p.same ∙ task_events-same v s v.is_master k;
   }
     where
       own_only : (b : Bool) → (b || false) ≡ true → b ≡ true

@@ -23,9 +23,10 @@ use Rattle.osplan.specs.declared.plans.Task.{Task}
 use Rattle.osplan.specs.View.{View}
 use Rattle.osstate.specs.Readings.{script_of, frame_at, best_job, phase_at, running, task_refs}
 use Rattle.osstate.specs.State.{state_of}
-use Rattle.oscall.specs.Returning.{prints, returns}
+use Rattle.oscall.specs.Returning.{prints}
 use Rattle.oscall.specs.Tasks.{activates, ends_unasked}
 use Rattle.oscall.specs.Border.{serves_request, serves_action}
+use Rattle.oscall.specs.Chaining.{resumes}
 use Rattle.oscall.specs.Operations.{operates}
 use Rattle.oskernel.specs.Admission.{takes_in}
 
@@ -66,10 +67,10 @@ stimulates v Stimulus.Op h = goes_on v (running v h) h
 stimulates v Stimulus.Tick h = h
 stimulates v (Stimulus.Irq isr) h = h
 
--- The reply returns to the job whose call is open; with no call open it does nothing. [own]
+-- The job whose call is open goes on with the reply; with no call open it does nothing. [own]
 abbrev pub closes : Option OpenCall → Status → Option ℤ → History → History
 closes None status value h = h
-closes (Some call) status value h = returns call.runner call.service status value h
+closes (Some call) status value h = resumes call.runner call.service status value h
 
 -- A message of another core.
 abbrev pub receives : View → CoreId → Message → History → History

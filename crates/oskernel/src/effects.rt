@@ -13,7 +13,7 @@ ghost use Rattle.osjobs.specs.Priorities.{is_own_runner};
 ghost use Rattle.osstate.specs.Does.{Adds, Does, Effects, HasRoom, Reads, item_entries, item_marks, service_entries, service_marks};
 ghost use Rattle.osstate.specs.Queries.{running_in};
 ghost use Rattle.osstate.specs.Readings.{frame_at, running, script_of, task_refs};
-ghost use Rattle.osstate.specs.Sound.{Acts, activation_limit, is_agreed, is_first_gate, is_posted, is_sender_known};
+ghost use Rattle.osstate.specs.Sound.{activation_limit, is_agreed, is_first_gate, is_posted, is_sender_known};
 ghost use Rattle.oscall.specs.Tasks.{activates};
 ghost use Rattle.oskernel.specs.Admission.{admits};
 ghost use Rattle.oskernel.specs.Bounded.{step_entries};
@@ -228,7 +228,7 @@ fn perform<const P: usize, const J: usize, const OUT: usize>(
     runner: Runner,
     marks: &mut Vec<Mark>,
 )
-    requires acts { Acts state.old runner }
+    requires own { IsTrue (is_own_runner state.old.view.own runner) }
     requires live { is_before_live state.old.progress.phase ≡ false }
     requires outbox { length state.old.border.outbox < OUT }
     requires room { HasRoom service_entries service_marks state.old marks.old }
@@ -260,7 +260,7 @@ fn receive<const P: usize, const J: usize, const OUT: usize>(
     }
 }
 
-// The reply returns to the job whose call is open.
+// The job whose call is open goes on with the reply.
 fn close<const P: usize, const J: usize, const OUT: usize>(
     state: &mut CoreState<'_, P, J, OUT>,
     status: Status,
@@ -275,7 +275,7 @@ fn close<const P: usize, const J: usize, const OUT: usize>(
         unreachable!()
     };
     let answer = Answer { status, value };
-    oscall::finish(state, call.runner, call.service, answer, marks);
+    oscall::resume(state, call.runner, call.service, answer, marks);
 }
 
 /// Dispatch, where the core schedules and no call is open.

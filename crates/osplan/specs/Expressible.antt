@@ -1,5 +1,5 @@
 -- What a text can say of a configuration so far, beside its limits: names in form and all different, one mode, scripts whose
--- arguments are of their kinds and that stay within themselves, and no ISR, alarm or table. [own]
+-- arguments are of their kinds, whose masks have events and that stay within themselves, and no ISR, alarm or table. [own]
 -- Each is a test, so that a literal configuration passes it by computation.
 use Rattle.std.specs.Prelude.{ℕ, ◌==◌, ◌&&◌, nat_le, Bool, true, false, not, List, [], ◌∷◌, ◌++◌, length, map, codes}
 use Rattle.std.specs.List.{list_all, list_any, flat_map}
@@ -9,7 +9,7 @@ use Rattle.osbase.specs.declared.references.ModeId.{ModeId}
 use Rattle.osbase.specs.Names.{is_name}
 use Rattle.oscript.specs.declared.Op.{Op}
 use Rattle.oscript.specs.Frames.{position_of}
-use Rattle.oscript.specs.Rows.{is_in_form}
+use Rattle.oscript.specs.Rows.{has_masks, is_in_form}
 use Rattle.osplan.specs.declared.plans.Plan.{Plan}
 use Rattle.osplan.specs.declared.plans.Core.{Core}
 use Rattle.osplan.specs.declared.plans.Resource.{Resource}
@@ -53,9 +53,9 @@ goes_within count op = option_map_or (λ (n : ℕ). nat_le n count) (position_of
 abbrev pub is_jumping_within : List Op → Bool
 is_jumping_within script = list_all (goes_within (length script)) script
 
--- A script's operations have arguments of their kinds, and go on within the script.
+-- A script's operations have arguments of their kinds and masks with events, and go on within the script.
 abbrev pub is_script_expressible : List Op → Bool
-is_script_expressible script = list_all is_in_form script && is_jumping_within script
+is_script_expressible script = list_all is_in_form script && list_all has_masks script && is_jumping_within script
 
 -- A task has a name in form, starts by itself in no mode but the only one, and has such a script.
 abbrev pub is_task_expressible : Task → Bool

@@ -24,6 +24,7 @@ use Rattle.osplan.specs.View.{core_of}
 pub record TaskSizes : Type 0 where
   pub priority : Option ℕ
   pub activations : Option ℕ
+  pub extended : Bool
   pub operations : ℕ
 
 pub record CoreSizes : Type 0 where
@@ -44,10 +45,22 @@ abbrev pub is_between : ℕ → ℕ → Option ℕ → Bool
 is_between low high None = false
 is_between low high (Some n) = nat_le low n && nat_le n high
 
--- A task: priority 0 to 31, of which 0 is the lowest [OSEK/VDX OS 2.2.3, section 4.5; the highest is own], 1 to 64 activations
--- [section 4.3; the most is own], and at most 256 operations, whatever they are [own].
+-- The most jobs of a task at once: of an extended task one, of another 64 [OSEK/VDX OS 2.2.3, section 4.3; the 64 is own].
+abbrev pub most_activations : Bool → ℕ
+most_activations true = 1
+most_activations false = 64
+
+-- A task: priority 0 to 31, of which 0 is the lowest [OSEK/VDX OS 2.2.3, section 4.5; the highest is own], and as many activations
+-- as it may have [section 4.3].
+abbrev pub is_task_numbered : TaskSizes → Bool
+is_task_numbered s = is_between 0 31 s.priority && is_between 1 (most_activations s.extended) s.activations
+
+-- And at most 256 operations, whatever they are. [own]
+abbrev pub is_task_short : TaskSizes → Bool
+is_task_short s = nat_le s.operations 256
+
 abbrev pub is_task_within : TaskSizes → Bool
-is_task_within s = is_between 0 31 s.priority && is_between 1 64 s.activations && nat_le s.operations 256
+is_task_within s = is_task_numbered s && is_task_short s
 
 -- A number in a start list, of a core that is configured or not: 0 to 255 [AUTOSAR SWS OS 4.x, StartCore; the most is own].
 abbrev pub is_start : Option ℕ → Bool
@@ -61,18 +74,25 @@ is_ceiling number = is_between 0 31 number
 abbrev pub jobs_of : TaskSizes → ℕ
 jobs_of s = unwrap_or s.activations 0
 
--- A core: number 0 to 7, at most 32 tasks, at most 64 jobs of all its tasks at once, and at most 16 resources. [own]
-abbrev pub is_core_within : CoreSizes → Bool
-is_core_within s =
+-- A core: number 0 to 7, at most 32 tasks, each of which passes the test, at most 64 jobs of all its tasks at once, and at most 16
+-- resources. [own]
+abbrev pub is_core_by : (TaskSizes → Bool) → CoreSizes → Bool
+is_core_by test s =
     is_between 0 7 s.number && list_all is_start s.start
-    && nat_le (length s.tasks) 32 && list_all is_task_within s.tasks && nat_le (sum_by jobs_of s.tasks) 64
+    && nat_le (length s.tasks) 32 && list_all test s.tasks && nat_le (sum_by jobs_of s.tasks) 64
     && nat_le (length s.resources) 16 && list_all is_ceiling s.resources
 
 -- The whole: 1 to 8 application modes, mailboxes of 1 to 16 envelopes, 1 to 8 cores. [own]
-abbrev pub is_within : Sizes → Bool
-is_within s =
+abbrev pub is_by : (TaskSizes → Bool) → Sizes → Bool
+is_by test s =
     is_between 1 8 (Some s.modes) && is_between 1 16 s.cap && is_between 1 8 (Some (length s.cores))
-    && list_all is_core_within s.cores
+    && list_all (is_core_by test) s.cores
+
+abbrev pub is_core_within : CoreSizes → Bool
+is_core_within s = is_core_by is_task_within s
+
+abbrev pub is_within : Sizes → Bool
+is_within s = is_by is_task_within s
 
 -- ---- numbers of cores
 
@@ -94,7 +114,7 @@ are_numbers_distinct (number ∷ numbers) = not (has_number numbers number) && a
 -- ---- the numbers of a configuration
 
 abbrev pub task_sizes : Task → TaskSizes
-task_sizes task = record { priority = Some task.priority; activations = Some task.activations; operations = length task.script }
+task_sizes task = record { priority = Some task.priority; activations = Some task.activations; extended = task.extended; operations = length task.script }
 
 abbrev pub number_of : CoreId → Option ℕ
 number_of id = Some id.number

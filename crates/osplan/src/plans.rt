@@ -22,6 +22,8 @@ pub struct Task {
     pub auto: List<ModeId>,
     /// How many jobs of the task may be live at once.
     pub activations: u8,
+    /// Whether the task can wait for events, of which it has a mask (OSEK/VDX OS 2.2.3, section 4.2.1).
+    pub extended: bool,
     /// Whether a task of greater priority takes the processor before this one ends or gives way
     /// (OSEK/VDX OS 2.2.3, section 4.6).
     pub preemptable: bool,

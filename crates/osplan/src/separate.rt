@@ -225,6 +225,7 @@ fn copied_task(alloc: Global, task: &Task) -> Result<Task, AllocError>
         priority: task.priority,
         auto: List::from_vec(task.auto.as_slice().to_vec(alloc)?),
         activations: task.activations,
+        extended: task.extended,
         preemptable: task.preemptable,
         script: List::from_vec(task.script.as_slice().to_vec(alloc)?),
     })

@@ -1,5 +1,5 @@
 -- How a text's parts are read: a chain of steps, each of which may find nothing that fits.
-use Rattle.std.specs.Prelude.{◌≡◌, ◌==◌, ℕ, Bool, Option, Some, None, option_and_then, option_map, if◌then◌else◌, List, [], ◌∷◌, length, Result, Ok, Err}
+use Rattle.std.specs.Prelude.{◌≡◌, ◌==◌, nat_le, ℕ, Bool, Option, Some, None, option_and_then, option_map, if◌then◌else◌, List, [], ◌∷◌, length, Result, Ok, Err}
 use Rattle.std.specs.List.{slice_split}
 use Rattle.osread.specs.declared.refusals.Refusal.{Refusal}
 use Rattle.osread.specs.declared.refusals.Refusal.TheVariants.{OutOfMemory, Unfit}
@@ -25,6 +25,10 @@ value_if b x = if b then Some x else None
 abbrev pub each : {X Y : Type 0} → (X → Option Y) → List X → Option (List Y)
 each f [] = Some []
 each f (x ∷ xs) = option_and_then (λ y. option_map (λ ys. y ∷ ys) (each f xs)) (f x)
+
+-- Each element is read, where there are at most so many.
+abbrev pub each_of_few : {X Y : Type 0} → ℕ → (X → Option Y) → List X → Option (List Y)
+each_of_few most f xs = if nat_le (length xs) most then each f xs else None
 
 -- What a text has between separators of one byte. The empty text has no part. [own]
 abbrev pub parts_of : ℕ → List ℕ → List (List ℕ)

@@ -1,7 +1,7 @@
 //! The loop over the parts of a text.
 
 ghost use Rattle.std.specs.Prelude.{◌≡◌, ◌<◌, Option, List, ℕ};
-ghost use Rattle.osread.specs.Reading.{Gives, each, parts_of};
+ghost use Rattle.osread.specs.Reading.{Gives, each_of_few, parts_of};
 
 use crate::refusals::Refusal;
 use osbase::List as Items;
@@ -17,22 +17,27 @@ pub trait PartReader<U> {
         ensures { result ≡ shape self.now part.now };
 }
 
-/// Each part of a text between separators as the reader reads it. The empty text has no part. `Unfit`
-/// where one of them has no shape; `OutOfMemory` where memory runs out.
+/// Each part of a text between separators as the reader reads it, where there are at most so many. The empty
+/// text has no part. `Unfit` where there are more, or one of them has no shape; `OutOfMemory` where memory runs
+/// out.
 pub fn read_parts<U: Drop, R: PartReader<U>>(
     alloc: Global,
     reader: &R,
     text: &str,
     separator: char,
+    most: usize,
 ) -> Result<Items<U>, Refusal>
     requires { separator < 128 }
-    ensures { Gives (λ x. x) result (each (R.shape reader.now) (parts_of separator text.now)) }
+    ensures { Gives (λ x. x) result (each_of_few most (R.shape reader.now) (parts_of separator text.now)) }
 {
     let mut read = Items::new(alloc);
     if text.is_empty() {
         return Ok(read);
     }
     for part in text.split(separator) {
+        if read.len() == most {
+            return Err(Refusal::Unfit);
+        }
         let Some(item) = reader.read(part) else {
             return Err(Refusal::Unfit);
         };

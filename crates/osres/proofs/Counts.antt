@@ -6,7 +6,7 @@ use Rattle.std.proofs.lemmas.List.{length-set}
 use Rattle.osbase.specs.declared.histories.HeldResource.{HeldResource}
 use Rattle.osbase.specs.History.{is_held}
 use Rattle.osres.specs.declared.held.TheConstants.{RESOURCES}
-use Rattle.osres.specs.declared.resources.TheConstants.{TASKS}
+use Rattle.osbase.specs.declared.turns.TheConstants.{TASKS}
 use Rattle.osres.specs.Resources.{IsFlagged, flag_count, held_at, held_count, is_occupied, total_count}
 
 same-itself : (n : ℕ) → nat_eq n n ≡ true

@@ -3,7 +3,7 @@ use Rattle.std.specs.Prelude.{◌≡◌, ℕ, suc, ◌+◌, ◌==◌, Bool, fals
 use Rattle.std.specs.List.{list_any}
 use Rattle.osbase.specs.declared.histories.HeldResource.{HeldResource}
 use Rattle.osbase.specs.History.{is_held}
-use Rattle.osres.specs.declared.resources.TheConstants.{TASKS}
+use Rattle.osbase.specs.declared.turns.TheConstants.{TASKS}
 
 -- What the task of this index holds.
 abbrev pub held_at : ℕ → List (List HeldResource) → List HeldResource

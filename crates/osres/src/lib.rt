@@ -7,4 +7,4 @@ pub mod held;
 pub mod resources;
 
 pub use held::{Held, RESOURCES, greater};
-pub use resources::{Resources, TASKS};
+pub use resources::Resources;

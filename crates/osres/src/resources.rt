@@ -6,11 +6,8 @@ ghost use Rattle.osres.specs.Resources.{held_at, is_occupied};
 
 use crate::held::{Held, RESOURCES};
 use arrayvec::ArrayVec;
-use osbase::HeldResource;
+use osbase::{HeldResource, TASKS};
 use std::marker::Model;
-
-/// The most tasks of a core.
-pub const TASKS: usize = 32;
 
 /// What the jobs of each task hold, by the task's index. Of a task only one job holds any: its oldest. No
 /// resource is held twice.

@@ -1,10 +1,14 @@
 pub mod Parts
 pub mod Border
 pub mod Ceiling
+pub mod Chained
+pub mod Distant
 pub mod Keeping
 pub mod Laws
 pub mod Limit
 pub mod Oldest
 pub mod Refusals
+pub mod Refused
+pub mod Released
 pub mod Scheduling
 pub mod Variables

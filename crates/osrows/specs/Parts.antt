@@ -11,6 +11,7 @@ use Rattle.osbase.specs.declared.items.Agreement.TheVariants as Agreement
 use Rattle.osbase.specs.declared.items.Item.{Item}
 use Rattle.osbase.specs.declared.marks.Mark.{Mark}
 use Rattle.osbase.specs.declared.messages.Message.{Message}
+use Rattle.osbase.specs.declared.messages.RemoteCall.{RemoteCall}
 use Rattle.osbase.specs.declared.messages.RemoteCall.TheVariants as Remote
 use Rattle.osbase.specs.declared.statuses.ServiceId.{ServiceId}
 use Rattle.osbase.specs.declared.statuses.Status.{Status}
@@ -39,11 +40,11 @@ first_task n = task_at n 0
 
 -- a task of priority 1 that is started by itself in mode M
 abbrev pub auto_task : List ℕ → List Op → Task
-auto_task name script = record { name = name; priority = 1; auto = mode ∷ []; activations = 1; preemptable = true; script = script }
+auto_task name script = record { name = name; priority = 1; auto = mode ∷ []; activations = 1; preemptable = true; extended = false; script = script }
 
 -- a task of priority 1 that is not
 abbrev pub task : List ℕ → List Op → Task
-task name script = record { name = name; priority = 1; auto = []; activations = 1; preemptable = true; script = script }
+task name script = record { name = name; priority = 1; auto = []; activations = 1; preemptable = true; extended = false; script = script }
 
 -- a task of another priority
 abbrev pub with_priority : ℕ → Task → Task
@@ -52,6 +53,10 @@ with_priority n t = record t { priority = n }
 -- and one that cannot be preempted
 abbrev pub without_preemption : Task → Task
 without_preemption t = record t { preemptable = false }
+
+-- an extended one
+abbrev pub with_events : Task → Task
+with_events t = record t { extended = true }
 
 -- a core with these tasks, and with one
 abbrev pub core_of : ℕ → List CoreId → List Task → Core
@@ -82,9 +87,12 @@ both = record { members = true ∷ true ∷ replicate 14 false }
 abbrev pub gates : CoreSet → List Item
 gates started = Item.Entered ∷ Item.Pass1 (Agreement.Mode mode) ∷ Item.Readied ∷ Item.Pass2 started ∷ []
 
--- a request to activate the task, and a reply
+-- a request, one to activate the task, and a reply
+abbrev pub requested : ℕ → ℕ → RemoteCall → Item
+requested from number call = Item.Received (core from) number (Message.Request call)
+
 abbrev pub asked : ℕ → ℕ → TaskRef → Item
-asked from number t = Item.Received (core from) number (Message.Request (Remote.ActivateTask t))
+asked from number t = requested from number (Remote.ActivateTask t)
 
 abbrev pub replied : ℕ → ℕ → Status → Item
 replied from number status = Item.Received (core from) number (Message.Reply status None)

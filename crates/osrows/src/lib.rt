@@ -3,10 +3,14 @@
 
 pub mod border;
 pub mod ceiling;
+pub mod chained;
+pub mod distant;
 pub mod keeping;
 pub mod laws;
 pub mod limit;
 pub mod oldest;
 pub mod refusals;
+pub mod refused;
+pub mod released;
 pub mod scheduling;
 pub mod variables;

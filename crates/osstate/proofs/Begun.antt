@@ -8,8 +8,9 @@ use Rattle.osbase.specs.declared.references.CoreId.{CoreId}
 use Rattle.osbase.specs.declared.objects.Object.{Object}
 use Rattle.osbase.specs.declared.histories.HeldResource.{HeldResource}
 use Rattle.osbase.specs.declared.histories.Sent.{Sent}
+use Rattle.osbase.specs.declared.histories.TaskEvents.{TaskEvents}
 use Rattle.osbase.specs.declared.turns.TheConstants.{CORES}
-use Rattle.osbase.specs.History.{same_core}
+use Rattle.osbase.specs.History.{no_events, same_core}
 use Rattle.osbase.specs.Phases.{is_past_first_gate}
 use Rattle.osbase.specs.Sets.{numbers_from}
 use Rattle.oscript.specs.declared.Op.{Op}
@@ -23,7 +24,7 @@ use Rattle.osplan.specs.declared.plans.Task.{Task}
 use Rattle.osplan.specs.View.{View, core_of, no_core, view_from, view_of}
 use Rattle.osplan.specs.Limits.{is_within_limits, is_core_known, is_task_known, is_object, is_op_known}
 use Rattle.osplan.specs.Objects.{has_index, may_name}
-use Rattle.osres.specs.declared.resources.TheConstants.{TASKS}
+use Rattle.osbase.specs.declared.turns.TheConstants.{TASKS}
 use Rattle.osjobs.specs.Jobs.{JobState, first_jobs}
 use Rattle.osstate.specs.declared.progress.Progress.{Progress}
 use Rattle.osstate.specs.State.{state_of, tasks_from}
@@ -73,6 +74,7 @@ pub state-begun : (plan : Plan) (id : CoreId) (core : Core) → core_of plan id 
 state-begun plan id core found =
     ap (λ (fs : List Frame). state_from plan core (first_progress (same_core core.id plan.master)) (tasks_from first_jobs fs) first_border) (sym (all-begun new_frame 0 (length core.tasks)))
     ∙ ap (λ (held : List (List HeldResource)). state_from plan core (first_progress (same_core core.id plan.master)) (tasks_from (record first_jobs { held = held }) (map (λ (n : ℕ). new_frame) (numbers_from 0 (length core.tasks)))) first_border) (sym (all-begun [] 0 TASKS))
+    ∙ ap (λ (events : List TaskEvents). state_from plan core (first_progress (same_core core.id plan.master)) (tasks_from (record first_jobs { held = map (λ (n : ℕ). []) (numbers_from 0 TASKS); events = events }) (map (λ (n : ℕ). new_frame) (numbers_from 0 (length core.tasks)))) first_border) (sym (all-begun no_events 0 TASKS))
     ∙ ap (λ (v : View). state_of v []) (view-own plan id core found)
 
 zeros_low : (n k : ℕ) → get_or (replicate n 0) k 0 ≤ 0

@@ -61,7 +61,7 @@ stays_in : (s s' : KernelState) (e : Entry) → s' ≡ state_after e s → Stays
 stays_in s s' e is stays = subst (λ (q : KernelState). StaysInItem 1 s q) (sym is) stays
 
 -- One mark more.
-pub printing : {m : Mark} {s s' : KernelState} {x x' : Vec Mark Global} → s' ≡ state_after (Printed m) s → ((v : View) (h : History) → s.view ≡ v → state_after (Printed m) (state_of v h) ≡ state_of v (Printed m ∷ h)) → x'.items ≡ x.items ++ m ∷ [] → vec_len x' ≤ vec_len x + 1 → vec_capacity x' ≡ vec_capacity x → Effects 1 1 (λ v h. Printed m ∷ h) s s' x x'
+pub printing : {m : Mark} {s s' : KernelState} {x x' : Vec Mark Global} → s' ≡ state_after (Printed m) s → ((h : History) → state_after (Printed m) (state_of s.view h) ≡ state_of s.view (Printed m ∷ h)) → x'.items ≡ x.items ++ m ∷ [] → vec_len x' ≤ vec_len x + 1 → vec_capacity x' ≡ vec_capacity x → Effects 1 1 (λ v h. Printed m ∷ h) s s' x x'
 printing {m} {s} {s'} is step more len capacity = record {
   does = (λ v h earlier base tracks. record {
     stands = notes is step v h tracks.stands;
@@ -76,7 +76,7 @@ printing {m} {s} {s'} is step more len capacity = record {
 }
 
 -- One note more.
-pub noting : {n : Note} {s s' : KernelState} → s' ≡ state_after (Noted n) s → ((v : View) (h : History) → s.view ≡ v → state_after (Noted n) (state_of v h) ≡ state_of v (Noted n ∷ h)) → Remarks 1 (λ v h. Noted n ∷ h) s s'
+pub noting : {n : Note} {s s' : KernelState} → s' ≡ state_after (Noted n) s → ((h : History) → state_after (Noted n) (state_of s.view h) ≡ state_of s.view (Noted n ∷ h)) → Remarks 1 (λ v h. Noted n ∷ h) s s'
 noting {n} {s} {s'} is step = record {
   notes = notes is step;
   silent = (λ v h. refl);

@@ -1,12 +1,11 @@
 -- What is read off the state is what is read off the history.
-use Rattle.std.proofs.Common.{◌≡◌, Bool, true, false, cond, Option, Some, None, List, [], ◌∷◌, refl, ap, sym, subst, ◌∙◌}
-use Rattle.std.specs.List.{filter, list_all, slice_get}
+use Rattle.std.proofs.Common.{◌≡◌, Bool, true, false, cond, Option, Some, None, refl, ap, sym, subst, ◌∙◌}
+use Rattle.std.specs.List.{list_all, slice_get}
 use Rattle.std.proofs.lemmas.Bool.{true≢false}
 use Rattle.std.specs.Option.{option_map_or}
 use Rattle.osbase.specs.declared.references.TaskRef.{TaskRef}
 use Rattle.osbase.specs.declared.references.Runner.{Runner}
-use Rattle.osbase.specs.declared.histories.Job.{Job}
-use Rattle.osbase.specs.History.{History, live_jobs, first_greatest, same_core}
+use Rattle.osbase.specs.History.{History, same_core}
 use Rattle.oscript.specs.declared.Op.{Op}
 use Rattle.oscript.specs.declared.Frame.{Frame}
 use Rattle.oscript.specs.declared.Action.{Action}
@@ -18,8 +17,8 @@ use Rattle.osplan.specs.View.{View, own_task}
 use Rattle.osplan.proofs.Tests.{passes-at}
 use Rattle.osjobs.specs.Priorities.{is_own_runner}
 use Rattle.osstate.specs.Does.{Reads}
-use Rattle.osstate.specs.Queries.{best_in, next_action_in}
-use Rattle.osstate.specs.Readings.{best_job, current_priority, frame_at, is_able, script_of}
+use Rattle.osstate.specs.Queries.{next_action_in}
+use Rattle.osstate.specs.Readings.{frame_at, script_of}
 use Rattle.osstate.specs.Sound.{is_action_known, has_objects_of}
 use Rattle.osstate.specs.State.{KernelState, Stands, state_of}
 use Rattle.osstate.specs.Steps.{frame_in}
@@ -28,15 +27,6 @@ use Rattle.osstate.proofs.Histories.{frame-own}
 -- What is asked of the state is asked of the state that the history leads to.
 pub read : {A : Type 0} (query : KernelState → A) {s : KernelState} {v : View} {h : History} {x : A} → x ≡ query s → Stands v h s → x ≡ query (state_of v h)
 read query is stands = is ∙ ap query stands.is
-
--- Every job is able.
-pub filter-able : (v : View) (h : History) (js : List Job) → filter (is_able v h) js ≡ js
-filter-able v h [] = refl
-filter-able v h (j ∷ js) = ap (λ (xs : List Job). j ∷ xs) (filter-able v h js)
-
-pub reads_best : (s : KernelState) (o : Option Job) → o ≡ best_in s → Reads (λ v h. best_job v h) s o
-reads_best s o is v h stands =
-    read best_in is stands ∙ ap (first_greatest (current_priority v h)) (sym (filter-able v h (live_jobs h)))
 
 frame-in : (v : View) (h : History) (r : Runner) → is_own_runner v.own r ≡ true → frame_in r (state_of v h).tasks.frames ≡ frame_at v r h
 frame-in v h (Runner.Isr i) own = absurd (true≢false (sym own))

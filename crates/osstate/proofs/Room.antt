@@ -96,7 +96,7 @@ length_within core js within =
         omega (arith, within (at core.id n), limit_at n t g')
 
 -- a runner with a place for a job is an own one
-own_from_place : (core : Core) (r : Runner) → 0 < activation_limit core r → is_own_runner core r ≡ true
+pub own_from_place : (core : Core) (r : Runner) → 0 < activation_limit core r → is_own_runner core r ≡ true
 own_from_place core (Runner.Isr i) h = absurd (omega (arith, h))
 own_from_place core (Runner.Task t) h = cases (own_task core t) h
   where

@@ -1,8 +1,9 @@
 -- What holds of every state holds again after an entry.
-use Rattle.std.proofs.Common.{◌≡◌, ◌||◌, ℕ, zero, suc, ◌+◌, ◌≤◌, ◌<◌, slice_index, List, Bool, true, false, cond, Option, Some, None, IsTrue, IfSome, [], ◌∷◌, ◌++◌, length, refl, ap, sym, ◌∙◌, arith, length-append}
-use Rattle.std.specs.List.{slice_set}
+use Rattle.std.proofs.Common.{◌≡◌, ◌||◌, ℕ, zero, suc, ◌+◌, ◌≤◌, ◌<◌, slice_index, List, Bool, true, false, cond, Option, Some, None, IsTrue, IfSome, [], ◌∷◌, ◌++◌, length, refl, ap, sym, ◌∙◌, arith, length-append, is_some, nat_le}
+use Rattle.std.specs.List.{list_all, slice_get, slice_set}
+use Rattle.std.specs.Option.{option_map_or}
 use Rattle.std.proofs.lemmas.List.{length-set}
-use Rattle.std.proofs.lemmas.Bool.{false≢true}
+use Rattle.std.proofs.lemmas.Bool.{false≢true, leb-true}
 use Rattle.osbase.specs.declared.references.CoreId.{CoreId}
 use Rattle.osbase.specs.declared.references.TaskRef.{TaskRef}
 use Rattle.osbase.specs.declared.items.Item.{Item}
@@ -13,13 +14,17 @@ use Rattle.osbase.specs.declared.references.Runner.{Runner}
 use Rattle.osbase.specs.declared.marks.Mark.TheVariants as Mark
 use Rattle.osbase.specs.declared.histories.Job.{Job}
 use Rattle.osbase.specs.declared.histories.OpenCall.{OpenCall}
-use Rattle.osbase.specs.History.{Printed, Took, agreement_after, began_after, closed_by, job_count, same_runner, without_oldest, phase_on}
+use Rattle.osbase.specs.History.{Printed, Took, agreement_after, began_after, closed_by, job_count, same_core, same_runner, stamped_anew, without_oldest, phase_on}
+use Rattle.osplan.specs.declared.plans.Core.{Core}
+use Rattle.osplan.specs.declared.plans.Task.{Task}
+use Rattle.osplan.specs.View.{own_task}
+use Rattle.osplan.proofs.Tests.{passes-at}
 use Rattle.osjobs.specs.Priorities.{is_own_runner}
 use Rattle.osstate.specs.State.{KernelState}
 use Rattle.osstate.specs.Steps.{one_more, progress_after, received_after, state_after}
 use Rattle.osbase.specs.Phases.{is_before_live, is_past_first_gate}
 use Rattle.osstate.specs.Sound.{IsSound, activation_limit, is_agreed, is_first_gate}
-use Rattle.osstate.proofs.JobLists.{within_append, job_count-without_oldest}
+use Rattle.osstate.proofs.JobLists.{within_append, job_count-stamped_anew, job_count-without_oldest}
 use Rattle.osstate.proofs.Room.{length_within}
 
 pub activated : (priorities room : ℕ) (t : TaskRef) (s : KernelState) → IsSound priorities room s → job_count (Runner.Task t) s.tasks.jobs < activation_limit s.view.own (Runner.Task t) → is_before_live s.progress.phase ≡ false → IsSound priorities room (state_after (Printed (Mark.Activated t)) s)
@@ -66,6 +71,53 @@ terminated priorities room t s sound = record {
   queued = (λ k. omega (arith, sound.queued k));
   received = (λ k. omega (arith, sound.received k));
 }
+
+pub released : (priorities room : ℕ) (t : TaskRef) (s : KernelState) → IsSound priorities room s → IsSound priorities room (state_after (Printed (Mark.Released t)) s)
+released priorities room t s sound = record {
+  tasks = sound.tasks;
+  frames = sound.frames;
+  bounded = sound.bounded;
+  limits = sound.limits;
+  some = sound.some;
+  scripts = sound.scripts;
+  resources = sound.resources;
+  ceilings = sound.ceilings;
+  jobs = (λ r. omega (arith, sound.jobs r, job_count-stamped_anew r (Runner.Task t) s.progress.entries s.tasks.jobs));
+  idle = (λ e. ap (stamped_anew (Runner.Task t) s.progress.entries) (sound.idle e));
+  agreed = sound.agreed;
+  caller = sound.caller;
+  began = omega (arith, sound.began);
+  items = omega (arith, sound.items);
+  queued = (λ k. omega (arith, sound.queued k));
+  received = (λ k. omega (arith, sound.received k));
+}
+
+-- and then the task has fewer jobs than it may have
+fewer : (r : Runner) (js : List Job) (most : ℕ) → 1 ≤ most → job_count r js ≤ most → job_count r (without_oldest r js) < most
+fewer r [] most some within = omega (arith, some)
+fewer r (j ∷ js) most some within = by (same_runner j.runner r) refl (λ rest. fewer r js most some rest)
+  where
+    by : (b : Bool) → same_runner j.runner r ≡ b → (job_count r js ≤ most → job_count r (without_oldest r js) < most) → job_count r (cond b js (j ∷ without_oldest r js)) < most
+    by true e rest = let here : job_count r (j ∷ js) ≡ suc (job_count r js) = rw e refl in omega (arith, here, within)
+    by false e rest =
+        let here : job_count r (j ∷ js) ≡ job_count r js = rw e refl in
+        let there : job_count r (j ∷ without_oldest r js) ≡ job_count r (without_oldest r js) = rw e refl in
+        omega (arith, there, rest (omega (arith, here, within)))
+
+some_allowed : (core : Core) (t : TaskRef) → list_all (λ (u : Task). nat_le 1 u.activations) core.tasks ≡ true → is_own_runner core (Runner.Task t) ≡ true → 1 ≤ activation_limit core (Runner.Task t)
+some_allowed core t some own = by (own_task core t) refl own
+  where
+    listed : (u : Task) (b : Bool) → cond b (slice_get core.tasks t.index) None ≡ Some u → nat_le 1 u.activations ≡ true
+    listed u true e = passes-at (λ (w : Task). nat_le 1 w.activations) core.tasks t.index u some e
+    listed u false e = cc
+
+    by : (o : Option Task) → own_task core t ≡ o → is_some o ≡ true → 1 ≤ option_map_or (λ (u : Task). u.activations) o 0
+    by None e is = absurd (false≢true is)
+    by (Some u) e is = leb-true 1 u.activations (listed u (same_core t.core core.id) e)
+
+pub below : (priorities room : ℕ) (t : TaskRef) (s : KernelState) → IsSound priorities room s → is_own_runner s.view.own (Runner.Task t) ≡ true → job_count (Runner.Task t) (without_oldest (Runner.Task t) s.tasks.jobs) < activation_limit s.view.own (Runner.Task t)
+below priorities room t s sound own =
+    fewer (Runner.Task t) s.tasks.jobs (activation_limit s.view.own (Runner.Task t)) (some_allowed s.view.own t sound.some own) (sound.jobs (Runner.Task t))
 
 -- there is a place for one job more
 pub place : (priorities room : ℕ) (t : TaskRef) (s : KernelState) → IsSound priorities room s → job_count (Runner.Task t) s.tasks.jobs < activation_limit s.view.own (Runner.Task t) → length s.tasks.jobs < room

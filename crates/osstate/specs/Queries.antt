@@ -1,5 +1,5 @@
 -- What is asked of the state. Of a history it is asked of the state that the history leads to.
-use Rattle.std.specs.Prelude.{Bool, nat_le, Option}
+use Rattle.std.specs.Prelude.{◌==◌, Bool, nat_le, Option}
 use Rattle.osbase.specs.declared.references.Runner.{Runner}
 use Rattle.osbase.specs.declared.references.TaskRef.{TaskRef}
 use Rattle.osbase.specs.declared.histories.Job.{Job}
@@ -21,7 +21,7 @@ running_in s = running_among (jobs_in s.tasks)
 abbrev pub raised_in : KernelState → Option Job
 raised_in s = raised_among s.view.own (jobs_in s.tasks)
 
--- The job to run: of the live jobs of greatest current priority the oldest.
+-- The job to run: of the able jobs of greatest current priority the oldest.
 abbrev pub best_in : KernelState → Option Job
 best_in s = best_among s.view.own (jobs_in s.tasks)
 
@@ -35,3 +35,10 @@ is_at_limit_in t s = nat_le (activation_limit s.view.own (Runner.Task t)) (job_c
 
 abbrev pub is_at_limit : View → TaskRef → History → Bool
 is_at_limit v t h = is_at_limit_in t (state_of v h)
+
+-- No job of the task is live. [OSEK/VDX OS 2.2.3, section 4.2.1, the suspended state]
+abbrev pub is_suspended_in : TaskRef → KernelState → Bool
+is_suspended_in t s = job_count (Runner.Task t) s.tasks.jobs == 0
+
+abbrev pub is_suspended : View → TaskRef → History → Bool
+is_suspended v t h = is_suspended_in t (state_of v h)

@@ -1,5 +1,5 @@
 -- What is read off a core's history with what the core sees of its configuration.
-use Rattle.std.specs.Prelude.{ℕ, Bool, true, Option, Some, None, List, [], filter, length, map, option_map, slice_get}
+use Rattle.std.specs.Prelude.{ℕ, Bool, Option, Some, None, List, [], filter, length, map, option_map, slice_get}
 use Rattle.std.specs.List.{enumerate_from}
 use Rattle.std.specs.Option.{option_map_or}
 use Rattle.osbase.specs.declared.references.CoreId.{CoreId}
@@ -9,7 +9,8 @@ use Rattle.osbase.specs.declared.references.Runner.{Runner}
 use Rattle.osbase.specs.declared.histories.Job.{Job}
 use Rattle.osbase.specs.declared.histories.HeldResource.{HeldResource}
 use Rattle.osbase.specs.declared.histories.Phase.{Phase}
-use Rattle.osbase.specs.History.{History, same_core, current_job, giving_way, held_by, live_jobs, first_greatest, started_cores, phase_of}
+use Rattle.osbase.specs.declared.histories.TaskEvents.{TaskEvents}
+use Rattle.osbase.specs.History.{History, same_core, current_job, events_of, giving_way, held_by, live_jobs, first_greatest, started_cores, phase_of}
 use Rattle.osbase.specs.Sets.{has_core, numbers_from}
 use Rattle.oscript.specs.declared.Op.{Op}
 use Rattle.oscript.specs.declared.Frame.{Frame}
@@ -18,8 +19,8 @@ use Rattle.osplan.specs.declared.plans.Core.{Core}
 use Rattle.osplan.specs.declared.plans.Resource.{Resource}
 use Rattle.osplan.specs.declared.plans.Task.{Task}
 use Rattle.osplan.specs.View.{View, own_resource, own_task}
-use Rattle.osres.specs.declared.resources.TheConstants.{TASKS}
-use Rattle.osjobs.specs.Priorities.{held_in, priority_by, raised_of}
+use Rattle.osbase.specs.declared.turns.TheConstants.{TASKS}
+use Rattle.osjobs.specs.Priorities.{events_in, held_in, is_able_in, priority_by, raised_of}
 
 -- The object is one of this core's.
 abbrev pub is_own : View → CoreId → Bool
@@ -46,6 +47,13 @@ held_resources v h = map (λ (n : ℕ). held_by (Runner.Task (task_ref v.own n))
 abbrev pub resources_of : View → Runner → History → List HeldResource
 resources_of v r h = held_in r (held_resources v h)
 
+-- The events of each task, in index order, and those of one runner.
+abbrev pub task_events : View → History → List TaskEvents
+task_events v h = map (λ (n : ℕ). events_of (task_ref v.own n) h) (numbers_from 0 TASKS)
+
+abbrev pub events_at : View → Runner → History → TaskEvents
+events_at v r h = events_in r (task_events v h)
+
 -- A resource that a script names, as a job would hold it; none for the invalid identifier, and for one that is not the core's own,
 -- which no script of an accepted configuration names.
 abbrev pub resource_of : Core → Option ResourceRef → Option HeldResource
@@ -57,10 +65,9 @@ resource_of core (Some r) = option_map (λ (x : Resource). record { index = r.in
 abbrev pub current_priority : View → History → Job → ℕ
 current_priority v h j = priority_by v.own (held_resources v h) (raised_of v.own (giving_way h) (current_job h)) j
 
--- A live job that may run: each of them, since only tasks have jobs and none of them can wait yet.
--- [OSEK/VDX OS 2.2.3, section 4.2]
+-- A live job that may run: one of a task that does not wait. [OSEK/VDX OS 2.2.3, section 4.2.1]
 abbrev pub is_able : View → History → Job → Bool
-is_able v h j = true
+is_able v h j = is_able_in (task_events v h) j
 
 -- The running job: the current one, since there are no ISR jobs yet. [OSEK/VDX OS 2.2.3, section 4.2]
 abbrev pub running : View → History → Option Job

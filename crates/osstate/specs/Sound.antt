@@ -1,5 +1,5 @@
 -- What holds of the state of every kernel: that nothing runs out of its room. All of it is this project's own.
-use Rattle.std.specs.Prelude.{◌≡◌, ℕ, ◌≤◌, ◌<◌, nat_le, nat_lt, Bool, true, false, IsTrue, IfSome, Option, Some, [], length, slice_index, sum_by}
+use Rattle.std.specs.Prelude.{◌≡◌, ℕ, ◌≤◌, nat_le, nat_lt, Bool, true, false, IsTrue, IfSome, Option, Some, [], length, slice_index, sum_by}
 use Rattle.std.specs.List.{list_all}
 use Rattle.std.specs.Option.{option_map_or}
 use Rattle.osbase.specs.declared.references.Runner.{Runner}
@@ -18,7 +18,6 @@ use Rattle.osplan.specs.declared.plans.Task.{Task}
 use Rattle.osplan.specs.Objects.{may_name}
 use Rattle.osplan.specs.View.{own_task}
 use Rattle.osres.specs.declared.held.TheConstants.{RESOURCES}
-use Rattle.osjobs.specs.Jobs.{is_current}
 use Rattle.osjobs.specs.Priorities.{is_own_runner}
 use Rattle.osstate.specs.State.{KernelState}
 
@@ -27,12 +26,6 @@ abbrev pub is_agreed : Option Agreement → Bool
 is_agreed (Some (Agreement.Mode m)) = true
 is_agreed (Some Agreement.NoMode) = true
 is_agreed other = false
-
--- The runner is the core's own and in the running state, with a live job: it is the one that acts.
-pub record Acts (s : KernelState) (r : Runner) : Type 0 where
-  pub own : IsTrue (is_own_runner s.view.own r)
-  pub job : 0 < job_count r s.tasks.jobs
-  pub current : IsTrue (is_current s.tasks.current r)
 
 -- How many jobs of a runner may be live at once; none of what is not the core's own.
 abbrev pub activation_limit : Core → Runner → ℕ

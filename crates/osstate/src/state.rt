@@ -11,10 +11,10 @@ ghost use Rattle.osplan.specs.declared.plans.Task.{Task as TaskValue};
 ghost use Rattle.osplan.specs.Objects.{is_own_object};
 ghost use Rattle.osplan.specs.View.{core_of, is_configured, own_task, view_of};
 ghost use Rattle.osjobs.specs.Jobs.{is_current, is_plain};
-ghost use Rattle.osjobs.specs.Priorities.{held_in, holds_any, is_newest, is_own_runner, static_priority};
+ghost use Rattle.osjobs.specs.Priorities.{events_in, held_in, holds_any, is_extended, is_newest, is_own_runner, static_priority};
 ghost use Rattle.osstate.specs.Does.{Effects, HasRoom, Notes, Reads, Remarks};
-ghost use Rattle.osstate.specs.Queries.{best_in, is_at_limit_in, next_action_in, running_in};
-ghost use Rattle.osstate.specs.Readings.{best_job, frame_at, held_resources, is_own, next_start, resource_of, resources_of, script_of};
+ghost use Rattle.osstate.specs.Queries.{best_in, is_at_limit_in, is_suspended, is_suspended_in, next_action_in, running_in};
+ghost use Rattle.osstate.specs.Readings.{best_job, events_at, frame_at, held_resources, is_own, next_start, resource_of, resources_of, script_of};
 ghost use Rattle.oscript.specs.Frames.{action_at};
 ghost use Rattle.osstate.specs.Sound.{activation_limit, is_action_known, is_agreed, is_first_gate, is_posted, is_sender_known};
 ghost use Rattle.osres.specs.Resources.{is_occupied};
@@ -28,7 +28,7 @@ use crate::slots::{FrameSlot, SentSlot};
 use arrayvec::ArrayVec;
 use osbase::{
     Agreement, CORES, CoreId, Envelope, HeldResource, Item, Job, Mark, Message, Object, OpenCall,
-    Phase, ResourceRef, Runner, Sent, Status, TaskRef,
+    Phase, ResourceRef, Runner, Sent, Status, TaskEvents, TaskRef,
 };
 use oscript::{Action, Frame};
 use osjobs::equality::is_same_core;
@@ -110,7 +110,7 @@ impl<'a, const P: usize, const J: usize, const OUT: usize> CoreState<'a, P, J, O
         border::receive_by(&mut self.border.received, item);
     }
 
-    /// A job of the task begins (OSEK/VDX OS 2.2.3, section 4.3).
+    /// A job of the task begins, with no event set (OSEK/VDX OS 2.2.3, section 4.3 and 13.2.3.1).
     pub fn activate(&mut self, task: TaskRef, marks: &mut Vec<Mark>)
         requires limit { job_count (Runner.Task task) self.old.tasks.jobs < activation_limit self.old.view.own (Runner.Task task) }
         requires live { is_before_live self.old.progress.phase ≡ false }
@@ -123,14 +123,14 @@ impl<'a, const P: usize, const J: usize, const OUT: usize> CoreState<'a, P, J, O
         marks.push_reserved(Mark::Activated(task));
     }
 
-    /// The oldest job of one of the core's tasks has ended, which left the running state.
+    /// The oldest job of one of the core's tasks has ended, if there is one: it gives back all that it holds, and
+    /// runs no longer. So the task has fewer jobs than it may have.
     pub fn terminate(&mut self, task: TaskRef, marks: &mut Vec<Mark>)
         requires own { IsTrue (is_own_runner self.old.view.own (Runner.Task task)) }
-        requires job { 0 < job_count (Runner.Task task) self.old.tasks.jobs }
-        requires left { self.old.tasks.current ≡ None }
         requires room { HasRoom 1 1 self.old marks.old }
         ensures state { self.new ≡ state_after (Printed (Mark.Terminated task)) self.old }
         ensures effects { Effects 1 1 (λ v h. Printed (Mark.Terminated task) ∷ h) self.old self.new marks.old marks.new }
+        ensures below { job_count (Runner.Task task) self.new.tasks.jobs < activation_limit self.new.view.own (Runner.Task task) }
     {
         self.jobs.terminate(task);
         frames::rewind_frame(&mut self.frames, task);
@@ -150,20 +150,69 @@ impl<'a, const P: usize, const J: usize, const OUT: usize> CoreState<'a, P, J, O
         marks.push_reserved(Mark::PreTaskHook(task));
     }
 
-    /// PostTaskHook is called, and the task in the running state leaves it (OSEK/VDX OS 2.2.3, section 11.5).
+    /// PostTaskHook is called, and the task leaves the running state (OSEK/VDX OS 2.2.3, section 11.5).
     pub fn leave(&mut self, task: TaskRef, marks: &mut Vec<Mark>)
-        requires current { IsTrue (is_current self.old.tasks.current (Runner.Task task)) }
-        requires room { HasRoom 1 1 self.old marks.old }
+        requires { HasRoom 1 1 self.old marks.old }
         ensures state { self.new ≡ state_after (Printed (Mark.PostTaskHook task)) self.old }
         ensures effects { Effects 1 1 (λ v h. Printed (Mark.PostTaskHook task) ∷ h) self.old self.new marks.old marks.new }
-        ensures left { self.new.tasks.current ≡ None }
     {
         self.jobs.leave(task);
         self.progress.entries += 1;
         marks.push_reserved(Mark::PostTaskHook(task));
     }
 
-    /// A mark that begins and ends no job, and by which no task enters or leaves the running state.
+    /// Events of one of the core's tasks are set, besides those that are (OSEK/VDX OS 2.2.3, section 7 and 13.5.3.1).
+    pub fn set_events(&mut self, task: TaskRef, mask: u32, marks: &mut Vec<Mark>)
+        requires own { IsTrue (is_own_runner self.old.view.own (Runner.Task task)) }
+        requires room { HasRoom 1 1 self.old marks.old }
+        ensures state { self.new ≡ state_after (Printed (Mark.EventSet task mask)) self.old }
+        ensures effects { Effects 1 1 (λ v h. Printed (Mark.EventSet task mask) ∷ h) self.old self.new marks.old marks.new }
+    {
+        self.jobs.set_events(task, mask);
+        self.progress.entries += 1;
+        marks.push_reserved(Mark::EventSet { task, mask });
+    }
+
+    /// Events of one of the core's tasks are cleared, and no other (OSEK/VDX OS 2.2.3, section 7 and 13.5.3.2).
+    pub fn clear_events(&mut self, task: TaskRef, mask: u32, marks: &mut Vec<Mark>)
+        requires own { IsTrue (is_own_runner self.old.view.own (Runner.Task task)) }
+        requires room { HasRoom 1 1 self.old marks.old }
+        ensures state { self.new ≡ state_after (Printed (Mark.EventCleared task mask)) self.old }
+        ensures effects { Effects 1 1 (λ v h. Printed (Mark.EventCleared task mask) ∷ h) self.old self.new marks.old marks.new }
+    {
+        self.jobs.clear_events(task, mask);
+        self.progress.entries += 1;
+        marks.push_reserved(Mark::EventCleared { task, mask });
+    }
+
+    /// One of the core's tasks waits for one of these events: no job of it may run (OSEK/VDX OS 2.2.3, section 4.2.1 and
+    /// 13.5.3.4).
+    pub fn wait(&mut self, task: TaskRef, mask: u32, marks: &mut Vec<Mark>)
+        requires own { IsTrue (is_own_runner self.old.view.own (Runner.Task task)) }
+        requires room { HasRoom 1 1 self.old marks.old }
+        ensures state { self.new ≡ state_after (Printed (Mark.EventAwaited task mask)) self.old }
+        ensures effects { Effects 1 1 (λ v h. Printed (Mark.EventAwaited task mask) ∷ h) self.old self.new marks.old marks.new }
+    {
+        self.jobs.wait(task, mask);
+        self.progress.entries += 1;
+        marks.push_reserved(Mark::EventAwaited { task, mask });
+    }
+
+    /// One of the core's tasks waits no longer: its oldest job may run, behind all others of its priority
+    /// (OSEK/VDX OS 2.2.3, section 4.2.1 and 4.5).
+    pub fn release(&mut self, task: TaskRef, marks: &mut Vec<Mark>)
+        requires own { IsTrue (is_own_runner self.old.view.own (Runner.Task task)) }
+        requires room { HasRoom 1 1 self.old marks.old }
+        ensures state { self.new ≡ state_after (Printed (Mark.Released task)) self.old }
+        ensures effects { Effects 1 1 (λ v h. Printed (Mark.Released task) ∷ h) self.old self.new marks.old marks.new }
+    {
+        self.jobs.release(task, self.progress.entries);
+        self.progress.entries += 1;
+        marks.push_reserved(Mark::Released(task));
+    }
+
+    /// A mark that begins and ends no job, by which no task enters or leaves the running state and no task's events
+    /// change.
     pub fn print(&mut self, mark: Mark, marks: &mut Vec<Mark>)
         requires plain { IsTrue (is_plain mark) }
         requires room { HasRoom 1 1 self.old marks.old }
@@ -400,7 +449,7 @@ impl<'a, const P: usize, const J: usize, const OUT: usize> CoreState<'a, P, J, O
         self.jobs.running()
     }
 
-    /// The job to run: of the live jobs of greatest current priority the oldest (OSEK/VDX OS 2.2.3, section 4.4
+    /// The job to run: of the able jobs of greatest current priority the oldest (OSEK/VDX OS 2.2.3, section 4.4
     /// and 4.5).
     pub fn best_job(&self) -> Option<Job>
         ensures value { result ≡ best_in self.now }
@@ -432,6 +481,34 @@ impl<'a, const P: usize, const J: usize, const OUT: usize> CoreState<'a, P, J, O
         ensures reads { Reads (λ v h. static_priority v.own runner) self.now result }
     {
         osjobs::static_priority(self.core, runner)
+    }
+
+    /// Whether the runner is one of the core's extended tasks (OSEK/VDX OS 2.2.3, section 4.2.1).
+    pub fn is_extended(&self, runner: Runner) -> bool
+        ensures value { result ≡ is_extended self.now.view.own runner }
+        ensures reads { Reads (λ v h. is_extended v.own runner) self.now result }
+    {
+        osjobs::is_extended(self.core, runner)
+    }
+
+    /// The events of one of the core's tasks (OSEK/VDX OS 2.2.3, section 7).
+    pub fn events(&self, runner: Runner) -> TaskEvents
+        requires own { IsTrue (is_own_runner self.now.view.own runner) }
+        ensures value { result ≡ events_in runner self.now.tasks.events }
+        ensures reads { Reads (λ v h. events_at v runner h) self.now result }
+    {
+        match runner {
+            Runner::Task(task) => self.jobs.events(task),
+            Runner::Isr(_) => unreachable!(),
+        }
+    }
+
+    /// Whether no job of the task is live (OSEK/VDX OS 2.2.3, section 4.2.1).
+    pub fn is_suspended(&self, task: TaskRef) -> bool
+        ensures value { result ≡ is_suspended_in task self.now }
+        ensures reads { Reads (λ v h. is_suspended v task h) self.now result }
+    {
+        self.jobs.count(Runner::Task(task)) == 0
     }
 
     /// Whether a job of the core holds the resource of this index.

@@ -154,6 +154,7 @@ fn word_of(plan: &Plan, arg: Arg<Place>) -> Word<'_>
     match arg {
         Arg::Object(kind, Some(place)) => Word::Text(plan.name_of(kind, place)),
         Arg::Object(_, None) => Word::Text("?"),
+        Arg::Mask(mask) => Word::Whole(mask),
         Arg::Number(n) => Word::Whole(n),
         Arg::Int(n) => Word::Signed(n),
         Arg::Variable(x) => Word::Variable(x),

@@ -1,5 +1,5 @@
 -- A core that drained has dispatched: nothing follows from its last items.
-use Rattle.std.proofs.Common.{◌≡◌, ◌||◌, ◌≤◌, ℕ, nat_lt, Bool, true, false, cond, Option, Some, None, is_none, List, [], ◌∷◌, refl, sym, ap, subst, ◌∙◌, arith}
+use Rattle.std.proofs.Common.{◌≡◌, ◌||◌, ◌≤◌, ℕ, nat_lt, Bool, true, false, cond, Option, Some, None, is_none, List, [], ◌∷◌, ◌++◌, not, refl, sym, ap, subst, ◌∙◌, arith}
 use Rattle.std.specs.List.{filter, list_all}
 use Rattle.std.specs.Option.{option_map_or}
 use Rattle.std.proofs.lemmas.Bool.{and_parts, and_from, false≢true, eq-eqb}
@@ -13,13 +13,13 @@ use Rattle.osbase.specs.declared.marks.Mark.{Mark}
 use Rattle.osbase.specs.declared.histories.HeldResource.{HeldResource}
 use Rattle.osbase.specs.declared.histories.Job.{Job}
 use Rattle.osbase.specs.declared.histories.OpenCall.{OpenCall}
-use Rattle.osbase.specs.History.{Entry, History, Took, Printed, better_of, current_job, current_task, first_greatest, giving_way, greater, greatest_ceiling, jobs_after, live_jobs, oldest, open_call, same_job, same_runner, without_oldest}
+use Rattle.osbase.specs.declared.histories.TaskEvents.{TaskEvents}
+use Rattle.osbase.specs.History.{Entry, History, Took, Printed, better_of, current_job, current_task, first_greatest, giving_way, greater, greatest_ceiling, is_waiting, jobs_after, live_jobs, oldest, open_call, same_job, same_runner, stamped_anew, without_oldest}
 use Rattle.osplan.specs.View.{View}
-use Rattle.osjobs.specs.Priorities.{held_in, highest_of, is_preemptable, priority_by, raised_of, static_priority}
-use Rattle.osstate.specs.Readings.{best_job, current_priority, held_resources, is_able, running}
+use Rattle.osjobs.specs.Priorities.{events_in, held_in, highest_of, is_able_in, is_preemptable, priority_by, raised_of, static_priority}
+use Rattle.osstate.specs.Readings.{best_job, current_priority, events_at, held_resources, is_able, running, task_events}
 use Rattle.osbase.proofs.Same.{same_runner-true, same_task-refl}
 use Rattle.oskernel.specs.Step.{after, enters, goes_to, leaves}
-use Rattle.osstate.proofs.ReadLemmas.{filter-able}
 
 -- ---- the best job is the oldest of its task
 
@@ -39,8 +39,25 @@ without-all p r (j ∷ js) a = let parts = and_parts (p j) (list_all p js) a in 
     by true all rest = all
     by false all rest = rest
 
+-- So it is where the oldest gets a new stamp, which none of them looks at.
+pub anew-all : (p : Job → Bool) (r : Runner) (n : ℕ) (js : List Job) → ((j : Job) → p j ≡ true → p (record j { stamp = n }) ≡ true) → list_all p js ≡ true → list_all p (stamped_anew r n js) ≡ true
+anew-all p r n js still a = by (oldest r js) (found js a)
+  where
+    found : (js : List Job) → list_all p js ≡ true → option_map_or p (oldest r js) true ≡ true
+    found [] a = refl
+    found (j ∷ js) a = let parts = and_parts (p j) (list_all p js) a in choose (same_runner j.runner r) parts.0 (found js parts.1)
+      where
+        choose : (b : Bool) → p j ≡ true → option_map_or p (oldest r js) true ≡ true → option_map_or p (cond b (Some j) (oldest r js)) true ≡ true
+        choose true first rest = first
+        choose false first rest = rest
+
+    by : (o : Option Job) → option_map_or p o true ≡ true → list_all p (option_map_or (λ (j : Job). without_oldest r js ++ record j { stamp = n } ∷ []) o js) ≡ true
+    by None e = a
+    by (Some j) e = list_all-append p (without_oldest r js) _ ∙ and_from _ _ (without-all p r js a) (and_from _ _ (still j e) refl)
+
 step-tasks : (e : Entry) (n : ℕ) (js : List Job) → list_all is_task_job js ≡ true → list_all is_task_job (jobs_after e n js) ≡ true
 step-tasks (Printed (Mark.Activated t)) n js a = list_all-append is_task_job js (record { runner = Runner.Task t; stamp = n } ∷ []) ∙ and_from (list_all is_task_job js) true a refl
+step-tasks (Printed (Mark.Released t)) n js a = anew-all is_task_job (Runner.Task t) n js (λ j is. is) a
 step-tasks (Printed (Mark.Terminated t)) n js a = without-all is_task_job (Runner.Task t) js a
 step-tasks e n js a = a
 
@@ -50,20 +67,20 @@ all-tasks (e ∷ h) = step-tasks e _ (live_jobs h) (all-tasks h)
 
 module _ (p : Job → ℕ) where
   -- it is among them
-  greatest-task : (js : List Job) (j : Job) → list_all is_task_job js ≡ true → first_greatest p js ≡ Some j → is_task_job j ≡ true
-  greatest-task [] j a e = cc
-  greatest-task (i ∷ is) j a e = by (first_greatest p is) e (λ k f. greatest-task is k (and_parts (is_task_job i) _ a).1 f)
+  greatest-among : (q : Job → Bool) (js : List Job) (j : Job) → list_all q js ≡ true → first_greatest p js ≡ Some j → q j ≡ true
+  greatest-among q [] j a e = cc
+  greatest-among q (i ∷ is) j a e = by (first_greatest p is) e (λ k f. greatest-among q is k (and_parts (q i) _ a).1 f)
     where
-      first : is_task_job i ≡ true
-      first = (and_parts (is_task_job i) _ a).0
+      first : q i ≡ true
+      first = (and_parts (q i) _ a).0
 
-      by : (o : Option Job) → Some (better_of p i o) ≡ Some j → ((k : Job) → o ≡ Some k → is_task_job k ≡ true) → is_task_job j ≡ true
-      by None e rest = let same : i ≡ j = cc in subst (λ (x : Job). is_task_job x ≡ true) same first
+      by : (o : Option Job) → Some (better_of p i o) ≡ Some j → ((k : Job) → o ≡ Some k → q k ≡ true) → q j ≡ true
+      by None e rest = let same : i ≡ j = cc in subst (λ (x : Job). q x ≡ true) same first
       by (Some k) e rest = choose (nat_lt (p i) (p k)) e
         where
-          choose : (b : Bool) → Some (cond b k i) ≡ Some j → is_task_job j ≡ true
-          choose true f = let same : k ≡ j = cc in subst (λ (x : Job). is_task_job x ≡ true) same (rest k refl)
-          choose false f = let same : i ≡ j = cc in subst (λ (x : Job). is_task_job x ≡ true) same first
+          choose : (b : Bool) → Some (cond b k i) ≡ Some j → q j ≡ true
+          choose true f = let same : k ≡ j = cc in subst (λ (x : Job). q x ≡ true) same (rest k refl)
+          choose false f = let same : i ≡ j = cc in subst (λ (x : Job). q x ≡ true) same first
 
   first-oldest : (t : TaskRef) (i : Job) (is : List Job) → i.runner ≡ Runner.Task t → oldest (Runner.Task t) (i ∷ is) ≡ Some i
   first-oldest t i is e =
@@ -182,6 +199,42 @@ pub record Idle (v : View) (h : History) : Type 0 where
   pub runs : BestRuns v h
   pub stays : giving_way h ≡ None
 
+-- ---- which jobs are able
+
+-- Of a runner's jobs all are able, or none.
+able-runner : (all : List TaskEvents) (r : Runner) (js : List Job) → not (is_waiting (events_in r all)) ≡ true → oldest r (filter (is_able_in all) js) ≡ oldest r js
+able-runner all r [] able = refl
+able-runner all r (j ∷ js) able = by (same_runner j.runner r) refl (is_able_in all j) refl (able-runner all r js able)
+  where
+    by : (b : Bool) → same_runner j.runner r ≡ b → (c : Bool) → is_able_in all j ≡ c → oldest r (filter (is_able_in all) js) ≡ oldest r js → oldest r (cond c (j ∷ filter (is_able_in all) js) (filter (is_able_in all) js)) ≡ cond b (Some j) (oldest r js)
+    by true same true is rest = ap (λ (b : Bool). cond b (Some j) (oldest r (filter (is_able_in all) js))) same
+    by true same false is rest = absurd (false≢true (sym is ∙ ap (λ (q : Runner). not (is_waiting (events_in q all))) (same_runner-true j.runner r same) ∙ able))
+    by false same true is rest = ap (λ (b : Bool). cond b (Some j) (oldest r (filter (is_able_in all) js))) same ∙ rest
+    by false same false is rest = rest
+
+filtered-all : (p : Job → Bool) (js : List Job) → list_all p (filter p js) ≡ true
+filtered-all p [] = refl
+filtered-all p (j ∷ js) = by (p j) refl (filtered-all p js)
+  where
+    by : (b : Bool) → p j ≡ b → list_all p (filter p js) ≡ true → list_all p (cond b (j ∷ filter p js) (filter p js)) ≡ true
+    by true is rest = and_from (p j) _ is rest
+    by false is rest = rest
+
+filter-kept : (p q : Job → Bool) (js : List Job) → list_all q js ≡ true → list_all q (filter p js) ≡ true
+filter-kept p q [] a = refl
+filter-kept p q (j ∷ js) a = by (p j) (filter-kept p q js (and_parts (q j) (list_all q js) a).1)
+  where
+    by : (b : Bool) → list_all q (filter p js) ≡ true → list_all q (cond b (j ∷ filter p js) (filter p js)) ≡ true
+    by true rest = and_from _ _ (and_parts (q j) (list_all q js) a).0 rest
+    by false rest = rest
+
+abbrev able_jobs : View → History → List Job
+able_jobs v h = filter (is_able v h) (live_jobs h)
+
+entered-able : (v : View) (o : Option TaskRef) (t : TaskRef) (h : History) → able_jobs v (Printed (Mark.PreTaskHook t) ∷ leaves o h) ≡ able_jobs v h
+entered-able v None t h = refl
+entered-able v (Some u) t h = refl
+
 entered-jobs : (o : Option TaskRef) (h : History) → live_jobs (leaves o h) ≡ live_jobs h
 entered-jobs None h = refl
 entered-jobs (Some t) h = refl
@@ -199,11 +252,11 @@ best-runs v h j t best task apart i f = choose (same_job i j) refl
     jobs : live_jobs next ≡ live_jobs h
     jobs = entered-jobs (current_task h) h
 
-    known : first_greatest (current_priority v h) (live_jobs h) ≡ Some j
-    known = ap (first_greatest (current_priority v h)) (sym (filter-able v h (live_jobs h))) ∙ best
+    again : first_greatest (current_priority v next) (able_jobs v h) ≡ Some i
+    again = ap (first_greatest (current_priority v next)) (sym (entered-able v (current_task h) t h)) ∙ f
 
-    again : first_greatest (current_priority v next) (live_jobs h) ≡ Some i
-    again = ap (first_greatest (current_priority v next)) (sym (filter-able v next (live_jobs next) ∙ jobs)) ∙ f
+    able : is_able v h j ≡ true
+    able = greatest-among (current_priority v h) (is_able v h) (able_jobs v h) j (filtered-all (is_able v h) (live_jobs h)) best
 
     still : held_resources v next ≡ held_resources v h
     still = entered-held v (current_task h) t h
@@ -217,7 +270,10 @@ best-runs v h j t best task apart i f = choose (same_job i j) refl
         omega (arith, own, alike, least v (held_resources v h) (raised_of v.own (giving_way h) (running v h)) k)
 
     runs : running v next ≡ Some j
-    runs = ap (oldest (Runner.Task t)) jobs ∙ greatest-oldest (current_priority v h) t (live_jobs h) j known task others
+    runs =
+        ap (oldest (Runner.Task t)) jobs
+        ∙ sym (able-runner (task_events v h) (Runner.Task t) (live_jobs h) (ap (λ (r : Runner). not (is_waiting (events_at v r h))) (sym task) ∙ able))
+        ∙ greatest-oldest (current_priority v h) t (able_jobs v h) j best task others
 
     choose : (b : Bool) → same_job i j ≡ b → option_map_or (same_job i) (running v next) false ≡ true
     choose true e = ap (λ (o : Option Job). option_map_or (same_job i) o false) runs ∙ e
@@ -227,7 +283,7 @@ best-runs v h j t best task apart i f = choose (same_job i j) refl
         ∙ ap (λ (held : List (List HeldResource)). base v held i) still in
         let up : current_priority v h j ≤ current_priority v next j = omega (arith, own, ap (λ (held : List (List HeldResource)). base v held j) still, least v (held_resources v next) (raised_of v.own (giving_way next) (running v next)) j) in
         let down : current_priority v next i ≤ current_priority v h i = omega (arith, plain, least v (held_resources v h) (raised_of v.own (giving_way h) (running v h)) i) in
-        let same : j ≡ i = stays-best (current_priority v h) (current_priority v next) (live_jobs h) j i known again up down in
+        let same : j ≡ i = stays-best (current_priority v h) (current_priority v next) (able_jobs v h) j i best again up down in
         absurd (false≢true (sym e ∙ ap (λ (x : Job). same_job i x) same ∙ eq-eqb i.stamp i.stamp refl))
 
 idle-goes_to : (v : View) (h : History) → BestRuns v (goes_to v (best_job v h) h)
@@ -243,7 +299,7 @@ idle-goes_to v h = by (best_job v h) refl
 
         choose : (b : Bool) → option_map_or (same_job j) (running v h) false ≡ b → BestRuns v (cond b h (enters j.runner h))
         choose true runs = λ i f. subst (λ (x : Job). option_map_or (same_job x) (running v h) false ≡ true) (same_Some _ _ (sym e ∙ f)) runs
-        choose false apart = entered j.runner refl (greatest-task (current_priority v h) (live_jobs h) j (all-tasks h) (ap (first_greatest (current_priority v h)) (sym (filter-able v h (live_jobs h))) ∙ e)) apart
+        choose false apart = entered j.runner refl (greatest-among (current_priority v h) is_task_job (able_jobs v h) j (filter-kept (is_able v h) is_task_job (live_jobs h) (all-tasks h)) e) apart
 
 entered-way : (o : Option TaskRef) (h : History) → giving_way (leaves o h) ≡ giving_way h
 entered-way None h = refl

@@ -1,12 +1,14 @@
 -- The text of a configuration has no fault, and means the configuration.
 use Rattle.std.proofs.Common.{◌≡◌, ℕ, true, List, [], ◌∷◌, ◌++◌, length, map, Option, Some, option_and_then, IsTrue, refl, sym, ap, ◌∙◌}
 use Rattle.std.specs.List.{list_all, flat_map}
-use Rattle.std.proofs.lemmas.Bool.{and_from}
+use Rattle.std.proofs.lemmas.Bool.{and_from, and_parts}
 use Rattle.std.proofs.lemmas.List.{length-map}
 use Rattle.std.proofs.lemmas.Simd.{map-map}
 use Rattle.osbase.specs.History.{same_core}
 use Rattle.oscript.specs.declared.Op.{Op}
-use Rattle.osforms.proofs.Operations.{meant-known}
+use Rattle.oscript.specs.Rows as rows
+use Rattle.osforms.specs.Operation.{has_masks}
+use Rattle.osforms.proofs.Operations.{meant-known, meant_masks}
 use Rattle.osplan.specs.declared.plans.Plan.{Plan}
 use Rattle.osplan.specs.declared.plans.Core.{Core}
 use Rattle.osplan.specs.declared.plans.Task.{Task}
@@ -23,7 +25,7 @@ use Rattle.osdraft.specs.declared.declarations.Declaration.{Declaration}
 use Rattle.osdraft.specs.declared.shapes.ResourceText.{ResourceText}
 use Rattle.osdraft.specs.Declarations.{declarations, place_of}
 use Rattle.osdraft.specs.Operation.{operations_of, is_operation_known, is_operation}
-use Rattle.osdraft.specs.Check.{task_sizes, core_sizes, sizes_of, numbers_of, is_text_within, is_each_once, is_mode_name, is_task_known, is_core_known, are_known, are_near, is_task_script, is_core_script, are_operations, tests_of}
+use Rattle.osdraft.specs.Check.{task_sizes, core_sizes, sizes_of, numbers_of, is_text_within, is_each_once, is_mode_name, is_task_known, is_core_known, are_known, are_near, is_task_masked, is_core_masked, are_masks, is_task_script, is_core_script, are_operations, tests_of}
 use Rattle.osplan.specs.Names.{name_of_mode}
 use Rattle.oswrite.specs.Writing.{config_data, op_text, script_text}
 use Rattle.osplan.proofs.Tests.{any-find}
@@ -102,6 +104,22 @@ module _ (plan : Plan) (inside : IsTrue (limits.is_within_limits plan)) (sayable
   near : are_near (config_said plan) ≡ true
   near = sym (near_kept objects (map (core_said plan) plan.cores)) ∙ ap (λ (p : Plan). list_all limits.is_core_near p.cores) (plan-back plan inside sayable) ∙ bounds.near
 
+  -- ---- masks
+
+  op-masked : (op : Op) → is_kept_op plan op ≡ true → has_masks (op_text plan op) ≡ true
+  op-masked op h = sym (meant_masks (place_of objects) (op_text plan op) op (op-meant plan inside sayable op h)) ∙ (and_parts _ (rows.has_masks op) h).1
+
+  task-masked : (task : Task) → is_kept_task plan task ≡ true → is_task_masked (task_said plan task) ≡ true
+  task-masked task h =
+      let k = kept-task plan task h in
+      rw (script-back plan inside sayable task.script k.operations) (list_all-by (is_kept_op plan) has_masks (op_text plan) op-masked task.script k.operations)
+
+  core-masked : (core : Core) → is_kept_core plan core ≡ true → is_core_masked (core_said plan core) ≡ true
+  core-masked core h = list_all-by (is_kept_task plan) is_task_masked (task_said plan) task-masked core.tasks (kept-core plan core h).tasks
+
+  masks : are_masks (config_said plan) ≡ true
+  masks = list_all-by (is_kept_core plan) is_core_masked (core_said plan) core-masked plan.cores cores
+
   -- ---- operations
 
   op-form : (op : Op) → is_kept_op plan op ≡ true → is_operation (op_text plan op) ≡ true
@@ -119,7 +137,7 @@ module _ (plan : Plan) (inside : IsTrue (limits.is_within_limits plan)) (sayable
   operations = list_all-by (is_kept_core plan) (is_core_script objects) (core_said plan) core-script plan.cores cores
 
   pub faultless : failing (tests_of (config_said plan)) ≡ []
-  faultless = rw (within, once, known, near, operations) refl
+  faultless = rw (within, once, known, near, masks, operations) refl
 
 -- so it means the configuration
 pub config-back : (plan : Plan) (text : List ℕ) → IsTrue (limits.is_within_limits plan) → IsTrue (said.is_expressible plan) → read text ≡ Some (config_data plan) → config_of text ≡ Some plan

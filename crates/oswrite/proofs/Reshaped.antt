@@ -28,7 +28,7 @@ use Rattle.osread.proofs.Contents.{elements-items_of}
 -- ---- what the text says
 
 abbrev pub task_said : Plan → Task → TaskText
-task_said plan task = record { name = task.name; prio = Some task.priority; auto = map (name_of_mode plan) task.auto; activations = Some task.activations; preemptable = task.preemptable; script = script_text plan task.script }
+task_said plan task = record { name = task.name; prio = Some task.priority; auto = map (name_of_mode plan) task.auto; activations = Some task.activations; extended = task.extended; preemptable = task.preemptable; script = script_text plan task.script }
 
 abbrev pub resource_said : Resource → ResourceText
 resource_said resource = record { name = resource.name; ceiling = ceiling_of resource }

@@ -9,7 +9,7 @@ use Rattle.osbase.specs.History.{same_core}
 use Rattle.osbase.specs.Names.{is_name}
 use Rattle.oscript.specs.declared.Op.{Op}
 use Rattle.oscript.specs.declared.Op.TheVariants.{Work}
-use Rattle.oscript.specs.Rows.{is_in_form}
+use Rattle.oscript.specs.Rows.{has_masks, is_in_form}
 use Rattle.osforms.specs.Operation.{op_meant}
 use Rattle.osforms.proofs.Joining.{has_none}
 use Rattle.osforms.proofs.Operations.{IsNamed, text-meant, text-none, text-some}
@@ -48,7 +48,7 @@ mode-back DontCare h = absurd (true≢false (sym h))
 -- ---- what each operation, each task and each core of a configuration keeps
 
 abbrev pub is_kept_op : Plan → Op → Bool
-is_kept_op plan op = limits.is_op_known plan op && is_in_form op
+is_kept_op plan op = limits.is_op_known plan op && is_in_form op && has_masks op
 
 abbrev pub is_kept_task : Plan → Task → Bool
 is_kept_task plan task = is_task_within (task_sizes task) && limits.is_task_known plan task && said.is_task_expressible task
@@ -72,10 +72,11 @@ kept-task plan task h =
     let sayable = and_parts _ (said.is_task_expressible task) h in
     let within = and_parts (is_task_within (task_sizes task)) (limits.is_task_known plan task) sayable.0 in
     let parts = and_parts _ (said.is_script_expressible task.script) sayable.1 in
-    let script = and_parts (list_all is_in_form task.script) (said.is_jumping_within task.script) parts.1 in
+    let script = and_parts _ (said.is_jumping_within task.script) parts.1 in
+    let forms = and_parts (list_all is_in_form task.script) (list_all has_masks task.script) script.0 in
     record {
       within = within.0;
-      operations = all-both (limits.is_op_known plan) is_in_form task.script (and_parts _ _ within.1).0 script.0;
+      operations = all-both _ has_masks task.script (all-both (limits.is_op_known plan) is_in_form task.script (and_parts _ _ within.1).0 forms.0) forms.1;
       jumps = script.1;
       auto = (and_parts (is_name task.name) _ parts.0).1;
     }
@@ -123,13 +124,15 @@ module _ (plan : Plan) (inside : IsTrue (limits.is_within_limits plan)) (sayable
 
   pub op-meant : (op : Op) → is_kept_op plan op ≡ true → op_meant (place_of objects) (op_text plan op) ≡ Some op
   op-meant op h =
-      let parts = and_parts (limits.is_op_known plan op) (is_in_form op) h in
-      text-meant (place_of objects) (name_of plan) (limits.is_object plan) object-named op parts.1 parts.0
+      let masked = and_parts _ (has_masks op) h in
+      let parts = and_parts (limits.is_op_known plan op) (is_in_form op) masked.0 in
+      text-meant (place_of objects) (name_of plan) (limits.is_object plan) object-named op parts.1 masked.1 parts.0
 
   op-none : (op : Op) → is_kept_op plan op ≡ true → has_none 59 (op_text plan op) ≡ true
   op-none op h =
-      let parts = and_parts (limits.is_op_known plan op) (is_in_form op) h in
-      text-none (place_of objects) (name_of plan) (limits.is_object plan) object-named 59 (record { digit = refl; part = refl; minus = refl; invalid = refl; letter = refl }) refl op parts.1 parts.0
+      let masked = and_parts _ (has_masks op) h in
+      let parts = and_parts (limits.is_op_known plan op) (is_in_form op) masked.0 in
+      text-none (place_of objects) (name_of plan) (limits.is_object plan) object-named 59 (record { digit = refl; part = refl; minus = refl; invalid = refl; letter = refl }) refl op parts.1 masked.1 parts.0
 
   op-back : (op : Op) → is_kept_op plan op ≡ true → op_of objects (op_text plan op) ≡ op
   op-back op known = ap (λ o. unwrap_or o Work) (op-meant op known)

@@ -38,15 +38,17 @@ id_data id = whole_data id.number
 abbrev pub mode_data : Plan → ModeId → Data
 mode_data plan mode = string (name_of_mode plan mode)
 
--- A task: its activation limit, the modes of its autostart, its name, whether it can be preempted, its priority and script.
+-- A task: its activation limit, the modes of its autostart, whether it is extended, its name, whether it can be preempted, its
+-- priority and script.
 abbrev pub task_data : Plan → Task → Data
 task_data plan task = object
     (member (codes "activations") (whole_data task.activations)
     (member (codes "auto") (list_data (mode_data plan) task.auto)
+    (member (codes "extended") (boolean task.extended)
     (member (codes "name") (string task.name)
     (member (codes "preemptable") (boolean task.preemptable)
     (member (codes "prio") (whole_data task.priority)
-    (member (codes "script") (string (script_text plan task.script)) no_members))))))
+    (member (codes "script") (string (script_text plan task.script)) no_members)))))))
 
 -- A resource: its ceiling and name.
 abbrev pub resource_data : Resource → Data

@@ -86,6 +86,7 @@ impl Writer<Task> for PlanWriter<'_> {
         json!(in alloc; {
             "activations": u64::from(task.activations),
             "auto": auto,
+            "extended": task.extended,
             "name": task.name.as_str(),
             "preemptable": task.preemptable,
             "prio": u64::from(task.priority),

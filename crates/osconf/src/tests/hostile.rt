@@ -210,8 +210,12 @@ fn a_member_that_is_no_text(rt: HostRuntime) -> Result<(), Fail> {
 #[test]
 fn a_member_that_is_no_truth_value(rt: HostRuntime) -> Result<(), Fail> {
     let values = ["null", "1", "0", "\"true\"", "\"\"", "[]", "[true]", "{}"];
-    let text =
-        r#"{"cores":[{"id":0,"tasks":[{"name":"A","prio":1,"preemptable":@,"script":""}]}]}"#;
-    answers(&rt, rt.alloc(), text, &values, Some(ConfFault::Shape))?;
-    answers(&rt, rt.alloc(), text, &["true", "false"], None)
+    for text in [
+        r#"{"cores":[{"id":0,"tasks":[{"name":"A","prio":1,"extended":@,"script":""}]}]}"#,
+        r#"{"cores":[{"id":0,"tasks":[{"name":"A","prio":1,"preemptable":@,"script":""}]}]}"#,
+    ] {
+        answers(&rt, rt.alloc(), text, &values, Some(ConfFault::Shape))?;
+        answers(&rt, rt.alloc(), text, &["true", "false"], None)?;
+    }
+    Ok(())
 }

@@ -1,19 +1,30 @@
-use Rattle.std.proofs.Common.{◌≡◌, true, Option, Some, None, IfSome, IsTrue, option_map, refl, rules, subst, sym, lit≤, SFits, w64}
+use Rattle.std.proofs.Common.{◌≡◌, ℕ, true, Option, Some, None, IfSome, IsTrue, option_map, refl, rules, subst, sym, lit≤, SFits, w64}
 use Rattle.std.proofs.lemmas.Bool.{and_parts}
 use Rattle.std.proofs.lemmas.Int.{to_z-of_z}
 use Rattle.osbase.specs.declared.references.TaskRef.{TaskRef}
+use Rattle.osbase.specs.Objects.{task_object}
 use Rattle.osbase.specs.declared.messages.RemoteCall.{RemoteCall}
 use Rattle.osbase.specs.declared.messages.RemoteCall.TheVariants as Remote
 use Rattle.oscript.specs.declared.Op.{Op}
 use Rattle.osplan.specs.declared.plans.Core.{Core}
+use Rattle.osplan.specs.Objects.{may_name}
 use Rattle.osstate.specs.Sound.{has_objects_of}
 use Rattle.osstate.proofs.Effecting.{as_effect}
 use Rattle.oscall.specs.Border.{is_known_call}
+use Rattle.oscall.specs.Operations.{setting_call}
 use Rattle.oscall.proofs.operations.operate.Goals as goal
 
 known : (core : Core) (target : Option TaskRef) → has_objects_of core (Op.ActivateTask target) ≡ true → IfSome (option_map Remote.ActivateTask target) (λ call. IsTrue (is_known_call core call))
 known core None h = tt
 known core (Some t) h = (and_parts _ true h).0
+
+known_setting : (core : Core) (target : Option TaskRef) (mask : ℕ) → has_objects_of core (Op.SetEvent target mask) ≡ true → IfSome (setting_call target mask) (λ call. IsTrue (is_known_call core call))
+known_setting core None mask h = tt
+known_setting core (Some t) mask h = (and_parts _ true h).0
+
+known_task : (core : Core) (target : Option TaskRef) → has_objects_of core (Op.ChainTask target) ≡ true → IfSome target (λ task. IsTrue (may_name core (task_object task)))
+known_task core None h = tt
+known_task core (Some t) h = (and_parts _ true h).0
 
 pub call-requires : goal.call-requires
 call-requires g c =

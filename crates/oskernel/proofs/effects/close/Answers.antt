@@ -5,4 +5,4 @@ use Rattle.osstate.proofs.ReadLemmas.{read}
 use Rattle.oskernel.proofs.effects.close.Goals as goal
 
 pub returns : goal.returns
-returns g c = as_effect (λ v h stands. rw (← (read (λ (s : KernelState). s.border.open_call) c.in-Some.ensures.value stands))) (lit≤ tt) (lit≤ tt) c.finish.ensures
+returns g c = as_effect (λ v h stands. rw (← (read (λ (s : KernelState). s.border.open_call) c.in-Some.ensures.value stands))) (lit≤ tt) (lit≤ tt) c.resume.ensures

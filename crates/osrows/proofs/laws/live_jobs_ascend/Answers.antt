@@ -1,11 +1,12 @@
-use Rattle.std.proofs.Common.{◌≡◌, ℕ, suc, Bool, true, false, nat_lt, cond, List, [], ◌∷◌, ◌++◌, length, refl, ◌∙◌, arith}
+use Rattle.std.proofs.Common.{◌≡◌, ℕ, suc, Bool, true, false, nat_lt, cond, Option, Some, None, List, [], ◌∷◌, ◌++◌, length, refl, ◌∙◌, arith}
 use Rattle.std.specs.List.{list_all}
+use Rattle.std.specs.Option.{option_map_or}
 use Rattle.std.proofs.lemmas.Bool.{and_parts, and_from, lt-ltb, ltb-true}
 use Rattle.std.proofs.lemmas.List.Folds.{list_all-append}
 use Rattle.osbase.specs.declared.marks.Mark.{Mark}
 use Rattle.osbase.specs.declared.references.Runner.{Runner}
 use Rattle.osbase.specs.declared.histories.Job.{Job}
-use Rattle.osbase.specs.History.{Entry, History, Printed, jobs_after, live_jobs, same_runner, without_oldest}
+use Rattle.osbase.specs.History.{Entry, History, Printed, jobs_after, live_jobs, oldest, same_runner, stamped_anew, without_oldest}
 use Rattle.osplan.proofs.Tests.{all-weaker}
 use Rattle.osworld.proofs.Idling.{without-all}
 use Rattle.osrows.specs.Laws.{are_ascending}
@@ -47,8 +48,20 @@ record IsOrdered (n : ℕ) (js : List Job) : Type 0 where
   pub ascend : are_ascending js ≡ true
   pub before : list_all (is_before n) js ≡ true
 
+-- the oldest of a runner goes to the end, with a stamp that is later than all
+anew : (r : Runner) (n : ℕ) (js : List Job) → IsOrdered n js → IsOrdered (suc n) (stamped_anew r n js)
+anew r n js is = by (oldest r js)
+  where
+    by : (o : Option Job) → IsOrdered (suc n) (option_map_or (λ (j : Job). without_oldest r js ++ record j { stamp = n } ∷ []) o js)
+    by None = record { ascend = is.ascend; before = later n js is.before }
+    by (Some j) = record {
+      ascend = push n j.runner (without_oldest r js) (without r js is.ascend) (without-all (is_before n) r js is.before);
+      before = push-before n j.runner (without_oldest r js) (without-all (is_before n) r js is.before);
+    }
+
 step : (e : Entry) (n : ℕ) (js : List Job) → IsOrdered n js → IsOrdered (suc n) (jobs_after e n js)
 step (Printed (Mark.Activated t)) n js is = record { ascend = push n (Runner.Task t) js is.ascend is.before; before = push-before n (Runner.Task t) js is.before }
+step (Printed (Mark.Released t)) n js is = anew (Runner.Task t) n js is
 step (Printed (Mark.Terminated t)) n js is = record { ascend = without (Runner.Task t) js is.ascend; before = without-all (is_before (suc n)) (Runner.Task t) js (later n js is.before) }
 step e n js is = record { ascend = is.ascend; before = later n js is.before }
 

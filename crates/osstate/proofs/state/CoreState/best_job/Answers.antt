@@ -1,11 +1,7 @@
 use Rattle.std.proofs.Common.{rules}
 use Rattle.osstate.proofs.Room.{all_own}
-use Rattle.osstate.proofs.ReadLemmas.{reads_best}
 use Rattle.osstate.proofs.state.CoreState.best_job.Goals as goal
 
 pub best-requires : goal.best-requires
 best-requires g c =
     (search rules, (all_own c.self.inside.core.now c.self.inside.jobs.jobs c.self.invariant.jobs, c.self.invariant.tasks))
-
-pub returns-clause-reads : goal.returns-clause-reads
-returns-clause-reads g c = reads_best c.args.self.now _ (search rules)

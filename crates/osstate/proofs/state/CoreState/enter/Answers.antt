@@ -5,4 +5,4 @@ use Rattle.osstate.proofs.Histories.{printed}
 use Rattle.osstate.proofs.state.CoreState.enter.Goals as goal
 
 pub returns-clause-effects : goal.returns-clause-effects
-returns-clause-effects g c = printing (search rules) (λ v h same. printed (Mark.PreTaskHook c.args.task) refl v h) (search rules) (omega arith) (search rules)
+returns-clause-effects g c = printing (search rules) (λ h. printed (Mark.PreTaskHook c.args.task) refl _ h) (search rules) (omega arith) (search rules)

@@ -14,4 +14,4 @@ invariant_of-self g c =
     (subst (λ (s : KernelState). is_past_first_gate (phase_on c.args.item.now s.progress.phase) ≡ true → (is_first_gate c.args.item.now || is_past_first_gate s.progress.phase) ≡ true) (sym c.self.view_is) c.requires.onward))
 
 pub returns-clause-notes : goal.returns-clause-notes
-returns-clause-notes g c = notes (search rules) (λ v h same. took c.args.item.now c.requires.sender v h)
+returns-clause-notes g c = notes (search rules) (λ h. took c.args.item.now c.requires.sender _ h)

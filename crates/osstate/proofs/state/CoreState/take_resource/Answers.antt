@@ -1,14 +1,8 @@
-use Rattle.std.proofs.Common.{◌≡◌, ◌≤◌, true, length, rules, subst}
-use Rattle.osplan.specs.View.{View}
-use Rattle.osres.specs.declared.resources.TheConstants.{TASKS}
-use Rattle.osjobs.specs.Priorities.{is_own_runner}
-use Rattle.osstate.specs.State.{KernelState}
+use Rattle.std.proofs.Common.{rules}
 use Rattle.osstate.proofs.Effecting.{noting}
 use Rattle.osstate.proofs.Histories.{taken}
 use Rattle.osstate.proofs.state.CoreState.take_resource.Goals as goal
 
 pub returns-clause-remarks : goal.returns-clause-remarks
 returns-clause-remarks g c =
-    noting (search rules) (λ v h same. taken c.args.runner c.args.resource v h
-    (subst (λ (w : View). length w.own.tasks ≤ TASKS) same (subst (λ (s : KernelState). length s.view.own.tasks ≤ TASKS) c.self.view_is c.self.invariant.tasks))
-    (subst (λ (w : View). is_own_runner w.own c.args.runner ≡ true) same c.requires.own))
+    noting (search rules) (λ h. taken c.args.runner c.args.resource _ h (search rules) c.requires.own)

@@ -1,0 +1,23 @@
+use Rattle.std.proofs.Common.{◌≡◌, true, false, Option, Some, None, ◌∷◌, refl, sym, ◌∙◌, lit≤}
+use Rattle.osbase.specs.declared.histories.HeldResource.{HeldResource}
+use Rattle.osbase.specs.declared.references.ResourceRef.{ResourceRef}
+use Rattle.osbase.specs.declared.references.Runner.{Runner}
+use Rattle.osbase.specs.declared.statuses.ServiceId.TheVariants.{ReleaseResource}
+use Rattle.osbase.specs.declared.statuses.Status.TheVariants.{EOk}
+use Rattle.osbase.specs.History.{History, Noted, Given}
+use Rattle.osplan.specs.View.{View}
+use Rattle.osjobs.specs.Priorities.{is_newest}
+use Rattle.osstate.specs.Readings.{resource_of, resources_of}
+use Rattle.osstate.proofs.Effecting.{as_effect, then, unprinted}
+use Rattle.oscall.specs.Resources.{is_below, releases_resource}
+use Rattle.oscall.specs.Returning.{returns as returning}
+use Rattle.oscall.proofs.resources.release_resource.Goals as goal
+
+granted : (v : View) (r : Runner) (h : History) (target : Option ResourceRef) (x : HeldResource) → resource_of v.own target ≡ Some x → is_below v r x ≡ false → is_newest x.index (resources_of v r h) ≡ true → releases_resource v r target h ≡ returning r ReleaseResource EOk None (Noted (Given r x.index) ∷ h)
+granted v r h target x named low newest = rw (named, low, newest) refl
+
+pub returns : goal.returns
+returns g c =
+    as_effect (λ v h stands.
+    granted v c.args.runner h c.args.target c.in-Some.resource (sym (c.in-Some.ensures.reads v h stands)) (sym (c.is_below.ensures v h stands) ∙ c.if-is_below.false) (sym (c.is_newest.ensures.reads v h stands) ∙ c.if-not-is_newest.false))
+    (lit≤ tt) (lit≤ tt) (then (unprinted c.give_resource.ensures.remarks) c.accept.ensures)

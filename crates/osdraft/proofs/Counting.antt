@@ -1,0 +1,100 @@
+-- A text's limits, apart from the operations of its scripts, which are counted where they are read.
+use Rattle.std.proofs.Common.{◌≡◌, ◌&&◌, nat_le, Bool, true, false, List, [], ◌∷◌, Some, length, map, refl, sym, ap, ◌∙◌}
+use Rattle.std.specs.List.{list_all, sum_by}
+use Rattle.std.proofs.lemmas.Bool.{and_from, and_parts}
+use Rattle.std.proofs.lemmas.List.Folds.{list_all-map}
+use Rattle.osplan.specs.Limits.{has_number, is_between, is_by, is_ceiling, is_core_by, is_core_within, is_start, jobs_of, is_task_numbered, is_task_short, is_task_within, is_within}
+use Rattle.osdraft.specs.declared.declarations.Declaration.{Declaration}
+use Rattle.osdraft.specs.declared.shapes.ConfigText.{ConfigText}
+use Rattle.osdraft.specs.declared.shapes.CoreText.{CoreText}
+use Rattle.osdraft.specs.declared.shapes.TaskText.{TaskText}
+use Rattle.osplan.specs.declared.plans.Plan.{Plan}
+use Rattle.osread.specs.Faults.{failing}
+use Rattle.osread.specs.Reading.{value_if}
+use Rattle.osdraft.specs.Meaning.{plan_of}
+use Rattle.osdraft.specs.Check.{are_known, are_masks, are_near, are_operations, are_operations_known, are_readable, are_scripts_short, core_sizes, is_core_known, is_core_readable, is_core_short, is_each_once, is_mode_name, is_script_short, is_task_known, is_task_readable, is_text_numbered, is_text_within, numbers_of, sizes_of, task_sizes, tests_of}
+use Rattle.osdraft.specs.Declarations.{declarations}
+
+and-true : (b : Bool) → (b && true) ≡ b
+and-true true = refl
+and-true false = refl
+
+and-false : (b : Bool) → (b && false) ≡ false
+and-false true = refl
+and-false false = refl
+
+and-assoc : (a b c : Bool) → (a && (b && c)) ≡ (a && b && c)
+and-assoc true b c = refl
+and-assoc false b c = refl
+
+-- two tests of all, one after the other
+exchange : (a b c d : Bool) → ((a && b) && (c && d)) ≡ ((a && c) && (b && d))
+exchange true true c d = refl
+exchange true false true d = refl
+exchange true false false d = refl
+exchange false b c d = refl
+
+all-split : {X : Type 0} (p q r : X → Bool) → ((x : X) → p x ≡ (q x && r x)) → (xs : List X) → list_all p xs ≡ (list_all q xs && list_all r xs)
+all-split p q r each [] = refl
+all-split p q r each (x ∷ xs) = rw (each x, all-split p q r each xs) (exchange (q x) (r x) (list_all q xs) (list_all r xs))
+
+-- ---- limits
+
+later : (a n s b c d : Bool) → (a && (n && s) && b && c && d) ≡ ((a && n && b && c && d) && s)
+later false n s b c d = refl
+later true false s b c d = refl
+later true true true b c d = sym (and-true (b && c && d))
+later true true false b c d = sym (and-false (b && c && d))
+
+core-split : (core : CoreText) → is_core_within (core_sizes core) ≡ (is_core_by is_task_numbered (core_sizes core) && is_core_short core)
+core-split core =
+    let s = core_sizes core in
+    let before = is_between 0 7 s.number && list_all is_start s.start && nat_le (length s.tasks) 32 in
+    rw (all-split is_task_within is_task_numbered is_task_short (λ task. refl) (map task_sizes core.tasks), list_all-map is_task_short task_sizes core.tasks)
+    (later before (list_all is_task_numbered s.tasks) (is_core_short core) (nat_le (sum_by jobs_of s.tasks) 64) (nat_le (length s.resources) 16) (list_all is_ceiling s.resources))
+
+cores-split : (cores : List CoreText) → list_all is_core_within (map core_sizes cores) ≡ (list_all (is_core_by is_task_numbered) (map core_sizes cores) && list_all is_core_short cores)
+cores-split cores =
+    list_all-map is_core_within core_sizes cores
+    ∙ all-split (λ core. is_core_within (core_sizes core)) (λ core. is_core_by is_task_numbered (core_sizes core)) is_core_short core-split cores
+    ∙ ap (λ b. b && list_all is_core_short cores) (sym (list_all-map (is_core_by is_task_numbered) core_sizes cores))
+
+pub within_split : (t : ConfigText) → is_text_within t ≡ (is_text_numbered t && are_scripts_short t)
+within_split t =
+    let s = sizes_of t in
+    let before = is_between 1 8 (Some s.modes) && is_between 1 16 s.cap && is_between 1 8 (Some (length s.cores)) in
+    let numbered = list_all (is_core_by is_task_numbered) s.cores in
+    rw (cores-split t.cores) (ap (λ b. is_between 1 1 t.version && b) (and-assoc before numbered (are_scripts_short t)) ∙ and-assoc (is_between 1 1 t.version) (before && numbered) (are_scripts_short t))
+
+-- ---- names
+
+behind : (m s k : Bool) → (m && (s && k)) ≡ ((m && k) && s)
+behind true true k = sym (and-true k)
+behind true false k = sym (and-false k)
+behind false s k = refl
+
+core-readable : (objects : List Declaration) (core : CoreText) → is_core_readable objects core ≡ (is_core_known objects core && is_core_short core)
+core-readable objects core =
+    all-split (is_task_readable objects) (is_task_known objects) is_script_short
+    (λ task. behind (list_all is_mode_name task.auto) (is_script_short task) (are_operations_known objects task.script)) core.tasks
+
+pub readable_split : (t : ConfigText) → are_readable t ≡ (are_known t && are_scripts_short t)
+readable_split t =
+    let objects = declarations t.cores in
+    ap (λ b. has_number (numbers_of t.cores) t.master && b) (all-split (is_core_readable objects) (is_core_known objects) is_core_short (core-readable objects) t.cores)
+    ∙ and-assoc (has_number (numbers_of t.cores) t.master) _ _
+
+-- ---- a text that means a plan has no fault
+
+made : {X : Type 0} (b : Bool) (x y : X) → value_if b x ≡ Some y → b ≡ true
+made true x y e = refl
+made false x y e = cc
+
+pub faultless_of : (t : ConfigText) (plan : Plan) → is_text_numbered t ≡ true → is_each_once t ≡ true → value_if (are_readable t && are_near t && are_masks t && are_operations t) (plan_of t) ≡ Some plan → failing (tests_of t) ≡ []
+faultless_of t plan numbered once e =
+    let operations = and_parts (are_readable t && are_near t && are_masks t) (are_operations t) (made _ (plan_of t) plan e) in
+    let masks = and_parts (are_readable t && are_near t) (are_masks t) operations.0 in
+    let near = and_parts (are_readable t) (are_near t) masks.0 in
+    let known = and_parts (are_known t) (are_scripts_short t) (sym (readable_split t) ∙ near.0) in
+    let within : is_text_within t ≡ true = within_split t ∙ and_from (is_text_numbered t) (are_scripts_short t) numbered known.1 in
+    rw (within, once, known.0, near.1, masks.1, operations.1) refl

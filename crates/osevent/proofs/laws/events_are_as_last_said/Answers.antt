@@ -1,0 +1,5 @@
+use Rattle.osevent.proofs.Words.{last-said}
+use Rattle.osevent.proofs.laws.events_are_as_last_said.Goals as goal
+
+pub returns : goal.returns
+returns c = (λ t h. record { set = (λ masks event below. last-said t event h below masks) })

@@ -1,0 +1,35 @@
+-- What holds of the events of every history.
+use Rattle.std.specs.Prelude.{◌≡◌, ℕ, ◌==◌, ◌<◌, ◌^◌, nat_lt, Bool, true, false, ◌&&◌, IsTrue, if◌then◌else◌, Option, Some, None, unwrap_or, [], ◌∷◌}
+use Rattle.std.specs.Int.{bit_at}
+use Rattle.std.specs.List.{list_all}
+use Rattle.osbase.specs.declared.references.TaskRef.{TaskRef}
+use Rattle.osbase.specs.declared.marks.Mark.{Mark}
+use Rattle.osbase.specs.History.{History, Entry, Printed, events_of, same_task}
+
+-- The event of this number is one of the mask's. [OSEK/VDX OS 2.2.3, section 13.5.1, EventMaskType]
+abbrev pub is_in_mask : ℕ → ℕ → Bool
+is_in_mask mask event = bit_at mask event == 1
+
+-- What an entry says of an event of the task: that it is set now, that it is not, or nothing.
+-- [OSEK/VDX OS 2.2.3, section 13.5.3.1 and 13.5.3.2; that an activation clears all: section 13.2.3.1]
+abbrev pub said_by : TaskRef → ℕ → Entry → Option Bool
+said_by t event (Printed (Mark.Activated u)) = if same_task u t then Some false else None
+said_by t event (Printed (Mark.EventSet u mask)) = if same_task u t && is_in_mask mask event then Some true else None
+said_by t event (Printed (Mark.EventCleared u mask)) = if same_task u t && is_in_mask mask event then Some false else None
+said_by t event e = None
+
+-- The last word on an event of the task: that of the newest entry that says anything of it. An event of which nothing is said is
+-- not set.
+abbrev pub last_word : TaskRef → ℕ → History → Bool
+last_word t event [] = false
+last_word t event (e ∷ h) = unwrap_or (said_by t event e) (last_word t event h)
+
+-- The mask that an entry names has no bit beyond its 32. [own: the code's masks have no other]
+abbrev pub has_mask : Entry → Bool
+has_mask (Printed (Mark.EventSet u mask)) = nat_lt mask (2 ^ 32)
+has_mask (Printed (Mark.EventCleared u mask)) = nat_lt mask (2 ^ 32)
+has_mask e = true
+
+-- Each event of the task is set exactly if that is the last word on it.
+pub record IsLastWord (t : TaskRef) (h : History) : Type 0 where
+  pub set : IsTrue (list_all has_mask h) → (event : ℕ) → event < 32 → is_in_mask (events_of t h).set event ≡ last_word t event h

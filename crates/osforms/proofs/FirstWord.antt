@@ -1,0 +1,39 @@
+-- Whether a text begins with a word, which is seen without looking for the end of its first one.
+use Rattle.std.proofs.Common.{inl, inr, ◌≡◌, ℕ, ◌==◌, false, List, [], ◌∷◌, ◌++◌, length, None, refl, sym, ap, ◌∙◌}
+use Rattle.std.specs.List.{join_with_byte}
+use Rattle.std.specs.Str.{bytes_eq}
+use Rattle.std.proofs.lemmas.Bool.{cases_Bool}
+use Rattle.std.proofs.lemmas.List.{append-nil, append_cancel_left}
+use Rattle.std.proofs.lemmas.List.Splits.{join_with_byte-slice_split}
+use Rattle.std.proofs.lemmas.Slice.Eq.{bytes_eq-Decides}
+use Rattle.osforms.specs.Form.{words_behind, words_of}
+
+-- A text that is neither the word nor goes on behind the word and a space begins with another word.
+module _ (word text : List ℕ) (alone : text ≡ word → ⊥) (more : (rest : List ℕ) → text ≡ word ++ 32 ∷ rest → ⊥) where
+  starts : (first : List ℕ) (words : List (List ℕ)) → word ≡ first → join_with_byte 32 (first ∷ words) ≡ text → ⊥
+  starts first [] same e = alone (sym e ∙ sym same)
+  starts first (next ∷ words) same e = more (join_with_byte 32 (next ∷ words)) (sym e ∙ ap (λ w. w ++ 32 ∷ join_with_byte 32 (next ∷ words)) (sym same))
+
+  by-words : (words : List (List ℕ)) → join_with_byte 32 words ≡ text → words_behind word words ≡ None
+  by-words [] e = refl
+  by-words (first ∷ words) e =
+      elim (cases_Bool (bytes_eq word first)) as (λ _. words_behind word (first ∷ words) ≡ None) [
+        | inl same ↦ absurd (starts first words ((bytes_eq-Decides word first).0 same) e)
+        | inr other ↦ rw other refl
+      ]
+
+  another : words_behind word (words_of text) ≡ None
+  another = by-words (words_of text) (join_with_byte-slice_split 32 text)
+
+pub lacks : (word text : List ℕ) → ((rest : List ℕ) → text ≡ word ++ rest → ⊥) → words_behind word (words_of text) ≡ None
+lacks word text none = another word text (λ e. none [] (e ∙ sym (append-nil word))) (λ rest e. none (32 ∷ rest) e)
+
+pub goes_astray : (word text rest : List ℕ) → text ≡ word ++ rest → (length rest == 0) ≡ false → ((more : List ℕ) → rest ≡ 32 ∷ more → ⊥) → words_behind word (words_of text) ≡ None
+goes_astray word text rest is some no_space =
+    another word text
+    (λ e. nonempty rest some (append_cancel_left word rest [] (sym is ∙ e ∙ sym (append-nil word))))
+    (λ more e. no_space more (append_cancel_left word rest (32 ∷ more) (sym is ∙ e)))
+  where
+    nonempty : (xs : List ℕ) → (length xs == 0) ≡ false → xs ≡ [] → ⊥
+    nonempty [] h e = cc
+    nonempty (x ∷ xs) h e = cc

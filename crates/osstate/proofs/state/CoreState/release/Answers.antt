@@ -1,0 +1,11 @@
+use Rattle.std.proofs.Common.{rules, arith}
+use Rattle.osstate.proofs.Effecting.{printing}
+use Rattle.osstate.proofs.Histories.{released as freed}
+use Rattle.osstate.proofs.Sounds.{released}
+use Rattle.osstate.proofs.state.CoreState.release.Goals as goal
+
+pub invariant_of-self : goal.invariant_of-self
+invariant_of-self g c = rw c.release.ensures (released g.row.P g.row.J c.args.task _ c.self.invariant)
+
+pub returns-clause-effects : goal.returns-clause-effects
+returns-clause-effects g c = printing (search rules) (λ h. freed c.args.task _ h (search rules) c.requires.own) (search rules) (omega arith) (search rules)

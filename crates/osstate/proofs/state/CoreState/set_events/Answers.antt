@@ -1,0 +1,7 @@
+use Rattle.std.proofs.Common.{rules, arith}
+use Rattle.osstate.proofs.Effecting.{printing}
+use Rattle.osstate.proofs.Histories.{event_set}
+use Rattle.osstate.proofs.state.CoreState.set_events.Goals as goal
+
+pub returns-clause-effects : goal.returns-clause-effects
+returns-clause-effects g c = printing (search rules) (λ h. event_set c.args.task c.args.mask _ h (search rules) c.requires.own) (search rules) (omega arith) (search rules)
