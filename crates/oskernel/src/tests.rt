@@ -35,7 +35,7 @@ const TASK_B: TaskRef = TaskRef {
 };
 
 fn task(alloc: Global, name: &str, is_auto: bool, ops: &[Op]) -> Result<Task, AllocError>
-    ensures { IfOk result (λ task. task ≡ record { name = name.now; priority = 1; auto = (if is_auto then MODE ∷ [] else []); activations = 1; preemptable = true; script = ops.now }) }
+    ensures { IfOk result (λ task. task ≡ record { name = name.now; priority = 1; auto = (if is_auto then MODE ∷ [] else []); activations = 1; extended = false; preemptable = true; script = ops.now }) }
 {
     let auto = if is_auto { &[MODE][..] } else { &[] };
     Ok(Task {
@@ -43,6 +43,7 @@ fn task(alloc: Global, name: &str, is_auto: bool, ops: &[Op]) -> Result<Task, Al
         priority: 1,
         auto: List::from_vec(auto.to_vec(alloc)?),
         activations: 1,
+        extended: false,
         preemptable: true,
         script: List::from_vec(ops.to_vec(alloc)?),
     })

@@ -28,6 +28,7 @@ fn task(alloc: Global, name: &str) -> Result<Task, AllocError> {
         priority: 1,
         auto: List::new(alloc),
         activations: 1,
+        extended: false,
         preemptable: true,
         script: List::new(alloc),
     })
