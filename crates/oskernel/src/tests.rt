@@ -1,6 +1,6 @@
 //! A kernel by itself, item by item.
 
-ghost use Rattle.std.specs.Prelude.{◌≡◌, ◌∷◌, [], if◌then◌else◌, nat_lt, IsTrue, IfOk, IsSome, sum_by, ◌≤◌, true};
+ghost use Rattle.std.specs.Prelude.{◌≡◌, ◌∷◌, [], if◌then◌else◌, nat_lt, IsTrue, IfOk, IsSome, sum_by, ◌≤◌, true, false};
 ghost use Rattle.std.specs.List.{list_all};
 ghost use Rattle.osplan.specs.declared.plans.Resource.{Resource as ResourceValue};
 ghost use Rattle.osplan.specs.declared.plans.Task.{Task as TaskValue};
