@@ -1,5 +1,5 @@
 -- Tables: a value for each number of a range.
-use Rattle.std.proofs.Common.{◌≡◌, ℕ, zero, suc, ◌+◌, ◌-◌, ◌≤◌, ◌<◌, ◌∷◌, length, map, refl, ap, ◌∙◌, arith, get_or}
+use Rattle.std.proofs.Common.{◌≡◌, ℕ, zero, suc, ◌+◌, ◌-◌, ◌≤◌, ◌<◌, ◌∷◌, map, refl, ap, ◌∙◌, arith, get_or}
 use Rattle.std.specs.List.{slice_set}
 use Rattle.osbase.specs.Sets.{numbers_from}
 

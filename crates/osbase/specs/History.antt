@@ -14,6 +14,8 @@ use Rattle.osbase.specs.declared.statuses.ServiceId.TheVariants.{Schedule}
 use Rattle.osbase.specs.declared.references.CoreId.{CoreId}
 use Rattle.osbase.specs.declared.references.TaskRef.{TaskRef}
 use Rattle.osbase.specs.declared.references.IsrRef.{IsrRef}
+use Rattle.osbase.specs.declared.references.CounterRef.{CounterRef}
+use Rattle.osbase.specs.declared.references.AlarmRef.{AlarmRef}
 use Rattle.osbase.specs.declared.references.Runner.{Runner}
 use Rattle.osbase.specs.declared.messages.Envelope.{Envelope}
 use Rattle.osbase.specs.declared.items.CoreSet.{CoreSet}
@@ -37,6 +39,12 @@ pub data Note : Type 0 where
   -- the runner's oldest live job takes a resource, and gives one back
   Taken : Runner → HeldResource → Note
   Given : Runner → ℕ → Note
+  -- a counter goes on by one
+  Counted : CounterRef → Note
+  -- an alarm is set: it is due at the count of its counter that is named first, counted from here, and then every so many counts,
+  -- or once alone where that is 0; and an alarm is cancelled
+  AlarmSet : AlarmRef → ℕ → ℕ → Note
+  AlarmCancelled : AlarmRef → Note
   -- an operation of the runner's oldest live job is done, with this status and value
   Done : Runner → Status → Option ℤ → Note
 

@@ -1,0 +1,85 @@
+-- What is read off a core's history of its counters and alarms: how often a counter was advanced, and when an alarm is due.
+use Rattle.std.specs.Prelude.{ℕ, suc, ◌+◌, ◌-◌, ◌%◌, ◌==◌, ◌&&◌, ◌||◌, nat_le, nat_lt, Bool, false, if◌then◌else◌, Option, Some, None, option_map, [], ◌∷◌}
+use Rattle.std.specs.Option.{option_map_or}
+use Rattle.osbase.specs.declared.references.CounterRef.{CounterRef}
+use Rattle.osbase.specs.declared.references.AlarmRef.{AlarmRef}
+use Rattle.osbase.specs.History.{History, Entry, Noted, Counted, AlarmSet, AlarmCancelled, same_core}
+
+-- Equality of references.
+abbrev pub same_counter : CounterRef → CounterRef → Bool
+same_counter a b = same_core a.core b.core && (a.index == b.index)
+
+abbrev pub same_alarm : AlarmRef → AlarmRef → Bool
+same_alarm a b = same_core a.core b.core && (a.index == b.index)
+
+-- ---- counters
+
+-- How often the counter went on by one. [OSEK/VDX OS 2.2.3, section 9.1]
+abbrev pub counts_after : CounterRef → Entry → ℕ → ℕ
+counts_after c (Noted (Counted d)) count = if same_counter d c then suc count else count
+counts_after c e count = count
+
+abbrev pub counts_of : CounterRef → History → ℕ
+counts_of c [] = 0
+counts_of c (e ∷ h) = counts_after c e (counts_of c h)
+
+-- The value of a counter after so many counts: it begins at 0, and its greatest value is followed by 0.
+-- [AUTOSAR SWS OS 4.x, OsCounterMaxAllowedValue; the code keeps the value, and no number of counts]
+abbrev pub value_after : ℕ → ℕ → ℕ
+value_after max count = count % suc max
+
+-- From this value of a counter, how many counts lead to that one: the value that there is is reached after a full turn.
+-- [OSEK/VDX OS 2.2.3, section 13.6.3.4; the full turn: own]
+abbrev pub counts_to : ℕ → ℕ → ℕ → ℕ
+counts_to max value start = (start + max - value) % suc max + 1
+
+-- ---- alarms
+
+-- An alarm as it was set last: at which count since then it is due first, its cycle, which is 0 for an alarm that is due once, and
+-- how many counts of its counter there were since.
+pub record AlarmSetting : Type 0 where
+  pub first : ℕ
+  pub cycle : ℕ
+  pub counts : ℕ
+
+abbrev pub one_count_more : AlarmSetting → AlarmSetting
+one_count_more setting = record setting { counts = suc setting.counts }
+
+-- The alarm as it was set last and not cancelled since, by its counter. [OSEK/VDX OS 2.2.3, section 9.2 and 13.6.3.3 to 13.6.3.5]
+abbrev pub alarm_after : CounterRef → AlarmRef → Entry → Option AlarmSetting → Option AlarmSetting
+alarm_after c a (Noted (AlarmSet b first cycle)) setting = if same_alarm b a then Some (record { first = first; cycle = cycle; counts = 0 }) else setting
+alarm_after c a (Noted (AlarmCancelled b)) setting = if same_alarm b a then None else setting
+alarm_after c a (Noted (Counted d)) setting = if same_counter d c then option_map one_count_more setting else setting
+alarm_after c a e setting = setting
+
+abbrev pub alarm_of : CounterRef → AlarmRef → History → Option AlarmSetting
+alarm_of c a [] = None
+alarm_of c a (e ∷ h) = alarm_after c a e (alarm_of c a h)
+
+-- What SetRelAlarm and SetAbsAlarm grant, and what is set at the start: the first count within a turn of the counter, and the cycle
+-- within its values. Nothing else is ever set. [OSEK/VDX OS 2.2.3, section 13.6.3.3 and 13.6.3.4]
+abbrev pub is_in_turn : ℕ → AlarmSetting → Bool
+is_in_turn max setting = nat_lt 0 setting.first && nat_le setting.first (suc max) && nat_le setting.cycle max
+
+-- It is due at this count: at the first, and with a cycle at each that is the first plus a multiple of it.
+-- [OSEK/VDX OS 2.2.3, section 9.2 and 13.6.3.3]
+abbrev pub is_due_count : AlarmSetting → Bool
+is_due_count setting = (setting.counts == setting.first) || (nat_lt 0 setting.cycle && nat_lt setting.first setting.counts && ((setting.counts - setting.first) % setting.cycle == 0))
+
+abbrev pub is_due : ℕ → Option AlarmSetting → Bool
+is_due max setting = option_map_or (λ (x : AlarmSetting). is_in_turn max x && is_due_count x) setting false
+
+-- It is in use: it will be due again. An alarm without a cycle is not, once it was due. [OSEK/VDX OS 2.2.3, section 9.2]
+abbrev pub will_be_due : AlarmSetting → Bool
+will_be_due setting = nat_lt 0 setting.cycle || nat_lt setting.counts setting.first
+
+abbrev pub is_in_use : ℕ → Option AlarmSetting → Bool
+is_in_use max setting = option_map_or (λ (x : AlarmSetting). is_in_turn max x && will_be_due x) setting false
+
+-- How many counts are left: after so many it is due next. [OSEK/VDX OS 2.2.3, section 13.6.3.2]
+abbrev pub counts_left : AlarmSetting → ℕ
+counts_left setting = if nat_lt setting.counts setting.first then setting.first - setting.counts else setting.cycle - (setting.counts - setting.first) % setting.cycle
+
+abbrev pub left_of : ℕ → Option AlarmSetting → Option ℕ
+left_of max None = None
+left_of max (Some setting) = if is_in_turn max setting && will_be_due setting then Some (counts_left setting) else None

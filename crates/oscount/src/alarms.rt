@@ -1,0 +1,167 @@
+//! When an alarm is due.
+
+ghost use Rattle.std.specs.Prelude.{◌≡◌, ◌+◌, ◌<◌, ◌≤◌, ◌^◌, ℕ, suc, Some, None, IfSome, Option, option_map};
+ghost use Rattle.osbase.specs.Counting.{AlarmSetting, counts_to, is_due, is_in_use, left_of, one_count_more};
+ghost use Rattle.oscount.specs.Clocks.{alarm_at, alarm_beyond, alarm_due, counter_at, counts_until, due_again, expiry_beyond, is_due_next, setting_of, wrapped};
+
+use crate::counters::{self, Counter};
+
+/// The value of its counter at which an alarm in use is due next, and after how many counts it is due again; 0
+/// for an alarm that is not (OSEK/VDX OS 2.2.3, section 9.2).
+#[derive(Clone, Copy, Debug, PartialEq, Eq)]
+pub struct Expiry {
+    pub value: u32,
+    pub cycle: u32,
+}
+
+/// An alarm; in use, where it has a value at which it is due (OSEK/VDX OS 2.2.3, section 9.2).
+#[derive(Clone, Copy, Debug, PartialEq, Eq)]
+pub struct Alarm {
+    pub expiry: Option<Expiry>,
+}
+
+impl Alarm {
+    /// An alarm that is not in use.
+    pub fn new() -> Self
+        ensures { (max count : ℕ) → result ≡ alarm_at max count None }
+    {
+        Alarm { expiry: None }
+    }
+
+    /// The alarm is due after so many counts, and again after each cycle (OSEK/VDX OS 2.2.3, section 13.6.3.3).
+    pub fn set_rel(&mut self, counter: Counter, increment: u32, cycle: u32)
+        requires max { counter.max < 2 ^ 31 }
+        requires value { counter.value ≤ counter.max }
+        requires later { 0 < increment }
+        requires turn { increment ≤ counter.max }
+        requires cycle { cycle ≤ counter.max }
+        ensures state { self.new ≡ alarm_due (wrapped counter.max (counter.value + increment)) cycle }
+        ensures counts { (count : ℕ) → counter ≡ counter_at counter.max count → self.new ≡ alarm_at counter.max count (Some (setting_of increment cycle)) }
+    {
+        self.expiry = Some(Expiry {
+            value: counters::wrapped(counter.max, counter.value + increment),
+            cycle,
+        });
+    }
+
+    /// The alarm is due when its counter reaches this value, which is a full turn away where it has it, and again after
+    /// each cycle (OSEK/VDX OS 2.2.3, section 13.6.3.4).
+    pub fn set_abs(&mut self, counter: Counter, start: u32, cycle: u32)
+        requires value { counter.value ≤ counter.max }
+        requires turn { start ≤ counter.max }
+        requires cycle { cycle ≤ counter.max }
+        ensures state { self.new ≡ alarm_due start cycle }
+        ensures counts { (count : ℕ) → counter ≡ counter_at counter.max count → self.new ≡ alarm_at counter.max count (Some (setting_of (counts_to counter.max counter.value start) cycle)) }
+    {
+        self.expiry = Some(Expiry {
+            value: start,
+            cycle,
+        });
+    }
+
+    /// The alarm is not in use any longer (OSEK/VDX OS 2.2.3, section 13.6.3.5).
+    pub fn cancel(&mut self)
+        ensures { (max count : ℕ) → self.new ≡ alarm_at max count None }
+    {
+        self.expiry = None;
+    }
+
+    /// Whether the alarm is in use (OSEK/VDX OS 2.2.3, section 9.2).
+    pub fn is_in_use(self) -> bool
+        ensures { (max count : ℕ) (setting : Option AlarmSetting) → self ≡ alarm_at max count setting → result ≡ is_in_use max setting }
+    {
+        self.expiry.is_some()
+    }
+
+    /// Whether it is due at the next count of its counter.
+    pub fn is_due_next(self, counter: Counter) -> bool
+        requires max { counter.max < 2 ^ 31 }
+        requires value { counter.value ≤ counter.max }
+        ensures state { result ≡ is_due_next counter self }
+        ensures counts { (count : ℕ) (setting : Option AlarmSetting) → counter ≡ counter_at counter.max count → self ≡ alarm_at counter.max count setting → result ≡ is_due counter.max (option_map one_count_more setting) }
+    {
+        match self.expiry {
+            Some(expiry) => expiry.value == counter.advanced().value,
+            None => false,
+        }
+    }
+
+    /// How many counts are left until it is due; none for an alarm that is not in use (OSEK/VDX OS 2.2.3, section 13.6.3.2).
+    pub fn left(self, counter: Counter) -> Option<u32>
+        requires max { counter.max < 2 ^ 31 }
+        requires value { counter.value ≤ counter.max }
+        requires expiry { IfSome self.expiry (λ x. x.value ≤ counter.max) }
+        ensures state { result ≡ option_map (counts_until counter) self.expiry }
+        ensures counts { (count : ℕ) (setting : Option AlarmSetting) → counter ≡ counter_at counter.max count → self ≡ alarm_at counter.max count setting → result ≡ left_of counter.max setting }
+    {
+        match self.expiry {
+            Some(expiry) => Some(until(counter, expiry)),
+            None => None,
+        }
+    }
+
+    /// Its counter is about to go on by one: where it is due then, it is due again a cycle later, or, without one,
+    /// not in use any longer (OSEK/VDX OS 2.2.3, section 9.2).
+    pub fn advance(&mut self, counter: Counter)
+        requires max { counter.max < 2 ^ 31 }
+        requires value { counter.value ≤ counter.max }
+        requires cycle { IfSome self.old.expiry (λ x. (x.value ≤ counter.max) × (x.cycle ≤ counter.max)) }
+        ensures state { self.new ≡ alarm_beyond counter self.old }
+        ensures counts { (count : ℕ) (setting : Option AlarmSetting) → counter ≡ counter_at counter.max count → self.old ≡ alarm_at counter.max count setting → self.new ≡ alarm_at counter.max (suc count) (option_map one_count_more setting) }
+    {
+        if let Some(expiry) = self.expiry {
+            self.expiry = beyond(counter, expiry);
+        }
+    }
+}
+
+impl Default for Alarm {
+    fn default() -> Self {
+        Alarm::new()
+    }
+}
+
+// How many counts lead from the counter's value to the alarm's.
+fn until(counter: Counter, expiry: Expiry) -> u32
+    requires max { counter.max < 2 ^ 31 }
+    requires value { counter.value ≤ counter.max }
+    requires expiry { expiry.value ≤ counter.max }
+    ensures { result ≡ counts_until counter expiry }
+{
+    if counter.value < expiry.value {
+        expiry.value - counter.value
+    } else {
+        counter.max + 1 + expiry.value - counter.value
+    }
+}
+
+// When an alarm is due that was due at this value, once the counter has gone on.
+fn beyond(counter: Counter, expiry: Expiry) -> Option<Expiry>
+    requires max { counter.max < 2 ^ 31 }
+    requires value { counter.value ≤ counter.max }
+    requires turn { expiry.value ≤ counter.max }
+    requires cycle { expiry.cycle ≤ counter.max }
+    ensures { result ≡ expiry_beyond counter (Some expiry) }
+{
+    if expiry.value == counter.advanced().value {
+        again(counter, expiry)
+    } else {
+        Some(expiry)
+    }
+}
+
+fn again(counter: Counter, expiry: Expiry) -> Option<Expiry>
+    requires max { counter.max < 2 ^ 31 }
+    requires turn { expiry.value ≤ counter.max }
+    requires cycle { expiry.cycle ≤ counter.max }
+    ensures { result ≡ due_again counter expiry }
+{
+    if expiry.cycle == 0 {
+        None
+    } else {
+        Some(Expiry {
+            value: counters::wrapped(counter.max, expiry.value + expiry.cycle),
+            ..expiry
+        })
+    }
+}

@@ -1,0 +1,46 @@
+//! The value of a counter.
+
+ghost use Rattle.std.specs.Prelude.{◌≡◌, ◌<◌, ◌≤◌, ◌^◌, ℕ, suc};
+ghost use Rattle.oscount.specs.Clocks.{advanced, counter_at, wrapped};
+
+/// A counter (OSEK/VDX OS 2.2.3, section 9.1): its value goes from 0 to its greatest, and then to 0 again.
+#[derive(Clone, Copy, Debug, PartialEq, Eq)]
+pub struct Counter {
+    /// The greatest value (AUTOSAR SWS OS 4.x, OsCounterMaxAllowedValue).
+    pub max: u32,
+    pub value: u32,
+}
+
+/// A value of a counter, where it may be less than a turn beyond the greatest.
+pub fn wrapped(max: u32, value: u32) -> u32
+    requires { max < 2 ^ 31 }
+    ensures { result ≡ wrapped max value }
+{
+    if value <= max {
+        value
+    } else {
+        value - (max + 1)
+    }
+}
+
+impl Counter {
+    /// A counter that was not advanced yet.
+    pub fn new(max: u32) -> Self
+        ensures { result ≡ counter_at max 0 }
+    {
+        Counter { max, value: 0 }
+    }
+
+    /// The counter after one count more.
+    pub fn advanced(self) -> Self
+        requires max { self.max < 2 ^ 31 }
+        requires value { self.value ≤ self.max }
+        ensures state { result ≡ advanced self }
+        ensures counts { (count : ℕ) → self ≡ counter_at self.max count → result ≡ counter_at self.max (suc count) }
+    {
+        Counter {
+            value: wrapped(self.max, self.value + 1),
+            ..self
+        }
+    }
+}
