@@ -2,7 +2,7 @@
 use Rattle.std.proofs.Common.{◌≡◌, ℕ, Bool, true, false, nat_eq, refl, ap, sym, ◌∙◌}
 use Rattle.std.proofs.lemmas.Bool.{eqb-true, eq-eqb, and_parts, and_from, false≢true}
 use Rattle.osbase.specs.declared.objects.ObjectKind.{ObjectKind}
-use Rattle.osbase.specs.declared.objects.ObjectKind.TheVariants.{Task, Resource, Alarm}
+use Rattle.osbase.specs.declared.objects.ObjectKind.TheVariants.{Task, Resource, Counter, Alarm}
 use Rattle.osbase.specs.declared.references.CoreId.{CoreId}
 use Rattle.osbase.specs.declared.references.TaskRef.{TaskRef}
 use Rattle.osbase.specs.declared.references.IsrRef.{IsrRef}
@@ -58,10 +58,12 @@ same_runner-refl (Runner.Isr i) = same_task-refl (record { core = i.core; index 
 pub same_kind-true : (k j : ObjectKind) → same_kind k j ≡ true → k ≡ j
 same_kind-true Task Task e = refl
 same_kind-true Resource Resource e = refl
+same_kind-true Counter Counter e = refl
 same_kind-true Alarm Alarm e = refl
 same_kind-true k j e = absurd (false≢true e)
 
 pub same_kind-self : (k : ObjectKind) → same_kind k k ≡ true
 same_kind-self Task = refl
 same_kind-self Resource = refl
+same_kind-self Counter = refl
 same_kind-self Alarm = refl

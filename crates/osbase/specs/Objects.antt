@@ -2,9 +2,10 @@
 use Rattle.std.specs.Prelude.{Bool, true, false}
 use Rattle.osbase.specs.declared.references.TaskRef.{TaskRef}
 use Rattle.osbase.specs.declared.references.ResourceRef.{ResourceRef}
+use Rattle.osbase.specs.declared.references.CounterRef.{CounterRef}
 use Rattle.osbase.specs.declared.references.AlarmRef.{AlarmRef}
 use Rattle.osbase.specs.declared.objects.ObjectKind.{ObjectKind}
-use Rattle.osbase.specs.declared.objects.ObjectKind.TheVariants.{Task, Resource, Alarm}
+use Rattle.osbase.specs.declared.objects.ObjectKind.TheVariants.{Task, Resource, Counter, Alarm}
 use Rattle.osbase.specs.declared.objects.Place.{Place}
 use Rattle.osbase.specs.declared.objects.Object.{Object}
 use Rattle.osbase.specs.declared.messages.RemoteCall.{RemoteCall}
@@ -14,6 +15,7 @@ use Rattle.osbase.specs.declared.messages.RemoteCall.TheVariants.{ActivateTask, 
 abbrev pub same_kind : ObjectKind → ObjectKind → Bool
 same_kind Task Task = true
 same_kind Resource Resource = true
+same_kind Counter Counter = true
 same_kind Alarm Alarm = true
 same_kind kind other = false
 
@@ -30,14 +32,26 @@ resource_place r = record { core = r.core; index = r.index }
 abbrev pub resource_of : Place → ResourceRef
 resource_of p = record { core = p.core; index = p.index }
 
+abbrev pub counter_place : CounterRef → Place
+counter_place c = record { core = c.core; index = c.index }
+
+abbrev pub counter_of : Place → CounterRef
+counter_of p = record { core = p.core; index = p.index }
+
 abbrev pub alarm_place : AlarmRef → Place
 alarm_place a = record { core = a.core; index = a.index }
+
+abbrev pub alarm_of : Place → AlarmRef
+alarm_of p = record { core = p.core; index = p.index }
 
 abbrev pub task_object : TaskRef → Object
 task_object t = record { kind = Task; place = task_place t }
 
 abbrev pub resource_object : ResourceRef → Object
 resource_object r = record { kind = Resource; place = resource_place r }
+
+abbrev pub counter_object : CounterRef → Object
+counter_object c = record { kind = Counter; place = counter_place c }
 
 abbrev pub alarm_object : AlarmRef → Object
 alarm_object a = record { kind = Alarm; place = alarm_place a }

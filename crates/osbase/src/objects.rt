@@ -1,15 +1,16 @@
 //! Objects of every kind, as the operations of scripts and the calls across cores name them.
 
 ghost use Rattle.std.specs.Prelude.{◌≡◌};
-ghost use Rattle.osbase.specs.Objects.{alarm_object, alarm_place, resource_object, resource_of, resource_place, same_kind, task_object, task_of, task_place};
+ghost use Rattle.osbase.specs.Objects.{alarm_object, alarm_of, alarm_place, counter_object, counter_of, counter_place, resource_object, resource_of, resource_place, same_kind, task_object, task_of, task_place};
 
-use crate::references::{AlarmRef, CoreId, ResourceRef, TaskRef};
+use crate::references::{AlarmRef, CoreId, CounterRef, ResourceRef, TaskRef};
 
 /// The kinds of objects that operations and calls can name so far.
 #[derive(Clone, Copy, Debug, PartialEq, Eq)]
 pub enum ObjectKind {
     Task,
     Resource,
+    Counter,
     Alarm,
 }
 
@@ -100,7 +101,49 @@ impl ResourceRef {
     }
 }
 
+impl CounterRef {
+    /// The counter that stands at this place.
+    pub fn at(place: Place) -> Self
+        ensures { result ≡ counter_of place }
+    {
+        CounterRef {
+            core: place.core,
+            index: place.index,
+        }
+    }
+
+    /// Where the counter stands.
+    pub fn place(self) -> Place
+        ensures { result ≡ counter_place self }
+    {
+        Place {
+            core: self.core,
+            index: self.index,
+        }
+    }
+
+    /// The counter as an object of its kind.
+    pub fn object(self) -> Object
+        ensures { result ≡ counter_object self }
+    {
+        Object {
+            kind: ObjectKind::Counter,
+            place: self.place(),
+        }
+    }
+}
+
 impl AlarmRef {
+    /// The alarm that stands at this place.
+    pub fn at(place: Place) -> Self
+        ensures { result ≡ alarm_of place }
+    {
+        AlarmRef {
+            core: place.core,
+            index: place.index,
+        }
+    }
+
     /// Where the alarm stands.
     pub fn place(self) -> Place
         ensures { result ≡ alarm_place self }

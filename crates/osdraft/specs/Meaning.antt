@@ -50,6 +50,7 @@ core_plan objects core = record {
   tasks = map (task_plan objects) core.tasks;
   resources = map resource_plan core.resources;
   isrs = [];
+  counters = [];
   alarms = [];
   tables = [];
 }

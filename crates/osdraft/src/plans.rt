@@ -154,6 +154,7 @@ impl<'e> Reader<'e, CoreText<'e>, Core> for Objects<'e> {
             tasks: tasks_of(alloc, self, core.tasks.as_slice())?,
             resources: resources_of(alloc, self, core.resources.as_slice())?,
             isrs: List::new(alloc),
+            counters: List::new(alloc),
             alarms: List::new(alloc),
             tables: List::new(alloc),
         })

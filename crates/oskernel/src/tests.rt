@@ -50,7 +50,7 @@ fn task(alloc: Global, name: &str, is_auto: bool, ops: &[Op]) -> Result<Task, Al
 }
 
 fn core(alloc: Global, id: CoreId, start: &[CoreId], task: Task) -> Result<Core, AllocError>
-    ensures { IfOk result (λ core. core ≡ record { id = id; mode = CoreMode.Named MODE; start = start.now; tasks = task ∷ []; resources = []; isrs = []; alarms = []; tables = [] }) }
+    ensures { IfOk result (λ core. core ≡ record { id = id; mode = CoreMode.Named MODE; start = start.now; tasks = task ∷ []; resources = []; isrs = []; counters = []; alarms = []; tables = [] }) }
 {
     let mut tasks = List::new(alloc);
     tasks.push(task)?;
@@ -61,6 +61,7 @@ fn core(alloc: Global, id: CoreId, start: &[CoreId], task: Task) -> Result<Core,
         tasks,
         resources: List::new(alloc),
         isrs: List::new(alloc),
+        counters: List::new(alloc),
         alarms: List::new(alloc),
         tables: List::new(alloc),
     })

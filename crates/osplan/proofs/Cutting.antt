@@ -13,6 +13,7 @@ use Rattle.oscript.specs.declared.Op.{Op}
 use Rattle.oscript.specs.Rows.{objects_of}
 use Rattle.osplan.specs.declared.plans.Plan.{Plan}
 use Rattle.osplan.specs.declared.plans.Core.{Core}
+use Rattle.osplan.specs.declared.plans.Counter.{Counter}
 use Rattle.osplan.specs.declared.plans.Task.{Task}
 use Rattle.osplan.specs.declared.plans.CoreMode.{CoreMode}
 use Rattle.osplan.specs.declared.plans.CoreMode.TheVariants.{Named, DontCare}
@@ -35,9 +36,9 @@ agree-self (Named m) = eq-eqb m.index m.index refl
 agree-self DontCare = refl
 
 -- a core is its parts
-pub core-parts : (core : Core) (start : List CoreId) (tasks : List Task) (resources : List Resource) (isrs : List Isr) (alarms : List Alarm) (tables : List Table) → start ≡ core.start → tasks ≡ core.tasks → resources ≡ core.resources → isrs ≡ core.isrs → alarms ≡ core.alarms → tables ≡ core.tables
-    → (let copy : Core = record { id = core.id; mode = core.mode; start = start; tasks = tasks; resources = resources; isrs = isrs; alarms = alarms; tables = tables } in copy ≡ core)
-core-parts core start tasks resources isrs alarms tables a b c d e f = rw (a, b, c, d, e, f) refl
+pub core-parts : (core : Core) (start : List CoreId) (tasks : List Task) (resources : List Resource) (isrs : List Isr) (counters : List Counter) (alarms : List Alarm) (tables : List Table) → start ≡ core.start → tasks ≡ core.tasks → resources ≡ core.resources → isrs ≡ core.isrs → counters ≡ core.counters → alarms ≡ core.alarms → tables ≡ core.tables
+    → (let copy : Core = record { id = core.id; mode = core.mode; start = start; tasks = tasks; resources = resources; isrs = isrs; counters = counters; alarms = alarms; tables = tables } in copy ≡ core)
+core-parts core start tasks resources isrs counters alarms tables a b c d e f g = rw (a, b, c, d, e, f, g) refl
 
 -- ---- names
 

@@ -58,6 +58,7 @@ pub record CoreTextParts (core : Core) : Type 0 where
   pub tasks : list_all is_task_expressible core.tasks ≡ true
   pub resources : list_all is_resource_expressible core.resources ≡ true
   pub isrs : core.isrs ≡ []
+  pub counters : core.counters ≡ []
   pub alarms : core.alarms ≡ []
   pub tables : core.tables ≡ []
 
@@ -65,7 +66,8 @@ pub core-text-parts : (core : Core) → IsTrue (is_core_expressible core) → Co
 core-text-parts core h =
     let tables = and_parts _ (nat_eq (length core.tables) 0) h in
     let alarms = and_parts _ (nat_eq (length core.alarms) 0) tables.0 in
-    let isrs = and_parts _ (nat_eq (length core.isrs) 0) alarms.0 in
+    let counters = and_parts _ (nat_eq (length core.counters) 0) alarms.0 in
+    let isrs = and_parts _ (nat_eq (length core.isrs) 0) counters.0 in
     let resources = and_parts _ (list_all is_resource_expressible core.resources) isrs.0 in
     let tasks = and_parts (is_in_only_mode core.mode) (list_all is_task_expressible core.tasks) resources.0 in
     record {
@@ -73,6 +75,7 @@ core-text-parts core h =
       tasks = tasks.1;
       resources = resources.1;
       isrs = none-from core.isrs isrs.1;
+      counters = none-from core.counters counters.1;
       alarms = none-from core.alarms alarms.1;
       tables = none-from core.tables tables.1;
     }

@@ -1,5 +1,5 @@
 -- What a text can say of a configuration so far, beside its limits: names in form and all different, one mode, scripts whose
--- arguments are of their kinds, whose masks have events and that stay within themselves, and no ISR, alarm or table. [own]
+-- arguments are of their kinds, whose masks have events and that stay within themselves, and no ISR, counter, alarm or table. [own]
 -- Each is a test, so that a literal configuration passes it by computation.
 use Rattle.std.specs.Prelude.{ℕ, ◌==◌, ◌&&◌, nat_le, Bool, true, false, not, List, [], ◌∷◌, ◌++◌, length, map, codes}
 use Rattle.std.specs.List.{list_all, list_any, flat_map}
@@ -65,11 +65,11 @@ is_task_expressible task = is_name task.name && list_all is_only_mode task.auto 
 abbrev pub is_resource_expressible : Resource → Bool
 is_resource_expressible resource = is_name resource.name
 
--- A core is of the only mode, and has no ISR, alarm or table.
+-- A core is of the only mode, and has no ISR, counter, alarm or table.
 abbrev pub is_core_expressible : Core → Bool
 is_core_expressible core =
     is_in_only_mode core.mode && list_all is_task_expressible core.tasks && list_all is_resource_expressible core.resources
-    && (length core.isrs == 0) && (length core.alarms == 0) && (length core.tables == 0)
+    && (length core.isrs == 0) && (length core.counters == 0) && (length core.alarms == 0) && (length core.tables == 0)
 
 -- The whole configuration can be said by a text; the names that it declares are different.
 abbrev pub is_expressible : Plan → Bool

@@ -13,6 +13,7 @@ use Rattle.osbase.specs.declared.references.TaskRef.{TaskRef}
 use Rattle.osbase.specs.Objects.{alarm_place, resource_place, task_place}
 use Rattle.osplan.specs.declared.plans.Alarm.{Alarm}
 use Rattle.osplan.specs.declared.plans.Core.{Core}
+use Rattle.osplan.specs.declared.plans.Counter.{Counter}
 use Rattle.osplan.specs.declared.plans.Isr.{Isr}
 use Rattle.osplan.specs.declared.plans.Plan.{Plan}
 use Rattle.osplan.specs.declared.plans.Resource.{Resource}
@@ -29,6 +30,7 @@ name_of_mode plan mode = option_map_or (λ (name : List ℕ). name) (slice_get p
 abbrev pub name_in : ObjectKind → Core → ℕ → List ℕ
 name_in ObjectKind.Task core index = option_map_or (λ (task : Task). task.name) (slice_get core.tasks index) []
 name_in ObjectKind.Resource core index = option_map_or (λ (resource : Resource). resource.name) (slice_get core.resources index) []
+name_in ObjectKind.Counter core index = option_map_or (λ (counter : Counter). counter.name) (slice_get core.counters index) []
 name_in ObjectKind.Alarm core index = option_map_or (λ (alarm : Alarm). alarm.name) (slice_get core.alarms index) []
 
 abbrev pub name_of : Plan → ObjectKind → Place → List ℕ

@@ -1,7 +1,7 @@
 -- The objects of a core, kind by kind.
 use Rattle.std.specs.Prelude.{ℕ, ◌&&◌, ◌||◌, nat_lt, Bool, not, length}
 use Rattle.osbase.specs.declared.objects.ObjectKind.{ObjectKind}
-use Rattle.osbase.specs.declared.objects.ObjectKind.TheVariants.{Task, Resource, Alarm}
+use Rattle.osbase.specs.declared.objects.ObjectKind.TheVariants.{Task, Resource, Counter, Alarm}
 use Rattle.osbase.specs.declared.objects.Object.{Object}
 use Rattle.osbase.specs.History.{same_core}
 use Rattle.osplan.specs.declared.plans.Core.{Core}
@@ -10,6 +10,7 @@ use Rattle.osplan.specs.declared.plans.Core.{Core}
 abbrev pub object_count : ObjectKind → Core → ℕ
 object_count Task core = length core.tasks
 object_count Resource core = length core.resources
+object_count Counter core = length core.counters
 object_count Alarm core = length core.alarms
 
 -- The core has so many objects of the kind that one stands at the object's index.

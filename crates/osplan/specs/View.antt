@@ -16,7 +16,7 @@ core_of plan id = find (λ core. same_core core.id id) plan.cores
 
 -- A core that is not configured has nothing.
 abbrev pub no_core : CoreId → Core
-no_core id = record { id = id; mode = DontCare; start = []; tasks = []; resources = []; isrs = []; alarms = []; tables = [] }
+no_core id = record { id = id; mode = DontCare; start = []; tasks = []; resources = []; isrs = []; counters = []; alarms = []; tables = [] }
 
 -- What a core is started with: its number and whether it is the master, and its own part of the configuration, which has
 -- its mode, its start list and its objects; the configuration's modes, and the numbers of the configured cores. An

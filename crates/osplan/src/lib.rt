@@ -10,5 +10,8 @@ pub mod plans;
 pub mod separate;
 
 pub use faults::ConfFault;
-pub use plans::{Alarm, Config, Core, CoreMode, Isr, Plan, Resource, Table, Task};
+pub use plans::{
+    Alarm, AlarmStart, Config, Core, CoreMode, Counter, Isr, Plan, Resource, Table, Task,
+    TimedAction,
+};
 pub use separate::{Standing, cut, is_separate, standing_of, stays_on};

@@ -20,6 +20,10 @@ impl Core {
                 Some(resource) => resource.name.as_str(),
                 None => "",
             },
+            ObjectKind::Counter => match self.counters.as_slice().get(index) {
+                Some(counter) => counter.name.as_str(),
+                None => "",
+            },
             ObjectKind::Alarm => match self.alarms.as_slice().get(index) {
                 Some(alarm) => alarm.name.as_str(),
                 None => "",

@@ -8,7 +8,7 @@ ghost use Rattle.osplan.specs.Limits.{is_core_near, is_within_limits, stays_on};
 ghost use Rattle.osplan.specs.Expressible.{is_expressible};
 
 use crate::separate::stays_on;
-use osbase::{CoreId, List, ModeId, Name, Object, ObjectKind};
+use osbase::{CoreId, CounterRef, List, ModeId, Name, Object, ObjectKind, TaskRef};
 use oscript::Script;
 use std::marker::Model;
 
@@ -44,10 +44,42 @@ pub struct Isr {
     pub name: Name,
 }
 
-/// An alarm. None can be configured yet.
+/// A counter (AUTOSAR SWS OS 4.x, OsCounter). None can be configured yet.
+#[derive(Debug, Drop)]
+pub struct Counter {
+    pub name: Name,
+    /// The greatest value (OsCounterMaxAllowedValue).
+    pub max: u32,
+    /// The least cycle of an alarm (OsCounterMinCycle).
+    pub min: u32,
+    /// Whether IncrementCounter alone advances it, and no tick.
+    pub software: bool,
+}
+
+/// What an alarm does when it is due: its task may stand on another core (AUTOSAR SWS OS 4.x, OsAlarmAction).
+#[derive(Clone, Copy, Debug, PartialEq, Eq)]
+pub enum TimedAction {
+    ActivateTask(TaskRef),
+    SetEvent(TaskRef, u32),
+}
+
+/// How an alarm is set by itself: in these application modes, first due after so many counts, and again after each
+/// cycle (AUTOSAR SWS OS 4.x, OsAlarmAutostart).
+#[derive(Debug, Drop)]
+pub struct AlarmStart {
+    pub modes: List<ModeId>,
+    pub start: u32,
+    pub cycle: u32,
+}
+
+/// An alarm (OSEK/VDX OS 2.2.3, section 9.2). None can be configured yet.
 #[derive(Debug, Drop)]
 pub struct Alarm {
     pub name: Name,
+    /// The counter, one of its own core.
+    pub counter: CounterRef,
+    pub action: TimedAction,
+    pub auto: Option<AlarmStart>,
 }
 
 /// A schedule table. None can be configured yet.
@@ -73,6 +105,7 @@ pub struct Core {
     pub tasks: List<Task>,
     pub resources: List<Resource>,
     pub isrs: List<Isr>,
+    pub counters: List<Counter>,
     pub alarms: List<Alarm>,
     pub tables: List<Table>,
 }
@@ -161,6 +194,7 @@ impl Core {
         match kind {
             ObjectKind::Task => self.tasks.len(),
             ObjectKind::Resource => self.resources.len(),
+            ObjectKind::Counter => self.counters.len(),
             ObjectKind::Alarm => self.alarms.len(),
         }
     }

@@ -281,6 +281,7 @@ fn copied_core(alloc: Global, core: &Core) -> Result<Core, AllocError>
         tasks: copied_tasks(alloc, core.tasks.as_slice())?,
         resources: copied_resources(alloc, core.resources.as_slice())?,
         isrs: List::new(alloc),
+        counters: List::new(alloc),
         alarms: List::new(alloc),
         tables: List::new(alloc),
     })

@@ -60,7 +60,7 @@ with_events t = record t { extended = true }
 
 -- a core with these tasks, and with one
 abbrev pub core_of : ℕ → List CoreId → List Task → Core
-core_of n start tasks = record { id = core n; mode = Named mode; start = start; tasks = tasks; resources = []; isrs = []; alarms = []; tables = [] }
+core_of n start tasks = record { id = core n; mode = Named mode; start = start; tasks = tasks; resources = []; isrs = []; counters = []; alarms = []; tables = [] }
 
 abbrev pub core_with : ℕ → List CoreId → Task → Core
 core_with n start t = core_of n start (t ∷ [])

@@ -58,6 +58,9 @@ name-at plan core said fits ObjectKind.Resource index within =
         low = omega arith;
       },
     )
+name-at plan core said fits ObjectKind.Counter index within =
+    let none : length core.counters ≡ 0 = ap length said.counters in
+    absurd (omega arith)
 name-at plan core said fits ObjectKind.Alarm index within =
     let none : length core.alarms ≡ 0 = ap length said.alarms in
     absurd (omega arith)

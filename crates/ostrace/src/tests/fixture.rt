@@ -3,8 +3,8 @@
 ghost use Rattle.std.specs.Prelude.{◌≡◌, IfOk, IsTrue, Some};
 
 use crate::sinks::Sink;
-use osbase::{CoreId, List, Mark, ModeId, Name, RemoteCall, Report, Status, TaskRef};
-use osplan::{Alarm, Config, Core, CoreMode, Isr, Plan, Table, Task};
+use osbase::{CoreId, CounterRef, List, Mark, ModeId, Name, RemoteCall, Report, Status, TaskRef};
+use osplan::{Alarm, Config, Core, CoreMode, Isr, Plan, Table, Task, TimedAction};
 use std::alloc::{AllocError, Global};
 
 /// Core 0 has the task A, the ISR I1, the alarm L and the table S1; core 1 has the task Blink.
@@ -44,6 +44,7 @@ fn core(alloc: Global, number: u8, only: Task) -> Result<Core, AllocError> {
         tasks,
         resources: List::new(alloc),
         isrs: List::new(alloc),
+        counters: List::new(alloc),
         alarms: List::new(alloc),
         tables: List::new(alloc),
     })
@@ -56,6 +57,15 @@ fn full_core(alloc: Global) -> Result<Core, AllocError> {
     })?;
     core.alarms.push(Alarm {
         name: Name::new(alloc, "L")?,
+        counter: CounterRef {
+            core: CoreId { number: 0 },
+            index: 0,
+        },
+        action: TimedAction::ActivateTask(TaskRef {
+            core: CoreId { number: 0 },
+            index: 0,
+        }),
+        auto: None,
     })?;
     core.tables.push(Table {
         name: Name::new(alloc, "S1")?,
@@ -111,6 +121,7 @@ pub fn bare_config(alloc: Global) -> Result<Config, AllocError> {
         tasks: List::new(alloc),
         resources: List::new(alloc),
         isrs: List::new(alloc),
+        counters: List::new(alloc),
         alarms: List::new(alloc),
         tables: List::new(alloc),
     };
