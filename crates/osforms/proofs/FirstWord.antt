@@ -1,12 +1,17 @@
 -- Whether a text begins with a word, which is seen without looking for the end of its first one.
-use Rattle.std.proofs.Common.{inl, inr, ◌≡◌, ℕ, ◌==◌, false, List, [], ◌∷◌, ◌++◌, length, None, refl, sym, ap, ◌∙◌}
+use Rattle.std.proofs.Common.{inl, inr, ◌≡◌, ℕ, ◌==◌, true, false, not, List, [], ◌∷◌, ◌++◌, length, Some, None, refl, sym, ap, ◌∙◌}
 use Rattle.std.specs.List.{join_with_byte}
 use Rattle.std.specs.Str.{bytes_eq}
-use Rattle.std.proofs.lemmas.Bool.{cases_Bool}
+use Rattle.std.proofs.lemmas.Bool.{and_parts, cases_Bool}
 use Rattle.std.proofs.lemmas.List.{append-nil, append_cancel_left}
 use Rattle.std.proofs.lemmas.List.Splits.{join_with_byte-slice_split}
 use Rattle.std.proofs.lemmas.Slice.Eq.{bytes_eq-Decides}
+use Rattle.osbase.specs.Names.{is_name_part}
+use Rattle.oscript.specs.declared.rows.Verb.{Verb}
+use Rattle.oscript.specs.Rows.{word_of}
 use Rattle.osforms.specs.Form.{words_behind, words_of}
+use Rattle.osforms.proofs.Joining.{all-none, has_none, split-cut}
+use Rattle.osforms.proofs.Rows.{is-row}
 
 -- A text that is neither the word nor goes on behind the word and a space begins with another word.
 module _ (word text : List ℕ) (alone : text ≡ word → ⊥) (more : (rest : List ℕ) → text ≡ word ++ 32 ∷ rest → ⊥) where
@@ -37,3 +42,13 @@ goes_astray word text rest is some no_space =
     nonempty : (xs : List ℕ) → (length xs == 0) ≡ false → xs ≡ [] → ⊥
     nonempty [] h e = cc
     nonempty (x ∷ xs) h e = cc
+
+-- A text that goes on behind an operation's word and a space has the words of the rest behind it.
+pub goes_on : (verb : Verb) (rest : List ℕ) → words_behind (word_of verb) (words_of (word_of verb ++ 32 ∷ rest)) ≡ Some (words_of rest)
+goes_on verb rest = ap (words_behind (word_of verb)) (split-cut 32 (word_of verb) rest refl none) ∙ rw same refl
+  where
+    none : has_none 32 (word_of verb) ≡ true
+    none = all-none is_name_part 32 (word_of verb) refl (and_parts (not (length (word_of verb) == 0)) _ (is-row verb).1).1
+
+    same : bytes_eq (word_of verb) (word_of verb) ≡ true
+    same = (bytes_eq-Decides (word_of verb) (word_of verb)).1 refl

@@ -15,7 +15,7 @@ split-lone byte (x ∷ xs) none =
     let parts = and_parts (not (x == byte)) (has_none byte xs) none in
     rw (not-true _ parts.0, split-lone byte xs parts.1) refl
 
-split-cut : (byte : ℕ) (text rest : List ℕ) → (byte == byte) ≡ true → has_none byte text ≡ true → slice_split (λ b. b == byte) (text ++ byte ∷ rest) ≡ text ∷ slice_split (λ b. b == byte) rest
+pub split-cut : (byte : ℕ) (text rest : List ℕ) → (byte == byte) ≡ true → has_none byte text ≡ true → slice_split (λ b. b == byte) (text ++ byte ∷ rest) ≡ text ∷ slice_split (λ b. b == byte) rest
 split-cut byte [] rest same none = rw same refl
 split-cut byte (x ∷ xs) rest same none =
     let parts = and_parts (not (x == byte)) (has_none byte xs) none in
