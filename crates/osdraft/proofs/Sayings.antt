@@ -86,7 +86,7 @@ core-said objects core h =
     let masked = all-both (λ (task : TaskText). is_name task.name) is_task_masked core.tasks named.0 first.1 in
     let tasks = all-both (λ (task : TaskText). is_name task.name && is_task_masked task) (is_task_script objects) core.tasks masked parts.1 in
     let resources = list_all-by (λ (resource : ResourceText). is_name resource.name) said.is_resource_expressible resource_plan (λ resource e. e) core.resources named.1 in
-    and_from _ _ (and_from _ _ (and_from _ _ (and_from _ _ (list_all-by (λ (task : TaskText). is_name task.name && is_task_masked task && is_task_script objects task) said.is_task_expressible (task_plan objects) (task-said objects) core.tasks tasks) resources) refl) refl) refl
+    and_from _ _ (and_from _ _ (and_from _ _ (and_from _ _ (and_from _ _ (list_all-by (λ (task : TaskText). is_name task.name && is_task_masked task && is_task_script objects task) said.is_task_expressible (task_plan objects) (task-said objects) core.tasks tasks) resources) refl) refl) refl) refl
 
 pub expressible-of : (t : ConfigText) → list_all has_named_objects t.cores ≡ true → failing (tests_of t) ≡ [] → said.is_expressible (plan_of t) ≡ true
 expressible-of t named none =

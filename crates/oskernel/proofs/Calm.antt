@@ -6,7 +6,7 @@ use Rattle.osbase.specs.declared.items.Item.{Item}
 use Rattle.osbase.specs.declared.references.Runner.{Runner}
 use Rattle.osbase.specs.declared.marks.Mark.TheVariants as Mark
 use Rattle.osbase.specs.declared.histories.OpenCall.{OpenCall}
-use Rattle.osbase.specs.History.{Entry, History, Took, Printed, Noted, Taken, Given, Done, closed_by, open_call, outbox}
+use Rattle.osbase.specs.History.{Entry, History, Took, Printed, Noted, Opened, Queued, Done, closed_by, open_call, outbox}
 use Rattle.osplan.specs.View.{View}
 use Rattle.oscall.proofs.Carried.{anybody, is_local, nobody}
 use Rattle.osstate.specs.State.{state_of}
@@ -28,13 +28,13 @@ closed-still : (r : Runner) (o : Option OpenCall) → o ≡ None → closed_by r
 closed-still r o closed = rw closed refl
 
 pub calm-local : (names : CoreId → Bool) (e : Entry) (h : History) → is_local names e ≡ true → Calm h → Calm (e ∷ h)
+calm-local names (Took item) h is p = absurd (false≢true is)
+calm-local names (Noted (Opened call)) h is p = absurd (false≢true is)
+calm-local names (Noted (Queued core envelope)) h is p = absurd (false≢true is)
+calm-local names (Noted (Done r s value)) h is p = record { closed = closed-still r (open_call h) p.closed; empty = p.empty }
 calm-local names (Printed (Mark.Terminated t)) h is p = record { closed = closed-still (Runner.Task t) (open_call h) p.closed; empty = p.empty }
 calm-local names (Printed (Mark.IsrLeft i)) h is p = record { closed = closed-still (Runner.Isr i) (open_call h) p.closed; empty = p.empty }
-calm-local names (Printed m) h is p = record { closed = p.closed; empty = p.empty }
-calm-local names (Noted (Done r s value)) h is p = record { closed = closed-still r (open_call h) p.closed; empty = p.empty }
-calm-local names (Noted (Taken r x)) h is p = record { closed = p.closed; empty = p.empty }
-calm-local names (Noted (Given r index)) h is p = record { closed = p.closed; empty = p.empty }
-calm-local names e h is p = absurd (false≢true is)
+calm-local names e h is p = record { closed = p.closed; empty = p.empty }
 
 calm-holds : Holds nobody nobody anybody Calm
 calm-holds = record {

@@ -11,7 +11,7 @@ use Rattle.osbase.specs.declared.messages.Message.{Message}
 use Rattle.osbase.specs.declared.items.Item.{Item}
 use Rattle.osbase.specs.declared.histories.OpenCall.{OpenCall}
 use Rattle.osbase.specs.declared.histories.Sent.{Sent}
-use Rattle.osbase.specs.History.{Entry, History, Took, Printed, Noted, Taken, Given, Done, front_envelope, outbox, posted, received, same_core}
+use Rattle.osbase.specs.History.{Entry, History, Took, Noted, Opened, Queued, front_envelope, outbox, posted, received, same_core}
 use Rattle.osbase.specs.Phases.{is_scheduling}
 use Rattle.osbase.proofs.Same.{same_core-true, same_core-refl}
 use Rattle.osplan.specs.View.{View}
@@ -55,11 +55,10 @@ meek-took c (Item.Posted to) h all = meek-rest c (outbox h) all
 meek-took c i h all = all
 
 meek-local : (c : CoreId) (e : Entry) (h : History) → is_local anybody e ≡ true → Meek c h → Meek c (e ∷ h)
-meek-local c (Printed m) h is p = p
-meek-local c (Noted (Done r s value)) h is p = p
-meek-local c (Noted (Taken r x)) h is p = p
-meek-local c (Noted (Given r index)) h is p = p
-meek-local c e h is p = absurd (false≢true is)
+meek-local c (Took item) h is p = absurd (false≢true is)
+meek-local c (Noted (Opened call)) h is p = absurd (false≢true is)
+meek-local c (Noted (Queued core envelope)) h is p = absurd (false≢true is)
+meek-local c e h is p = p
 
 meek-holds : (c : CoreId) → Holds (all_but c) anybody anybody (Meek c)
 meek-holds c = record {
