@@ -115,6 +115,17 @@ impl Events {
         }
     }
 
+    /// Whether the task waits (OSEK/VDX OS 2.2.3, section 4.2.1).
+    #[inline(always)]
+    pub fn is_waiting(&self, task: u8) -> bool
+        ensures { result ≡ is_waiting (events_at task self.now) }
+    {
+        match self.tasks.get(usize::from(task)) {
+            Some(events) => events.awaited.is_some(),
+            None => false,
+        }
+    }
+
     fn put(&mut self, task: u8, events: TaskEvents)
         ensures { self.new ≡ slice_set self.old task events }
     {

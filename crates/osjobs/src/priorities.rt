@@ -1,6 +1,6 @@
 //! A job's priority, and the first of the jobs of greatest priority.
 
-ghost use Rattle.std.specs.Prelude.{◌≡◌, ◌≤◌, false, filter, if◌then◌else◌, length, nat_lt, IsTrue, IsSome, IfSome};
+ghost use Rattle.std.specs.Prelude.{◌≡◌, ◌≤◌, ◌&&◌, not, Some, false, filter, if◌then◌else◌, length, nat_lt, IsTrue, IsSome, IfSome};
 ghost use Rattle.std.specs.List.{All};
 ghost use Rattle.std.specs.Option.{option_map_or};
 ghost use Rattle.osbase.specs.History.{first_greatest as greatest_job, greatest_ceiling, same_runner};
@@ -11,7 +11,7 @@ use crate::equality::is_same_runner;
 use crate::own::task_of;
 use crate::slots::JobSlot;
 use osbase::{Job, Runner, TASKS, TaskRef};
-use osevent::{Events, is_waiting};
+use osevent::Events;
 use osplan::{Core, Task};
 use osres::{Resources, greater};
 
@@ -91,10 +91,8 @@ pub(crate) fn first_greatest(
         place -= 1;
         let slot = &jobs[place];
         let job = slot.job;
-        if is_able(events, job) {
-            let priority = priority_of(core, resources, raised, job);
-            best = Some(better_of(Ranked { job, priority }, best));
-        }
+        let priority = priority_of(core, resources, raised, job);
+        best = better_of(events, Ranked { job, priority }, best);
     }
     match best {
         Some(ranked) => Some(ranked.job),
@@ -107,18 +105,33 @@ fn is_able(events: &Events, job: Job) -> bool
     ensures { result ≡ is_able_in events.now job }
 {
     match job.runner {
-        Runner::Task(task) => !is_waiting(events.get(task.index)),
+        Runner::Task(task) => !events.is_waiting(task.index),
         Runner::Isr(_) => true,
     }
 }
 
-// Of two jobs of equal priority the first.
-fn better_of(ranked: Ranked, best: Option<Ranked>) -> Ranked
-    ensures { result ≡ option_map_or (λ other. if nat_lt ranked.priority other.priority then other else ranked) best ranked }
+fn is_beaten(priority: u8, best: Option<Ranked>) -> bool
+    ensures { result ≡ option_map_or (λ other. nat_lt priority other.priority) best false }
 {
     match best {
-        Some(other) if ranked.priority < other.priority => other,
-        _ => ranked,
+        Some(other) => priority < other.priority,
+        None => false,
+    }
+}
+
+// The better of a job and the best of those behind it: of two able jobs of equal priority the first. Whether the job is able
+// is asked only where it would be the better one.
+#[inline(always)]
+fn better_of(events: &Events, ranked: Ranked, best: Option<Ranked>) -> Option<Ranked>
+    ensures { result ≡ (if not (option_map_or (λ other. nat_lt ranked.priority other.priority) best false) && is_able_in events.now ranked.job then Some ranked else best) }
+{
+    if is_beaten(ranked.priority, best) {
+        return best;
+    }
+    if is_able(events, ranked.job) {
+        Some(ranked)
+    } else {
+        best
     }
 }
 
