@@ -192,8 +192,6 @@ fn task_priority(core: &Core, task: TaskRef) -> u8
     requires { IsSome (own_task core.now task) }
     ensures { result ≡ static_priority core.now (Runner.Task task) }
 {
-    match task_of(core, task) {
-        Some(own) => own.priority,
-        None => unreachable!(),
-    }
+    let own = &core.tasks.as_slice()[usize::from(task.index)];
+    own.priority
 }

@@ -90,9 +90,12 @@ abbrev pub named : View → History → Ask → Answer → Option Item
 named v h ask answer = named_by v.core (phase_at v h) ask answer
 
 -- What a turn asks, with the item to which the answer leads.
+abbrev pub leads_to : CoreId → Phase → Ask → Answer → Option (Ask × Item)
+leads_to id phase ask answer = option_map (λ item. (ask, item)) (named_by id phase ask answer)
+
 abbrev pub comes_to : CoreId → Phase → (Ask → Answer) → Option Ask → Option (Ask × Item)
 comes_to id phase answers None = None
-comes_to id phase answers (Some ask) = option_map (λ item. (ask, item)) (named_by id phase ask (answers ask))
+comes_to id phase answers (Some ask) = leads_to id phase ask (answers ask)
 
 -- The call of the board in it, if there is one.
 abbrev pub told_by : CoreId → Ask → Answer → List BoardEntry

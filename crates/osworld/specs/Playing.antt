@@ -1,5 +1,5 @@
 -- What a listed run holds in memory, beside the world's definition. Who reads what a run promises needs none of it. [own]
-use Rattle.std.specs.Prelude.{◌≡◌, ℕ, ◌*◌, ◌<◌, ◌≤◌, Bool, not, IsTrue, Some, List, [], length, drop, take, map}
+use Rattle.std.specs.Prelude.{◌≡◌, ℕ, ◌*◌, ◌<◌, ◌≤◌, Bool, not, IsTrue, Some, List, [], length, drop, take, map, position, slice_get}
 use Rattle.std.specs.List.{All}
 use Rattle.osbase.specs.declared.references.CoreId.{CoreId}
 use Rattle.osbase.specs.declared.messages.Envelope.{Envelope}
@@ -8,7 +8,7 @@ use Rattle.osbase.specs.declared.turns.Choice.{Choice}
 use Rattle.osbase.specs.declared.turns.CoreStimuli.{CoreStimuli}
 use Rattle.osbase.specs.declared.turns.Report.{Report}
 use Rattle.osbase.specs.declared.turns.TheConstants.{CORES}
-use Rattle.osbase.specs.History.{posted, received_count}
+use Rattle.osbase.specs.History.{posted, received_count, same_core}
 use Rattle.osbase.specs.Runs.{stimuli_of}
 use Rattle.osmail.specs.Mail.{Mail, box_of}
 use Rattle.osplan.specs.declared.plans.Plan.{Plan}
@@ -16,8 +16,12 @@ use Rattle.osplan.specs.View.{view_of}
 use Rattle.osstate.specs.Does.{Tracks}
 use Rattle.oskernel.specs.Step.{solo}
 use Rattle.osboard.specs.declared.calls.BoardState.{BoardState}
+use Rattle.osworld.specs.declared.asks.Ask.{Ask}
+use Rattle.osworld.specs.declared.asks.Answer.{Answer}
 use Rattle.osworld.specs.declared.seats.Seat.{Seat}
 use Rattle.osworld.specs.declared.worlds.World.{World as Run}
+use Rattle.osworld.specs.Answering.{next_by}
+use Rattle.osworld.specs.Asking.{leads_to}
 use Rattle.osworld.specs.Fits.{history_by}
 use Rattle.osworld.specs.Runs.{AppendsAt, HasAtLeast, default_turns, is_default, is_ended_phase, round_of}
 use Rattle.osworld.specs.World.{World, board_in, first_world, history_in, is_unchanged, stimulus_count, world, world_from}
@@ -92,6 +96,11 @@ pub record IsDefaultCutShort (plan : Plan) (stimuli : List CoreStimuli) (seats :
   pub rounds : ℕ
   pub goes_on : HasAtLeast plan stimuli rounds
   pub cut : IsCutShort plan stimuli (first_world plan) (default_turns plan rounds) seats mail board
+
+-- A turn of the core that sits at this place asks this, and leads on by this answer.
+pub record IsAnswered (plan : Plan) (seats : List Seat) (mail : Mail) (board : BoardState) (at : ℕ) (core : CoreId) (choice : Choice) (ask : Ask) (answer : Answer) : Type 0 where
+  pub place : position (λ (s : Seat). same_core s.id core) seats ≡ Some at
+  pub leads : (seat : Seat) → slice_get seats at ≡ Some seat → next_by plan board mail seat.id seat.stimuli.now seat.kernel choice ≡ leads_to seat.id seat.kernel.progress.phase ask answer
 
 -- What a function that plays turns does, whatever world the run stood for.
 abbrev pub PlaysTurns : List (CoreId × Choice) → Run → Bool → Run → Type 0

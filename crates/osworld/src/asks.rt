@@ -103,7 +103,8 @@ pub fn look_asked(phase: Phase) -> Option<Ask>
 }
 
 /// The item to which the answer leads a core in this phase: none where it leads to none, as at a gate that is still
-/// closed.
+/// closed. It is a call of its own: put in the place of the call, the item is put together byte by byte.
+#[inline(never)]
 pub fn named(id: CoreId, phase: Phase, ask: Ask, answer: Answer) -> Option<Item>
     ensures { result ≡ named_by id phase ask answer }
 {

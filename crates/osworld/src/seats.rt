@@ -1,6 +1,6 @@
 //! One core of a run.
 
-ghost use Rattle.std.specs.Prelude.{◌++◌, ◌∷◌, [], IsTrue, IsSome, ◌≡◌, ◌+◌, ◌<◌, ◌≤◌, IfSome, OnOk, slice_get, vec_len, vec_capacity};
+ghost use Rattle.std.specs.Prelude.{◌++◌, ◌∷◌, [], IsTrue, IsSome, None, ◌≡◌, ◌+◌, ◌<◌, ◌≤◌, IfNone, IfSome, OnOk, slice_get, vec_len, vec_capacity};
 ghost use Rattle.osbase.specs.declared.turns.TheConstants.{CORES};
 ghost use Rattle.osplan.specs.View.{core_of, view_of};
 ghost use Rattle.osplan.specs.Limits.{is_within_limits};
@@ -11,12 +11,12 @@ ghost use Rattle.oskernel.specs.Step.{after};
 ghost use Rattle.osbase.specs.Runs.{stimuli_of};
 ghost use Rattle.osworld.specs.Runs.{is_ended_phase};
 ghost use Rattle.oskernel.specs.Wants.{want_in};
-ghost use Rattle.osworld.specs.Asking.{asked_by};
-ghost use Rattle.osworld.specs.Answering.{IsPlaced, left_after, next_by};
+ghost use Rattle.osworld.specs.Asking.{asked_by, leads_to};
+ghost use Rattle.osworld.specs.Answering.{answer_by, left_after, next_by};
 ghost use Rattle.oskernel.specs.declared.kernel.TheConstants.{STEP_MARKS};
 
 use crate::answering::{Mailboxes, answer_to};
-use crate::asks::{Ask, look_asked, named, own_asked};
+use crate::asks::{Answer, Ask, look_asked, own_asked};
 use osbase::{
     CORES, Choice, CoreId, CoreStimuli, Envelope, Item, List, Mark, Phase, Report, Stimulus,
     stimuli_for,
@@ -66,22 +66,22 @@ impl<'a> Seat<'a> {
         }
     }
 
-    /// What a turn of this core asks, and the item to which the answer leads.
-    pub fn next(
+    /// What a turn of this core asks and is answered: none where it asks nothing, or serves a core from which there is
+    /// no envelope, as most turns do.
+    pub fn answered(
         &self,
         plan: &Plan,
         board: &BoardList,
         mail: &Mailboxes,
         choice: Choice,
-    ) -> Option<(Ask, Item)>
-        ensures value { result ≡ next_by plan.now board.now mail.now self.now.id self.now.stimuli.now self.now.kernel choice }
-        ensures placed { IfSome result (λ t. IsPlaced mail.now self.now.id t.1) }
+    ) -> Option<(Ask, Answer)>
+        ensures answer { IfSome result (λ t. t.1 ≡ answer_by board.now mail.now self.now.id t.0) }
+        ensures leads { IfSome result (λ t. next_by plan.now board.now mail.now self.now.id self.now.stimuli.now self.now.kernel choice ≡ leads_to self.now.id self.now.kernel.progress.phase t.0 t.1) }
+        ensures none { IfNone result (next_by plan.now board.now mail.now self.now.id self.now.stimuli.now self.now.kernel choice ≡ None) }
     {
-        let phase = self.kernel.phase();
         let ask = self.asked(plan, choice)?;
         let answer = answer_to(board, mail, self.id, ask)?;
-        let item = named(self.id, phase, ask, answer)?;
-        Some((ask, item))
+        Some((ask, answer))
     }
 
     // What a turn asks. What the core wants is asked of the kernel for its own turn alone.

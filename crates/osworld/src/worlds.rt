@@ -5,14 +5,17 @@ ghost use Rattle.std.specs.List.{list_all};
 ghost use Rattle.std.proofs.Props.{props};
 ghost use Rattle.osbase.specs.declared.turns.TheConstants.{CORES};
 ghost use Rattle.osbase.specs.declared.references.CoreId.{CoreId as CoreIdValue};
+ghost use Rattle.osbase.specs.declared.turns.Choice.{Choice as ChoiceValue};
 ghost use Rattle.osbase.specs.History.{same_core};
 ghost use Rattle.osplan.specs.Limits.{is_within_limits};
 ghost use Rattle.osworld.specs.declared.seats.Seat.{Seat as SeatValue};
 ghost use Rattle.osbase.specs.Sets.{has_core};
+ghost use Rattle.osworld.specs.Answering.{answer_by};
 ghost use Rattle.osworld.specs.World.{first_world};
 ghost use Rattle.osworld.specs.Runs.{is_ended_phase};
 
 use crate::answering::{Mailboxes, carry, tell};
+use crate::asks::{Answer, Ask, named};
 use crate::seats::Seat;
 use osbase::{CORE_NUMBERS, CORES, Choice, CoreId, CoreStimuli, Item, Report, Turn};
 use osboard::BoardList;
@@ -33,7 +36,7 @@ pub struct World<'a> {
 }
 
 impl<'a> World<'a> {
-    ghost use Rattle.osworld.specs.Playing.{Plays, PlaysTurns, StopsShort, report_of};
+    ghost use Rattle.osworld.specs.Playing.{IsAnswered, Plays, PlaysTurns, StopsShort, report_of};
 
     /// The world before the first turn, with place for the reports at its end.
     pub fn new(
@@ -92,9 +95,27 @@ impl<'a> World<'a> {
         let Some(at) = self.place_of(core) else {
             return Ok(false);
         };
+        let seat = &self.seats[at];
+        match seat.answered(self.config.plan(), &self.board, &self.mail, choice) {
+            Some((ask, answer)) => self.go_on(at, ask, answer),
+            None => Ok(false),
+        }
+    }
+
+    // What comes of an answer: the item to which it leads, if the core takes it. It is a call of its own, so that a turn
+    // without an answer, as most are, costs none of it.
+    #[inline(never)]
+    fn go_on(&mut self, at: usize, ask: Ask, answer: Answer) -> Result<bool, AllocError>
+        requires at { at < vec_len self.old.seats }
+        requires answer { (seat : SeatValue) → slice_get self.old.seats.items at ≡ Some seat → answer ≡ answer_by self.old.board self.old.mail seat.id ask }
+        ensures config { self.new.config ≡ self.old.config }
+        ensures reports { self.new.reports ≡ self.old.reports }
+        ensures len { vec_len self.new.seats ≡ vec_len self.old.seats }
+        ensures ok { IfOk result (λ changed. (core : CoreIdValue) (choice : ChoiceValue) → IsAnswered self.old.config.now self.old.seats.items self.old.mail self.old.board at core choice ask answer → PlaysTurns ((core, choice) ∷ []) self.old changed self.new) }
+        ensures err { OnErr result ((core : CoreIdValue) (choice : ChoiceValue) → IsAnswered self.old.config.now self.old.seats.items self.old.mail self.old.board at core choice ask answer → StopsShort ((core, choice) ∷ []) self.old self.new) }
+    {
         let seat = &mut self.seats[at];
-        let Some((ask, item)) = seat.next(self.config.plan(), &self.board, &self.mail, choice)
-        else {
+        let Some(item) = named(seat.id, seat.kernel.phase(), ask, answer) else {
             return Ok(false);
         };
         if !seat.kernel.may_take(&item) {

@@ -1,51 +1,40 @@
-use Rattle.std.proofs.Common.{Some, ap, refl, sym, ◌∙◌}
-use Rattle.osworld.proofs.Places.{place_by-set}
-use Rattle.osworld.proofs.Turned.{nobody-played, nothing-played, refused-played, taken-played, stopped-short, on_err}
+use Rattle.std.proofs.Common.{◌≡◌, [], ◌∷◌, subst, sym, ◌∙◌}
+use Rattle.std.proofs.lemmas.Option.{get_or_from_slice_get}
+use Rattle.osbase.specs.declared.references.CoreId.{CoreId}
+use Rattle.osbase.specs.declared.turns.Choice.{Choice}
+use Rattle.osworld.specs.Answering.{next_by}
+use Rattle.osworld.specs.Asking.{leads_to}
+use Rattle.osworld.specs.Playing.{IsAnswered, PlaysTurns, StopsShort}
+use Rattle.osworld.specs.declared.seats.Seat.{Seat}
+use Rattle.osworld.proofs.Turned.{if_err, if_ok, nobody-played, unanswered-played}
 use Rattle.osworld.proofs.worlds.World.turn.Goals as goal
+
+-- what the turn asks, and the answer
+answered : (c : goal.After-go_on) → IsAnswered c.args.self.now.config.now c.args.self.now.seats.items c.args.self.now.mail c.args.self.now.board c.in-Some.at c.args.core c.args.choice c.in-Some-answered.ask c.in-Some-answered.answer
+answered c = record {
+  place = sym c.place_of.ensures.place ∙ c.in-Some.is;
+  leads = λ seat there.
+      let same : c.index-seat.result.now ≡ seat = c.index-seat.ensures ∙ get_or_from_slice_get c.args.self.now.seats.items c.in-Some.at seat c.index-seat.result.now there in
+      subst (λ (s : Seat). next_by c.args.self.now.config.now c.args.self.now.board c.args.self.now.mail s.id s.stimuli.now s.kernel c.args.choice ≡ leads_to s.id s.kernel.progress.phase c.in-Some-answered.ask c.in-Some-answered.answer) same
+      (rw (← c.plan.ensures.value) c.in-Some-answered.ensures.leads);
+}
 
 pub returns-in_default-clause-ok : goal.returns-in_default-clause-ok
 returns-in_default-clause-ok c stimuli w plays =
     nobody-played c.args.self.now.config.now stimuli w c.args.self.now.seats.items c.args.self.now.mail c.args.self.now.board plays c.args.core c.args.choice (sym c.place_of.ensures.place ∙ c.in_default.is)
 
-pub returns-in_default-next-clause-ok : goal.returns-in_default-next-clause-ok
-returns-in_default-next-clause-ok c stimuli w plays =
-    nothing-played c.args.self.now.config.now stimuli w c.args.self.now.seats.items c.args.self.now.mail c.args.self.now.board plays c.args.core c.args.choice c.in-Some.at c.index_mut-seat.result.now
-    (sym c.place_of.ensures.place ∙ c.in-Some.is) c.index_mut-seat.ensures.value (rw (← c.plan.ensures.value) (sym c.next.ensures.value ∙ c.in_default-next.is))
-    c.index_mut-seat.result.now (record { id = refl; left = refl; items = refl; marks = refl; kernel = refl })
+pub returns-in-Some-answered-clause-ok : goal.returns-in-Some-answered-clause-ok
+returns-in-Some-answered-clause-ok c =
+    if_ok c.go_on.result
+    (λ changed. (core : CoreId) (choice : Choice) → IsAnswered c.args.self.now.config.now c.args.self.now.seats.items c.args.self.now.mail c.args.self.now.board c.in-Some.at core choice c.in-Some-answered.ask c.in-Some-answered.answer → PlaysTurns ((core, choice) ∷ []) c.args.self.now changed c.go_on.new.self)
+    (λ changed. PlaysTurns ((c.args.core, c.args.choice) ∷ []) c.args.self.now changed c.go_on.new.self)
+    (λ changed plays. plays c.args.core c.args.choice (answered c)) c.go_on.ensures.ok
 
-pub returns-then-not-may_take-clause-ok : goal.returns-then-not-may_take-clause-ok
-returns-then-not-may_take-clause-ok c stimuli w plays =
-    refused-played c.args.self.now.config.now stimuli w c.args.self.now.seats.items c.args.self.now.mail c.args.self.now.board plays c.args.core c.args.choice c.in-Some.at c.index_mut-seat.result.now
-    (sym c.place_of.ensures.place ∙ c.in-Some.is) c.index_mut-seat.ensures.value c.in-Some-next.ask c.in-Some-next.item (rw (← c.plan.ensures.value) (sym c.next.ensures.value ∙ c.in-Some-next.is))
-    c.may_take.result c.may_take.ensures.reads c.if-not-may_take.true
-    c.index_mut-seat.result.now (record { id = refl; left = refl; items = refl; marks = refl; kernel = refl })
+pub returns-in-Some-answered-clause-err : goal.returns-in-Some-answered-clause-err
+returns-in-Some-answered-clause-err c =
+    if_err c.go_on.result (λ (stops : (core : CoreId) (choice : Choice) → IsAnswered c.args.self.now.config.now c.args.self.now.seats.items c.args.self.now.mail c.args.self.now.board c.in-Some.at core choice c.in-Some-answered.ask c.in-Some-answered.answer → StopsShort ((core, choice) ∷ []) c.args.self.now c.go_on.new.self). stops c.args.core c.args.choice (answered c)) c.go_on.ensures.err
 
-pub returns-in_err-make_room-clause-err : goal.returns-in_err-make_room-clause-err
-returns-in_err-make_room-clause-err c =
-    on_err c.from_residual.result (λ stimuli w plays.
-    stopped-short c.args.self.now.config.now stimuli w c.args.self.now.seats.items c.args.self.now.mail c.args.self.now.board plays c.args.core c.args.choice c.in-Some.at c.index_mut-seat.result.now
-    (sym c.place_of.ensures.place ∙ c.in-Some.is) c.index_mut-seat.ensures.value c.in-Some-next.ask c.in-Some-next.item (rw (← c.plan.ensures.value) (sym c.next.ensures.value ∙ c.in-Some-next.is))
-    c.may_take.result c.may_take.ensures.reads c.if-not-may_take.false
-    c.make_room.new.self (record { id = c.make_room.ensures.id; left = c.make_room.ensures.stimuli; items = c.make_room.ensures.taken; marks = c.make_room.ensures.printed; kernel = c.make_room.ensures.kernel }))
-
-pub returns-clause-ok : goal.returns-clause-ok
-returns-clause-ok c stimuli w plays =
-    taken-played c.args.self.now.config.now stimuli w c.args.self.now.seats.items c.args.self.now.mail c.args.self.now.board plays c.args.core c.args.choice c.in-Some.at c.index_mut-seat.result.now
-    (sym c.place_of.ensures.place ∙ c.in-Some.is) c.index_mut-seat.ensures.value c.in-Some-next.ask c.in-Some-next.item (rw (← c.plan.ensures.value) (sym c.next.ensures.value ∙ c.in-Some-next.is))
-    c.may_take.result c.may_take.ensures.reads c.if-not-may_take.false
-    c.make_room.new.self c.take.new.self
-    (record { id = c.make_room.ensures.id; left = c.make_room.ensures.stimuli; items = c.make_room.ensures.taken; marks = c.make_room.ensures.printed; kernel = c.make_room.ensures.kernel })
-    (record { id = c.take.ensures.id; left = c.take.ensures.stimuli; items = c.take.ensures.taken; does = c.take.ensures.does })
-    c.in-Some-next.ensures.placed c.front.result c.carry.new.mail c.tell.new.board c.front.ensures.state c.carry.ensures c.tell.ensures
-
-pub invariant_of-self-in-Break-1 : goal.invariant_of-self-in-Break-1
-invariant_of-self-in-Break-1 c = record {
-  placed = λ core below. c.args.self.now.placed core below
-      ∙ ap Some (sym (place_by-set c.args.self.now.seats.items c.in-Some.at c.index_mut-seat.result.now c.make_room.new.self core c.index_mut-seat.ensures.value c.make_room.ensures.id));
-}
-
-pub invariant_of-self-2 : goal.invariant_of-self-2
-invariant_of-self-2 c = record {
-  placed = λ core below. c.args.self.now.placed core below
-      ∙ ap Some (sym (place_by-set c.args.self.now.seats.items c.in-Some.at c.index_mut-seat.result.now c.take.new.self core c.index_mut-seat.ensures.value (c.take.ensures.id ∙ c.make_room.ensures.id)));
-}
+pub returns-in-None-clause-ok : goal.returns-in-None-clause-ok
+returns-in-None-clause-ok c stimuli w plays =
+    unanswered-played c.args.self.now.config.now stimuli w c.args.self.now.seats.items c.args.self.now.mail c.args.self.now.board plays c.args.core c.args.choice c.in-Some.at c.index-seat.result.now
+    (sym c.place_of.ensures.place ∙ c.in-Some.is) c.index-seat.ensures (rw (← c.plan.ensures.value) c.in-None.ensures.none)
