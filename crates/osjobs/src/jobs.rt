@@ -181,14 +181,15 @@ impl<const J: usize> Jobs<J> {
     }
 
     /// The job to run: of the able jobs of greatest current priority the oldest (OSEK/VDX OS 2.2.3, section 4.4
-    /// and 4.5).
-    pub fn best(&self, core: &Core) -> Option<Job>
+    /// and 4.5). The caller knows which job is running, and nobody looks for it twice.
+    pub fn best(&self, core: &Core, running: Option<Job>) -> Option<Job>
+        requires running { running ≡ running_among self.now }
         requires own { All (λ j. IsTrue (is_own_runner core.now j.runner)) self.now.jobs }
         requires tasks { length core.now.tasks ≤ TASKS }
         ensures best { result ≡ best_among core.now self.now }
         ensures own { IfSome result (λ j. IsTrue (is_own_runner core.now j.runner)) }
     {
-        let raised = priorities::raised_of(core, self.giving_way, self.running());
+        let raised = priorities::raised_of(core, self.giving_way, running);
         priorities::first_greatest(
             core,
             &self.resources,

@@ -287,8 +287,9 @@ pub(crate) fn dispatch<const P: usize, const J: usize, const OUT: usize>(
     ensures { Effects 2 2 (λ v h. dispatches v h) state.old state.new marks.old marks.new }
 {
     if may_dispatch(state) {
-        let best = state.best_job();
-        go_to(state, best, marks);
+        let running = state.running_job();
+        let best = state.best_job(running);
+        go_to(state, running, best, marks);
     }
 }
 
@@ -303,27 +304,26 @@ fn may_dispatch<const P: usize, const J: usize, const OUT: usize>(
 // Going to the best job: nothing if it is the running one (OSEK/VDX OS 2.2.3, section 4.4 and 4.6).
 fn go_to<const P: usize, const J: usize, const OUT: usize>(
     state: &mut CoreState<'_, P, J, OUT>,
+    running: Option<Job>,
     best: Option<Job>,
     marks: &mut Vec<Mark>,
 )
+    requires running { running ≡ running_in state.old }
     requires own { IfSome best (λ job. IsTrue (is_own_runner state.old.view.own job.runner)) }
     requires room { HasRoom 2 2 state.old marks.old }
     ensures { Effects 2 2 (λ v h. goes_to v best h) state.old state.new marks.old marks.new }
 {
     if let Some(job) = best {
-        if !is_running(state, job) {
+        if !is_running(running, job) {
             enter(state, job.runner, marks);
         }
     }
 }
 
-fn is_running<const P: usize, const J: usize, const OUT: usize>(
-    state: &CoreState<'_, P, J, OUT>,
-    job: Job,
-) -> bool
-    ensures { result ≡ option_map_or (same_job job) (running_in state.now) false }
+fn is_running(running: Option<Job>, job: Job) -> bool
+    ensures { result ≡ option_map_or (same_job job) running false }
 {
-    match state.running_job() {
+    match running {
         Some(running) => job.stamp == running.stamp,
         None => false,
     }

@@ -450,13 +450,14 @@ impl<'a, const P: usize, const J: usize, const OUT: usize> CoreState<'a, P, J, O
     }
 
     /// The job to run: of the able jobs of greatest current priority the oldest (OSEK/VDX OS 2.2.3, section 4.4
-    /// and 4.5).
-    pub fn best_job(&self) -> Option<Job>
+    /// and 4.5), where this one is running.
+    pub fn best_job(&self, running: Option<Job>) -> Option<Job>
+        requires { running ≡ running_in self.now }
         ensures value { result ≡ best_in self.now }
         ensures reads { Reads (λ v h. best_job v h) self.now result }
         ensures own { IfSome result (λ job. IsTrue (is_own_runner self.now.view.own job.runner)) }
     {
-        self.jobs.best(self.core)
+        self.jobs.best(self.core, running)
     }
 
     /// A resource of the core that a script names, as a job would hold it; none for the invalid identifier, and for
