@@ -105,8 +105,8 @@ pub fn look_asked(phase: Phase) -> Option<Ask>
 /// The item to which the answer leads a core in this phase: none where it leads to none, as at a gate that is still
 /// closed. It is a call of its own: put in the place of the call, the item is put together byte by byte.
 #[inline(never)]
-pub fn named(id: CoreId, phase: Phase, ask: Ask, answer: Answer) -> Option<Item>
-    ensures { result ≡ named_by id phase ask answer }
+pub fn named(id: CoreId, phase: Phase, ask: Ask, answer: &Answer) -> Option<Item>
+    ensures { result ≡ named_by id phase ask answer.now }
 {
     match (ask, answer) {
         (Ask::OfBoard(call), Answer::Replied(reply)) => replied(id, phase, call, reply),
@@ -125,16 +125,19 @@ pub fn named(id: CoreId, phase: Phase, ask: Ask, answer: Answer) -> Option<Item>
     }
 }
 
-fn replied(id: CoreId, phase: Phase, call: BoardCall, reply: BoardReply) -> Option<Item>
-    ensures { result ≡ replied id phase call reply }
+fn replied(id: CoreId, phase: Phase, call: BoardCall, reply: &BoardReply) -> Option<Item>
+    ensures { result ≡ replied id phase call reply.now }
 {
     match (call, reply) {
-        (BoardCall::Start(core), BoardReply::Started(status)) => Some(Item::Began { core, status }),
+        (BoardCall::Start(core), BoardReply::Started(status)) => Some(Item::Began {
+            core,
+            status: *status,
+        }),
         (BoardCall::Enter(_), BoardReply::Acknowledged) => Some(Item::Entered),
         (BoardCall::MakeReady, BoardReply::Acknowledged) => Some(Item::Readied),
         (BoardCall::Drain, BoardReply::Acknowledged) => Some(Item::Drained),
-        (BoardCall::Look, BoardReply::Shown(view)) => passing(id, &view, phase),
-        (BoardCall::LookHalt, BoardReply::Halting(halt)) => Some(Item::Last(halt)),
+        (BoardCall::Look, BoardReply::Shown(view)) => passing(id, view, phase),
+        (BoardCall::LookHalt, BoardReply::Halting(halt)) => Some(Item::Last(*halt)),
         (_, _) => None,
     }
 }

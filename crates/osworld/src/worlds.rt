@@ -97,7 +97,7 @@ impl<'a> World<'a> {
         };
         let seat = &self.seats[at];
         match seat.answered(self.config.plan(), &self.board, &self.mail, choice) {
-            Some((ask, answer)) => self.go_on(at, ask, answer),
+            Some((ask, answer)) => self.go_on(at, ask, &answer),
             None => Ok(false),
         }
     }
@@ -105,14 +105,14 @@ impl<'a> World<'a> {
     // What comes of an answer: the item to which it leads, if the core takes it. It is a call of its own, so that a turn
     // without an answer, as most are, costs none of it.
     #[inline(never)]
-    fn go_on(&mut self, at: usize, ask: Ask, answer: Answer) -> Result<bool, AllocError>
+    fn go_on(&mut self, at: usize, ask: Ask, answer: &Answer) -> Result<bool, AllocError>
         requires at { at < vec_len self.old.seats }
-        requires answer { (seat : SeatValue) → slice_get self.old.seats.items at ≡ Some seat → answer ≡ answer_by self.old.board self.old.mail seat.id ask }
+        requires answer { (seat : SeatValue) → slice_get self.old.seats.items at ≡ Some seat → answer.now ≡ answer_by self.old.board self.old.mail seat.id ask }
         ensures config { self.new.config ≡ self.old.config }
         ensures reports { self.new.reports ≡ self.old.reports }
         ensures len { vec_len self.new.seats ≡ vec_len self.old.seats }
-        ensures ok { IfOk result (λ changed. (core : CoreIdValue) (choice : ChoiceValue) → IsAnswered self.old.config.now self.old.seats.items self.old.mail self.old.board at core choice ask answer → PlaysTurns ((core, choice) ∷ []) self.old changed self.new) }
-        ensures err { OnErr result ((core : CoreIdValue) (choice : ChoiceValue) → IsAnswered self.old.config.now self.old.seats.items self.old.mail self.old.board at core choice ask answer → StopsShort ((core, choice) ∷ []) self.old self.new) }
+        ensures ok { IfOk result (λ changed. (core : CoreIdValue) (choice : ChoiceValue) → IsAnswered self.old.config.now self.old.seats.items self.old.mail self.old.board at core choice ask answer.now → PlaysTurns ((core, choice) ∷ []) self.old changed self.new) }
+        ensures err { OnErr result ((core : CoreIdValue) (choice : ChoiceValue) → IsAnswered self.old.config.now self.old.seats.items self.old.mail self.old.board at core choice ask answer.now → StopsShort ((core, choice) ∷ []) self.old self.new) }
     {
         let seat = &mut self.seats[at];
         let Some(item) = named(seat.id, seat.kernel.phase(), ask, answer) else {
