@@ -11,10 +11,10 @@ use Rattle.osbase.specs.History.{same_core}
 abbrev pub stimuli_of : List CoreStimuli → CoreId → List Stimulus
 stimuli_of stimuli core = option_map_or (λ (entry : CoreStimuli). entry.words) (find (λ entry. same_core entry.core core) stimuli) []
 
--- Which stimulus there is: so far only the running job's next operation.
+-- Which stimulus there is: so far the running job's next operation, and a tick of the core's hardware counters.
 abbrev pub is_stimulus : Stimulus → Bool
 is_stimulus Stimulus.Op = true
-is_stimulus Stimulus.Tick = false
+is_stimulus Stimulus.Tick = true
 is_stimulus (Stimulus.Irq isr) = false
 
 -- The stimuli are such as there are so far, and of each core no more than it could take. Who plays them sees to it.

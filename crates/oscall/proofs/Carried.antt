@@ -7,6 +7,7 @@ use Rattle.std.proofs.lemmas.Bool.{and_parts}
 use Rattle.osbase.specs.declared.statuses.Status.{Status}
 use Rattle.osbase.specs.declared.statuses.ServiceId.{ServiceId}
 use Rattle.osbase.specs.declared.references.CoreId.{CoreId}
+use Rattle.osbase.specs.declared.references.CounterRef.{CounterRef}
 use Rattle.osbase.specs.declared.references.ResourceRef.{ResourceRef}
 use Rattle.osbase.specs.declared.references.TaskRef.{TaskRef}
 use Rattle.osbase.specs.declared.references.Runner.{Runner}
@@ -19,7 +20,8 @@ use Rattle.osbase.specs.declared.marks.Mark.{Mark}
 use Rattle.osbase.specs.declared.histories.OpenCall.{OpenCall}
 use Rattle.osbase.specs.declared.histories.HeldResource.{HeldResource}
 use Rattle.osbase.specs.declared.histories.TaskEvents.{TaskEvents}
-use Rattle.osbase.specs.History.{Entry, History, Took, Printed, Noted, Opened, Queued, Taken, Given, Done, awaits_one_of, have_common, job_count, live_jobs, same_runner}
+use Rattle.osbase.specs.Counting.{counts_of, value_after}
+use Rattle.osbase.specs.History.{Entry, History, Took, Printed, Noted, Counted, Opened, Queued, Taken, Given, Done, awaits_one_of, have_common, job_count, live_jobs, same_runner}
 use Rattle.osbase.specs.Marks.{core_of_runner, names_only}
 use Rattle.osbase.specs.Words.{status_number}
 use Rattle.oscript.specs.declared.Frame.{Frame}
@@ -36,6 +38,8 @@ use Rattle.oscall.specs.Border.{answer_to, border_checks, calls, core_of_call, c
 use Rattle.oscall.specs.Chaining.{chaining_checks, chains_here, chains_to, ends_caller, exceeds_limit, resumes}
 use Rattle.oscall.specs.Callers.{by_task, holding_none}
 use Rattle.oscall.specs.Checks.{Check, first_failing, is_ok_status}
+use Rattle.osclock.specs.Clocks.{max_of, value_by}
+use Rattle.oscall.specs.Counters.{counts, counts_and_returns, incrementing_checks, own_clock, tells_value}
 use Rattle.oscall.specs.Events.{begins_to_wait, by_extended, clearing_checks, clears, clears_and_returns, goes_on_or_waits, own_target, reading_checks, releases, sets_events, tells_events, waiting_checks}
 use Rattle.oscall.specs.Operations.{operates}
 use Rattle.oscall.specs.Returning.{answers, asks, queues, reports, returns}
@@ -65,6 +69,7 @@ pub record ServesSame (v : View) (may : CoreId → Bool) (h k : History) : Type 
   pub frame : (r : Runner) → frame_at v r h ≡ frame_at v r k
   pub held : held_resources v h ≡ held_resources v k
   pub events : task_events v h ≡ task_events v k
+  pub counts : (c : CounterRef) → counts_of c h ≡ counts_of c k
 
 -- A note of the core itself, or a mark that names only objects of cores that pass: neither an item nor what goes to
 -- another core.
@@ -352,6 +357,24 @@ module _ (v : View) (master : Bool) (ids : List CoreId) (may answered names : Co
       (ap (λ (held : List (List HeldResource)). first_failing (by_task r ∷ by_extended v r ∷ (holds_any (held_in r held), Status.EOsResource) ∷ [])) (kept.reads h k p).held)
       (goes_on_or_waits v r mask) (goes_on_or_waits other r mask) h k n p (goes_on_or_waits-carried r mask h k n p)
 
+  counts-carried : (target : Option CounterRef) (h k : History) → R h k → R (counts target h) (counts target k)
+  counts-carried None h k p = p
+  counts-carried (Some c) h k p = kept.local (Noted (Counted c)) h k refl p
+
+  increment-carried : (target : Option CounterRef) → Carried (Op.IncrementCounter target)
+  increment-carried target r h k n allowed p =
+      answers-carried r ServiceId.IncrementCounter (incrementing_checks v target) (incrementing_checks v target) refl
+      (counts_and_returns r target) (counts_and_returns r target) h k n p
+      (returns-carried r ServiceId.IncrementCounter Status.EOk None _ _ n (counts-carried target h k p))
+
+  -- GetCounterValue of a counter of the core, or of none.
+  value-carried : (target : Option CounterRef) (r : Runner) (h k : History) → IsNamed r → R h k
+      → R (answers r ServiceId.GetCounterValue ((is_none target, Status.EOsId) ∷ []) (tells_value v r target) h) (answers r ServiceId.GetCounterValue ((is_none target, Status.EOsId) ∷ []) (tells_value other r target) k)
+  value-carried None r h k n p = returns-carried r ServiceId.GetCounterValue Status.EOsId None h k n p
+  value-carried (Some c) r h k n p =
+      subst (λ (count : ℕ). R (tells_value v r (Some c) h) (returns r ServiceId.GetCounterValue Status.EOk (Some (pos (value_after (max_of v.own c) count))) k)) ((kept.reads h k p).counts c)
+      (returns-carried r ServiceId.GetCounterValue Status.EOk (Some (pos (value_by v.own c h))) h k n p)
+
   pub operates-carried : (op : Op) → Carried op
   operates-carried Op.Work r h k n allowed p = done-carried r h k p
   operates-carried (Op.Set x z) r h k n allowed p = sets-carried (λ frame. z) x r h k n p
@@ -370,3 +393,5 @@ module _ (v : View) (master : Bool) (ids : List CoreId) (may answered names : Co
   operates-carried (Op.ClearEvent mask) r h k n allowed p = clear_event-carried mask r h k n allowed p
   operates-carried (Op.GetEvent target x) r h k n allowed p = reads_event-carried (own_target v.own target) r h k n p
   operates-carried (Op.WaitEvent mask) r h k n allowed p = wait_event-carried mask r h k n allowed p
+  operates-carried (Op.IncrementCounter target) r h k n allowed p = increment-carried target r h k n allowed p
+  operates-carried (Op.GetCounterValue target x) r h k n allowed p = value-carried (own_clock v.own target) r h k n p

@@ -1,5 +1,5 @@
 -- The services of events.
-use Rattle.std.specs.Prelude.{ℕ, ℤ, pos, not, if◌then◌else◌, Option, Some, None, is_none, List, [], ◌∷◌, ◌++◌}
+use Rattle.std.specs.Prelude.{ℕ, pos, not, if◌then◌else◌, Option, Some, None, is_none, List, [], ◌∷◌, ◌++◌}
 use Rattle.std.specs.Option.{option_map_or}
 use Rattle.osbase.specs.declared.statuses.Status.TheVariants.{EOk, EOsAccess, EOsId, EOsState}
 use Rattle.osbase.specs.declared.statuses.ServiceId.TheVariants as ServiceId

@@ -5,6 +5,7 @@ pub mod Service
 pub mod Tasks
 pub mod Resources
 pub mod Events
+pub mod Counters
 pub mod Border
 pub mod Chaining
 pub mod Variables

@@ -12,6 +12,7 @@ use Rattle.osplan.specs.View.{View}
 use Rattle.oscall.specs.Tasks.{schedules, terminates}
 use Rattle.oscall.specs.Resources.{gets_resource, releases_resource}
 use Rattle.oscall.specs.Events.{clears_event, gets_event, waits_event}
+use Rattle.oscall.specs.Counters.{gets_value, increments}
 use Rattle.oscall.specs.Border.{calls}
 use Rattle.oscall.specs.Chaining.{chains}
 use Rattle.oscall.specs.Variables.{adds, adds_variable, sets, stores_status}
@@ -39,3 +40,5 @@ operates v r (Op.SetEvent target mask) h = calls v r Service.SetEvent (setting_c
 operates v r (Op.ClearEvent mask) h = clears_event v r mask h
 operates v r (Op.GetEvent target x) h = gets_event v r target h
 operates v r (Op.WaitEvent mask) h = waits_event v r mask h
+operates v r (Op.IncrementCounter target) h = increments v r target h
+operates v r (Op.GetCounterValue target x) h = gets_value v r target h

@@ -5,6 +5,7 @@
 
 pub mod border;
 pub mod chaining;
+pub mod counters;
 pub mod events;
 pub mod operations;
 pub mod resources;
@@ -14,6 +15,7 @@ pub mod variables;
 
 pub use border::{call, has_service, serve_action, serve_request};
 pub use chaining::{chain, resume};
+pub use counters::{get_counter_value, increment_counter};
 pub use events::{clear_event, get_event, set_event, wait_event};
 pub use operations::operate;
 pub use resources::{get_resource, release_resource};

@@ -9,6 +9,7 @@ ghost use Rattle.oscall.specs.Operations.{operates, setting_call};
 
 use crate::border::call;
 use crate::chaining::chain;
+use crate::counters::{get_counter_value, increment_counter};
 use crate::events::{clear_event, get_event, wait_event};
 use crate::resources::{get_resource, release_resource};
 use crate::tasks::{schedule, terminate};
@@ -55,6 +56,8 @@ pub fn operate<const P: usize, const J: usize, const OUT: usize>(
         Op::ClearEvent(mask) => clear_event(state, runner, mask, marks),
         Op::GetEvent(target, _) => get_event(state, runner, target, marks),
         Op::WaitEvent(mask) => wait_event(state, runner, mask, marks),
+        Op::IncrementCounter(target) => increment_counter(state, runner, target, marks),
+        Op::GetCounterValue(target, _) => get_counter_value(state, runner, target, marks),
     }
 }
 

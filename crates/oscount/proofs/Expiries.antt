@@ -219,11 +219,11 @@ pub set-by : (counter : Counter) (count first cycle value : ℕ) → counter ≡
 set-by counter count first cycle value is later most within same =
     ap (λ v. record { expiry = Some (record { value = v; cycle = cycle }) }) same ∙ ap (λ e. record { expiry = e }) (sym (as-set counter.max count first cycle later most within))
 
-pub relative-by : (counter : Counter) (count first cycle value : ℕ) → counter ≡ counter_at counter.max count → 0 < first → first ≤ counter.max → cycle ≤ counter.max
+pub relative-by : (counter : Counter) (count first cycle value : ℕ) → counter ≡ counter_at counter.max count → 0 < first → first ≤ suc counter.max → cycle ≤ counter.max
     → value ≡ wrapped counter.max (counter.value + first) → record { expiry = Some (record { value = value; cycle = cycle }) } ≡ alarm_at counter.max count (Some (setting_of first cycle))
 relative-by counter count first cycle value is later most within same =
-    set-by counter count first cycle value is later (omega (arith, most)) within
-    (same ∙ (ap (λ v. wrapped counter.max (v + first)) (value-is counter count is) ∙ further-mod counter.max count first (omega (arith, most))))
+    set-by counter count first cycle value is later most within
+    (same ∙ (ap (λ v. wrapped counter.max (v + first)) (value-is counter count is) ∙ further-mod counter.max count first most))
 
 pub absolute-by : (counter : Counter) (count start cycle : ℕ) → counter ≡ counter_at counter.max count → start ≤ counter.max → cycle ≤ counter.max
     → record { expiry = Some (record { value = start; cycle = cycle }) } ≡ alarm_at counter.max count (Some (setting_of (counts_to counter.max counter.value start) cycle))

@@ -23,17 +23,19 @@ pub struct Alarm {
 impl Alarm {
     /// An alarm that is not in use.
     pub fn new() -> Self
-        ensures { (max count : ℕ) → result ≡ alarm_at max count None }
+        ensures state { result ≡ record { expiry = None } }
+        ensures counts { (max count : ℕ) → result ≡ alarm_at max count None }
     {
         Alarm { expiry: None }
     }
 
-    /// The alarm is due after so many counts, and again after each cycle (OSEK/VDX OS 2.2.3, section 13.6.3.3).
+    /// The alarm is due after so many counts, at most a full turn, and again after each cycle (OSEK/VDX OS 2.2.3,
+    /// section 13.6.3.3; the full turn: own).
     pub fn set_rel(&mut self, counter: Counter, increment: u32, cycle: u32)
         requires max { counter.max < 2 ^ 31 }
         requires value { counter.value ≤ counter.max }
         requires later { 0 < increment }
-        requires turn { increment ≤ counter.max }
+        requires turn { increment ≤ suc counter.max }
         requires cycle { cycle ≤ counter.max }
         ensures state { self.new ≡ alarm_due (wrapped counter.max (counter.value + increment)) cycle }
         ensures counts { (count : ℕ) → counter ≡ counter_at counter.max count → self.new ≡ alarm_at counter.max count (Some (setting_of increment cycle)) }

@@ -4,7 +4,7 @@ ghost use Rattle.std.specs.Prelude.{◌≡◌, ◌<◌, ◌≤◌, ◌^◌, ℕ,
 ghost use Rattle.oscount.specs.Clocks.{advanced, counter_at, wrapped};
 
 /// A counter (OSEK/VDX OS 2.2.3, section 9.1): its value goes from 0 to its greatest, and then to 0 again.
-#[derive(Clone, Copy, Debug, PartialEq, Eq)]
+#[derive(Clone, Copy, Debug, Default, PartialEq, Eq)]
 pub struct Counter {
     /// The greatest value (AUTOSAR SWS OS 4.x, OsCounterMaxAllowedValue).
     pub max: u32,

@@ -2,17 +2,18 @@
 use Rattle.std.proofs.Common.{◌≡◌, ℕ, Bool, true, List, [], ◌∷◌, Option, Some, None, option_map, refl, ap}
 use Rattle.std.specs.List.{list_all, slice_get}
 use Rattle.std.proofs.lemmas.Bool.{and_parts, false≢true}
+use Rattle.osbase.specs.declared.references.CounterRef.{CounterRef}
 use Rattle.osbase.specs.declared.references.ResourceRef.{ResourceRef}
 use Rattle.osbase.specs.declared.references.TaskRef.{TaskRef}
-use Rattle.osbase.specs.Objects.{resource_of, task_of}
-use Rattle.osbase.specs.declared.objects.ObjectKind.TheVariants.{Task, Resource}
+use Rattle.osbase.specs.Objects.{counter_of, resource_of, task_of}
+use Rattle.osbase.specs.declared.objects.ObjectKind.TheVariants.{Task, Resource, Counter}
 use Rattle.osbase.specs.declared.objects.Place.{Place}
 use Rattle.osbase.specs.declared.objects.Object.{Object as Named}
 use Rattle.oscript.specs.declared.rows.Arg.{Arg}
 use Rattle.oscript.specs.declared.rows.Arg.TheVariants.{Object, Mask, Number, Int, Variable}
 use Rattle.oscript.specs.declared.rows.Kind.{Kind}
-use Rattle.oscript.specs.declared.rows.TheConstants.{RESOURCE, TASK}
-use Rattle.oscript.specs.Rows.{are_of, int_in, is_of, mask_in, number_in, objects_in, place_in, resource_argument, task_argument, variable_in}
+use Rattle.oscript.specs.declared.rows.TheConstants.{COUNTER, RESOURCE, TASK}
+use Rattle.oscript.specs.Rows.{are_of, counter_argument, int_in, is_of, mask_in, number_in, objects_in, place_in, resource_argument, task_argument, variable_in}
 
 -- an object's argument is taken back
 pub task-back : (target : Option TaskRef) → option_map task_of (place_in Task (Some (task_argument target))) ≡ target
@@ -22,6 +23,10 @@ task-back (Some t) = refl
 pub resource-back : (target : Option ResourceRef) → option_map resource_of (place_in Resource (Some (resource_argument target))) ≡ target
 resource-back None = refl
 resource-back (Some r) = refl
+
+pub counter-back : (target : Option CounterRef) → option_map counter_of (place_in Counter (Some (counter_argument target))) ≡ target
+counter-back None = refl
+counter-back (Some c) = refl
 
 -- the objects of the later arguments
 pub rest-pass : (p : Named → Bool) (arg : Arg Place) (args : List (Arg Place)) → list_all p (objects_in (arg ∷ args)) ≡ true → list_all p (objects_in args) ≡ true
@@ -52,6 +57,14 @@ resource-same a is = absurd (false≢true is)
 
 pub resource-kept : Kept RESOURCE (λ o. resource_argument (option_map resource_of (place_in Resource o)))
 resource-kept = record { same = resource-same }
+
+counter-same : (a : Arg Place) → is_of COUNTER a ≡ true → counter_argument (option_map counter_of (place_in Counter (Some a))) ≡ a
+counter-same (Object Counter None) is = refl
+counter-same (Object Counter (Some place)) is = refl
+counter-same a is = absurd (false≢true is)
+
+pub counter-kept : Kept COUNTER (λ o. counter_argument (option_map counter_of (place_in Counter o)))
+counter-kept = record { same = counter-same }
 
 mask-same : (a : Arg Place) → is_of Kind.Mask a ≡ true → Mask (mask_in (Some a)) ≡ a
 mask-same (Mask mask) is = refl

@@ -1,12 +1,13 @@
 -- The grammar of operations: a row for each. An operation as its verb and its arguments, and the objects that it names.
 use Rattle.std.specs.Prelude.{ℕ, ◌&&◌, nat_le, ℤ, pos, negsuc, Bool, true, false, if◌then◌else◌, Option, Some, None, List, [], ◌∷◌, codes, option_map, filter_map, slice_get}
 use Rattle.std.specs.List.{list_all}
-use Rattle.osbase.specs.Objects.{resource_of, resource_place, same_kind, task_of, task_place}
+use Rattle.osbase.specs.Objects.{counter_of, counter_place, resource_of, resource_place, same_kind, task_of, task_place}
 use Rattle.osbase.specs.Words.{service_name}
 use Rattle.osbase.specs.declared.objects.Object.{Object as Named}
 use Rattle.osbase.specs.declared.objects.ObjectKind.{ObjectKind}
-use Rattle.osbase.specs.declared.objects.ObjectKind.TheVariants.{Task, Resource}
+use Rattle.osbase.specs.declared.objects.ObjectKind.TheVariants.{Task, Resource, Counter}
 use Rattle.osbase.specs.declared.objects.Place.{Place}
+use Rattle.osbase.specs.declared.references.CounterRef.{CounterRef}
 use Rattle.osbase.specs.declared.references.ResourceRef.{ResourceRef}
 use Rattle.osbase.specs.declared.references.TaskRef.{TaskRef}
 use Rattle.osbase.specs.declared.references.Variable.{Variable as VariableRef}
@@ -20,7 +21,7 @@ use Rattle.oscript.specs.declared.rows.Args.{Args}
 use Rattle.oscript.specs.declared.rows.Form.{Form}
 use Rattle.oscript.specs.declared.rows.Kind.{Kind}
 use Rattle.oscript.specs.declared.rows.Row.{Row}
-use Rattle.oscript.specs.declared.rows.TheConstants.{POSITION, RESOURCE, TASK}
+use Rattle.oscript.specs.declared.rows.TheConstants.{COUNTER, POSITION, RESOURCE, TASK}
 use Rattle.oscript.specs.declared.rows.Verb.{Verb}
 
 -- The arguments, from the left.
@@ -60,6 +61,8 @@ row_of Verb.SetEvent = service_row Service.SetEvent (Two TASK Kind.Mask)
 row_of Verb.ClearEvent = service_row Service.ClearEvent (One Kind.Mask)
 row_of Verb.GetEvent = service_row Service.GetEvent (Two TASK Kind.Variable)
 row_of Verb.WaitEvent = service_row Service.WaitEvent (One Kind.Mask)
+row_of Verb.IncrementCounter = service_row Service.IncrementCounter (One COUNTER)
+row_of Verb.GetCounterValue = service_row Service.GetCounterValue (Two COUNTER Kind.Variable)
 
 abbrev pub word_of : Verb → List ℕ
 word_of verb = (row_of verb).0
@@ -90,6 +93,9 @@ task_at args i = option_map task_of (place_at Task args i)
 
 abbrev pub resource_at : List (Arg Place) → ℕ → Option ResourceRef
 resource_at args i = option_map resource_of (place_at Resource args i)
+
+abbrev pub counter_at : List (Arg Place) → ℕ → Option CounterRef
+counter_at args i = option_map counter_of (place_at Counter args i)
 
 -- The events of the mask at this place.
 abbrev pub mask_in : Option (Arg Place) → ℕ
@@ -140,6 +146,8 @@ op_by Verb.SetEvent args = Op.SetEvent (task_at args 0) (mask_at args 1)
 op_by Verb.ClearEvent args = Op.ClearEvent (mask_at args 0)
 op_by Verb.GetEvent args = Op.GetEvent (task_at args 0) (variable_at args 1)
 op_by Verb.WaitEvent args = Op.WaitEvent (mask_at args 0)
+op_by Verb.IncrementCounter args = Op.IncrementCounter (counter_at args 0)
+op_by Verb.GetCounterValue args = Op.GetCounterValue (counter_at args 0) (variable_at args 1)
 
 -- The operation of a form. [own]
 abbrev pub op_of : Verb × List (Arg Place) → Op
@@ -150,6 +158,9 @@ task_argument target = Object Task (option_map task_place target)
 
 abbrev pub resource_argument : Option ResourceRef → Arg Place
 resource_argument target = Object Resource (option_map resource_place target)
+
+abbrev pub counter_argument : Option CounterRef → Arg Place
+counter_argument target = Object Counter (option_map counter_place target)
 
 -- The form of an operation. [own]
 abbrev pub form_of_op : Op → Verb × List (Arg Place)
@@ -170,6 +181,8 @@ form_of_op (Op.SetEvent target mask) = (Verb.SetEvent, task_argument target ∷ 
 form_of_op (Op.ClearEvent mask) = (Verb.ClearEvent, Mask mask ∷ [])
 form_of_op (Op.GetEvent target x) = (Verb.GetEvent, task_argument target ∷ Variable x.index ∷ [])
 form_of_op (Op.WaitEvent mask) = (Verb.WaitEvent, Mask mask ∷ [])
+form_of_op (Op.IncrementCounter target) = (Verb.IncrementCounter, counter_argument target ∷ [])
+form_of_op (Op.GetCounterValue target x) = (Verb.GetCounterValue, counter_argument target ∷ Variable x.index ∷ [])
 
 -- ---- arguments of their kinds
 
@@ -228,4 +241,5 @@ abbrev pub names_own_only : Op → Bool
 names_own_only (Op.GetResource target) = true
 names_own_only (Op.ReleaseResource target) = true
 names_own_only (Op.GetEvent target x) = true
+names_own_only (Op.GetCounterValue target x) = true
 names_own_only op = false

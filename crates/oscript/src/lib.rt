@@ -6,7 +6,7 @@ pub mod rows;
 ghost use Rattle.std.specs.Prelude.{◌≡◌, ◌<◌, ◌^◌};
 ghost use Rattle.oscript.specs.Frames.{action_at, completed, new_frame, op_has_status, place_after, position_of, result_of, rewound, stored, value_of, with_value};
 
-use osbase::{List, ResourceRef, Status, TaskRef, Variable};
+use osbase::{CounterRef, List, ResourceRef, Status, TaskRef, Variable};
 pub use rows::{Arg, Args, Form, Kind, Row, VERBS, Verb, form_of_op, op_of, row_of};
 
 /// One operation of a script. In place of an object, `None` is the invalid identifier, `?`.
@@ -46,6 +46,10 @@ pub enum Op {
     GetEvent(Option<TaskRef>, Variable),
     /// WaitEvent for one of these of the caller (OSEK/VDX OS 2.2.3, section 13.5.3.4).
     WaitEvent(u32),
+    /// IncrementCounter (AUTOSAR SWS OS 4.x, SWS_Os_00399).
+    IncrementCounter(Option<CounterRef>),
+    /// GetCounterValue: the variable gets the counter's value (AUTOSAR SWS OS 4.x, SWS_Os_00383).
+    GetCounterValue(Option<CounterRef>, Variable),
 }
 
 impl Op {
@@ -66,6 +70,7 @@ impl Op {
             Op::AddVariable(variable, _) => Some(variable),
             Op::StoreStatus(variable) => Some(variable),
             Op::GetEvent(_, variable) => Some(variable),
+            Op::GetCounterValue(_, variable) => Some(variable),
             _ => None,
         }
     }

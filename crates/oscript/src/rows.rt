@@ -2,11 +2,11 @@
 //! that it names.
 
 ghost use Rattle.std.specs.Prelude.{◌≡◌, filter_map, option_map, slice_get};
-ghost use Rattle.osbase.specs.Objects.{resource_of, task_of};
-ghost use Rattle.oscript.specs.Rows.{form_of_op, form_view, has_masks, int_at, items, mask_at, names_own_only, number_at, object_in, objects_of, op_of, place_at, plain_row, resource_argument, resource_at, row_of, row_view, service_row, task_at, task_argument, variable_at};
+ghost use Rattle.osbase.specs.Objects.{counter_of, resource_of, task_of};
+ghost use Rattle.oscript.specs.Rows.{counter_argument, counter_at, form_of_op, form_view, has_masks, int_at, items, mask_at, names_own_only, number_at, object_in, objects_of, op_of, place_at, plain_row, resource_argument, resource_at, row_of, row_view, service_row, task_at, task_argument, variable_at};
 
 use crate::Op;
-use osbase::{Object, ObjectKind, Place, ResourceRef, ServiceId, TaskRef, Variable};
+use osbase::{CounterRef, Object, ObjectKind, Place, ResourceRef, ServiceId, TaskRef, Variable};
 
 /// What an argument of an operation has to be.
 #[derive(Clone, Copy, Debug, PartialEq, Eq)]
@@ -52,6 +52,8 @@ pub enum Verb {
     ClearEvent,
     GetEvent,
     WaitEvent,
+    IncrementCounter,
+    GetCounterValue,
 }
 
 /// One row of the grammar: an operation's word, the kinds of its arguments, and the service that it
@@ -64,7 +66,7 @@ pub struct Row {
 }
 
 /// Every operation. A word is looked for from the front, so what scripts have most stands first.
-pub const VERBS: [Verb; 17] = [
+pub const VERBS: [Verb; 19] = [
     Verb::ActivateTask,
     Verb::TerminateTask,
     Verb::Work,
@@ -82,6 +84,8 @@ pub const VERBS: [Verb; 17] = [
     Verb::ClearEvent,
     Verb::GetEvent,
     Verb::WaitEvent,
+    Verb::IncrementCounter,
+    Verb::GetCounterValue,
 ];
 
 /// A task's name, or `?`.
@@ -89,6 +93,9 @@ pub const TASK: Kind = Kind::Object(ObjectKind::Task);
 
 /// A resource's name, or `?`.
 pub const RESOURCE: Kind = Kind::Object(ObjectKind::Resource);
+
+/// A counter's name, or `?`.
+pub const COUNTER: Kind = Kind::Object(ObjectKind::Counter);
 
 /// A place in a script: that of an operation, or past the last of the most that there may be.
 pub const POSITION: Kind = Kind::Number(0, 256);
@@ -139,6 +146,11 @@ pub fn row_of(verb: Verb) -> Row
         Verb::ClearEvent => service_row(ServiceId::ClearEvent, Args::One(Kind::Mask)),
         Verb::GetEvent => service_row(ServiceId::GetEvent, Args::Two(TASK, Kind::Variable)),
         Verb::WaitEvent => service_row(ServiceId::WaitEvent, Args::One(Kind::Mask)),
+        Verb::IncrementCounter => service_row(ServiceId::IncrementCounter, Args::One(COUNTER)),
+        Verb::GetCounterValue => service_row(
+            ServiceId::GetCounterValue,
+            Args::Two(COUNTER, Kind::Variable),
+        ),
     }
 }
 
@@ -220,6 +232,21 @@ fn resource_at(args: Args<Arg<Place>>, i: usize) -> Option<ResourceRef>
     resource_in(place_at(args, ObjectKind::Resource, i))
 }
 
+#[inline(always)]
+fn counter_in(target: Option<Place>) -> Option<CounterRef>
+    ensures { result ≡ option_map counter_of target }
+{
+    Some(CounterRef::at(target?))
+}
+
+// The counter that the argument at this place names.
+#[inline(always)]
+fn counter_at(args: Args<Arg<Place>>, i: usize) -> Option<CounterRef>
+    ensures { result ≡ counter_at (items args) i }
+{
+    counter_in(place_at(args, ObjectKind::Counter, i))
+}
+
 // The mask at this place.
 #[inline(always)]
 fn mask_at(args: Args<Arg<Place>>, i: usize) -> u32
@@ -289,6 +316,8 @@ pub fn op_of(form: Form<Place>) -> Op
         Verb::ClearEvent => Op::ClearEvent(mask_at(args, 0)),
         Verb::GetEvent => Op::GetEvent(task_at(args, 0), variable_at(args, 1)),
         Verb::WaitEvent => Op::WaitEvent(mask_at(args, 0)),
+        Verb::IncrementCounter => Op::IncrementCounter(counter_at(args, 0)),
+        Verb::GetCounterValue => Op::GetCounterValue(counter_at(args, 0), variable_at(args, 1)),
     }
 }
 
@@ -313,6 +342,15 @@ fn resource_argument(target: Option<ResourceRef>) -> Arg<Place>
     match target {
         Some(resource) => Arg::Object(ObjectKind::Resource, Some(resource.place())),
         None => Arg::Object(ObjectKind::Resource, None),
+    }
+}
+
+fn counter_argument(target: Option<CounterRef>) -> Arg<Place>
+    ensures { result ≡ counter_argument target }
+{
+    match target {
+        Some(counter) => Arg::Object(ObjectKind::Counter, Some(counter.place())),
+        None => Arg::Object(ObjectKind::Counter, None),
     }
 }
 
@@ -361,6 +399,13 @@ pub fn form_of_op(op: Op) -> Form<Place>
             Args::Two(task_argument(target), variable_argument(x)),
         ),
         Op::WaitEvent(mask) => formed(Verb::WaitEvent, Args::One(Arg::Mask(mask))),
+        Op::IncrementCounter(target) => {
+            formed(Verb::IncrementCounter, Args::One(counter_argument(target)))
+        }
+        Op::GetCounterValue(target, x) => formed(
+            Verb::GetCounterValue,
+            Args::Two(counter_argument(target), variable_argument(x)),
+        ),
     }
 }
 
@@ -417,6 +462,7 @@ impl Op {
             Op::GetResource(_) => true,
             Op::ReleaseResource(_) => true,
             Op::GetEvent(_, _) => true,
+            Op::GetCounterValue(_, _) => true,
             _ => false,
         }
     }

@@ -3,7 +3,7 @@ use Rattle.std.proofs.Common.{◌≡◌, ◌&&◌, nat_le, Bool, true, false, Li
 use Rattle.std.specs.List.{list_all, sum_by}
 use Rattle.std.proofs.lemmas.Bool.{and_from, and_parts}
 use Rattle.std.proofs.lemmas.List.Folds.{list_all-map}
-use Rattle.osplan.specs.Limits.{has_number, is_between, is_by, is_ceiling, is_core_by, is_core_within, is_start, jobs_of, is_task_numbered, is_task_short, is_task_within, is_within}
+use Rattle.osplan.specs.Limits.{has_number, is_between, is_by, is_ceiling, is_core_by, is_core_within, is_counter_within, is_start, jobs_of, is_task_numbered, is_task_short, is_task_within, is_within}
 use Rattle.osdraft.specs.declared.declarations.Declaration.{Declaration}
 use Rattle.osdraft.specs.declared.shapes.ConfigText.{ConfigText}
 use Rattle.osdraft.specs.declared.shapes.CoreText.{CoreText}
@@ -40,18 +40,18 @@ all-split p q r each (x ∷ xs) = rw (each x, all-split p q r each xs) (exchange
 
 -- ---- limits
 
-later : (a n s b c d : Bool) → (a && (n && s) && b && c && d) ≡ ((a && n && b && c && d) && s)
-later false n s b c d = refl
-later true false s b c d = refl
-later true true true b c d = sym (and-true (b && c && d))
-later true true false b c d = sym (and-false (b && c && d))
+later : (a n s b c d e f : Bool) → (a && (n && s) && b && c && d && e && f) ≡ ((a && n && b && c && d && e && f) && s)
+later false n s b c d e f = refl
+later true false s b c d e f = refl
+later true true true b c d e f = sym (and-true (b && c && d && e && f))
+later true true false b c d e f = sym (and-false (b && c && d && e && f))
 
 core-split : (core : CoreText) → is_core_within (core_sizes core) ≡ (is_core_by is_task_numbered (core_sizes core) && is_core_short core)
 core-split core =
     let s = core_sizes core in
     let before = is_between 0 7 s.number && list_all is_start s.start && nat_le (length s.tasks) 32 in
     rw (all-split is_task_within is_task_numbered is_task_short (λ task. refl) (map task_sizes core.tasks), list_all-map is_task_short task_sizes core.tasks)
-    (later before (list_all is_task_numbered s.tasks) (is_core_short core) (nat_le (sum_by jobs_of s.tasks) 64) (nat_le (length s.resources) 16) (list_all is_ceiling s.resources))
+    (later before (list_all is_task_numbered s.tasks) (is_core_short core) (nat_le (sum_by jobs_of s.tasks) 64) (nat_le (length s.resources) 16) (list_all is_ceiling s.resources) (nat_le (length s.counters) 8) (list_all is_counter_within s.counters))
 
 cores-split : (cores : List CoreText) → list_all is_core_within (map core_sizes cores) ≡ (list_all (is_core_by is_task_numbered) (map core_sizes cores) && list_all is_core_short cores)
 cores-split cores =

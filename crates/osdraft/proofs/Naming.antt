@@ -1,5 +1,5 @@
 -- The objects that a text declares have names in form, and so has each text that names one.
-use Rattle.std.proofs.Common.{◌≡◌, ℕ, ◌+◌, true, List, [], ◌∷◌, map, Option, Some, None, refl, sym, ap, ◌∙◌}
+use Rattle.std.proofs.Common.{◌≡◌, ℕ, ◌+◌, ◌&&◌, true, List, [], ◌∷◌, ◌++◌, map, Option, Some, None, refl, sym, ap, ◌∙◌}
 use Rattle.std.specs.List.{list_all, enumerate_from, find}
 use Rattle.std.specs.Option.{IfSome}
 use Rattle.std.proofs.lemmas.Bool.{and_parts, and_from}
@@ -9,11 +9,12 @@ use Rattle.osbase.specs.declared.objects.Place.{Place}
 use Rattle.osbase.specs.Names.{is_name}
 use Rattle.osplan.proofs.Tests.{find-holds, find-passes}
 use Rattle.osdraft.specs.declared.shapes.CoreText.{CoreText}
+use Rattle.osdraft.specs.declared.shapes.CounterText.{CounterText}
 use Rattle.osdraft.specs.declared.shapes.ResourceText.{ResourceText}
 use Rattle.osdraft.specs.declared.shapes.TaskText.{TaskText}
 use Rattle.osdraft.specs.declared.declarations.Declaration.{Declaration}
-use Rattle.osdraft.specs.Check.{has_named_tasks, has_named_resources, has_named_objects}
-use Rattle.osdraft.specs.Declarations.{task_declaration, resource_declaration, declared_tasks, declared_resources, declared_by, declarations, has_name}
+use Rattle.osdraft.specs.Check.{has_named_tasks, has_named_resources, has_named_counters, has_named_objects}
+use Rattle.osdraft.specs.Declarations.{task_declaration, resource_declaration, counter_declaration, declared_tasks, declared_resources, declared_counters, declared_by, declarations, has_name}
 
 tasks-named : (core : CoreText) (n : ℕ) (tasks : List TaskText) → list_all (λ (task : TaskText). is_name task.name) tasks ≡ true → list_all (λ (d : Declaration). is_name d.name) (map (task_declaration core) (enumerate_from n tasks)) ≡ true
 tasks-named core n [] named = refl
@@ -28,10 +29,19 @@ resources-named core n (resource ∷ resources) named =
     let parts = and_parts (is_name resource.name) _ named in
     and_from _ _ parts.0 (resources-named core (n + 1) resources parts.1)
 
+counters-named : (core : CoreText) (n : ℕ) (counters : List CounterText) → list_all (λ (counter : CounterText). is_name counter.name) counters ≡ true
+    → list_all (λ (d : Declaration). is_name d.name) (map (counter_declaration core) (enumerate_from n counters)) ≡ true
+counters-named core n [] named = refl
+counters-named core n (counter ∷ counters) named =
+    let parts = and_parts (is_name counter.name) _ named in
+    and_from _ _ parts.0 (counters-named core (n + 1) counters parts.1)
+
 objects-named : (core : CoreText) → has_named_objects core ≡ true → list_all (λ (d : Declaration). is_name d.name) (declared_by core) ≡ true
 objects-named core named =
-    let parts = and_parts (has_named_tasks core) (has_named_resources core) named in
-    list_all-append (λ (d : Declaration). is_name d.name) (declared_tasks core) (declared_resources core) ∙ and_from _ _ (tasks-named core 0 core.tasks parts.0) (resources-named core 0 core.resources parts.1)
+    let counters = and_parts (has_named_tasks core && has_named_resources core) (has_named_counters core) named in
+    let parts = and_parts (has_named_tasks core) (has_named_resources core) counters.0 in
+    let first = list_all-append (λ (d : Declaration). is_name d.name) (declared_tasks core) (declared_resources core) ∙ and_from _ _ (tasks-named core 0 core.tasks parts.0) (resources-named core 0 core.resources parts.1) in
+    list_all-append (λ (d : Declaration). is_name d.name) (declared_tasks core ++ declared_resources core) (declared_counters core) ∙ and_from _ _ first (counters-named core 0 core.counters counters.1)
 
 pub declared-named : (cores : List CoreText) → list_all has_named_objects cores ≡ true → list_all (λ (d : Declaration). is_name d.name) (declarations cores) ≡ true
 declared-named [] named = refl

@@ -7,18 +7,19 @@ use Rattle.std.proofs.lemmas.List.Folds.{fold-map, list_all-map}
 use Rattle.std.proofs.lemmas.List.Sums.{sum_by-cons}
 use Rattle.osplan.specs.declared.plans.Core.{Core}
 use Rattle.osplan.specs.Limits as limits
-use Rattle.osplan.specs.Limits.{TaskSizes, CoreSizes, Sizes, is_between, is_ceiling, is_start, is_task_numbered, is_task_within, is_core_within, is_within, jobs_of, most_activations, number_of, same_number}
+use Rattle.osplan.specs.Limits.{TaskSizes, CounterSizes, CoreSizes, Sizes, is_between, is_ceiling, is_counter_within, is_start, is_task_numbered, is_task_within, is_core_within, is_within, jobs_of, most_activations, number_of, same_number}
 use Rattle.osplan.proofs.Tests.{all-weaker}
 use Rattle.osplan.proofs.Within.{between}
 use Rattle.osdraft.specs.declared.shapes.ConfigText.{ConfigText}
 use Rattle.osdraft.specs.declared.shapes.CoreText.{CoreText}
+use Rattle.osdraft.specs.declared.shapes.CounterText.{CounterText}
 use Rattle.osdraft.specs.declared.shapes.ResourceText.{ResourceText}
 use Rattle.osdraft.specs.declared.shapes.TaskText.{TaskText}
 use Rattle.osdraft.specs.declared.declarations.Declaration.{Declaration}
-use Rattle.osdraft.specs.Check.{task_sizes, core_sizes, sizes_of, numbers_of}
-use Rattle.osdraft.specs.Declarations.{byte_of, number_id, declarations}
+use Rattle.osdraft.specs.Check.{task_sizes, counter_sizes, core_sizes, sizes_of, numbers_of}
+use Rattle.osdraft.specs.Declarations.{byte_of, number_id, word_of, declarations}
 use Rattle.osdraft.specs.Operation.{operations_of, op_of}
-use Rattle.osdraft.specs.Meaning.{task_plan, resource_plan, core_plan, plan_of}
+use Rattle.osdraft.specs.Meaning.{task_plan, resource_plan, counter_plan, core_plan, plan_of}
 
 -- ---- numbers within their limits are bytes
 
@@ -41,6 +42,16 @@ is-byte low high (Some n) h small =
     let most : n ≤ high = (between low high n h).1 in
     ap Some (byte-small n (omega arith))
 
+-- and those of counters have 32 bits
+abbrev pub IsWord : Option ℕ → Type 0
+IsWord number = Some (word_of number) ≡ number
+
+is-word : (low high : ℕ) (number : Option ℕ) → is_between low high number ≡ true → high ≤ 4294967295 → IsWord number
+is-word low high None h small = absurd (true≢false (sym h))
+is-word low high (Some n) h small =
+    let most : n ≤ high = (between low high n h).1 in
+    ap Some (rw (le-leb n 4294967295 (omega arith)) refl)
+
 few-activations : (extended : Bool) → most_activations extended ≤ 64
 few-activations true = omega arith
 few-activations false = omega arith
@@ -51,22 +62,29 @@ task-bytes s h =
     let few : most_activations s.extended ≤ 64 = few-activations s.extended in
     (is-byte _ _ s.priority numbers.0 (omega arith), is-byte _ _ s.activations numbers.1 (omega arith))
 
-pub core-bytes : (s : CoreSizes) → is_core_within s ≡ true → IsByte s.number × (list_all is_start s.start ≡ true) × (list_all is_task_within s.tasks ≡ true) × (list_all is_ceiling s.resources ≡ true)
+most : (low high : ℕ) (number : Option ℕ) → is_between low high number ≡ true → unwrap_or number 0 ≤ high
+most low high None h = absurd (true≢false (sym h))
+most low high (Some n) h = (between low high n h).1
+
+pub counter-words : (s : CounterSizes) → is_counter_within s ≡ true → IsWord s.max × IsWord s.min
+counter-words s h =
+    let parts = and_parts (is_between 1 1000000000 s.max) _ h in
+    let greatest : unwrap_or s.max 0 ≤ 1000000000 = most 1 1000000000 s.max parts.0 in
+    (is-word _ _ s.max parts.0 (omega arith), is-word _ _ s.min parts.1 (omega arith))
+
+pub core-bytes : (s : CoreSizes) → is_core_within s ≡ true → IsByte s.number × (list_all is_start s.start ≡ true) × (list_all is_task_within s.tasks ≡ true) × (list_all is_ceiling s.resources ≡ true) × (list_all is_counter_within s.counters ≡ true)
 core-bytes s h =
-    let resources = and_parts _ (list_all is_ceiling s.resources) h in
+    let counters = and_parts _ (list_all is_counter_within s.counters) h in
+    let resources = and_parts _ (list_all is_ceiling s.resources) (and_parts _ (nat_le (length s.counters) 8) counters.0).0 in
     let count = and_parts _ (nat_le (length s.resources) 16) resources.0 in
     let tasks = and_parts _ (list_all is_task_within s.tasks) (and_parts _ (nat_le (sum_by jobs_of s.tasks) 64) count.0).0 in
     let numbers = and_parts _ _ (and_parts _ _ tasks.0).0 in
-    (is-byte _ _ s.number numbers.0 (omega arith), numbers.1, tasks.1, resources.1)
+    (is-byte _ _ s.number numbers.0 (omega arith), numbers.1, tasks.1, resources.1, counters.1)
 
 pub cap-byte : (s : Sizes) → is_within s ≡ true → IsByte s.cap
 cap-byte s h = is-byte _ _ s.cap (and_parts _ (is_between _ _ s.cap) (and_parts _ _ (and_parts _ _ h).0).0).1 (omega arith)
 
 -- ---- jobs within their limits are few
-
-most : (low high : ℕ) (number : Option ℕ) → is_between low high number ≡ true → unwrap_or number 0 ≤ high
-most low high None h = absurd (true≢false (sym h))
-most low high (Some n) h = (between low high n h).1
 
 most-activated : (extended : Bool) (number : Option ℕ) → is_between 1 (most_activations extended) number ≡ true → unwrap_or number 0 ≤ 64
 most-activated true number h = let one : unwrap_or number 0 ≤ 1 = most 1 1 number h in omega arith
@@ -131,6 +149,13 @@ module _ (objects : List Declaration) where
   resource-numbers : (resource : ResourceText) → is_ceiling resource.ceiling ≡ true → limits.ceiling_of (resource_plan resource) ≡ resource.ceiling
   resource-numbers resource h = is-byte _ _ resource.ceiling h (omega arith)
 
+  counter-numbers : (counter : CounterText) → is_counter_within (counter_sizes counter) ≡ true → limits.counter_sizes (counter_plan counter) ≡ counter_sizes counter
+  counter-numbers counter h =
+      let words = counter-words (counter_sizes counter) h in
+      let max : Some (word_of counter.max) ≡ counter.max = words.0 in
+      let min : Some (word_of counter.min) ≡ counter.min = words.1 in
+      rw (max, min) refl
+
   core-numbers : (core : CoreText) → is_core_within (core_sizes core) ≡ true → limits.core_sizes (core_plan objects core) ≡ core_sizes core
   core-numbers core h =
       let bytes = core-bytes (core_sizes core) h in
@@ -141,6 +166,7 @@ module _ (objects : List Declaration) where
         map-same limits.task_sizes (task_plan objects) task_sizes (λ task. is_task_within (task_sizes task)) task-numbers core.tasks (sym (list_all-map is_task_within task_sizes core.tasks) ∙ bytes.2),
         map-same limits.ceiling_of resource_plan (λ (resource : ResourceText). resource.ceiling) (λ (resource : ResourceText). is_ceiling resource.ceiling) resource-numbers core.resources
             (sym (list_all-map is_ceiling (λ (resource : ResourceText). resource.ceiling) core.resources) ∙ bytes.3),
+        map-same limits.counter_sizes counter_plan counter_sizes (λ (counter : CounterText). is_counter_within (counter_sizes counter)) counter-numbers core.counters (sym (list_all-map is_counter_within counter_sizes core.counters) ∙ bytes.4),
       ) refl
 
 abbrev pub is_inside : CoreText → Bool

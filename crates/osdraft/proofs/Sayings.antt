@@ -9,6 +9,7 @@ use Rattle.oscript.specs.Rows as rows
 use Rattle.oscript.specs.Rows.{is_in_form}
 use Rattle.osforms.specs.Operation.{op_meant, has_masks}
 use Rattle.osforms.proofs.Operations.{meant-in-form, meant_masks}
+use Rattle.osplan.specs.declared.plans.Counter.{Counter}
 use Rattle.osplan.specs.declared.plans.Resource.{Resource}
 use Rattle.osplan.specs.declared.plans.Task.{Task}
 use Rattle.osplan.specs.Expressible as said
@@ -17,14 +18,15 @@ use Rattle.osbase.specs.Names.{is_name}
 use Rattle.osplan.specs.Expressible.{mode_name, is_only_mode}
 use Rattle.osdraft.specs.declared.shapes.ConfigText.{ConfigText}
 use Rattle.osdraft.specs.declared.shapes.CoreText.{CoreText}
+use Rattle.osdraft.specs.declared.shapes.CounterText.{CounterText}
 use Rattle.osdraft.specs.declared.shapes.ResourceText.{ResourceText}
 use Rattle.osdraft.specs.declared.shapes.TaskText.{TaskText}
 use Rattle.osread.specs.Faults.{failing}
 use Rattle.osdraft.specs.declared.declarations.Declaration.{Declaration}
-use Rattle.osdraft.specs.Check.{numbers_of, has_named_tasks, has_named_resources, has_named_objects, is_task_masked, is_core_masked, is_task_script, is_core_script, tests_of}
-use Rattle.osdraft.specs.Declarations.{task_declaration, resource_declaration, declared_tasks, declared_resources, declared_by, declarations, place_of}
+use Rattle.osdraft.specs.Check.{numbers_of, has_named_tasks, has_named_resources, has_named_counters, has_named_objects, is_task_masked, is_core_masked, is_task_script, is_core_script, tests_of}
+use Rattle.osdraft.specs.Declarations.{task_declaration, resource_declaration, counter_declaration, declared_tasks, declared_resources, declared_counters, declared_by, declarations, place_of}
 use Rattle.osdraft.specs.Operation.{is_operation, op_of, operations_of}
-use Rattle.osdraft.specs.Meaning.{only_mode, task_plan, resource_plan, core_plan, plan_of}
+use Rattle.osdraft.specs.Meaning.{only_mode, task_plan, resource_plan, counter_plan, core_plan, plan_of}
 use Rattle.osplan.proofs.Tests.{all-both}
 use Rattle.osdraft.proofs.Numbers.{list_all-by, list_all-total}
 use Rattle.osdraft.proofs.Bounds.{faultless}
@@ -41,11 +43,19 @@ resources-named : (core : CoreText) (n : ℕ) (resources : List ResourceText)
 resources-named core n [] = refl
 resources-named core n (resource ∷ resources) = ap (λ names. resource.name ∷ names) (resources-named core (n + 1) resources)
 
-objects-named : (objects : List Declaration) (core : CoreText) → said.object_names (core_plan objects core) ≡ map (λ (d : Declaration). d.name) (declared_by core)
+counters-named : (core : CoreText) (n : ℕ) (counters : List CounterText)
+    → map (λ (counter : Counter). counter.name) (map counter_plan counters) ≡ map (λ (d : Declaration). d.name) (map (counter_declaration core) (enumerate_from n counters))
+counters-named core n [] = refl
+counters-named core n (counter ∷ counters) = ap (λ names. counter.name ∷ names) (counters-named core (n + 1) counters)
+
+abbrev names : List Declaration → List (List ℕ)
+names objects = map (λ (d : Declaration). d.name) objects
+
+objects-named : (objects : List Declaration) (core : CoreText) → said.object_names (core_plan objects core) ≡ names (declared_by core)
 objects-named objects core =
-    ap (λ names. names ++ map (λ (resource : Resource). resource.name) (map resource_plan core.resources)) (tasks-named objects core 0 core.tasks)
-    ∙ ap (λ names. map (λ (d : Declaration). d.name) (declared_tasks core) ++ names) (resources-named core 0 core.resources)
-    ∙ sym (map-append (λ (d : Declaration). d.name) (declared_tasks core) (declared_resources core))
+    rw (tasks-named objects core 0 core.tasks, resources-named core 0 core.resources, counters-named core 0 core.counters)
+    (ap (λ first. first ++ names (declared_counters core)) (sym (map-append (λ (d : Declaration). d.name) (declared_tasks core) (declared_resources core)))
+    ∙ sym (map-append (λ (d : Declaration). d.name) (declared_tasks core ++ declared_resources core) (declared_counters core)))
 
 names-kept : (objects : List Declaration) (cores : List CoreText) → flat_map said.object_names (map (core_plan objects) cores) ≡ map (λ (d : Declaration). d.name) (declarations cores)
 names-kept objects [] = refl
@@ -82,11 +92,13 @@ core-said : (objects : List Declaration) (core : CoreText) → (has_named_object
 core-said objects core h =
     let parts = and_parts (has_named_objects core && is_core_masked core) (is_core_script objects core) h in
     let first = and_parts (has_named_objects core) (is_core_masked core) parts.0 in
-    let named = and_parts (has_named_tasks core) (has_named_resources core) first.0 in
+    let counted = and_parts (has_named_tasks core && has_named_resources core) (has_named_counters core) first.0 in
+    let named = and_parts (has_named_tasks core) (has_named_resources core) counted.0 in
     let masked = all-both (λ (task : TaskText). is_name task.name) is_task_masked core.tasks named.0 first.1 in
     let tasks = all-both (λ (task : TaskText). is_name task.name && is_task_masked task) (is_task_script objects) core.tasks masked parts.1 in
     let resources = list_all-by (λ (resource : ResourceText). is_name resource.name) said.is_resource_expressible resource_plan (λ resource e. e) core.resources named.1 in
-    and_from _ _ (and_from _ _ (and_from _ _ (and_from _ _ (and_from _ _ (list_all-by (λ (task : TaskText). is_name task.name && is_task_masked task && is_task_script objects task) said.is_task_expressible (task_plan objects) (task-said objects) core.tasks tasks) resources) refl) refl) refl) refl
+    let counters = list_all-by (λ (counter : CounterText). is_name counter.name) said.is_counter_expressible counter_plan (λ counter e. e) core.counters counted.1 in
+    and_from _ _ (and_from _ _ (and_from _ _ (and_from _ _ (and_from _ _ (list_all-by (λ (task : TaskText). is_name task.name && is_task_masked task && is_task_script objects task) said.is_task_expressible (task_plan objects) (task-said objects) core.tasks tasks) resources) counters) refl) refl) refl
 
 pub expressible-of : (t : ConfigText) → list_all has_named_objects t.cores ≡ true → failing (tests_of t) ≡ [] → said.is_expressible (plan_of t) ≡ true
 expressible-of t named none =

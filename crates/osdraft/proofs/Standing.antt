@@ -1,5 +1,5 @@
 -- The objects that a text declares are objects of its plan.
-use Rattle.std.proofs.Common.{◌≡◌, ℕ, suc, ◌+◌, ◌≤◌, Bool, true, false, not, cond, List, [], ◌∷◌, length, map, Option, Some, None, option_and_then, refl, sym, ap, ◌∙◌, arith}
+use Rattle.std.proofs.Common.{◌≡◌, ℕ, suc, ◌+◌, ◌≤◌, Bool, true, false, not, cond, List, [], ◌∷◌, ◌++◌, length, map, Option, Some, None, option_and_then, refl, sym, ap, ◌∙◌, arith}
 use Rattle.std.specs.List.{list_all, enumerate_from, find, AllByRecursion}
 use Rattle.std.proofs.lemmas.Bool.{and_parts, and_from, or_parts, not-true, le-leb}
 use Rattle.std.proofs.lemmas.List.{length-map}
@@ -16,10 +16,11 @@ use Rattle.osplan.specs.Limits.{number_of, numbers_of, has_number, are_numbers_d
 use Rattle.osplan.proofs.Tests.{find-passes}
 use Rattle.osdraft.specs.declared.shapes.ConfigText.{ConfigText}
 use Rattle.osdraft.specs.declared.shapes.CoreText.{CoreText}
+use Rattle.osdraft.specs.declared.shapes.CounterText.{CounterText}
 use Rattle.osdraft.specs.declared.shapes.ResourceText.{ResourceText}
 use Rattle.osdraft.specs.declared.shapes.TaskText.{TaskText}
 use Rattle.osdraft.specs.declared.declarations.Declaration.{Declaration}
-use Rattle.osdraft.specs.Declarations.{byte_of, task_declaration, resource_declaration, declared_tasks, declared_resources, declared_by, declarations, has_name, place_in, place_of}
+use Rattle.osdraft.specs.Declarations.{byte_of, task_declaration, resource_declaration, counter_declaration, declared_tasks, declared_resources, declared_counters, declared_by, declarations, has_name, place_in, place_of}
 use Rattle.osdraft.specs.Meaning.{core_plan, plan_of}
 use Rattle.osdraft.proofs.Numbers.{byte-at_most}
 
@@ -67,9 +68,18 @@ module _ (t : ConfigText) where
       let count : length (planned core).resources ≡ length core.resources = length-map core.resources _ in
       and_from _ _ (rw found (rw count (le-leb (suc (byte_of (Some n))) (length core.resources) (omega arith)))) (resources-there core (n + 1) resources found (omega arith))
 
+  counters-there : (core : CoreText) (n : ℕ) (counters : List CounterText) → IsFound (plan_of t).cores (planned core) → n + length counters ≤ length core.counters
+      → list_all is_there (map (counter_declaration core) (enumerate_from n counters)) ≡ true
+  counters-there core n [] found within = refl
+  counters-there core n (counter ∷ counters) found within =
+      let below : byte_of (Some n) ≤ n = byte-at_most n in
+      let count : length (planned core).counters ≡ length core.counters = length-map core.counters _ in
+      and_from _ _ (rw found (rw count (le-leb (suc (byte_of (Some n))) (length core.counters) (omega arith)))) (counters-there core (n + 1) counters found (omega arith))
+
   objects-there : (core : CoreText) → IsFound (plan_of t).cores (planned core) → list_all is_there (declared_by core) ≡ true
   objects-there core found =
-      list_all-append is_there (declared_tasks core) (declared_resources core) ∙ and_from _ _ (tasks-there core 0 core.tasks found (omega arith)) (resources-there core 0 core.resources found (omega arith))
+      let first = list_all-append is_there (declared_tasks core) (declared_resources core) ∙ and_from _ _ (tasks-there core 0 core.tasks found (omega arith)) (resources-there core 0 core.resources found (omega arith)) in
+      list_all-append is_there (declared_tasks core ++ declared_resources core) (declared_counters core) ∙ and_from _ _ first (counters-there core 0 core.counters found (omega arith))
 
   all-there : (cores : List CoreText) → AllByRecursion (IsFound (plan_of t).cores) (map planned cores) → list_all is_there (declarations cores) ≡ true
   all-there [] found = refl

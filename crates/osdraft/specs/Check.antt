@@ -7,10 +7,11 @@ use Rattle.osbase.specs.Names.{is_name}
 use Rattle.osbase.specs.declared.references.CoreId.{CoreId}
 use Rattle.osforms.specs.Operation.{has_masks}
 use Rattle.osplan.specs.Expressible.{are_distinct, is_jumping_within, mode_name}
-use Rattle.osplan.specs.Limits.{TaskSizes, CoreSizes, Sizes, is_between, is_by, is_task_numbered, is_task_short, is_within, has_number, are_numbers_distinct, stays_on}
+use Rattle.osplan.specs.Limits.{TaskSizes, CounterSizes, CoreSizes, Sizes, is_between, is_by, is_task_numbered, is_task_short, is_within, has_number, are_numbers_distinct, stays_on}
 use Rattle.osplan.specs.declared.faults.ConfFault.TheVariants.{Limit, DuplicateName, UnknownName, WrongCore, BadMask, BadScript}
 use Rattle.osdraft.specs.declared.shapes.ConfigText.{ConfigText}
 use Rattle.osdraft.specs.declared.shapes.CoreText.{CoreText}
+use Rattle.osdraft.specs.declared.shapes.CounterText.{CounterText}
 use Rattle.osdraft.specs.declared.shapes.ResourceText.{ResourceText}
 use Rattle.osdraft.specs.declared.shapes.TaskText.{TaskText}
 use Rattle.osread.specs.Faults.{Tests}
@@ -23,12 +24,16 @@ use Rattle.osdraft.specs.Operation.{operations_of, op_of, is_operation_known, is
 abbrev pub task_sizes : TaskText → TaskSizes
 task_sizes task = record { priority = task.prio; activations = task.activations; extended = task.extended; operations = length (operations_of task.script) }
 
+abbrev pub counter_sizes : CounterText → CounterSizes
+counter_sizes counter = record { max = counter.max; min = counter.min }
+
 abbrev pub core_sizes : CoreText → CoreSizes
 core_sizes core = record {
   number = core.id;
   start = core.start;
   tasks = map task_sizes core.tasks;
   resources = map (λ (resource : ResourceText). resource.ceiling) core.resources;
+  counters = map counter_sizes core.counters;
 }
 
 -- There is one mode.
@@ -74,9 +79,12 @@ has_named_tasks core = list_all (λ (task : TaskText). is_name task.name) core.t
 abbrev pub has_named_resources : CoreText → Bool
 has_named_resources core = list_all (λ (resource : ResourceText). is_name resource.name) core.resources
 
+abbrev pub has_named_counters : CoreText → Bool
+has_named_counters core = list_all (λ (counter : CounterText). is_name counter.name) core.counters
+
 -- Each object of the core has a name in form, as in every shape.
 abbrev pub has_named_objects : CoreText → Bool
-has_named_objects core = has_named_tasks core && has_named_resources core
+has_named_objects core = has_named_tasks core && has_named_resources core && has_named_counters core
 
 abbrev pub are_operations_known : List Declaration → List ℕ → Bool
 are_operations_known objects script = list_all (is_operation_known objects) (operations_of script)

@@ -5,9 +5,10 @@ use Rattle.std.specs.Str.{bytes_eq}
 use Rattle.osbase.specs.Objects.{same_kind}
 use Rattle.osbase.specs.declared.references.CoreId.{CoreId}
 use Rattle.osbase.specs.declared.objects.ObjectKind.{ObjectKind}
-use Rattle.osbase.specs.declared.objects.ObjectKind.TheVariants.{Task, Resource}
+use Rattle.osbase.specs.declared.objects.ObjectKind.TheVariants.{Task, Resource, Counter}
 use Rattle.osbase.specs.declared.objects.Place.{Place}
 use Rattle.osdraft.specs.declared.shapes.CoreText.{CoreText}
+use Rattle.osdraft.specs.declared.shapes.CounterText.{CounterText}
 use Rattle.osdraft.specs.declared.shapes.ResourceText.{ResourceText}
 use Rattle.osdraft.specs.declared.shapes.TaskText.{TaskText}
 use Rattle.osdraft.specs.declared.declarations.Declaration.{Declaration}
@@ -16,6 +17,11 @@ use Rattle.osdraft.specs.declared.declarations.Declaration.{Declaration}
 abbrev pub byte_of : Option ℕ → ℕ
 byte_of None = 0
 byte_of (Some n) = if nat_le n 255 then n else 0
+
+-- A number as one of 32 bits: 0 where it is none, which no text without a fault has.
+abbrev pub word_of : Option ℕ → ℕ
+word_of None = 0
+word_of (Some n) = if nat_le n 4294967295 then n else 0
 
 abbrev pub number_id : Option ℕ → CoreId
 number_id number = record { number = byte_of number }
@@ -39,9 +45,16 @@ resource_declaration core p = record { name = p.1.name; kind = Resource; core = 
 abbrev pub declared_resources : CoreText → List Declaration
 declared_resources core = map (resource_declaration core) (enumerate_from 0 core.resources)
 
--- A core declares its tasks, then its resources, in their order. No other kind can be configured yet.
+-- The counter of a core at an index.
+abbrev pub counter_declaration : CoreText → ℕ × CounterText → Declaration
+counter_declaration core p = record { name = p.1.name; kind = Counter; core = id_of core; index = p.0 }
+
+abbrev pub declared_counters : CoreText → List Declaration
+declared_counters core = map (counter_declaration core) (enumerate_from 0 core.counters)
+
+-- A core declares its tasks, then its resources, then its counters, in their order. No other kind can be configured yet.
 abbrev pub declared_by : CoreText → List Declaration
-declared_by core = declared_tasks core ++ declared_resources core
+declared_by core = declared_tasks core ++ declared_resources core ++ declared_counters core
 
 -- All objects, core by core.
 abbrev pub declarations : List CoreText → List Declaration

@@ -4,6 +4,7 @@ use Rattle.std.specs.Option.{option_map_or}
 use Rattle.osbase.specs.declared.references.ModeId.{ModeId}
 use Rattle.osplan.specs.declared.plans.Plan.{Plan}
 use Rattle.osplan.specs.declared.plans.Core.{Core}
+use Rattle.osplan.specs.declared.plans.Counter.{Counter}
 use Rattle.osplan.specs.declared.plans.Resource.{Resource}
 use Rattle.osplan.specs.declared.plans.Task.{Task}
 use Rattle.osplan.specs.declared.plans.CoreMode.TheVariants.{Named}
@@ -13,13 +14,14 @@ use Rattle.osplan.specs.declared.faults.ConfFault.{ConfFault}
 use Rattle.osplan.specs.declared.faults.ConfFault.TheVariants.{NotJson, Shape}
 use Rattle.osdraft.specs.declared.shapes.ConfigText.{ConfigText}
 use Rattle.osdraft.specs.declared.shapes.CoreText.{CoreText}
+use Rattle.osdraft.specs.declared.shapes.CounterText.{CounterText}
 use Rattle.osdraft.specs.declared.shapes.ResourceText.{ResourceText}
 use Rattle.osdraft.specs.declared.shapes.TaskText.{TaskText}
 use Rattle.osplan.specs.Expressible.{mode_name}
 use Rattle.osread.specs.Faults.{IsLeast, failing, if_faultless}
 use Rattle.osdraft.specs.Shape.{config_shape}
 use Rattle.osdraft.specs.declared.declarations.Declaration.{Declaration}
-use Rattle.osdraft.specs.Declarations.{byte_of, declarations, number_id, id_of}
+use Rattle.osdraft.specs.Declarations.{byte_of, declarations, number_id, id_of, word_of}
 use Rattle.osdraft.specs.Operation.{operations_of, op_of}
 use Rattle.osdraft.specs.Check.{is_task_readable, is_core_readable, is_task_masked, is_core_masked, is_task_script, is_core_script, tests_of}
 use Rattle.osread.specs.Reading.{value_if}
@@ -42,6 +44,9 @@ task_plan objects task = record {
 abbrev pub resource_plan : ResourceText → Resource
 resource_plan resource = record { name = resource.name; ceiling = byte_of resource.ceiling }
 
+abbrev pub counter_plan : CounterText → Counter
+counter_plan counter = record { name = counter.name; max = word_of counter.max; min = word_of counter.min; software = counter.software }
+
 abbrev pub core_plan : List Declaration → CoreText → Core
 core_plan objects core = record {
   id = id_of core;
@@ -50,7 +55,7 @@ core_plan objects core = record {
   tasks = map (task_plan objects) core.tasks;
   resources = map resource_plan core.resources;
   isrs = [];
-  counters = [];
+  counters = map counter_plan core.counters;
   alarms = [];
   tables = [];
 }

@@ -4,6 +4,7 @@ use Rattle.serde_json.specs.Data.{Data}
 use Rattle.serde_json.specs.Find.{as_bool, as_str}
 use Rattle.osdraft.specs.declared.shapes.ConfigText.{ConfigText}
 use Rattle.osdraft.specs.declared.shapes.CoreText.{CoreText}
+use Rattle.osdraft.specs.declared.shapes.CounterText.{CounterText}
 use Rattle.osdraft.specs.declared.shapes.ResourceText.{ResourceText}
 use Rattle.osdraft.specs.declared.shapes.TaskText.{TaskText}
 use Rattle.osread.specs.Reading.{◌>>=◌}
@@ -31,15 +32,26 @@ resource_shape d = do
   ceiling ← member_of whole_of (codes "ceiling") d
   Some (record { name = name; ceiling = ceiling })
 
--- A core: its number; the cores that it starts, its tasks and its resources, none by default.
+-- A counter: its name and greatest value; its least cycle, 1 by default; whether software alone advances it, which is not so by default.
+unfoldable pub counter_shape : Data → Option CounterText
+counter_shape d = do
+  _ ← only_members (codes "name" ∷ codes "max" ∷ codes "min" ∷ codes "software" ∷ []) d
+  name ← member_of name_of (codes "name") d
+  max ← member_of whole_of (codes "max") d
+  min ← member_or whole_of (Some 1) (codes "min") d
+  software ← member_or as_bool false (codes "software") d
+  Some (record { name = name; max = max; min = min; software = software })
+
+-- A core: its number; the cores that it starts, its tasks, its resources and its counters, none by default.
 unfoldable pub core_shape : Data → Option CoreText
 core_shape d = do
-  _ ← only_members (codes "id" ∷ codes "start" ∷ codes "tasks" ∷ codes "resources" ∷ []) d
+  _ ← only_members (codes "id" ∷ codes "start" ∷ codes "tasks" ∷ codes "resources" ∷ codes "counters" ∷ []) d
   id ← member_of whole_of (codes "id") d
   start ← member_or (each_of whole_of) [] (codes "start") d
   tasks ← member_or (each_of task_shape) [] (codes "tasks") d
   resources ← member_or (each_of resource_shape) [] (codes "resources") d
-  Some (record { id = id; start = start; tasks = tasks; resources = resources })
+  counters ← member_or (each_of counter_shape) [] (codes "counters") d
+  Some (record { id = id; start = start; tasks = tasks; resources = resources; counters = counters })
 
 -- A configuration: its version, 1 by default; the size of a mailbox, 16 by default; the master core, 0 by default; its cores.
 unfoldable pub config_shape : Data → Option ConfigText

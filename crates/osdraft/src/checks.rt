@@ -3,18 +3,19 @@
 ghost use Rattle.std.specs.Prelude.{◌≡◌, ◌==◌, ◌&&◌, ◌<◌, ◌^◌, true, false, Some, map, sum_by};
 ghost use Rattle.std.specs.List.{list_all, slice_split};
 ghost use Rattle.osdraft.specs.declared.shapes.CoreText.{CoreText as Core};
+ghost use Rattle.osdraft.specs.declared.shapes.CounterText.{CounterText as Counter};
 ghost use Rattle.osdraft.specs.declared.shapes.ResourceText.{ResourceText as Resource};
 ghost use Rattle.osdraft.specs.declared.shapes.TaskText.{TaskText as Task};
 ghost use Rattle.osforms.specs.Operation.{has_masks};
-ghost use Rattle.osplan.specs.Limits.{are_numbers_distinct, has_number, is_between, is_ceiling, is_core_by, is_start, is_task_numbered, jobs_of, most_activations, same_number};
+ghost use Rattle.osplan.specs.Limits.{are_numbers_distinct, has_number, is_between, is_ceiling, is_core_by, is_counter_within, is_start, is_task_numbered, jobs_of, most_activations, same_number};
 ghost use Rattle.osread.specs.Faults.{failing, first_fault};
 ghost use Rattle.osdraft.specs.Declarations.{declarations};
 ghost use Rattle.osdraft.specs.Operation.{is_operation_known};
-ghost use Rattle.osdraft.specs.Check.{are_masks, are_near, are_readable, are_scripts_short, is_core_short, is_script_short, is_text_numbered, is_core_masked, is_core_near, is_operation_near, is_script_near, task_sizes, core_sizes, sizes_of, numbers_of, is_text_within, is_each_once, are_operations_known, is_mode_name, is_task_known, is_core_known, is_task_masked, are_known, are_operations, tests_of};
+ghost use Rattle.osdraft.specs.Check.{are_masks, are_near, are_readable, are_scripts_short, is_core_short, is_script_short, is_text_numbered, is_core_masked, is_core_near, is_operation_near, is_script_near, task_sizes, counter_sizes, core_sizes, sizes_of, numbers_of, is_text_within, is_each_once, are_operations_known, is_mode_name, is_task_known, is_core_known, is_task_masked, are_known, are_operations, tests_of};
 
 use crate::declarations::number_id;
 use crate::places::{MODE, Objects};
-use crate::shapes::{ConfigText, CoreText, ResourceText, TaskText};
+use crate::shapes::{ConfigText, CoreText, CounterText, ResourceText, TaskText};
 use osbase::{CoreId, TASKS};
 use osforms::{has_masks, is_known, op_meant};
 use osplan::{ConfFault, stays_on};
@@ -25,6 +26,12 @@ const JOBS: u64 = 64;
 
 /// The most resources of a core.
 const RESOURCES: usize = 16;
+
+/// The most counters of a core.
+const COUNTERS: usize = 8;
+
+/// The greatest value that a counter may have.
+const GREATEST: u64 = 1_000_000_000;
 
 /// The most cores.
 const CORES: usize = 8;
@@ -86,6 +93,18 @@ fn are_ceilings_within(resources: &[ResourceText]) -> bool
         .all(|resource| is_between(0, 31, resource.ceiling))
 }
 
+fn is_counter_within(counter: &CounterText) -> bool
+    ensures { result ≡ is_counter_within (counter_sizes counter.now) }
+{
+    is_between(1, GREATEST, counter.max) && is_between(1, counter.max.unwrap_or(0), counter.min)
+}
+
+fn are_counters_within(counters: &[CounterText]) -> bool
+    ensures { result ≡ list_all (λ (counter : Counter). is_counter_within (counter_sizes counter)) counters.now }
+{
+    counters.iter().all(is_counter_within)
+}
+
 #[tactic(auto, using(crate::proofs::Numbers::mapped, crate::proofs::Numbers::few_jobs))]
 fn is_core_numbered(core: &CoreText) -> bool
     ensures { result ≡ is_core_by is_task_numbered (core_sizes core.now) }
@@ -99,6 +118,8 @@ fn is_core_numbered(core: &CoreText) -> bool
         && jobs_of_all(tasks) <= JOBS
         && core.resources.len() <= RESOURCES
         && are_ceilings_within(core.resources.as_slice())
+        && core.counters.len() <= COUNTERS
+        && are_counters_within(core.counters.as_slice())
 }
 
 fn are_cores_numbered(cores: &[CoreText]) -> bool

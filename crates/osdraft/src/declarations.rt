@@ -1,7 +1,7 @@
 //! The objects that a configuration's text declares, in one list.
 
 ghost use Rattle.std.specs.Prelude.{◌≡◌, ◌++◌, IfOk, OnOk};
-ghost use Rattle.osdraft.specs.Declarations.{byte_of, declarations, declared_by, declared_resources, declared_tasks, number_id};
+ghost use Rattle.osdraft.specs.Declarations.{byte_of, declarations, declared_by, declared_counters, declared_resources, declared_tasks, number_id, word_of};
 
 use crate::shapes::CoreText;
 use osbase::{CoreId, List, ObjectKind};
@@ -24,6 +24,22 @@ pub fn byte_of(number: Whole) -> u8
 {
     match number {
         Some(number) => { if number <= 255 { number as u8 } else { 0 } }
+        None => 0,
+    }
+}
+
+/// A number as one of 32 bits: 0 where it is none, which no text within the limits has.
+pub fn word_of(number: Whole) -> u32
+    ensures { result ≡ word_of number }
+{
+    match number {
+        Some(number) => {
+            if number <= 4_294_967_295 {
+                number as u32
+            } else {
+                0
+            }
+        }
         None => 0,
     }
 }
@@ -71,6 +87,23 @@ fn declare_resources<'t>(
     Ok(())
 }
 
+fn declare_counters<'t>(
+    declared: &mut List<Declaration<'t>>,
+    core: &'t CoreText<'t>,
+) -> Result<(), AllocError>
+    ensures { OnOk result (declared.new ≡ declared.old ++ declared_counters core.now) }
+{
+    for (index, counter) in core.counters.as_slice().iter().enumerate() {
+        declared.push(Declaration {
+            name: Text::of(counter.name.as_str()),
+            kind: ObjectKind::Counter,
+            core: number_id(core.id),
+            index,
+        })?;
+    }
+    Ok(())
+}
+
 fn declare<'t>(
     declared: &mut List<Declaration<'t>>,
     core: &'t CoreText<'t>,
@@ -78,7 +111,8 @@ fn declare<'t>(
     ensures { OnOk result (declared.new ≡ declared.old ++ declared_by core.now) }
 {
     declare_tasks(declared, core)?;
-    declare_resources(declared, core)
+    declare_resources(declared, core)?;
+    declare_counters(declared, core)
 }
 
 /// The objects of these cores.

@@ -9,16 +9,16 @@ ghost use Rattle.osread.specs.Reading.{Gives, value_if};
 ghost use Rattle.osdraft.specs.Declarations.{declarations, number_id};
 ghost use Rattle.osdraft.specs.Operation.{is_operation, known_op, op_of, operations_of};
 ghost use Rattle.osdraft.specs.Check.{are_operations_readable, is_task_readable, is_core_readable, is_core_near, is_task_masked, is_core_masked, are_readable, are_near, are_masks, is_script, is_task_script, is_core_script, are_operations};
-ghost use Rattle.osdraft.specs.Meaning.{only_mode, task_plan, resource_plan, core_plan, known_task, known_core, plan_of};
+ghost use Rattle.osdraft.specs.Meaning.{only_mode, task_plan, resource_plan, counter_plan, core_plan, known_task, known_core, plan_of};
 
 use crate::checks::{OPERATIONS, are_mode_names, has_core};
-use crate::declarations::{byte_of, number_id};
+use crate::declarations::{byte_of, number_id, word_of};
 use crate::places::{MODE, Objects};
-use crate::shapes::{ConfigText, CoreText, ResourceText, TaskText};
+use crate::shapes::{ConfigText, CoreText, CounterText, ResourceText, TaskText};
 use osbase::{CoreId, List, ModeId, Name};
 use oscript::{Op, Script};
 use osforms::op_meant;
-use osplan::{Core, CoreMode, Plan, Resource, Task};
+use osplan::{Core, CoreMode, Counter, Plan, Resource, Task};
 use osread::{PartReader, Reader, Refusal, Text, Whole, read_each, read_parts};
 use std::alloc::{AllocError, Global};
 
@@ -131,6 +131,32 @@ fn resources_of<'e>(
     read_each(alloc, objects, resources)
 }
 
+// Makes the plan of a counter.
+impl<'e> Reader<'e, CounterText<'e>, Counter> for Objects<'e> {
+    ghost shape = { λ _ counter. Some (counter_plan counter) };
+
+    ghost passes = { λ _ _. true };
+
+    fn read(&self, alloc: Global, counter: &'e CounterText<'e>) -> Result<Counter, Refusal> {
+        Ok(Counter {
+            name: Name::new(alloc, counter.name.as_str())?,
+            max: word_of(counter.max),
+            min: word_of(counter.min),
+            software: counter.software,
+        })
+    }
+}
+
+fn counters_of<'e>(
+    alloc: Global,
+    objects: &Objects<'e>,
+    counters: &'e [CounterText<'e>],
+) -> Result<List<Counter>, Refusal>
+    ensures { Gives (λ x. x) result (Some (map counter_plan counters.now)) }
+{
+    read_each(alloc, objects, counters)
+}
+
 fn ids_of(alloc: Global, numbers: &[Whole]) -> Result<Vec<CoreId>, AllocError>
     ensures { IfOk result (λ ids. ids.items ≡ map number_id numbers.now) }
 {
@@ -154,7 +180,7 @@ impl<'e> Reader<'e, CoreText<'e>, Core> for Objects<'e> {
             tasks: tasks_of(alloc, self, core.tasks.as_slice())?,
             resources: resources_of(alloc, self, core.resources.as_slice())?,
             isrs: List::new(alloc),
-            counters: List::new(alloc),
+            counters: counters_of(alloc, self, core.counters.as_slice())?,
             alarms: List::new(alloc),
             tables: List::new(alloc),
         })

@@ -4,7 +4,7 @@
 ghost use Rattle.std.specs.List.{list_all};
 ghost use Rattle.osbase.specs.Names.{is_name};
 ghost use Rattle.osdraft.specs.Check.{has_named_objects};
-ghost use Rattle.osdraft.specs.Shape.{task_shape, resource_shape, core_shape, config_shape};
+ghost use Rattle.osdraft.specs.Shape.{task_shape, resource_shape, counter_shape, core_shape, config_shape};
 
 use osbase::List;
 use osread::{
@@ -33,6 +33,15 @@ pub struct ResourceText<'v> {
     pub ceiling: Whole,
 }
 
+/// A counter as a text has it.
+#[derive(Debug, Drop)]
+pub struct CounterText<'v> {
+    pub name: Text<'v>,
+    pub max: Whole,
+    pub min: Whole,
+    pub software: bool,
+}
+
 /// A core as a text has it.
 #[derive(Debug, Drop)]
 pub struct CoreText<'v> {
@@ -40,6 +49,7 @@ pub struct CoreText<'v> {
     pub start: List<Whole>,
     pub tasks: List<TaskText<'v>>,
     pub resources: List<ResourceText<'v>>,
+    pub counters: List<CounterText<'v>>,
 }
 
 /// A configuration as a text has it.
@@ -111,6 +121,27 @@ impl<'v> JsonReader<'v, ResourceText<'v>> for ResourceReader {
     }
 }
 
+// Reads a counter.
+#[derive(Clone, Copy, Debug)]
+struct CounterReader;
+
+impl<'v> JsonReader<'v, CounterText<'v>> for CounterReader {
+    ghost shape = { λ _ d. counter_shape d };
+
+    ghost passes = { λ _ counter. is_name counter.name };
+
+    #[tactic(auto, unfolding(crate::specs::Shape::counter_shape))]
+    fn read(&self, alloc: Global, value: &'v Value) -> Result<CounterText<'v>, Refusal> {
+        only_members(value, &["name", "max", "min", "software"])?;
+        Ok(CounterText {
+            name: at(alloc, value, "name", &NameReader)?,
+            max: at(alloc, value, "max", &WholeReader)?,
+            min: at_or(alloc, value, "min", &WholeReader, Some(1))?,
+            software: at_or(alloc, value, "software", &BoolReader, false)?,
+        })
+    }
+}
+
 // Reads a core.
 #[derive(Clone, Copy, Debug)]
 struct CoreReader;
@@ -122,7 +153,7 @@ impl<'v> JsonReader<'v, CoreText<'v>> for CoreReader {
 
     #[tactic(auto, unfolding(crate::specs::Shape::core_shape))]
     fn read(&self, alloc: Global, value: &'v Value) -> Result<CoreText<'v>, Refusal> {
-        only_members(value, &["id", "start", "tasks", "resources"])?;
+        only_members(value, &["id", "start", "tasks", "resources", "counters"])?;
         Ok(CoreText {
             id: at(alloc, value, "id", &WholeReader)?,
             start: at_or(
@@ -144,6 +175,13 @@ impl<'v> JsonReader<'v, CoreText<'v>> for CoreReader {
                 value,
                 "resources",
                 &ListOf { of: ResourceReader },
+                List::new(alloc),
+            )?,
+            counters: at_or(
+                alloc,
+                value,
+                "counters",
+                &ListOf { of: CounterReader },
                 List::new(alloc),
             )?,
         })

@@ -8,7 +8,7 @@ use Rattle.oscript.specs.declared.Op.{Op}
 use Rattle.oscript.specs.declared.rows.Verb.{Verb}
 use Rattle.oscript.specs.declared.rows.Arg.{Arg}
 use Rattle.oscript.specs.Rows.{are_of, form_of_op, kinds_of, op_of, word_of}
-use Rattle.oscript.proofs.Arguments.{int-kept, mask-kept, none-kept, number-kept, one-kept, resource-back, resource-kept, task-back, task-kept, two-kept, variable-kept}
+use Rattle.oscript.proofs.Arguments.{counter-back, counter-kept, int-kept, mask-kept, none-kept, number-kept, one-kept, resource-back, resource-kept, task-back, task-kept, two-kept, variable-kept}
 use Rattle.osforms.specs.Form.{verb_of}
 use Rattle.osforms.proofs.KindTexts.{is_kind}
 
@@ -40,6 +40,8 @@ is-row Verb.SetEvent = (refl, refl, refl, λ args. refl, two-kept task-kept mask
 is-row Verb.ClearEvent = (refl, refl, refl, λ args. refl, one-kept mask-kept)
 is-row Verb.GetEvent = (refl, refl, refl, λ args. refl, two-kept task-kept variable-kept)
 is-row Verb.WaitEvent = (refl, refl, refl, λ args. refl, one-kept mask-kept)
+is-row Verb.IncrementCounter = (refl, refl, refl, λ args. refl, one-kept counter-kept)
+is-row Verb.GetCounterValue = (refl, refl, refl, λ args. refl, two-kept counter-kept variable-kept)
 
 -- The operation of an operation's form is that operation.
 pub is-op : (op : Op) → op_of (form_of_op op) ≡ op
@@ -49,4 +51,6 @@ is-op (Op.GetResource target) = ap Op.GetResource (resource-back target)
 is-op (Op.ReleaseResource target) = ap Op.ReleaseResource (resource-back target)
 is-op (Op.SetEvent target mask) = ap (λ t. Op.SetEvent t mask) (task-back target)
 is-op (Op.GetEvent target x) = ap (λ t. Op.GetEvent t x) (task-back target)
+is-op (Op.IncrementCounter target) = ap Op.IncrementCounter (counter-back target)
+is-op (Op.GetCounterValue target x) = ap (λ t. Op.GetCounterValue t x) (counter-back target)
 is-op op = refl

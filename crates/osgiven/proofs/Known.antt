@@ -27,11 +27,12 @@ each-parts {X} {Y} {P} f x xs ys e then = option_and_then_some (λ (y : Y). opti
     by z first (Some zs) others rest = then z zs first others (sym (same_Some _ _ rest))
 
 known-word : (word : List ℕ) (s : Stimulus) → stimulus_of word ≡ Some s → is_stimulus s ≡ true
-known-word word s = by (bytes_eq word (codes "op"))
+known-word word s = by (bytes_eq word (codes "op")) (bytes_eq word (codes "tick"))
   where
-    by : (b : Bool) → cond b (Some Stimulus.Op) None ≡ Some s → is_stimulus s ≡ true
-    by true e = ap is_stimulus (sym (same_Some _ _ e))
-    by false e = cc
+    by : (op tick : Bool) → cond op (Some Stimulus.Op) (cond tick (Some Stimulus.Tick) None) ≡ Some s → is_stimulus s ≡ true
+    by true tick e = ap is_stimulus (sym (same_Some _ _ e))
+    by false true e = ap is_stimulus (sym (same_Some _ _ e))
+    by false false e = cc
 
 abbrev AreWords : List Stimulus → ℕ → Type 0
 AreWords ss n = (list_all is_stimulus ss ≡ true) × (length ss ≡ n)

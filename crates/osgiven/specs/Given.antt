@@ -6,7 +6,7 @@ use Rattle.std.specs.List.{list_all}
 use Rattle.std.specs.Str.{bytes_eq}
 use Rattle.osbase.specs.declared.references.CoreId.{CoreId}
 use Rattle.osbase.specs.declared.items.Stimulus.{Stimulus}
-use Rattle.osbase.specs.declared.items.Stimulus.TheVariants.{Op}
+use Rattle.osbase.specs.declared.items.Stimulus.TheVariants.{Op, Tick}
 use Rattle.osbase.specs.declared.turns.CoreStimuli.{CoreStimuli}
 use Rattle.osbase.specs.declared.turns.Choice.{Choice}
 use Rattle.osbase.specs.declared.turns.Choice.TheVariants.{Own, Serve, Look}
@@ -33,14 +33,22 @@ core_named plan digits = do
 -- ---- stimuli: an object from core numbers to words
 
 abbrev pub stimulus_of : List ℕ → Option Stimulus
-stimulus_of word = if bytes_eq word (codes "op") then Some Op else None
+stimulus_of word = if bytes_eq word (codes "op") then Some Op else (if bytes_eq word (codes "tick") then Some Tick else None)
 
--- What follows the word `op` and a space.
-abbrev pub after_op : List ℕ → Option (List ℕ)
-after_op [] = None
-after_op (a ∷ []) = None
-after_op (a ∷ b ∷ []) = None
-after_op (a ∷ b ∷ c ∷ later) = if a == 111 then (if b == 112 then (if c == 32 then Some later else None) else None) else None
+-- What follows the beginning of a text, where it begins so.
+abbrev pub after : List ℕ → List ℕ → Option (List ℕ)
+after [] text = Some text
+after (b ∷ beginning) [] = None
+after (b ∷ beginning) (c ∷ text) = if c == b then after beginning text else None
+
+-- The stimulus whose word and a space a text begins with, and what follows them.
+abbrev pub front_by : Option (List ℕ) → Option (List ℕ) → Option (Stimulus × List ℕ)
+front_by (Some later) tick = Some (Op, later)
+front_by None (Some later) = Some (Tick, later)
+front_by None None = None
+
+abbrev pub front_of : List ℕ → Option (Stimulus × List ℕ)
+front_of text = front_by (after (codes "op ") text) (after (codes "tick ") text)
 
 abbrev pub stimuli_of_text : List ℕ → Option (List Stimulus)
 stimuli_of_text text = each stimulus_of (parts_of 32 text)

@@ -6,11 +6,12 @@ ghost use Rattle.std.specs.List.{list_all, slice_split};
 ghost use Rattle.std.specs.Borrow.{Bor};
 ghost use Rattle.std.specs.BTreeMap.{values};
 ghost use Rattle.serde_json.specs.declared.value.Value.{Value};
+ghost use Rattle.osbase.specs.declared.items.Stimulus.{Stimulus as Word};
 ghost use Rattle.osbase.specs.Runs.{AreKnown};
 ghost use Rattle.osread.specs.Reading.{Gives, each};
 ghost use Rattle.osread.specs.Json.{entries};
 ghost use Rattle.osread.specs.Faults.{IsLeast};
-ghost use Rattle.osgiven.specs.Given.{core_named, stimulus_of, after_op, stimuli_of_text, core_stimuli_of, stimuli_of_data, has_words_within, are_stimuli_within, schedule_of_data, digits_in, served, choice_of, turn_of, stimuli_meant, stimuli_faults, schedule_meant, schedule_faults};
+ghost use Rattle.osgiven.specs.Given.{core_named, stimulus_of, front_of, stimuli_of_text, core_stimuli_of, stimuli_of_data, has_words_within, are_stimuli_within, schedule_of_data, digits_in, served, choice_of, turn_of, stimuli_meant, stimuli_faults, schedule_meant, schedule_faults};
 ghost use Rattle.serde_json.specs.View.{view, members_view};
 
 use crate::words::core_number;
@@ -40,37 +41,42 @@ fn stimulus_of(word: &[u8]) -> Option<Stimulus>
 {
     match word {
         [b'o', b'p'] => Some(Stimulus::Op),
+        [b't', b'i', b'c', b'k'] => Some(Stimulus::Tick),
         _ => None,
     }
 }
 
-fn read_stimulus(word: &[u8]) -> Result<Stimulus, Refusal>
+fn read_stimulus(word: &str) -> Result<Stimulus, Refusal>
     ensures { Gives (λ x. x) result (stimulus_of word.now) }
 {
-    match stimulus_of(word) {
+    match stimulus_of(word.as_bytes()) {
         Some(stimulus) => Ok(stimulus),
         None => Err(Refusal::Unfit),
     }
 }
 
-/// What follows the word `op` and a space.
-fn after_op(text: &[u8]) -> Option<&[u8]>
-    ensures { option_map (λ (later : Bor (List ℕ)). later.now) result ≡ after_op text.now }
+// The stimulus whose word and a space the text begins with, and what follows them.
+#[inline(always)]
+fn front_of(text: &str) -> Option<(Stimulus, &str)>
+    ensures { option_map (λ (front : Word × Bor (List ℕ)). (front.0, front.1.now)) result ≡ front_of text.now }
 {
-    match text {
-        [b'o', b'p', b' ', later @ ..] => Some(later),
-        _ => None,
+    match text.strip_prefix("op ") {
+        Some(later) => Some((Stimulus::Op, later)),
+        None => match text.strip_prefix("tick ") {
+            Some(later) => Some((Stimulus::Tick, later)),
+            None => None,
+        },
     }
 }
 
-// `op` is the only word so far, so the words are walked by it, and none is collected.
-fn stimuli_of_words(alloc: Global, text: &[u8]) -> Result<Items<Stimulus>, Refusal>
+// The words are few, so each is compared where it would stand, and the end of none is looked for.
+fn stimuli_of_words(alloc: Global, text: &str) -> Result<Items<Stimulus>, Refusal>
     ensures { Gives (λ x. x) result (each stimulus_of (slice_split (λ b. b == 32) text.now)) }
 {
     let mut stimuli = Vec::with_capacity(alloc, text.len() / 3 + 1)?;
     let mut rest = text;
-    while let Some(later) = after_op(rest) {
-        stimuli.push(Stimulus::Op)?;
+    while let Some((stimulus, later)) = front_of(rest) {
+        stimuli.push(stimulus)?;
         rest = later;
     }
     stimuli.push(read_stimulus(rest)?)?;
@@ -83,7 +89,7 @@ fn stimuli_of_text(alloc: Global, text: &str) -> Result<Items<Stimulus>, Refusal
     if text.is_empty() {
         return Ok(Items::new(alloc));
     }
-    stimuli_of_words(alloc, text.as_bytes())
+    stimuli_of_words(alloc, text)
 }
 
 #[tactic(auto, unfolding(crate::specs::Given::core_stimuli_of))]

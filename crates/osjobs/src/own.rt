@@ -1,11 +1,11 @@
 //! A core's own objects, by their references.
 
 ghost use Rattle.std.specs.Prelude.{◌≡◌, option_copied};
-ghost use Rattle.osplan.specs.View.{own_resource, own_task};
+ghost use Rattle.osplan.specs.View.{own_alarm, own_counter, own_resource, own_task};
 
 use crate::equality::is_same_core;
-use osbase::{ResourceRef, TaskRef};
-use osplan::{Core, Resource, Task};
+use osbase::{AlarmRef, CounterRef, ResourceRef, TaskRef};
+use osplan::{Alarm, Core, Counter, Resource, Task};
 
 /// The task of this reference, if it is one of this core's.
 pub fn task_of(core: &Core, task: TaskRef) -> Option<&Task>
@@ -23,6 +23,26 @@ pub fn resource_of(core: &Core, resource: ResourceRef) -> Option<&Resource>
 {
     if is_same_core(resource.core, core.id) {
         return core.resources.as_slice().get(usize::from(resource.index));
+    }
+    None
+}
+
+/// The counter of this reference, if it is one of this core's.
+pub fn counter_of(core: &Core, counter: CounterRef) -> Option<&Counter>
+    ensures { option_copied result ≡ own_counter core.now counter }
+{
+    if is_same_core(counter.core, core.id) {
+        return core.counters.as_slice().get(usize::from(counter.index));
+    }
+    None
+}
+
+/// The alarm of this reference, if it is one of this core's.
+pub fn alarm_of(core: &Core, alarm: AlarmRef) -> Option<&Alarm>
+    ensures { option_copied result ≡ own_alarm core.now alarm }
+{
+    if is_same_core(alarm.core, core.id) {
+        return core.alarms.as_slice().get(usize::from(alarm.index));
     }
     None
 }

@@ -5,6 +5,7 @@ use Rattle.std.specs.List.{filter}
 use Rattle.std.specs.Option.{option_map_or}
 use Rattle.std.proofs.lemmas.Bool.Decides.{nat_tests}
 use Rattle.std.proofs.lemmas.List.{map-append}
+use Rattle.osbase.specs.declared.references.CounterRef.{CounterRef}
 use Rattle.osbase.specs.declared.references.TaskRef.{TaskRef}
 use Rattle.osbase.specs.declared.references.Runner.{Runner}
 use Rattle.osbase.specs.declared.items.CoreSet.{CoreSet}
@@ -15,6 +16,7 @@ use Rattle.osbase.specs.declared.histories.Job.{Job}
 use Rattle.osbase.specs.declared.histories.TaskEvents.{TaskEvents}
 use Rattle.osbase.specs.Sets.{numbers_from}
 use Rattle.osbase.specs.declared.turns.TheConstants.{TASKS}
+use Rattle.osbase.specs.Counting.{counts_after, counts_of}
 use Rattle.osbase.specs.History.{History, Entry, Took, Printed, agreement_after, agreement_of, better_of, current_after, current_job, current_task, events_after, events_of, first_greatest, giving_way, giving_way_after, greater, greatest_ceiling, held_after, held_by, job_count, jobs_after, live_jobs, marks_of, no_events, oldest, oldest_of, open_after, open_call, phase_after, phase_of, same_runner, stamped_anew, without_oldest}
 use Rattle.oscript.specs.declared.Op.{Op}
 use Rattle.oscript.specs.Frames.{frame_after, frame_of}
@@ -86,6 +88,13 @@ events-same t s m k = reads-same (events_of t) (λ e h j p. ap (events_after t e
 
 pub task_events-same : (v : View) (s : CoreSet) (m : Bool) (k : History) → task_events v (among s (base_of m) k) ≡ task_events v k
 task_events-same v s m k = each-same _ _ (λ n. events-same (task_ref v.own n) s m k) (numbers_from 0 TASKS)
+
+pub counts-same : (c : CounterRef) (s : CoreSet) (m : Bool) (k : History) → counts_of c (among s (base_of m) k) ≡ counts_of c k
+counts-same c s m k = reads-same (counts_of c) (λ e h j p. ap (counts_after c e) p) (λ a b h. refl) s (base_of m) k (by m)
+  where
+    by : (b : Bool) → counts_of c (base_of b) ≡ 0
+    by true = refl
+    by false = refl
 
 pub open-same : (s : CoreSet) (m : Bool) (k : History) → open_call (among s (base_of m) k) ≡ open_call k
 open-same s m k = reads-same open_call (λ e h j p. ap (open_after e) p) (λ a b h. refl) s (base_of m) k (by m)

@@ -1,6 +1,6 @@
 -- Autostart, task by task.
-use Rattle.std.proofs.Common.{◌≡◌, ℕ, zero, suc, ◌+◌, ◌≤◌, ◌<◌, Bool, true, false, cond, Option, Some, List, [], ◌∷◌, ◌++◌, length, take, refl, ap, sym, subst, ◌∙◌, arith, nat_le, map, get_or, add-one}
-use Rattle.std.specs.List.{slice_get, enumerate_from, list_all}
+use Rattle.std.proofs.Common.{◌≡◌, ℕ, zero, suc, ◌+◌, ◌≤◌, ◌<◌, Bool, true, false, cond, Option, Some, List, [], ◌∷◌, ◌++◌, length, take, refl, ap, sym, subst, ◌∙◌, arith, nat_le, get_or, add-one}
+use Rattle.std.specs.List.{slice_get, list_all}
 use Rattle.std.proofs.lemmas.Bool.{false_from_ne_true, leb-true, and_parts}
 use Rattle.std.proofs.lemmas.Option.{slice_get-get_or}
 use Rattle.osbase.specs.declared.references.CoreId.{CoreId}
@@ -19,29 +19,18 @@ use Rattle.osbase.proofs.Same.{same_runner-true, same_core-refl}
 use Rattle.osstate.proofs.JobLists.{job_count-append}
 use Rattle.oscall.specs.Tasks.{activates}
 use Rattle.oskernel.specs.Step.{autostarts, starts_in}
+use Rattle.oskernel.proofs.Numbered.{each-more, pairs-at, pairs-length, take-whole}
 
 abbrev pub ref_at : CoreId → ℕ → TaskRef
 ref_at core n = record { core = core; index = n }
 
 -- one task more
 pub autostarts-more : (agreement : Option Agreement) (ps : List (TaskRef × Task)) (i : ℕ) (p : TaskRef × Task) (h : History) → slice_get ps i ≡ Some p → autostarts agreement (take (suc i) ps) h ≡ cond (starts_in agreement p.1) (activates p.0 (autostarts agreement (take i ps) h)) (autostarts agreement (take i ps) h)
-autostarts-more agreement [] i p h e = cc
-autostarts-more agreement (q ∷ ps) zero p h e =
-    let same : q ≡ p = cc in
-    ap (λ (r : TaskRef × Task). cond (starts_in agreement r.1) (activates r.0 h) h) same
-autostarts-more agreement (q ∷ ps) (suc i) p h e = autostarts-more agreement ps i p (cond (starts_in agreement q.1) (activates q.0 h) h) e
-
-refs-at : (core : CoreId) (n i : ℕ) (t : Task) (xs : List Task) → slice_get xs i ≡ Some t → slice_get (map (λ (p : ℕ × Task). let q : TaskRef × Task = (ref_at core p.0, p.1) in q) (enumerate_from n xs)) i ≡ Some (ref_at core (n + i), t)
-refs-at core n i t [] e = cc
-refs-at core n zero t (x ∷ xs) e =
-    let same : x ≡ t = cc in
-    ap (λ (y : Task). Some (ref_at core n, y)) same ∙ ap (λ (m : ℕ). Some (ref_at core m, t)) (let here : n ≡ n + 0 = omega arith in here)
-refs-at core n (suc i) t (x ∷ xs) e =
-    refs-at core (n + 1) i t xs e ∙ ap (λ (m : ℕ). Some (ref_at core m, t)) (let next : (n + 1) + i ≡ n + suc i = omega arith in next)
+autostarts-more agreement = each-more (λ (p : TaskRef × Task) h. cond (starts_in agreement p.1) (activates p.0 h) h) (autostarts agreement) (λ h. refl) (λ p ps h. refl)
 
 -- the task at a place, with its reference
 pub task_refs-at : (own : Core) (i : ℕ) (t : Task) → slice_get own.tasks i ≡ Some t → slice_get (task_refs own) i ≡ Some (ref_at own.id i, t)
-task_refs-at own i t e = refs-at own.id 0 i t own.tasks e ∙ ap (λ (m : ℕ). Some (ref_at own.id m, t)) (let same : 0 + i ≡ i = omega arith in same)
+task_refs-at own i t e = pairs-at (ref_at own.id) 0 i t own.tasks e ∙ ap (λ (m : ℕ). Some (ref_at own.id m, t)) (let same : 0 + i ≡ i = omega arith in same)
 
 -- a task that has no job yet may have one
 pub place-for-first : (own : Core) (js : List Job) (i : ℕ) (t : Task) → list_all (λ (u : Task). nat_le 1 u.activations) own.tasks ≡ true → slice_get own.tasks i ≡ Some t → job_count (Runner.Task (ref_at own.id i)) js ≡ 0 → job_count (Runner.Task (ref_at own.id i)) js < activation_limit own (Runner.Task (ref_at own.id i))
@@ -103,20 +92,10 @@ next-start v old h tasks core index place t agreement stands same_tasks same_cor
     ∙ autostarts-more agreement (task_refs v.own) place (ref_at v.own.id place, t) h (task_refs-at v.own place t at)
     ∙ ap (λ (r : TaskRef). cond (starts_in agreement t) (activates r (autostarts agreement (take place (task_refs v.own)) h)) (autostarts agreement (take place (task_refs v.own)) h)) own
 
-take-whole : (ps : List (TaskRef × Task)) (i : ℕ) → length ps ≤ i → take i ps ≡ ps
-take-whole [] zero h = refl
-take-whole [] (suc i) h = refl
-take-whole (p ∷ ps) zero h = absurd (omega (arith, h))
-take-whole (p ∷ ps) (suc i) h = ap (λ (qs : List (TaskRef × Task)). p ∷ qs) (take-whole ps i (omega (arith, h)))
-
-refs-length : (core : CoreId) (n : ℕ) (xs : List Task) → length (map (λ (p : ℕ × Task). let q : TaskRef × Task = (ref_at core p.0, p.1) in q) (enumerate_from n xs)) ≡ length xs
-refs-length core n [] = refl
-refs-length core n (x ∷ xs) = ap suc (refs-length core (n + 1) xs)
-
 -- past the last task autostart is done
 pub all-started : (v : View) (old : KernelState) (h : History) (tasks : List Task) (place : ℕ) (agreement : Option Agreement) → Stands v h old → tasks ≡ old.view.own.tasks → length tasks ≤ place → agreement ≡ agreement_of h → autostarts agreement (take place (task_refs v.own)) h ≡ autostarts (agreement_of h) (task_refs v.own) h
 all-started v old h tasks place agreement stands same_tasks past agreed =
     let same : tasks ≡ v.own.tasks = same_tasks ∙ ap (λ (s : KernelState). s.view.own.tasks) stands.is in
-    let count : length (task_refs v.own) ≡ length tasks = refs-length v.own.id 0 v.own.tasks ∙ ap length (sym same) in
+    let count : length (task_refs v.own) ≡ length tasks = pairs-length (ref_at v.own.id) 0 v.own.tasks ∙ ap length (sym same) in
     ap (λ (ps : List (TaskRef × Task)). autostarts agreement ps h) (take-whole (task_refs v.own) place (omega (arith, past, count)))
     ∙ ap (λ (a : Option Agreement). autostarts a (task_refs v.own) h) agreed

@@ -5,6 +5,7 @@ use Rattle.std.specs.Option.{option_map_or}
 use Rattle.std.proofs.lemmas.Bool.{and_from, and_parts, or_right}
 use Rattle.osbase.specs.declared.statuses.Status.{Status}
 use Rattle.osbase.specs.declared.references.CoreId.{CoreId}
+use Rattle.osbase.specs.declared.references.CounterRef.{CounterRef}
 use Rattle.osbase.specs.declared.references.TaskRef.{TaskRef}
 use Rattle.osbase.specs.declared.references.Runner.{Runner}
 use Rattle.osbase.specs.declared.messages.Message.{Message}
@@ -16,7 +17,7 @@ use Rattle.osbase.specs.declared.marks.Mark.{Mark}
 use Rattle.osbase.specs.declared.histories.Job.{Job}
 use Rattle.osbase.specs.declared.histories.OpenCall.{OpenCall}
 use Rattle.osbase.specs.declared.histories.Phase.{Phase}
-use Rattle.osbase.specs.History.{History, Printed, Took, agreement_of, current_task, open_call, same_job}
+use Rattle.osbase.specs.History.{Counted, History, Noted, Printed, Took, agreement_of, current_task, open_call, same_job}
 use Rattle.osbase.specs.Marks.{core_of_runner, names_only}
 use Rattle.osbase.specs.Phases.{is_scheduling}
 use Rattle.oscript.specs.declared.Op.{Op}
@@ -24,13 +25,14 @@ use Rattle.oscript.specs.declared.Action.TheVariants.{Perform, End}
 use Rattle.oscript.specs.declared.Frame.{Frame}
 use Rattle.oscript.specs.Rows.{objects_of}
 use Rattle.oscript.specs.Frames.{action_at}
+use Rattle.osplan.specs.declared.plans.Counter.{Counter}
 use Rattle.osplan.specs.declared.plans.Task.{Task}
 use Rattle.osplan.specs.View.{View}
 use Rattle.osstate.specs.Readings.{best_job, frame_at, is_own, phase_at, running, script_of, task_ref, task_refs}
 use Rattle.oscall.specs.Border.{core_of_call}
 use Rattle.oscall.specs.Tasks.{activates}
 use Rattle.oscall.proofs.Carried.{IsAllowed, IsKept, seen_as, anybody, either-carried, printed-carried, operates-carried, request-carried, action-carried, resumes-carried, ends_unasked-carried}
-use Rattle.oskernel.specs.Step.{after, autostarts, closes, dispatches, effect, enters, gate_mark, goes_on, goes_to, leaves, starts_in, performs}
+use Rattle.oskernel.specs.Step.{after, autostarts, closes, counter_refs, counts_each, dispatches, effect, enters, gate_mark, goes_on, goes_to, leaves, starts_in, performs}
 
 -- A request comes from a core that may be answered, and the call that it brings, or an action, is for an object that marks
 -- may name.
@@ -147,6 +149,10 @@ module _ (v : View) (master : Bool) (ids : List CoreId) (may replies names : Cor
   closes-carried None s value n h k p = p
   closes-carried (Some call) s value n h k p = resumes-carried v master ids may replies names R kept call.runner call.service s value h k n p
 
+  counts_each-carried : (ps : List (CounterRef × Counter)) (h k : History) → R h k → R (counts_each ps h) (counts_each ps k)
+  counts_each-carried [] h k p = p
+  counts_each-carried (c ∷ cs) h k p = counts_each-carried cs _ _ (either c.1.software h _ k _ p (kept.local (Noted (Counted c.0)) h k refl p))
+
   effect-carried : (item : Item) (h k : History) → is_replied replies names item ≡ true → R h k → R (effect v item h) (effect other item k)
   effect-carried (Item.Began core s) h k m p = printed _ h k refl p
   effect-carried (Item.Pass1 agreement) h k m p = printed _ h k (gate-named agreement) p
@@ -154,7 +160,7 @@ module _ (v : View) (master : Bool) (ids : List CoreId) (may replies names : Cor
       subst (λ (a : Option Agreement). R (autostarts (agreement_of h) (task_refs v.own) h) (autostarts a (task_refs v.own) k)) (steers h k p).agreement
       (autostarts-carried (agreement_of h) (task_refs v.own) (refs-named 0 v.own.tasks) h k p)
   effect-carried (Item.Stim Stimulus.Op) h k m p = goes_on-carried (running v h) (running other k) (steers h k p).runs (acting h k p).runs h k p
-  effect-carried (Item.Stim Stimulus.Tick) h k m p = p
+  effect-carried (Item.Stim Stimulus.Tick) h k m p = counts_each-carried (counter_refs v.own) _ _ (printed Mark.Tick h k refl p)
   effect-carried (Item.Stim (Stimulus.Irq isr)) h k m p = p
   effect-carried (Item.Received from number (Message.Request call)) h k m p =
       let parts = and_parts (replies from) (names (core_of_call call)) m in

@@ -1,6 +1,8 @@
 pub mod Phases
 pub mod Taken
+pub mod Numbered
 pub mod Autostart
+pub mod Ticking
 pub mod Carried
 pub mod Holding
 pub mod Stages

@@ -13,7 +13,8 @@ use Rattle.osplan.specs.View.{View}
 use Rattle.osstate.specs.Readings.{best_job, frame_at, held_resources, is_own, knows_started, running, script_of, task_events}
 use Rattle.oscall.proofs.Carried.{anybody, is_local, IsKept, nobody, seen_as, ServesSame}
 use Rattle.oskernel.specs.Step.{after, effect}
-use Rattle.oskernel.proofs.Among.{agreement-same, among, base_of, best-later, count-same, current-same, delay, frame-same, later, open-same, phase-same, resources-same, running-later, stamp-later, task_events-same}
+use Rattle.osbase.specs.Counting.{counts_of}
+use Rattle.oskernel.proofs.Among.{counts-same, agreement-same, among, base_of, best-later, count-same, current-same, delay, frame-same, later, open-same, phase-same, resources-same, running-later, stamp-later, task_events-same}
 use Rattle.oskernel.proofs.Carried.{acting-anybody, after-carried, is_going, is_replied, runner_of, ScriptsAllow, SteersSame}
 
 -- What the core alone sees.
@@ -66,6 +67,7 @@ module _ (v : View) (ids : List CoreId) (s : CoreSet) where
     frame = λ r. ap (frame_at v r) p.same ∙ frame-same (script_of v.own r) r s v.is_master k;
     held = ap (held_resources v) p.same ∙ resources-same v s v.is_master k;
     events = ap (task_events v) p.same ∙ task_events-same v s v.is_master k;
+    counts = λ c. ap (counts_of c) p.same ∙ counts-same c s v.is_master k;
   }
     where
       own_only : (b : Bool) → (b || false) ≡ true → b ≡ true
@@ -92,9 +94,9 @@ module _ (v : View) (ids : List CoreId) (s : CoreSet) where
     same-after : (k : History) (item item' : Item) → is_replied nobody anybody item ≡ true → ((n : History) → effect self item n ≡ effect self item' n) → Along (Took item ∷ here k) (Took item' ∷ k) → after v (here k) item ≡ here (after self k item')
     same-after k item item' replied same along = (after-carried v true ids nobody nobody anybody Along kept steers (λ h n p. acting-anybody v h) scripts refl (here k) k item item' replied same along).same
 
-    -- So it is with the next operation, the end of the stimuli, and the second gate.
-    pub same-operation : (k : History) → knows_started (here k) v.core ≡ true → knows_started k v.core ≡ true → after v (here k) (Item.Stim Stimulus.Op) ≡ here (after self k (Item.Stim Stimulus.Op))
-    same-operation k there alone = same-after k (Item.Stim Stimulus.Op) (Item.Stim Stimulus.Op) refl (λ n. refl) (record { same = refl; started = there ∙ sym alone })
+    -- So it is with the next stimulus, the end of the stimuli, and the second gate.
+    pub same-stimulus : (stimulus : Stimulus) (k : History) → knows_started (here k) v.core ≡ true → knows_started k v.core ≡ true → after v (here k) (Item.Stim stimulus) ≡ here (after self k (Item.Stim stimulus))
+    same-stimulus stimulus k there alone = same-after k (Item.Stim stimulus) (Item.Stim stimulus) refl (λ n. refl) (record { same = refl; started = there ∙ sym alone })
 
     pub same-drained : (k : History) → knows_started (here k) v.core ≡ true → knows_started k v.core ≡ true → after v (here k) Item.Drained ≡ here (after self k Item.Drained)
     same-drained k there alone = same-after k Item.Drained Item.Drained refl (λ n. refl) (record { same = refl; started = there ∙ sym alone })

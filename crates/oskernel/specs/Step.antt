@@ -1,10 +1,11 @@
 -- A core's step: which item may be taken, what follows from it, and a core by itself.
-use Rattle.std.specs.Prelude.{ℕ, ℤ, ◌==◌, ◌&&◌, Bool, false, if◌then◌else◌, Option, Some, None, is_none, List, [], ◌∷◌}
-use Rattle.std.specs.List.{list_any}
+use Rattle.std.specs.Prelude.{ℕ, ℤ, ◌==◌, ◌&&◌, Bool, false, if◌then◌else◌, Option, Some, None, is_none, List, [], ◌∷◌, map}
+use Rattle.std.specs.List.{enumerate_from, list_any}
 use Rattle.std.specs.Option.{option_map_or}
 use Rattle.osbase.specs.declared.statuses.Status.{Status}
 use Rattle.osbase.specs.declared.references.CoreId.{CoreId}
 use Rattle.osbase.specs.declared.references.ModeId.{ModeId}
+use Rattle.osbase.specs.declared.references.CounterRef.{CounterRef}
 use Rattle.osbase.specs.declared.references.TaskRef.{TaskRef}
 use Rattle.osbase.specs.declared.references.Runner.{Runner}
 use Rattle.osbase.specs.declared.messages.Message.{Message}
@@ -19,10 +20,14 @@ use Rattle.osbase.specs.Phases.{is_scheduling}
 use Rattle.oscript.specs.declared.Action.{Action}
 use Rattle.oscript.specs.declared.Action.TheVariants.{Perform, End}
 use Rattle.oscript.specs.Frames.{action_at}
+use Rattle.osplan.specs.declared.plans.Core.{Core}
+use Rattle.osplan.specs.declared.plans.Counter.{Counter}
 use Rattle.osplan.specs.declared.plans.Task.{Task}
 use Rattle.osplan.specs.View.{View}
 use Rattle.osstate.specs.Readings.{script_of, frame_at, best_job, phase_at, running, task_refs}
 use Rattle.osstate.specs.State.{state_of}
+use Rattle.osclock.specs.Clocks.{counter_ref}
+use Rattle.oscall.specs.Counters.{counts}
 use Rattle.oscall.specs.Returning.{prints}
 use Rattle.oscall.specs.Tasks.{activates, ends_unasked}
 use Rattle.oscall.specs.Border.{serves_request, serves_action}
@@ -61,10 +66,22 @@ abbrev pub goes_on : View → Option Job → History → History
 goes_on v None h = h
 goes_on v (Some j) h = performs v j.runner (action_at (script_of v.own j.runner) (frame_at v j.runner h)) h
 
--- A stimulus. The others cannot be taken yet.
+-- The stimulus `tick`: its line, and then each hardware counter of the core goes on by one, in index order.
+-- [OSEK/VDX OS 2.2.3, section 9.1; AUTOSAR SWS OS 4.x, OsCounterType; the order: own]
+abbrev pub counter_refs : Core → List (CounterRef × Counter)
+counter_refs core = map (λ (p : ℕ × Counter). (counter_ref core p.0, p.1)) (enumerate_from 0 core.counters)
+
+abbrev pub counts_each : List (CounterRef × Counter) → History → History
+counts_each [] h = h
+counts_each (p ∷ ps) h = counts_each ps (if p.1.software then h else counts (Some p.0) h)
+
+abbrev pub ticks : View → History → History
+ticks v h = counts_each (counter_refs v.own) (prints Mark.Tick h)
+
+-- A stimulus. An interrupt cannot be taken yet.
 abbrev pub stimulates : View → Stimulus → History → History
 stimulates v Stimulus.Op h = goes_on v (running v h) h
-stimulates v Stimulus.Tick h = h
+stimulates v Stimulus.Tick h = ticks v h
 stimulates v (Stimulus.Irq isr) h = h
 
 -- The job whose call is open goes on with the reply; with no call open it does nothing. [own]

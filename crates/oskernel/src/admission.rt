@@ -72,13 +72,13 @@ pub(crate) fn is_admitted<const P: usize, const J: usize, const OUT: usize>(
     }
 }
 
-// So far only the running job's next operation.
+// So far the running job's next operation, and a tick.
 fn is_known_stimulus(stimulus: Stimulus) -> bool
     ensures { result ≡ is_stimulus stimulus }
 {
     match stimulus {
         Stimulus::Op => true,
-        Stimulus::Tick => false,
+        Stimulus::Tick => true,
         Stimulus::Irq(_) => false,
     }
 }

@@ -20,6 +20,7 @@ ghost use Rattle.oskernel.specs.Bounded.{step_entries};
 ghost use Rattle.oskernel.specs.Step.{autostarts, closes, dispatches, effect, enters, gate_mark, goes_on, goes_to, leaves, performs, receives, starts_in, stimulates};
 ghost use Rattle.oskernel.specs.Taking.{TakesItem, agreement_on, is_acting, is_answered, is_filling, is_known, is_request, is_second_gate};
 
+use crate::ticks::tick;
 use osbase::{
     Agreement, CoreId, Item, Job, Mark, Message, ModeId, Phase, Runner, Status, Stimulus, TaskRef,
 };
@@ -189,7 +190,7 @@ fn is_listed(modes: &[ModeId], mode: ModeId) -> bool
     modes.iter().any(|named| named.index == mode.index)
 }
 
-// A stimulus: so far only one operation of the running job, or its end.
+// A stimulus: one operation of the running job or its end, or a tick.
 fn go_on<const P: usize, const J: usize, const OUT: usize>(
     state: &mut CoreState<'_, P, J, OUT>,
     stimulus: Stimulus,
@@ -203,7 +204,7 @@ fn go_on<const P: usize, const J: usize, const OUT: usize>(
 {
     match stimulus {
         Stimulus::Op => go_on_by_one(state, marks),
-        Stimulus::Tick => unreachable!(),
+        Stimulus::Tick => tick(state, marks),
         Stimulus::Irq(_) => unreachable!(),
     }
 }

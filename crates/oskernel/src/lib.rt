@@ -4,6 +4,7 @@
 mod admission;
 mod effects;
 pub mod kernel;
+mod ticks;
 pub mod wants;
 
 pub use kernel::{Kernel, STEP_MARKS};

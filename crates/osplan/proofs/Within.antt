@@ -1,5 +1,5 @@
 -- What the tests of a configuration say, by name, and what a kernel needs of a core.
-use Rattle.std.proofs.Common.{◌≡◌, ℕ, ◌+◌, ◌≤◌, true, nat_eq, nat_le, nat_lt, [], length, map, Some, is_some, IsTrue, sym, ◌∙◌, arith, sum_by}
+use Rattle.std.proofs.Common.{◌≡◌, ℕ, ◌+◌, ◌≤◌, ◌&&◌, true, nat_eq, nat_le, nat_lt, [], length, map, Some, is_some, IsTrue, sym, ◌∙◌, arith, sum_by}
 use Rattle.std.specs.List.{list_all}
 use Rattle.std.proofs.lemmas.Bool.{and_parts, leb-true, le-leb, lt-ltb}
 use Rattle.std.proofs.lemmas.List.{length-map}
@@ -8,11 +8,12 @@ use Rattle.osbase.specs.declared.references.CoreId.{CoreId}
 use Rattle.osbase.specs.History.{same_core}
 use Rattle.osplan.specs.declared.plans.Plan.{Plan}
 use Rattle.osplan.specs.declared.plans.Core.{Core}
+use Rattle.osplan.specs.declared.plans.Counter.{Counter}
 use Rattle.osplan.specs.declared.plans.Resource.{Resource}
 use Rattle.osplan.specs.declared.plans.Task.{Task}
 use Rattle.osplan.specs.View.{core_of}
-use Rattle.osplan.specs.Limits.{TaskSizes, is_between, jobs_of, task_sizes, core_sizes, sizes_of, is_task_within, is_core_within, is_within, is_ceiling, ceiling_of, is_core_known, is_core_near, numbers_of, are_numbers_distinct, is_within_limits}
-use Rattle.osplan.specs.Expressible.{are_mode_name, is_in_only_mode, are_distinct, declared_names, is_task_expressible, is_resource_expressible, is_core_expressible, is_expressible}
+use Rattle.osplan.specs.Limits.{TaskSizes, is_between, jobs_of, task_sizes, counter_sizes, core_sizes, sizes_of, is_task_within, is_counter_within, is_core_within, is_within, is_ceiling, ceiling_of, is_core_known, is_core_near, numbers_of, are_numbers_distinct, is_within_limits}
+use Rattle.osplan.specs.Expressible.{are_mode_name, is_in_only_mode, are_distinct, declared_names, is_task_expressible, is_resource_expressible, is_counter_expressible, is_core_expressible, is_expressible}
 use Rattle.osplan.proofs.Tests.{all-weaker, find-passes, none-from}
 
 -- ---- the parts of both tests
@@ -57,8 +58,8 @@ pub record CoreTextParts (core : Core) : Type 0 where
   pub mode : is_in_only_mode core.mode ≡ true
   pub tasks : list_all is_task_expressible core.tasks ≡ true
   pub resources : list_all is_resource_expressible core.resources ≡ true
+  pub counters : list_all is_counter_expressible core.counters ≡ true
   pub isrs : core.isrs ≡ []
-  pub counters : core.counters ≡ []
   pub alarms : core.alarms ≡ []
   pub tables : core.tables ≡ []
 
@@ -66,23 +67,23 @@ pub core-text-parts : (core : Core) → IsTrue (is_core_expressible core) → Co
 core-text-parts core h =
     let tables = and_parts _ (nat_eq (length core.tables) 0) h in
     let alarms = and_parts _ (nat_eq (length core.alarms) 0) tables.0 in
-    let counters = and_parts _ (nat_eq (length core.counters) 0) alarms.0 in
-    let isrs = and_parts _ (nat_eq (length core.isrs) 0) counters.0 in
-    let resources = and_parts _ (list_all is_resource_expressible core.resources) isrs.0 in
+    let isrs = and_parts _ (nat_eq (length core.isrs) 0) alarms.0 in
+    let counters = and_parts _ (list_all is_counter_expressible core.counters) isrs.0 in
+    let resources = and_parts _ (list_all is_resource_expressible core.resources) counters.0 in
     let tasks = and_parts (is_in_only_mode core.mode) (list_all is_task_expressible core.tasks) resources.0 in
     record {
       mode = tasks.0;
       tasks = tasks.1;
       resources = resources.1;
+      counters = counters.1;
       isrs = none-from core.isrs isrs.1;
-      counters = none-from core.counters counters.1;
       alarms = none-from core.alarms alarms.1;
       tables = none-from core.tables tables.1;
     }
 
 -- ---- what a kernel needs
 
--- The core has its place among the flags of all cores, and its tasks, their jobs and its resources have room.
+-- The core has its place among the flags of all cores, and its tasks, their jobs, its resources and its counters have room.
 pub record FitsKernel (core : Core) : Type 0 where
   pub number : nat_lt core.id.number 16 ≡ true
   pub tasks : length core.tasks ≤ 32
@@ -91,6 +92,8 @@ pub record FitsKernel (core : Core) : Type 0 where
   pub activations : sum_by (λ (t : Task). t.activations) core.tasks ≤ 64
   pub resources : length core.resources ≤ 16
   pub ceilings : list_all (λ (r : Resource). nat_lt r.ceiling 32) core.resources ≡ true
+  pub counters : length core.counters ≤ 8
+  pub maxima : list_all (λ (c : Counter). nat_le 1 c.max && nat_le c.max 1000000000) core.counters ≡ true
 
 pub between : (low high n : ℕ) → is_between low high (Some n) ≡ true → (low ≤ n) × (n ≤ high)
 between low high n h = let parts = and_parts (nat_le low n) (nat_le n high) h in (leb-true low n parts.0, leb-true n high parts.1)
@@ -105,9 +108,15 @@ task-fits task h =
 resource-fits : (resource : Resource) → is_ceiling (ceiling_of resource) ≡ true → nat_lt resource.ceiling 32 ≡ true
 resource-fits resource h = let ceiling = between _ _ resource.ceiling h in lt-ltb resource.ceiling 32 (omega arith)
 
+counter-fits : (counter : Counter) → is_counter_within (counter_sizes counter) ≡ true → (nat_le 1 counter.max && nat_le counter.max 1000000000) ≡ true
+counter-fits counter h = (and_parts _ _ h).0
+
 pub fits : (core : Core) → is_core_within (core_sizes core) ≡ true → FitsKernel core
 fits core h =
-    let ceilings = and_parts _ (list_all is_ceiling (map ceiling_of core.resources)) h in
+    let maxima = and_parts _ (list_all is_counter_within (map counter_sizes core.counters)) h in
+    let counters = and_parts _ (nat_le (length (map counter_sizes core.counters)) 8) maxima.0 in
+    let counted = leb-true (length (map counter_sizes core.counters)) _ counters.1 in
+    let ceilings = and_parts _ (list_all is_ceiling (map ceiling_of core.resources)) counters.0 in
     let resources = and_parts _ (nat_le (length (map ceiling_of core.resources)) 16) ceilings.0 in
     let held = leb-true (length (map ceiling_of core.resources)) _ resources.1 in
     let sum = and_parts _ (nat_le (sum_by jobs_of (map task_sizes core.tasks)) 64) resources.0 in
@@ -124,6 +133,8 @@ fits core h =
       activations = rw (← fold-map (λ (jobs : ℕ) (s : TaskSizes). jobs + jobs_of s) task_sizes 0 core.tasks) (leb-true _ 64 sum.1);
       resources = omega (arith, length-map core.resources ceiling_of);
       ceilings = all-weaker _ _ resource-fits core.resources (sym (list_all-map is_ceiling ceiling_of core.resources) ∙ ceilings.1);
+      counters = omega (arith, length-map core.counters counter_sizes);
+      maxima = all-weaker _ _ counter-fits core.counters (sym (list_all-map is_counter_within counter_sizes core.counters) ∙ maxima.1);
     }
 
 -- Each configured core fits.

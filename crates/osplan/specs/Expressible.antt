@@ -1,5 +1,5 @@
 -- What a text can say of a configuration so far, beside its limits: names in form and all different, one mode, scripts whose
--- arguments are of their kinds, whose masks have events and that stay within themselves, and no ISR, counter, alarm or table. [own]
+-- arguments are of their kinds, whose masks have events and that stay within themselves, and no ISR, alarm or table. [own]
 -- Each is a test, so that a literal configuration passes it by computation.
 use Rattle.std.specs.Prelude.{ℕ, ◌==◌, ◌&&◌, nat_le, Bool, true, false, not, List, [], ◌∷◌, ◌++◌, length, map, codes}
 use Rattle.std.specs.List.{list_all, list_any, flat_map}
@@ -12,6 +12,7 @@ use Rattle.oscript.specs.Frames.{position_of}
 use Rattle.oscript.specs.Rows.{has_masks, is_in_form}
 use Rattle.osplan.specs.declared.plans.Plan.{Plan}
 use Rattle.osplan.specs.declared.plans.Core.{Core}
+use Rattle.osplan.specs.declared.plans.Counter.{Counter}
 use Rattle.osplan.specs.declared.plans.Resource.{Resource}
 use Rattle.osplan.specs.declared.plans.Task.{Task}
 use Rattle.osplan.specs.declared.plans.CoreMode.{CoreMode}
@@ -38,9 +39,11 @@ abbrev pub are_distinct : List (List ℕ) → Bool
 are_distinct [] = true
 are_distinct (name ∷ names) = not (list_any (λ later. bytes_eq later name) names) && are_distinct names
 
--- The names of a core's objects: tasks, then resources. No other kind can be configured yet.
+-- The names of a core's objects: tasks, then resources, then counters. No other kind can be configured yet.
 abbrev pub object_names : Core → List (List ℕ)
-object_names core = map (λ (task : Task). task.name) core.tasks ++ map (λ (resource : Resource). resource.name) core.resources
+object_names core =
+    map (λ (task : Task). task.name) core.tasks ++ map (λ (resource : Resource). resource.name) core.resources
+    ++ map (λ (counter : Counter). counter.name) core.counters
 
 -- Every name that a configuration declares: those of its modes, and those of its objects core by core.
 abbrev pub declared_names : Plan → List (List ℕ)
@@ -65,11 +68,15 @@ is_task_expressible task = is_name task.name && list_all is_only_mode task.auto 
 abbrev pub is_resource_expressible : Resource → Bool
 is_resource_expressible resource = is_name resource.name
 
--- A core is of the only mode, and has no ISR, counter, alarm or table.
+-- A counter has a name in form.
+abbrev pub is_counter_expressible : Counter → Bool
+is_counter_expressible counter = is_name counter.name
+
+-- A core is of the only mode, and has no ISR, alarm or table.
 abbrev pub is_core_expressible : Core → Bool
 is_core_expressible core =
     is_in_only_mode core.mode && list_all is_task_expressible core.tasks && list_all is_resource_expressible core.resources
-    && (length core.isrs == 0) && (length core.counters == 0) && (length core.alarms == 0) && (length core.tables == 0)
+    && list_all is_counter_expressible core.counters && (length core.isrs == 0) && (length core.alarms == 0) && (length core.tables == 0)
 
 -- The whole configuration can be said by a text; the names that it declares are different.
 abbrev pub is_expressible : Plan → Bool

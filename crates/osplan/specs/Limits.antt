@@ -11,6 +11,7 @@ use Rattle.oscript.specs.declared.Op.{Op}
 use Rattle.oscript.specs.Rows.{names_own_only, objects_of}
 use Rattle.osplan.specs.declared.plans.Plan.{Plan}
 use Rattle.osplan.specs.declared.plans.Core.{Core}
+use Rattle.osplan.specs.declared.plans.Counter.{Counter}
 use Rattle.osplan.specs.declared.plans.Resource.{Resource}
 use Rattle.osplan.specs.declared.plans.Task.{Task}
 use Rattle.osplan.specs.declared.plans.CoreMode.{CoreMode}
@@ -27,11 +28,16 @@ pub record TaskSizes : Type 0 where
   pub extended : Bool
   pub operations : ℕ
 
+pub record CounterSizes : Type 0 where
+  pub max : Option ℕ
+  pub min : Option ℕ
+
 pub record CoreSizes : Type 0 where
   pub number : Option ℕ
   pub start : List (Option ℕ)
   pub tasks : List TaskSizes
   pub resources : List (Option ℕ)
+  pub counters : List CounterSizes
 
 pub record Sizes : Type 0 where
   pub modes : ℕ
@@ -70,17 +76,23 @@ is_start number = is_between 0 255 number
 abbrev pub is_ceiling : Option ℕ → Bool
 is_ceiling number = is_between 0 31 number
 
+-- A counter's greatest value and its least cycle, which is no greater [AUTOSAR SWS OS 4.x, OsCounterMaxAllowedValue and
+-- OsCounterMinCycle; the most is own].
+abbrev pub is_counter_within : CounterSizes → Bool
+is_counter_within s = is_between 1 1000000000 s.max && is_between 1 (unwrap_or s.max 0) s.min
+
 -- How many jobs of the task there may be at once; 0 where that number is not there, with which no task is within its limits.
 abbrev pub jobs_of : TaskSizes → ℕ
 jobs_of s = unwrap_or s.activations 0
 
--- A core: number 0 to 7, at most 32 tasks, each of which passes the test, at most 64 jobs of all its tasks at once, and at most 16
--- resources. [own]
+-- A core: number 0 to 7, at most 32 tasks, each of which passes the test, at most 64 jobs of all its tasks at once, at most 16
+-- resources, and at most 8 counters. [own]
 abbrev pub is_core_by : (TaskSizes → Bool) → CoreSizes → Bool
 is_core_by test s =
     is_between 0 7 s.number && list_all is_start s.start
     && nat_le (length s.tasks) 32 && list_all test s.tasks && nat_le (sum_by jobs_of s.tasks) 64
     && nat_le (length s.resources) 16 && list_all is_ceiling s.resources
+    && nat_le (length s.counters) 8 && list_all is_counter_within s.counters
 
 -- The whole: 1 to 8 application modes, mailboxes of 1 to 16 envelopes, 1 to 8 cores. [own]
 abbrev pub is_by : (TaskSizes → Bool) → Sizes → Bool
@@ -126,12 +138,16 @@ numbers_of cores = map (λ (c : Core). number_of c.id) cores
 abbrev pub ceiling_of : Resource → Option ℕ
 ceiling_of resource = Some resource.ceiling
 
+abbrev pub counter_sizes : Counter → CounterSizes
+counter_sizes counter = record { max = Some counter.max; min = Some counter.min }
+
 abbrev pub core_sizes : Core → CoreSizes
 core_sizes core = record {
   number = number_of core.id;
   start = map number_of core.start;
   tasks = map task_sizes core.tasks;
   resources = map ceiling_of core.resources;
+  counters = map counter_sizes core.counters;
 }
 
 abbrev pub sizes_of : Plan → Sizes

@@ -1,11 +1,15 @@
 -- What one core sees of a configuration.
 use Rattle.std.specs.Prelude.{ℕ, if◌then◌else◌, Bool, Option, None, List, [], find, map, is_some, slice_get, unwrap_or}
+use Rattle.osbase.specs.declared.references.AlarmRef.{AlarmRef}
 use Rattle.osbase.specs.declared.references.CoreId.{CoreId}
+use Rattle.osbase.specs.declared.references.CounterRef.{CounterRef}
 use Rattle.osbase.specs.declared.references.ResourceRef.{ResourceRef}
 use Rattle.osbase.specs.declared.references.TaskRef.{TaskRef}
 use Rattle.osbase.specs.History.{same_core}
 use Rattle.osplan.specs.declared.plans.Plan.{Plan}
+use Rattle.osplan.specs.declared.plans.Alarm.{Alarm}
 use Rattle.osplan.specs.declared.plans.Core.{Core}
+use Rattle.osplan.specs.declared.plans.Counter.{Counter}
 use Rattle.osplan.specs.declared.plans.Resource.{Resource}
 use Rattle.osplan.specs.declared.plans.Task.{Task}
 use Rattle.osplan.specs.declared.plans.CoreMode.TheVariants.{DontCare}
@@ -54,3 +58,11 @@ own_task core t = if same_core t.core core.id then slice_get core.tasks t.index 
 -- The resource of this reference, if it is one of the core's own.
 abbrev pub own_resource : Core → ResourceRef → Option Resource
 own_resource core r = if same_core r.core core.id then slice_get core.resources r.index else None
+
+-- The counter of this reference, if it is one of the core's own.
+abbrev pub own_counter : Core → CounterRef → Option Counter
+own_counter core c = if same_core c.core core.id then slice_get core.counters c.index else None
+
+-- The alarm of this reference, if it is one of the core's own.
+abbrev pub own_alarm : Core → AlarmRef → Option Alarm
+own_alarm core a = if same_core a.core core.id then slice_get core.alarms a.index else None

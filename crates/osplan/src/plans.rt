@@ -44,13 +44,13 @@ pub struct Isr {
     pub name: Name,
 }
 
-/// A counter (AUTOSAR SWS OS 4.x, OsCounter). None can be configured yet.
+/// A counter (AUTOSAR SWS OS 4.x, OsCounter).
 #[derive(Debug, Drop)]
 pub struct Counter {
     pub name: Name,
-    /// The greatest value (OsCounterMaxAllowedValue).
+    /// The greatest value, 1 to 1,000,000,000 (OsCounterMaxAllowedValue).
     pub max: u32,
-    /// The least cycle of an alarm (OsCounterMinCycle).
+    /// The least cycle of an alarm, 1 to the greatest value (OsCounterMinCycle).
     pub min: u32,
     /// Whether IncrementCounter alone advances it, and no tick.
     pub software: bool,

@@ -12,7 +12,7 @@ ghost use Rattle.osplan.specs.Flags.{is_named_by_one_of, is_next, AreStarted};
 ghost use Rattle.osplan.specs.Separate.{agree, alone_of, cut_of, has_operation, is_among, is_named_elsewhere, is_agreed_mode, is_on, is_separate, is_separate_core, is_started, names_mode, names_other, names_own, standing_of};
 
 use crate::faults::ConfFault;
-use crate::plans::{Config, Core, CoreMode, Plan, Resource, Task};
+use crate::plans::{Config, Core, CoreMode, Counter, Plan, Resource, Task};
 use osbase::{CORE_NUMBERS, CORES, CoreId, CoreSet, List, Name, Object};
 use oscript::Op;
 use std::alloc::{AllocError, Global};
@@ -260,6 +260,27 @@ fn copied_resources(alloc: Global, resources: &[Resource]) -> Result<List<Resour
     Ok(copies)
 }
 
+fn copied_counter(alloc: Global, counter: &Counter) -> Result<Counter, AllocError>
+    ensures { IfOk result (λ copy. copy ≡ counter.now) }
+{
+    Ok(Counter {
+        name: Name::new(alloc, counter.name.as_str())?,
+        max: counter.max,
+        min: counter.min,
+        software: counter.software,
+    })
+}
+
+fn copied_counters(alloc: Global, counters: &[Counter]) -> Result<List<Counter>, AllocError>
+    ensures { IfOk result (λ copies. copies ≡ counters.now) }
+{
+    let mut copies = List::new(alloc);
+    for counter in counters {
+        copies.push(copied_counter(alloc, counter)?)?;
+    }
+    Ok(copies)
+}
+
 fn copied_names(alloc: Global, names: &[Name]) -> Result<List<Name>, AllocError>
     ensures { IfOk result (λ copies. copies ≡ names.now) }
 {
@@ -281,7 +302,7 @@ fn copied_core(alloc: Global, core: &Core) -> Result<Core, AllocError>
         tasks: copied_tasks(alloc, core.tasks.as_slice())?,
         resources: copied_resources(alloc, core.resources.as_slice())?,
         isrs: List::new(alloc),
-        counters: List::new(alloc),
+        counters: copied_counters(alloc, core.counters.as_slice())?,
         alarms: List::new(alloc),
         tables: List::new(alloc),
     })

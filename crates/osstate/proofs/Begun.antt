@@ -22,9 +22,11 @@ use Rattle.osplan.specs.declared.plans.Core.{Core}
 use Rattle.osplan.specs.declared.plans.Resource.{Resource}
 use Rattle.osplan.specs.declared.plans.Task.{Task}
 use Rattle.osplan.specs.View.{View, core_of, no_core, view_from, view_of}
+use Rattle.osplan.specs.Expressible.{is_expressible}
 use Rattle.osplan.specs.Limits.{is_within_limits, is_core_known, is_task_known, is_object, is_op_known}
 use Rattle.osplan.specs.Objects.{has_index, may_name}
 use Rattle.osbase.specs.declared.turns.TheConstants.{TASKS}
+use Rattle.osclock.specs.Clocks.{ClockState, clocks_of}
 use Rattle.osjobs.specs.Jobs.{JobState, first_jobs}
 use Rattle.osstate.specs.declared.progress.Progress.{Progress}
 use Rattle.osstate.specs.State.{state_of, tasks_from}
@@ -32,6 +34,7 @@ use Rattle.osstate.specs.Steps.{state_from, first_border, first_progress, first_
 use Rattle.osstate.specs.Sound.{IsSound, is_agreed, has_objects_of}
 use Rattle.osbase.proofs.Same.{same_core-comm, same_core-true}
 use Rattle.osplan.proofs.Tests.{all-weaker, find-holds, find-passes}
+use Rattle.osplan.proofs.Clocked.{clocks_within}
 use Rattle.osplan.proofs.Within.{FitsKernel, limit-parts, core-fits}
 
 -- An operation of a configuration names objects that are there, so on this core some of its own.
@@ -72,9 +75,9 @@ all-begun x first (suc count) = ap (λ xs. x ∷ xs) (all-begun x (first + 1) co
 -- The state before any item stands for the empty history.
 pub state-begun : (plan : Plan) (id : CoreId) (core : Core) → core_of plan id ≡ Some core → first_state plan core (same_core core.id plan.master) ≡ state_of (view_of plan id) []
 state-begun plan id core found =
-    ap (λ (fs : List Frame). state_from plan core (first_progress (same_core core.id plan.master)) (tasks_from first_jobs fs) first_border) (sym (all-begun new_frame 0 (length core.tasks)))
-    ∙ ap (λ (held : List (List HeldResource)). state_from plan core (first_progress (same_core core.id plan.master)) (tasks_from (record first_jobs { held = held }) (map (λ (n : ℕ). new_frame) (numbers_from 0 (length core.tasks)))) first_border) (sym (all-begun [] 0 TASKS))
-    ∙ ap (λ (events : List TaskEvents). state_from plan core (first_progress (same_core core.id plan.master)) (tasks_from (record first_jobs { held = map (λ (n : ℕ). []) (numbers_from 0 TASKS); events = events }) (map (λ (n : ℕ). new_frame) (numbers_from 0 (length core.tasks)))) first_border) (sym (all-begun no_events 0 TASKS))
+    ap (λ (fs : List Frame). state_from plan core (first_progress (same_core core.id plan.master)) (tasks_from first_jobs fs) (clocks_of core []) first_border) (sym (all-begun new_frame 0 (length core.tasks)))
+    ∙ ap (λ (held : List (List HeldResource)). state_from plan core (first_progress (same_core core.id plan.master)) (tasks_from (record first_jobs { held = held }) (map (λ (n : ℕ). new_frame) (numbers_from 0 (length core.tasks)))) (clocks_of core []) first_border) (sym (all-begun [] 0 TASKS))
+    ∙ ap (λ (events : List TaskEvents). state_from plan core (first_progress (same_core core.id plan.master)) (tasks_from (record first_jobs { held = map (λ (n : ℕ). []) (numbers_from 0 TASKS); events = events }) (map (λ (n : ℕ). new_frame) (numbers_from 0 (length core.tasks)))) (clocks_of core []) first_border) (sym (all-begun no_events 0 TASKS))
     ∙ ap (λ (v : View). state_of v []) (view-own plan id core found)
 
 zeros_low : (n k : ℕ) → get_or (replicate n 0) k 0 ≤ 0
@@ -83,11 +86,11 @@ zeros_low (suc n) zero = omega arith
 zeros_low (suc n) (suc k) = zeros_low n k
 
 -- And it is sound.
-pub sound-begun : (priorities room : ℕ) (plan : Plan) (id : CoreId) (core : Core) (master : Bool) → IsTrue (is_within_limits plan) → core_of plan id ≡ Some core
+pub sound-begun : (priorities room : ℕ) (plan : Plan) (id : CoreId) (core : Core) (master : Bool) → IsTrue (is_within_limits plan) → IsTrue (is_expressible plan) → core_of plan id ≡ Some core
     → list_all (λ (t : Task). nat_lt t.priority priorities) (view_of plan id).own.tasks ≡ true
     → list_all (λ (r : Resource). nat_lt r.ceiling priorities) (view_of plan id).own.resources ≡ true
     → sum_by (λ (t : Task). t.activations) (view_of plan id).own.tasks ≤ room → IsSound priorities room (first_state plan core master)
-sound-begun priorities room plan id core master limits found below ceilings sum = record {
+sound-begun priorities room plan id core master limits expressible found below ceilings sum = record {
   tasks = fits.tasks;
   frames = length-replicate (length core.tasks) new_frame;
   bounded = subst (λ (v : View). list_all (λ (t : Task). nat_lt t.priority priorities) v.own.tasks ≡ true) (sym (view-own plan id core found)) below;
@@ -99,6 +102,7 @@ sound-begun priorities room plan id core master limits found below ceilings sum 
   jobs = (λ r. omega arith);
   idle = (λ e. refl);
   agreed = before_gate master;
+  clocks = record { within = clocks_within plan id core limits expressible found; history = []; is = refl };
   caller = tt;
   began = omega arith;
   items = omega arith;
@@ -114,13 +118,14 @@ sound-begun priorities room plan id core master limits found below ceilings sum 
     fits = core-fits plan id core limits found
 
 -- The parts of a state before any item, each with what it is.
-pub parts-begun : (plan : Plan) (core : Core) (b : Bool) (p : Progress) (n : ℕ) (jobs : JobState) (frames : List Frame) (outbox : List Sent) → p ≡ first_progress b → n ≡ length core.tasks → jobs ≡ first_jobs → frames ≡ replicate n new_frame → outbox ≡ []
-    → state_from plan core p (tasks_from jobs frames) (record first_border { outbox = outbox }) ≡ first_state plan core b
-parts-begun plan core b p n jobs frames outbox progress count no_jobs new_frames no_outbox =
-    ap (λ (q : Progress). state_from plan core q (tasks_from jobs frames) (record first_border { outbox = outbox })) progress
-    ∙ ap (λ (js : JobState). state_from plan core (first_progress b) (tasks_from js frames) (record first_border { outbox = outbox })) no_jobs
-    ∙ ap (λ (fs : List Frame). state_from plan core (first_progress b) (tasks_from first_jobs fs) (record first_border { outbox = outbox })) (new_frames ∙ ap (λ (m : ℕ). replicate m new_frame) count)
-    ∙ ap (λ (out : List Sent). state_from plan core (first_progress b) (first_tasks (length core.tasks)) (record first_border { outbox = out })) no_outbox
+pub parts-begun : (plan : Plan) (core : Core) (b : Bool) (p : Progress) (n : ℕ) (jobs : JobState) (frames : List Frame) (clocks : ClockState) (outbox : List Sent) → p ≡ first_progress b → n ≡ length core.tasks → jobs ≡ first_jobs → frames ≡ replicate n new_frame → clocks ≡ clocks_of core [] → outbox ≡ []
+    → state_from plan core p (tasks_from jobs frames) clocks (record first_border { outbox = outbox }) ≡ first_state plan core b
+parts-begun plan core b p n jobs frames clocks outbox progress count no_jobs new_frames no_counts no_outbox =
+    ap (λ (q : Progress). state_from plan core q (tasks_from jobs frames) clocks (record first_border { outbox = outbox })) progress
+    ∙ ap (λ (js : JobState). state_from plan core (first_progress b) (tasks_from js frames) clocks (record first_border { outbox = outbox })) no_jobs
+    ∙ ap (λ (fs : List Frame). state_from plan core (first_progress b) (tasks_from first_jobs fs) clocks (record first_border { outbox = outbox })) (new_frames ∙ ap (λ (m : ℕ). replicate m new_frame) count)
+    ∙ ap (λ (k : ClockState). state_from plan core (first_progress b) (first_tasks (length core.tasks)) k (record first_border { outbox = outbox })) no_counts
+    ∙ ap (λ (out : List Sent). state_from plan core (first_progress b) (first_tasks (length core.tasks)) (clocks_of core []) (record first_border { outbox = out })) no_outbox
 
 -- A configured core's number is among those that a core sees.
 pub is_some-core_of : (id : CoreId) (cores : List Core) → is_some (find (λ (c : Core). same_core c.id id) cores) ≡ is_some (find (same_core id) (map (λ (c : Core). c.id) cores))

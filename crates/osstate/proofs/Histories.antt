@@ -3,14 +3,16 @@ use Rattle.std.proofs.Common.{◌≡◌, ℕ, zero, suc, ◌+◌, ◌≤◌, ◌
 use Rattle.std.specs.List.{slice_get, slice_set}
 use Rattle.std.proofs.lemmas.Bool.{false≢true, eqb-true, ltb-true, false_from_ne_true, cond-true, cond-false}
 use Rattle.osbase.specs.declared.statuses.Status.{Status}
+use Rattle.osbase.specs.declared.references.AlarmRef.{AlarmRef}
 use Rattle.osbase.specs.declared.references.CoreId.{CoreId}
+use Rattle.osbase.specs.declared.references.CounterRef.{CounterRef}
 use Rattle.osbase.specs.declared.references.TaskRef.{TaskRef}
 use Rattle.osbase.specs.declared.references.Runner.{Runner}
 use Rattle.osbase.specs.declared.messages.Message.{Message}
 use Rattle.osbase.specs.declared.items.Item.{Item}
 use Rattle.osbase.specs.declared.marks.Mark.{Mark}
 use Rattle.osbase.specs.declared.turns.TheConstants.{CORES}
-use Rattle.osbase.specs.History.{History, Entry, Took, Printed, Noted, Opened, Queued, Taken, Given, Done, events_of, held_by, no_events, same_core, same_task, queued_count, received_count, with_awaited, with_cleared, with_none_set, with_set, without_resource}
+use Rattle.osbase.specs.History.{History, Entry, Took, Printed, Noted, AlarmCancelled, AlarmSet, Counted, Opened, Queued, Taken, Given, Done, events_of, held_by, no_events, same_core, same_task, queued_count, received_count, with_awaited, with_cleared, with_none_set, with_set, without_resource}
 use Rattle.osbase.specs.declared.histories.HeldResource.{HeldResource}
 use Rattle.osbase.specs.declared.histories.OpenCall.{OpenCall}
 use Rattle.osbase.specs.declared.histories.TaskEvents.{TaskEvents}
@@ -21,10 +23,13 @@ use Rattle.oscript.specs.declared.Frame.{Frame}
 use Rattle.oscript.specs.Frames.{new_frame, completed, rewound}
 use Rattle.osplan.specs.declared.plans.Core.{Core}
 use Rattle.osplan.specs.declared.plans.Task.{Task}
+use Rattle.osplan.specs.Clocked.{are_clocks_within}
 use Rattle.osplan.specs.View.{View, own_task}
 use Rattle.osbase.specs.declared.turns.TheConstants.{TASKS}
 use Rattle.osres.specs.Resources.{held_at}
 use Rattle.osevent.specs.Events.{with_events}
+use Rattle.osclock.specs.Clocks.{ClockState}
+use Rattle.osclock.proofs.Law.{after}
 use Rattle.osjobs.specs.Jobs.{is_plain}
 use Rattle.osjobs.specs.Priorities.{is_own_runner}
 use Rattle.osstate.specs.Readings.{script_of, frame_at, frames_at, held_resources, task_events, task_ref}
@@ -198,6 +203,25 @@ given (Runner.Task t) index v h few own =
 
 pub opened : (call : OpenCall) (v : View) (h : History) → state_after (Noted (Opened call)) (state_of v h) ≡ state_of v (Noted (Opened call) ∷ h)
 opened call v h = changed (state_of v (Noted (Opened call) ∷ h)) _ _ _ _ _ _ (add-one _) refl refl refl refl refl
+
+-- the note of a counter or an alarm
+abbrev with_clocks : KernelState → ClockState → KernelState
+with_clocks s clocks = record s { clocks = clocks }
+
+pub counted : (c : CounterRef) (v : View) (h : History) → are_clocks_within v.own ≡ true → state_after (Noted (Counted c)) (state_of v h) ≡ state_of v (Noted (Counted c) ∷ h)
+counted c v h within =
+    ap (with_clocks (state_after (Noted (Counted c)) (state_of v h))) (after v.own (Noted (Counted c)) h within)
+    ∙ changed (state_of v (Noted (Counted c) ∷ h)) _ _ _ _ _ _ (add-one _) refl refl refl refl refl
+
+pub alarm_set : (a : AlarmRef) (first cycle : ℕ) (v : View) (h : History) → are_clocks_within v.own ≡ true → state_after (Noted (AlarmSet a first cycle)) (state_of v h) ≡ state_of v (Noted (AlarmSet a first cycle) ∷ h)
+alarm_set a first cycle v h within =
+    ap (with_clocks (state_after (Noted (AlarmSet a first cycle)) (state_of v h))) (after v.own (Noted (AlarmSet a first cycle)) h within)
+    ∙ changed (state_of v (Noted (AlarmSet a first cycle) ∷ h)) _ _ _ _ _ _ (add-one _) refl refl refl refl refl
+
+pub alarm_cancelled : (a : AlarmRef) (v : View) (h : History) → are_clocks_within v.own ≡ true → state_after (Noted (AlarmCancelled a)) (state_of v h) ≡ state_of v (Noted (AlarmCancelled a) ∷ h)
+alarm_cancelled a v h within =
+    ap (with_clocks (state_after (Noted (AlarmCancelled a)) (state_of v h))) (after v.own (Noted (AlarmCancelled a)) h within)
+    ∙ changed (state_of v (Noted (AlarmCancelled a) ∷ h)) _ _ _ _ _ _ (add-one _) refl refl refl refl refl
 
 pub queued : (to : CoreId) (message : Message) → to.number < CORES → (v : View) (h : History) → state_after (Noted (Queued to (next_envelope (state_of v h) to message))) (state_of v h) ≡ state_of v (Noted (Queued to (record { number = queued_count to h; message = message })) ∷ h)
 queued to message known v h =

@@ -1,11 +1,14 @@
 -- What is read off the state is what is read off the history.
-use Rattle.std.proofs.Common.{◌≡◌, Bool, true, false, cond, Option, Some, None, refl, ap, sym, subst, ◌∙◌}
+use Rattle.std.proofs.Common.{◌≡◌, ℕ, Bool, true, false, cond, Option, Some, None, refl, ap, sym, subst, ◌∙◌}
 use Rattle.std.specs.List.{list_all, slice_get}
 use Rattle.std.proofs.lemmas.Bool.{true≢false}
 use Rattle.std.specs.Option.{option_map_or}
+use Rattle.osbase.specs.declared.references.AlarmRef.{AlarmRef}
+use Rattle.osbase.specs.declared.references.CounterRef.{CounterRef}
 use Rattle.osbase.specs.declared.references.TaskRef.{TaskRef}
 use Rattle.osbase.specs.declared.references.Runner.{Runner}
 use Rattle.osbase.specs.History.{History, same_core}
+use Rattle.osbase.specs.Objects.{alarm_object, counter_object}
 use Rattle.oscript.specs.declared.Op.{Op}
 use Rattle.oscript.specs.declared.Frame.{Frame}
 use Rattle.oscript.specs.declared.Action.{Action}
@@ -13,8 +16,12 @@ use Rattle.oscript.specs.declared.Action.TheVariants.{Perform, End}
 use Rattle.oscript.specs.Frames.{action_at}
 use Rattle.osplan.specs.declared.plans.Core.{Core}
 use Rattle.osplan.specs.declared.plans.Task.{Task}
+use Rattle.osplan.specs.Clocked.{are_clocks_within}
+use Rattle.osplan.specs.Objects.{is_own_object}
 use Rattle.osplan.specs.View.{View, own_task}
 use Rattle.osplan.proofs.Tests.{passes-at}
+use Rattle.osclock.specs.Clocks.{alarm_in, counter_in, is_due_by, is_due_in, is_in_use_by, is_used, left_by, left_in, value_by}
+use Rattle.osclock.proofs.Asked.{due-read, left-read, used-read, value-read}
 use Rattle.osjobs.specs.Priorities.{is_own_runner}
 use Rattle.osstate.specs.Does.{Reads}
 use Rattle.osstate.specs.Queries.{next_action_in}
@@ -55,3 +62,22 @@ known_action core t u frame a all own is = subst (λ (b : Action). is_action_kno
     next : (o : Option Op) → slice_get u.script frame.pc ≡ o → is_action_known core (option_map_or Perform o End) ≡ true
     next None e = refl
     next (Some op) e = passes-at (has_objects_of core) u.script frame.pc op (script (same_core t.core core.id) own) e
+
+-- A counter and an alarm, of clocks that are those of what was counted.
+pub reads_value : (s : KernelState) (c : CounterRef) (n : ℕ) → is_own_object s.view.own (counter_object c) ≡ true → n ≡ (counter_in c s.clocks).value → Reads (λ v h. value_by v.own c h) s n
+reads_value s c n own is v h stands =
+    read (λ (q : KernelState). (counter_in c q.clocks).value) is stands ∙ value-read v.own c h (subst (λ (q : KernelState). is_own_object q.view.own (counter_object c) ≡ true) stands.is own)
+
+pub reads_in_use : (s : KernelState) (a : AlarmRef) (b : Bool) → is_own_object s.view.own (alarm_object a) ≡ true → b ≡ is_used (alarm_in a s.clocks) → Reads (λ v h. is_in_use_by v.own a h) s b
+reads_in_use s a b own is v h stands =
+    read (λ (q : KernelState). is_used (alarm_in a q.clocks)) is stands ∙ used-read v.own a h (subst (λ (q : KernelState). is_own_object q.view.own (alarm_object a) ≡ true) stands.is own)
+
+pub reads_left : (s : KernelState) (a : AlarmRef) (n : Option ℕ) → are_clocks_within s.view.own ≡ true → is_own_object s.view.own (alarm_object a) ≡ true → n ≡ left_in s.view.own a s.clocks → Reads (λ v h. left_by v.own a h) s n
+reads_left s a n within own is v h stands =
+    read (λ (q : KernelState). left_in q.view.own a q.clocks) is stands
+    ∙ left-read v.own a h (subst (λ (q : KernelState). are_clocks_within q.view.own ≡ true) stands.is within) (subst (λ (q : KernelState). is_own_object q.view.own (alarm_object a) ≡ true) stands.is own)
+
+pub reads_due : (s : KernelState) (a : AlarmRef) (b : Bool) → are_clocks_within s.view.own ≡ true → is_own_object s.view.own (alarm_object a) ≡ true → b ≡ is_due_in s.view.own a s.clocks → Reads (λ v h. is_due_by v.own a h) s b
+reads_due s a b within own is v h stands =
+    read (λ (q : KernelState). is_due_in q.view.own a q.clocks) is stands
+    ∙ due-read v.own a h (subst (λ (q : KernelState). are_clocks_within q.view.own ≡ true) stands.is within) (subst (λ (q : KernelState). is_own_object q.view.own (alarm_object a) ≡ true) stands.is own)

@@ -19,6 +19,7 @@ use Rattle.osplan.specs.declared.plans.Core.{Core}
 use Rattle.osplan.specs.declared.plans.Task.{Task}
 use Rattle.osplan.specs.View.{own_task}
 use Rattle.osplan.proofs.Tests.{passes-at}
+use Rattle.osclock.specs.Clocks.{AreClocks, ClockState}
 use Rattle.osjobs.specs.Priorities.{is_own_runner}
 use Rattle.osstate.specs.State.{KernelState}
 use Rattle.osstate.specs.Steps.{one_more, progress_after, received_after, state_after}
@@ -40,6 +41,7 @@ activated priorities room t s sound below live = record {
   jobs = within_append (activation_limit s.view.own) s.tasks.jobs (record { runner = Runner.Task t; stamp = s.progress.entries }) sound.jobs below;
   idle = (λ e. absurd (false≢true (sym live ∙ e)));
   agreed = sound.agreed;
+  clocks = sound.clocks;
   caller = sound.caller;
   began = omega (arith, sound.began);
   items = omega (arith, sound.items);
@@ -65,6 +67,7 @@ terminated priorities room t s sound = record {
   jobs = (λ r. omega (arith, sound.jobs r, job_count-without_oldest r (Runner.Task t) s.tasks.jobs));
   idle = (λ e. ap (without_oldest (Runner.Task t)) (sound.idle e));
   agreed = sound.agreed;
+  clocks = sound.clocks;
   caller = still_own (is_own_runner s.view.own) (Runner.Task t) s.border.open_call sound.caller;
   began = omega (arith, sound.began);
   items = omega (arith, sound.items);
@@ -85,6 +88,7 @@ released priorities room t s sound = record {
   jobs = (λ r. omega (arith, sound.jobs r, job_count-stamped_anew r (Runner.Task t) s.progress.entries s.tasks.jobs));
   idle = (λ e. ap (stamped_anew (Runner.Task t) s.progress.entries) (sound.idle e));
   agreed = sound.agreed;
+  clocks = sound.clocks;
   caller = sound.caller;
   began = omega (arith, sound.began);
   items = omega (arith, sound.items);
@@ -169,9 +173,33 @@ taken priorities room item outbox s sound forward onward = record {
   jobs = sound.jobs;
   idle = (λ e. sound.idle (forward e));
   agreed = agreed-on item s.progress.phase s.progress.agreement onward sound.agreed;
+  clocks = sound.clocks;
   caller = sound.caller;
   began = began-within item s.progress.began s.progress.entries sound.began;
   items = omega (arith, sound.items);
   queued = (λ k. omega (arith, sound.queued k));
   received = received-within item s.border.received s.progress.entries sound.received;
+}
+
+-- an entry of a counter or an alarm
+pub clocked : (priorities room : ℕ) (clocks : ClockState) (s : KernelState) → IsSound priorities room s → AreClocks s.view.own clocks
+    → IsSound priorities room (record s { progress = record s.progress { entries = s.progress.entries + 1 }; clocks = clocks })
+clocked priorities room clocks s sound are = record {
+  tasks = sound.tasks;
+  frames = sound.frames;
+  bounded = sound.bounded;
+  limits = sound.limits;
+  some = sound.some;
+  scripts = sound.scripts;
+  resources = sound.resources;
+  ceilings = sound.ceilings;
+  jobs = sound.jobs;
+  idle = sound.idle;
+  agreed = sound.agreed;
+  clocks = are;
+  caller = sound.caller;
+  began = omega (arith, sound.began);
+  items = omega (arith, sound.items);
+  queued = (λ k. omega (arith, sound.queued k));
+  received = (λ k. omega (arith, sound.received k));
 }

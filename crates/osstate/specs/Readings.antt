@@ -2,7 +2,9 @@
 use Rattle.std.specs.Prelude.{ℕ, Bool, Option, Some, None, List, [], filter, length, map, option_map, slice_get}
 use Rattle.std.specs.List.{enumerate_from}
 use Rattle.std.specs.Option.{option_map_or}
+use Rattle.osbase.specs.declared.references.AlarmRef.{AlarmRef}
 use Rattle.osbase.specs.declared.references.CoreId.{CoreId}
+use Rattle.osbase.specs.declared.references.CounterRef.{CounterRef}
 use Rattle.osbase.specs.declared.references.ResourceRef.{ResourceRef}
 use Rattle.osbase.specs.declared.references.TaskRef.{TaskRef}
 use Rattle.osbase.specs.declared.references.Runner.{Runner}
@@ -15,10 +17,12 @@ use Rattle.osbase.specs.Sets.{has_core, numbers_from}
 use Rattle.oscript.specs.declared.Op.{Op}
 use Rattle.oscript.specs.declared.Frame.{Frame}
 use Rattle.oscript.specs.Frames.{frame_of}
+use Rattle.osplan.specs.declared.plans.Alarm.{Alarm}
 use Rattle.osplan.specs.declared.plans.Core.{Core}
+use Rattle.osplan.specs.declared.plans.Counter.{Counter}
 use Rattle.osplan.specs.declared.plans.Resource.{Resource}
 use Rattle.osplan.specs.declared.plans.Task.{Task}
-use Rattle.osplan.specs.View.{View, own_resource, own_task}
+use Rattle.osplan.specs.View.{View, own_alarm, own_counter, own_resource, own_task}
 use Rattle.osbase.specs.declared.turns.TheConstants.{TASKS}
 use Rattle.osjobs.specs.Priorities.{events_in, held_in, is_able_in, priority_by, raised_of}
 
@@ -59,6 +63,15 @@ events_at v r h = events_in r (task_events v h)
 abbrev pub resource_of : Core → Option ResourceRef → Option HeldResource
 resource_of core None = None
 resource_of core (Some r) = option_map (λ (x : Resource). record { index = r.index; ceiling = x.ceiling }) (own_resource core r)
+
+-- A counter and an alarm that a script names, in the same way.
+abbrev pub counter_named : Core → Option CounterRef → Option Counter
+counter_named core None = None
+counter_named core (Some c) = own_counter core c
+
+abbrev pub alarm_named : Core → Option AlarmRef → Option Alarm
+alarm_named core None = None
+alarm_named core (Some a) = own_alarm core a
 
 -- The current priority of a job: the greatest of its static one, of the ceilings of what its task holds and, for the running
 -- job of a task that cannot be preempted, unless it gives way, of all tasks. [OSEK/VDX OS 2.2.3, section 4.5, 4.6.2 and 8.5]

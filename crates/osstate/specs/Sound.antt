@@ -19,6 +19,7 @@ use Rattle.osplan.specs.Objects.{may_name}
 use Rattle.osplan.specs.View.{own_task}
 use Rattle.osres.specs.declared.held.TheConstants.{RESOURCES}
 use Rattle.osjobs.specs.Priorities.{is_own_runner}
+use Rattle.osclock.specs.Clocks.{AreClocks}
 use Rattle.osstate.specs.State.{KernelState}
 
 -- The first gate came to a mode or to none, and not to a conflict.
@@ -76,6 +77,8 @@ pub record IsSound (priorities room : ℕ) (s : KernelState) : Type 0 where
   pub idle : IsTrue (is_before_live s.progress.phase) → s.tasks.jobs ≡ []
   -- a core that goes on past the first gate met no conflict of modes there
   pub agreed : IsTrue (is_past_first_gate s.progress.phase) → IsTrue (is_agreed s.progress.agreement)
+  -- the counters and alarms have room, and their values are those of what was counted
+  pub clocks : AreClocks s.view.own s.clocks
   -- a call that awaits its reply is one of an own task
   pub caller : IfSome s.border.open_call (λ call. IsTrue (is_own_runner s.view.own call.runner))
   -- nothing is counted more often than the history has entries

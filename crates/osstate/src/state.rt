@@ -1,20 +1,22 @@
 //! The state of a core.
 
-ghost use Rattle.std.specs.Prelude.{◌≡◌, ◌==◌, ◌||◌, ◌∷◌, ◌<◌, ◌≤◌, ◌^◌, [], nat_lt, IsTrue, IsSome, IfSome, false, true, length, nat_le, slice_get, slice_index, sum_by};
+ghost use Rattle.std.specs.Prelude.{◌≡◌, ◌==◌, ◌||◌, ◌∷◌, ◌<◌, ◌≤◌, ◌^◌, [], nat_lt, IsTrue, IsSome, IfSome, false, true, length, nat_le, option_copied, slice_get, slice_index, suc, sum_by};
 ghost use Rattle.std.specs.List.{list_all};
 ghost use Rattle.osbase.specs.declared.turns.TheConstants.{CORES};
-ghost use Rattle.osbase.specs.History.{Took, Printed, Noted, Opened, Queued, Taken, Given, Done, job_count, phase_after, queued_count, same_core};
+ghost use Rattle.osbase.specs.History.{Took, Printed, Noted, AlarmCancelled, AlarmSet, Counted, Opened, Queued, Taken, Given, Done, job_count, phase_after, queued_count, same_core};
+ghost use Rattle.osbase.specs.Objects.{alarm_object, counter_object};
 ghost use Rattle.osbase.specs.Phases.{is_before_live, is_past_first_gate};
 ghost use Rattle.osbase.specs.Sets.{has_core};
 ghost use Rattle.osplan.specs.declared.plans.Resource.{Resource as ResourceValue};
 ghost use Rattle.osplan.specs.declared.plans.Task.{Task as TaskValue};
 ghost use Rattle.osplan.specs.Objects.{is_own_object};
 ghost use Rattle.osplan.specs.View.{core_of, is_configured, own_task, view_of};
+ghost use Rattle.osclock.specs.Clocks.{alarm_in, counter_in, is_due_by, is_due_in, is_in_use_by, is_used, left_by, left_in, max_for, value_by};
 ghost use Rattle.osjobs.specs.Jobs.{is_current, is_plain};
 ghost use Rattle.osjobs.specs.Priorities.{events_in, held_in, holds_any, is_extended, is_newest, is_own_runner, static_priority};
 ghost use Rattle.osstate.specs.Does.{Effects, HasRoom, Notes, Reads, Remarks};
 ghost use Rattle.osstate.specs.Queries.{best_in, is_at_limit_in, is_suspended, is_suspended_in, next_action_in, running_in};
-ghost use Rattle.osstate.specs.Readings.{best_job, events_at, frame_at, held_resources, is_own, next_start, resource_of, resources_of, script_of};
+ghost use Rattle.osstate.specs.Readings.{alarm_named, best_job, counter_named, events_at, frame_at, held_resources, is_own, next_start, resource_of, resources_of, script_of};
 ghost use Rattle.oscript.specs.Frames.{action_at};
 ghost use Rattle.osstate.specs.Sound.{activation_limit, is_action_known, is_agreed, is_first_gate, is_posted, is_sender_known};
 ghost use Rattle.osres.specs.Resources.{is_occupied};
@@ -27,13 +29,14 @@ use crate::progress::Progress;
 use crate::slots::{FrameSlot, SentSlot};
 use arrayvec::ArrayVec;
 use osbase::{
-    Agreement, CORES, CoreId, Envelope, HeldResource, Item, Job, Mark, Message, Object, OpenCall,
-    Phase, ResourceRef, Runner, Sent, Status, TaskEvents, TaskRef,
+    Agreement, AlarmRef, CORES, CoreId, CounterRef, Envelope, HeldResource, Item, Job, Mark,
+    Message, Object, OpenCall, Phase, ResourceRef, Runner, Sent, Status, TaskEvents, TaskRef,
 };
+use osclock::Clocks;
 use oscript::{Action, Frame};
 use osjobs::equality::is_same_core;
 use osjobs::{Jobs, own};
-use osplan::{Config, Core, CoreMode, Task};
+use osplan::{Alarm, Config, Core, CoreMode, Counter, Task};
 use osres::RESOURCES;
 use std::marker::Model;
 
@@ -47,6 +50,7 @@ pub struct CoreState<'a, const P: usize, const J: usize, const OUT: usize> {
     jobs: Jobs<J>,
     // Where each task stands in its script, in index order.
     frames: ArrayVec<FrameSlot, 32>,
+    clocks: Clocks,
     border: Border<OUT>,
 }
 
@@ -58,9 +62,9 @@ impl<'a, const P: usize, const J: usize, const OUT: usize> Model for CoreState<'
     ghost use Rattle.osstate.specs.Steps.{state_from};
     ghost use Rattle.osstate.specs.Sound.{IsSound};
 
-    ghost view = { λ s. state_from s.config.now s.core.now s.progress (tasks_from s.jobs s.frames.items) (record { open_call = s.border.open_call; outbox = s.border.outbox.items; queued = s.border.queued; received = s.border.received }) };
+    ghost view = { λ s. state_from s.config.now s.core.now s.progress (tasks_from s.jobs s.frames.items) s.clocks (record { open_call = s.border.open_call; outbox = s.border.outbox.items; queued = s.border.queued; received = s.border.received }) };
 
-    ghost invariant = { λ s. IsSound P J (state_from s.config.now s.core.now s.progress (tasks_from s.jobs s.frames.items) (record { open_call = s.border.open_call; outbox = s.border.outbox.items; queued = s.border.queued; received = s.border.received })) };
+    ghost invariant = { λ s. IsSound P J (state_from s.config.now s.core.now s.progress (tasks_from s.jobs s.frames.items) s.clocks (record { open_call = s.border.open_call; outbox = s.border.outbox.items; queued = s.border.queued; received = s.border.received })) };
 }
 
 impl<'a, const P: usize, const J: usize, const OUT: usize> CoreState<'a, P, J, OUT> {
@@ -84,6 +88,7 @@ impl<'a, const P: usize, const J: usize, const OUT: usize> CoreState<'a, P, J, O
             progress: Progress::new(is_same_core(core.id, plan.master)),
             jobs: Jobs::new(),
             frames,
+            clocks: Clocks::new(core),
             border: Border {
                 open_call: None,
                 outbox: ArrayVec::new(),
@@ -249,6 +254,43 @@ impl<'a, const P: usize, const J: usize, const OUT: usize> CoreState<'a, P, J, O
         ensures remarks { Remarks 1 (λ v h. Noted (Opened call) ∷ h) self.old self.new }
     {
         self.border.open_call = Some(call);
+        self.progress.entries += 1;
+    }
+
+    /// One of the core's counters goes on by one, and with it each alarm of it (OSEK/VDX OS 2.2.3, section 9.1 and 9.2).
+    pub fn count(&mut self, counter: CounterRef)
+        requires own { IsTrue (is_own_object self.old.view.own (counter_object counter)) }
+        requires count { self.old.progress.entries < 2 ^ 63 }
+        ensures state { self.new ≡ state_after (Noted (Counted counter)) self.old }
+        ensures remarks { Remarks 1 (λ v h. Noted (Counted counter) ∷ h) self.old self.new }
+    {
+        self.clocks.count(self.core, counter);
+        self.progress.entries += 1;
+    }
+
+    /// One of the core's alarms is due after so many counts of its counter, at most a full turn, and again after each
+    /// cycle (OSEK/VDX OS 2.2.3, section 13.6.3.3 and 13.6.3.4).
+    pub fn set_alarm(&mut self, alarm: AlarmRef, first: u32, cycle: u32)
+        requires own { IsTrue (is_own_object self.old.view.own (alarm_object alarm)) }
+        requires later { 0 < first }
+        requires turn { first ≤ suc (max_for self.old.view.own alarm) }
+        requires cycle { cycle ≤ max_for self.old.view.own alarm }
+        requires count { self.old.progress.entries < 2 ^ 63 }
+        ensures state { self.new ≡ state_after (Noted (AlarmSet alarm first cycle)) self.old }
+        ensures remarks { Remarks 1 (λ v h. Noted (AlarmSet alarm first cycle) ∷ h) self.old self.new }
+    {
+        self.clocks.set_alarm(self.core, alarm, first, cycle);
+        self.progress.entries += 1;
+    }
+
+    /// One of the core's alarms is not in use any longer (OSEK/VDX OS 2.2.3, section 13.6.3.5).
+    pub fn cancel_alarm(&mut self, alarm: AlarmRef)
+        requires own { IsTrue (is_own_object self.old.view.own (alarm_object alarm)) }
+        requires count { self.old.progress.entries < 2 ^ 63 }
+        ensures state { self.new ≡ state_after (Noted (AlarmCancelled alarm)) self.old }
+        ensures remarks { Remarks 1 (λ v h. Noted (AlarmCancelled alarm) ∷ h) self.old self.new }
+    {
+        self.clocks.cancel_alarm(self.core, alarm);
         self.progress.entries += 1;
     }
 
@@ -473,6 +515,78 @@ impl<'a, const P: usize, const J: usize, const OUT: usize> CoreState<'a, P, J, O
             index: target.index,
             ceiling: resource.ceiling,
         })
+    }
+
+    /// A counter of the core that a script names; none for the invalid identifier, and for one of another core.
+    pub fn counter(&self, target: Option<CounterRef>) -> Option<&'a Counter>
+        ensures value { option_copied result ≡ counter_named self.now.view.own target }
+        ensures reads { Reads (λ v h. counter_named v.own target) self.now (option_copied result) }
+    {
+        let core = self.core;
+        own::counter_of(core, target?)
+    }
+
+    /// An alarm of the core that a script names; none for the invalid identifier, and for one of another core.
+    pub fn alarm(&self, target: Option<AlarmRef>) -> Option<&'a Alarm>
+        ensures value { option_copied result ≡ alarm_named self.now.view.own target }
+        ensures reads { Reads (λ v h. alarm_named v.own target) self.now (option_copied result) }
+    {
+        let core = self.core;
+        own::alarm_of(core, target?)
+    }
+
+    /// The core's counters, in index order.
+    pub fn counters(&self) -> &'a [Counter]
+        ensures value { result.now ≡ self.now.view.own.counters }
+        ensures few { length result.now ≤ 8 }
+    {
+        let core = self.core;
+        core.counters.as_slice()
+    }
+
+    /// The core's alarms, in index order.
+    pub fn alarms(&self) -> &'a [Alarm]
+        ensures { result.now ≡ self.now.view.own.alarms }
+    {
+        let core = self.core;
+        core.alarms.as_slice()
+    }
+
+    /// The value of one of the core's counters (OSEK/VDX OS 2.2.3, section 9.1).
+    pub fn counter_value(&self, counter: CounterRef) -> u32
+        requires own { IsTrue (is_own_object self.now.view.own (counter_object counter)) }
+        ensures value { result ≡ (counter_in counter self.now.clocks).value }
+        ensures reads { Reads (λ v h. value_by v.own counter h) self.now result }
+    {
+        self.clocks.value(counter)
+    }
+
+    /// Whether one of the core's alarms is in use (OSEK/VDX OS 2.2.3, section 9.2).
+    pub fn is_alarm_in_use(&self, alarm: AlarmRef) -> bool
+        requires own { IsTrue (is_own_object self.now.view.own (alarm_object alarm)) }
+        ensures value { result ≡ is_used (alarm_in alarm self.now.clocks) }
+        ensures reads { Reads (λ v h. is_in_use_by v.own alarm h) self.now result }
+    {
+        self.clocks.is_in_use(alarm)
+    }
+
+    /// How many counts are left until one of the core's alarms is due; none for one that is not in use
+    /// (OSEK/VDX OS 2.2.3, section 13.6.3.2).
+    pub fn counts_left(&self, alarm: AlarmRef) -> Option<u32>
+        requires own { IsTrue (is_own_object self.now.view.own (alarm_object alarm)) }
+        ensures value { result ≡ left_in self.now.view.own alarm self.now.clocks }
+        ensures reads { Reads (λ v h. left_by v.own alarm h) self.now result }
+    {
+        self.clocks.left(self.core, alarm)
+    }
+
+    /// Whether one of the core's alarms is due at the next count of its counter (OSEK/VDX OS 2.2.3, section 9.2).
+    pub fn is_due_next(&self, alarm: AlarmRef) -> bool
+        requires own { IsTrue (is_own_object self.now.view.own (alarm_object alarm)) }
+        ensures value { result ≡ is_due_in self.now.view.own alarm self.now.clocks }
+        ensures reads { Reads (λ v h. is_due_by v.own alarm h) self.now result }
+    {
+        self.clocks.is_due_next(self.core, alarm)
     }
 
     /// The priority of one of the core's tasks as it is configured (OSEK/VDX OS 2.2.3, section 4.5).

@@ -20,14 +20,14 @@ use Rattle.osstate.specs.Readings.{knows_started, next_start, phase_at}
 use Rattle.oscall.proofs.Carried.{nobody}
 use Rattle.osbase.specs.Phases.{stands_in}
 use Rattle.osstate.specs.State.{state_of}
-use Rattle.oskernel.specs.Admission.{admits, are_started_cores, is_agreement, is_for, is_settled, is_start_answer}
+use Rattle.oskernel.specs.Admission.{admits, are_started_cores, is_agreement, is_for, is_start_answer}
 use Rattle.oskernel.specs.Step.{after, history_from, outbox_size, solo, solo_from, takes}
 use Rattle.oskernel.proofs.Among.{among, base_of, marks-same, open-same, phase-same}
 use Rattle.oskernel.proofs.Calm.{Calm, calm-after, settled}
 use Rattle.oskernel.proofs.Carried.{ScriptsAllow}
 use Rattle.oskernel.proofs.Holding.{kept_after, quiet_after}
 use Rattle.oskernel.proofs.Stages.{is_mail, solo-parts, stage, stage_of}
-use Rattle.oskernel.proofs.Stepping.{alone_view, same-drained, same-gate, same-operation}
+use Rattle.oskernel.proofs.Stepping.{alone_view, same-drained, same-gate, same-stimulus}
 use Rattle.osworld.specs.Fits.{IsBeginning, has_drained, stimuli_in}
 use Rattle.osworld.proofs.Beginnings.{begins-itself, begins-longer, begins-through}
 use Rattle.osworld.proofs.Ending.{phase-after}
@@ -132,31 +132,29 @@ module _ (v : View) (ids : List CoreId) (scripts : ScriptsAllow v nobody) where
     phase-here : (k : History) → phase_at v (here k) ≡ phase_at self k
     phase-here k = phase-same s v.is_master k
 
-    steady-on : (k : History) → Steady k → Steady (after self k (Item.Stim Stimulus.Op))
-    steady-on k steady = record {
-      live = phase-after self k (Item.Stim Stimulus.Op) ∙ steady.live;
-      calm = calm-after self scripts k (Item.Stim Stimulus.Op) refl steady.calm;
-      there = ap (λ (h : History). knows_started h v.core) (sym (same-operation v ids s scripts k steady.there steady.alone))
-          ∙ started-after v.core v (here k) (Item.Stim Stimulus.Op) ∙ steady.there;
-      alone = started-after v.core self k (Item.Stim Stimulus.Op) ∙ steady.alone;
+    steady-on : (stimulus : Stimulus) (k : History) → Steady k → Steady (after self k (Item.Stim stimulus))
+    steady-on stimulus k steady = record {
+      live = phase-after self k (Item.Stim stimulus) ∙ steady.live;
+      calm = calm-after self scripts k (Item.Stim stimulus) refl steady.calm;
+      there = ap (λ (h : History). knows_started h v.core) (sym (same-stimulus v ids s scripts stimulus k steady.there steady.alone))
+          ∙ started-after v.core v (here k) (Item.Stim stimulus) ∙ steady.there;
+      alone = started-after v.core self k (Item.Stim stimulus) ∙ steady.alone;
     }
 
     tail : {x : Stimulus} {xs ys : List Stimulus} → x ∷ xs ≡ x ∷ ys → xs ≡ ys
     tail e = cc
 
-    -- From live on: each operation is the same, and the end.
+    -- From live on: each stimulus is the same, and the end.
     live : (items : List Item) (k : History) (st : List Stimulus) → Steady k → Taken v (here k) items → IsBeginning (stimuli_in items) st → (has_drained items ≡ true → stimuli_in items ≡ st) → Goes v self (here k) k items (live_items st)
     live [] k st steady taken begins drains = stops v self (here k) k (live_items st) (marks-same s v.is_master k)
-    live (Item.Stim Stimulus.Op ∷ is) k st steady taken begins drains =
+    live (Item.Stim stimulus ∷ is) k st steady taken begins drains =
         let ahead = stimuli_in is ++ begins.0 in
-        let step = same-operation v ids s scripts k steady.there steady.alone in
-        subst (λ (xs : List Stimulus). Goes v self (here k) k (Item.Stim Stimulus.Op ∷ is) (live_items xs)) begins.1
-        (subst (λ (h : History). Goes v self h (after self k (Item.Stim Stimulus.Op)) is (live_items ahead)) (sym step)
-        (live is (after self k (Item.Stim Stimulus.Op)) ahead (steady-on k steady)
-        (subst (λ (h : History). Taken v h is) step (first v (here k) (Item.Stim Stimulus.Op) is taken).rest)
+        let step = same-stimulus v ids s scripts stimulus k steady.there steady.alone in
+        subst (λ (xs : List Stimulus). Goes v self (here k) k (Item.Stim stimulus ∷ is) (live_items xs)) begins.1
+        (subst (λ (h : History). Goes v self h (after self k (Item.Stim stimulus)) is (live_items ahead)) (sym step)
+        (live is (after self k (Item.Stim stimulus)) ahead (steady-on stimulus k steady)
+        (subst (λ (h : History). Taken v h is) step (first v (here k) (Item.Stim stimulus) is taken).rest)
         (begins.0, refl) (λ drained. tail (drains drained ∙ sym begins.1))))
-    live (Item.Stim other ∷ is) k st steady taken begins drains =
-        absurd (false≢true (and_parts _ (is_stimulus other) (and_parts _ (is_settled (state_of v (here k))) (first v (here k) (Item.Stim other) is taken).may).0).1)
     live (Item.Drained ∷ is) k st steady taken begins drains =
         subst (λ (xs : List Stimulus). Goes v self (here k) k (Item.Drained ∷ is) (live_items xs)) (sym none) (([], append-nil _ ∙ marks), λ d. marks)
       where

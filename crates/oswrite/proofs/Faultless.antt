@@ -25,14 +25,14 @@ use Rattle.osdraft.specs.declared.declarations.Declaration.{Declaration}
 use Rattle.osdraft.specs.declared.shapes.ResourceText.{ResourceText}
 use Rattle.osdraft.specs.Declarations.{declarations, place_of}
 use Rattle.osdraft.specs.Operation.{operations_of, is_operation_known, is_operation}
-use Rattle.osdraft.specs.Check.{task_sizes, core_sizes, sizes_of, numbers_of, is_text_within, is_each_once, is_mode_name, is_task_known, is_core_known, are_known, are_near, is_task_masked, is_core_masked, are_masks, is_task_script, is_core_script, are_operations, tests_of}
+use Rattle.osdraft.specs.Check.{task_sizes, counter_sizes, core_sizes, sizes_of, numbers_of, is_text_within, is_each_once, is_mode_name, is_task_known, is_core_known, are_known, are_near, is_task_masked, is_core_masked, are_masks, is_task_script, is_core_script, are_operations, tests_of}
 use Rattle.osplan.specs.Names.{name_of_mode}
 use Rattle.oswrite.specs.Writing.{config_data, op_text, script_text}
 use Rattle.osplan.proofs.Tests.{any-find}
 use Rattle.osplan.proofs.Within.{LimitParts, TextParts, limit-parts, text-parts}
 use Rattle.osdraft.proofs.Numbers.{any-map, list_all-by, map-same}
 use Rattle.osdraft.proofs.Known.{near_kept}
-use Rattle.oswrite.proofs.Reshaped.{task_said, resource_said, core_said, config_said, modes-are, mode-text, config-shape}
+use Rattle.oswrite.proofs.Reshaped.{task_said, resource_said, counter_said, core_said, config_said, modes-are, mode-text, config-shape}
 use Rattle.oswrite.proofs.Placed.{names-said}
 use Rattle.oswrite.proofs.Restored.{is_kept_task, is_kept_core, kept-task, kept-core, kept-cores, is_kept_op, op-meant, ops-back, script-back, plan-back}
 
@@ -58,7 +58,7 @@ module _ (plan : Plan) (inside : IsTrue (limits.is_within_limits plan)) (sayable
 
   core-numbers : (core : Core) → is_kept_core plan core ≡ true → core_sizes (core_said plan core) ≡ limits.core_sizes core
   core-numbers core h =
-      rw (map-same task_sizes (task_said plan) limits.task_sizes (is_kept_task plan) task-numbers core.tasks (kept-core plan core h).tasks, map-map (λ (r : ResourceText). r.ceiling) resource_said core.resources) refl
+      rw (map-same task_sizes (task_said plan) limits.task_sizes (is_kept_task plan) task-numbers core.tasks (kept-core plan core h).tasks, map-map (λ (r : ResourceText). r.ceiling) resource_said core.resources, map-map counter_sizes counter_said core.counters) refl
 
   plan-numbers : sizes_of (config_said plan) ≡ limits.sizes_of plan
   plan-numbers = rw (map-same core_sizes (core_said plan) limits.core_sizes (is_kept_core plan) core-numbers plan.cores cores, ap length (modes-are plan.modes parts.modes)) refl

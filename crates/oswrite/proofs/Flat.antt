@@ -6,7 +6,7 @@ use Rattle.serde_json.specs.Written.{has_float, items_have_float}
 use Rattle.osplan.specs.declared.plans.Plan.{Plan}
 use Rattle.osplan.specs.declared.plans.Core.{Core}
 use Rattle.osplan.specs.declared.plans.Task.{Task}
-use Rattle.oswrite.specs.Writing.{id_data, mode_data, resource_data, task_data, core_data, config_data}
+use Rattle.oswrite.specs.Writing.{id_data, mode_data, counter_data, resource_data, task_data, core_data, config_data}
 
 no-item-float : {X : Type 0} (f : X → Data) → ((x : X) → has_float (f x) ≡ false) → (xs : List X) → items_have_float (items_of (map f xs)) ≡ false
 no-item-float f none [] = refl
@@ -16,7 +16,7 @@ task-float : (plan : Plan) (task : Task) → has_float (task_data plan task) ≡
 task-float plan task = rw (no-item-float (mode_data plan) (λ m. refl) task.auto) refl
 
 core-float : (plan : Plan) (core : Core) → has_float (core_data plan core) ≡ false
-core-float plan core = rw (no-item-float resource_data (λ resource. refl) core.resources, no-item-float id_data (λ id. refl) core.start, no-item-float (task_data plan) (task-float plan) core.tasks) refl
+core-float plan core = rw (no-item-float counter_data (λ counter. refl) core.counters, no-item-float resource_data (λ resource. refl) core.resources, no-item-float id_data (λ id. refl) core.start, no-item-float (task_data plan) (task-float plan) core.tasks) refl
 
 pub config-float : (plan : Plan) → has_float (config_data plan) ≡ false
 config-float plan = rw (no-item-float (core_data plan) (core-float plan) plan.cores) refl
@@ -30,6 +30,7 @@ task-depth plan task = let auto : items_depth (items_of (map (mode_data plan) ta
 
 core-depth : (plan : Plan) (core : Core) → depth (core_data plan core) ≤ 4
 core-depth plan core =
+    let counters : items_depth (items_of (map counter_data core.counters)) ≤ 1 = items-depth counter_data 1 (λ counter. omega arith) core.counters in
     let resources : items_depth (items_of (map resource_data core.resources)) ≤ 1 = items-depth resource_data 1 (λ resource. omega arith) core.resources in
     let start : items_depth (items_of (map id_data core.start)) ≤ 0 = items-depth id_data 0 (λ id. omega arith) core.start in
     let tasks : items_depth (items_of (map (task_data plan) core.tasks)) ≤ 2 = items-depth (task_data plan) 2 (task-depth plan) core.tasks in

@@ -9,18 +9,19 @@ use Rattle.osbase.specs.History.{same_core}
 use Rattle.osbase.specs.Names.{is_name}
 use Rattle.osplan.specs.declared.plans.Plan.{Plan}
 use Rattle.osplan.specs.declared.plans.Core.{Core}
+use Rattle.osplan.specs.declared.plans.Counter.{Counter}
 use Rattle.osplan.specs.declared.plans.Resource.{Resource}
 use Rattle.osplan.specs.declared.plans.Task.{Task}
 use Rattle.osplan.specs.Objects.{object_count}
 use Rattle.osplan.specs.View.{core_of}
 use Rattle.osplan.specs.Limits.{is_object, is_within_limits}
-use Rattle.osplan.specs.Expressible.{is_script_expressible, is_task_expressible, is_resource_expressible, is_core_expressible, is_expressible}
+use Rattle.osplan.specs.Expressible.{is_script_expressible, is_task_expressible, is_resource_expressible, is_counter_expressible, is_core_expressible, is_expressible}
 use Rattle.osplan.proofs.Tests.{find-passes, passes-at}
 use Rattle.osplan.proofs.Within.{CoreTextParts, FitsKernel, core-fits, core-text-parts, text-parts}
 use Rattle.osplan.specs.Names.{name_in, name_of}
 use Rattle.osdraft.specs.Declarations.{declared_by}
 use Rattle.oswrite.proofs.Reshaped.{core_said}
-use Rattle.oswrite.proofs.Placed.{Stands, declared_at, task-stands, resource-stands}
+use Rattle.oswrite.proofs.Placed.{Stands, declared_at, task-stands, resource-stands, counter-stands}
 
 get-some : {X : Type 0} (xs : List X) (i : ℕ) → i < length xs → (x : X) × (slice_get xs i ≡ Some x)
 get-some [] i lt = absurd (omega arith)
@@ -59,8 +60,16 @@ name-at plan core said fits ObjectKind.Resource index within =
       },
     )
 name-at plan core said fits ObjectKind.Counter index within =
-    let none : length core.counters ≡ 0 = ap length said.counters in
-    absurd (omega arith)
+    let counter = get-some core.counters index within in
+    let few : length core.counters ≤ 8 = fits.counters in (
+      counter.0.name,
+      record {
+        name_is = ap (λ (o : Option Counter). option_map_or (λ (c : Counter). c.name) o []) counter.1;
+        in_form = passes-at is_counter_expressible core.counters index counter.0 said.counters counter.1;
+        declared = counter-stands plan core index counter.0 counter.1;
+        low = omega arith;
+      },
+    )
 name-at plan core said fits ObjectKind.Alarm index within =
     let none : length core.alarms ≡ 0 = ap length said.alarms in
     absurd (omega arith)

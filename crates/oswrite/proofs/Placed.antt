@@ -11,15 +11,16 @@ use Rattle.osbase.specs.History.{same_core}
 use Rattle.osbase.proofs.Same.{same_kind-self}
 use Rattle.osplan.specs.declared.plans.Plan.{Plan}
 use Rattle.osplan.specs.declared.plans.Core.{Core}
+use Rattle.osplan.specs.declared.plans.Counter.{Counter}
 use Rattle.osplan.specs.declared.plans.Resource.{Resource}
 use Rattle.osplan.specs.declared.plans.Task.{Task}
 use Rattle.osplan.specs.Expressible.{are_distinct, object_names}
 use Rattle.osplan.proofs.Tests.{find-holds}
 use Rattle.osdraft.specs.declared.shapes.CoreText.{CoreText}
 use Rattle.osdraft.specs.declared.declarations.Declaration.{Declaration}
-use Rattle.osdraft.specs.Declarations.{byte_of, id_of, task_declaration, resource_declaration, declared_tasks, declared_resources, declared_by, declarations, has_name, place_in, place_of}
+use Rattle.osdraft.specs.Declarations.{byte_of, id_of, task_declaration, resource_declaration, counter_declaration, declared_tasks, declared_resources, declared_counters, declared_by, declarations, has_name, place_in, place_of}
 use Rattle.osdraft.proofs.Numbers.{any-map, byte-small}
-use Rattle.oswrite.proofs.Reshaped.{task_said, resource_said, core_said}
+use Rattle.oswrite.proofs.Reshaped.{task_said, resource_said, counter_said, core_said}
 
 abbrev pub names : List Declaration → List (List ℕ)
 names objects = map (λ (d : Declaration). d.name) objects
@@ -86,10 +87,16 @@ module _ (plan : Plan) where
   resources-named core n [] = refl
   resources-named core n (resource ∷ resources) = ap (λ rest. resource.name ∷ rest) (resources-named core (n + 1) resources)
 
+  counters-named : (core : CoreText) (n : ℕ) (counters : List Counter) → names (map (counter_declaration core) (enumerate_from n (map counter_said counters))) ≡ map (λ (counter : Counter). counter.name) counters
+  counters-named core n [] = refl
+  counters-named core n (counter ∷ counters) = ap (λ rest. counter.name ∷ rest) (counters-named core (n + 1) counters)
+
   objects-named : (core : Core) → names (declared_by (core_said plan core)) ≡ object_names core
   objects-named core =
-      map-append (λ (d : Declaration). d.name) (declared_tasks (core_said plan core)) (declared_resources (core_said plan core))
-      ∙ ap (λ first. first ++ names (declared_resources (core_said plan core))) (tasks-named (core_said plan core) 0 core.tasks) ∙ ap (λ rest. map (λ (task : Task). task.name) core.tasks ++ rest) (resources-named (core_said plan core) 0 core.resources)
+      let text = core_said plan core in
+      rw (← tasks-named text 0 core.tasks, ← resources-named text 0 core.resources, ← counters-named text 0 core.counters)
+      (map-append (λ (d : Declaration). d.name) (declared_tasks text ++ declared_resources text) (declared_counters text)
+      ∙ ap (λ first. first ++ names (declared_counters text)) (map-append (λ (d : Declaration). d.name) (declared_tasks text) (declared_resources text)))
 
   pub names-said : (cores : List Core) → names (declarations (map (core_said plan) cores)) ≡ flat_map object_names cores
   names-said [] = refl
@@ -104,11 +111,20 @@ module _ (plan : Plan) where
 
   pub task-stands : (core : Core) (i : ℕ) (task : Task) → slice_get core.tasks i ≡ Some task → Stands (declared_by (core_said plan core)) (declared_at core ObjectKind.Task task.name i)
   task-stands core i task is =
-      stands-front (declared_tasks (core_said plan core)) (declared_resources (core_said plan core)) _ (stands-first (task_declaration (core_said plan core)) (task_said plan) core.tasks i task is)
+      let text = core_said plan core in
+      stands-front (declared_tasks text ++ declared_resources text) (declared_counters text) _
+      (stands-front (declared_tasks text) (declared_resources text) _ (stands-first (task_declaration text) (task_said plan) core.tasks i task is))
 
   pub resource-stands : (core : Core) (i : ℕ) (resource : Resource) → slice_get core.resources i ≡ Some resource → Stands (declared_by (core_said plan core)) (declared_at core ObjectKind.Resource resource.name i)
   resource-stands core i resource is =
-      stands-back (declared_tasks (core_said plan core)) (declared_resources (core_said plan core)) _ (stands-first (resource_declaration (core_said plan core)) resource_said core.resources i resource is)
+      let text = core_said plan core in
+      stands-front (declared_tasks text ++ declared_resources text) (declared_counters text) _
+      (stands-back (declared_tasks text) (declared_resources text) _ (stands-first (resource_declaration text) resource_said core.resources i resource is))
+
+  pub counter-stands : (core : Core) (i : ℕ) (counter : Counter) → slice_get core.counters i ≡ Some counter → Stands (declared_by (core_said plan core)) (declared_at core ObjectKind.Counter counter.name i)
+  counter-stands core i counter is =
+      let text = core_said plan core in
+      stands-back (declared_tasks text ++ declared_resources text) (declared_counters text) _ (stands-first (counter_declaration text) counter_said core.counters i counter is)
 
   in-cores-if : (core : Core) (rest : List Declaration) (found : Core) (others : Option Core) (d : Declaration) (b : Bool) → cond b (Some core) others ≡ Some found → Stands (declared_by (core_said plan found)) d
       → (others ≡ Some found → Stands rest d) → Stands (declared_by (core_said plan core) ++ rest) d

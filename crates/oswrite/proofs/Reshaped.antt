@@ -8,21 +8,23 @@ use Rattle.serde_json.specs.View.{items_of}
 use Rattle.osbase.specs.declared.references.ModeId.{ModeId}
 use Rattle.osplan.specs.declared.plans.Plan.{Plan}
 use Rattle.osplan.specs.declared.plans.Core.{Core}
+use Rattle.osplan.specs.declared.plans.Counter.{Counter}
 use Rattle.osplan.specs.declared.plans.Resource.{Resource}
 use Rattle.osplan.specs.declared.plans.Task.{Task}
 use Rattle.osbase.specs.Names.{is_name}
 use Rattle.osplan.specs.Limits.{ceiling_of, number_of}
-use Rattle.osplan.specs.Expressible.{mode_name, are_mode_name, is_only_mode, is_script_expressible, is_task_expressible, is_resource_expressible, is_core_expressible}
+use Rattle.osplan.specs.Expressible.{mode_name, are_mode_name, is_only_mode, is_script_expressible, is_task_expressible, is_resource_expressible, is_counter_expressible, is_core_expressible}
 use Rattle.osdraft.specs.declared.shapes.ConfigText.{ConfigText}
 use Rattle.osdraft.specs.declared.shapes.CoreText.{CoreText}
+use Rattle.osdraft.specs.declared.shapes.CounterText.{CounterText}
 use Rattle.osdraft.specs.declared.shapes.ResourceText.{ResourceText}
 use Rattle.osdraft.specs.declared.shapes.TaskText.{TaskText}
 use Rattle.osread.specs.Reading.{each}
 use Rattle.osread.specs.Json.{elements, whole_of, name_of}
-use Rattle.osdraft.specs.Shape.{task_shape, resource_shape, core_shape, config_shape}
+use Rattle.osdraft.specs.Shape.{task_shape, resource_shape, counter_shape, core_shape, config_shape}
 use Rattle.osplan.specs.Names.{name_of_mode}
 use Rattle.osplan.proofs.Within.{core-text-parts}
-use Rattle.oswrite.specs.Writing.{script_text, id_data, mode_data, task_data, resource_data, core_data, config_data}
+use Rattle.oswrite.specs.Writing.{script_text, id_data, mode_data, task_data, resource_data, counter_data, core_data, config_data}
 use Rattle.osread.proofs.Contents.{elements-items_of}
 
 -- ---- what the text says
@@ -33,8 +35,11 @@ task_said plan task = record { name = task.name; prio = Some task.priority; auto
 abbrev pub resource_said : Resource → ResourceText
 resource_said resource = record { name = resource.name; ceiling = ceiling_of resource }
 
+abbrev pub counter_said : Counter → CounterText
+counter_said counter = record { name = counter.name; max = Some counter.max; min = Some counter.min; software = counter.software }
+
 abbrev pub core_said : Plan → Core → CoreText
-core_said plan core = record { id = number_of core.id; start = map number_of core.start; tasks = map (task_said plan) core.tasks; resources = map resource_said core.resources }
+core_said plan core = record { id = number_of core.id; start = map number_of core.start; tasks = map (task_said plan) core.tasks; resources = map resource_said core.resources; counters = map counter_said core.counters }
 
 abbrev pub config_said : Plan → ConfigText
 config_said plan = record { version = Some 1; cap = Some plan.cap; master = number_of plan.master; cores = map (core_said plan) plan.cores }
@@ -83,11 +88,16 @@ module _ (plan : Plan) (modes : are_mode_name plan.modes ≡ true) where
   unfolding resource_shape
   resource-shape resource h = rw h refl
 
+  counter-shape : (counter : Counter) → is_counter_expressible counter ≡ true → counter_shape (counter_data counter) ≡ Some (counter_said counter)
+  unfolding counter_shape
+  counter-shape counter h = rw h refl
+
   core-shape : (core : Core) → is_core_expressible core ≡ true → core_shape (core_data plan core) ≡ Some (core_said plan core)
   unfolding core_shape
   core-shape core h =
       let parts = core-text-parts core h in
       rw (
+        each-items counter_shape counter_data counter_said is_counter_expressible counter-shape core.counters parts.counters,
         each-items resource_shape resource_data resource_said is_resource_expressible resource-shape core.resources parts.resources,
         each-items whole_of id_data number_of (λ id. true) (λ id e. refl) core.start (always core.start),
         each-items task_shape (task_data plan) (task_said plan) is_task_expressible task-shape core.tasks parts.tasks,

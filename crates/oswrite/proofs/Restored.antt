@@ -15,6 +15,7 @@ use Rattle.osforms.proofs.Joining.{has_none}
 use Rattle.osforms.proofs.Operations.{IsNamed, text-meant, text-none, text-some}
 use Rattle.osplan.specs.declared.plans.Plan.{Plan}
 use Rattle.osplan.specs.declared.plans.Core.{Core}
+use Rattle.osplan.specs.declared.plans.Counter.{Counter}
 use Rattle.osplan.specs.declared.plans.Resource.{Resource}
 use Rattle.osplan.specs.declared.plans.Task.{Task}
 use Rattle.osplan.specs.declared.plans.CoreMode.{CoreMode}
@@ -27,15 +28,15 @@ use Rattle.osplan.proofs.Distinct.{distinct-back}
 use Rattle.osplan.proofs.Starting.{master-low}
 use Rattle.osplan.proofs.Within.{TextParts, CoreTextParts, limit-parts, text-parts, core-text-parts}
 use Rattle.osdraft.specs.declared.declarations.Declaration.{Declaration}
-use Rattle.osdraft.specs.Declarations.{byte_of, number_id, declarations, place_of}
+use Rattle.osdraft.specs.Declarations.{byte_of, number_id, word_of, declarations, place_of}
 use Rattle.osdraft.specs.Operation.{operations_of, op_of}
-use Rattle.osdraft.specs.Meaning.{only_mode, task_plan, resource_plan, core_plan, plan_of}
+use Rattle.osdraft.specs.Meaning.{only_mode, task_plan, resource_plan, counter_plan, core_plan, plan_of}
 use Rattle.osplan.specs.Names.{name_of, name_of_mode}
 use Rattle.oswrite.specs.Writing.{op_text, script_text}
-use Rattle.osdraft.proofs.Numbers.{IsByte, byte-small, is-byte, task-bytes, core-bytes, cap-byte, map-back}
+use Rattle.osdraft.proofs.Numbers.{IsByte, byte-small, is-byte, task-bytes, counter-words, core-bytes, cap-byte, map-back}
 use Rattle.oswrite.proofs.Joining.{parts-pieces}
 use Rattle.oswrite.proofs.Formed.{found}
-use Rattle.oswrite.proofs.Reshaped.{task_said, resource_said, core_said, config_said, modes-are, mode-is}
+use Rattle.oswrite.proofs.Reshaped.{task_said, resource_said, counter_said, core_said, config_said, modes-are, mode-is}
 use Rattle.oswrite.proofs.Placed.{placed}
 
 id-back : (id : CoreId) → IsByte (number_of id) → number_id (number_of id) ≡ id
@@ -165,6 +166,13 @@ module _ (plan : Plan) (inside : IsTrue (limits.is_within_limits plan)) (sayable
   resource-back : (resource : Resource) → limits.is_ceiling (limits.ceiling_of resource) ≡ true → resource_plan (resource_said resource) ≡ resource
   resource-back resource h = ap (λ (number : Option ℕ). let r : Resource = record { name = resource.name; ceiling = unwrap_or number 0 } in r) (is-byte _ _ (limits.ceiling_of resource) h (omega arith))
 
+  counter-back : (counter : Counter) → limits.is_counter_within (limits.counter_sizes counter) ≡ true → counter_plan (counter_said counter) ≡ counter
+  counter-back counter h =
+      let words = counter-words (limits.counter_sizes counter) h in
+      let max : word_of (Some counter.max) ≡ counter.max = ap (λ o. unwrap_or o 0) words.0 in
+      let min : word_of (Some counter.min) ≡ counter.min = ap (λ o. unwrap_or o 0) words.1 in
+      rw (max, min) refl
+
   core-back : (core : Core) → is_kept_core plan core ≡ true → core_plan objects (core_said plan core) ≡ core
   core-back core h =
       let kept = kept-core plan core h in
@@ -175,8 +183,8 @@ module _ (plan : Plan) (inside : IsTrue (limits.is_within_limits plan)) (sayable
         map-back number_id number_of (λ id. is_start (number_of id)) (λ id e. id-back id (is-byte _ _ (number_of id) e (omega arith))) core.start (sym (list_all-map is_start number_of core.start) ∙ bytes.1),
         map-back (task_plan objects) (task_said plan) (is_kept_task plan) task-back core.tasks kept.tasks,
         map-back resource_plan resource_said (λ (resource : Resource). limits.is_ceiling (limits.ceiling_of resource)) resource-back core.resources (sym (list_all-map limits.is_ceiling limits.ceiling_of core.resources) ∙ bytes.3),
+        map-back counter_plan counter_said (λ (counter : Counter). limits.is_counter_within (limits.counter_sizes counter)) counter-back core.counters (sym (list_all-map limits.is_counter_within limits.counter_sizes core.counters) ∙ bytes.4),
         kept.said.isrs,
-        kept.said.counters,
         kept.said.alarms,
         kept.said.tables,
       ) refl

@@ -10,6 +10,7 @@ use Rattle.oscript.specs.declared.Op.{Op}
 use Rattle.osforms.specs.Operation as forms
 use Rattle.osplan.specs.declared.plans.Plan.{Plan}
 use Rattle.osplan.specs.declared.plans.Core.{Core}
+use Rattle.osplan.specs.declared.plans.Counter.{Counter}
 use Rattle.osplan.specs.declared.plans.Resource.{Resource}
 use Rattle.osplan.specs.declared.plans.Task.{Task}
 use Rattle.osplan.specs.Names.{name_of_mode, name_of}
@@ -56,13 +57,22 @@ resource_data resource = object
     (member (codes "ceiling") (whole_data resource.ceiling)
     (member (codes "name") (string resource.name) no_members))
 
--- A core: its number, its resources, the cores that it starts, and its tasks.
+-- A counter: its greatest value, its least cycle, its name, and whether software alone advances it.
+abbrev pub counter_data : Counter → Data
+counter_data counter = object
+    (member (codes "max") (whole_data counter.max)
+    (member (codes "min") (whole_data counter.min)
+    (member (codes "name") (string counter.name)
+    (member (codes "software") (boolean counter.software) no_members))))
+
+-- A core: its counters, its number, its resources, the cores that it starts, and its tasks.
 abbrev pub core_data : Plan → Core → Data
 core_data plan core = object
+    (member (codes "counters") (list_data counter_data core.counters)
     (member (codes "id") (id_data core.id)
     (member (codes "resources") (list_data resource_data core.resources)
     (member (codes "start") (list_data id_data core.start)
-    (member (codes "tasks") (list_data (task_data plan) core.tasks) no_members))))
+    (member (codes "tasks") (list_data (task_data plan) core.tasks) no_members)))))
 
 -- A configuration: the size of a mailbox, its cores, the master core and the version, 1.
 abbrev pub config_data : Plan → Data

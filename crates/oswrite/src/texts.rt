@@ -4,12 +4,12 @@ ghost use Rattle.std.specs.Prelude.{◌≡◌, IfOk, Some, string_bytes};
 ghost use Rattle.serde_json.specs.Data.{Data};
 ghost use Rattle.serde_json.specs.View.{view};
 ghost use Rattle.osdraft.specs.Meaning.{config_of};
-ghost use Rattle.oswrite.specs.Writing.{script_text, id_data, mode_data, list_data, resource_data, task_data, core_data, config_data, config_text};
+ghost use Rattle.oswrite.specs.Writing.{script_text, id_data, mode_data, list_data, counter_data, resource_data, task_data, core_data, config_data, config_text};
 
 use osbase::{CoreId, ModeId, ObjectKind, Place};
 use oscript::Op;
 use osforms::{Names, op_text};
-use osplan::{Config, Core, Plan, Resource, Task};
+use osplan::{Config, Core, Counter, Plan, Resource, Task};
 use serde_json::{Value, json};
 use std::alloc::{AllocError, Global};
 
@@ -106,14 +106,29 @@ impl Writer<Resource> for PlanWriter<'_> {
     }
 }
 
+impl Writer<Counter> for PlanWriter<'_> {
+    ghost written = { λ _. counter_data };
+
+    fn value(&self, alloc: Global, counter: &Counter) -> Result<Value, AllocError> {
+        json!(in alloc; {
+            "max": u64::from(counter.max),
+            "min": u64::from(counter.min),
+            "name": counter.name.as_str(),
+            "software": counter.software
+        })
+    }
+}
+
 impl Writer<Core> for PlanWriter<'_> {
     ghost written = { λ writer. core_data writer.plan.now };
 
     fn value(&self, alloc: Global, core: &Core) -> Result<Value, AllocError> {
+        let counters = list_value(alloc, self, core.counters.as_slice())?;
         let resources = list_value(alloc, self, core.resources.as_slice())?;
         let start = list_value(alloc, self, core.start.as_slice())?;
         let tasks = list_value(alloc, self, core.tasks.as_slice())?;
         json!(in alloc; {
+            "counters": counters,
             "id": u64::from(core.id.number),
             "resources": resources,
             "start": start,

@@ -2,6 +2,7 @@
 
 use super::{TWO_CORES, filled, repeated};
 use crate::{ConfFault, read_config, read_schedule, read_stimuli};
+use osbase::Stimulus;
 use std::alloc::Global;
 use std::process::Abort;
 use std::test::Fail;
@@ -47,6 +48,18 @@ fn words_that_are_no_stimuli(rt: HostRuntime) -> Result<(), Fail> {
         "Op",
         "OP",
         "opop",
+        "tick ",
+        " tick",
+        "op  tick",
+        "tick  op",
+        "tick op ",
+        "ticktick",
+        "optick",
+        "tickop",
+        "Tick",
+        "tic",
+        "ticks",
+        "tick\\top",
         "o",
         "op,op",
         "op;op",
@@ -127,6 +140,8 @@ fn stimuli_that_are_read(rt: HostRuntime) -> Result<(), Fail> {
         ("{\"0\":\"\"}", 1, 0),
         ("{\"1\":\"op\"}", 1, 1),
         ("{\"1\":\"op\",\"0\":\"op op op\"}", 2, 3),
+        ("{\"1\":\"tick\"}", 1, 1),
+        ("{\"0\":\"tick op tick tick op\"}", 1, 5),
         ("{\"0\":\"op\",\"0\":\"op op\"}", 1, 2),
         ("{\"0\":\"nonsense\",\"\\u0030\":\"op\"}", 1, 1),
         ("{\"0\":1,\"0\":\"o\\u0070\\u0020op\"}", 1, 2),
@@ -143,6 +158,30 @@ fn stimuli_that_are_read(rt: HostRuntime) -> Result<(), Fail> {
     Ok(())
 }
 
+#[test]
+fn stimuli_are_in_their_order(rt: HostRuntime) -> Result<(), Fail> {
+    let config = read_config(rt.alloc(), TWO_CORES)?;
+    for (text, words) in [
+        (
+            "{\"0\":\"op tick tick\"}",
+            [Stimulus::Op, Stimulus::Tick, Stimulus::Tick],
+        ),
+        (
+            "{\"0\":\"tick op tick\"}",
+            [Stimulus::Tick, Stimulus::Op, Stimulus::Tick],
+        ),
+        (
+            "{\"0\":\"tick tick op\"}",
+            [Stimulus::Tick, Stimulus::Tick, Stimulus::Op],
+        ),
+    ] {
+        let stimuli = read_stimuli(rt.alloc(), &config, text)?;
+        let first = stimuli.as_slice().first().ok_or("core 0")?;
+        assert_eq!(rt; first.words.as_slice(), words.as_slice(), "{text}");
+    }
+    Ok(())
+}
+
 // A core has at most 100,000 words, which are counted before anything else is judged.
 #[test]
 fn how_many_stimuli(rt: HostRuntime) -> Result<(), Fail> {
@@ -150,6 +189,13 @@ fn how_many_stimuli(rt: HostRuntime) -> Result<(), Fail> {
     let texts = [
         ("{\"0\":\"op@\"}", " op", 99_999, None),
         ("{\"0\":\"op@\"}", " op", 100_000, Some(ConfFault::Limit)),
+        ("{\"0\":\"op@\"}", " tick", 99_999, None),
+        (
+            "{\"0\":\"tick@\"}",
+            " tick",
+            100_000,
+            Some(ConfFault::Limit),
+        ),
         ("{\"0\":\"@\"}", " ", 99_999, Some(ConfFault::BadStimulus)),
         ("{\"0\":\"@\"}", " ", 100_000, Some(ConfFault::Limit)),
         (

@@ -132,6 +132,14 @@ fn an_object_of_another_shape(rt: HostRuntime) -> Result<(), Fail> {
         r#"{"cores":[{"id":0,"resources":[{"name":"R","ceiling":1,"prio":1}]}]}"#,
         r#"{"cores":[{"id":0,"resources":[{"name":"R","ceiling":1},null]}]}"#,
         r#"{"cores":[{"id":0}],"resources":[]}"#,
+        r#"{"cores":[{"id":0,"counters":[{}]}]}"#,
+        r#"{"cores":[{"id":0,"counters":[[]]}]}"#,
+        r#"{"cores":[{"id":0,"counters":["K"]}]}"#,
+        r#"{"cores":[{"id":0,"counters":[{"max":1}]}]}"#,
+        r#"{"cores":[{"id":0,"counters":[{"name":"K"}]}]}"#,
+        r#"{"cores":[{"id":0,"counters":[{"name":"K","max":1,"ceiling":1}]}]}"#,
+        r#"{"cores":[{"id":0,"counters":[{"name":"K","max":1},null]}]}"#,
+        r#"{"cores":[{"id":0}],"counters":[]}"#,
     ];
     for text in texts {
         assert_eq!(rt;
@@ -172,6 +180,8 @@ fn a_member_that_is_no_whole_number(rt: HostRuntime) -> Result<(), Fail> {
         r#"{"cores":[{"id":0,"tasks":[{"name":"A","prio":@,"script":""}]}]}"#,
         r#"{"cores":[{"id":0,"tasks":[{"name":"A","prio":1,"activations":@,"script":""}]}]}"#,
         r#"{"cores":[{"id":0,"resources":[{"name":"R","ceiling":@}]}]}"#,
+        r#"{"cores":[{"id":0,"counters":[{"name":"K","max":@}]}]}"#,
+        r#"{"cores":[{"id":0,"counters":[{"name":"K","max":1,"min":@}]}]}"#,
     ] {
         answers(&rt, rt.alloc(), text, &values, Some(ConfFault::Shape))?;
     }
@@ -186,6 +196,7 @@ fn a_member_that_is_no_list(rt: HostRuntime) -> Result<(), Fail> {
         r#"{"cores":[{"id":0,"start":@}]}"#,
         r#"{"cores":[{"id":0,"tasks":@}]}"#,
         r#"{"cores":[{"id":0,"resources":@}]}"#,
+        r#"{"cores":[{"id":0,"counters":@}]}"#,
         r#"{"cores":[{"id":0,"tasks":[{"name":"A","prio":1,"auto":@,"script":""}]}]}"#,
     ] {
         answers(&rt, rt.alloc(), text, &values, Some(ConfFault::Shape))?;
@@ -199,6 +210,7 @@ fn a_member_that_is_no_text(rt: HostRuntime) -> Result<(), Fail> {
     for text in [
         r#"{"cores":[{"id":0,"tasks":[{"name":@,"prio":1,"script":""}]}]}"#,
         r#"{"cores":[{"id":0,"resources":[{"name":@,"ceiling":1}]}]}"#,
+        r#"{"cores":[{"id":0,"counters":[{"name":@,"max":1}]}]}"#,
         r#"{"cores":[{"id":0,"tasks":[{"name":"A","prio":1,"auto":[@],"script":""}]}]}"#,
         r#"{"cores":[{"id":0,"tasks":[{"name":"A","prio":1,"script":@}]}]}"#,
     ] {
@@ -213,6 +225,7 @@ fn a_member_that_is_no_truth_value(rt: HostRuntime) -> Result<(), Fail> {
     for text in [
         r#"{"cores":[{"id":0,"tasks":[{"name":"A","prio":1,"extended":@,"script":""}]}]}"#,
         r#"{"cores":[{"id":0,"tasks":[{"name":"A","prio":1,"preemptable":@,"script":""}]}]}"#,
+        r#"{"cores":[{"id":0,"counters":[{"name":"K","max":1,"software":@}]}]}"#,
     ] {
         answers(&rt, rt.alloc(), text, &values, Some(ConfFault::Shape))?;
         answers(&rt, rt.alloc(), text, &["true", "false"], None)?;

@@ -1,10 +1,9 @@
-use Rattle.std.proofs.Common.{◌≡◌, ◌<◌, ◌&&◌, Bool, true, false, not, refl, ap, sym, subst, ◌∙◌, rules, arith, lit≤}
+use Rattle.std.proofs.Common.{◌≡◌, ◌<◌, ◌&&◌, Bool, true, false, not, refl, sym, subst, ◌∙◌, rules, arith, lit≤}
 use Rattle.std.proofs.lemmas.Bool.{leb-false}
 use Rattle.osbase.specs.declared.references.Runner.{Runner}
 use Rattle.osbase.specs.declared.references.TaskRef.{TaskRef}
 use Rattle.osbase.specs.History.{job_count, same_runner, without_oldest}
 use Rattle.osbase.proofs.Same.{same_runner-true}
-use Rattle.osplan.specs.View.{View}
 use Rattle.osstate.specs.Queries.{is_at_limit_in}
 use Rattle.osstate.specs.Sound.{activation_limit}
 use Rattle.osstate.specs.State.{KernelState}

@@ -9,7 +9,7 @@ use Rattle.oscript.specs.declared.Op.{Op}
 use Rattle.osplan.specs.declared.plans.Core.{Core}
 use Rattle.osplan.specs.Objects.{may_name}
 use Rattle.osstate.specs.Sound.{has_objects_of}
-use Rattle.osstate.proofs.Effecting.{as_effect}
+use Rattle.osstate.proofs.Effecting.{as_effect, unprinted}
 use Rattle.oscall.specs.Border.{is_known_call}
 use Rattle.oscall.specs.Operations.{setting_call}
 use Rattle.oscall.proofs.operations.operate.Goals as goal
@@ -40,3 +40,12 @@ pub returns-in-Add : goal.returns-in-Add
 returns-in-Add g c =
     let number : SFits w64 c.in-Add.number = search rules in
     rw c.in-Add.is (as_effect (λ v h stands. refl) (lit≤ tt) (lit≤ tt) (simp to_z-of_z at c.add.ensures))
+
+pub returns-in-Work : goal.returns-in-Work
+returns-in-Work g c = rw c.in-Work.is (as_effect (λ v h stands. refl) (lit≤ tt) (lit≤ tt) (unprinted c.complete.ensures.remarks))
+
+pub returns-in-Jump : goal.returns-in-Jump
+returns-in-Jump g c = rw c.in-Jump.is (as_effect (λ v h stands. refl) (lit≤ tt) (lit≤ tt) (unprinted c.complete-in-Jump.ensures.remarks))
+
+pub returns-in-JumpIfZero : goal.returns-in-JumpIfZero
+returns-in-JumpIfZero g c = rw c.in-JumpIfZero.is (as_effect (λ v h stands. refl) (lit≤ tt) (lit≤ tt) (unprinted c.complete-in-JumpIfZero.ensures.remarks))

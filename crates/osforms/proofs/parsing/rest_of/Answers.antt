@@ -1,9 +1,18 @@
-use Rattle.std.proofs.Common.{rules, ◌≡◌, ◌==◌, ◌++◌, ◌∷◌, false, length, Some, None, lit<, sym, ap, ◌∙◌}
+use Rattle.std.proofs.Common.{rules, ◌≡◌, ◌==◌, ◌++◌, ◌∷◌, [], false, length, Some, None, lit<, sym, ap, ◌∙◌}
+use Rattle.std.proofs.lemmas.List.{append-nil, nil_from_length}
 use Rattle.std.proofs.lemmas.Str.Pattern.{strip_prefix_char}
 use Rattle.oscript.specs.Rows.{word_of}
 use Rattle.osforms.specs.Form.{words_behind, words_of}
-use Rattle.osforms.proofs.FirstWord.{goes_astray, goes_on, lacks}
+use Rattle.osforms.proofs.FirstWord.{goes_astray, goes_no_further, goes_on, lacks}
 use Rattle.osforms.proofs.parsing.rest_of.Goals as goal
+
+pub returns-in-Some : goal.returns-in-Some
+returns-in-Some c =
+    let word : c.row_of.result.word.now ≡ word_of c.args.verb = ap (λ row. row.0) c.row_of.ensures in
+    let found = c.in-Some.ensures.cases in
+    let is : c.args.text.now ≡ word_of c.args.verb ++ c.in-Some.rest.now = found.1.1 ∙ ap (λ bs. c.row_of.result.word.now ++ bs) (sym found.2) ∙ ap (λ w. w ++ c.in-Some.rest.now) word in
+    let none : c.in-Some.rest.now ≡ [] = nil_from_length c.in-Some.rest.now (search rules) in
+    sym (ap (λ text. words_behind (word_of c.args.verb) (words_of text)) (is ∙ ap (λ bs. word_of c.args.verb ++ bs) none ∙ append-nil (word_of c.args.verb)) ∙ goes_no_further c.args.verb)
 
 pub returns-in-Some-strip_prefix : goal.returns-in-Some-strip_prefix
 returns-in-Some-strip_prefix c =

@@ -16,6 +16,7 @@ invariant_of-self g c = rw c.count_one.ensures (record {
   jobs = c.self.invariant.jobs;
   idle = c.self.invariant.idle;
   agreed = c.self.invariant.agreed;
+  clocks = c.self.invariant.clocks;
   caller = c.self.invariant.caller;
   began = omega (arith, c.self.invariant.began);
   items = omega (arith, c.self.invariant.items);

@@ -1,0 +1,54 @@
+-- The services of counters.
+use Rattle.std.specs.Prelude.{pos, true, false, not, Bool, if◌then◌else◌, Option, Some, None, is_none, List, [], ◌∷◌}
+use Rattle.std.specs.Option.{option_map_or}
+use Rattle.osbase.specs.declared.statuses.Status.TheVariants.{EOk, EOsCore, EOsId}
+use Rattle.osbase.specs.declared.statuses.ServiceId.TheVariants as ServiceId
+use Rattle.osbase.specs.declared.references.CounterRef.{CounterRef}
+use Rattle.osbase.specs.declared.references.Runner.{Runner}
+use Rattle.osbase.specs.History.{History, Noted, Counted}
+use Rattle.osbase.specs.Objects.{counter_object}
+use Rattle.osplan.specs.declared.plans.Core.{Core}
+use Rattle.osplan.specs.declared.plans.Counter.{Counter}
+use Rattle.osplan.specs.Objects.{is_own_object}
+use Rattle.osplan.specs.View.{View, own_counter}
+use Rattle.osclock.specs.Clocks.{value_by}
+use Rattle.osstate.specs.Readings.{is_own}
+use Rattle.oscall.specs.Checks.{Check}
+use Rattle.oscall.specs.Returning.{answers, returns}
+
+-- A hardware counter of the core, which ticks alone advance. [AUTOSAR SWS OS 4.x, OsCounterType]
+abbrev pub is_hardware : Core → CounterRef → Bool
+is_hardware core c = option_map_or (λ (x : Counter). not x.software) (own_counter core c) false
+
+-- IncrementCounter is for a software counter of the own core. [AUTOSAR SWS OS 4.x, SWS_Os_00285; E_OS_CORE: own]
+abbrev pub incrementing_checks : View → Option CounterRef → List Check
+incrementing_checks v target =
+    (option_map_or (is_hardware v.own) target true, EOsId) ∷ (option_map_or (λ (c : CounterRef). not (is_own v c.core)) target false, EOsCore) ∷ []
+
+-- The counter goes on by one. [OSEK/VDX OS 2.2.3, section 9.1]
+abbrev pub counts : Option CounterRef → History → History
+counts None h = h
+counts (Some c) h = Noted (Counted c) ∷ h
+
+abbrev pub counts_and_returns : Runner → Option CounterRef → History → History
+counts_and_returns r target h = returns r ServiceId.IncrementCounter EOk None (counts target h)
+
+-- [AUTOSAR SWS OS 4.x, SWS_Os_00286]
+abbrev pub increments : View → Runner → Option CounterRef → History → History
+increments v r target h = answers r ServiceId.IncrementCounter (incrementing_checks v target) (counts_and_returns r target) h
+
+-- A counter that a script names, if it is one of the core's own; no script of an accepted configuration names another one where it
+-- asks for a value. [own]
+abbrev pub own_clock : Core → Option CounterRef → Option CounterRef
+own_clock core None = None
+own_clock core (Some c) = if is_own_object core (counter_object c) then Some c else None
+
+-- The service returns with the counter's value. [AUTOSAR SWS OS 4.x, SWS_Os_00377]
+abbrev pub tells_value : View → Runner → Option CounterRef → History → History
+tells_value v r None h = h
+tells_value v r (Some c) h = returns r ServiceId.GetCounterValue EOk (Some (pos (value_by v.own c h))) h
+
+-- [AUTOSAR SWS OS 4.x, SWS_Os_00376 and SWS_Os_00377]
+abbrev pub gets_value : View → Runner → Option CounterRef → History → History
+gets_value v r target h =
+    answers r ServiceId.GetCounterValue ((is_none (own_clock v.own target), EOsId) ∷ []) (tells_value v r (own_clock v.own target)) h

@@ -1,0 +1,64 @@
+-- What is asked of the clocks is what is asked of the history.
+use Rattle.std.proofs.Common.{◌≡◌, ℕ, suc, ◌+◌, ◌%◌, Bool, true, false, cond, ◌&&◌, Option, Some, None, is_some, option_map, ◌∷◌, refl, ap, ◌∙◌}
+use Rattle.std.specs.Option.{option_map_or}
+use Rattle.osbase.specs.declared.references.AlarmRef.{AlarmRef}
+use Rattle.osbase.specs.declared.references.CounterRef.{CounterRef}
+use Rattle.osbase.specs.History.{History, Entry}
+use Rattle.osbase.specs.Counting.{AlarmSetting, alarm_of, counts_left, counts_of, is_due, is_in_turn, is_in_use, left_of, one_count_more, will_be_due}
+use Rattle.osbase.specs.Objects.{alarm_object, counter_object}
+use Rattle.osplan.specs.declared.plans.Alarm.{Alarm as AlarmValue}
+use Rattle.osplan.specs.declared.plans.Core.{Core}
+use Rattle.osplan.specs.Clocked.{are_clocks_within}
+use Rattle.osplan.specs.Objects.{is_own_object}
+use Rattle.osplan.specs.View.{own_alarm}
+use Rattle.oscount.specs.declared.alarms.Alarm.{Alarm}
+use Rattle.oscount.specs.declared.alarms.Expiry.{Expiry}
+use Rattle.oscount.specs.declared.counters.Counter.{Counter}
+use Rattle.oscount.specs.Clocks.{alarm_at, counts_until, expiry_at, is_due_next}
+use Rattle.oscount.proofs.Expiries.{left-is, next-due}
+use Rattle.osclock.specs.Clocks.{AreClocks, ClockState, alarm_by, alarm_in, clocks_by, clocks_of, counter_for, counter_in, is_due_by, is_due_in, is_in_use_by, is_used, left_by, left_in, max_of, no_counter, unset, value_by}
+use Rattle.osclock.proofs.Law.{after, alarm-at, attached, counter-at, read}
+
+-- The clocks after an entry are clocks again.
+pub kept : (core : Core) (e : Entry) (s : ClockState) → AreClocks core s → AreClocks core (clocks_by core e s)
+kept core e s clocks = record { within = clocks.within; history = e ∷ clocks.history; is = ap (clocks_by core e) clocks.is ∙ after core e clocks.history clocks.within }
+
+pub value-read : (core : Core) (c : CounterRef) (h : History) → is_own_object core (counter_object c) ≡ true → (counter_in c (clocks_of core h)).value ≡ value_by core c h
+value-read core c h own = ap (λ (k : Counter). k.value) (counter-at core c h own)
+
+used-at : (max count : ℕ) (x : Option AlarmSetting) → is_some (expiry_at max count x) ≡ is_in_use max x
+used-at max count None = refl
+used-at max count (Some x) = by (record { value = (count + counts_left x) % suc max; cycle = x.cycle }) (is_in_turn max x && will_be_due x)
+  where
+    by : (e : Expiry) (b : Bool) → is_some (cond b (Some e) None) ≡ b
+    by e true = refl
+    by e false = refl
+
+pub used-read : (core : Core) (a : AlarmRef) (h : History) → is_own_object core (alarm_object a) ≡ true → is_used (alarm_in a (clocks_of core h)) ≡ is_in_use_by core a h
+used-read core a h own = ap (λ (x : Alarm). is_used x) (alarm-at core a h own) ∙ by (own_alarm core a)
+  where
+    by : (o : Option AlarmValue) → is_used (option_map_or (read core a h) o unset) ≡ is_in_use (option_map_or (λ (x : AlarmValue). max_of core x.counter) o 0) (option_map_or (λ (x : AlarmValue). alarm_of x.counter a h) o None)
+    by None = refl
+    by (Some x) = used-at (max_of core x.counter) (counts_of x.counter h) (alarm_of x.counter a h)
+
+pub left-read : (core : Core) (a : AlarmRef) (h : History) → are_clocks_within core ≡ true → is_own_object core (alarm_object a) ≡ true → left_in core a (clocks_of core h) ≡ left_by core a h
+left-read core a h within own = ap (λ (x : Alarm). option_map (counts_until (counter_for core a (clocks_of core h))) x.expiry) (alarm-at core a h own) ∙ by (own_alarm core a) refl
+  where
+    by : (o : Option AlarmValue) → own_alarm core a ≡ o
+        → option_map (counts_until (option_map_or (λ (x : AlarmValue). counter_in x.counter (clocks_of core h)) o no_counter)) (option_map_or (read core a h) o unset).expiry
+        ≡ left_of (option_map_or (λ (x : AlarmValue). max_of core x.counter) o 0) (option_map_or (λ (x : AlarmValue). alarm_of x.counter a h) o None)
+    by None e = refl
+    by (Some x) e =
+        ap (λ (k : Counter). option_map (counts_until k) (read core a h x).expiry) (counter-at core x.counter h (attached core a x within e))
+        ∙ left-is (max_of core x.counter) (counts_of x.counter h) (alarm_of x.counter a h)
+
+pub due-read : (core : Core) (a : AlarmRef) (h : History) → are_clocks_within core ≡ true → is_own_object core (alarm_object a) ≡ true → is_due_in core a (clocks_of core h) ≡ is_due_by core a h
+due-read core a h within own = ap (is_due_next (counter_for core a (clocks_of core h))) (alarm-at core a h own) ∙ by (own_alarm core a) refl
+  where
+    by : (o : Option AlarmValue) → own_alarm core a ≡ o
+        → is_due_next (option_map_or (λ (x : AlarmValue). counter_in x.counter (clocks_of core h)) o no_counter) (option_map_or (read core a h) o unset)
+        ≡ is_due (option_map_or (λ (x : AlarmValue). max_of core x.counter) o 0) (option_map one_count_more (option_map_or (λ (x : AlarmValue). alarm_of x.counter a h) o None))
+    by None e = refl
+    by (Some x) e =
+        ap (λ (k : Counter). is_due_next k (read core a h x)) (counter-at core x.counter h (attached core a x within e))
+        ∙ next-due (max_of core x.counter) (counts_of x.counter h) (alarm_of x.counter a h)

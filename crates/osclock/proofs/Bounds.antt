@@ -1,0 +1,137 @@
+-- What holds of the clocks of a core within its limits.
+use Rattle.std.proofs.Common.{◌≡◌, ℕ, zero, suc, ◌+◌, ◌<◌, ◌≤◌, ◌^◌, ◌%◌, Bool, true, false, cond, ◌&&◌, nat_le, IfSome, Option, Some, None, is_some, length, map, refl, ap, sym, subst, ◌∙◌, arith, get_or}
+use Rattle.std.specs.List.{list_all, slice_get}
+use Rattle.std.specs.Option.{option_map_or}
+use Rattle.std.proofs.Math.Nat.{mod-eq_of_lt, mod-lt}
+use Rattle.std.proofs.lemmas.Bool.{and_parts, cond-true, false≢true, leb-true}
+use Rattle.std.proofs.lemmas.List.{length-map}
+use Rattle.std.proofs.lemmas.Option.{slice_get_within}
+use Rattle.osbase.specs.declared.references.AlarmRef.{AlarmRef}
+use Rattle.osbase.specs.declared.references.CounterRef.{CounterRef}
+use Rattle.osbase.specs.Counting.{AlarmSetting, alarm_of, counts_left, counts_of, is_in_turn, same_counter, will_be_due}
+use Rattle.osbase.specs.History.{same_core}
+use Rattle.osbase.specs.Objects.{alarm_object, counter_object}
+use Rattle.osbase.specs.Sets.{numbers_from}
+use Rattle.osbase.proofs.Same.{same_core-refl}
+use Rattle.osplan.specs.declared.plans.Alarm.{Alarm as AlarmValue}
+use Rattle.osplan.specs.declared.plans.Core.{Core}
+use Rattle.osplan.specs.declared.plans.Counter.{Counter as CounterValue}
+use Rattle.osplan.specs.Clocked.{are_clocks_within, is_alarm_attached, is_counter_within}
+use Rattle.osplan.specs.Objects.{is_own_object}
+use Rattle.osplan.specs.View.{own_alarm}
+use Rattle.osplan.proofs.Tests.{passes-at}
+use Rattle.oscount.specs.declared.alarms.Alarm.{Alarm}
+use Rattle.oscount.specs.declared.alarms.Expiry.{Expiry}
+use Rattle.oscount.specs.declared.counters.Counter.{Counter}
+use Rattle.oscount.specs.Clocks.{counter_at, expiry_at}
+use Rattle.osclock.specs.Clocks.{AreClocks, ClockState, IsBounded, alarm_by, alarm_in, alarm_ref, clocks_of, counter_by, counter_for, counter_in, counter_ref, is_attached, max_for, max_of, no_counter, unset}
+use Rattle.osclock.proofs.Law.{alarm-at, attached, counter-at, read}
+use Rattle.osclock.proofs.Places.{alarm-own, alarm-place, counter-is, counter-place, same_counter-true}
+
+-- ---- limits
+
+pub record WithinParts (core : Core) : Type 0 where
+  pub counters : length core.counters ≤ 8
+  pub maxima : list_all is_counter_within core.counters ≡ true
+  pub alarms : length core.alarms ≤ 32
+
+pub within-parts : (core : Core) → are_clocks_within core ≡ true → WithinParts core
+within-parts core within =
+    let alarms = and_parts _ (nat_le (length core.alarms) 32) (and_parts _ (list_all (is_alarm_attached core) core.alarms) within).0 in
+    let maxima = and_parts (nat_le (length core.counters) 8) (list_all is_counter_within core.counters) alarms.0 in
+    record { counters = leb-true (length core.counters) 8 maxima.0; maxima = maxima.1; alarms = leb-true (length core.alarms) 32 alarms.1 }
+
+pub max-few : (core : Core) (c : CounterRef) → are_clocks_within core ≡ true → is_own_object core (counter_object c) ≡ true → max_of core c < 2 ^ 31
+max-few core c within own =
+    subst (λ (o : Option CounterValue). option_map_or (λ (x : CounterValue). x.max) o 0 < 2 ^ 31) (sym (counter-is core c own)) (by (slice_get core.counters c.index) refl)
+  where
+    by : (o : Option CounterValue) → slice_get core.counters c.index ≡ o → option_map_or (λ (x : CounterValue). x.max) o 0 < 2 ^ 31
+    by None e = omega arith
+    by (Some x) e = omega (arith, leb-true x.max 1000000000 (and_parts (nat_le 1 x.max) (nat_le x.max 1000000000) (passes-at is_counter_within core.counters c.index x (within-parts core within).maxima e)).1)
+
+-- ---- lengths
+
+length-numbers : (first count : ℕ) → length (numbers_from first count) ≡ count
+length-numbers first zero = refl
+length-numbers first (suc count) = ap suc (length-numbers (first + 1) count)
+
+pub counters-length : (core : Core) (s : ClockState) → AreClocks core s → length s.counters ≡ length core.counters
+counters-length core s clocks =
+    ap (λ (t : ClockState). length t.counters) clocks.is
+    ∙ length-map (numbers_from 0 (length core.counters)) (λ (n : ℕ). counter_by core (counter_ref core n) clocks.history) ∙ length-numbers 0 (length core.counters)
+
+pub alarms-length : (core : Core) (s : ClockState) → AreClocks core s → length s.alarms ≡ length core.alarms
+alarms-length core s clocks =
+    ap (λ (t : ClockState). length t.alarms) clocks.is
+    ∙ length-map (numbers_from 0 (length core.alarms)) (λ (n : ℕ). alarm_by core (alarm_ref core n) clocks.history) ∙ length-numbers 0 (length core.alarms)
+
+pub counter-inside : (core : Core) (s : ClockState) (c : CounterRef) → AreClocks core s → is_own_object core (counter_object c) ≡ true → c.index < length s.counters
+counter-inside core s c clocks own = omega (arith, counters-length core s clocks, (counter-place core c own).inside)
+
+pub alarm-inside : (core : Core) (s : ClockState) (a : AlarmRef) → AreClocks core s → is_own_object core (alarm_object a) ≡ true → a.index < length s.alarms
+alarm-inside core s a clocks own = omega (arith, alarms-length core s clocks, (alarm-place core a own).inside)
+
+-- ---- values
+
+pub record IsCounter (max : ℕ) (counter : Counter) : Type 0 where
+  pub is : counter.max ≡ max
+  pub few : counter.max < 2 ^ 31
+  pub value : counter.value ≤ counter.max
+
+pub counter-within : (core : Core) (s : ClockState) (c : CounterRef) → AreClocks core s → is_own_object core (counter_object c) ≡ true → IsCounter (max_of core c) (counter_in c s)
+counter-within core s c clocks own =
+    subst (IsCounter (max_of core c)) (sym (ap (counter_in c) clocks.is ∙ counter-at core c clocks.history own)) (record { is = refl; few = max-few core c clocks.within own; value = omega (arith, below) })
+  where
+    below : counts_of c clocks.history % suc (max_of core c) < suc (max_of core c)
+    below = mod-lt (counts_of c clocks.history) (omega arith)
+
+-- the counter of an own alarm
+pub counter-of : (core : Core) (s : ClockState) (a : AlarmRef) → AreClocks core s → is_own_object core (alarm_object a) ≡ true → IsCounter (max_for core a) (counter_for core a s)
+counter-of core s a clocks own = by (own_alarm core a) refl
+  where
+    by : (o : Option AlarmValue) → own_alarm core a ≡ o → IsCounter (option_map_or (λ (x : AlarmValue). max_of core x.counter) o 0) (option_map_or (λ (x : AlarmValue). counter_in x.counter s) o no_counter)
+    by None e = record { is = refl; few = omega arith; value = omega arith }
+    by (Some x) e = counter-within core s x.counter clocks (attached core a x clocks.within e)
+
+bounded-at : (max count : ℕ) (x : Option AlarmSetting) → IfSome (expiry_at max count x) (λ e. (e.value ≤ max) × (e.cycle ≤ max))
+bounded-at max count None = tt
+bounded-at max count (Some x) = by (is_in_turn max x) (will_be_due x) refl
+  where
+    below : (count + counts_left x) % suc max < suc max
+    below = mod-lt (count + counts_left x) (omega arith)
+
+    by : (turn due : Bool) → is_in_turn max x ≡ turn → IfSome {T = Expiry} (cond (turn && due) (Some (record { value = (count + counts_left x) % suc max; cycle = x.cycle })) None) (λ e. (e.value ≤ max) × (e.cycle ≤ max))
+    by false due e = tt
+    by true false e = tt
+    by true true e = (omega (arith, below), leb-true x.cycle max (and_parts _ (nat_le x.cycle max) e).1)
+
+-- an own alarm's expiry is within its counter's values
+pub alarm-within : (core : Core) (s : ClockState) (a : AlarmRef) → AreClocks core s → is_own_object core (alarm_object a) ≡ true → IsBounded (max_for core a) (alarm_in a s)
+alarm-within core s a clocks own =
+    subst (IsBounded (max_for core a)) (sym (ap (alarm_in a) clocks.is ∙ alarm-at core a clocks.history own)) (by (own_alarm core a))
+  where
+    by : (o : Option AlarmValue) → IsBounded (option_map_or (λ (x : AlarmValue). max_of core x.counter) o 0) (option_map_or (read core a clocks.history) o unset)
+    by None = tt
+    by (Some x) = bounded-at (max_of core x.counter) (counts_of x.counter clocks.history) (alarm_of x.counter a clocks.history)
+
+-- a counter whose value is one of its own stands for so many counts
+pub counter-stands : (counter : Counter) → counter.value ≤ counter.max → counter ≡ counter_at counter.max counter.value
+counter-stands counter value = ap (λ v. let k : Counter = record { max = counter.max; value = v } in k) (sym (mod-eq_of_lt (omega (arith, value))))
+
+-- what a count asks of the alarms that it takes further, and a look-up of how much is left
+pub passing-bounded : (core : Core) (s : ClockState) (c : CounterRef) (n : ℕ) → AreClocks core s → is_attached core c (alarm_ref core n) ≡ true → IsBounded (max_of core c) (get_or s.alarms n unset)
+passing-bounded core s c n clocks on = by (own_alarm core (alarm_ref core n)) refl on
+  where
+    by : (o : Option AlarmValue) → own_alarm core (alarm_ref core n) ≡ o → option_map_or (λ (x : AlarmValue). same_counter c x.counter) o false ≡ true → IsBounded (max_of core c) (get_or s.alarms n unset)
+    by None e f = absurd (false≢true f)
+    by (Some x) e f =
+        let found : slice_get core.alarms n ≡ Some x = sym (cond-true (same_core core.id core.id) (slice_get core.alarms n) None (same_core-refl core.id)) ∙ e in
+        let max : max_for core (alarm_ref core n) ≡ max_of core c = ap (λ (o : Option AlarmValue). option_map_or (λ (y : AlarmValue). max_of core y.counter) o 0) e ∙ ap (max_of core) (sym (same_counter-true c x.counter f)) in
+        subst (λ (m : ℕ). IsBounded m (get_or s.alarms n unset)) max (alarm-within core s (alarm_ref core n) clocks (alarm-own core n (slice_get_within core.alarms n x found)))
+
+pub value-within : (max : ℕ) (alarm : Alarm) → IsBounded max alarm → IfSome alarm.expiry (λ x. x.value ≤ max)
+value-within max alarm bounded = by alarm.expiry bounded
+  where
+    by : (o : Option Expiry) → IfSome o (λ x. (x.value ≤ max) × (x.cycle ≤ max)) → IfSome o (λ x. x.value ≤ max)
+    by None h = tt
+    by (Some x) h = h.0

@@ -1,0 +1,138 @@
+-- The counters and alarms of a core: what is read off its history, and what each entry does to it.
+use Rattle.std.specs.Prelude.{◌≡◌, ℕ, ◌&&◌, Bool, false, if◌then◌else◌, IsTrue, IfSome, ◌≤◌, is_some, Option, Some, None, List, length, map, option_map, slice_index_or}
+use Rattle.std.specs.List.{slice_set}
+use Rattle.std.specs.Option.{option_map_or}
+use Rattle.osbase.specs.declared.references.AlarmRef.{AlarmRef}
+use Rattle.osbase.specs.declared.references.CounterRef.{CounterRef}
+use Rattle.osbase.specs.History.{History, Entry, Noted, Counted, AlarmSet, AlarmCancelled}
+use Rattle.osbase.specs.Counting.{AlarmSetting, alarm_of, counts_of, is_due, is_in_use, left_of, one_count_more, same_counter, value_after}
+use Rattle.osbase.specs.Objects.{alarm_object, counter_object}
+use Rattle.osbase.specs.Sets.{numbers_from}
+use Rattle.osplan.specs.declared.plans.Alarm.{Alarm as AlarmValue}
+use Rattle.osplan.specs.declared.plans.Core.{Core}
+use Rattle.osplan.specs.declared.plans.Counter.{Counter as CounterValue}
+use Rattle.osplan.specs.Clocked.{are_clocks_within}
+use Rattle.osplan.specs.Objects.{is_own_object}
+use Rattle.osplan.specs.View.{own_alarm, own_counter}
+use Rattle.oscount.specs.declared.counters.Counter.{Counter}
+use Rattle.oscount.specs.declared.alarms.Alarm.{Alarm}
+use Rattle.oscount.specs.Clocks.{advanced, alarm_at, alarm_beyond, counter_at, counts_until, is_due_next, setting_of}
+
+-- The value of each counter, and when each alarm is due next, in index order.
+pub record ClockState : Type 0 where
+  pub counters : List Counter
+  pub alarms : List Alarm
+
+-- A counter and an alarm of the core by its index.
+abbrev pub counter_ref : Core → ℕ → CounterRef
+counter_ref core index = record { core = core.id; index = index }
+
+abbrev pub alarm_ref : Core → ℕ → AlarmRef
+alarm_ref core index = record { core = core.id; index = index }
+
+-- The greatest value of a counter, and of the counter of an alarm; 0 of what is not the core's own.
+abbrev pub max_of : Core → CounterRef → ℕ
+max_of core c = option_map_or (λ (x : CounterValue). x.max) (own_counter core c) 0
+
+abbrev pub max_for : Core → AlarmRef → ℕ
+max_for core a = option_map_or (λ (x : AlarmValue). max_of core x.counter) (own_alarm core a) 0
+
+-- An alarm that is not in use, and what is no counter.
+abbrev pub unset : Alarm
+unset = record { expiry = None }
+
+abbrev pub no_counter : Counter
+no_counter = record { max = 0; value = 0 }
+
+-- ---- what is read off a history
+
+abbrev pub counter_by : Core → CounterRef → History → Counter
+counter_by core c h = counter_at (max_of core c) (counts_of c h)
+
+-- An alarm goes by the counts of its counter.
+abbrev pub alarm_by : Core → AlarmRef → History → Alarm
+alarm_by core a h = option_map_or (λ (x : AlarmValue). alarm_at (max_of core x.counter) (counts_of x.counter h) (alarm_of x.counter a h)) (own_alarm core a) unset
+
+abbrev pub clocks_of : Core → History → ClockState
+clocks_of core h = record {
+  counters = map (λ (n : ℕ). counter_by core (counter_ref core n) h) (numbers_from 0 (length core.counters));
+  alarms = map (λ (n : ℕ). alarm_by core (alarm_ref core n) h) (numbers_from 0 (length core.alarms));
+}
+
+-- What is asked of one alarm: how it was set last, and with that whether it is in use, how many counts are left, and whether it is due at
+-- the next count. [OSEK/VDX OS 2.2.3, section 9.2 and 13.6.3.2]
+abbrev pub setting_by : Core → AlarmRef → History → Option AlarmSetting
+setting_by core a h = option_map_or (λ (x : AlarmValue). alarm_of x.counter a h) (own_alarm core a) None
+
+abbrev pub value_by : Core → CounterRef → History → ℕ
+value_by core c h = value_after (max_of core c) (counts_of c h)
+
+abbrev pub is_in_use_by : Core → AlarmRef → History → Bool
+is_in_use_by core a h = is_in_use (max_for core a) (setting_by core a h)
+
+abbrev pub left_by : Core → AlarmRef → History → Option ℕ
+left_by core a h = left_of (max_for core a) (setting_by core a h)
+
+abbrev pub is_due_by : Core → AlarmRef → History → Bool
+is_due_by core a h = is_due (max_for core a) (option_map one_count_more (setting_by core a h))
+
+-- ---- what an entry does to the state
+
+-- A counter and an alarm as the state has them, and the counter of an alarm.
+abbrev pub counter_in : CounterRef → ClockState → Counter
+counter_in c s = slice_index_or s.counters c.index no_counter
+
+abbrev pub alarm_in : AlarmRef → ClockState → Alarm
+alarm_in a s = slice_index_or s.alarms a.index unset
+
+abbrev pub counter_for : Core → AlarmRef → ClockState → Counter
+counter_for core a s = option_map_or (λ (x : AlarmValue). counter_in x.counter s) (own_alarm core a) no_counter
+
+-- The alarm is attached to this counter.
+abbrev pub is_attached : Core → CounterRef → AlarmRef → Bool
+is_attached core c a = option_map_or (λ (x : AlarmValue). same_counter c x.counter) (own_alarm core a) false
+
+-- A count of this counter takes each alarm of it beyond the counter's value, and no other alarm. [OSEK/VDX OS 2.2.3, section 9.2]
+abbrev pub passed : Core → CounterRef → Counter → ℕ → Alarm → Alarm
+passed core c counter index alarm = if is_attached core c (alarm_ref core index) then alarm_beyond counter alarm else alarm
+
+abbrev pub all_passed : Core → CounterRef → Counter → List Alarm → List Alarm
+all_passed core c counter alarms = map (λ (n : ℕ). passed core c counter n (slice_index_or alarms n unset)) (numbers_from 0 (length core.alarms))
+
+abbrev pub counted : Core → CounterRef → ClockState → ClockState
+counted core c s = record { counters = slice_set s.counters c.index (advanced (counter_in c s)); alarms = all_passed core c (counter_in c s) s.alarms }
+
+-- An alarm is due after so many counts from its counter's value. [OSEK/VDX OS 2.2.3, section 13.6.3.3]
+abbrev pub due_after : Counter → ℕ → ℕ → Alarm
+due_after counter first cycle = alarm_at counter.max counter.value (Some (setting_of first cycle))
+
+abbrev pub with_alarm : AlarmRef → Alarm → ClockState → ClockState
+with_alarm a alarm s = record s { alarms = slice_set s.alarms a.index alarm }
+
+-- What is not the core's own changes nothing.
+abbrev pub clocks_by : Core → Entry → ClockState → ClockState
+clocks_by core (Noted (Counted c)) s = if is_own_object core (counter_object c) then counted core c s else s
+clocks_by core (Noted (AlarmSet a first cycle)) s = if is_own_object core (alarm_object a) then with_alarm a (due_after (counter_for core a s) first cycle) s else s
+clocks_by core (Noted (AlarmCancelled a)) s = if is_own_object core (alarm_object a) then with_alarm a unset s else s
+clocks_by core e s = s
+
+-- ---- what is asked of the state
+
+abbrev pub is_used : Alarm → Bool
+is_used alarm = is_some alarm.expiry
+
+abbrev pub left_in : Core → AlarmRef → ClockState → Option ℕ
+left_in core a s = option_map (counts_until (counter_for core a s)) (alarm_in a s).expiry
+
+abbrev pub is_due_in : Core → AlarmRef → ClockState → Bool
+is_due_in core a s = is_due_next (counter_for core a s) (alarm_in a s)
+
+-- The value at which an alarm is due is one of its counter's, and so is its cycle.
+abbrev pub IsBounded : ℕ → Alarm → Type 0
+IsBounded max alarm = IfSome alarm.expiry (λ x. (x.value ≤ max) × (x.cycle ≤ max))
+
+-- The clocks of a core within its limits, for what was counted: so each value is at most its counter's greatest. [own]
+pub record AreClocks (core : Core) (s : ClockState) : Type 0 where
+  pub within : IsTrue (are_clocks_within core)
+  pub history : History
+  pub is : s ≡ clocks_of core history

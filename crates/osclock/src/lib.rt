@@ -1,0 +1,8 @@
+//! The counters and alarms of a core.
+//!
+//! Nothing here takes memory.
+#![tactic(auto)]
+
+pub mod clocks;
+
+pub use clocks::Clocks;
