@@ -1,12 +1,14 @@
 -- One fact for each service: what it does to one history it does to every history that reads the same to it.
-use Rattle.std.proofs.Common.{◌≡◌, ◌==◌, ◌&&◌, ◌||◌, ℕ, nat_le, Bool, true, false, not, cond, Option, Some, None, is_none, option_map, List, [], ◌∷◌, refl, ap, subst, ◌∙◌, ℤ, pos}
+use Rattle.std.proofs.Common.{◌≡◌, ◌==◌, ◌&&◌, ◌||◌, ℕ, nat_le, Bool, true, false, not, cond, Option, Some, None, is_none, option_map, List, [], ◌∷◌, refl, ap, sym, subst, ◌∙◌, ℤ, pos}
 use Rattle.std.specs.List.{list_all}
 use Rattle.std.specs.Option.{option_map_or}
 use Rattle.osres.specs.Resources.{is_occupied}
 use Rattle.std.proofs.lemmas.Bool.{and_parts}
+use Rattle.std.proofs.lemmas.List.Elements.{filter_agree}
 use Rattle.osbase.specs.declared.statuses.Status.{Status}
 use Rattle.osbase.specs.declared.statuses.ServiceId.{ServiceId}
 use Rattle.osbase.specs.declared.references.CoreId.{CoreId}
+use Rattle.osbase.specs.declared.references.AlarmRef.{AlarmRef}
 use Rattle.osbase.specs.declared.references.CounterRef.{CounterRef}
 use Rattle.osbase.specs.declared.references.ResourceRef.{ResourceRef}
 use Rattle.osbase.specs.declared.references.TaskRef.{TaskRef}
@@ -20,15 +22,18 @@ use Rattle.osbase.specs.declared.marks.Mark.{Mark}
 use Rattle.osbase.specs.declared.histories.OpenCall.{OpenCall}
 use Rattle.osbase.specs.declared.histories.HeldResource.{HeldResource}
 use Rattle.osbase.specs.declared.histories.TaskEvents.{TaskEvents}
-use Rattle.osbase.specs.Counting.{counts_of, value_after}
-use Rattle.osbase.specs.History.{Entry, History, Took, Printed, Noted, Counted, Opened, Queued, Taken, Given, Done, awaits_one_of, have_common, job_count, live_jobs, same_runner}
+use Rattle.osbase.specs.Counting.{AlarmSetting, alarm_of, counts_of, counts_to, is_due, is_in_use, left_of, one_count_more, value_after}
+use Rattle.osbase.specs.History.{Entry, History, Took, Printed, Noted, AlarmCancelled, AlarmSet, Counted, Opened, Queued, Taken, Given, Done, awaits_one_of, have_common, job_count, live_jobs, same_runner}
 use Rattle.osbase.specs.Marks.{core_of_runner, names_only}
 use Rattle.osbase.specs.Words.{status_number}
 use Rattle.oscript.specs.declared.Frame.{Frame}
 use Rattle.oscript.specs.declared.Op.{Op}
 use Rattle.oscript.specs.Frames.{value_of}
 use Rattle.oscript.specs.Rows.{objects_of}
-use Rattle.osplan.specs.View.{View}
+use Rattle.osplan.specs.declared.plans.Alarm.{Alarm}
+use Rattle.osplan.specs.declared.plans.Counter.{Counter}
+use Rattle.osplan.specs.Objects.{action_object, call_of_action}
+use Rattle.osplan.specs.View.{View, own_alarm}
 use Rattle.osjobs.specs.Priorities.{events_in, held_in, holds_any, is_newest}
 use Rattle.osstate.specs.Queries.{is_at_limit, is_suspended}
 use Rattle.osstate.specs.Readings.{events_at, frame_at, held_resources, is_own, knows_started, resource_of, task_events}
@@ -38,14 +43,18 @@ use Rattle.oscall.specs.Border.{answer_to, border_checks, calls, core_of_call, c
 use Rattle.oscall.specs.Chaining.{chaining_checks, chains_here, chains_to, ends_caller, exceeds_limit, resumes}
 use Rattle.oscall.specs.Callers.{by_task, holding_none}
 use Rattle.oscall.specs.Checks.{Check, first_failing, is_ok_status}
-use Rattle.osclock.specs.Clocks.{max_of, value_by}
-use Rattle.oscall.specs.Counters.{counts, counts_and_returns, incrementing_checks, own_clock, tells_value}
+use Rattle.osclock.specs.Clocks.{attached_to, counts_to_by, due_by, is_in_use_by, max_for, max_of, setting_by, value_by}
+use Rattle.oscall.specs.Counters.{counts_and_returns, incrementing_checks, own_clock, tells_value}
 use Rattle.oscall.specs.Events.{begins_to_wait, by_extended, clearing_checks, clears, clears_and_returns, goes_on_or_waits, own_target, reading_checks, releases, sets_events, tells_events, waiting_checks}
-use Rattle.oscall.specs.Operations.{operates}
+use Rattle.oscall.specs.Alarms.{is_increment, is_setting, is_start, sets_alarm}
+use Rattle.oscall.specs.Expiring.{acts, acts_here, counts, expire_each, expires, posts}
+use Rattle.oscall.specs.Operations.{absolute_call, inquiry_call, operates, relative_call}
 use Rattle.oscall.specs.Returning.{answers, asks, queues, reports, returns}
 use Rattle.oscall.specs.Variables.{sets, sum_of}
 use Rattle.oscall.specs.Tasks.{activates, ends, ends_unasked}
 use Rattle.oscall.specs.Resources.{gives, is_below, takes}
+use Rattle.osplan.proofs.Tests.{passes-at}
+use Rattle.oscall.proofs.Owned.{own-alarm}
 
 -- Which cores one asks, or answers: every one, and none.
 abbrev pub anybody : CoreId → Bool
@@ -57,6 +66,10 @@ nobody core = false
 -- The core of each object that an operation names is the own core, or one that may be asked.
 abbrev pub IsAllowed : View → (CoreId → Bool) → Op → Type 0
 IsAllowed v may op = list_all (λ (object : Object). is_own v object.place.core || may object.place.core) (objects_of op) ≡ true
+
+-- The core of what each alarm acts on is the own core, or one that may be asked.
+abbrev pub AlarmsAllow : View → (CoreId → Bool) → Type 0
+AlarmsAllow v may = list_all (λ (x : Alarm). is_own v (action_object x.action).place.core || may (action_object x.action).place.core) v.own.alarms ≡ true
 
 -- What a core sees that differs only in who is the master and which cores there are.
 abbrev pub seen_as : View → Bool → List CoreId → View
@@ -70,6 +83,7 @@ pub record ServesSame (v : View) (may : CoreId → Bool) (h k : History) : Type 
   pub held : held_resources v h ≡ held_resources v k
   pub events : task_events v h ≡ task_events v k
   pub counts : (c : CounterRef) → counts_of c h ≡ counts_of c k
+  pub settings : (c : CounterRef) (a : AlarmRef) → alarm_of c a h ≡ alarm_of c a k
 
 -- A note of the core itself, or a mark that names only objects of cores that pass: neither an item nor what goes to
 -- another core.
@@ -150,8 +164,8 @@ module _ (v : View) (master : Bool) (ids : List CoreId) (may answered names : Co
   -- ---- one fact for each call that is served
 
   -- What a service without a value answers, which has its effect where no check fails.
-  abbrev plain_answer : List Check → Option Answer
-  plain_answer checks = Some (record { status = first_failing checks; value = cond (is_ok_status (first_failing checks)) None None })
+  abbrev plain_answer : List Check → Answer
+  plain_answer checks = record { status = first_failing checks; value = cond (is_ok_status (first_failing checks)) None None }
 
   abbrev if_granted : List Check → History → History → History
   if_granted checks h' h = cond (is_ok_status (first_failing checks)) h' h
@@ -167,15 +181,46 @@ module _ (v : View) (master : Bool) (ids : List CoreId) (may answered names : Co
   abbrev state_checks : TaskRef → Bool → List Check
   state_checks t suspended = by_extended v (Runner.Task t) ∷ (suspended, Status.EOsState) ∷ []
 
+  abbrev set_checks : (Counter → Bool) → ℕ → AlarmRef → Bool → List Check
+  set_checks admits cycle a in_use = (in_use, Status.EOsState) ∷ (not (is_setting admits cycle v.own a), Status.EOsValue) ∷ []
+
+  abbrev unused_checks : Bool → List Check
+  unused_checks in_use = (not in_use, Status.EOsNofunc) ∷ []
+
+  setting-same : (a : AlarmRef) (h k : History) → R h k → setting_by v.own a h ≡ setting_by v.own a k
+  setting-same a h k p = by (own_alarm v.own a)
+    where
+      by : (o : Option Alarm) → option_map_or (λ (x : Alarm). alarm_of x.counter a h) o None ≡ option_map_or (λ (x : Alarm). alarm_of x.counter a k) o None
+      by None = refl
+      by (Some x) = (kept.reads h k p).settings x.counter a
+
+  in_use-same : (a : AlarmRef) (h k : History) → R h k → is_in_use_by v.own a h ≡ is_in_use_by v.own a k
+  in_use-same a h k p = ap (is_in_use (max_for v.own a)) (setting-same a h k p)
+
   answer-same : (call : RemoteCall) (h k : History) → R h k → answer_to call v h ≡ answer_to call other k
   answer-same (Remote.ActivateTask t) h k p = ap (λ (b : Bool). plain_answer (limit_checks b)) (limit-same t h k p)
   answer-same (Remote.SetEvent t mask) h k p = ap (λ (b : Bool). plain_answer (state_checks t b)) (suspended-same t h k p)
-  answer-same call h k p = refl
+  answer-same (Remote.SetRelAlarm a increment cycle) h k p = ap (λ (b : Bool). plain_answer (set_checks (is_increment increment) cycle a b)) (in_use-same a h k p)
+  answer-same (Remote.SetAbsAlarm a start cycle) h k p = ap (λ (b : Bool). plain_answer (set_checks (is_start start) cycle a b)) (in_use-same a h k p)
+  answer-same (Remote.CancelAlarm a) h k p = ap (λ (b : Bool). plain_answer (unused_checks b)) (in_use-same a h k p)
+  answer-same (Remote.GetAlarm a x) h k p = ap left_answer (setting-same a h k p)
+    where
+      left_answer : Option AlarmSetting → Answer
+      left_answer setting =
+          let status = first_failing (unused_checks (is_in_use (max_for v.own a) setting)) in
+          record { status = status; value = cond (is_ok_status status) (option_map pos (left_of (max_for v.own a) setting)) None }
 
   releases-carried : (t : TaskRef) (mask : ℕ) (h k : History) → names t.core ≡ true → R h k → R (releases t mask v h) (releases t mask other k)
   releases-carried t mask h k n p =
       subst (λ (all : List TaskEvents). R (releases t mask v h) (cond (awaits_one_of mask (events_in (Runner.Task t) all)) (Printed (Mark.Released t) ∷ k) k)) (kept.reads h k p).events
       (either-carried (awaits_one_of mask (events_at v (Runner.Task t) h)) (Printed (Mark.Released t) ∷ h) h (Printed (Mark.Released t) ∷ k) k (printed-carried _ h k n p) p)
+
+  start-same : (a : AlarmRef) (start : ℕ) (h k : History) → R h k → counts_to_by v.own a start h ≡ counts_to_by v.own a start k
+  start-same a start h k p = by (own_alarm v.own a)
+    where
+      by : (o : Option Alarm) → option_map_or (λ (x : Alarm). counts_to (max_of v.own x.counter) (value_by v.own x.counter h) start) o 0 ≡ option_map_or (λ (x : Alarm). counts_to (max_of v.own x.counter) (value_by v.own x.counter k) start) o 0
+      by None = refl
+      by (Some x) = ap (λ (count : ℕ). counts_to (max_of v.own x.counter) (value_after (max_of v.own x.counter) count) start) ((kept.reads h k p).counts x.counter)
 
   effect-carried : (call : RemoteCall) (h k : History) → names (core_of_call call) ≡ true → R h k → R (effect_of call v h) (effect_of call other k)
   effect-carried (Remote.ActivateTask t) h k n p =
@@ -183,19 +228,29 @@ module _ (v : View) (master : Bool) (ids : List CoreId) (may answered names : Co
   effect-carried (Remote.SetEvent t mask) h k n p =
       granted-carried (state_checks t) (is_suspended v t h) (is_suspended v t k) (suspended-same t h k p) (sets_events t mask v h) h (sets_events t mask other k) k
       (releases-carried t mask _ _ n (printed-carried (Mark.EventSet t mask) h k n p)) p
-  effect-carried call h k n p = p
+  effect-carried (Remote.SetRelAlarm a increment cycle) h k n p =
+      granted-carried (set_checks (is_increment increment) cycle a) (is_in_use_by v.own a h) (is_in_use_by v.own a k) (in_use-same a h k p) (sets_alarm a increment cycle h) h (sets_alarm a increment cycle k) k
+      (kept.local (Noted (AlarmSet a increment cycle)) h k refl p) p
+  effect-carried (Remote.SetAbsAlarm a start cycle) h k n p =
+      granted-carried (set_checks (is_start start) cycle a) (is_in_use_by v.own a h) (is_in_use_by v.own a k) (in_use-same a h k p) (sets_alarm a (counts_to_by v.own a start h) cycle h) h (sets_alarm a (counts_to_by v.own a start k) cycle k) k
+      (subst (λ (first : ℕ). R (sets_alarm a (counts_to_by v.own a start h) cycle h) (sets_alarm a first cycle k)) (start-same a start h k p)
+      (kept.local (Noted (AlarmSet a (counts_to_by v.own a start h) cycle)) h k refl p)) p
+  effect-carried (Remote.CancelAlarm a) h k n p =
+      granted-carried unused_checks (is_in_use_by v.own a h) (is_in_use_by v.own a k) (in_use-same a h k p) (Noted (AlarmCancelled a) ∷ h) h (Noted (AlarmCancelled a) ∷ k) k
+      (kept.local (Noted (AlarmCancelled a)) h k refl p) p
+  effect-carried (Remote.GetAlarm a x) h k n p =
+      granted-carried unused_checks (is_in_use_by v.own a h) (is_in_use_by v.own a k) (in_use-same a h k p) h h k k p p
 
   -- ---- calls across cores
 
   -- A function of the answer and of the history with the effect, which carries the relation for each answer.
-  answered-carried : (f f' : Option Answer → History → History) → ((answer : Option Answer) (h k : History) → R h k → R (f answer h) (f' answer k)) → (call : RemoteCall) (h k : History) → names (core_of_call call) ≡ true → R h k → R (f (answer_to call v h) (effect_of call v h)) (f' (answer_to call other k) (effect_of call other k))
+  answered-carried : (f f' : Answer → History → History) → ((answer : Answer) (h k : History) → R h k → R (f answer h) (f' answer k)) → (call : RemoteCall) (h k : History) → names (core_of_call call) ≡ true → R h k → R (f (answer_to call v h) (effect_of call v h)) (f' (answer_to call other k) (effect_of call other k))
   answered-carried f f' carries call h k n p =
-      subst (λ (answer : Option Answer). R (f (answer_to call v h) (effect_of call v h)) (f' answer (effect_of call other k))) (answer-same call h k p)
+      subst (λ (answer : Answer). R (f (answer_to call v h) (effect_of call v h)) (f' answer (effect_of call other k))) (answer-same call h k p)
       (carries (answer_to call v h) _ _ (effect-carried call h k n p))
 
-  returns_with-carried : (r : Runner) (service : ServiceId) (answer : Option Answer) → IsNamed r → (h k : History) → R h k → R (returns_with r service answer h) (returns_with r service answer k)
-  returns_with-carried r service None n h k p = p
-  returns_with-carried r service (Some answer) n h k p = returns-carried r service answer.status answer.value h k n p
+  returns_with-carried : (r : Runner) (service : ServiceId) (answer : Answer) → IsNamed r → (h k : History) → R h k → R (returns_with r service answer h) (returns_with r service answer k)
+  returns_with-carried r service answer n h k p = returns-carried r service answer.status answer.value h k n p
 
   crosses-carried : (r : Runner) (service : ServiceId) (call : RemoteCall) (h k : History) → IsNamed r → (is_own v (core_of_call call) || may (core_of_call call)) ≡ true → R h k → R (crosses v r service (Some call) h) (crosses other r service (Some call) k)
   crosses-carried r service call h k n allowed p = by (is_own v (core_of_call call)) allowed
@@ -219,16 +274,14 @@ module _ (v : View) (master : Bool) (ids : List CoreId) (may answered names : Co
       answers-carried r service (border_checks (Some call) h) (border_checks (Some call) k) (ap (λ (b : Bool). first_failing ((false, Status.EOsId) ∷ (not b, Status.EOsCore) ∷ [])) ((kept.reads h k p).started (core_of_call call) allowed))
       (crosses v r service (Some call)) (crosses other r service (Some call)) h k n p (crosses-carried r service call h k n allowed p)
 
-  replies-carried : (from : CoreId) (call : RemoteCall) → names (core_of_call call) ≡ true → answered from ≡ true → (answer : Option Answer) (h k : History) → R h k → R (replies from call answer h) (replies from call answer k)
-  replies-carried from call n may_answer None h k p = p
-  replies-carried from call n may_answer (Some answer) h k p = kept.replied from answer.status answer.value _ _ may_answer (printed-carried _ h k n p)
+  replies-carried : (from : CoreId) (call : RemoteCall) → names (core_of_call call) ≡ true → answered from ≡ true → (answer : Answer) (h k : History) → R h k → R (replies from call answer h) (replies from call answer k)
+  replies-carried from call n may_answer answer h k p = kept.replied from answer.status answer.value _ _ may_answer (printed-carried _ h k n p)
 
   pub request-carried : (from : CoreId) (call : RemoteCall) (h k : History) → names (core_of_call call) ≡ true → answered from ≡ true → R h k → R (serves_request v from call h) (serves_request other from call k)
   request-carried from call h k n may_answer p = answered-carried (replies from call) (replies from call) (replies-carried from call n may_answer) call h k n p
 
-  reports_served-carried : (from : CoreId) (call : RemoteCall) → names (core_of_call call) ≡ true → (answer : Option Answer) (h k : History) → R h k → R (reports_served from call answer h) (reports_served from call answer k)
-  reports_served-carried from call n None h k p = p
-  reports_served-carried from call n (Some answer) h k p = reports-carried answer.status _ _ (printed-carried _ h k n p)
+  reports_served-carried : (from : CoreId) (call : RemoteCall) → names (core_of_call call) ≡ true → (answer : Answer) (h k : History) → R h k → R (reports_served from call answer h) (reports_served from call answer k)
+  reports_served-carried from call n answer h k p = reports-carried answer.status _ _ (printed-carried _ h k n p)
 
   pub action-carried : (from : CoreId) (call : RemoteCall) (h k : History) → names (core_of_call call) ≡ true → R h k → R (serves_action v from call h) (serves_action other from call k)
   action-carried from call h k n p = answered-carried (reports_served from call) (reports_served from call) (reports_served-carried from call n) call h k n p
@@ -357,15 +410,65 @@ module _ (v : View) (master : Bool) (ids : List CoreId) (may answered names : Co
       (ap (λ (held : List (List HeldResource)). first_failing (by_task r ∷ by_extended v r ∷ (holds_any (held_in r held), Status.EOsResource) ∷ [])) (kept.reads h k p).held)
       (goes_on_or_waits v r mask) (goes_on_or_waits other r mask) h k n p (goes_on_or_waits-carried r mask h k n p)
 
-  counts-carried : (target : Option CounterRef) (h k : History) → R h k → R (counts target h) (counts target k)
-  counts-carried None h k p = p
-  counts-carried (Some c) h k p = kept.local (Noted (Counted c)) h k refl p
+  -- ---- what is due at a count
 
-  increment-carried : (target : Option CounterRef) → Carried (Op.IncrementCounter target)
-  increment-carried target r h k n allowed p =
-      answers-carried r ServiceId.IncrementCounter (incrementing_checks v target) (incrementing_checks v target) refl
-      (counts_and_returns r target) (counts_and_returns r target) h k n p
-      (returns-carried r ServiceId.IncrementCounter Status.EOk None _ _ n (counts-carried target h k p))
+  here-carried : (call : RemoteCall) (h k : History) → names (core_of_call call) ≡ true → R h k → R (acts_here call v h) (acts_here call other k)
+  here-carried call h k n p = answered-carried (λ answer. reports answer.status) (λ answer. reports answer.status) (λ answer. reports-carried answer.status) call h k n p
+
+  posts-carried : (call : RemoteCall) (h k : History) → names (core_of_call call) ≡ true → may (core_of_call call) ≡ true → R h k → R (posts call h) (posts call k)
+  posts-carried call h k n m p = kept.asked (core_of_call call) (Message.Action call) _ _ m (printed-carried (Mark.CallQueued (core_of_call call) call) h k n p)
+
+  acts-carried : (call : RemoteCall) (h k : History) → (is_own v (core_of_call call) || may (core_of_call call)) ≡ true → R h k → R (acts v call h) (acts other call k)
+  acts-carried call h k allowed p = by (is_own v (core_of_call call)) allowed
+    where
+      core : CoreId
+      core = core_of_call call
+
+      object : names core ≡ true
+      object = kept.named core allowed
+
+      refused : History → History
+      refused n = Printed (Mark.ErrorHook Status.EOsCore) ∷ n
+
+      by : (b : Bool) → (b || may core) ≡ true
+          → R (cond b (acts_here call v h) (cond (knows_started h core) (posts call h) (refused h))) (cond b (acts_here call other k) (cond (knows_started k core) (posts call k) (refused k)))
+      by true m = here-carried call h k object p
+      by false m =
+          subst (λ (b : Bool). R (cond (knows_started h core) (posts call h) (refused h)) (cond b (posts call k) (refused k))) ((kept.reads h k p).started core allowed)
+          (either-carried (knows_started h core) (posts call h) (refused h) (posts call k) (refused k) (posts-carried call h k object m p) (printed-carried (Mark.ErrorHook Status.EOsCore) h k refl p))
+
+  -- Where what the core's alarms act on is allowed, and marks may name what is its own.
+  module _ (alarms : AlarmsAllow v may) (own_named : names v.own.id ≡ true) where
+    expires-carried : (a : AlarmRef) (h k : History) → R h k → R (expires v a h) (expires other a k)
+    expires-carried a h k p = by (own_alarm v.own a) refl
+      where
+        by : (o : Option Alarm) → own_alarm v.own a ≡ o
+            → R (option_map_or (λ (x : Alarm). acts v (call_of_action x.action) (Printed (Mark.AlarmExpired a) ∷ h)) o h) (option_map_or (λ (x : Alarm). acts other (call_of_action x.action) (Printed (Mark.AlarmExpired a) ∷ k)) o k)
+        by None is = p
+        by (Some x) is =
+            let own = own-alarm v.own a x is in
+            acts-carried (call_of_action x.action) _ _ (passes-at _ v.own.alarms a.index x alarms own.1) (printed-carried (Mark.AlarmExpired a) h k (subst (λ (core : CoreId). names core ≡ true) (sym own.0) own_named) p)
+
+    expire_each-carried : (due : List AlarmRef) (h k : History) → R h k → R (expire_each v due h) (expire_each other due k)
+    expire_each-carried [] h k p = p
+    expire_each-carried (a ∷ due) h k p = expire_each-carried due _ _ (expires-carried a h k p)
+
+    due-same : (c : CounterRef) (h k : History) → R h k → due_by v.own c h ≡ due_by v.own c k
+    due-same c h k p = filter_agree _ _ (λ a. ap (λ (s : Option AlarmSetting). is_due (max_for v.own a) (option_map one_count_more s)) (setting-same a h k p)) (attached_to v.own c)
+
+    pub counts-carried : (c : CounterRef) (h k : History) → R h k → R (counts v c h) (counts other c k)
+    counts-carried c h k p =
+        subst (λ (due : List AlarmRef). R (counts v c h) (expire_each other due (Noted (Counted c) ∷ k))) (due-same c h k p)
+        (expire_each-carried (due_by v.own c h) _ _ (kept.local (Noted (Counted c)) h k refl p))
+
+    counts_and_returns-carried : (r : Runner) (target : Option CounterRef) (h k : History) → IsNamed r → R h k → R (counts_and_returns v r target h) (counts_and_returns other r target k)
+    counts_and_returns-carried r None h k n p = p
+    counts_and_returns-carried r (Some c) h k n p = returns-carried r ServiceId.IncrementCounter Status.EOk None _ _ n (counts-carried c h k p)
+
+    increment-carried : (target : Option CounterRef) → Carried (Op.IncrementCounter target)
+    increment-carried target r h k n allowed p =
+        answers-carried r ServiceId.IncrementCounter (incrementing_checks v target) (incrementing_checks v target) refl
+        (counts_and_returns v r target) (counts_and_returns other r target) h k n p (counts_and_returns-carried r target h k n p)
 
   -- GetCounterValue of a counter of the core, or of none.
   value-carried : (target : Option CounterRef) (r : Runner) (h k : History) → IsNamed r → R h k
@@ -375,23 +478,37 @@ module _ (v : View) (master : Bool) (ids : List CoreId) (may answered names : Co
       subst (λ (count : ℕ). R (tells_value v r (Some c) h) (returns r ServiceId.GetCounterValue Status.EOk (Some (pos (value_after (max_of v.own c) count))) k)) ((kept.reads h k p).counts c)
       (returns-carried r ServiceId.GetCounterValue Status.EOk (Some (pos (value_by v.own c h))) h k n p)
 
-  pub operates-carried : (op : Op) → Carried op
-  operates-carried Op.Work r h k n allowed p = done-carried r h k p
-  operates-carried (Op.Set x z) r h k n allowed p = sets-carried (λ frame. z) x r h k n p
-  operates-carried (Op.Add x z) r h k n allowed p = sets-carried (λ frame. sum_of (value_of x frame) z) x r h k n p
-  operates-carried (Op.AddVariable x y) r h k n allowed p = sets-carried (λ frame. sum_of (value_of x frame) (value_of y frame)) x r h k n p
-  operates-carried (Op.StoreStatus x) r h k n allowed p = sets-carried (λ frame. pos (status_number frame.status)) x r h k n p
-  operates-carried (Op.Jump place) r h k n allowed p = done-carried r h k p
-  operates-carried (Op.JumpIfZero x place) r h k n allowed p = done-carried r h k p
-  operates-carried (Op.ActivateTask target) r h k n allowed p = activate-carried target r h k n allowed p
-  operates-carried Op.TerminateTask r h k n allowed p = terminate-carried r h k n allowed p
-  operates-carried (Op.ChainTask target) r h k n allowed p = chain-carried target r h k n allowed p
-  operates-carried Op.Schedule r h k n allowed p = schedule-carried r h k n allowed p
-  operates-carried (Op.GetResource target) r h k n allowed p = get-carried target r h k n allowed p
-  operates-carried (Op.ReleaseResource target) r h k n allowed p = release-carried target r h k n allowed p
-  operates-carried (Op.SetEvent target mask) r h k n allowed p = set_event-carried target mask r h k n allowed p
-  operates-carried (Op.ClearEvent mask) r h k n allowed p = clear_event-carried mask r h k n allowed p
-  operates-carried (Op.GetEvent target x) r h k n allowed p = reads_event-carried (own_target v.own target) r h k n p
-  operates-carried (Op.WaitEvent mask) r h k n allowed p = wait_event-carried mask r h k n allowed p
-  operates-carried (Op.IncrementCounter target) r h k n allowed p = increment-carried target r h k n allowed p
-  operates-carried (Op.GetCounterValue target x) r h k n allowed p = value-carried (own_clock v.own target) r h k n p
+  -- A call of an alarm's service.
+  may_call : (call_for : AlarmRef → RemoteCall) (op_for : Option AlarmRef → Op) → ((a : AlarmRef) → IsAllowed v may (op_for (Some a)) → MayCall (Some (call_for a))) → (target : Option AlarmRef) → IsAllowed v may (op_for target) → MayCall (option_map call_for target)
+  may_call call_for op_for some None allowed = tt
+  may_call call_for op_for some (Some a) allowed = some a allowed
+
+  module _ (alarms : AlarmsAllow v may) (own_named : names v.own.id ≡ true) where
+    pub operates-carried : (op : Op) → Carried op
+    operates-carried Op.Work r h k n allowed p = done-carried r h k p
+    operates-carried (Op.Set x z) r h k n allowed p = sets-carried (λ frame. z) x r h k n p
+    operates-carried (Op.Add x z) r h k n allowed p = sets-carried (λ frame. sum_of (value_of x frame) z) x r h k n p
+    operates-carried (Op.AddVariable x y) r h k n allowed p = sets-carried (λ frame. sum_of (value_of x frame) (value_of y frame)) x r h k n p
+    operates-carried (Op.StoreStatus x) r h k n allowed p = sets-carried (λ frame. pos (status_number frame.status)) x r h k n p
+    operates-carried (Op.Jump place) r h k n allowed p = done-carried r h k p
+    operates-carried (Op.JumpIfZero x place) r h k n allowed p = done-carried r h k p
+    operates-carried (Op.ActivateTask target) r h k n allowed p = activate-carried target r h k n allowed p
+    operates-carried Op.TerminateTask r h k n allowed p = terminate-carried r h k n allowed p
+    operates-carried (Op.ChainTask target) r h k n allowed p = chain-carried target r h k n allowed p
+    operates-carried Op.Schedule r h k n allowed p = schedule-carried r h k n allowed p
+    operates-carried (Op.GetResource target) r h k n allowed p = get-carried target r h k n allowed p
+    operates-carried (Op.ReleaseResource target) r h k n allowed p = release-carried target r h k n allowed p
+    operates-carried (Op.SetEvent target mask) r h k n allowed p = set_event-carried target mask r h k n allowed p
+    operates-carried (Op.ClearEvent mask) r h k n allowed p = clear_event-carried mask r h k n allowed p
+    operates-carried (Op.GetEvent target x) r h k n allowed p = reads_event-carried (own_target v.own target) r h k n p
+    operates-carried (Op.WaitEvent mask) r h k n allowed p = wait_event-carried mask r h k n allowed p
+    operates-carried (Op.IncrementCounter target) r h k n allowed p = increment-carried alarms own_named target r h k n allowed p
+    operates-carried (Op.GetCounterValue target x) r h k n allowed p = value-carried (own_clock v.own target) r h k n p
+    operates-carried (Op.SetRelAlarm target increment cycle) r h k n allowed p =
+        calls-carried r ServiceId.SetRelAlarm (relative_call target increment cycle) h k n (may_call (λ a. Remote.SetRelAlarm a increment cycle) (λ o. Op.SetRelAlarm o increment cycle) (λ a m. (and_parts _ true m).0) target allowed) p
+    operates-carried (Op.SetAbsAlarm target start cycle) r h k n allowed p =
+        calls-carried r ServiceId.SetAbsAlarm (absolute_call target start cycle) h k n (may_call (λ a. Remote.SetAbsAlarm a start cycle) (λ o. Op.SetAbsAlarm o start cycle) (λ a m. (and_parts _ true m).0) target allowed) p
+    operates-carried (Op.CancelAlarm target) r h k n allowed p =
+        calls-carried r ServiceId.CancelAlarm (option_map Remote.CancelAlarm target) h k n (may_call Remote.CancelAlarm Op.CancelAlarm (λ a m. (and_parts _ true m).0) target allowed) p
+    operates-carried (Op.GetAlarm target x) r h k n allowed p =
+        calls-carried r ServiceId.GetAlarm (inquiry_call target x) h k n (may_call (λ a. Remote.GetAlarm a x) (λ o. Op.GetAlarm o x) (λ a m. (and_parts _ true m).0) target allowed) p

@@ -2,7 +2,7 @@
 --
 -- Such a service has two halves. The caller's core makes the checks up to whether the object's core was started; the
 -- object's core makes the others and has the effect, for a job of its own and for another core alike.
-use Rattle.std.specs.Prelude.{◌&&◌, false, not, Bool, if◌then◌else◌, Option, Some, None, is_none, is_some, option_map, List, [], ◌∷◌}
+use Rattle.std.specs.Prelude.{true, false, not, Bool, if◌then◌else◌, Option, Some, None, is_none, List, [], ◌∷◌}
 use Rattle.std.specs.Option.{option_map_or}
 use Rattle.osbase.specs.declared.statuses.Status.TheVariants.{EOsId, EOsCore}
 use Rattle.osbase.specs.declared.statuses.ServiceId.{ServiceId}
@@ -24,38 +24,41 @@ use Rattle.oscall.specs.Returning.{answers, asks, prints, queues, reports, retur
 use Rattle.oscall.specs.Service.{Service, answer_by, effect_by}
 use Rattle.oscall.specs.Tasks.{activation}
 use Rattle.oscall.specs.Events.{setting}
+use Rattle.oscall.specs.Alarms.{absolute_setting, cancellation, inquiry, relative_setting}
 
--- The table: a row for each call. None is served by nobody yet. [own]
-abbrev pub service_of : RemoteCall → Option Service
-service_of (ActivateTask t) = Some (activation t)
-service_of (SetEvent t mask) = Some (setting t mask)
-service_of (SetRelAlarm a increment cycle) = None
-service_of (SetAbsAlarm a start cycle) = None
-service_of (CancelAlarm a) = None
-service_of (GetAlarm a x) = None
+-- The table: a row for each call. [own]
+abbrev pub service_of : RemoteCall → Service
+service_of (ActivateTask t) = activation t
+service_of (SetEvent t mask) = setting t mask
+service_of (SetRelAlarm a increment cycle) = relative_setting a increment cycle
+service_of (SetAbsAlarm a start cycle) = absolute_setting a start cycle
+service_of (CancelAlarm a) = cancellation a
+service_of (GetAlarm a x) = inquiry a
+
+-- The calls that an alarm makes when it is due. [AUTOSAR SWS OS 4.x, OsAlarmAction]
+abbrev pub is_action : RemoteCall → Bool
+is_action (ActivateTask t) = true
+is_action (SetEvent t mask) = true
+is_action call = false
 
 -- The core that a call is for.
 abbrev pub core_of_call : RemoteCall → CoreId
 core_of_call call = (object_of_call call).place.core
 
--- Some core serves the call: the one of its object.
-abbrev pub has_service : RemoteCall → Bool
-has_service call = is_some (service_of call)
-
--- A call that goes across cores, to an object of this core. [own]
+-- A call to an object of this core. [own]
 abbrev pub is_served : View → RemoteCall → Bool
-is_served v call = has_service call && is_own_object v.own (object_of_call call)
+is_served v call = is_own_object v.own (object_of_call call)
 
--- What a script may call: a call that some core serves, on an object that it may name.
+-- What a script or an alarm may call: a call on an object that it may name.
 abbrev pub is_known_call : Core → RemoteCall → Bool
-is_known_call core call = has_service call && may_name core (object_of_call call)
+is_known_call core call = may_name core (object_of_call call)
 
 -- What the object's core answers, and what it does.
-abbrev pub answer_to : RemoteCall → View → History → Option Answer
-answer_to call v h = option_map (λ (s : Service). answer_by s v h) (service_of call)
+abbrev pub answer_to : RemoteCall → View → History → Answer
+answer_to call v h = answer_by (service_of call) v h
 
 abbrev pub effect_of : RemoteCall → View → History → History
-effect_of call v h = option_map_or (λ (s : Service). effect_by s v h) (service_of call) h
+effect_of call v h = effect_by (service_of call) v h
 
 -- ---- for a job of this core
 
@@ -68,9 +71,8 @@ border_checks target h =
     ∷ []
 
 -- The call returns with this answer.
-abbrev pub returns_with : Runner → ServiceId → Option Answer → History → History
-returns_with r service None h = h
-returns_with r service (Some answer) h = returns r service answer.status answer.value h
+abbrev pub returns_with : Runner → ServiceId → Answer → History → History
+returns_with r service answer h = returns r service answer.status answer.value h
 
 -- On an own object the service is done here; another core is asked.
 abbrev pub crosses : View → Runner → ServiceId → Option RemoteCall → History → History
@@ -89,13 +91,11 @@ abbrev pub prints_served : CoreId → RemoteCall → Answer → History → Hist
 prints_served from call answer h = prints (Mark.CallServed from call answer.status answer.value) h
 
 -- A request is answered by a reply; the error of an action calls ErrorHook here. [own]
-abbrev pub replies : CoreId → RemoteCall → Option Answer → History → History
-replies from call None h = h
-replies from call (Some answer) h = queues from (Message.Reply answer.status answer.value) (prints_served from call answer h)
+abbrev pub replies : CoreId → RemoteCall → Answer → History → History
+replies from call answer h = queues from (Message.Reply answer.status answer.value) (prints_served from call answer h)
 
-abbrev pub reports_served : CoreId → RemoteCall → Option Answer → History → History
-reports_served from call None h = h
-reports_served from call (Some answer) h = reports answer.status (prints_served from call answer h)
+abbrev pub reports_served : CoreId → RemoteCall → Answer → History → History
+reports_served from call answer h = reports answer.status (prints_served from call answer h)
 
 abbrev pub serves_request : View → CoreId → RemoteCall → History → History
 serves_request v from call h = replies from call (answer_to call v h) (effect_of call v h)

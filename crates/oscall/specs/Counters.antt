@@ -5,7 +5,7 @@ use Rattle.osbase.specs.declared.statuses.Status.TheVariants.{EOk, EOsCore, EOsI
 use Rattle.osbase.specs.declared.statuses.ServiceId.TheVariants as ServiceId
 use Rattle.osbase.specs.declared.references.CounterRef.{CounterRef}
 use Rattle.osbase.specs.declared.references.Runner.{Runner}
-use Rattle.osbase.specs.History.{History, Noted, Counted}
+use Rattle.osbase.specs.History.{History}
 use Rattle.osbase.specs.Objects.{counter_object}
 use Rattle.osplan.specs.declared.plans.Core.{Core}
 use Rattle.osplan.specs.declared.plans.Counter.{Counter}
@@ -14,6 +14,7 @@ use Rattle.osplan.specs.View.{View, own_counter}
 use Rattle.osclock.specs.Clocks.{value_by}
 use Rattle.osstate.specs.Readings.{is_own}
 use Rattle.oscall.specs.Checks.{Check}
+use Rattle.oscall.specs.Expiring.{counts}
 use Rattle.oscall.specs.Returning.{answers, returns}
 
 -- A hardware counter of the core, which ticks alone advance. [AUTOSAR SWS OS 4.x, OsCounterType]
@@ -25,17 +26,14 @@ abbrev pub incrementing_checks : View → Option CounterRef → List Check
 incrementing_checks v target =
     (option_map_or (is_hardware v.own) target true, EOsId) ∷ (option_map_or (λ (c : CounterRef). not (is_own v c.core)) target false, EOsCore) ∷ []
 
--- The counter goes on by one. [OSEK/VDX OS 2.2.3, section 9.1]
-abbrev pub counts : Option CounterRef → History → History
-counts None h = h
-counts (Some c) h = Noted (Counted c) ∷ h
-
-abbrev pub counts_and_returns : Runner → Option CounterRef → History → History
-counts_and_returns r target h = returns r ServiceId.IncrementCounter EOk None (counts target h)
+-- The counter goes on by one, and what is due acts, before the service returns.
+abbrev pub counts_and_returns : View → Runner → Option CounterRef → History → History
+counts_and_returns v r None h = h
+counts_and_returns v r (Some c) h = returns r ServiceId.IncrementCounter EOk None (counts v c h)
 
 -- [AUTOSAR SWS OS 4.x, SWS_Os_00286]
 abbrev pub increments : View → Runner → Option CounterRef → History → History
-increments v r target h = answers r ServiceId.IncrementCounter (incrementing_checks v target) (counts_and_returns r target) h
+increments v r target h = answers r ServiceId.IncrementCounter (incrementing_checks v target) (counts_and_returns v r target) h
 
 -- A counter that a script names, if it is one of the core's own; no script of an accepted configuration names another one where it
 -- asks for a value. [own]

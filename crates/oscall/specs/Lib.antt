@@ -5,8 +5,10 @@ pub mod Service
 pub mod Tasks
 pub mod Resources
 pub mod Events
-pub mod Counters
+pub mod Alarms
 pub mod Border
+pub mod Expiring
+pub mod Counters
 pub mod Chaining
 pub mod Variables
 pub mod Operations

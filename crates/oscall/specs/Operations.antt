@@ -2,7 +2,9 @@
 use Rattle.std.specs.Prelude.{ℕ, Option, None, option_map, ◌∷◌}
 use Rattle.osbase.specs.declared.statuses.Status.TheVariants.{EOk}
 use Rattle.osbase.specs.declared.statuses.ServiceId.TheVariants as Service
+use Rattle.osbase.specs.declared.references.AlarmRef.{AlarmRef}
 use Rattle.osbase.specs.declared.references.TaskRef.{TaskRef}
+use Rattle.osbase.specs.declared.references.Variable.{Variable}
 use Rattle.osbase.specs.declared.references.Runner.{Runner}
 use Rattle.osbase.specs.declared.messages.RemoteCall.{RemoteCall}
 use Rattle.osbase.specs.declared.messages.RemoteCall.TheVariants as Remote
@@ -20,6 +22,16 @@ use Rattle.oscall.specs.Variables.{adds, adds_variable, sets, stores_status}
 -- The call that SetEvent of this task is.
 abbrev pub setting_call : Option TaskRef → ℕ → Option RemoteCall
 setting_call target mask = option_map (λ (t : TaskRef). Remote.SetEvent t mask) target
+
+-- The calls that the services of this alarm are.
+abbrev pub relative_call : Option AlarmRef → ℕ → ℕ → Option RemoteCall
+relative_call target increment cycle = option_map (λ (a : AlarmRef). Remote.SetRelAlarm a increment cycle) target
+
+abbrev pub absolute_call : Option AlarmRef → ℕ → ℕ → Option RemoteCall
+absolute_call target start cycle = option_map (λ (a : AlarmRef). Remote.SetAbsAlarm a start cycle) target
+
+abbrev pub inquiry_call : Option AlarmRef → Variable → Option RemoteCall
+inquiry_call target x = option_map (λ (a : AlarmRef). Remote.GetAlarm a x) target
 
 -- `work` and a jump have no effect but to be done. [own: one operation is one unit of a script]
 abbrev pub operates : View → Runner → Op → History → History
@@ -42,3 +54,7 @@ operates v r (Op.GetEvent target x) h = gets_event v r target h
 operates v r (Op.WaitEvent mask) h = waits_event v r mask h
 operates v r (Op.IncrementCounter target) h = increments v r target h
 operates v r (Op.GetCounterValue target x) h = gets_value v r target h
+operates v r (Op.SetRelAlarm target increment cycle) h = calls v r Service.SetRelAlarm (relative_call target increment cycle) h
+operates v r (Op.SetAbsAlarm target start cycle) h = calls v r Service.SetAbsAlarm (absolute_call target start cycle) h
+operates v r (Op.CancelAlarm target) h = calls v r Service.CancelAlarm (option_map Remote.CancelAlarm target) h
+operates v r (Op.GetAlarm target x) h = calls v r Service.GetAlarm (inquiry_call target x) h

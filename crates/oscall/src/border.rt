@@ -5,17 +5,19 @@ ghost use Rattle.osbase.specs.declared.turns.TheConstants.{CORES};
 ghost use Rattle.osbase.specs.Phases.{is_before_live};
 ghost use Rattle.osjobs.specs.Priorities.{is_own_runner};
 ghost use Rattle.osstate.specs.Does.{Effects, HasRoom, Reads, service_entries, service_marks};
-ghost use Rattle.oscall.specs.Border.{answer_to, calls, core_of_call, crosses, effect_of, has_service, is_known_call, is_served, prints_served, serves_action, serves_request};
+ghost use Rattle.oscall.specs.Checks.{is_ok_status};
+ghost use Rattle.oscall.specs.Border.{answer_to, calls, core_of_call, crosses, effect_of, is_action, is_known_call, is_served, prints_served, serves_action, serves_request};
 
+use crate::alarms::{ask_left, cancel, set_absolute, set_relative};
 use crate::events::set_event;
 use crate::returning::{Answer, ask, finish, refuse, report};
 use crate::tasks::activate;
 use osbase::{CoreId, Mark, Message, RemoteCall, Runner, ServiceId, Status};
 use osstate::CoreState;
 
-/// Whether a core serves the call for the core of its object: so far only ActivateTask and SetEvent.
-pub fn has_service(call: RemoteCall) -> bool
-    ensures { result ≡ has_service call }
+/// Whether an alarm may make the call (AUTOSAR SWS OS 4.x, OsAlarmAction).
+pub fn is_action(call: RemoteCall) -> bool
+    ensures { result ≡ is_action call }
 {
     matches!(
         call,
@@ -23,9 +25,9 @@ pub fn has_service(call: RemoteCall) -> bool
     )
 }
 
-// The half of a service that the object's core does, for a job of its own and for another core alike: the
-// remaining checks, and the effect.
-fn serve<const P: usize, const J: usize, const OUT: usize>(
+/// The half of a service that the object's core does, for a job of its own and for another core alike: the
+/// remaining checks, and the effect. A service that is refused has none.
+pub(crate) fn serve<const P: usize, const J: usize, const OUT: usize>(
     state: &mut CoreState<'_, P, J, OUT>,
     call: RemoteCall,
     marks: &mut Vec<Mark>,
@@ -33,14 +35,26 @@ fn serve<const P: usize, const J: usize, const OUT: usize>(
     requires served { IsTrue (is_served state.old.view call) }
     requires live { is_before_live state.old.progress.phase ≡ false }
     requires room { HasRoom 2 2 state.old marks.old }
-    ensures answer { Reads (λ v h. answer_to call v h) state.old (Some result) }
+    ensures answer { Reads (λ v h. answer_to call v h) state.old result }
     ensures effects { Effects 2 2 (λ v h. effect_of call v h) state.old state.new marks.old marks.new }
+    ensures refused { is_ok_status result.status ≡ false → Effects 0 0 (λ v h. effect_of call v h) state.old state.new marks.old marks.new }
     ensures border { state.new.border ≡ state.old.border }
 {
     match call {
         RemoteCall::ActivateTask(task) => activate(state, task, marks),
         RemoteCall::SetEvent { task, mask } => set_event(state, task, mask, marks),
-        _ => unreachable!(),
+        RemoteCall::SetRelAlarm {
+            alarm,
+            increment,
+            cycle,
+        } => set_relative(state, alarm, increment, cycle),
+        RemoteCall::SetAbsAlarm {
+            alarm,
+            start,
+            cycle,
+        } => set_absolute(state, alarm, start, cycle),
+        RemoteCall::CancelAlarm(alarm) => cancel(state, alarm),
+        RemoteCall::GetAlarm { alarm, .. } => ask_left(state, alarm),
     }
 }
 
@@ -107,7 +121,7 @@ fn serve_for<const P: usize, const J: usize, const OUT: usize>(
     requires served { IsTrue (is_served state.old.view call) }
     requires live { is_before_live state.old.progress.phase ≡ false }
     requires room { HasRoom 3 3 state.old marks.old }
-    ensures answer { Reads (λ v h. answer_to call v h) state.old (Some result) }
+    ensures answer { Reads (λ v h. answer_to call v h) state.old result }
     ensures effects { Effects 3 3 (λ v h. prints_served from call result (effect_of call v h)) state.old state.new marks.old marks.new }
     ensures border { state.new.border ≡ state.old.border }
 {

@@ -1,9 +1,9 @@
 //! The services of events.
 
-ghost use Rattle.std.specs.Prelude.{◌≡◌, IfSome, IsTrue};
+ghost use Rattle.std.specs.Prelude.{◌≡◌, IfSome, IsTrue, false};
 ghost use Rattle.osjobs.specs.Priorities.{is_own_runner};
 ghost use Rattle.osstate.specs.Does.{Effects, HasRoom, Reads};
-ghost use Rattle.oscall.specs.Checks.{first_failing};
+ghost use Rattle.oscall.specs.Checks.{first_failing, is_ok_status};
 ghost use Rattle.oscall.specs.Events.{begins_to_wait, clearing_checks, clears_and_returns, clears_event, event_checks, gets_event, goes_on_or_waits, own_target, reading_checks, releases, sets_events, setting, tells_events, waiting_checks, waits_event};
 ghost use Rattle.oscall.specs.Service.{answer_by, effect_by};
 
@@ -41,6 +41,7 @@ pub fn set_event<const P: usize, const J: usize, const OUT: usize>(
     requires room { HasRoom 2 2 state.old marks.old }
     ensures answer { Reads (λ v h. answer_by (setting task mask) v h) state.old result }
     ensures effects { Effects 2 2 (λ v h. effect_by (setting task mask) v h) state.old state.new marks.old marks.new }
+    ensures refused { is_ok_status result.status ≡ false → Effects 0 0 (λ v h. effect_by (setting task mask) v h) state.old state.new marks.old marks.new }
     ensures border { state.new.border ≡ state.old.border }
 {
     let status = status_of_events(state, task);

@@ -3,20 +3,24 @@
 //! No function here takes memory. Each asks for room for the entries and marks that it adds.
 #![tactic(auto)]
 
+pub mod alarms;
 pub mod border;
 pub mod chaining;
 pub mod counters;
 pub mod events;
+pub mod expiring;
 pub mod operations;
 pub mod resources;
 pub mod returning;
 pub mod tasks;
 pub mod variables;
 
-pub use border::{call, has_service, serve_action, serve_request};
+pub use alarms::{ask_left, cancel, set_absolute, set_relative};
+pub use border::{call, is_action, serve_action, serve_request};
 pub use chaining::{chain, resume};
 pub use counters::{get_counter_value, increment_counter};
 pub use events::{clear_event, get_event, set_event, wait_event};
+pub use expiring::advance;
 pub use operations::operate;
 pub use resources::{get_resource, release_resource};
 pub use returning::{Answer, accept, ask, finish, is_ok, refuse, report, without_value};

@@ -1,11 +1,12 @@
 //! The operations of a running job.
 
-ghost use Rattle.std.specs.Prelude.{◌≡◌, ◌<◌, IsTrue, false, length, option_map};
+ghost use Rattle.std.specs.Prelude.{◌≡◌, ◌+◌, ◌≤◌, [], IsTrue, false, option_map};
 ghost use Rattle.osbase.specs.Phases.{is_before_live};
 ghost use Rattle.osjobs.specs.Priorities.{is_own_runner};
 ghost use Rattle.osstate.specs.Does.{Effects, HasRoom, service_entries, service_marks};
 ghost use Rattle.osstate.specs.Sound.{has_objects_of};
-ghost use Rattle.oscall.specs.Operations.{operates, setting_call};
+ghost use Rattle.oscall.specs.Expiring.{posted_at_once};
+ghost use Rattle.oscall.specs.Operations.{absolute_call, inquiry_call, operates, relative_call, setting_call};
 
 use crate::border::call;
 use crate::chaining::chain;
@@ -14,7 +15,7 @@ use crate::events::{clear_event, get_event, wait_event};
 use crate::resources::{get_resource, release_resource};
 use crate::tasks::{schedule, terminate};
 use crate::variables::{add, add_variable, set, store_status};
-use osbase::{Mark, RemoteCall, Runner, ServiceId, Status, TaskRef};
+use osbase::{AlarmRef, Mark, RemoteCall, Runner, ServiceId, Status, TaskRef, Variable};
 use oscript::Op;
 use osstate::CoreState;
 
@@ -28,7 +29,8 @@ pub fn operate<const P: usize, const J: usize, const OUT: usize>(
     requires own { IsTrue (is_own_runner state.old.view.own runner) }
     requires known { IsTrue (has_objects_of state.old.view.own op) }
     requires live { is_before_live state.old.progress.phase ≡ false }
-    requires outbox { length state.old.border.outbox < OUT }
+    requires outbox { state.old.border.outbox ≡ [] }
+    requires places { 8 + posted_at_once state.old.view.own ≤ OUT }
     requires room { HasRoom service_entries service_marks state.old marks.old }
     ensures { Effects service_entries service_marks (λ v h. operates v runner op h) state.old state.new marks.old marks.new }
 {
@@ -58,6 +60,22 @@ pub fn operate<const P: usize, const J: usize, const OUT: usize>(
         Op::WaitEvent(mask) => wait_event(state, runner, mask, marks),
         Op::IncrementCounter(target) => increment_counter(state, runner, target, marks),
         Op::GetCounterValue(target, _) => get_counter_value(state, runner, target, marks),
+        Op::SetRelAlarm(target, increment, cycle) => {
+            let target = relative_of(target, increment, cycle);
+            call(state, runner, ServiceId::SetRelAlarm, target, marks);
+        }
+        Op::SetAbsAlarm(target, start, cycle) => {
+            let target = absolute_of(target, start, cycle);
+            call(state, runner, ServiceId::SetAbsAlarm, target, marks);
+        }
+        Op::CancelAlarm(target) => {
+            let target = cancellation_of(target);
+            call(state, runner, ServiceId::CancelAlarm, target, marks);
+        }
+        Op::GetAlarm(target, variable) => {
+            let target = inquiry_of(target, variable);
+            call(state, runner, ServiceId::GetAlarm, target, marks);
+        }
     }
 }
 
@@ -74,4 +92,40 @@ fn setting_of(target: Option<TaskRef>, mask: u32) -> Option<RemoteCall>
 {
     let task = target?;
     Some(RemoteCall::SetEvent { task, mask })
+}
+
+// The calls that the services of alarms are.
+fn relative_of(target: Option<AlarmRef>, increment: u32, cycle: u32) -> Option<RemoteCall>
+    ensures { result ≡ relative_call target increment cycle }
+{
+    let alarm = target?;
+    Some(RemoteCall::SetRelAlarm {
+        alarm,
+        increment,
+        cycle,
+    })
+}
+
+fn absolute_of(target: Option<AlarmRef>, start: u32, cycle: u32) -> Option<RemoteCall>
+    ensures { result ≡ absolute_call target start cycle }
+{
+    let alarm = target?;
+    Some(RemoteCall::SetAbsAlarm {
+        alarm,
+        start,
+        cycle,
+    })
+}
+
+fn cancellation_of(target: Option<AlarmRef>) -> Option<RemoteCall>
+    ensures { result ≡ option_map RemoteCall.CancelAlarm target }
+{
+    Some(RemoteCall::CancelAlarm(target?))
+}
+
+fn inquiry_of(target: Option<AlarmRef>, variable: Variable) -> Option<RemoteCall>
+    ensures { result ≡ inquiry_call target variable }
+{
+    let alarm = target?;
+    Some(RemoteCall::GetAlarm { alarm, variable })
 }

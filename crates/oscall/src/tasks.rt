@@ -6,7 +6,7 @@ ghost use Rattle.osbase.specs.Phases.{is_before_live};
 ghost use Rattle.osjobs.specs.Priorities.{is_own_runner};
 ghost use Rattle.osstate.specs.Does.{Effects, HasRoom, Reads};
 ghost use Rattle.osstate.specs.Sound.{activation_limit};
-ghost use Rattle.oscall.specs.Checks.{first_failing};
+ghost use Rattle.oscall.specs.Checks.{first_failing, is_ok_status};
 ghost use Rattle.oscall.specs.Service.{answer_by, effect_by};
 ghost use Rattle.oscall.specs.Tasks.{activation, ends, ends_unasked, schedules, task_checks, terminates};
 
@@ -27,6 +27,7 @@ pub fn activate<const P: usize, const J: usize, const OUT: usize>(
     requires room { HasRoom 1 1 state.old marks.old }
     ensures answer { Reads (λ v h. answer_by (activation task) v h) state.old result }
     ensures effects { Effects 1 1 (λ v h. effect_by (activation task) v h) state.old state.new marks.old marks.new }
+    ensures refused { is_ok_status result.status ≡ false → Effects 0 0 (λ v h. effect_by (activation task) v h) state.old state.new marks.old marks.new }
     ensures border { state.new.border ≡ state.old.border }
 {
     if state.is_at_limit(task) {

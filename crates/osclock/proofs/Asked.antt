@@ -1,10 +1,11 @@
 -- What is asked of the clocks is what is asked of the history.
-use Rattle.std.proofs.Common.{◌≡◌, ℕ, suc, ◌+◌, ◌%◌, Bool, true, false, cond, ◌&&◌, Option, Some, None, is_some, option_map, ◌∷◌, refl, ap, ◌∙◌}
+use Rattle.std.proofs.Common.{◌≡◌, ℕ, suc, ◌+◌, ◌%◌, Bool, true, false, cond, ◌&&◌, Option, Some, None, is_some, option_map, filter, List, [], ◌∷◌, get_or, refl, ap, sym, ◌∙◌}
 use Rattle.std.specs.Option.{option_map_or}
+use Rattle.std.proofs.lemmas.Bool.{false≢true}
 use Rattle.osbase.specs.declared.references.AlarmRef.{AlarmRef}
 use Rattle.osbase.specs.declared.references.CounterRef.{CounterRef}
 use Rattle.osbase.specs.History.{History, Entry}
-use Rattle.osbase.specs.Counting.{AlarmSetting, alarm_of, counts_left, counts_of, is_due, is_in_turn, is_in_use, left_of, one_count_more, will_be_due}
+use Rattle.osbase.specs.Counting.{AlarmSetting, alarm_of, counts_left, counts_of, counts_to, is_due, is_in_turn, is_in_use, left_of, one_count_more, will_be_due}
 use Rattle.osbase.specs.Objects.{alarm_object, counter_object}
 use Rattle.osplan.specs.declared.plans.Alarm.{Alarm as AlarmValue}
 use Rattle.osplan.specs.declared.plans.Core.{Core}
@@ -14,9 +15,12 @@ use Rattle.osplan.specs.View.{own_alarm}
 use Rattle.oscount.specs.declared.alarms.Alarm.{Alarm}
 use Rattle.oscount.specs.declared.alarms.Expiry.{Expiry}
 use Rattle.oscount.specs.declared.counters.Counter.{Counter}
-use Rattle.oscount.specs.Clocks.{alarm_at, counts_until, expiry_at, is_due_next}
+use Rattle.oscount.specs.Clocks.{counts_until, expiry_at, is_due_next}
 use Rattle.oscount.proofs.Expiries.{left-is, next-due}
-use Rattle.osclock.specs.Clocks.{AreClocks, ClockState, alarm_by, alarm_in, clocks_by, clocks_of, counter_for, counter_in, is_due_by, is_due_in, is_in_use_by, is_used, left_by, left_in, max_of, no_counter, unset, value_by}
+use Rattle.osclock.specs.Clocks.{AreClocks, ClockState, alarm_in, alarm_refs, clocks_by, clocks_of, counter_for, counter_in, counts_to_by, counts_to_in, due_by, due_in, is_attached, is_due_by, is_due_in, is_in_use_by, is_used, left_by, left_in, max_of, no_counter, unset, value_by}
+use Rattle.osclock.proofs.Attached.{attached-counter, attached-own, kept-same}
+use Rattle.osclock.proofs.Bounds.{list-at}
+use Rattle.osclock.proofs.Places.{alarm-some}
 use Rattle.osclock.proofs.Law.{after, alarm-at, attached, counter-at, read}
 
 -- The clocks after an entry are clocks again.
@@ -52,6 +56,14 @@ left-read core a h within own = ap (λ (x : Alarm). option_map (counts_until (co
         ap (λ (k : Counter). option_map (counts_until k) (read core a h x).expiry) (counter-at core x.counter h (attached core a x within e))
         ∙ left-is (max_of core x.counter) (counts_of x.counter h) (alarm_of x.counter a h)
 
+pub counts_to-read : (core : Core) (a : AlarmRef) (start : ℕ) (h : History) → are_clocks_within core ≡ true → is_own_object core (alarm_object a) ≡ true → counts_to_in core a start (clocks_of core h) ≡ counts_to_by core a start h
+counts_to-read core a start h within own = by (own_alarm core a) refl
+  where
+    by : (o : Option AlarmValue) → own_alarm core a ≡ o
+        → (let k : Counter = option_map_or (λ (x : AlarmValue). counter_in x.counter (clocks_of core h)) o no_counter in counts_to k.max k.value start) ≡ option_map_or (λ (x : AlarmValue). counts_to (max_of core x.counter) (value_by core x.counter h) start) o 0
+    by None e = absurd (false≢true (ap (λ (o : Option AlarmValue). is_some o) (sym e) ∙ alarm-some core a own))
+    by (Some x) e = ap (λ (k : Counter). counts_to k.max k.value start) (counter-at core x.counter h (attached core a x within e))
+
 pub due-read : (core : Core) (a : AlarmRef) (h : History) → are_clocks_within core ≡ true → is_own_object core (alarm_object a) ≡ true → is_due_in core a (clocks_of core h) ≡ is_due_by core a h
 due-read core a h within own = ap (is_due_next (counter_for core a (clocks_of core h))) (alarm-at core a h own) ∙ by (own_alarm core a) refl
   where
@@ -62,3 +74,17 @@ due-read core a h within own = ap (is_due_next (counter_for core a (clocks_of co
     by (Some x) e =
         ap (λ (k : Counter). is_due_next k (read core a h x)) (counter-at core x.counter h (attached core a x within e))
         ∙ next-due (max_of core x.counter) (counts_of x.counter h) (alarm_of x.counter a h)
+
+pub dues-read : (core : Core) (c : CounterRef) (h : History) → are_clocks_within core ≡ true → due_in core c (clocks_of core h) ≡ due_by core c h
+dues-read core c h within =
+    kept-same (is_attached core c) (λ (a : AlarmRef). is_due_in core a (clocks_of core h)) (λ (a : AlarmRef). is_due_by core a h) (alarm_refs core) (λ a on. due-read core a h within (attached-own core c a on))
+
+-- what a look-up finds, in a core's clocks
+pub dues-in : (core : Core) (c : CounterRef) (t s : ClockState) (counter : Counter) (list : List AlarmRef) (alarms : List Alarm) → t ≡ s → AreClocks core s → is_own_object core (counter_object c) ≡ true
+    → counter ≡ counter_in c s → list ≡ get_or t.attached c.index [] → alarms ≡ t.alarms → filter (λ (a : AlarmRef). is_due_next counter (get_or alarms a.index unset)) list ≡ due_in core c s
+dues-in core c t s counter list alarms same clocks own value own_list are =
+    ap (λ (k : Counter). filter (λ (a : AlarmRef). is_due_next k (get_or alarms a.index unset)) list) value
+    ∙ ap (λ (xs : List Alarm). filter (λ (a : AlarmRef). is_due_next (counter_in c s) (get_or xs a.index unset)) list) (are ∙ ap (λ (u : ClockState). u.alarms) same)
+    ∙ ap (filter (λ (a : AlarmRef). is_due_next (counter_in c s) (alarm_in a s))) (own_list ∙ ap (λ (u : ClockState). get_or u.attached c.index []) same ∙ list-at core s c clocks own)
+    ∙ kept-same (is_attached core c) (λ (a : AlarmRef). is_due_next (counter_in c s) (alarm_in a s)) (λ (a : AlarmRef). is_due_in core a s) (alarm_refs core)
+    (λ a on. ap (λ (k : Counter). is_due_next k (alarm_in a s)) (sym (attached-counter core c a s on)))

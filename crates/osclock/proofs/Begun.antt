@@ -10,11 +10,11 @@ use Rattle.osbase.proofs.Same.{same_core-refl}
 use Rattle.osplan.specs.declared.plans.Alarm.{Alarm as AlarmValue}
 use Rattle.osplan.specs.declared.plans.Core.{Core}
 use Rattle.osplan.specs.declared.plans.Counter.{Counter as CounterValue}
-use Rattle.osplan.specs.View.{own_alarm, own_counter}
+use Rattle.osplan.specs.View.{own_alarm}
 use Rattle.oscount.specs.declared.alarms.Alarm.{Alarm}
 use Rattle.oscount.specs.declared.counters.Counter.{Counter}
 use Rattle.oscount.specs.Clocks.{counter_at}
-use Rattle.osclock.specs.Clocks.{ClockState, alarm_by, alarm_ref, clocks_of, counter_by, counter_ref, unset}
+use Rattle.osclock.specs.Clocks.{ClockState, alarm_by, alarm_ref, attached_to, clocks_of, counter_by, counter_ref, unset}
 use Rattle.osclock.proofs.Law.{both, read}
 
 -- a list by place
@@ -40,9 +40,10 @@ alarm-begun core a = by (own_alarm core a)
     by None = refl
     by (Some x) = refl
 
-pub begun : (core : Core) (counters : List Counter) (alarms : List Alarm) (count : ℕ) → counters ≡ map (λ (c : CounterValue). counter_at c.max 0) core.counters → count ≡ length core.alarms → alarms ≡ replicate count unset
-    → (let s : ClockState = record { counters = counters; alarms = alarms } in s) ≡ clocks_of core []
-begun core counters alarms count is few are =
+pub begun : (core : Core) (counters : List Counter) (alarms : List Alarm) (lists : List (List AlarmRef)) (count : ℕ) → counters ≡ map (λ (c : CounterValue). counter_at c.max 0) core.counters → count ≡ length core.alarms → alarms ≡ replicate count unset
+    → lists ≡ map (λ (n : ℕ). attached_to core (counter_ref core n)) (numbers_from 0 (length core.counters)) → (let s : ClockState = record { counters = counters; alarms = alarms; attached = lists } in s) ≡ clocks_of core []
+begun core counters alarms lists count is few are attached =
     both
     (is ∙ listed (λ (c : CounterValue). counter_at c.max 0) (λ n. counter_by core (counter_ref core n) []) 0 core.counters (λ k x at. counter-begun core k x at))
     (are ∙ ap (λ (n : ℕ). replicate n unset) few ∙ repeated unset (λ n. alarm_by core (alarm_ref core n) []) 0 (length core.alarms) (λ n. alarm-begun core (alarm_ref core n)))
+    attached

@@ -1,45 +1,36 @@
 -- What holds of the clocks of a core within its limits.
-use Rattle.std.proofs.Common.{◌≡◌, ℕ, zero, suc, ◌+◌, ◌<◌, ◌≤◌, ◌^◌, ◌%◌, Bool, true, false, cond, ◌&&◌, nat_le, IfSome, Option, Some, None, is_some, length, map, refl, ap, sym, subst, ◌∙◌, arith, get_or}
-use Rattle.std.specs.List.{list_all, slice_get}
+use Rattle.std.proofs.Common.{◌≡◌, ℕ, suc, ◌+◌, ◌<◌, ◌≤◌, ◌^◌, ◌%◌, Bool, true, false, cond, ◌&&◌, nat_le, All, IfSome, Option, Some, None, List, [], length, map, refl, ap, sym, subst, ◌∙◌, arith, get_or}
+use Rattle.std.specs.List.{slice_get}
 use Rattle.std.specs.Option.{option_map_or}
 use Rattle.std.proofs.Math.Nat.{mod-eq_of_lt, mod-lt}
-use Rattle.std.proofs.lemmas.Bool.{and_parts, cond-true, false≢true, leb-true}
+use Rattle.std.proofs.lemmas.Bool.{and_parts, leb-true}
 use Rattle.std.proofs.lemmas.List.{length-map}
-use Rattle.std.proofs.lemmas.Option.{slice_get_within}
+use Rattle.std.proofs.lemmas.List.Elements.{All-same}
+use Rattle.arrayvec.specs.ArrayVec.{ArrayVec as Items}
 use Rattle.osbase.specs.declared.references.AlarmRef.{AlarmRef}
 use Rattle.osbase.specs.declared.references.CounterRef.{CounterRef}
-use Rattle.osbase.specs.Counting.{AlarmSetting, alarm_of, counts_left, counts_of, is_in_turn, same_counter, will_be_due}
-use Rattle.osbase.specs.History.{same_core}
+use Rattle.osbase.specs.Counting.{AlarmSetting, alarm_of, counts_left, counts_of, is_in_turn, will_be_due}
 use Rattle.osbase.specs.Objects.{alarm_object, counter_object}
 use Rattle.osbase.specs.Sets.{numbers_from}
-use Rattle.osbase.proofs.Same.{same_core-refl}
+use Rattle.osbase.proofs.Tables.{table-at}
 use Rattle.osplan.specs.declared.plans.Alarm.{Alarm as AlarmValue}
 use Rattle.osplan.specs.declared.plans.Core.{Core}
 use Rattle.osplan.specs.declared.plans.Counter.{Counter as CounterValue}
-use Rattle.osplan.specs.Clocked.{are_clocks_within, is_alarm_attached, is_counter_within}
+use Rattle.osplan.specs.Clocked.{are_clocks_within}
 use Rattle.osplan.specs.Objects.{is_own_object}
 use Rattle.osplan.specs.View.{own_alarm}
+use Rattle.osplan.proofs.Clocked.{clock-parts}
 use Rattle.osplan.proofs.Tests.{passes-at}
 use Rattle.oscount.specs.declared.alarms.Alarm.{Alarm}
 use Rattle.oscount.specs.declared.alarms.Expiry.{Expiry}
 use Rattle.oscount.specs.declared.counters.Counter.{Counter}
 use Rattle.oscount.specs.Clocks.{counter_at, expiry_at}
-use Rattle.osclock.specs.Clocks.{AreClocks, ClockState, IsBounded, alarm_by, alarm_in, alarm_ref, clocks_of, counter_by, counter_for, counter_in, counter_ref, is_attached, max_for, max_of, no_counter, unset}
+use Rattle.osclock.specs.Clocks.{AreClocks, ClockState, IsBounded, alarm_by, alarm_in, alarm_ref, attached_to, counter_by, counter_for, counter_in, counter_ref, max_for, max_of, no_counter, unset}
+use Rattle.osclock.proofs.Attached.{attached-all, attached-max, attached-own}
 use Rattle.osclock.proofs.Law.{alarm-at, attached, counter-at, read}
-use Rattle.osclock.proofs.Places.{alarm-own, alarm-place, counter-is, counter-place, same_counter-true}
+use Rattle.osclock.proofs.Places.{alarm-place, counter-is, counter-place, length-numbers}
 
 -- ---- limits
-
-pub record WithinParts (core : Core) : Type 0 where
-  pub counters : length core.counters ≤ 8
-  pub maxima : list_all is_counter_within core.counters ≡ true
-  pub alarms : length core.alarms ≤ 32
-
-pub within-parts : (core : Core) → are_clocks_within core ≡ true → WithinParts core
-within-parts core within =
-    let alarms = and_parts _ (nat_le (length core.alarms) 32) (and_parts _ (list_all (is_alarm_attached core) core.alarms) within).0 in
-    let maxima = and_parts (nat_le (length core.counters) 8) (list_all is_counter_within core.counters) alarms.0 in
-    record { counters = leb-true (length core.counters) 8 maxima.0; maxima = maxima.1; alarms = leb-true (length core.alarms) 32 alarms.1 }
 
 pub max-few : (core : Core) (c : CounterRef) → are_clocks_within core ≡ true → is_own_object core (counter_object c) ≡ true → max_of core c < 2 ^ 31
 max-few core c within own =
@@ -47,13 +38,9 @@ max-few core c within own =
   where
     by : (o : Option CounterValue) → slice_get core.counters c.index ≡ o → option_map_or (λ (x : CounterValue). x.max) o 0 < 2 ^ 31
     by None e = omega arith
-    by (Some x) e = omega (arith, leb-true x.max 1000000000 (and_parts (nat_le 1 x.max) (nat_le x.max 1000000000) (passes-at is_counter_within core.counters c.index x (within-parts core within).maxima e)).1)
+    by (Some x) e = omega (arith, leb-true x.max 1000000000 (and_parts (nat_le 1 x.max) (nat_le x.max 1000000000) (passes-at (λ (y : CounterValue). nat_le 1 y.max && nat_le y.max 1000000000) core.counters c.index x (clock-parts core within).maxima e)).1)
 
 -- ---- lengths
-
-length-numbers : (first count : ℕ) → length (numbers_from first count) ≡ count
-length-numbers first zero = refl
-length-numbers first (suc count) = ap suc (length-numbers (first + 1) count)
 
 pub counters-length : (core : Core) (s : ClockState) → AreClocks core s → length s.counters ≡ length core.counters
 counters-length core s clocks =
@@ -70,6 +57,23 @@ counter-inside core s c clocks own = omega (arith, counters-length core s clocks
 
 pub alarm-inside : (core : Core) (s : ClockState) (a : AlarmRef) → AreClocks core s → is_own_object core (alarm_object a) ≡ true → a.index < length s.alarms
 alarm-inside core s a clocks own = omega (arith, alarms-length core s clocks, (alarm-place core a own).inside)
+
+-- which of them are the counter's own
+pub lists-length : (core : Core) (s : ClockState) → AreClocks core s → length s.attached ≡ length core.counters
+lists-length core s clocks =
+    ap (λ (t : ClockState). length t.attached) clocks.is
+    ∙ length-map (numbers_from 0 (length core.counters)) (λ (n : ℕ). attached_to core (counter_ref core n)) ∙ length-numbers 0 (length core.counters)
+
+pub list-inside : (core : Core) (s : ClockState) (c : CounterRef) (lists : List (Items AlarmRef)) → map (λ (x : Items AlarmRef). x.items) lists ≡ s.attached → AreClocks core s → is_own_object core (counter_object c) ≡ true → c.index < length lists
+list-inside core s c lists are clocks own =
+    omega (arith, (counter-place core c own).inside, lists-length core s clocks, ap (λ (xs : List (List AlarmRef)). length xs) are, length-map lists (λ (x : Items AlarmRef). x.items))
+
+pub list-at : (core : Core) (s : ClockState) (c : CounterRef) → AreClocks core s → is_own_object core (counter_object c) ≡ true → get_or s.attached c.index [] ≡ attached_to core c
+list-at core s c clocks own =
+    let place = counter-place core c own in
+    ap (λ (t : ClockState). get_or t.attached c.index []) clocks.is
+    ∙ table-at (λ n. attached_to core (counter_ref core n)) 0 (length core.counters) c.index c.index [] (omega arith) place.inside
+    ∙ ap (attached_to core) (sym place.ref)
 
 -- ---- values
 
@@ -118,17 +122,23 @@ alarm-within core s a clocks own =
 pub counter-stands : (counter : Counter) → counter.value ≤ counter.max → counter ≡ counter_at counter.max counter.value
 counter-stands counter value = ap (λ v. let k : Counter = record { max = counter.max; value = v } in k) (sym (mod-eq_of_lt (omega (arith, value))))
 
--- what a count asks of the alarms that it takes further, and a look-up of how much is left
-pub passing-bounded : (core : Core) (s : ClockState) (c : CounterRef) (n : ℕ) → AreClocks core s → is_attached core c (alarm_ref core n) ≡ true → IsBounded (max_of core c) (get_or s.alarms n unset)
-passing-bounded core s c n clocks on = by (own_alarm core (alarm_ref core n)) refl on
-  where
-    by : (o : Option AlarmValue) → own_alarm core (alarm_ref core n) ≡ o → option_map_or (λ (x : AlarmValue). same_counter c x.counter) o false ≡ true → IsBounded (max_of core c) (get_or s.alarms n unset)
-    by None e f = absurd (false≢true f)
-    by (Some x) e f =
-        let found : slice_get core.alarms n ≡ Some x = sym (cond-true (same_core core.id core.id) (slice_get core.alarms n) None (same_core-refl core.id)) ∙ e in
-        let max : max_for core (alarm_ref core n) ≡ max_of core c = ap (λ (o : Option AlarmValue). option_map_or (λ (y : AlarmValue). max_of core y.counter) o 0) e ∙ ap (max_of core) (sym (same_counter-true c x.counter f)) in
-        subst (λ (m : ℕ). IsBounded m (get_or s.alarms n unset)) max (alarm-within core s (alarm_ref core n) clocks (alarm-own core n (slice_get_within core.alarms n x found)))
+-- what a count and a look-up of those that are due ask of the counter's own alarms
+pub attached-inside : (core : Core) (c : CounterRef) (t s : ClockState) (list : List AlarmRef) → t ≡ s → AreClocks core s → is_own_object core (counter_object c) ≡ true → list ≡ get_or t.attached c.index []
+    → All (λ (a : AlarmRef). a.index < length t.alarms) list
+attached-inside core c t s list same clocks own own_list =
+    subst (λ (u : ClockState). All (λ (a : AlarmRef). a.index < length u.alarms) list) (sym same)
+    (All-same (λ (a : AlarmRef). a.index < length s.alarms) list (attached_to core c) (own_list ∙ ap (λ (u : ClockState). get_or u.attached c.index []) same ∙ list-at core s c clocks own)
+    (attached-all core c (λ (a : AlarmRef). a.index < length s.alarms) (λ a on. alarm-inside core s a clocks (attached-own core c a on))))
 
+pub attached-bounded : (core : Core) (c : CounterRef) (t s : ClockState) (counter : Counter) (list : List AlarmRef) → t ≡ s → AreClocks core s → is_own_object core (counter_object c) ≡ true → counter ≡ counter_in c s → list ≡ get_or t.attached c.index []
+    → All (λ (a : AlarmRef). IsBounded counter.max (alarm_in a t)) list
+attached-bounded core c t s counter list same clocks own value own_list =
+    subst (λ (u : ClockState). All (λ (a : AlarmRef). IsBounded counter.max (alarm_in a u)) list) (sym same)
+    (All-same (λ (a : AlarmRef). IsBounded counter.max (alarm_in a s)) list (attached_to core c) (own_list ∙ ap (λ (u : ClockState). get_or u.attached c.index []) same ∙ list-at core s c clocks own)
+    (attached-all core c (λ (a : AlarmRef). IsBounded counter.max (alarm_in a s))
+    (λ a on. subst (λ (m : ℕ). IsBounded m (alarm_in a s)) (attached-max core c a on ∙ sym (ap (λ (k : Counter). k.max) value ∙ (counter-within core s c clocks own).is)) (alarm-within core s a clocks (attached-own core c a on)))))
+
+-- and of a look-up of how much is left
 pub value-within : (max : ℕ) (alarm : Alarm) → IsBounded max alarm → IfSome alarm.expiry (λ x. x.value ≤ max)
 value-within max alarm bounded = by alarm.expiry bounded
   where

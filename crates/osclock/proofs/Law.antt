@@ -1,5 +1,5 @@
 -- What an entry does to the state is what it does to what is read off the history.
-use Rattle.std.proofs.Common.{◌≡◌, ℕ, suc, ◌+◌, ◌<◌, ◌%◌, Bool, true, false, cond, ◌&&◌, nat_le, nat_lt, Option, Some, None, is_some, option_map, List, ◌∷◌, length, map, refl, ap, sym, subst, ◌∙◌, arith, get_or}
+use Rattle.std.proofs.Common.{◌≡◌, ℕ, suc, ◌+◌, ◌<◌, ◌%◌, Bool, true, false, cond, ◌&&◌, Option, Some, None, is_some, option_map, List, ◌∷◌, length, refl, ap, sym, ◌∙◌, arith, get_or}
 use Rattle.std.specs.List.{list_all, slice_get, slice_set}
 use Rattle.std.specs.Option.{option_map_or}
 use Rattle.std.proofs.Math.Nat.{mod-add-mod}
@@ -9,7 +9,6 @@ use Rattle.osbase.specs.declared.references.CounterRef.{CounterRef}
 use Rattle.osbase.specs.History.{History, Entry, Noted, Counted, AlarmSet, AlarmCancelled, same_core}
 use Rattle.osbase.specs.Counting.{AlarmSetting, alarm_of, counts_left, counts_of, is_in_turn, one_count_more, same_alarm, same_counter, will_be_due}
 use Rattle.osbase.specs.Objects.{alarm_object, counter_object}
-use Rattle.osbase.specs.Sets.{numbers_from}
 use Rattle.osbase.proofs.Tables.{table-at, table-set}
 use Rattle.osplan.specs.declared.plans.Alarm.{Alarm as AlarmValue}
 use Rattle.osplan.specs.declared.plans.Core.{Core}
@@ -21,7 +20,7 @@ use Rattle.oscount.specs.declared.counters.Counter.{Counter}
 use Rattle.oscount.specs.declared.alarms.Alarm.{Alarm}
 use Rattle.oscount.specs.Clocks.{advanced, alarm_at, alarm_beyond, counter_at, setting_of}
 use Rattle.oscount.proofs.Expiries.{beyond, counted as next}
-use Rattle.osclock.specs.Clocks.{ClockState, alarm_by, alarm_in, alarm_ref, all_passed, clocks_by, clocks_of, counted, counter_by, counter_for, counter_in, counter_ref, due_after, is_attached, max_of, no_counter, passed, unset, with_alarm}
+use Rattle.osclock.specs.Clocks.{ClockState, alarm_by, alarm_in, alarm_ref, all_passed, clocks_by, clocks_of, counted, counter_by, counter_for, counter_in, counter_ref, due_after, max_of, no_counter, passed, unset, with_alarm}
 use Rattle.osclock.proofs.Places.{alarm-apart, alarm-other, alarm-own, alarm-place, alarm-some, counter-apart, counter-other, counter-own, counter-place, same_alarm-refl, same_counter-refl, same_counter-true, table-within}
 
 -- ---- what stands at an own object's place
@@ -89,12 +88,14 @@ alarms-on core c h own =
         ap (passed core c (counter_by core c h) n) (table-at (λ m. alarm_by core (alarm_ref core m) h) 0 (length core.alarms) n n unset (omega arith) (omega (arith, inside)))
         ∙ alarm-on core c (alarm_ref core n) h (own_alarm core (alarm_ref core n))
 
-pub both : {s t : ClockState} → s.counters ≡ t.counters → s.alarms ≡ t.alarms → s ≡ t
-both {s} {t} counters alarms =
-    ap (λ (x : List Counter). let u : ClockState = record { counters = x; alarms = s.alarms } in u) counters ∙ ap (λ (x : List Alarm). let u : ClockState = record { counters = t.counters; alarms = x } in u) alarms
+pub both : {s t : ClockState} → s.counters ≡ t.counters → s.alarms ≡ t.alarms → s.attached ≡ t.attached → s ≡ t
+both {s} {t} counters alarms attached =
+    ap (λ (x : List Counter). let u : ClockState = record { counters = x; alarms = s.alarms; attached = s.attached } in u) counters
+    ∙ ap (λ (x : List Alarm). let u : ClockState = record { counters = t.counters; alarms = x; attached = s.attached } in u) alarms
+    ∙ ap (λ (x : List (List AlarmRef)). let u : ClockState = record { counters = t.counters; alarms = t.alarms; attached = x } in u) attached
 
 pub count-on : (core : Core) (c : CounterRef) (h : History) → is_own_object core (counter_object c) ≡ true → counted core c (clocks_of core h) ≡ clocks_of core (Noted (Counted c) ∷ h)
-count-on core c h own = both (counters-on core c h own) (alarms-on core c h own)
+count-on core c h own = both (counters-on core c h own) (alarms-on core c h own) refl
 
 -- ---- an alarm that is set or cancelled
 
@@ -139,6 +140,7 @@ count-off core c h within other =
     both
     (table-within (λ n. counter_by core (counter_ref core n) h) (λ n. counter_by core (counter_ref core n) (Noted (Counted c) ∷ h)) 0 (length core.counters) (λ n inside. counter-off n (omega (arith, inside))))
     (table-within (λ n. alarm_by core (alarm_ref core n) h) (λ n. alarm_by core (alarm_ref core n) (Noted (Counted c) ∷ h)) 0 (length core.alarms) (λ n inside. alarm-off (alarm_ref core n) (own_alarm core (alarm_ref core n)) refl))
+    refl
   where
     counter-off : (n : ℕ) → n < length core.counters → counter_by core (counter_ref core n) h ≡ counter_by core (counter_ref core n) (Noted (Counted c) ∷ h)
     counter-off n inside = ap (λ (t : Bool). counter_at (max_of core (counter_ref core n)) (cond t (suc (counts_of (counter_ref core n) h)) (counts_of (counter_ref core n) h))) (sym (counter-apart core c (counter_ref core n) other (counter-own core n inside)))
@@ -170,8 +172,8 @@ set-after core a first cycle h within = by (is_own_object core (alarm_object a))
     others b apart = set-other core a b first cycle h apart
 
     by : (b : Bool) → is_own_object core (alarm_object a) ≡ b → cond b (with_alarm a (due_after (counter_for core a (clocks_of core h)) first cycle) (clocks_of core h)) (clocks_of core h) ≡ clocks_of core (Noted (AlarmSet a first cycle) ∷ h)
-    by true own = both refl (alarm-set core a h (Noted (AlarmSet a first cycle)) (due_after (counter_for core a (clocks_of core h)) first cycle) own (set-here core a first cycle h within own (own_alarm core a) refl) others)
-    by false other = both refl (alarms-off core a h (Noted (AlarmSet a first cycle)) other others)
+    by true own = both refl (alarm-set core a h (Noted (AlarmSet a first cycle)) (due_after (counter_for core a (clocks_of core h)) first cycle) own (set-here core a first cycle h within own (own_alarm core a) refl) others) refl
+    by false other = both refl (alarms-off core a h (Noted (AlarmSet a first cycle)) other others) refl
 
 pub cancel-after : (core : Core) (a : AlarmRef) (h : History) → clocks_by core (Noted (AlarmCancelled a)) (clocks_of core h) ≡ clocks_of core (Noted (AlarmCancelled a) ∷ h)
 cancel-after core a h = by (is_own_object core (alarm_object a)) refl
@@ -180,8 +182,8 @@ cancel-after core a h = by (is_own_object core (alarm_object a)) refl
     others b apart = cancelled-other core a b h apart
 
     by : (b : Bool) → is_own_object core (alarm_object a) ≡ b → cond b (with_alarm a unset (clocks_of core h)) (clocks_of core h) ≡ clocks_of core (Noted (AlarmCancelled a) ∷ h)
-    by true own = both refl (alarm-set core a h (Noted (AlarmCancelled a)) unset own (cancelled-here core a h (own_alarm core a)) others)
-    by false other = both refl (alarms-off core a h (Noted (AlarmCancelled a)) other others)
+    by true own = both refl (alarm-set core a h (Noted (AlarmCancelled a)) unset own (cancelled-here core a h (own_alarm core a)) others) refl
+    by false other = both refl (alarms-off core a h (Noted (AlarmCancelled a)) other others) refl
 
 -- What is read off a longer history is what its newest entry does to what was read.
 pub after : (core : Core) (e : Entry) (h : History) → are_clocks_within core ≡ true → clocks_by core e (clocks_of core h) ≡ clocks_of core (e ∷ h)

@@ -1,5 +1,5 @@
 -- A core's own counters and alarms, by place.
-use Rattle.std.proofs.Common.{◌≡◌, ℕ, zero, suc, ◌+◌, ◌<◌, ◌≤◌, nat_eq, nat_lt, Bool, true, false, cond, Option, Some, None, is_some, [], ◌∷◌, List, length, map, refl, ap, sym, ◌∙◌, arith}
+use Rattle.std.proofs.Common.{◌≡◌, ℕ, zero, suc, ◌+◌, ◌<◌, nat_eq, nat_lt, true, false, Option, None, is_some, [], ◌∷◌, List, length, map, refl, ap, sym, ◌∙◌, arith}
 use Rattle.std.specs.List.{slice_get}
 use Rattle.std.proofs.lemmas.Bool.{and_parts, and_from, cond-true, eqb-true, eq-eqb, false_from_ne_true, false≢true, lt-ltb, ltb-true}
 use Rattle.osbase.specs.declared.references.AlarmRef.{AlarmRef}
@@ -94,6 +94,12 @@ counter-other core c m apart = false_from_ne_true (same_counter c (counter_ref c
 
 pub alarm-other : (core : Core) (a : AlarmRef) (m : ℕ) → (m ≡ a.index → ⊥) → same_alarm a (alarm_ref core m) ≡ false
 alarm-other core a m apart = false_from_ne_true (same_alarm a (alarm_ref core m)) (λ e. apart (sym (ap (λ (x : AlarmRef). x.index) (same_alarm-true a (alarm_ref core m) e))))
+
+-- ---- ranges of numbers
+
+pub length-numbers : (first count : ℕ) → length (numbers_from first count) ≡ count
+length-numbers first zero = refl
+length-numbers first (suc count) = ap suc (length-numbers (first + 1) count)
 
 -- two tables that agree at every number of the range
 pub table-within : {A : Type 0} (F G : ℕ → A) (first count : ℕ) → ((n : ℕ) → n < first + count → F n ≡ G n) → map F (numbers_from first count) ≡ map G (numbers_from first count)

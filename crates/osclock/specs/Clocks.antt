@@ -1,11 +1,11 @@
 -- The counters and alarms of a core: what is read off its history, and what each entry does to it.
-use Rattle.std.specs.Prelude.{◌≡◌, ℕ, ◌&&◌, Bool, false, if◌then◌else◌, IsTrue, IfSome, ◌≤◌, is_some, Option, Some, None, List, length, map, option_map, slice_index_or}
+use Rattle.std.specs.Prelude.{◌≡◌, ℕ, Bool, false, if◌then◌else◌, IsTrue, IfSome, ◌≤◌, is_some, Option, Some, None, List, [], ◌∷◌, filter, length, map, option_map, slice_index_or}
 use Rattle.std.specs.List.{slice_set}
 use Rattle.std.specs.Option.{option_map_or}
 use Rattle.osbase.specs.declared.references.AlarmRef.{AlarmRef}
 use Rattle.osbase.specs.declared.references.CounterRef.{CounterRef}
 use Rattle.osbase.specs.History.{History, Entry, Noted, Counted, AlarmSet, AlarmCancelled}
-use Rattle.osbase.specs.Counting.{AlarmSetting, alarm_of, counts_of, is_due, is_in_use, left_of, one_count_more, same_counter, value_after}
+use Rattle.osbase.specs.Counting.{AlarmSetting, alarm_of, counts_of, counts_to, is_due, is_in_use, left_of, one_count_more, same_counter, value_after}
 use Rattle.osbase.specs.Objects.{alarm_object, counter_object}
 use Rattle.osbase.specs.Sets.{numbers_from}
 use Rattle.osplan.specs.declared.plans.Alarm.{Alarm as AlarmValue}
@@ -18,10 +18,11 @@ use Rattle.oscount.specs.declared.counters.Counter.{Counter}
 use Rattle.oscount.specs.declared.alarms.Alarm.{Alarm}
 use Rattle.oscount.specs.Clocks.{advanced, alarm_at, alarm_beyond, counter_at, counts_until, is_due_next, setting_of}
 
--- The value of each counter, and when each alarm is due next, in index order.
+-- The value of each counter, when each alarm is due next, and the alarms of each counter, in index order.
 pub record ClockState : Type 0 where
   pub counters : List Counter
   pub alarms : List Alarm
+  pub attached : List (List AlarmRef)
 
 -- A counter and an alarm of the core by its index.
 abbrev pub counter_ref : Core → ℕ → CounterRef
@@ -44,6 +45,16 @@ unset = record { expiry = None }
 abbrev pub no_counter : Counter
 no_counter = record { max = 0; value = 0 }
 
+-- The core's alarms in index order, and those of them that are attached to a counter. [AUTOSAR SWS OS 4.x, OsAlarmCounterRef]
+abbrev pub alarm_refs : Core → List AlarmRef
+alarm_refs core = map (alarm_ref core) (numbers_from 0 (length core.alarms))
+
+abbrev pub is_attached : Core → CounterRef → AlarmRef → Bool
+is_attached core c a = option_map_or (λ (x : AlarmValue). same_counter c x.counter) (own_alarm core a) false
+
+abbrev pub attached_to : Core → CounterRef → List AlarmRef
+attached_to core c = filter (is_attached core c) (alarm_refs core)
+
 -- ---- what is read off a history
 
 abbrev pub counter_by : Core → CounterRef → History → Counter
@@ -57,6 +68,7 @@ abbrev pub clocks_of : Core → History → ClockState
 clocks_of core h = record {
   counters = map (λ (n : ℕ). counter_by core (counter_ref core n) h) (numbers_from 0 (length core.counters));
   alarms = map (λ (n : ℕ). alarm_by core (alarm_ref core n) h) (numbers_from 0 (length core.alarms));
+  attached = map (λ (n : ℕ). attached_to core (counter_ref core n)) (numbers_from 0 (length core.counters));
 }
 
 -- What is asked of one alarm: how it was set last, and with that whether it is in use, how many counts are left, and whether it is due at
@@ -76,6 +88,14 @@ left_by core a h = left_of (max_for core a) (setting_by core a h)
 abbrev pub is_due_by : Core → AlarmRef → History → Bool
 is_due_by core a h = is_due (max_for core a) (option_map one_count_more (setting_by core a h))
 
+-- After how many counts its counter has this value, the present one after a full turn. [OSEK/VDX OS 2.2.3, section 13.6.3.4]
+abbrev pub counts_to_by : Core → AlarmRef → ℕ → History → ℕ
+counts_to_by core a start h = option_map_or (λ (x : AlarmValue). counts_to (max_of core x.counter) (value_by core x.counter h) start) (own_alarm core a) 0
+
+-- The alarms of a counter that are due at its next count, in index order: the order in which they expire at that count. [own]
+abbrev pub due_by : Core → CounterRef → History → List AlarmRef
+due_by core c h = filter (λ (a : AlarmRef). is_due_by core a h) (attached_to core c)
+
 -- ---- what an entry does to the state
 
 -- A counter and an alarm as the state has them, and the counter of an alarm.
@@ -88,10 +108,6 @@ alarm_in a s = slice_index_or s.alarms a.index unset
 abbrev pub counter_for : Core → AlarmRef → ClockState → Counter
 counter_for core a s = option_map_or (λ (x : AlarmValue). counter_in x.counter s) (own_alarm core a) no_counter
 
--- The alarm is attached to this counter.
-abbrev pub is_attached : Core → CounterRef → AlarmRef → Bool
-is_attached core c a = option_map_or (λ (x : AlarmValue). same_counter c x.counter) (own_alarm core a) false
-
 -- A count of this counter takes each alarm of it beyond the counter's value, and no other alarm. [OSEK/VDX OS 2.2.3, section 9.2]
 abbrev pub passed : Core → CounterRef → Counter → ℕ → Alarm → Alarm
 passed core c counter index alarm = if is_attached core c (alarm_ref core index) then alarm_beyond counter alarm else alarm
@@ -100,7 +116,15 @@ abbrev pub all_passed : Core → CounterRef → Counter → List Alarm → List 
 all_passed core c counter alarms = map (λ (n : ℕ). passed core c counter n (slice_index_or alarms n unset)) (numbers_from 0 (length core.alarms))
 
 abbrev pub counted : Core → CounterRef → ClockState → ClockState
-counted core c s = record { counters = slice_set s.counters c.index (advanced (counter_in c s)); alarms = all_passed core c (counter_in c s) s.alarms }
+counted core c s = record s { counters = slice_set s.counters c.index (advanced (counter_in c s)); alarms = all_passed core c (counter_in c s) s.alarms }
+
+-- The same, alarm by alarm of the counter's own, as the code goes over them.
+abbrev pub one_beyond : Counter → AlarmRef → List Alarm → List Alarm
+one_beyond counter a alarms = slice_set alarms a.index (alarm_beyond counter (slice_index_or alarms a.index unset))
+
+abbrev pub all_beyond : Counter → List AlarmRef → List Alarm → List Alarm
+all_beyond counter [] alarms = alarms
+all_beyond counter (a ∷ others) alarms = all_beyond counter others (one_beyond counter a alarms)
 
 -- An alarm is due after so many counts from its counter's value. [OSEK/VDX OS 2.2.3, section 13.6.3.3]
 abbrev pub due_after : Counter → ℕ → ℕ → Alarm
@@ -126,6 +150,12 @@ left_in core a s = option_map (counts_until (counter_for core a s)) (alarm_in a 
 
 abbrev pub is_due_in : Core → AlarmRef → ClockState → Bool
 is_due_in core a s = is_due_next (counter_for core a s) (alarm_in a s)
+
+abbrev pub due_in : Core → CounterRef → ClockState → List AlarmRef
+due_in core c s = filter (λ (a : AlarmRef). is_due_in core a s) (attached_to core c)
+
+abbrev pub counts_to_in : Core → AlarmRef → ℕ → ClockState → ℕ
+counts_to_in core a start s = counts_to (counter_for core a s).max (counter_for core a s).value start
 
 -- The value at which an alarm is due is one of its counter's, and so is its cycle.
 abbrev pub IsBounded : ℕ → Alarm → Type 0

@@ -1,17 +1,21 @@
 //! The counters and alarms of a core.
 
-ghost use Rattle.std.specs.Prelude.{◌≡◌, ◌<◌, ◌≤◌, ◌^◌, ℕ, suc, [], IsTrue, IfSome, length, map, replicate, slice_index_or};
+ghost use Rattle.std.specs.Prelude.{◌≡◌, ◌<◌, ◌≤◌, ◌^◌, ℕ, suc, [], All, IsTrue, IfSome, filter, length, map, replicate, slice_index_or};
 ghost use Rattle.std.specs.List.{slice_set};
+ghost use Rattle.arrayvec.specs.ArrayVec.{ArrayVec as Items};
+ghost use Rattle.osbase.specs.declared.references.AlarmRef.{AlarmRef};
 ghost use Rattle.osbase.specs.History.{Noted, Counted, AlarmSet, AlarmCancelled};
 ghost use Rattle.osbase.specs.Objects.{alarm_object, counter_object};
+ghost use Rattle.osbase.specs.Sets.{numbers_from};
 ghost use Rattle.osplan.specs.declared.plans.Counter.{Counter as CounterValue};
 ghost use Rattle.osplan.specs.Clocked.{are_clocks_within};
 ghost use Rattle.osplan.specs.Objects.{is_own_object};
-ghost use Rattle.oscount.specs.Clocks.{counter_at};
-ghost use Rattle.osclock.specs.Clocks.{AreClocks, IsBounded, alarm_in, alarm_ref, all_passed, clocks_by, clocks_of, counter_for, counter_in, due_after, is_attached, is_due_in, is_used, left_in, max_for, passed, unset};
+ghost use Rattle.oscount.specs.Clocks.{counter_at, is_due_next};
+ghost use Rattle.osclock.specs.Clocks.{AreClocks, IsBounded, alarm_in, alarm_ref, all_beyond, attached_to, clocks_by, clocks_of, counter_for, counter_in, counter_ref, counts_to_in, due_after, due_in, is_attached, is_used, left_in, max_for, unset};
 
+use crate::slots::AlarmSlot;
 use arrayvec::ArrayVec;
-use osbase::{AlarmRef, CounterRef};
+use osbase::{AlarmRef, CoreId, CounterRef};
 use oscount::{Alarm, Counter};
 use osjobs::equality::{both, is_same_core};
 use osjobs::own;
@@ -23,19 +27,27 @@ pub const COUNTERS: usize = 8;
 
 pub const ALARMS: usize = 32;
 
+/// Some of a core's alarms, in index order.
+pub type AlarmList = ArrayVec<AlarmSlot, ALARMS>;
+
 /// The value of each counter of a core, and when each alarm is due next, by index.
 #[derive(Drop)]
 pub struct Clocks {
     counters: ArrayVec<Counter, COUNTERS>,
     alarms: ArrayVec<Alarm, ALARMS>,
+    // The alarms of each counter, so that a count goes over no others.
+    attached: ArrayVec<AlarmList, COUNTERS>,
 }
 
 impl Model for Clocks {
+    ghost use Rattle.std.specs.Prelude.{map};
+    ghost use Rattle.osbase.specs.declared.references.AlarmRef.{AlarmRef};
+    ghost use Rattle.arrayvec.specs.ArrayVec.{ArrayVec as Items};
     ghost use Rattle.osclock.specs.Clocks.{ClockState};
 
     ghost Value = { ClockState };
 
-    ghost view = { λ c. record { counters = c.counters.items; alarms = c.alarms.items } };
+    ghost view = { λ c. record { counters = c.counters.items; alarms = c.alarms.items; attached = map (λ (x : Items AlarmRef). x.items) c.attached.items } };
 }
 
 impl Clocks {
@@ -47,6 +59,7 @@ impl Clocks {
         Clocks {
             counters: new_counters(core),
             alarms: new_alarms(core.alarms.len()),
+            attached: new_attached(core),
         }
     }
 
@@ -58,7 +71,7 @@ impl Clocks {
         ensures { self.new ≡ clocks_by core.now (Noted (Counted counter)) self.old }
     {
         let before = self.counter(counter);
-        pass_alarms(core, &mut self.alarms, counter, before);
+        pass_alarms(&mut self.alarms, list_at(&self.attached, counter), before);
         set_counter(&mut self.counters, counter, before.advanced());
     }
 
@@ -111,13 +124,30 @@ impl Clocks {
         self.alarm(alarm).left(self.counter_for(core, alarm))
     }
 
-    /// Whether an alarm of the core is due at the next count of its counter.
-    pub fn is_due_next(&self, core: &Core, alarm: AlarmRef) -> bool
+    /// After how many counts the counter of an alarm of the core has this value; the value that it has is a full turn away
+    /// (OSEK/VDX OS 2.2.3, section 13.6.3.4).
+    pub fn counts_to(&self, core: &Core, alarm: AlarmRef, start: u32) -> u32
         requires clocks { AreClocks core.now self.now }
         requires own { IsTrue (is_own_object core.now (alarm_object alarm)) }
-        ensures { result ≡ is_due_in core.now alarm self.now }
+        requires turn { start ≤ max_for core.now alarm }
+        ensures state { result ≡ counts_to_in core.now alarm start self.now }
+        ensures later { 0 < result }
+        ensures turn { result ≤ suc (max_for core.now alarm) }
     {
-        self.alarm(alarm).is_due_next(self.counter_for(core, alarm))
+        oscount::counts_to(self.counter_for(core, alarm), start)
+    }
+
+    /// The alarms of a counter of the core that are due at its next count (OSEK/VDX OS 2.2.3, section 9.2).
+    pub fn due_next(&self, core: &Core, counter: CounterRef) -> AlarmList
+        requires clocks { AreClocks core.now self.now }
+        requires own { IsTrue (is_own_object core.now (counter_object counter)) }
+        ensures { result.items ≡ due_in core.now counter self.now }
+    {
+        due_alarms(
+            self.alarms.as_slice(),
+            list_at(&self.attached, counter),
+            self.counter(counter),
+        )
     }
 
     fn counter(&self, counter: CounterRef) -> Counter
@@ -172,6 +202,46 @@ fn new_alarms(count: usize) -> ArrayVec<Alarm, ALARMS>
     alarms
 }
 
+// The alarms of each counter.
+fn new_attached(core: &Core) -> ArrayVec<AlarmList, COUNTERS>
+    requires counters { length core.now.counters ≤ COUNTERS }
+    requires alarms { length core.now.alarms ≤ ALARMS }
+    ensures { map (λ (x : Items AlarmRef). x.items) result.items ≡ map (λ (n : ℕ). attached_to core.now (counter_ref core.now n)) (numbers_from 0 (length core.now.counters)) }
+{
+    let mut attached = ArrayVec::new();
+    for index in 0..core.counters.len() {
+        let counter = CounterRef {
+            core: core.id,
+            index: index as u8,
+        };
+        attached.push(attached_to(core, counter));
+    }
+    attached
+}
+
+fn attached_to(core: &Core, counter: CounterRef) -> AlarmList
+    requires { length core.now.alarms ≤ ALARMS }
+    ensures { result.items ≡ attached_to core.now counter }
+{
+    let mut attached = ArrayVec::new();
+    for index in 0..core.alarms.len() {
+        if is_attached(core, index, counter) {
+            attached.push(slot(core.id, index));
+        }
+    }
+    attached
+}
+
+fn slot(core: CoreId, index: usize) -> AlarmSlot
+    requires { index < ALARMS }
+    ensures { result ≡ record { core = core; index = index } }
+{
+    let index = index as u8;
+    AlarmSlot {
+        alarm: AlarmRef { core, index },
+    }
+}
+
 fn set_counter(counters: &mut ArrayVec<Counter, COUNTERS>, counter: CounterRef, value: Counter)
     requires { counter.index < length counters.old.items }
     ensures { counters.new.items ≡ slice_set counters.old.items counter.index value }
@@ -179,41 +249,45 @@ fn set_counter(counters: &mut ArrayVec<Counter, COUNTERS>, counter: CounterRef, 
     counters.as_mut_slice()[usize::from(counter.index)] = value;
 }
 
-// Takes each alarm of the counter beyond its value.
-fn pass_alarms(
-    core: &Core,
-    alarms: &mut ArrayVec<Alarm, ALARMS>,
-    counter: CounterRef,
-    before: Counter,
-)
+// The alarms of this counter.
+fn list_at(attached: &ArrayVec<AlarmList, COUNTERS>, counter: CounterRef) -> &[AlarmSlot]
+    requires { counter.index < length attached.now.items }
+    ensures value { result.now ≡ slice_index_or (map (λ (x : Items AlarmRef). x.items) attached.now.items) counter.index [] }
+    ensures few { length result.now ≤ ALARMS }
+{
+    let list = &attached.as_slice()[usize::from(counter.index)];
+    list.as_slice()
+}
+
+// Takes each of a counter's alarms beyond its value.
+fn pass_alarms(alarms: &mut ArrayVec<Alarm, ALARMS>, attached: &[AlarmSlot], before: Counter)
     requires max { before.max < 2 ^ 31 }
     requires value { before.value ≤ before.max }
-    requires length { length alarms.old.items ≡ length core.now.alarms }
-    requires bounded { (n : ℕ) → IsTrue (is_attached core.now counter (alarm_ref core.now n)) → IsBounded before.max (slice_index_or alarms.old.items n unset) }
-    ensures { alarms.new.items ≡ all_passed core.now counter before alarms.old.items }
+    requires places { All (λ (a : AlarmRef). a.index < length alarms.old.items) attached.now }
+    requires bounded { All (λ (a : AlarmRef). IsBounded before.max (slice_index_or alarms.old.items a.index unset)) attached.now }
+    ensures { alarms.new.items ≡ all_beyond before attached.now alarms.old.items }
 {
-    for index in 0..alarms.len() {
-        pass_alarm(core, alarms, index, counter, before);
+    for slot in attached {
+        let alarm = &mut alarms.as_mut_slice()[usize::from(slot.alarm.index)];
+        alarm.advance(before);
     }
 }
 
-fn pass_alarm(
-    core: &Core,
-    alarms: &mut ArrayVec<Alarm, ALARMS>,
-    index: usize,
-    counter: CounterRef,
-    before: Counter,
-)
-    requires max { before.max < 2 ^ 31 }
-    requires value { before.value ≤ before.max }
-    requires place { index < length alarms.old.items }
-    requires alarm { index < length core.now.alarms }
-    requires bounded { IsTrue (is_attached core.now counter (alarm_ref core.now index)) → IsBounded before.max (slice_index_or alarms.old.items index unset) }
-    ensures { alarms.new.items ≡ slice_set alarms.old.items index (passed core.now counter before index (slice_index_or alarms.old.items index unset)) }
+// Those of a counter's alarms that are due at its next count.
+fn due_alarms(alarms: &[Alarm], attached: &[AlarmSlot], counter: Counter) -> AlarmList
+    requires max { counter.max < 2 ^ 31 }
+    requires value { counter.value ≤ counter.max }
+    requires places { All (λ (a : AlarmRef). a.index < length alarms.now) attached.now }
+    requires few { length attached.now ≤ ALARMS }
+    ensures { result.items ≡ filter (λ (a : AlarmRef). is_due_next counter (slice_index_or alarms.now a.index unset)) attached.now }
 {
-    if is_attached(core, index, counter) {
-        alarms.as_mut_slice()[index].advance(before);
+    let mut due = ArrayVec::new();
+    for slot in attached {
+        if alarms[usize::from(slot.alarm.index)].is_due_next(counter) {
+            due.push(*slot);
+        }
     }
+    due
 }
 
 // Whether the alarm of this index goes by the counter.

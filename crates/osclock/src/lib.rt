@@ -4,5 +4,7 @@
 #![tactic(auto)]
 
 pub mod clocks;
+pub mod slots;
 
-pub use clocks::Clocks;
+pub use clocks::{AlarmList, Clocks};
+pub use slots::AlarmSlot;

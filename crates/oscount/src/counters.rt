@@ -1,6 +1,7 @@
 //! The value of a counter.
 
 ghost use Rattle.std.specs.Prelude.{◌≡◌, ◌<◌, ◌≤◌, ◌^◌, ℕ, suc};
+ghost use Rattle.osbase.specs.Counting.{counts_to};
 ghost use Rattle.oscount.specs.Clocks.{advanced, counter_at, wrapped};
 
 /// A counter (OSEK/VDX OS 2.2.3, section 9.1): its value goes from 0 to its greatest, and then to 0 again.
@@ -21,6 +22,17 @@ pub fn wrapped(max: u32, value: u32) -> u32
     } else {
         value - (max + 1)
     }
+}
+
+/// From a counter's value, how many counts lead to this one; the value that it has is a full turn away (OSEK/VDX OS 2.2.3,
+/// section 13.6.3.4).
+pub fn counts_to(counter: Counter, start: u32) -> u32
+    requires max { counter.max < 2 ^ 31 }
+    requires value { counter.value ≤ counter.max }
+    requires turn { start ≤ counter.max }
+    ensures { result ≡ counts_to counter.max counter.value start }
+{
+    (start + counter.max - counter.value) % (counter.max + 1) + 1
 }
 
 impl Counter {

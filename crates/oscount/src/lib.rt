@@ -8,4 +8,4 @@ pub mod counters;
 pub mod laws;
 
 pub use alarms::{Alarm, Expiry};
-pub use counters::Counter;
+pub use counters::{Counter, counts_to};

@@ -2,18 +2,19 @@
 use Rattle.std.proofs.Common.{◌≡◌, ℕ, Bool, true, List, [], ◌∷◌, Option, Some, None, option_map, refl, ap}
 use Rattle.std.specs.List.{list_all, slice_get}
 use Rattle.std.proofs.lemmas.Bool.{and_parts, false≢true}
+use Rattle.osbase.specs.declared.references.AlarmRef.{AlarmRef}
 use Rattle.osbase.specs.declared.references.CounterRef.{CounterRef}
 use Rattle.osbase.specs.declared.references.ResourceRef.{ResourceRef}
 use Rattle.osbase.specs.declared.references.TaskRef.{TaskRef}
-use Rattle.osbase.specs.Objects.{counter_of, resource_of, task_of}
-use Rattle.osbase.specs.declared.objects.ObjectKind.TheVariants.{Task, Resource, Counter}
+use Rattle.osbase.specs.Objects.{alarm_of, counter_of, resource_of, task_of}
+use Rattle.osbase.specs.declared.objects.ObjectKind.TheVariants.{Task, Resource, Counter, Alarm}
 use Rattle.osbase.specs.declared.objects.Place.{Place}
 use Rattle.osbase.specs.declared.objects.Object.{Object as Named}
 use Rattle.oscript.specs.declared.rows.Arg.{Arg}
 use Rattle.oscript.specs.declared.rows.Arg.TheVariants.{Object, Mask, Number, Int, Variable}
 use Rattle.oscript.specs.declared.rows.Kind.{Kind}
-use Rattle.oscript.specs.declared.rows.TheConstants.{COUNTER, RESOURCE, TASK}
-use Rattle.oscript.specs.Rows.{are_of, counter_argument, int_in, is_of, mask_in, number_in, objects_in, place_in, resource_argument, task_argument, variable_in}
+use Rattle.oscript.specs.declared.rows.TheConstants.{ALARM, COUNTER, RESOURCE, TASK}
+use Rattle.oscript.specs.Rows.{alarm_argument, are_of, counter_argument, int_in, is_of, mask_in, number_in, objects_in, place_in, resource_argument, task_argument, variable_in}
 
 -- an object's argument is taken back
 pub task-back : (target : Option TaskRef) → option_map task_of (place_in Task (Some (task_argument target))) ≡ target
@@ -27,6 +28,10 @@ resource-back (Some r) = refl
 pub counter-back : (target : Option CounterRef) → option_map counter_of (place_in Counter (Some (counter_argument target))) ≡ target
 counter-back None = refl
 counter-back (Some c) = refl
+
+pub alarm-back : (target : Option AlarmRef) → option_map alarm_of (place_in Alarm (Some (alarm_argument target))) ≡ target
+alarm-back None = refl
+alarm-back (Some a) = refl
 
 -- the objects of the later arguments
 pub rest-pass : (p : Named → Bool) (arg : Arg Place) (args : List (Arg Place)) → list_all p (objects_in (arg ∷ args)) ≡ true → list_all p (objects_in args) ≡ true
@@ -65,6 +70,14 @@ counter-same a is = absurd (false≢true is)
 
 pub counter-kept : Kept COUNTER (λ o. counter_argument (option_map counter_of (place_in Counter o)))
 counter-kept = record { same = counter-same }
+
+alarm-same : (a : Arg Place) → is_of ALARM a ≡ true → alarm_argument (option_map alarm_of (place_in Alarm (Some a))) ≡ a
+alarm-same (Object Alarm None) is = refl
+alarm-same (Object Alarm (Some place)) is = refl
+alarm-same a is = absurd (false≢true is)
+
+pub alarm-kept : Kept ALARM (λ o. alarm_argument (option_map alarm_of (place_in Alarm o)))
+alarm-kept = record { same = alarm-same }
 
 mask-same : (a : Arg Place) → is_of Kind.Mask a ≡ true → Mask (mask_in (Some a)) ≡ a
 mask-same (Mask mask) is = refl
@@ -110,3 +123,9 @@ two-kept kept last [] fit = absurd (false≢true fit)
 two-kept {k} {j} kept last (a ∷ args) fit =
     let parts = and_parts (is_of k a) (are_of (j ∷ []) args) fit in
     rw (kept.same a parts.0) (ap (λ rest. a ∷ rest) (one-kept last args parts.1))
+
+pub three-kept : {k j i : Kind} {again more most : Option (Arg Place) → Arg Place} (kept : Kept k again) (middle : Kept j more) (last : Kept i most) (args : List (Arg Place)) → are_of (k ∷ j ∷ i ∷ []) args ≡ true → again (slice_get args 0) ∷ more (slice_get args 1) ∷ most (slice_get args 2) ∷ [] ≡ args
+three-kept kept middle last [] fit = absurd (false≢true fit)
+three-kept {k} {j} {i} kept middle last (a ∷ args) fit =
+    let parts = and_parts (is_of k a) (are_of (j ∷ i ∷ []) args) fit in
+    rw (kept.same a parts.0) (ap (λ rest. a ∷ rest) (two-kept middle last args parts.1))

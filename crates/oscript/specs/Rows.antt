@@ -1,12 +1,13 @@
 -- The grammar of operations: a row for each. An operation as its verb and its arguments, and the objects that it names.
 use Rattle.std.specs.Prelude.{ℕ, ◌&&◌, nat_le, ℤ, pos, negsuc, Bool, true, false, if◌then◌else◌, Option, Some, None, List, [], ◌∷◌, codes, option_map, filter_map, slice_get}
 use Rattle.std.specs.List.{list_all}
-use Rattle.osbase.specs.Objects.{counter_of, counter_place, resource_of, resource_place, same_kind, task_of, task_place}
+use Rattle.osbase.specs.Objects.{alarm_of, alarm_place, counter_of, counter_place, resource_of, resource_place, same_kind, task_of, task_place}
 use Rattle.osbase.specs.Words.{service_name}
 use Rattle.osbase.specs.declared.objects.Object.{Object as Named}
 use Rattle.osbase.specs.declared.objects.ObjectKind.{ObjectKind}
-use Rattle.osbase.specs.declared.objects.ObjectKind.TheVariants.{Task, Resource, Counter}
+use Rattle.osbase.specs.declared.objects.ObjectKind.TheVariants.{Task, Resource, Counter, Alarm}
 use Rattle.osbase.specs.declared.objects.Place.{Place}
+use Rattle.osbase.specs.declared.references.AlarmRef.{AlarmRef}
 use Rattle.osbase.specs.declared.references.CounterRef.{CounterRef}
 use Rattle.osbase.specs.declared.references.ResourceRef.{ResourceRef}
 use Rattle.osbase.specs.declared.references.TaskRef.{TaskRef}
@@ -21,7 +22,7 @@ use Rattle.oscript.specs.declared.rows.Args.{Args}
 use Rattle.oscript.specs.declared.rows.Form.{Form}
 use Rattle.oscript.specs.declared.rows.Kind.{Kind}
 use Rattle.oscript.specs.declared.rows.Row.{Row}
-use Rattle.oscript.specs.declared.rows.TheConstants.{COUNTER, POSITION, RESOURCE, TASK}
+use Rattle.oscript.specs.declared.rows.TheConstants.{ALARM, COUNTER, POSITION, RESOURCE, TASK, TICKS}
 use Rattle.oscript.specs.declared.rows.Verb.{Verb}
 
 -- The arguments, from the left.
@@ -63,6 +64,10 @@ row_of Verb.GetEvent = service_row Service.GetEvent (Two TASK Kind.Variable)
 row_of Verb.WaitEvent = service_row Service.WaitEvent (One Kind.Mask)
 row_of Verb.IncrementCounter = service_row Service.IncrementCounter (One COUNTER)
 row_of Verb.GetCounterValue = service_row Service.GetCounterValue (Two COUNTER Kind.Variable)
+row_of Verb.SetRelAlarm = service_row Service.SetRelAlarm (Three ALARM TICKS TICKS)
+row_of Verb.SetAbsAlarm = service_row Service.SetAbsAlarm (Three ALARM TICKS TICKS)
+row_of Verb.CancelAlarm = service_row Service.CancelAlarm (One ALARM)
+row_of Verb.GetAlarm = service_row Service.GetAlarm (Two ALARM Kind.Variable)
 
 abbrev pub word_of : Verb → List ℕ
 word_of verb = (row_of verb).0
@@ -96,6 +101,9 @@ resource_at args i = option_map resource_of (place_at Resource args i)
 
 abbrev pub counter_at : List (Arg Place) → ℕ → Option CounterRef
 counter_at args i = option_map counter_of (place_at Counter args i)
+
+abbrev pub alarm_at : List (Arg Place) → ℕ → Option AlarmRef
+alarm_at args i = option_map alarm_of (place_at Alarm args i)
 
 -- The events of the mask at this place.
 abbrev pub mask_in : Option (Arg Place) → ℕ
@@ -148,6 +156,10 @@ op_by Verb.GetEvent args = Op.GetEvent (task_at args 0) (variable_at args 1)
 op_by Verb.WaitEvent args = Op.WaitEvent (mask_at args 0)
 op_by Verb.IncrementCounter args = Op.IncrementCounter (counter_at args 0)
 op_by Verb.GetCounterValue args = Op.GetCounterValue (counter_at args 0) (variable_at args 1)
+op_by Verb.SetRelAlarm args = Op.SetRelAlarm (alarm_at args 0) (number_at args 1) (number_at args 2)
+op_by Verb.SetAbsAlarm args = Op.SetAbsAlarm (alarm_at args 0) (number_at args 1) (number_at args 2)
+op_by Verb.CancelAlarm args = Op.CancelAlarm (alarm_at args 0)
+op_by Verb.GetAlarm args = Op.GetAlarm (alarm_at args 0) (variable_at args 1)
 
 -- The operation of a form. [own]
 abbrev pub op_of : Verb × List (Arg Place) → Op
@@ -161,6 +173,9 @@ resource_argument target = Object Resource (option_map resource_place target)
 
 abbrev pub counter_argument : Option CounterRef → Arg Place
 counter_argument target = Object Counter (option_map counter_place target)
+
+abbrev pub alarm_argument : Option AlarmRef → Arg Place
+alarm_argument target = Object Alarm (option_map alarm_place target)
 
 -- The form of an operation. [own]
 abbrev pub form_of_op : Op → Verb × List (Arg Place)
@@ -183,6 +198,10 @@ form_of_op (Op.GetEvent target x) = (Verb.GetEvent, task_argument target ∷ Var
 form_of_op (Op.WaitEvent mask) = (Verb.WaitEvent, Mask mask ∷ [])
 form_of_op (Op.IncrementCounter target) = (Verb.IncrementCounter, counter_argument target ∷ [])
 form_of_op (Op.GetCounterValue target x) = (Verb.GetCounterValue, counter_argument target ∷ Variable x.index ∷ [])
+form_of_op (Op.SetRelAlarm target increment cycle) = (Verb.SetRelAlarm, alarm_argument target ∷ Number increment ∷ Number cycle ∷ [])
+form_of_op (Op.SetAbsAlarm target start cycle) = (Verb.SetAbsAlarm, alarm_argument target ∷ Number start ∷ Number cycle ∷ [])
+form_of_op (Op.CancelAlarm target) = (Verb.CancelAlarm, alarm_argument target ∷ [])
+form_of_op (Op.GetAlarm target x) = (Verb.GetAlarm, alarm_argument target ∷ Variable x.index ∷ [])
 
 -- ---- arguments of their kinds
 

@@ -6,7 +6,7 @@ pub mod rows;
 ghost use Rattle.std.specs.Prelude.{◌≡◌, ◌<◌, ◌^◌};
 ghost use Rattle.oscript.specs.Frames.{action_at, completed, new_frame, op_has_status, place_after, position_of, result_of, rewound, stored, value_of, with_value};
 
-use osbase::{CounterRef, List, ResourceRef, Status, TaskRef, Variable};
+use osbase::{AlarmRef, CounterRef, List, ResourceRef, Status, TaskRef, Variable};
 pub use rows::{Arg, Args, Form, Kind, Row, VERBS, Verb, form_of_op, op_of, row_of};
 
 /// One operation of a script. In place of an object, `None` is the invalid identifier, `?`.
@@ -50,6 +50,16 @@ pub enum Op {
     IncrementCounter(Option<CounterRef>),
     /// GetCounterValue: the variable gets the counter's value (AUTOSAR SWS OS 4.x, SWS_Os_00383).
     GetCounterValue(Option<CounterRef>, Variable),
+    /// SetRelAlarm: due after so many ticks, and again after each cycle, if that is not 0 (OSEK/VDX OS 2.2.3,
+    /// section 13.6.3.3).
+    SetRelAlarm(Option<AlarmRef>, u32, u32),
+    /// SetAbsAlarm: due when its counter reaches this value, and again after each cycle, if that is not 0
+    /// (OSEK/VDX OS 2.2.3, section 13.6.3.4).
+    SetAbsAlarm(Option<AlarmRef>, u32, u32),
+    /// CancelAlarm (OSEK/VDX OS 2.2.3, section 13.6.3.5).
+    CancelAlarm(Option<AlarmRef>),
+    /// GetAlarm: the variable gets the ticks that are left (OSEK/VDX OS 2.2.3, section 13.6.3.2).
+    GetAlarm(Option<AlarmRef>, Variable),
 }
 
 impl Op {
@@ -71,6 +81,7 @@ impl Op {
             Op::StoreStatus(variable) => Some(variable),
             Op::GetEvent(_, variable) => Some(variable),
             Op::GetCounterValue(_, variable) => Some(variable),
+            Op::GetAlarm(_, variable) => Some(variable),
             _ => None,
         }
     }

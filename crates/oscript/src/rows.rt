@@ -1,12 +1,14 @@
 //! The grammar of operations: a row for each. An operation as its verb and its arguments, and the objects
 //! that it names.
 
-ghost use Rattle.std.specs.Prelude.{◌≡◌, filter_map, option_map, slice_get};
-ghost use Rattle.osbase.specs.Objects.{counter_of, resource_of, task_of};
-ghost use Rattle.oscript.specs.Rows.{counter_argument, counter_at, form_of_op, form_view, has_masks, int_at, items, mask_at, names_own_only, number_at, object_in, objects_of, op_of, place_at, plain_row, resource_argument, resource_at, row_of, row_view, service_row, task_at, task_argument, variable_at};
+ghost use Rattle.std.specs.Prelude.{◌≡◌, List, [], ◌∷◌, filter_map, option_map, slice_get};
+ghost use Rattle.osbase.specs.Objects.{alarm_of, counter_of, resource_of, task_of};
+ghost use Rattle.oscript.specs.Rows.{alarm_argument, alarm_at, counter_argument, counter_at, form_of_op, form_view, has_masks, int_at, items, mask_at, names_own_only, number_at, object_in, objects_of, op_of, place_at, plain_row, resource_argument, resource_at, row_of, row_view, service_row, task_at, task_argument, variable_at};
 
 use crate::Op;
-use osbase::{CounterRef, Object, ObjectKind, Place, ResourceRef, ServiceId, TaskRef, Variable};
+use osbase::{
+    AlarmRef, CounterRef, Object, ObjectKind, Place, ResourceRef, ServiceId, TaskRef, Variable,
+};
 
 /// What an argument of an operation has to be.
 #[derive(Clone, Copy, Debug, PartialEq, Eq)]
@@ -54,6 +56,10 @@ pub enum Verb {
     WaitEvent,
     IncrementCounter,
     GetCounterValue,
+    SetRelAlarm,
+    SetAbsAlarm,
+    CancelAlarm,
+    GetAlarm,
 }
 
 /// One row of the grammar: an operation's word, the kinds of its arguments, and the service that it
@@ -66,7 +72,7 @@ pub struct Row {
 }
 
 /// Every operation. A word is looked for from the front, so what scripts have most stands first.
-pub const VERBS: [Verb; 19] = [
+pub const VERBS: [Verb; 23] = [
     Verb::ActivateTask,
     Verb::TerminateTask,
     Verb::Work,
@@ -86,6 +92,10 @@ pub const VERBS: [Verb; 19] = [
     Verb::WaitEvent,
     Verb::IncrementCounter,
     Verb::GetCounterValue,
+    Verb::SetRelAlarm,
+    Verb::SetAbsAlarm,
+    Verb::CancelAlarm,
+    Verb::GetAlarm,
 ];
 
 /// A task's name, or `?`.
@@ -96,6 +106,12 @@ pub const RESOURCE: Kind = Kind::Object(ObjectKind::Resource);
 
 /// A counter's name, or `?`.
 pub const COUNTER: Kind = Kind::Object(ObjectKind::Counter);
+
+/// An alarm's name, or `?`.
+pub const ALARM: Kind = Kind::Object(ObjectKind::Alarm);
+
+/// Ticks of a counter, or a value of one: any number of 32 bits.
+pub const TICKS: Kind = Kind::Number(0, 4294967295);
 
 /// A place in a script: that of an operation, or past the last of the most that there may be.
 pub const POSITION: Kind = Kind::Number(0, 256);
@@ -151,6 +167,10 @@ pub fn row_of(verb: Verb) -> Row
             ServiceId::GetCounterValue,
             Args::Two(COUNTER, Kind::Variable),
         ),
+        Verb::SetRelAlarm => service_row(ServiceId::SetRelAlarm, Args::Three(ALARM, TICKS, TICKS)),
+        Verb::SetAbsAlarm => service_row(ServiceId::SetAbsAlarm, Args::Three(ALARM, TICKS, TICKS)),
+        Verb::CancelAlarm => service_row(ServiceId::CancelAlarm, Args::One(ALARM)),
+        Verb::GetAlarm => service_row(ServiceId::GetAlarm, Args::Two(ALARM, Kind::Variable)),
     }
 }
 
@@ -247,6 +267,21 @@ fn counter_at(args: Args<Arg<Place>>, i: usize) -> Option<CounterRef>
     counter_in(place_at(args, ObjectKind::Counter, i))
 }
 
+#[inline(always)]
+fn alarm_in(target: Option<Place>) -> Option<AlarmRef>
+    ensures { result ≡ option_map alarm_of target }
+{
+    Some(AlarmRef::at(target?))
+}
+
+// The alarm that the argument at this place names.
+#[inline(always)]
+fn alarm_at(args: Args<Arg<Place>>, i: usize) -> Option<AlarmRef>
+    ensures { result ≡ alarm_at (items args) i }
+{
+    alarm_in(place_at(args, ObjectKind::Alarm, i))
+}
+
 // The mask at this place.
 #[inline(always)]
 fn mask_at(args: Args<Arg<Place>>, i: usize) -> u32
@@ -318,6 +353,14 @@ pub fn op_of(form: Form<Place>) -> Op
         Verb::WaitEvent => Op::WaitEvent(mask_at(args, 0)),
         Verb::IncrementCounter => Op::IncrementCounter(counter_at(args, 0)),
         Verb::GetCounterValue => Op::GetCounterValue(counter_at(args, 0), variable_at(args, 1)),
+        Verb::SetRelAlarm => {
+            Op::SetRelAlarm(alarm_at(args, 0), number_at(args, 1), number_at(args, 2))
+        }
+        Verb::SetAbsAlarm => {
+            Op::SetAbsAlarm(alarm_at(args, 0), number_at(args, 1), number_at(args, 2))
+        }
+        Verb::CancelAlarm => Op::CancelAlarm(alarm_at(args, 0)),
+        Verb::GetAlarm => Op::GetAlarm(alarm_at(args, 0), variable_at(args, 1)),
     }
 }
 
@@ -352,6 +395,25 @@ fn counter_argument(target: Option<CounterRef>) -> Arg<Place>
         Some(counter) => Arg::Object(ObjectKind::Counter, Some(counter.place())),
         None => Arg::Object(ObjectKind::Counter, None),
     }
+}
+
+fn alarm_argument(target: Option<AlarmRef>) -> Arg<Place>
+    ensures { result ≡ alarm_argument target }
+{
+    match target {
+        Some(alarm) => Arg::Object(ObjectKind::Alarm, Some(alarm.place())),
+        None => Arg::Object(ObjectKind::Alarm, None),
+    }
+}
+
+fn timed_arguments(target: Option<AlarmRef>, first: u32, cycle: u32) -> Args<Arg<Place>>
+    ensures { items result ≡ alarm_argument target ∷ Arg.Number first ∷ Arg.Number cycle ∷ [] }
+{
+    Args::Three(
+        alarm_argument(target),
+        Arg::Number(first),
+        Arg::Number(cycle),
+    )
 }
 
 fn variable_argument(variable: Variable) -> Arg<Place>
@@ -405,6 +467,17 @@ pub fn form_of_op(op: Op) -> Form<Place>
         Op::GetCounterValue(target, x) => formed(
             Verb::GetCounterValue,
             Args::Two(counter_argument(target), variable_argument(x)),
+        ),
+        Op::SetRelAlarm(target, increment, cycle) => {
+            formed(Verb::SetRelAlarm, timed_arguments(target, increment, cycle))
+        }
+        Op::SetAbsAlarm(target, start, cycle) => {
+            formed(Verb::SetAbsAlarm, timed_arguments(target, start, cycle))
+        }
+        Op::CancelAlarm(target) => formed(Verb::CancelAlarm, Args::One(alarm_argument(target))),
+        Op::GetAlarm(target, x) => formed(
+            Verb::GetAlarm,
+            Args::Two(alarm_argument(target), variable_argument(x)),
         ),
     }
 }

@@ -1,30 +1,41 @@
 -- A text without a fault means a configuration within the limits.
-use Rattle.std.proofs.Common.{◌≡◌, ℕ, Bool, true, false, cond, List, [], ◌∷◌, map, Option, Some, None, is_some, unwrap_or, refl, sym, ap, ◌∙◌}
-use Rattle.std.specs.List.{find}
-use Rattle.std.proofs.lemmas.Bool.{and_parts, and_from}
+use Rattle.std.proofs.Common.{◌≡◌, ◌&&◌, ℕ, Bool, true, false, cond, List, [], ◌∷◌, map, Option, Some, None, is_some, option_map, unwrap_or, refl, sym, ap, ◌∙◌}
+use Rattle.std.specs.List.{find, list_all}
+use Rattle.std.specs.Option.{option_map_or}
+use Rattle.std.proofs.lemmas.Bool.{and_parts, and_from, true≢false}
+use Rattle.osbase.specs.declared.references.CoreId.{CoreId}
+use Rattle.osbase.specs.Objects.{counter_object}
 use Rattle.osbase.specs.declared.objects.ObjectKind.{ObjectKind}
 use Rattle.osbase.specs.declared.objects.Place.{Place}
 use Rattle.osbase.specs.History.{same_core}
+use Rattle.osplan.specs.declared.plans.AlarmStart.{AlarmStart}
 use Rattle.osplan.specs.declared.plans.Core.{Core}
 use Rattle.osplan.specs.Limits as limits
 use Rattle.osplan.specs.Limits.{is_between, is_within, same_number, has_number, are_numbers_distinct}
-use Rattle.osplan.proofs.Tests.{any-find}
+use Rattle.osplan.specs.Objects.{action_object}
+use Rattle.osplan.proofs.Tests.{all-both, any-find}
 use Rattle.oscript.specs.declared.Op.{Op}
 use Rattle.oscript.specs.declared.Op.TheVariants.{Work}
+use Rattle.osforms.specs.Action.{is_action}
 use Rattle.osforms.specs.Operation.{op_meant}
 use Rattle.osforms.proofs.Operations.{meant-passes}
 use Rattle.osplan.specs.declared.faults.ConfFault.{ConfFault}
 use Rattle.osplan.specs.declared.faults.ConfFault.TheVariants.{Limit, DuplicateName, UnknownName, WrongCore, BadMask, BadScript}
 use Rattle.osread.specs.Faults.{failing}
+use Rattle.osdraft.specs.declared.shapes.AlarmStartText.{AlarmStartText}
+use Rattle.osdraft.specs.declared.shapes.AlarmText.{AlarmText}
 use Rattle.osdraft.specs.declared.shapes.ConfigText.{ConfigText}
 use Rattle.osdraft.specs.declared.shapes.CoreText.{CoreText}
 use Rattle.osdraft.specs.declared.shapes.TaskText.{TaskText}
 use Rattle.osdraft.specs.declared.declarations.Declaration.{Declaration}
-use Rattle.osdraft.specs.Check.{sizes_of, numbers_of, is_text_within, is_each_once, are_known, are_near, are_masks, are_operations, tests_of}
-use Rattle.osdraft.specs.Declarations.{number_id, declarations, place_of}
+use Rattle.osdraft.specs.Action.{action_of, is_action_known}
+use Rattle.osdraft.specs.Check.{sizes_of, numbers_of, is_text_within, is_each_once, is_alarm_acting, is_alarm_known, is_core_known, is_core_script, is_mode_name, alarm_modes, are_known, are_near, are_masks, are_operations, tests_of}
+use Rattle.osdraft.specs.Declarations.{counter_ref, number_id, id_of, declarations, place_of}
 use Rattle.osdraft.specs.Operation.{operations_of, op_of}
-use Rattle.osdraft.specs.Meaning.{only_mode, task_plan, core_plan, plan_of}
-use Rattle.osdraft.proofs.Numbers.{plan-numbers, numbers-kept, bytes-equal, any-map, list_all-total, list_any-by}
+use Rattle.osdraft.specs.Meaning.{only_mode, task_plan, start_plan, alarm_plan, core_plan, plan_of}
+use Rattle.osdraft.proofs.Alarms.{action-meant, action-passes}
+use Rattle.osdraft.proofs.Planned.{plan-numbers}
+use Rattle.osdraft.proofs.Numbers.{numbers-kept, bytes-equal, any-map, list_all-by, list_all-total, list_any-by}
 use Rattle.osdraft.proofs.Standing.{place-known}
 use Rattle.osdraft.proofs.Known.{near_kept}
 
@@ -46,8 +57,34 @@ task-known t known task =
     and_from _ _ (list_all-total (limits.is_op_known (plan_of t)) (op_of (declarations t.cores)) (op-known t known) (operations_of task.script))
     (list_all-total (limits.is_mode (plan_of t)) (λ (name : List ℕ). only_mode) (λ name. refl) task.auto)
 
-core-known : (t : ConfigText) → PlacesKnown t → (core : CoreText) → limits.is_core_known (plan_of t) (core_plan (declarations t.cores) core) ≡ true
-core-known t known core = and_from _ _ refl (list_all-total (limits.is_task_known (plan_of t)) (task_plan (declarations t.cores)) (task-known t known) core.tasks)
+counter-known : (t : ConfigText) → PlacesKnown t → (id : CoreId) (name : List ℕ) (o : Option Place) → place_of (declarations t.cores) ObjectKind.Counter name ≡ o → is_some o ≡ true → limits.is_object (plan_of t) (counter_object (counter_ref (declarations t.cores) id name)) ≡ true
+counter-known t known id name None found there = absurd (true≢false (sym there))
+counter-known t known id name (Some place) found there = rw found (known ObjectKind.Counter name place found)
+
+action-known : (t : ConfigText) → PlacesKnown t → (text : List ℕ) → is_action text ≡ true → is_action_known (declarations t.cores) text ≡ true → limits.is_object (plan_of t) (action_object (action_of (declarations t.cores) text)) ≡ true
+action-known t known text acting there =
+    let meant = action-meant (declarations t.cores) text acting there in
+    let is : op_of (declarations t.cores) text ≡ meant.0 = ap (λ o. unwrap_or o Work) meant.1 in
+    action-passes (limits.is_object (plan_of t)) (op_of (declarations t.cores) text) (rw is meant.2) (op-known t known text)
+
+modes-known : (t : ConfigText) (auto : Option AlarmStartText) → list_all (limits.is_mode (plan_of t)) (option_map_or (λ (auto : AlarmStart). auto.modes) (option_map start_plan auto) []) ≡ true
+modes-known t None = refl
+modes-known t (Some auto) = list_all-total (limits.is_mode (plan_of t)) (λ (name : List ℕ). only_mode) (λ name. refl) auto.modes
+
+alarm-known : (t : ConfigText) → PlacesKnown t → (id : CoreId) (alarm : AlarmText) → (is_alarm_known (declarations t.cores) alarm && is_alarm_acting alarm) ≡ true → limits.is_alarm_known (plan_of t) (alarm_plan (declarations t.cores) id alarm) ≡ true
+alarm-known t known id alarm h =
+    let objects = declarations t.cores in
+    let parts = and_parts (is_alarm_known objects alarm) (is_alarm_acting alarm) h in
+    let names = and_parts (is_some (place_of objects ObjectKind.Counter alarm.counter)) (is_action_known objects alarm.action) (and_parts _ (list_all is_mode_name (alarm_modes alarm)) parts.0).0 in
+    and_from _ _ (and_from _ _ (counter-known t known id alarm.counter (place_of objects ObjectKind.Counter alarm.counter) refl names.0) (action-known t known alarm.action parts.1 names.1)) (modes-known t alarm.auto)
+
+core-known : (t : ConfigText) → PlacesKnown t → (core : CoreText) → (is_core_known (declarations t.cores) core && is_core_script (declarations t.cores) core) ≡ true → limits.is_core_known (plan_of t) (core_plan (declarations t.cores) core) ≡ true
+core-known t known core h =
+    let objects = declarations t.cores in
+    let parts = and_parts (is_core_known objects core) (is_core_script objects core) h in
+    let alarms = all-both (is_alarm_known objects) is_alarm_acting core.alarms (and_parts _ (list_all (is_alarm_known objects) core.alarms) parts.0).1 (and_parts _ (list_all is_alarm_acting core.alarms) parts.1).1 in
+    and_from _ _ (and_from _ _ refl (list_all-total (limits.is_task_known (plan_of t)) (task_plan objects) (task-known t known) core.tasks))
+    (list_all-by (λ (alarm : AlarmText). is_alarm_known objects alarm && is_alarm_acting alarm) (limits.is_alarm_known (plan_of t)) (alarm_plan objects (id_of core)) (alarm-known t known (id_of core)) core.alarms alarms)
 
 master-found : (objects : List Declaration) (cores : List CoreText) (number : Option ℕ) → has_number (numbers_of cores) number ≡ true
     → is_some (find (λ (c : Core). same_core c.id (number_id number)) (map (core_plan objects) cores)) ≡ true
@@ -76,6 +113,7 @@ bounds-of t none =
     let inside = (and_parts (is_between 1 1 t.version) (is_within (sizes_of t)) passed.0).1 in
     let distinct = ap are_numbers_distinct (numbers-kept t inside) ∙ (and_parts (are_numbers_distinct (numbers_of t.cores)) _ passed.1).0 in
     let objects = declarations t.cores in
-    and_from _ _ (and_from _ _ (and_from _ _ (and_from _ _ (ap is_within (plan-numbers t inside) ∙ inside) distinct) (master-found objects t.cores t.master (and_parts _ _ passed.2).0))
-    (list_all-total (limits.is_core_known (plan_of t)) (core_plan objects) (core-known t (place-known t distinct)) t.cores))
+    let cores = all-both (is_core_known objects) (is_core_script objects) t.cores (and_parts _ (list_all (is_core_known objects) t.cores) passed.2).1 passed.5 in
+    and_from _ _ (and_from _ _ (and_from _ _ (and_from _ _ (ap is_within (plan-numbers t inside passed.1 passed.2) ∙ inside) distinct) (master-found objects t.cores t.master (and_parts _ _ passed.2).0))
+    (list_all-by (λ (core : CoreText). is_core_known objects core && is_core_script objects core) (limits.is_core_known (plan_of t)) (core_plan objects) (core-known t (place-known t distinct)) t.cores cores))
     (near_kept objects t.cores ∙ passed.3)

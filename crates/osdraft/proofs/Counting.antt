@@ -3,16 +3,15 @@ use Rattle.std.proofs.Common.{◌≡◌, ◌&&◌, nat_le, Bool, true, false, Li
 use Rattle.std.specs.List.{list_all, sum_by}
 use Rattle.std.proofs.lemmas.Bool.{and_from, and_parts}
 use Rattle.std.proofs.lemmas.List.Folds.{list_all-map}
-use Rattle.osplan.specs.Limits.{has_number, is_between, is_by, is_ceiling, is_core_by, is_core_within, is_counter_within, is_start, jobs_of, is_task_numbered, is_task_short, is_task_within, is_within}
+use Rattle.osplan.specs.Limits.{has_number, is_between, are_alarms_within, are_counters_within, is_ceiling, is_core_by, is_core_within, is_start, jobs_of, is_task_numbered, is_task_short, is_task_within}
 use Rattle.osdraft.specs.declared.declarations.Declaration.{Declaration}
 use Rattle.osdraft.specs.declared.shapes.ConfigText.{ConfigText}
 use Rattle.osdraft.specs.declared.shapes.CoreText.{CoreText}
-use Rattle.osdraft.specs.declared.shapes.TaskText.{TaskText}
 use Rattle.osplan.specs.declared.plans.Plan.{Plan}
 use Rattle.osread.specs.Faults.{failing}
 use Rattle.osread.specs.Reading.{value_if}
 use Rattle.osdraft.specs.Meaning.{plan_of}
-use Rattle.osdraft.specs.Check.{are_known, are_masks, are_near, are_operations, are_operations_known, are_readable, are_scripts_short, core_sizes, is_core_known, is_core_readable, is_core_short, is_each_once, is_mode_name, is_script_short, is_task_known, is_task_readable, is_text_numbered, is_text_within, numbers_of, sizes_of, task_sizes, tests_of}
+use Rattle.osdraft.specs.Check.{are_known, are_masks, are_near, are_operations, are_operations_known, are_readable, are_scripts_short, alarm_sizes, bare_sizes, core_sizes, counter_sizes, is_alarm_known, is_core_known, is_core_readable, is_core_short, is_each_once, is_mode_name, is_script_short, is_task_known, is_task_readable, is_text_numbered, is_text_within, numbers_of, sizes_of, task_sizes, tests_of}
 use Rattle.osdraft.specs.Declarations.{declarations}
 
 and-true : (b : Bool) → (b && true) ≡ b
@@ -46,25 +45,39 @@ later true false s b c d e f = refl
 later true true true b c d e f = sym (and-true (b && c && d && e && f))
 later true true false b c d e f = sym (and-false (b && c && d && e && f))
 
-core-split : (core : CoreText) → is_core_within (core_sizes core) ≡ (is_core_by is_task_numbered (core_sizes core) && is_core_short core)
-core-split core =
-    let s = core_sizes core in
+pub both_true : (b : Bool) → (b && true && true) ≡ b
+both_true true = refl
+both_true false = refl
+
+bare : (b c d : Bool) → (b && c && d) ≡ (b && true && true && c && d)
+bare true c d = refl
+bare false c d = refl
+
+pub bare_split : (objects : List Declaration) (core : CoreText) → is_core_by is_task_numbered (core_sizes objects core) ≡ (is_core_by is_task_numbered (bare_sizes core) && are_counters_within (map counter_sizes core.counters) && are_alarms_within (map (alarm_sizes objects) core.alarms))
+bare_split objects core =
+    let s = core_sizes objects core in
+    bare (is_between 0 7 s.number && list_all is_start s.start && nat_le (length s.tasks) 32 && list_all is_task_numbered s.tasks && nat_le (sum_by jobs_of s.tasks) 64 && nat_le (length s.resources) 16 && list_all is_ceiling s.resources)
+    (are_counters_within s.counters) (are_alarms_within s.alarms)
+
+core-split : (objects : List Declaration) (core : CoreText) → is_core_within (core_sizes objects core) ≡ (is_core_by is_task_numbered (core_sizes objects core) && is_core_short core)
+core-split objects core =
+    let s = core_sizes objects core in
     let before = is_between 0 7 s.number && list_all is_start s.start && nat_le (length s.tasks) 32 in
     rw (all-split is_task_within is_task_numbered is_task_short (λ task. refl) (map task_sizes core.tasks), list_all-map is_task_short task_sizes core.tasks)
-    (later before (list_all is_task_numbered s.tasks) (is_core_short core) (nat_le (sum_by jobs_of s.tasks) 64) (nat_le (length s.resources) 16) (list_all is_ceiling s.resources) (nat_le (length s.counters) 8) (list_all is_counter_within s.counters))
+    (later before (list_all is_task_numbered s.tasks) (is_core_short core) (nat_le (sum_by jobs_of s.tasks) 64) (nat_le (length s.resources) 16) (list_all is_ceiling s.resources) (are_counters_within s.counters) (are_alarms_within s.alarms))
 
-cores-split : (cores : List CoreText) → list_all is_core_within (map core_sizes cores) ≡ (list_all (is_core_by is_task_numbered) (map core_sizes cores) && list_all is_core_short cores)
-cores-split cores =
-    list_all-map is_core_within core_sizes cores
-    ∙ all-split (λ core. is_core_within (core_sizes core)) (λ core. is_core_by is_task_numbered (core_sizes core)) is_core_short core-split cores
-    ∙ ap (λ b. b && list_all is_core_short cores) (sym (list_all-map (is_core_by is_task_numbered) core_sizes cores))
+cores-split : (objects : List Declaration) (cores : List CoreText) → list_all is_core_within (map (core_sizes objects) cores) ≡ (list_all (is_core_by is_task_numbered) (map (core_sizes objects) cores) && list_all is_core_short cores)
+cores-split objects cores =
+    list_all-map is_core_within (core_sizes objects) cores
+    ∙ all-split (λ core. is_core_within (core_sizes objects core)) (λ core. is_core_by is_task_numbered (core_sizes objects core)) is_core_short (core-split objects) cores
+    ∙ ap (λ b. b && list_all is_core_short cores) (sym (list_all-map (is_core_by is_task_numbered) (core_sizes objects) cores))
 
 pub within_split : (t : ConfigText) → is_text_within t ≡ (is_text_numbered t && are_scripts_short t)
 within_split t =
     let s = sizes_of t in
     let before = is_between 1 8 (Some s.modes) && is_between 1 16 s.cap && is_between 1 8 (Some (length s.cores)) in
     let numbered = list_all (is_core_by is_task_numbered) s.cores in
-    rw (cores-split t.cores) (ap (λ b. is_between 1 1 t.version && b) (and-assoc before numbered (are_scripts_short t)) ∙ and-assoc (is_between 1 1 t.version) (before && numbered) (are_scripts_short t))
+    rw (cores-split (declarations t.cores) t.cores) (ap (λ b. is_between 1 1 t.version && b) (and-assoc before numbered (are_scripts_short t)) ∙ and-assoc (is_between 1 1 t.version) (before && numbered) (are_scripts_short t))
 
 -- ---- names
 
@@ -73,10 +86,17 @@ behind true true k = sym (and-true k)
 behind true false k = sym (and-false k)
 behind false s k = refl
 
+swapped : (k s a : Bool) → (k && s && a) ≡ (k && a && s)
+swapped true true a = sym (and-true a)
+swapped true false a = sym (and-false a)
+swapped false s a = refl
+
 core-readable : (objects : List Declaration) (core : CoreText) → is_core_readable objects core ≡ (is_core_known objects core && is_core_short core)
 core-readable objects core =
-    all-split (is_task_readable objects) (is_task_known objects) is_script_short
-    (λ task. behind (list_all is_mode_name task.auto) (is_script_short task) (are_operations_known objects task.script)) core.tasks
+    let alarms = list_all (is_alarm_known objects) core.alarms in
+    ap (λ b. b && alarms)
+    (all-split (is_task_readable objects) (is_task_known objects) is_script_short (λ task. behind (list_all is_mode_name task.auto) (is_script_short task) (are_operations_known objects task.script)) core.tasks)
+    ∙ swapped (list_all (is_task_known objects) core.tasks) (list_all is_script_short core.tasks) alarms
 
 pub readable_split : (t : ConfigText) → are_readable t ≡ (are_known t && are_scripts_short t)
 readable_split t =

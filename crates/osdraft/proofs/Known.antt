@@ -1,12 +1,13 @@
 -- The plan of a text, which is made while its names and operations are judged.
-use Rattle.std.proofs.Common.{◌≡◌, ℕ, ◌&&◌, ◌||◌, not, Bool, true, false, cond, List, [], ◌∷◌, map, Some, None, is_some, option_map, option_and_then, refl, sym, ap, ◌∙◌}
+use Rattle.std.proofs.Common.{◌≡◌, ℕ, ◌&&◌, Bool, true, false, cond, List, [], ◌∷◌, map, Some, None, is_some, option_map, option_and_then, refl, sym, ap, ◌∙◌}
 use Rattle.std.specs.List.{list_all}
+use Rattle.std.proofs.lemmas.Bool.{true≢false}
 use Rattle.std.proofs.lemmas.List.Folds.{list_all-map}
 use Rattle.osbase.specs.declared.references.CoreId.{CoreId}
 use Rattle.oscript.specs.declared.Op.{Op}
 use Rattle.oscript.specs.Rows as rows
 use Rattle.osforms.specs.Operation.{op_meant, has_masks, is_formed, is_known}
-use Rattle.osforms.proofs.Meant.{known_meant}
+use Rattle.osforms.proofs.Known.{formed-known}
 use Rattle.osforms.proofs.Operations.{meant-known, meant_masks}
 use Rattle.osplan.specs.declared.plans.Task.{Task}
 use Rattle.osplan.specs.Limits as limits
@@ -17,7 +18,7 @@ use Rattle.osread.specs.Reading.{value_if, each}
 use Rattle.osdraft.specs.Declarations.{id_of, place_of}
 use Rattle.osdraft.specs.Operation.{known_op, op_of, operations_of}
 use Rattle.osdraft.specs.Check.{is_core_near, is_script_near}
-use Rattle.osdraft.specs.Meaning.{core_plan, task_plan}
+use Rattle.osdraft.specs.Meaning.{alarm_plan, core_plan, task_plan}
 
 -- ---- operations
 
@@ -25,10 +26,11 @@ with-true : (b : Bool) (op : Op) → value_if (b && true) op ≡ value_if b op
 with-true true op = refl
 with-true false op = refl
 
-no-both : (f m : Bool) (op : Op) → value_if (not f && m && f) op ≡ None
-no-both true m op = refl
-no-both false true op = refl
-no-both false false op = refl
+no-both : (known masks formed : Bool) (op : Op) → (formed ≡ true → known ≡ false) → value_if (known && masks && formed) op ≡ None
+no-both false masks formed op h = refl
+no-both true masks true op h = absurd (true≢false (h refl))
+no-both true true false op h = refl
+no-both true false false op h = refl
 
 -- The operation that a text means is that of a text without a fault, if its masks have events.
 pub known_if : (objects : List Declaration) (text : List ℕ) (op : Op) → op_meant (place_of objects) text ≡ Some op → value_if (rows.has_masks op) op ≡ known_op objects text
@@ -41,8 +43,7 @@ known_if objects text op e =
 pub unknown : (objects : List Declaration) (text : List ℕ) → op_meant (place_of objects) text ≡ None → None ≡ known_op objects text
 unknown objects text e =
     let place = place_of objects in
-    let known : is_known place text ≡ not (is_formed text) = sym (known_meant place text) ∙ ap (λ o. is_some o || not (is_formed text)) e in
-    rw known (sym (no-both (is_formed text) (has_masks text) (op_of objects text)))
+    sym (no-both (is_known place text) (has_masks text) (is_formed text) (op_of objects text) (λ formed. formed-known place text formed ∙ ap is_some e))
 
 -- ---- lists
 
@@ -75,7 +76,7 @@ few_if false p q r x = refl
 
 -- ---- scripts
 
--- The plan's scripts stay on their cores where the text's do
+-- The plan's scripts stay on their cores where the text's do, and so do its alarms' counters
 near-script : (objects : List Declaration) (id : CoreId) (tasks : List TaskText)
     → list_all (λ (task : Task). list_all (limits.stays_on id) task.script) (map (task_plan objects) tasks) ≡ list_all (λ (task : TaskText). is_script_near objects id task.script) tasks
 near-script objects id [] = refl
@@ -83,4 +84,4 @@ near-script objects id (task ∷ tasks) = rw (list_all-map (limits.stays_on id) 
 
 pub near_kept : (objects : List Declaration) (cores : List CoreText) → list_all limits.is_core_near (map (core_plan objects) cores) ≡ list_all (is_core_near objects) cores
 near_kept objects [] = refl
-near_kept objects (core ∷ cores) = rw (near-script objects (id_of core) core.tasks, near_kept objects cores) refl
+near_kept objects (core ∷ cores) = rw (near-script objects (id_of core) core.tasks, list_all-map (limits.is_alarm_near (id_of core)) (alarm_plan objects (id_of core)) core.alarms, near_kept objects cores) refl

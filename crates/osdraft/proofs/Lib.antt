@@ -1,4 +1,8 @@
 pub mod Naming
+pub mod Alarms
+pub mod Alone
+pub mod Named
+pub mod Planned
 pub mod Numbers
 pub mod Standing
 pub mod Least

@@ -8,13 +8,14 @@ use Rattle.std.proofs.lemmas.Slice.Eq.{bytes_eq-Decides}
 use Rattle.osbase.specs.declared.objects.Place.{Place}
 use Rattle.osbase.specs.Names.{is_name}
 use Rattle.osplan.proofs.Tests.{find-holds, find-passes}
+use Rattle.osdraft.specs.declared.shapes.AlarmText.{AlarmText}
 use Rattle.osdraft.specs.declared.shapes.CoreText.{CoreText}
 use Rattle.osdraft.specs.declared.shapes.CounterText.{CounterText}
 use Rattle.osdraft.specs.declared.shapes.ResourceText.{ResourceText}
 use Rattle.osdraft.specs.declared.shapes.TaskText.{TaskText}
 use Rattle.osdraft.specs.declared.declarations.Declaration.{Declaration}
-use Rattle.osdraft.specs.Check.{has_named_tasks, has_named_resources, has_named_counters, has_named_objects}
-use Rattle.osdraft.specs.Declarations.{task_declaration, resource_declaration, counter_declaration, declared_tasks, declared_resources, declared_counters, declared_by, declarations, has_name}
+use Rattle.osdraft.specs.Check.{has_named_tasks, has_named_resources, has_named_counters, has_named_alarms, has_named_objects}
+use Rattle.osdraft.specs.Declarations.{task_declaration, resource_declaration, counter_declaration, alarm_declaration, declared_tasks, declared_resources, declared_counters, declared_alarms, declared_by, declarations, has_name}
 
 tasks-named : (core : CoreText) (n : ℕ) (tasks : List TaskText) → list_all (λ (task : TaskText). is_name task.name) tasks ≡ true → list_all (λ (d : Declaration). is_name d.name) (map (task_declaration core) (enumerate_from n tasks)) ≡ true
 tasks-named core n [] named = refl
@@ -36,12 +37,21 @@ counters-named core n (counter ∷ counters) named =
     let parts = and_parts (is_name counter.name) _ named in
     and_from _ _ parts.0 (counters-named core (n + 1) counters parts.1)
 
+alarms-named : (core : CoreText) (n : ℕ) (alarms : List AlarmText) → list_all (λ (alarm : AlarmText). is_name alarm.name) alarms ≡ true → list_all (λ (d : Declaration). is_name d.name) (map (alarm_declaration core) (enumerate_from n alarms)) ≡ true
+alarms-named core n [] named = refl
+alarms-named core n (alarm ∷ alarms) named =
+    let parts = and_parts (is_name alarm.name) _ named in
+    and_from _ _ parts.0 (alarms-named core (n + 1) alarms parts.1)
+
 objects-named : (core : CoreText) → has_named_objects core ≡ true → list_all (λ (d : Declaration). is_name d.name) (declared_by core) ≡ true
 objects-named core named =
-    let counters = and_parts (has_named_tasks core && has_named_resources core) (has_named_counters core) named in
+    let test = λ (d : Declaration). is_name d.name in
+    let alarms = and_parts (has_named_tasks core && has_named_resources core && has_named_counters core) (has_named_alarms core) named in
+    let counters = and_parts (has_named_tasks core && has_named_resources core) (has_named_counters core) alarms.0 in
     let parts = and_parts (has_named_tasks core) (has_named_resources core) counters.0 in
-    let first = list_all-append (λ (d : Declaration). is_name d.name) (declared_tasks core) (declared_resources core) ∙ and_from _ _ (tasks-named core 0 core.tasks parts.0) (resources-named core 0 core.resources parts.1) in
-    list_all-append (λ (d : Declaration). is_name d.name) (declared_tasks core ++ declared_resources core) (declared_counters core) ∙ and_from _ _ first (counters-named core 0 core.counters counters.1)
+    let first = list_all-append test (declared_tasks core) (declared_resources core) ∙ and_from _ _ (tasks-named core 0 core.tasks parts.0) (resources-named core 0 core.resources parts.1) in
+    let next = list_all-append test (declared_tasks core ++ declared_resources core) (declared_counters core) ∙ and_from _ _ first (counters-named core 0 core.counters counters.1) in
+    list_all-append test (declared_tasks core ++ declared_resources core ++ declared_counters core) (declared_alarms core) ∙ and_from _ _ next (alarms-named core 0 core.alarms alarms.1)
 
 pub declared-named : (cores : List CoreText) → list_all has_named_objects cores ≡ true → list_all (λ (d : Declaration). is_name d.name) (declarations cores) ≡ true
 declared-named [] named = refl

@@ -1,25 +1,23 @@
 -- The plan of a text has the text's numbers, which are within their limits.
 use Rattle.std.proofs.Common.{inl, inr, ◌≡◌, ℕ, ◌*◌, ◌||◌, ◌≤◌, Bool, true, false, cond, eqb, leb, nat_le, sum_by, List, [], ◌∷◌, length, map, unwrap_or, Option, Some, None, refl, sym, ap, ◌∙◌, arith}
 use Rattle.std.specs.List.{list_all, list_any}
+use Rattle.std.specs.Option.{option_map_or}
 use Rattle.std.proofs.lemmas.Bool.{and_parts, and_from, le-leb, true≢false, eq-eqb, eqb-true, or_cases, or_left, or_right}
 use Rattle.std.proofs.lemmas.List.{length-map}
 use Rattle.std.proofs.lemmas.List.Folds.{fold-map, list_all-map}
 use Rattle.std.proofs.lemmas.List.Sums.{sum_by-cons}
 use Rattle.osplan.specs.declared.plans.Core.{Core}
 use Rattle.osplan.specs.Limits as limits
-use Rattle.osplan.specs.Limits.{TaskSizes, CounterSizes, CoreSizes, Sizes, is_between, is_ceiling, is_counter_within, is_start, is_task_numbered, is_task_within, is_core_within, is_within, jobs_of, most_activations, number_of, same_number}
+use Rattle.osplan.specs.Limits.{TaskSizes, CounterSizes, StartSizes, CoreSizes, Sizes, are_alarms_within, are_counters_within, is_alarm_within, is_between, is_ceiling, is_counter_within, is_cycle, is_start, is_start_by, is_start_within, is_task_numbered, is_task_within, is_core_within, is_within, jobs_of, most_activations, number_of, same_number}
 use Rattle.osplan.proofs.Tests.{all-weaker}
 use Rattle.osplan.proofs.Within.{between}
 use Rattle.osdraft.specs.declared.shapes.ConfigText.{ConfigText}
 use Rattle.osdraft.specs.declared.shapes.CoreText.{CoreText}
-use Rattle.osdraft.specs.declared.shapes.CounterText.{CounterText}
-use Rattle.osdraft.specs.declared.shapes.ResourceText.{ResourceText}
 use Rattle.osdraft.specs.declared.shapes.TaskText.{TaskText}
 use Rattle.osdraft.specs.declared.declarations.Declaration.{Declaration}
-use Rattle.osdraft.specs.Check.{task_sizes, counter_sizes, core_sizes, sizes_of, numbers_of}
-use Rattle.osdraft.specs.Declarations.{byte_of, number_id, word_of, declarations}
-use Rattle.osdraft.specs.Operation.{operations_of, op_of}
-use Rattle.osdraft.specs.Meaning.{task_plan, resource_plan, counter_plan, core_plan, plan_of}
+use Rattle.osdraft.specs.Check.{task_sizes, core_sizes, sizes_of, numbers_of}
+use Rattle.osdraft.specs.Declarations.{byte_of, word_of, declarations}
+use Rattle.osdraft.specs.Meaning.{core_plan, plan_of}
 
 -- ---- numbers within their limits are bytes
 
@@ -72,14 +70,31 @@ counter-words s h =
     let greatest : unwrap_or s.max 0 ≤ 1000000000 = most 1 1000000000 s.max parts.0 in
     (is-word _ _ s.max parts.0 (omega arith), is-word _ _ s.min parts.1 (omega arith))
 
-pub core-bytes : (s : CoreSizes) → is_core_within s ≡ true → IsByte s.number × (list_all is_start s.start ≡ true) × (list_all is_task_within s.tasks ≡ true) × (list_all is_ceiling s.resources ≡ true) × (list_all is_counter_within s.counters ≡ true)
+cycle-word : (counter : CounterSizes) (cycle : Option ℕ) → is_cycle counter cycle ≡ true → unwrap_or counter.max 0 ≤ 1000000000 → IsWord cycle
+cycle-word counter cycle h greatest =
+    elim (or_cases (is_between 0 0 cycle) (is_between (unwrap_or counter.min 0) (unwrap_or counter.max 0) cycle) h) as (λ _. IsWord cycle) [
+      | inl once ↦ is-word 0 0 cycle once (omega arith)
+      | inr again ↦ is-word _ _ cycle again (omega arith)
+    ]
+
+-- of an automatic alarm, by the sizes of its counter
+pub start-words : (s : StartSizes) (counter : CounterSizes) → s.counter ≡ Some counter → is_start_within s ≡ true → is_counter_within counter ≡ true → IsWord s.start × IsWord s.cycle
+start-words s counter is h within =
+    let by : is_start_by s counter ≡ true = ap (λ o. option_map_or (is_start_by s) o true) (sym is) ∙ h in
+    let parts = and_parts (is_between 1 (unwrap_or counter.max 0) s.start) (is_cycle counter s.cycle) by in
+    let greatest : unwrap_or counter.max 0 ≤ 1000000000 = most 1 1000000000 counter.max (and_parts (is_between 1 1000000000 counter.max) _ within).0 in
+    (is-word _ _ s.start parts.0 (omega arith), cycle-word counter s.cycle parts.1 greatest)
+
+pub core-bytes : (s : CoreSizes) → is_core_within s ≡ true → IsByte s.number × (list_all is_start s.start ≡ true) × (list_all is_task_within s.tasks ≡ true) × (list_all is_ceiling s.resources ≡ true) × (are_counters_within s.counters ≡ true)
+    × (list_all is_alarm_within s.alarms ≡ true)
 core-bytes s h =
-    let counters = and_parts _ (list_all is_counter_within s.counters) h in
-    let resources = and_parts _ (list_all is_ceiling s.resources) (and_parts _ (nat_le (length s.counters) 8) counters.0).0 in
+    let alarms = and_parts _ (are_alarms_within s.alarms) h in
+    let counters = and_parts _ (are_counters_within s.counters) alarms.0 in
+    let resources = and_parts _ (list_all is_ceiling s.resources) counters.0 in
     let count = and_parts _ (nat_le (length s.resources) 16) resources.0 in
     let tasks = and_parts _ (list_all is_task_within s.tasks) (and_parts _ (nat_le (sum_by jobs_of s.tasks) 64) count.0).0 in
     let numbers = and_parts _ _ (and_parts _ _ tasks.0).0 in
-    (is-byte _ _ s.number numbers.0 (omega arith), numbers.1, tasks.1, resources.1, counters.1)
+    (is-byte _ _ s.number numbers.0 (omega arith), numbers.1, tasks.1, resources.1, counters.1, (and_parts _ (list_all is_alarm_within s.alarms) alarms.1).1)
 
 pub cap-byte : (s : Sizes) → is_within s ≡ true → IsByte s.cap
 cap-byte s h = is-byte _ _ s.cap (and_parts _ (is_between _ _ s.cap) (and_parts _ _ (and_parts _ _ h).0).0).1 (omega arith)
@@ -136,57 +151,19 @@ pub map-same : {X Y Z : Type 0} (f : Y → Z) (g : X → Y) (h : X → Z) (p : X
 map-same f g h p same [] a = refl
 map-same f g h p same (x ∷ xs) a = let parts = and_parts (p x) (list_all p xs) a in rw (same x parts.0, map-same f g h p same xs parts.1) refl
 
--- ---- the plan has the text's numbers
+-- ---- the cores of the plan have the text's numbers
 
-module _ (objects : List Declaration) where
-  task-numbers : (task : TaskText) → is_task_within (task_sizes task) ≡ true → limits.task_sizes (task_plan objects task) ≡ task_sizes task
-  task-numbers task h =
-      let bytes = task-bytes (task_sizes task) h in
-      let priority : Some (byte_of task.prio) ≡ task.prio = bytes.0 in
-      let activations : Some (byte_of task.activations) ≡ task.activations = bytes.1 in
-      rw (priority, activations, length-map (operations_of task.script) (op_of objects)) refl
+abbrev pub is_inside : List Declaration → CoreText → Bool
+is_inside objects core = is_core_within (core_sizes objects core)
 
-  resource-numbers : (resource : ResourceText) → is_ceiling resource.ceiling ≡ true → limits.ceiling_of (resource_plan resource) ≡ resource.ceiling
-  resource-numbers resource h = is-byte _ _ resource.ceiling h (omega arith)
+pub cores-inside : (t : ConfigText) → is_within (sizes_of t) ≡ true → list_all (is_inside (declarations t.cores)) t.cores ≡ true
+cores-inside t h = sym (list_all-map is_core_within (core_sizes (declarations t.cores)) t.cores) ∙ (and_parts _ (list_all is_core_within (map (core_sizes (declarations t.cores)) t.cores)) h).1
 
-  counter-numbers : (counter : CounterText) → is_counter_within (counter_sizes counter) ≡ true → limits.counter_sizes (counter_plan counter) ≡ counter_sizes counter
-  counter-numbers counter h =
-      let words = counter-words (counter_sizes counter) h in
-      let max : Some (word_of counter.max) ≡ counter.max = words.0 in
-      let min : Some (word_of counter.min) ≡ counter.min = words.1 in
-      rw (max, min) refl
-
-  core-numbers : (core : CoreText) → is_core_within (core_sizes core) ≡ true → limits.core_sizes (core_plan objects core) ≡ core_sizes core
-  core-numbers core h =
-      let bytes = core-bytes (core_sizes core) h in
-      let number : Some (byte_of core.id) ≡ core.id = bytes.0 in
-      rw (
-        number,
-        map-back number_of number_id is_start (λ n low. is-byte _ _ n low (omega arith)) core.start bytes.1,
-        map-same limits.task_sizes (task_plan objects) task_sizes (λ task. is_task_within (task_sizes task)) task-numbers core.tasks (sym (list_all-map is_task_within task_sizes core.tasks) ∙ bytes.2),
-        map-same limits.ceiling_of resource_plan (λ (resource : ResourceText). resource.ceiling) (λ (resource : ResourceText). is_ceiling resource.ceiling) resource-numbers core.resources
-            (sym (list_all-map is_ceiling (λ (resource : ResourceText). resource.ceiling) core.resources) ∙ bytes.3),
-        map-same limits.counter_sizes counter_plan counter_sizes (λ (counter : CounterText). is_counter_within (counter_sizes counter)) counter-numbers core.counters (sym (list_all-map is_counter_within counter_sizes core.counters) ∙ bytes.4),
-      ) refl
-
-abbrev pub is_inside : CoreText → Bool
-is_inside core = is_core_within (core_sizes core)
-
-pub cores-inside : (t : ConfigText) → is_within (sizes_of t) ≡ true → list_all is_inside t.cores ≡ true
-cores-inside t h = sym (list_all-map is_core_within core_sizes t.cores) ∙ (and_parts _ (list_all is_core_within (map core_sizes t.cores)) h).1
-
-pub plan-numbers : (t : ConfigText) → is_within (sizes_of t) ≡ true → limits.sizes_of (plan_of t) ≡ sizes_of t
-plan-numbers t h =
-    let cap : Some (byte_of t.cap) ≡ t.cap = cap-byte (sizes_of t) h in
-    rw (cap, map-same limits.core_sizes (core_plan (declarations t.cores)) core_sizes is_inside (core-numbers (declarations t.cores)) t.cores (cores-inside t h)) refl
-
--- ---- and its cores have the text's
-
-core-number : (objects : List Declaration) (core : CoreText) → is_inside core ≡ true → number_of (core_plan objects core).id ≡ core.id
-core-number objects core h = (core-bytes (core_sizes core) h).0
+core-number : (objects : List Declaration) (core : CoreText) → is_inside objects core ≡ true → number_of (core_plan objects core).id ≡ core.id
+core-number objects core h = (core-bytes (core_sizes objects core) h).0
 
 pub numbers-kept : (t : ConfigText) → is_within (sizes_of t) ≡ true → limits.numbers_of (plan_of t).cores ≡ numbers_of t.cores
-numbers-kept t h = map-same (λ (c : Core). number_of c.id) (core_plan (declarations t.cores)) (λ (core : CoreText). core.id) is_inside (core-number (declarations t.cores)) t.cores (cores-inside t h)
+numbers-kept t h = map-same (λ (c : Core). number_of c.id) (core_plan (declarations t.cores)) (λ (core : CoreText). core.id) (is_inside (declarations t.cores)) (core-number (declarations t.cores)) t.cores (cores-inside t h)
 
 pub bytes-equal : (a b : Option ℕ) → same_number a b ≡ true → eqb (byte_of a) (byte_of b) ≡ true
 bytes-equal None b same = absurd (true≢false (sym same))

@@ -1,14 +1,18 @@
 -- What a text without a fault means can be said by a text.
-use Rattle.std.proofs.Common.{◌≡◌, ℕ, ◌+◌, ◌&&◌, true, List, [], ◌∷◌, ◌++◌, map, Option, Some, None, unwrap_or, refl, sym, ap, ◌∙◌}
+use Rattle.std.proofs.Common.{◌≡◌, ℕ, ◌+◌, ◌&&◌, ◌||◌, not, true, option_map, List, [], ◌∷◌, ◌++◌, map, Option, Some, None, unwrap_or, refl, sym, ap, ◌∙◌}
 use Rattle.std.specs.List.{list_all, enumerate_from, flat_map}
+use Rattle.std.specs.Option.{option_map_or}
 use Rattle.std.proofs.lemmas.Bool.{and_parts, and_from}
 use Rattle.std.proofs.lemmas.List.{map-append}
 use Rattle.oscript.specs.declared.Op.{Op}
 use Rattle.oscript.specs.declared.Op.TheVariants.{Work}
 use Rattle.oscript.specs.Rows as rows
 use Rattle.oscript.specs.Rows.{is_in_form}
+use Rattle.osbase.specs.declared.references.CoreId.{CoreId}
 use Rattle.osforms.specs.Operation.{op_meant, has_masks}
 use Rattle.osforms.proofs.Operations.{meant-in-form, meant_masks}
+use Rattle.osplan.specs.declared.plans.Alarm.{Alarm}
+use Rattle.osplan.specs.declared.plans.AlarmStart.{AlarmStart}
 use Rattle.osplan.specs.declared.plans.Counter.{Counter}
 use Rattle.osplan.specs.declared.plans.Resource.{Resource}
 use Rattle.osplan.specs.declared.plans.Task.{Task}
@@ -16,6 +20,8 @@ use Rattle.osplan.specs.Expressible as said
 use Rattle.osplan.specs.Limits.{are_numbers_distinct}
 use Rattle.osbase.specs.Names.{is_name}
 use Rattle.osplan.specs.Expressible.{mode_name, is_only_mode}
+use Rattle.osdraft.specs.declared.shapes.AlarmStartText.{AlarmStartText}
+use Rattle.osdraft.specs.declared.shapes.AlarmText.{AlarmText}
 use Rattle.osdraft.specs.declared.shapes.ConfigText.{ConfigText}
 use Rattle.osdraft.specs.declared.shapes.CoreText.{CoreText}
 use Rattle.osdraft.specs.declared.shapes.CounterText.{CounterText}
@@ -23,11 +29,12 @@ use Rattle.osdraft.specs.declared.shapes.ResourceText.{ResourceText}
 use Rattle.osdraft.specs.declared.shapes.TaskText.{TaskText}
 use Rattle.osread.specs.Faults.{failing}
 use Rattle.osdraft.specs.declared.declarations.Declaration.{Declaration}
-use Rattle.osdraft.specs.Check.{numbers_of, has_named_tasks, has_named_resources, has_named_counters, has_named_objects, is_task_masked, is_core_masked, is_task_script, is_core_script, tests_of}
-use Rattle.osdraft.specs.Declarations.{task_declaration, resource_declaration, counter_declaration, declared_tasks, declared_resources, declared_counters, declared_by, declarations, place_of}
+use Rattle.osdraft.specs.Check.{numbers_of, has_named_tasks, has_named_resources, has_named_counters, has_named_alarms, has_named_objects, is_task_masked, is_alarm_masked, is_core_masked, is_task_script, is_alarm_acting, is_core_script, tests_of}
+use Rattle.osdraft.specs.Declarations.{id_of, task_declaration, resource_declaration, counter_declaration, alarm_declaration, declared_tasks, declared_resources, declared_counters, declared_alarms, declared_by, declarations, place_of}
 use Rattle.osdraft.specs.Operation.{is_operation, op_of, operations_of}
-use Rattle.osdraft.specs.Meaning.{only_mode, task_plan, resource_plan, counter_plan, core_plan, plan_of}
+use Rattle.osdraft.specs.Meaning.{only_mode, task_plan, resource_plan, counter_plan, start_plan, alarm_plan, core_plan, plan_of}
 use Rattle.osplan.proofs.Tests.{all-both}
+use Rattle.osdraft.proofs.Alarms.{action-in-form, action-masks}
 use Rattle.osdraft.proofs.Numbers.{list_all-by, list_all-total}
 use Rattle.osdraft.proofs.Bounds.{faultless}
 
@@ -48,14 +55,20 @@ counters-named : (core : CoreText) (n : ℕ) (counters : List CounterText)
 counters-named core n [] = refl
 counters-named core n (counter ∷ counters) = ap (λ names. counter.name ∷ names) (counters-named core (n + 1) counters)
 
+alarms-named : (objects : List Declaration) (core : CoreText) (n : ℕ) (alarms : List AlarmText)
+    → map (λ (alarm : Alarm). alarm.name) (map (alarm_plan objects (id_of core)) alarms) ≡ map (λ (d : Declaration). d.name) (map (alarm_declaration core) (enumerate_from n alarms))
+alarms-named objects core n [] = refl
+alarms-named objects core n (alarm ∷ alarms) = ap (λ names. alarm.name ∷ names) (alarms-named objects core (n + 1) alarms)
+
 abbrev names : List Declaration → List (List ℕ)
 names objects = map (λ (d : Declaration). d.name) objects
 
 objects-named : (objects : List Declaration) (core : CoreText) → said.object_names (core_plan objects core) ≡ names (declared_by core)
 objects-named objects core =
-    rw (tasks-named objects core 0 core.tasks, resources-named core 0 core.resources, counters-named core 0 core.counters)
-    (ap (λ first. first ++ names (declared_counters core)) (sym (map-append (λ (d : Declaration). d.name) (declared_tasks core) (declared_resources core)))
-    ∙ sym (map-append (λ (d : Declaration). d.name) (declared_tasks core ++ declared_resources core) (declared_counters core)))
+    rw (tasks-named objects core 0 core.tasks, resources-named core 0 core.resources, counters-named core 0 core.counters, alarms-named objects core 0 core.alarms)
+    (ap (λ first. first ++ names (declared_counters core) ++ names (declared_alarms core)) (sym (map-append (λ (d : Declaration). d.name) (declared_tasks core) (declared_resources core)))
+    ∙ ap (λ first. first ++ names (declared_alarms core)) (sym (map-append (λ (d : Declaration). d.name) (declared_tasks core ++ declared_resources core) (declared_counters core)))
+    ∙ sym (map-append (λ (d : Declaration). d.name) (declared_tasks core ++ declared_resources core ++ declared_counters core) (declared_alarms core)))
 
 names-kept : (objects : List Declaration) (cores : List CoreText) → flat_map said.object_names (map (core_plan objects) cores) ≡ map (λ (d : Declaration). d.name) (declarations cores)
 names-kept objects [] = refl
@@ -88,17 +101,33 @@ task-said objects task h =
     and_from _ _ (and_from _ _ named.0 (list_all-total is_only_mode (λ (name : List ℕ). only_mode) (λ name. refl) task.auto))
     (and_from _ _ (and_from _ _ (list_all-total is_in_form (op_of objects) (op-said objects) (operations_of task.script)) (list_all-by has_masks rows.has_masks (op_of objects) (op-masked objects) (operations_of task.script) named.1)) script.1)
 
+modes-said : (auto : Option AlarmStartText) → list_all is_only_mode (option_map_or (λ (auto : AlarmStart). auto.modes) (option_map start_plan auto) []) ≡ true
+modes-said None = refl
+modes-said (Some auto) = list_all-total is_only_mode (λ (name : List ℕ). only_mode) (λ name. refl) auto.modes
+
+alarm-said : (objects : List Declaration) (id : CoreId) (alarm : AlarmText) → (is_name alarm.name && is_alarm_masked alarm && is_alarm_acting alarm) ≡ true → said.is_alarm_expressible (alarm_plan objects id alarm) ≡ true
+alarm-said objects id alarm h =
+    let parts = and_parts (is_name alarm.name && is_alarm_masked alarm) (is_alarm_acting alarm) h in
+    let named = and_parts (is_name alarm.name) (is_alarm_masked alarm) parts.0 in
+    let masked : has_masks alarm.action ≡ true = ap (λ acting. not acting || has_masks alarm.action) (sym parts.1) ∙ named.1 in
+    and_from _ _ (and_from _ _ named.0 (and_from _ _ (action-in-form (op_of objects alarm.action) (op-said objects alarm.action)) (action-masks (op_of objects alarm.action) (op-masked objects alarm.action masked)))) (modes-said alarm.auto)
+
 core-said : (objects : List Declaration) (core : CoreText) → (has_named_objects core && is_core_masked core && is_core_script objects core) ≡ true → said.is_core_expressible (core_plan objects core) ≡ true
 core-said objects core h =
     let parts = and_parts (has_named_objects core && is_core_masked core) (is_core_script objects core) h in
     let first = and_parts (has_named_objects core) (is_core_masked core) parts.0 in
-    let counted = and_parts (has_named_tasks core && has_named_resources core) (has_named_counters core) first.0 in
+    let all = and_parts (has_named_tasks core && has_named_resources core && has_named_counters core) (has_named_alarms core) first.0 in
+    let counted = and_parts (has_named_tasks core && has_named_resources core) (has_named_counters core) all.0 in
+    let masks = and_parts (list_all is_task_masked core.tasks) (list_all is_alarm_masked core.alarms) first.1 in
+    let scripts = and_parts (list_all (is_task_script objects) core.tasks) (list_all is_alarm_acting core.alarms) parts.1 in
     let named = and_parts (has_named_tasks core) (has_named_resources core) counted.0 in
-    let masked = all-both (λ (task : TaskText). is_name task.name) is_task_masked core.tasks named.0 first.1 in
-    let tasks = all-both (λ (task : TaskText). is_name task.name && is_task_masked task) (is_task_script objects) core.tasks masked parts.1 in
+    let masked = all-both (λ (task : TaskText). is_name task.name) is_task_masked core.tasks named.0 masks.0 in
+    let tasks = all-both (λ (task : TaskText). is_name task.name && is_task_masked task) (is_task_script objects) core.tasks masked scripts.0 in
+    let acting = all-both (λ (alarm : AlarmText). is_name alarm.name && is_alarm_masked alarm) is_alarm_acting core.alarms (all-both (λ (alarm : AlarmText). is_name alarm.name) is_alarm_masked core.alarms all.1 masks.1) scripts.1 in
+    let alarms = list_all-by (λ (alarm : AlarmText). is_name alarm.name && is_alarm_masked alarm && is_alarm_acting alarm) said.is_alarm_expressible (alarm_plan objects (id_of core)) (alarm-said objects (id_of core)) core.alarms acting in
     let resources = list_all-by (λ (resource : ResourceText). is_name resource.name) said.is_resource_expressible resource_plan (λ resource e. e) core.resources named.1 in
     let counters = list_all-by (λ (counter : CounterText). is_name counter.name) said.is_counter_expressible counter_plan (λ counter e. e) core.counters counted.1 in
-    and_from _ _ (and_from _ _ (and_from _ _ (and_from _ _ (and_from _ _ (list_all-by (λ (task : TaskText). is_name task.name && is_task_masked task && is_task_script objects task) said.is_task_expressible (task_plan objects) (task-said objects) core.tasks tasks) resources) counters) refl) refl) refl
+    and_from _ _ (and_from _ _ (and_from _ _ (and_from _ _ (and_from _ _ (list_all-by (λ (task : TaskText). is_name task.name && is_task_masked task && is_task_script objects task) said.is_task_expressible (task_plan objects) (task-said objects) core.tasks tasks) resources) counters) alarms) refl) refl
 
 pub expressible-of : (t : ConfigText) → list_all has_named_objects t.cores ≡ true → failing (tests_of t) ≡ [] → said.is_expressible (plan_of t) ≡ true
 expressible-of t named none =

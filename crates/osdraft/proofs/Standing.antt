@@ -14,19 +14,20 @@ use Rattle.osbase.proofs.Same.{same_core-comm, same_core-refl}
 use Rattle.osplan.specs.declared.plans.Core.{Core}
 use Rattle.osplan.specs.Limits.{number_of, numbers_of, has_number, are_numbers_distinct, is_object}
 use Rattle.osplan.proofs.Tests.{find-passes}
+use Rattle.osdraft.specs.declared.shapes.AlarmText.{AlarmText}
 use Rattle.osdraft.specs.declared.shapes.ConfigText.{ConfigText}
 use Rattle.osdraft.specs.declared.shapes.CoreText.{CoreText}
 use Rattle.osdraft.specs.declared.shapes.CounterText.{CounterText}
 use Rattle.osdraft.specs.declared.shapes.ResourceText.{ResourceText}
 use Rattle.osdraft.specs.declared.shapes.TaskText.{TaskText}
 use Rattle.osdraft.specs.declared.declarations.Declaration.{Declaration}
-use Rattle.osdraft.specs.Declarations.{byte_of, task_declaration, resource_declaration, counter_declaration, declared_tasks, declared_resources, declared_counters, declared_by, declarations, has_name, place_in, place_of}
+use Rattle.osdraft.specs.Declarations.{byte_of, task_declaration, resource_declaration, counter_declaration, alarm_declaration, declared_tasks, declared_resources, declared_counters, declared_alarms, declared_by, declarations, has_name, place_in, place_of}
 use Rattle.osdraft.specs.Meaning.{core_plan, plan_of}
 use Rattle.osdraft.proofs.Numbers.{byte-at_most}
 
 -- ---- each core is found by its number
 
-abbrev IsFound : List Core → Core → Type 0
+abbrev pub IsFound : List Core → Core → Type 0
 IsFound cores core = find (λ (c : Core). same_core c.id core.id) cores ≡ Some core
 
 behind : (first : Core) (all cores : List Core) → has_number (numbers_of cores) (number_of first.id) ≡ false → AllByRecursion (IsFound all) cores → AllByRecursion (IsFound (first ∷ all)) cores
@@ -35,7 +36,7 @@ behind first all (core ∷ cores) apart found =
     let other = or_parts (same_core core.id first.id) _ apart in
     (rw (same_core-comm first.id core.id ∙ other.0) found.0, behind first all cores other.1 found.1)
 
-each-found : (cores : List Core) → are_numbers_distinct (numbers_of cores) ≡ true → AllByRecursion (IsFound cores) cores
+pub each-found : (cores : List Core) → are_numbers_distinct (numbers_of cores) ≡ true → AllByRecursion (IsFound cores) cores
 each-found [] distinct = tt
 each-found (core ∷ cores) distinct =
     let apart = and_parts (not (has_number (numbers_of cores) (number_of core.id))) _ distinct in
@@ -76,10 +77,18 @@ module _ (t : ConfigText) where
       let count : length (planned core).counters ≡ length core.counters = length-map core.counters _ in
       and_from _ _ (rw found (rw count (le-leb (suc (byte_of (Some n))) (length core.counters) (omega arith)))) (counters-there core (n + 1) counters found (omega arith))
 
+  alarms-there : (core : CoreText) (n : ℕ) (alarms : List AlarmText) → IsFound (plan_of t).cores (planned core) → n + length alarms ≤ length core.alarms → list_all is_there (map (alarm_declaration core) (enumerate_from n alarms)) ≡ true
+  alarms-there core n [] found within = refl
+  alarms-there core n (alarm ∷ alarms) found within =
+      let below : byte_of (Some n) ≤ n = byte-at_most n in
+      let count : length (planned core).alarms ≡ length core.alarms = length-map core.alarms _ in
+      and_from _ _ (rw found (rw count (le-leb (suc (byte_of (Some n))) (length core.alarms) (omega arith)))) (alarms-there core (n + 1) alarms found (omega arith))
+
   objects-there : (core : CoreText) → IsFound (plan_of t).cores (planned core) → list_all is_there (declared_by core) ≡ true
   objects-there core found =
       let first = list_all-append is_there (declared_tasks core) (declared_resources core) ∙ and_from _ _ (tasks-there core 0 core.tasks found (omega arith)) (resources-there core 0 core.resources found (omega arith)) in
-      list_all-append is_there (declared_tasks core ++ declared_resources core) (declared_counters core) ∙ and_from _ _ first (counters-there core 0 core.counters found (omega arith))
+      let next = list_all-append is_there (declared_tasks core ++ declared_resources core) (declared_counters core) ∙ and_from _ _ first (counters-there core 0 core.counters found (omega arith)) in
+      list_all-append is_there (declared_tasks core ++ declared_resources core ++ declared_counters core) (declared_alarms core) ∙ and_from _ _ next (alarms-there core 0 core.alarms found (omega arith))
 
   all-there : (cores : List CoreText) → AllByRecursion (IsFound (plan_of t).cores) (map planned cores) → list_all is_there (declarations cores) ≡ true
   all-there [] found = refl

@@ -1,14 +1,20 @@
 -- The tests of a configuration's text, a row for each fault past its shape that a text can have so far. Each is defined apart from
 -- the others, over the text as it stands. [own]
-use Rattle.std.specs.Prelude.{ℕ, ◌&&◌, nat_le, Bool, Option, List, [], ◌∷◌, length, map}
+use Rattle.std.specs.Prelude.{ℕ, ◌&&◌, nat_le, Bool, Option, is_some, option_map, List, [], ◌∷◌, length, map}
 use Rattle.std.specs.List.{list_all}
+use Rattle.std.specs.Option.{option_map_or}
 use Rattle.std.specs.Str.{bytes_eq}
 use Rattle.osbase.specs.Names.{is_name}
 use Rattle.osbase.specs.declared.references.CoreId.{CoreId}
+use Rattle.osbase.specs.declared.objects.ObjectKind.TheVariants.{Counter}
+use Rattle.osbase.specs.History.{same_core}
+use Rattle.osforms.specs.Action.{is_action}
 use Rattle.osforms.specs.Operation.{has_masks}
 use Rattle.osplan.specs.Expressible.{are_distinct, is_jumping_within, mode_name}
-use Rattle.osplan.specs.Limits.{TaskSizes, CounterSizes, CoreSizes, Sizes, is_between, is_by, is_task_numbered, is_task_short, is_within, has_number, are_numbers_distinct, stays_on}
+use Rattle.osplan.specs.Limits.{TaskSizes, CounterSizes, StartSizes, CoreSizes, Sizes, is_between, is_by, is_task_numbered, is_task_short, is_within, has_number, are_numbers_distinct, stays_on}
 use Rattle.osplan.specs.declared.faults.ConfFault.TheVariants.{Limit, DuplicateName, UnknownName, WrongCore, BadMask, BadScript}
+use Rattle.osdraft.specs.declared.shapes.AlarmStartText.{AlarmStartText}
+use Rattle.osdraft.specs.declared.shapes.AlarmText.{AlarmText}
 use Rattle.osdraft.specs.declared.shapes.ConfigText.{ConfigText}
 use Rattle.osdraft.specs.declared.shapes.CoreText.{CoreText}
 use Rattle.osdraft.specs.declared.shapes.CounterText.{CounterText}
@@ -16,7 +22,8 @@ use Rattle.osdraft.specs.declared.shapes.ResourceText.{ResourceText}
 use Rattle.osdraft.specs.declared.shapes.TaskText.{TaskText}
 use Rattle.osread.specs.Faults.{Tests}
 use Rattle.osdraft.specs.declared.declarations.Declaration.{Declaration}
-use Rattle.osdraft.specs.Declarations.{declarations, id_of}
+use Rattle.osdraft.specs.Action.{is_action_known, is_action_masked}
+use Rattle.osdraft.specs.Declarations.{counter_declared, counter_ref, declarations, declared_sizes, id_of, place_of}
 use Rattle.osdraft.specs.Operation.{operations_of, op_of, is_operation_known, is_operation}
 
 -- ---- limits: those of a configuration, over the text's numbers
@@ -27,18 +34,30 @@ task_sizes task = record { priority = task.prio; activations = task.activations;
 abbrev pub counter_sizes : CounterText → CounterSizes
 counter_sizes counter = record { max = counter.max; min = counter.min }
 
-abbrev pub core_sizes : CoreText → CoreSizes
-core_sizes core = record {
+-- How an alarm by the counter of this name is set by itself.
+abbrev pub start_sizes : List Declaration → List ℕ → AlarmStartText → StartSizes
+start_sizes objects counter auto = record { start = auto.start; cycle = auto.cycle; counter = option_map declared_sizes (counter_declared objects counter) }
+
+abbrev pub alarm_sizes : List Declaration → AlarmText → Option StartSizes
+alarm_sizes objects alarm = option_map (start_sizes objects alarm.counter) alarm.auto
+
+abbrev pub core_sizes : List Declaration → CoreText → CoreSizes
+core_sizes objects core = record {
   number = core.id;
   start = core.start;
   tasks = map task_sizes core.tasks;
   resources = map (λ (resource : ResourceText). resource.ceiling) core.resources;
   counters = map counter_sizes core.counters;
+  alarms = map (alarm_sizes objects) core.alarms;
 }
+
+-- Without its counters and its alarms.
+abbrev pub bare_sizes : CoreText → CoreSizes
+bare_sizes core = record (core_sizes [] core) { counters = []; alarms = [] }
 
 -- There is one mode.
 abbrev pub sizes_of : ConfigText → Sizes
-sizes_of t = record { modes = 1; cap = t.cap; cores = map core_sizes t.cores }
+sizes_of t = record { modes = 1; cap = t.cap; cores = map (core_sizes (declarations t.cores)) t.cores }
 
 -- Of version 1, which a text alone has, and within the limits.
 abbrev pub is_text_within : ConfigText → Bool
@@ -82,9 +101,12 @@ has_named_resources core = list_all (λ (resource : ResourceText). is_name resou
 abbrev pub has_named_counters : CoreText → Bool
 has_named_counters core = list_all (λ (counter : CounterText). is_name counter.name) core.counters
 
+abbrev pub has_named_alarms : CoreText → Bool
+has_named_alarms core = list_all (λ (alarm : AlarmText). is_name alarm.name) core.alarms
+
 -- Each object of the core has a name in form, as in every shape.
 abbrev pub has_named_objects : CoreText → Bool
-has_named_objects core = has_named_tasks core && has_named_resources core && has_named_counters core
+has_named_objects core = has_named_tasks core && has_named_resources core && has_named_counters core && has_named_alarms core
 
 abbrev pub are_operations_known : List Declaration → List ℕ → Bool
 are_operations_known objects script = list_all (is_operation_known objects) (operations_of script)
@@ -95,10 +117,16 @@ is_mode_name name = bytes_eq name mode_name
 abbrev pub is_task_known : List Declaration → TaskText → Bool
 is_task_known objects task = list_all is_mode_name task.auto && are_operations_known objects task.script
 
-abbrev pub is_core_known : List Declaration → CoreText → Bool
-is_core_known objects core = list_all (is_task_known objects) core.tasks
+abbrev pub alarm_modes : AlarmText → List (List ℕ)
+alarm_modes alarm = option_map_or (λ (auto : AlarmStartText). auto.modes) alarm.auto []
 
--- The master is a configured core, and each name in an autostart or an operation has its object.
+abbrev pub is_alarm_known : List Declaration → AlarmText → Bool
+is_alarm_known objects alarm = is_some (place_of objects Counter alarm.counter) && is_action_known objects alarm.action && list_all is_mode_name (alarm_modes alarm)
+
+abbrev pub is_core_known : List Declaration → CoreText → Bool
+is_core_known objects core = list_all (is_task_known objects) core.tasks && list_all (is_alarm_known objects) core.alarms
+
+-- The master is a configured core, and each name in an autostart, an operation or an alarm has its object.
 abbrev pub are_known : ConfigText → Bool
 are_known t = has_number (numbers_of t.cores) t.master && list_all (is_core_known (declarations t.cores)) t.cores
 
@@ -110,7 +138,7 @@ abbrev pub is_task_readable : List Declaration → TaskText → Bool
 is_task_readable objects task = list_all is_mode_name task.auto && are_operations_readable objects task.script
 
 abbrev pub is_core_readable : List Declaration → CoreText → Bool
-is_core_readable objects core = list_all (is_task_readable objects) core.tasks
+is_core_readable objects core = list_all (is_task_readable objects) core.tasks && list_all (is_alarm_known objects) core.alarms
 
 abbrev pub are_readable : ConfigText → Bool
 are_readable t = has_number (numbers_of t.cores) t.master && list_all (is_core_readable (declarations t.cores)) t.cores
@@ -124,10 +152,14 @@ is_operation_near objects id text = stays_on id (op_of objects text)
 abbrev pub is_script_near : List Declaration → CoreId → List ℕ → Bool
 is_script_near objects id script = list_all (is_operation_near objects id) (operations_of script)
 
-abbrev pub is_core_near : List Declaration → CoreText → Bool
-is_core_near objects core = list_all (λ (task : TaskText). is_script_near objects (id_of core) task.script) core.tasks
+-- The alarm's counter, if there is one, stands on this core.
+abbrev pub is_alarm_near : List Declaration → CoreId → AlarmText → Bool
+is_alarm_near objects id alarm = same_core (counter_ref objects id alarm.counter).core id
 
--- So it is with each operation of each core's scripts.
+abbrev pub is_core_near : List Declaration → CoreText → Bool
+is_core_near objects core = list_all (λ (task : TaskText). is_script_near objects (id_of core) task.script) core.tasks && list_all (is_alarm_near objects (id_of core)) core.alarms
+
+-- So it is with each operation of each core's scripts, and with each alarm.
 abbrev pub are_near : ConfigText → Bool
 are_near t = list_all (is_core_near (declarations t.cores)) t.cores
 
@@ -136,10 +168,13 @@ are_near t = list_all (is_core_near (declarations t.cores)) t.cores
 abbrev pub is_task_masked : TaskText → Bool
 is_task_masked task = list_all has_masks (operations_of task.script)
 
-abbrev pub is_core_masked : CoreText → Bool
-is_core_masked core = list_all is_task_masked core.tasks
+abbrev pub is_alarm_masked : AlarmText → Bool
+is_alarm_masked alarm = is_action_masked alarm.action
 
--- Each mask in an operation in good form is in its range.
+abbrev pub is_core_masked : CoreText → Bool
+is_core_masked core = list_all is_task_masked core.tasks && list_all is_alarm_masked core.alarms
+
+-- Each mask in an operation or an action in good form is in its range.
 abbrev pub are_masks : ConfigText → Bool
 are_masks t = list_all is_core_masked t.cores
 
@@ -152,10 +187,14 @@ is_script objects script = list_all is_operation (operations_of script) && is_ju
 abbrev pub is_task_script : List Declaration → TaskText → Bool
 is_task_script objects task = is_script objects task.script
 
-abbrev pub is_core_script : List Declaration → CoreText → Bool
-is_core_script objects core = list_all (is_task_script objects) core.tasks
+-- The alarm's action is in good form.
+abbrev pub is_alarm_acting : AlarmText → Bool
+is_alarm_acting alarm = is_action alarm.action
 
--- So it is with each script.
+abbrev pub is_core_script : List Declaration → CoreText → Bool
+is_core_script objects core = list_all (is_task_script objects) core.tasks && list_all is_alarm_acting core.alarms
+
+-- So it is with each script and each alarm.
 abbrev pub are_operations : ConfigText → Bool
 are_operations t = list_all (is_core_script (declarations t.cores)) t.cores
 

@@ -1,12 +1,16 @@
 -- The objects that a configuration's text declares, in one list, and what a name stands for by it. [own]
-use Rattle.std.specs.Prelude.{ℕ, nat_le, Bool, Option, Some, None, option_and_then, if◌then◌else◌, List, ◌++◌, map, find}
+use Rattle.std.specs.Prelude.{ℕ, ◌==◌, ◌&&◌, nat_le, Bool, not, Option, Some, None, option_and_then, option_map, unwrap_or, if◌then◌else◌, List, ◌++◌, map, find, count_by}
 use Rattle.std.specs.List.{enumerate_from, flat_map}
 use Rattle.std.specs.Str.{bytes_eq}
-use Rattle.osbase.specs.Objects.{same_kind}
+use Rattle.osbase.specs.Objects.{counter_of, same_kind}
 use Rattle.osbase.specs.declared.references.CoreId.{CoreId}
+use Rattle.osbase.specs.declared.references.CounterRef.{CounterRef}
 use Rattle.osbase.specs.declared.objects.ObjectKind.{ObjectKind}
-use Rattle.osbase.specs.declared.objects.ObjectKind.TheVariants.{Task, Resource, Counter}
+use Rattle.osbase.specs.declared.objects.ObjectKind.TheVariants.{Task, Resource, Counter, Alarm}
 use Rattle.osbase.specs.declared.objects.Place.{Place}
+use Rattle.osplan.specs.Expressible.{mode_name}
+use Rattle.osplan.specs.Limits.{CounterSizes}
+use Rattle.osdraft.specs.declared.shapes.AlarmText.{AlarmText}
 use Rattle.osdraft.specs.declared.shapes.CoreText.{CoreText}
 use Rattle.osdraft.specs.declared.shapes.CounterText.{CounterText}
 use Rattle.osdraft.specs.declared.shapes.ResourceText.{ResourceText}
@@ -33,28 +37,35 @@ id_of core = number_id core.id
 
 -- The task of a core at an index.
 abbrev pub task_declaration : CoreText → ℕ × TaskText → Declaration
-task_declaration core p = record { name = p.1.name; kind = Task; core = id_of core; index = p.0 }
+task_declaration core p = record { name = p.1.name; kind = Task; core = id_of core; index = p.0; max = None; min = None }
 
 abbrev pub declared_tasks : CoreText → List Declaration
 declared_tasks core = map (task_declaration core) (enumerate_from 0 core.tasks)
 
 -- The resource of a core at an index.
 abbrev pub resource_declaration : CoreText → ℕ × ResourceText → Declaration
-resource_declaration core p = record { name = p.1.name; kind = Resource; core = id_of core; index = p.0 }
+resource_declaration core p = record { name = p.1.name; kind = Resource; core = id_of core; index = p.0; max = None; min = None }
 
 abbrev pub declared_resources : CoreText → List Declaration
 declared_resources core = map (resource_declaration core) (enumerate_from 0 core.resources)
 
--- The counter of a core at an index.
+-- The counter of a core at an index, with its numbers.
 abbrev pub counter_declaration : CoreText → ℕ × CounterText → Declaration
-counter_declaration core p = record { name = p.1.name; kind = Counter; core = id_of core; index = p.0 }
+counter_declaration core p = record { name = p.1.name; kind = Counter; core = id_of core; index = p.0; max = p.1.max; min = p.1.min }
 
 abbrev pub declared_counters : CoreText → List Declaration
 declared_counters core = map (counter_declaration core) (enumerate_from 0 core.counters)
 
--- A core declares its tasks, then its resources, then its counters, in their order. No other kind can be configured yet.
+-- The alarm of a core at an index.
+abbrev pub alarm_declaration : CoreText → ℕ × AlarmText → Declaration
+alarm_declaration core p = record { name = p.1.name; kind = Alarm; core = id_of core; index = p.0; max = None; min = None }
+
+abbrev pub declared_alarms : CoreText → List Declaration
+declared_alarms core = map (alarm_declaration core) (enumerate_from 0 core.alarms)
+
+-- A core declares its tasks, then its resources, its counters and its alarms, in their order. No other kind can be configured yet.
 abbrev pub declared_by : CoreText → List Declaration
-declared_by core = declared_tasks core ++ declared_resources core ++ declared_counters core
+declared_by core = declared_tasks core ++ declared_resources core ++ declared_counters core ++ declared_alarms core
 
 -- All objects, core by core.
 abbrev pub declarations : List CoreText → List Declaration
@@ -72,3 +83,23 @@ place_in kind declaration = if same_kind declaration.kind kind then Some (record
 -- Where the object of a kind and a name stands.
 abbrev pub place_of : List Declaration → ObjectKind → List ℕ → Option Place
 place_of objects kind name = option_and_then (place_in kind) (find (has_name name) objects)
+
+-- ---- counters by their names
+
+-- The counter of a name; where there is none, the first that the core of this number might have.
+abbrev pub counter_ref : List Declaration → CoreId → List ℕ → CounterRef
+counter_ref objects id name = unwrap_or (option_map counter_of (place_of objects Counter name)) (record { core = id; index = 0 })
+
+-- The name is that of one object alone, and of no mode. A name that stands twice is that of none.
+abbrev pub is_alone : List Declaration → List ℕ → Bool
+is_alone objects name = not (bytes_eq name mode_name) && (count_by (has_name name) objects == 1)
+
+abbrev pub if_counter : Declaration → Option Declaration
+if_counter declaration = if same_kind declaration.kind Counter then Some declaration else None
+
+-- The counter of a name that is one object's alone.
+abbrev pub counter_declared : List Declaration → List ℕ → Option Declaration
+counter_declared objects name = if is_alone objects name then option_and_then if_counter (find (has_name name) objects) else None
+
+abbrev pub declared_sizes : Declaration → CounterSizes
+declared_sizes declaration = record { max = declaration.max; min = declaration.min }

@@ -1,5 +1,6 @@
 pub mod Declarations
 pub mod Operation
+pub mod Action
 pub mod Shape
 pub mod Check
 pub mod Meaning

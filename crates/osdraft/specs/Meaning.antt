@@ -1,7 +1,10 @@
 -- The configuration that a text means, and the faults that a text has. [own]
-use Rattle.std.specs.Prelude.{ℕ, ◌&&◌, Option, option_and_then, List, [], ◌∷◌, map}
+use Rattle.std.specs.Prelude.{ℕ, ◌&&◌, Option, option_and_then, option_map, List, [], ◌∷◌, map}
 use Rattle.std.specs.Option.{option_map_or}
+use Rattle.osbase.specs.declared.references.CoreId.{CoreId}
 use Rattle.osbase.specs.declared.references.ModeId.{ModeId}
+use Rattle.osplan.specs.declared.plans.Alarm.{Alarm}
+use Rattle.osplan.specs.declared.plans.AlarmStart.{AlarmStart}
 use Rattle.osplan.specs.declared.plans.Plan.{Plan}
 use Rattle.osplan.specs.declared.plans.Core.{Core}
 use Rattle.osplan.specs.declared.plans.Counter.{Counter}
@@ -12,6 +15,8 @@ use Rattle.serde_json.specs.Data.{Data}
 use Rattle.serde_json.specs.Read.{read}
 use Rattle.osplan.specs.declared.faults.ConfFault.{ConfFault}
 use Rattle.osplan.specs.declared.faults.ConfFault.TheVariants.{NotJson, Shape}
+use Rattle.osdraft.specs.declared.shapes.AlarmStartText.{AlarmStartText}
+use Rattle.osdraft.specs.declared.shapes.AlarmText.{AlarmText}
 use Rattle.osdraft.specs.declared.shapes.ConfigText.{ConfigText}
 use Rattle.osdraft.specs.declared.shapes.CoreText.{CoreText}
 use Rattle.osdraft.specs.declared.shapes.CounterText.{CounterText}
@@ -21,9 +26,10 @@ use Rattle.osplan.specs.Expressible.{mode_name}
 use Rattle.osread.specs.Faults.{IsLeast, failing, if_faultless}
 use Rattle.osdraft.specs.Shape.{config_shape}
 use Rattle.osdraft.specs.declared.declarations.Declaration.{Declaration}
-use Rattle.osdraft.specs.Declarations.{byte_of, declarations, number_id, id_of, word_of}
+use Rattle.osdraft.specs.Action.{action_of}
+use Rattle.osdraft.specs.Declarations.{byte_of, counter_ref, declarations, number_id, id_of, word_of}
 use Rattle.osdraft.specs.Operation.{operations_of, op_of}
-use Rattle.osdraft.specs.Check.{is_task_readable, is_core_readable, is_task_masked, is_core_masked, is_task_script, is_core_script, tests_of}
+use Rattle.osdraft.specs.Check.{is_task_readable, is_core_readable, is_alarm_known, is_task_masked, is_alarm_masked, is_core_masked, is_task_script, is_alarm_acting, is_core_script, tests_of}
 use Rattle.osread.specs.Reading.{value_if}
 
 -- There is one mode, of number 0.
@@ -47,6 +53,18 @@ resource_plan resource = record { name = resource.name; ceiling = byte_of resour
 abbrev pub counter_plan : CounterText → Counter
 counter_plan counter = record { name = counter.name; max = word_of counter.max; min = word_of counter.min; software = counter.software }
 
+abbrev pub start_plan : AlarmStartText → AlarmStart
+start_plan auto = record { modes = map (λ (name : List ℕ). only_mode) auto.modes; start = word_of auto.start; cycle = word_of auto.cycle }
+
+-- Of an alarm of the core of this number.
+abbrev pub alarm_plan : List Declaration → CoreId → AlarmText → Alarm
+alarm_plan objects id alarm = record {
+  name = alarm.name;
+  counter = counter_ref objects id alarm.counter;
+  action = action_of objects alarm.action;
+  auto = option_map start_plan alarm.auto;
+}
+
 abbrev pub core_plan : List Declaration → CoreText → Core
 core_plan objects core = record {
   id = id_of core;
@@ -56,13 +74,16 @@ core_plan objects core = record {
   resources = map resource_plan core.resources;
   isrs = [];
   counters = map counter_plan core.counters;
-  alarms = [];
+  alarms = map (alarm_plan objects (id_of core)) core.alarms;
   tables = [];
 }
 
--- The plans of a task and of a core whose names are known, whose operations are few, whose masks are in their range and whose scripts have no fault.
+-- The plans of a task, an alarm and a core whose names are known, whose operations are few, whose masks are in their range and whose scripts have no fault.
 abbrev pub known_task : List Declaration → TaskText → Option Task
 known_task objects task = value_if (is_task_readable objects task && is_task_masked task && is_task_script objects task) (task_plan objects task)
+
+abbrev pub known_alarm : List Declaration → CoreId → AlarmText → Option Alarm
+known_alarm objects id alarm = value_if (is_alarm_known objects alarm && is_alarm_masked alarm && is_alarm_acting alarm) (alarm_plan objects id alarm)
 
 abbrev pub known_core : List Declaration → CoreText → Option Core
 known_core objects core = value_if (is_core_readable objects core && is_core_masked core && is_core_script objects core) (core_plan objects core)

@@ -1,14 +1,16 @@
 -- The shape of a configuration: the members and their types, before any limit or name is judged. [own]
-use Rattle.std.specs.Prelude.{true, false, Option, Some, [], ◌∷◌, codes}
+use Rattle.std.specs.Prelude.{true, false, Option, Some, None, [], ◌∷◌, codes}
 use Rattle.serde_json.specs.Data.{Data}
 use Rattle.serde_json.specs.Find.{as_bool, as_str}
+use Rattle.osdraft.specs.declared.shapes.AlarmStartText.{AlarmStartText}
+use Rattle.osdraft.specs.declared.shapes.AlarmText.{AlarmText}
 use Rattle.osdraft.specs.declared.shapes.ConfigText.{ConfigText}
 use Rattle.osdraft.specs.declared.shapes.CoreText.{CoreText}
 use Rattle.osdraft.specs.declared.shapes.CounterText.{CounterText}
 use Rattle.osdraft.specs.declared.shapes.ResourceText.{ResourceText}
 use Rattle.osdraft.specs.declared.shapes.TaskText.{TaskText}
 use Rattle.osread.specs.Reading.{◌>>=◌}
-use Rattle.osread.specs.Json.{whole_of, name_of, each_of, member_of, member_or, only_members}
+use Rattle.osread.specs.Json.{whole_of, name_of, each_of, or_null, member_of, member_or, only_members}
 
 -- A task: its name, priority and script; the modes of its autostart, none by default; its activation limit, 1 by default; whether it
 -- is extended, which is not so by default, and whether it can be preempted, which is so.
@@ -42,16 +44,36 @@ counter_shape d = do
   software ← member_or as_bool false (codes "software") d
   Some (record { name = name; max = max; min = min; software = software })
 
--- A core: its number; the cores that it starts, its tasks, its resources and its counters, none by default.
+-- How an alarm is set by itself: in which modes, when it is first due, and its cycle.
+unfoldable pub alarm_start_shape : Data → Option AlarmStartText
+alarm_start_shape d = do
+  _ ← only_members (codes "modes" ∷ codes "start" ∷ codes "cycle" ∷ []) d
+  modes ← member_of (each_of name_of) (codes "modes") d
+  start ← member_of whole_of (codes "start") d
+  cycle ← member_of whole_of (codes "cycle") d
+  Some (record { modes = modes; start = start; cycle = cycle })
+
+-- An alarm: its name, its counter's and its action; how it is set by itself, or null, by default, where it is not.
+unfoldable pub alarm_shape : Data → Option AlarmText
+alarm_shape d = do
+  _ ← only_members (codes "name" ∷ codes "counter" ∷ codes "action" ∷ codes "auto" ∷ []) d
+  name ← member_of name_of (codes "name") d
+  counter ← member_of name_of (codes "counter") d
+  action ← member_of as_str (codes "action") d
+  auto ← member_or (or_null alarm_start_shape) None (codes "auto") d
+  Some (record { name = name; counter = counter; action = action; auto = auto })
+
+-- A core: its number; the cores that it starts, its tasks, its resources, its counters and its alarms, none by default.
 unfoldable pub core_shape : Data → Option CoreText
 core_shape d = do
-  _ ← only_members (codes "id" ∷ codes "start" ∷ codes "tasks" ∷ codes "resources" ∷ codes "counters" ∷ []) d
+  _ ← only_members (codes "id" ∷ codes "start" ∷ codes "tasks" ∷ codes "resources" ∷ codes "counters" ∷ codes "alarms" ∷ []) d
   id ← member_of whole_of (codes "id") d
   start ← member_or (each_of whole_of) [] (codes "start") d
   tasks ← member_or (each_of task_shape) [] (codes "tasks") d
   resources ← member_or (each_of resource_shape) [] (codes "resources") d
   counters ← member_or (each_of counter_shape) [] (codes "counters") d
-  Some (record { id = id; start = start; tasks = tasks; resources = resources; counters = counters })
+  alarms ← member_or (each_of alarm_shape) [] (codes "alarms") d
+  Some (record { id = id; start = start; tasks = tasks; resources = resources; counters = counters; alarms = alarms })
 
 -- A configuration: its version, 1 by default; the size of a mailbox, 16 by default; the master core, 0 by default; its cores.
 unfoldable pub config_shape : Data → Option ConfigText

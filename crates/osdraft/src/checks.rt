@@ -1,23 +1,28 @@
 //! The tests of a configuration's text, one for each fault past its shape, in ascending order.
 
-ghost use Rattle.std.specs.Prelude.{◌≡◌, ◌==◌, ◌&&◌, ◌<◌, ◌^◌, true, false, Some, map, sum_by};
+ghost use Rattle.std.specs.Prelude.{◌≡◌, ◌==◌, ◌&&◌, ◌<◌, ◌^◌, true, false, Some, is_some, map, sum_by};
 ghost use Rattle.std.specs.List.{list_all, slice_split};
+ghost use Rattle.osbase.specs.declared.objects.ObjectKind.TheVariants.{Counter as CounterKind};
+ghost use Rattle.osdraft.specs.declared.shapes.AlarmText.{AlarmText as Alarm};
 ghost use Rattle.osdraft.specs.declared.shapes.CoreText.{CoreText as Core};
 ghost use Rattle.osdraft.specs.declared.shapes.CounterText.{CounterText as Counter};
 ghost use Rattle.osdraft.specs.declared.shapes.ResourceText.{ResourceText as Resource};
 ghost use Rattle.osdraft.specs.declared.shapes.TaskText.{TaskText as Task};
 ghost use Rattle.osforms.specs.Operation.{has_masks};
-ghost use Rattle.osplan.specs.Limits.{are_numbers_distinct, has_number, is_between, is_ceiling, is_core_by, is_counter_within, is_start, is_task_numbered, jobs_of, most_activations, same_number};
+ghost use Rattle.osplan.specs.Limits.{are_alarms_within, are_counters_within, are_numbers_distinct, has_number, is_alarm_within, is_between, is_ceiling, is_core_by, is_counter_within, is_cycle, is_start, is_start_within, is_task_numbered, jobs_of, most_activations, same_number};
 ghost use Rattle.osread.specs.Faults.{failing, first_fault};
-ghost use Rattle.osdraft.specs.Declarations.{declarations};
+ghost use Rattle.osdraft.specs.Action.{is_action_known, is_action_masked};
+ghost use Rattle.osdraft.specs.Declarations.{declarations, declared_sizes, place_of};
 ghost use Rattle.osdraft.specs.Operation.{is_operation_known};
-ghost use Rattle.osdraft.specs.Check.{are_masks, are_near, are_readable, are_scripts_short, is_core_short, is_script_short, is_text_numbered, is_core_masked, is_core_near, is_operation_near, is_script_near, task_sizes, counter_sizes, core_sizes, sizes_of, numbers_of, is_text_within, is_each_once, are_operations_known, is_mode_name, is_task_known, is_core_known, is_task_masked, are_known, are_operations, tests_of};
+ghost use Rattle.osdraft.specs.Check.{are_masks, are_near, are_readable, are_scripts_short, is_core_short, is_script_short, is_text_numbered, is_core_masked, is_core_near, is_operation_near, is_script_near, task_sizes, counter_sizes, start_sizes, alarm_sizes, bare_sizes, core_sizes, sizes_of, numbers_of, is_text_within, is_each_once, are_operations_known, is_mode_name, alarm_modes, is_task_known, is_alarm_known, is_alarm_near, is_core_known, is_task_masked, is_alarm_masked, are_known, are_operations, tests_of};
 
-use crate::declarations::number_id;
+use crate::declarations::{Declaration, number_id};
 use crate::places::{MODE, Objects};
-use crate::shapes::{ConfigText, CoreText, CounterText, ResourceText, TaskText};
-use osbase::{CoreId, TASKS};
-use osforms::{has_masks, is_known, op_meant};
+use crate::shapes::{
+    AlarmStartText, AlarmText, ConfigText, CoreText, CounterText, ResourceText, TaskText,
+};
+use osbase::{CoreId, ObjectKind, TASKS};
+use osforms::{Places, has_masks, is_action, is_known, op_meant};
 use osplan::{ConfFault, stays_on};
 use osread::{Text, Whole, part_count};
 
@@ -29,6 +34,9 @@ const RESOURCES: usize = 16;
 
 /// The most counters of a core.
 const COUNTERS: usize = 8;
+
+/// The most alarms of a core.
+const ALARMS: usize = 32;
 
 /// The greatest value that a counter may have.
 const GREATEST: u64 = 1_000_000_000;
@@ -99,15 +107,63 @@ fn is_counter_within(counter: &CounterText) -> bool
     is_between(1, GREATEST, counter.max) && is_between(1, counter.max.unwrap_or(0), counter.min)
 }
 
-fn are_counters_within(counters: &[CounterText]) -> bool
+fn is_each_counter_within(counters: &[CounterText]) -> bool
     ensures { result ≡ list_all (λ (counter : Counter). is_counter_within (counter_sizes counter)) counters.now }
 {
     counters.iter().all(is_counter_within)
 }
 
-#[tactic(auto, using(crate::proofs::Numbers::mapped, crate::proofs::Numbers::few_jobs))]
-fn is_core_numbered(core: &CoreText) -> bool
-    ensures { result ≡ is_core_by is_task_numbered (core_sizes core.now) }
+#[tactic(auto, using(crate::proofs::Numbers::mapped))]
+fn are_counters_within(counters: &[CounterText]) -> bool
+    ensures { result ≡ are_counters_within (map counter_sizes counters.now) }
+{
+    counters.len() <= COUNTERS && is_each_counter_within(counters)
+}
+
+fn is_cycle(counter: &Declaration, cycle: Whole) -> bool
+    ensures { result ≡ is_cycle (declared_sizes counter.now) cycle }
+{
+    let (least, greatest) = (counter.min.unwrap_or(0), counter.max.unwrap_or(0));
+    is_between(0, 0, cycle) || is_between(least, greatest, cycle)
+}
+
+fn is_start_within(objects: &Objects, counter: &str, auto: &AlarmStartText) -> bool
+    ensures { result ≡ is_start_within (start_sizes objects.now.declared counter.now auto.now) }
+{
+    match objects.counter(counter) {
+        Some(counter) => {
+            is_between(1, counter.max.unwrap_or(0), auto.start) && is_cycle(counter, auto.cycle)
+        }
+        None => true,
+    }
+}
+
+fn is_alarm_within(objects: &Objects, alarm: &AlarmText) -> bool
+    ensures { result ≡ is_alarm_within (alarm_sizes objects.now.declared alarm.now) }
+{
+    match &alarm.auto {
+        Some(auto) => is_start_within(objects, alarm.counter.as_str(), auto),
+        None => true,
+    }
+}
+
+fn is_each_alarm_within(objects: &Objects, alarms: &[AlarmText]) -> bool
+    ensures { result ≡ list_all (λ (alarm : Alarm). is_alarm_within (alarm_sizes objects.now.declared alarm)) alarms.now }
+{
+    alarms.iter().all(|alarm| is_alarm_within(objects, alarm))
+}
+
+#[tactic(auto, using(crate::proofs::Numbers::mapped))]
+fn are_alarms_within(objects: &Objects, alarms: &[AlarmText]) -> bool
+    ensures { result ≡ are_alarms_within (map (alarm_sizes objects.now.declared) alarms.now) }
+{
+    alarms.len() <= ALARMS && is_each_alarm_within(objects, alarms)
+}
+
+// Whether the core is within its limits, but for its counters and its alarms.
+#[tactic(auto, using(crate::proofs::Numbers::mapped, crate::proofs::Numbers::few_jobs, crate::proofs::Counting::both_true))]
+fn is_bare_core_numbered(core: &CoreText) -> bool
+    ensures { result ≡ is_core_by is_task_numbered (bare_sizes core.now) }
 {
     // The sum fits, since the tasks are judged before it.
     let tasks = core.tasks.as_slice();
@@ -118,27 +174,35 @@ fn is_core_numbered(core: &CoreText) -> bool
         && jobs_of_all(tasks) <= JOBS
         && core.resources.len() <= RESOURCES
         && are_ceilings_within(core.resources.as_slice())
-        && core.counters.len() <= COUNTERS
-        && are_counters_within(core.counters.as_slice())
 }
 
-fn are_cores_numbered(cores: &[CoreText]) -> bool
-    ensures { result ≡ list_all (λ (core : Core). is_core_by is_task_numbered (core_sizes core)) cores.now }
+#[tactic(auto, using(crate::proofs::Counting::bare_split))]
+fn is_core_numbered(objects: &Objects, core: &CoreText) -> bool
+    ensures { result ≡ is_core_by is_task_numbered (core_sizes objects.now.declared core.now) }
 {
-    cores.iter().all(is_core_numbered)
+    is_bare_core_numbered(core)
+        && are_counters_within(core.counters.as_slice())
+        && are_alarms_within(objects, core.alarms.as_slice())
+}
+
+fn are_cores_numbered(objects: &Objects, cores: &[CoreText]) -> bool
+    ensures { result ≡ list_all (λ (core : Core). is_core_by is_task_numbered (core_sizes objects.now.declared core)) cores.now }
+{
+    cores.iter().all(|core| is_core_numbered(objects, core))
 }
 
 /// Whether the text is of version 1 and within the limits, but for its scripts, whose operations are counted where they
 /// are read.
 #[tactic(auto, using(crate::proofs::Numbers::mapped))]
-pub fn is_numbered(text: &ConfigText) -> bool
+pub fn is_numbered(text: &ConfigText, objects: &Objects) -> bool
+    requires objects { objects.now.declared ≡ declarations text.now.cores }
     ensures { result ≡ is_text_numbered text.now }
 {
     is_between(1, 1, text.version)
         && is_between(1, 16, text.cap)
         && 1 <= text.cores.len()
         && text.cores.len() <= CORES
-        && are_cores_numbered(text.cores.as_slice())
+        && are_cores_numbered(objects, text.cores.as_slice())
 }
 
 fn is_script_short(task: &TaskText) -> bool
@@ -238,13 +302,53 @@ fn is_task_known(objects: &Objects, task: &TaskText) -> bool
     are_mode_names(task.auto.as_slice()) && are_operations_known(objects, task.script.as_str())
 }
 
+fn is_action_known(objects: &Objects, text: &str) -> bool
+    ensures { result ≡ is_action_known objects.now.declared text.now }
+{
+    !is_action(text) || is_known(objects, text)
+}
+
+/// Whether each mode in which the alarm is set by itself is the only one.
+pub fn are_alarm_modes(alarm: &AlarmText) -> bool
+    ensures { result ≡ list_all is_mode_name (alarm_modes alarm.now) }
+{
+    match &alarm.auto {
+        Some(auto) => are_mode_names(auto.modes.as_slice()),
+        None => true,
+    }
+}
+
+fn is_counter(objects: &Objects, name: &str) -> bool
+    ensures { result ≡ is_some (place_of objects.now.declared CounterKind name.now) }
+{
+    objects.place(ObjectKind::Counter, name).is_some()
+}
+
+fn is_alarm_known(objects: &Objects, alarm: &AlarmText) -> bool
+    ensures { result ≡ is_alarm_known objects.now.declared alarm.now }
+{
+    is_counter(objects, alarm.counter.as_str())
+        && is_action_known(objects, alarm.action.as_str())
+        && are_alarm_modes(alarm)
+}
+
+fn are_tasks_known(objects: &Objects, tasks: &[TaskText]) -> bool
+    ensures { result ≡ list_all (is_task_known objects.now.declared) tasks.now }
+{
+    tasks.iter().all(|task| is_task_known(objects, task))
+}
+
+fn are_alarms_known(objects: &Objects, alarms: &[AlarmText]) -> bool
+    ensures { result ≡ list_all (is_alarm_known objects.now.declared) alarms.now }
+{
+    alarms.iter().all(|alarm| is_alarm_known(objects, alarm))
+}
+
 fn is_core_known(objects: &Objects, core: &CoreText) -> bool
     ensures { result ≡ is_core_known objects.now.declared core.now }
 {
-    core.tasks
-        .as_slice()
-        .iter()
-        .all(|task| is_task_known(objects, task))
+    are_tasks_known(objects, core.tasks.as_slice())
+        && are_alarms_known(objects, core.alarms.as_slice())
 }
 
 fn are_cores_known(objects: &Objects, cores: &[CoreText]) -> bool
@@ -284,14 +388,35 @@ fn is_script_near(objects: &Objects, id: CoreId, script: &str) -> bool
     script.is_empty() || are_parts_near(objects, id, script)
 }
 
+fn are_scripts_near(objects: &Objects, id: CoreId, tasks: &[TaskText]) -> bool
+    ensures { result ≡ list_all (λ (task : Task). is_script_near objects.now.declared id task.script) tasks.now }
+{
+    tasks
+        .iter()
+        .all(|task| is_script_near(objects, id, task.script.as_str()))
+}
+
+fn is_alarm_near(objects: &Objects, id: CoreId, alarm: &AlarmText) -> bool
+    ensures { result ≡ is_alarm_near objects.now.declared id alarm.now }
+{
+    match objects.place(ObjectKind::Counter, alarm.counter.as_str()) {
+        Some(place) => place.core.number == id.number,
+        None => true,
+    }
+}
+
+fn are_alarms_near(objects: &Objects, id: CoreId, alarms: &[AlarmText]) -> bool
+    ensures { result ≡ list_all (is_alarm_near objects.now.declared id) alarms.now }
+{
+    alarms.iter().all(|alarm| is_alarm_near(objects, id, alarm))
+}
+
 fn is_core_near(objects: &Objects, core: &CoreText) -> bool
     ensures { result ≡ is_core_near objects.now.declared core.now }
 {
-    core.tasks.as_slice().iter().all(|task| is_script_near(
-        objects,
-        number_id(core.id),
-        task.script.as_str(),
-    ))
+    let id = number_id(core.id);
+    are_scripts_near(objects, id, core.tasks.as_slice())
+        && are_alarms_near(objects, id, core.alarms.as_slice())
 }
 
 fn are_near(text: &ConfigText, objects: &Objects) -> bool
@@ -316,10 +441,34 @@ fn is_task_masked(task: &TaskText) -> bool
     task.script.as_str().is_empty() || are_parts_masked(task.script.as_str())
 }
 
+fn is_action_masked(text: &str) -> bool
+    ensures { result ≡ is_action_masked text.now }
+{
+    !is_action(text) || has_masks(text)
+}
+
+fn is_alarm_masked(alarm: &AlarmText) -> bool
+    ensures { result ≡ is_alarm_masked alarm.now }
+{
+    is_action_masked(alarm.action.as_str())
+}
+
+fn are_tasks_masked(tasks: &[TaskText]) -> bool
+    ensures { result ≡ list_all is_task_masked tasks.now }
+{
+    tasks.iter().all(is_task_masked)
+}
+
+fn are_alarms_masked(alarms: &[AlarmText]) -> bool
+    ensures { result ≡ list_all is_alarm_masked alarms.now }
+{
+    alarms.iter().all(is_alarm_masked)
+}
+
 fn is_core_masked(core: &CoreText) -> bool
     ensures { result ≡ is_core_masked core.now }
 {
-    core.tasks.as_slice().iter().all(is_task_masked)
+    are_tasks_masked(core.tasks.as_slice()) && are_alarms_masked(core.alarms.as_slice())
 }
 
 fn are_masks(text: &ConfigText) -> bool
@@ -329,7 +478,7 @@ fn are_masks(text: &ConfigText) -> bool
 }
 
 // The fault of a text without those, some name of which names nothing or what it may not name, some mask of which is
-// out of its range, or some script of which is not in good form.
+// out of its range, or some script or action of which is not in good form.
 fn fault_of_names(text: &ConfigText, objects: &Objects) -> ConfFault
     requires objects { objects.now.declared ≡ declarations text.now.cores }
     requires checked { (is_text_within text.now && is_each_once text.now) ≡ true }

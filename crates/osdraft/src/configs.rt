@@ -35,10 +35,10 @@ fn plan_if_faultless(alloc: Global, text: &ConfigText) -> Result<Plan, ConfFault
     ensures ok { IfOk result (λ plan. (failing (tests_of text.now) ≡ []) × (plan ≡ plan_of text.now)) }
     ensures fault { IfErr result (λ fault. fault ≢ ConfFault.NoMemory → first_fault (failing (tests_of text.now)) ≡ Some fault) }
 {
-    if !is_numbered(text) {
+    let objects = Objects::of(alloc, text.cores.as_slice())?;
+    if !is_numbered(text, &objects) {
         return Err(ConfFault::Limit);
     }
-    let objects = Objects::of(alloc, text.cores.as_slice())?;
     if !is_each_once(text, &objects) {
         return Err(fault_of(text, &objects));
     }

@@ -1,7 +1,7 @@
 //! The objects that a configuration's text declares, in one list.
 
 ghost use Rattle.std.specs.Prelude.{◌≡◌, ◌++◌, IfOk, OnOk};
-ghost use Rattle.osdraft.specs.Declarations.{byte_of, declarations, declared_by, declared_counters, declared_resources, declared_tasks, number_id, word_of};
+ghost use Rattle.osdraft.specs.Declarations.{byte_of, declarations, declared_alarms, declared_by, declared_counters, declared_resources, declared_tasks, number_id, word_of};
 
 use crate::shapes::CoreText;
 use osbase::{CoreId, List, ObjectKind};
@@ -16,6 +16,9 @@ pub struct Declaration<'t> {
     pub core: CoreId,
     /// Which of that core's objects of its kind it is, counted from 0.
     pub index: usize,
+    /// Of a counter the greatest value and the least cycle; of another object none.
+    pub max: Whole,
+    pub min: Whole,
 }
 
 /// A number as a byte: 0 where it is none, which no text within the limits has.
@@ -65,6 +68,8 @@ fn declare_tasks<'t>(
             kind: ObjectKind::Task,
             core: number_id(core.id),
             index,
+            max: None,
+            min: None,
         })?;
     }
     Ok(())
@@ -82,6 +87,8 @@ fn declare_resources<'t>(
             kind: ObjectKind::Resource,
             core: number_id(core.id),
             index,
+            max: None,
+            min: None,
         })?;
     }
     Ok(())
@@ -99,6 +106,27 @@ fn declare_counters<'t>(
             kind: ObjectKind::Counter,
             core: number_id(core.id),
             index,
+            max: counter.max,
+            min: counter.min,
+        })?;
+    }
+    Ok(())
+}
+
+fn declare_alarms<'t>(
+    declared: &mut List<Declaration<'t>>,
+    core: &'t CoreText<'t>,
+) -> Result<(), AllocError>
+    ensures { OnOk result (declared.new ≡ declared.old ++ declared_alarms core.now) }
+{
+    for (index, alarm) in core.alarms.as_slice().iter().enumerate() {
+        declared.push(Declaration {
+            name: Text::of(alarm.name.as_str()),
+            kind: ObjectKind::Alarm,
+            core: number_id(core.id),
+            index,
+            max: None,
+            min: None,
         })?;
     }
     Ok(())
@@ -112,7 +140,8 @@ fn declare<'t>(
 {
     declare_tasks(declared, core)?;
     declare_resources(declared, core)?;
-    declare_counters(declared, core)
+    declare_counters(declared, core)?;
+    declare_alarms(declared, core)
 }
 
 /// The objects of these cores.

@@ -1,13 +1,13 @@
 //! Where the objects of a configuration's text stand, by their names.
 
-ghost use Rattle.std.specs.Prelude.{◌≡◌, IfOk, IsTrue, find, map, option_copied};
+ghost use Rattle.std.specs.Prelude.{◌≡◌, IfOk, IsTrue, count_by, find, is_some, map, option_copied, true};
 ghost use Rattle.std.specs.List.{list_all, list_any};
 ghost use Rattle.std.specs.Str.{bytes_eq};
 ghost use Rattle.osbase.specs.Names.{is_name};
 ghost use Rattle.osplan.specs.Expressible.{are_distinct};
 ghost use Rattle.osdraft.specs.declared.declarations.Declaration.{Declaration as Declared};
 ghost use Rattle.osdraft.specs.Check.{has_named_objects, names_of};
-ghost use Rattle.osdraft.specs.Declarations.{declarations, has_name, place_in};
+ghost use Rattle.osdraft.specs.Declarations.{counter_declared, declarations, has_name, is_alone, place_in};
 ghost use Rattle.osdraft.specs.Index.{Indexes};
 
 use crate::declarations::{Declaration, byte_of, declarations_of};
@@ -87,6 +87,42 @@ impl<'t> Objects<'t> {
         ensures { result ≡ list_any (λ later. bytes_eq later name.now) (map (λ (d : Declared). d.name) self.now.declared) }
     {
         self.find(name).is_some()
+    }
+
+    /// The counter of this name, if that is the name of no other object and of no mode.
+    pub fn counter(&self, name: &str) -> Option<&Declaration<'t>>
+        ensures { option_copied result ≡ counter_declared self.now.declared name.now }
+    {
+        match self.find(name) {
+            Some(declaration) => {
+                if declaration.kind.is(ObjectKind::Counter) && self.is_alone(name) {
+                    Some(declaration)
+                } else {
+                    None
+                }
+            }
+            None => None,
+        }
+    }
+
+    // Whether no other object has the name of this one, nor the mode. Where no name stands twice, none is counted.
+    #[tactic(auto, using(crate::proofs::Alone::alone_if))]
+    fn is_alone(&self, name: &str) -> bool
+        requires declared { is_some (find (has_name name.now) self.now.declared) ≡ true }
+        ensures { result ≡ is_alone self.now.declared name.now }
+    {
+        self.are_named_apart() || (name != MODE && self.count(name) == 1)
+    }
+
+    // How many objects have the name.
+    fn count(&self, name: &str) -> usize
+        ensures { result ≡ count_by (has_name name.now) self.now.declared }
+    {
+        self.declared
+            .as_slice()
+            .iter()
+            .filter(|declaration| declaration.name.as_str() == name)
+            .count()
     }
 
     // The first object that has the name.

@@ -1,24 +1,27 @@
 //! The configuration that a text without a fault means.
 
-ghost use Rattle.std.specs.Prelude.{◌≡◌, ◌&&◌, ℕ, IfOk, List as Items, map, Some, true};
+ghost use Rattle.std.specs.Prelude.{◌≡◌, ◌&&◌, ℕ, IfOk, List as Items, map, option_map, Some, true};
 ghost use Rattle.std.specs.List.{list_all};
 ghost use Rattle.osforms.specs.Operation.{has_masks};
 ghost use Rattle.osplan.specs.Expressible.{goes_within, is_jumping_within};
 ghost use Rattle.osplan.specs.Limits as limits;
 ghost use Rattle.osread.specs.Reading.{Gives, value_if};
+ghost use Rattle.osdraft.specs.Action.{action_of_op, known_action};
 ghost use Rattle.osdraft.specs.Declarations.{declarations, number_id};
 ghost use Rattle.osdraft.specs.Operation.{is_operation, known_op, op_of, operations_of};
-ghost use Rattle.osdraft.specs.Check.{are_operations_readable, is_task_readable, is_core_readable, is_core_near, is_task_masked, is_core_masked, are_readable, are_near, are_masks, is_script, is_task_script, is_core_script, are_operations};
-ghost use Rattle.osdraft.specs.Meaning.{only_mode, task_plan, resource_plan, counter_plan, core_plan, known_task, known_core, plan_of};
+ghost use Rattle.osdraft.specs.Check.{are_operations_readable, is_task_readable, is_alarm_known, is_core_readable, is_core_near, is_task_masked, is_alarm_masked, is_core_masked, are_readable, are_near, are_masks, is_script, is_task_script, is_alarm_acting, is_core_script, are_operations};
+ghost use Rattle.osdraft.specs.Meaning.{only_mode, task_plan, resource_plan, counter_plan, start_plan, alarm_plan, core_plan, known_task, known_alarm, known_core, plan_of};
 
-use crate::checks::{OPERATIONS, are_mode_names, has_core};
+use crate::checks::{OPERATIONS, are_alarm_modes, are_mode_names, has_core};
 use crate::declarations::{byte_of, number_id, word_of};
 use crate::places::{MODE, Objects};
-use crate::shapes::{ConfigText, CoreText, CounterText, ResourceText, TaskText};
-use osbase::{CoreId, List, ModeId, Name};
+use crate::shapes::{
+    AlarmStartText, AlarmText, ConfigText, CoreText, CounterText, ResourceText, TaskText,
+};
+use osbase::{CoreId, CounterRef, List, ModeId, Name, ObjectKind};
 use oscript::{Op, Script};
-use osforms::op_meant;
-use osplan::{Core, CoreMode, Counter, Plan, Resource, Task};
+use osforms::{Places, op_meant};
+use osplan::{Alarm, AlarmStart, Core, CoreMode, Counter, Plan, Resource, Task, TimedAction};
 use osread::{PartReader, Reader, Refusal, Text, Whole, read_each, read_parts};
 use std::alloc::{AllocError, Global};
 
@@ -157,6 +160,97 @@ fn counters_of<'e>(
     read_each(alloc, objects, counters)
 }
 
+fn action_of_op(op: Op) -> Option<TimedAction>
+    ensures { result ≡ action_of_op op }
+{
+    match op {
+        Op::ActivateTask(Some(task)) => Some(TimedAction::ActivateTask(task)),
+        Op::SetEvent(Some(task), mask) => Some(TimedAction::SetEvent(task, mask)),
+        _ => None,
+    }
+}
+
+// The action that a text means; None where it is not in good form, or its name or its mask not what it has to be.
+fn action_meant(objects: &Objects, text: &str) -> Option<TimedAction>
+    ensures { result ≡ known_action objects.now.declared text.now }
+{
+    match op_meant(objects, text) {
+        Some(op) => {
+            if op.has_masks() {
+                action_of_op(op)
+            } else {
+                None
+            }
+        }
+        None => None,
+    }
+}
+
+fn start_of(alloc: Global, auto: &AlarmStartText) -> Result<AlarmStart, AllocError>
+    ensures { IfOk result (λ start. start ≡ start_plan auto.now) }
+{
+    Ok(AlarmStart {
+        modes: List::from_vec(modes_of(alloc, auto.modes.as_slice())?),
+        start: word_of(auto.start),
+        cycle: word_of(auto.cycle),
+    })
+}
+
+fn auto_of(alloc: Global, auto: &Option<AlarmStartText>) -> Result<Option<AlarmStart>, AllocError>
+    ensures { IfOk result (λ start. start ≡ option_map start_plan auto.now) }
+{
+    match auto {
+        Some(auto) => Ok(Some(start_of(alloc, auto)?)),
+        None => Ok(None),
+    }
+}
+
+// Makes the plans of the alarms of a core.
+#[derive(Clone, Copy)]
+struct AlarmPlanner<'o, 'e> {
+    objects: &'o Objects<'e>,
+    core: CoreId,
+}
+
+impl<'e> Reader<'e, AlarmText<'e>, Alarm> for AlarmPlanner<'_, 'e> {
+    ghost shape = { λ planner. known_alarm planner.objects.now.declared planner.core };
+
+    ghost passes = { λ _ _. true };
+
+    #[tactic(auto, using(crate::proofs::Alarms::alarm_made, crate::proofs::Alarms::no_counter, crate::proofs::Alarms::no_action, crate::proofs::Alarms::no_modes))]
+    fn read(&self, alloc: Global, alarm: &'e AlarmText<'e>) -> Result<Alarm, Refusal> {
+        let Some(counter) = self
+            .objects
+            .place(ObjectKind::Counter, alarm.counter.as_str())
+        else {
+            return Err(Refusal::Unfit);
+        };
+        let Some(action) = action_meant(self.objects, alarm.action.as_str()) else {
+            return Err(Refusal::Unfit);
+        };
+        if !are_alarm_modes(alarm) {
+            return Err(Refusal::Unfit);
+        }
+        Ok(Alarm {
+            name: Name::new(alloc, alarm.name.as_str())?,
+            counter: CounterRef::at(counter),
+            action,
+            auto: auto_of(alloc, &alarm.auto)?,
+        })
+    }
+}
+
+fn alarms_of<'e>(
+    alloc: Global,
+    objects: &Objects<'e>,
+    core: CoreId,
+    alarms: &'e [AlarmText<'e>],
+) -> Result<List<Alarm>, Refusal>
+    ensures { Gives (λ x. x) result (value_if (list_all (is_alarm_known objects.now.declared) alarms.now && list_all is_alarm_masked alarms.now && list_all is_alarm_acting alarms.now) (map (alarm_plan objects.now.declared core) alarms.now)) }
+{
+    read_each(alloc, &AlarmPlanner { objects, core }, alarms)
+}
+
 fn ids_of(alloc: Global, numbers: &[Whole]) -> Result<Vec<CoreId>, AllocError>
     ensures { IfOk result (λ ids. ids.items ≡ map number_id numbers.now) }
 {
@@ -181,7 +275,7 @@ impl<'e> Reader<'e, CoreText<'e>, Core> for Objects<'e> {
             resources: resources_of(alloc, self, core.resources.as_slice())?,
             isrs: List::new(alloc),
             counters: counters_of(alloc, self, core.counters.as_slice())?,
-            alarms: List::new(alloc),
+            alarms: alarms_of(alloc, self, number_id(core.id), core.alarms.as_slice())?,
             tables: List::new(alloc),
         })
     }
@@ -203,7 +297,7 @@ fn are_near(cores: &[Core]) -> bool
     cores.iter().all(|core| core.is_near())
 }
 
-// The plans of cores, each of whose scripts names no object of another core where it may not.
+// The plans of cores, none of whose scripts and alarms names an object of another core where it may not.
 #[tactic(auto, using(crate::proofs::Known::near_kept))]
 fn near_cores_of<'e>(
     alloc: Global,
@@ -221,8 +315,8 @@ fn near_cores_of<'e>(
 }
 
 /// The plan of a text. `Unfit` where a script has more operations than it may have, a name names nothing, or what it may
-/// not name, a mask is out of its range, an
-/// operation is not in good form, or one goes on outside of its script.
+/// not name, a mask is out of its range, an operation or an action is not in good form, or an operation goes on outside of
+/// its script.
 pub fn plan_of<'e>(
     alloc: Global,
     text: &'e ConfigText<'e>,

@@ -1,15 +1,16 @@
 //! The shape of a configuration: its members and their types. Limits and names are judged later. Texts are
 //! borrowed from the value that is read.
 
+ghost use Rattle.std.specs.Prelude.{true};
 ghost use Rattle.std.specs.List.{list_all};
 ghost use Rattle.osbase.specs.Names.{is_name};
 ghost use Rattle.osdraft.specs.Check.{has_named_objects};
-ghost use Rattle.osdraft.specs.Shape.{task_shape, resource_shape, counter_shape, core_shape, config_shape};
+ghost use Rattle.osdraft.specs.Shape.{task_shape, resource_shape, counter_shape, alarm_start_shape, alarm_shape, core_shape, config_shape};
 
 use osbase::List;
 use osread::{
-    BoolReader, JsonReader, ListOf, NameReader, Refusal, Text, TextReader, Whole, WholeReader, at,
-    at_or, only_members,
+    BoolReader, JsonReader, ListOf, NameReader, OrNull, Refusal, Text, TextReader, Whole,
+    WholeReader, at, at_or, only_members,
 };
 use serde_json::Value;
 use std::alloc::Global;
@@ -42,6 +43,23 @@ pub struct CounterText<'v> {
     pub software: bool,
 }
 
+/// How an alarm is set by itself, as a text has it.
+#[derive(Debug, Drop)]
+pub struct AlarmStartText<'v> {
+    pub modes: List<Text<'v>>,
+    pub start: Whole,
+    pub cycle: Whole,
+}
+
+/// An alarm as a text has it.
+#[derive(Debug, Drop)]
+pub struct AlarmText<'v> {
+    pub name: Text<'v>,
+    pub counter: Text<'v>,
+    pub action: Text<'v>,
+    pub auto: Option<AlarmStartText<'v>>,
+}
+
 /// A core as a text has it.
 #[derive(Debug, Drop)]
 pub struct CoreText<'v> {
@@ -50,6 +68,7 @@ pub struct CoreText<'v> {
     pub tasks: List<TaskText<'v>>,
     pub resources: List<ResourceText<'v>>,
     pub counters: List<CounterText<'v>>,
+    pub alarms: List<AlarmText<'v>>,
 }
 
 /// A configuration as a text has it.
@@ -142,6 +161,55 @@ impl<'v> JsonReader<'v, CounterText<'v>> for CounterReader {
     }
 }
 
+// Reads how an alarm is set by itself.
+#[derive(Clone, Copy, Debug)]
+struct AlarmStartReader;
+
+impl<'v> JsonReader<'v, AlarmStartText<'v>> for AlarmStartReader {
+    ghost shape = { λ _ d. alarm_start_shape d };
+
+    ghost passes = { λ _ _. true };
+
+    #[tactic(auto, unfolding(crate::specs::Shape::alarm_start_shape))]
+    fn read(&self, alloc: Global, value: &'v Value) -> Result<AlarmStartText<'v>, Refusal> {
+        only_members(value, &["modes", "start", "cycle"])?;
+        Ok(AlarmStartText {
+            modes: at(alloc, value, "modes", &ListOf { of: NameReader })?,
+            start: at(alloc, value, "start", &WholeReader)?,
+            cycle: at(alloc, value, "cycle", &WholeReader)?,
+        })
+    }
+}
+
+// Reads an alarm.
+#[derive(Clone, Copy, Debug)]
+struct AlarmReader;
+
+impl<'v> JsonReader<'v, AlarmText<'v>> for AlarmReader {
+    ghost shape = { λ _ d. alarm_shape d };
+
+    ghost passes = { λ _ alarm. is_name alarm.name };
+
+    #[tactic(auto, unfolding(crate::specs::Shape::alarm_shape))]
+    fn read(&self, alloc: Global, value: &'v Value) -> Result<AlarmText<'v>, Refusal> {
+        only_members(value, &["name", "counter", "action", "auto"])?;
+        Ok(AlarmText {
+            name: at(alloc, value, "name", &NameReader)?,
+            counter: at(alloc, value, "counter", &NameReader)?,
+            action: at(alloc, value, "action", &TextReader)?,
+            auto: at_or(
+                alloc,
+                value,
+                "auto",
+                &OrNull {
+                    of: AlarmStartReader,
+                },
+                None,
+            )?,
+        })
+    }
+}
+
 // Reads a core.
 #[derive(Clone, Copy, Debug)]
 struct CoreReader;
@@ -153,7 +221,10 @@ impl<'v> JsonReader<'v, CoreText<'v>> for CoreReader {
 
     #[tactic(auto, unfolding(crate::specs::Shape::core_shape))]
     fn read(&self, alloc: Global, value: &'v Value) -> Result<CoreText<'v>, Refusal> {
-        only_members(value, &["id", "start", "tasks", "resources", "counters"])?;
+        only_members(
+            value,
+            &["id", "start", "tasks", "resources", "counters", "alarms"],
+        )?;
         Ok(CoreText {
             id: at(alloc, value, "id", &WholeReader)?,
             start: at_or(
@@ -182,6 +253,13 @@ impl<'v> JsonReader<'v, CoreText<'v>> for CoreReader {
                 value,
                 "counters",
                 &ListOf { of: CounterReader },
+                List::new(alloc),
+            )?,
+            alarms: at_or(
+                alloc,
+                value,
+                "alarms",
+                &ListOf { of: AlarmReader },
                 List::new(alloc),
             )?,
         })

@@ -6,7 +6,9 @@ pub mod Rows
 pub mod RoundTrip
 pub mod LastWord
 pub mod Meant
+pub mod Known
 pub mod ArgsTexts
 pub mod Fitting
 pub mod Operations
+pub mod ActionTexts
 mod FirstWord

@@ -1,6 +1,5 @@
 -- Arguments with the places of their names, word by word.
-use Rattle.std.proofs.Common.{inl, inr, ◌≡◌, ℕ, ◌||◌, not, Bool, true, false, Option, Some, None, is_some, find, option_map, option_and_then, List, [], ◌∷◌, codes, refl, sym, ap, subst, ◌∙◌}
-use Rattle.std.specs.Option.{option_map_or}
+use Rattle.std.proofs.Common.{inl, inr, ◌≡◌, ℕ, Bool, true, Option, Some, None, is_some, find, option_map, option_and_then, List, [], ◌∷◌, codes, refl, sym, ap, subst, ◌∙◌}
 use Rattle.std.specs.Str.{bytes_eq}
 use Rattle.std.proofs.lemmas.Bool.{cases_Bool}
 use Rattle.osbase.specs.declared.objects.ObjectKind.{ObjectKind}
@@ -13,12 +12,12 @@ use Rattle.oscript.specs.declared.rows.Verb.{Verb}
 use Rattle.oscript.specs.declared.rows.Arg.{Arg}
 use Rattle.oscript.specs.declared.rows.Arg.TheVariants.{Object, Mask, Number, Int, Variable}
 use Rattle.osforms.specs.Word.{mask_of, number_in, int_of, variable_of}
-use Rattle.osforms.specs.Form.{is_first, words_behind, words_of, arg_of, args_of, and_then_rest, verb_of, form_of_verb, form_of_words, form_of}
-use Rattle.osforms.specs.Operation.{resolve_arg, resolve_args, resolved, arg_meant, args_meant, place_of_any, last_of, verb_meant, op_meant, is_formed, is_known}
+use Rattle.osforms.specs.Form.{is_first, words_behind, words_of, arg_of, args_of, and_then_rest, verb_of, form_of_verb, form_of_words}
+use Rattle.osforms.specs.Operation.{resolve_arg, resolve_args, resolved, arg_meant, args_meant, place_of_any, last_of, verb_meant, op_meant, is_formed}
 use Rattle.osforms.proofs.LastWord.{last-word, lone-rest, rest-none}
 use Rattle.osforms.proofs.Wording.{args_left}
 
-find-passes : {X : Type 0} (p : X → Bool) (xs : List X) (x : X) → find p xs ≡ Some x → p x ≡ true
+pub find-passes : {X : Type 0} (p : X → Bool) (xs : List X) (x : X) → find p xs ≡ Some x → p x ≡ true
 find-passes p [] x e = cc
 find-passes p (y ∷ ys) x e =
     elim (cases_Bool (p y)) as (λ _. p x ≡ true) [
@@ -111,7 +110,7 @@ any-arg (Kind.Number low high) w = kept Number (λ n. refl) (number_in low high 
 any-arg Kind.Int w = kept Int (λ z. refl) (int_of w)
 any-arg Kind.Variable w = kept Variable (λ x. refl) (variable_of w)
 
-any-two : (o : Option (Arg Place)) (p : Option (Arg (List ℕ))) (r : Option (List (Arg Place))) (q : Option (List (Arg (List ℕ)))) → is_some o ≡ is_some p → is_some r ≡ is_some q → is_some (and_then_rest o r) ≡ is_some (and_then_rest p q)
+pub any-two : {A B : Type 0} (o : Option A) (p : Option B) (r : Option (List A)) (q : Option (List B)) → is_some o ≡ is_some p → is_some r ≡ is_some q → is_some (and_then_rest o r) ≡ is_some (and_then_rest p q)
 any-two None None r q e f = refl
 any-two None (Some b) r q e f = cc
 any-two (Some a) None r q e f = cc
@@ -120,14 +119,14 @@ any-two (Some a) (Some b) None (Some y) e f = cc
 any-two (Some a) (Some b) (Some x) None e f = cc
 any-two (Some a) (Some b) (Some x) (Some y) e f = refl
 
-any-args : (ks : List Kind) (ws : List (List ℕ)) → is_some (args_meant place_of_any ks ws) ≡ is_some (args_of ks ws)
+pub any-args : (ks : List Kind) (ws : List (List ℕ)) → is_some (args_meant place_of_any ks ws) ≡ is_some (args_of ks ws)
 any-args [] [] = refl
 any-args [] (w ∷ ws) = refl
 any-args (k ∷ ks) [] = refl
 any-args (k ∷ ks) (w ∷ ws) =
     any-two (arg_meant place_of_any k w) (arg_of k w) (args_meant place_of_any ks ws) (args_of ks ws) (any-arg k w) (any-args ks ws)
 
-is-mapped : {A B : Type 0} (f : A → B) (o : Option A) → is_some (option_map f o) ≡ is_some o
+pub is-mapped : {A B : Type 0} (f : A → B) (o : Option A) → is_some (option_map f o) ≡ is_some o
 is-mapped f None = refl
 is-mapped f (Some a) = refl
 
@@ -144,15 +143,3 @@ any-words (word ∷ words) = ap is_some (by-verb place_of_any words (verb_of wor
 
 pub any_meant : (text : List ℕ) → is_some (op_meant place_of_any text) ≡ is_formed text
 any_meant text = any-words (words_of text)
-
-or-false : (b : Bool) → (b || false) ≡ b
-or-false true = refl
-or-false false = refl
-
--- A text whose names are known means an operation, or is not in good form.
-known : (place : ObjectKind → List ℕ → Option Place) (o : Option (Verb × List (Arg (List ℕ)))) → (is_some (option_map op_of (option_and_then (resolved place) o)) || not (is_some o)) ≡ option_map_or (λ form. is_some (resolved place form)) o true
-known place None = refl
-known place (Some form) = or-false (is_some (option_map op_of (resolved place form))) ∙ is-mapped op_of (resolved place form)
-
-pub known_meant : (place : ObjectKind → List ℕ → Option Place) (text : List ℕ) → (is_some (op_meant place text) || not (is_formed text)) ≡ is_known place text
-known_meant place text = known place (form_of text)

@@ -19,6 +19,7 @@ use Rattle.osforms.specs.Form.{form_of, words_of}
 use Rattle.osforms.specs.Operation.{resolve_arg, resolve_args, resolved, named, op_meant, place_of_any, has_masks, is_formed, is_known, op_text}
 use Rattle.osforms.proofs.Joining.{has_none}
 use Rattle.osforms.proofs.KindTexts.{mapped, is_kind, ReadsBack, invalid-back, name-back, mask-back, number-back, int-back, variable-back, IsApart}
+use Rattle.osforms.proofs.Known.{form-known}
 use Rattle.osforms.proofs.Meant.{any_meant}
 use Rattle.osforms.proofs.Rows.{is-row, is-op}
 use Rattle.osforms.proofs.Fitting.{args-fit, formed-args}
@@ -28,7 +29,7 @@ use Rattle.osforms.proofs.RoundTrip.{both, chained, AreArgs, form_text-back, for
 -- ---- what a text means
 
 -- The operation that a text means has the text's form, with the places of its names.
-record Meant (place : ObjectKind → List ℕ → Option Place) (text : List ℕ) (op : Op) : Type 0 where
+pub record Meant (place : ObjectKind → List ℕ → Option Place) (text : List ℕ) (op : Op) : Type 0 where
   pub form : Verb × List (Arg (List ℕ))
   pub args : List (Arg Place)
   pub formed : form_of text ≡ Some form
@@ -37,7 +38,7 @@ record Meant (place : ObjectKind → List ℕ → Option Place) (text : List ℕ
   pub verb_is : (form_of_op op).0 ≡ form.0
   pub args_are : (form_of_op op).1 ≡ args
 
-meant-form : (place : ObjectKind → List ℕ → Option Place) (text : List ℕ) (op : Op) → op_meant place text ≡ Some op → Meant place text op
+pub meant-form : (place : ObjectKind → List ℕ → Option Place) (text : List ℕ) (op : Op) → op_meant place text ≡ Some op → Meant place text op
 meant-form place text op e =
     let m = mapped op_of (option_and_then (resolved place) (form_of text)) op e in
     let c = chained (resolved place) (form_of text) m.0 m.1 in
@@ -85,8 +86,7 @@ module _ (place : ObjectKind → List ℕ → Option Place) where
   pub meant-known : (text : List ℕ) (op : Op) → op_meant place text ≡ Some op → (is_formed text ≡ true) × (is_known place text ≡ true)
   meant-known text op e =
       let m = meant-form place text op e in
-      let found : is_some (resolved place m.form) ≡ true = rw m.placed refl in
-      (ap is_some m.formed, ap (λ o. option_map_or (λ form. is_some (resolved place form)) o true) m.formed ∙ found)
+      (ap is_some m.formed, form-known place text m.form m.formed ∙ ap is_some m.placed)
 
   arg-event : (shown : Arg (List ℕ)) (arg : Arg Place) → resolve_arg place shown ≡ Some arg → has_event arg ≡ has_event shown
   arg-event (Object kind None) arg e = let is : Object kind None ≡ arg = cc in rw (← is) refl

@@ -8,7 +8,7 @@ use Rattle.oscript.specs.declared.Op.{Op}
 use Rattle.oscript.specs.declared.rows.Verb.{Verb}
 use Rattle.oscript.specs.declared.rows.Arg.{Arg}
 use Rattle.oscript.specs.Rows.{are_of, form_of_op, kinds_of, op_of, word_of}
-use Rattle.oscript.proofs.Arguments.{counter-back, counter-kept, int-kept, mask-kept, none-kept, number-kept, one-kept, resource-back, resource-kept, task-back, task-kept, two-kept, variable-kept}
+use Rattle.oscript.proofs.Arguments.{alarm-back, alarm-kept, counter-back, counter-kept, int-kept, mask-kept, none-kept, number-kept, one-kept, resource-back, resource-kept, task-back, task-kept, three-kept, two-kept, variable-kept}
 use Rattle.osforms.specs.Form.{verb_of}
 use Rattle.osforms.proofs.KindTexts.{is_kind}
 
@@ -42,6 +42,10 @@ is-row Verb.GetEvent = (refl, refl, refl, λ args. refl, two-kept task-kept vari
 is-row Verb.WaitEvent = (refl, refl, refl, λ args. refl, one-kept mask-kept)
 is-row Verb.IncrementCounter = (refl, refl, refl, λ args. refl, one-kept counter-kept)
 is-row Verb.GetCounterValue = (refl, refl, refl, λ args. refl, two-kept counter-kept variable-kept)
+is-row Verb.SetRelAlarm = (refl, refl, refl, λ args. refl, three-kept alarm-kept number-kept number-kept)
+is-row Verb.SetAbsAlarm = (refl, refl, refl, λ args. refl, three-kept alarm-kept number-kept number-kept)
+is-row Verb.CancelAlarm = (refl, refl, refl, λ args. refl, one-kept alarm-kept)
+is-row Verb.GetAlarm = (refl, refl, refl, λ args. refl, two-kept alarm-kept variable-kept)
 
 -- The operation of an operation's form is that operation.
 pub is-op : (op : Op) → op_of (form_of_op op) ≡ op
@@ -53,4 +57,8 @@ is-op (Op.SetEvent target mask) = ap (λ t. Op.SetEvent t mask) (task-back targe
 is-op (Op.GetEvent target x) = ap (λ t. Op.GetEvent t x) (task-back target)
 is-op (Op.IncrementCounter target) = ap Op.IncrementCounter (counter-back target)
 is-op (Op.GetCounterValue target x) = ap (λ t. Op.GetCounterValue t x) (counter-back target)
+is-op (Op.SetRelAlarm target increment cycle) = ap (λ t. Op.SetRelAlarm t increment cycle) (alarm-back target)
+is-op (Op.SetAbsAlarm target start cycle) = ap (λ t. Op.SetAbsAlarm t start cycle) (alarm-back target)
+is-op (Op.CancelAlarm target) = ap Op.CancelAlarm (alarm-back target)
+is-op (Op.GetAlarm target x) = ap (λ t. Op.GetAlarm t x) (alarm-back target)
 is-op op = refl

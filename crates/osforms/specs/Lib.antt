@@ -1,4 +1,5 @@
 pub mod Word
 pub mod Form
 pub mod Operation
+pub mod Action
 pub mod Call

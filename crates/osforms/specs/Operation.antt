@@ -12,7 +12,7 @@ use Rattle.oscript.specs.declared.rows.Arg.{Arg}
 use Rattle.oscript.specs.declared.rows.Kind.{Kind}
 use Rattle.oscript.specs.declared.rows.Arg.TheVariants.{Object, Mask, Number, Int, Variable}
 use Rattle.oscript.specs.Rows.{op_of, form_of_op, has_event, kinds_of}
-use Rattle.osforms.specs.Form.{and_then_rest, arg_of, form_of, form_text, arg_text, rest_words}
+use Rattle.osforms.specs.Form.{and_then_rest, arg_of, args_of, form_of, form_text, arg_text, rest_words, verb_of, words_of}
 
 -- ---- from names to places
 
@@ -70,9 +70,23 @@ place_of_any kind name = if is_name name then Some (record { core = record { num
 abbrev pub is_formed : List ℕ → Bool
 is_formed text = is_some (form_of text)
 
--- Each name of a text in good form has its place. A text in another form has no names.
+-- As far as names go a number is any decimal one: whether it is in its range is asked apart, as of a mask. [own]
+abbrev pub unranged : Kind → Kind
+unranged (Kind.Number low high) = Kind.Mask
+unranged kind = kind
+
+-- Each name has its place, where the words are arguments of the verb but for the ranges of numbers. Other words have no names.
+abbrev pub is_verb_known : (ObjectKind → List ℕ → Option Place) → List (List ℕ) → Verb → Bool
+is_verb_known place words verb = option_map_or (λ args. is_some (resolve_args place args)) (args_of (map unranged (kinds_of verb)) words) true
+
+-- What is asked of a first word and those behind it, where there is a verb of that word.
+abbrev pub of_first : {X : Type 0} → (List (List ℕ) → Verb → X) → X → List (List ℕ) → X
+of_first ask none [] = none
+of_first ask none (word ∷ words) = option_map_or (ask words) (verb_of word) none
+
+-- Each name of a text has its place, where the text is in good form but for the ranges of its numbers. Another text has no names.
 abbrev pub is_known : (ObjectKind → List ℕ → Option Place) → List ℕ → Bool
-is_known place text = option_map_or (λ form. is_some (resolved place form)) (form_of text) true
+is_known place text = of_first (is_verb_known place) true (words_of text)
 
 -- Each mask of a text in good form is in its range. A text in another form has no masks.
 abbrev pub has_masks : List ℕ → Bool

@@ -5,6 +5,7 @@
 //! names (`Names`). A call across cores has a form too, which has the words that its operation has.
 #![tactic(auto)]
 
+mod actions;
 mod calls;
 mod numbers;
 mod parsing;
@@ -12,6 +13,7 @@ mod places;
 mod words;
 mod writing;
 
+pub use actions::is_action;
 pub use calls::{CallForm, form_of_call};
 pub use parsing::{has_masks, is_known, op_meant};
 pub use places::Places;

@@ -1,10 +1,10 @@
 //! Reading: operations in good form, with the places of their names.
 
-ghost use Rattle.std.specs.Prelude.{◌≡◌, ◌∷◌, [], find, option_map, List};
+ghost use Rattle.std.specs.Prelude.{◌≡◌, ◌∷◌, [], find, is_some, map, option_map, List};
 ghost use Rattle.oscript.specs.declared.rows.Kind.{Kind};
-ghost use Rattle.oscript.specs.Rows.{word_of, items};
+ghost use Rattle.oscript.specs.Rows.{word_of, items, kinds_of};
 ghost use Rattle.osforms.specs.Form.{is_first, rest_words, words_behind, words_of};
-ghost use Rattle.osforms.specs.Operation.{arg_meant, args_after, args_meant, has_masks, is_formed, is_known, last_of, op_meant, two_of, verb_meant};
+ghost use Rattle.osforms.specs.Operation.{arg_meant, args_after, args_meant, has_masks, is_known, is_verb_known, last_of, op_meant, two_of, unranged, verb_meant};
 
 use crate::numbers::{int_of, mask_of, number_in, variable_of};
 use crate::places::{AnyName, Places};
@@ -172,19 +172,53 @@ pub fn op_meant<P: Places>(places: &P, text: &str) -> Option<Op>
     }
 }
 
-fn is_formed(text: &str) -> bool
-    ensures { result ≡ is_formed text.now }
+#[inline(always)]
+fn unranged(kind: Kind) -> Kind
+    ensures { result ≡ unranged kind }
 {
-    op_meant(&AnyName, text).is_some()
+    match kind {
+        Kind::Number(_, _) => Kind::Mask,
+        _ => kind,
+    }
 }
 
-/// Whether each name of a text in good form has its place. A text in another form has no names.
+#[inline(always)]
+fn all_unranged(kinds: Args<Kind>) -> Args<Kind>
+    ensures { items result ≡ map unranged (items kinds) }
+{
+    match kinds {
+        Args::Zero => Args::Zero,
+        Args::One(a) => Args::One(unranged(a)),
+        Args::Two(a, b) => Args::Two(unranged(a), unranged(b)),
+        Args::Three(a, b, c) => Args::Three(unranged(a), unranged(b), unranged(c)),
+    }
+}
+
+// Whether the words are arguments of the verb, but for the ranges of numbers, and each name has its place.
+#[inline(always)]
+fn has_places<P: Places>(places: &P, verb: Verb, rest: Option<&str>) -> bool
+    ensures { result ≡ is_some (args_meant (P.place places.now) (map unranged (kinds_of verb)) (rest_words rest.entry)) }
+{
+    args_meant(places, all_unranged(row_of(verb).kinds), rest).is_some()
+}
+
+fn is_verb_known<P: Places>(places: &P, verb: Verb, rest: Option<&str>) -> bool
+    ensures { result ≡ is_verb_known (P.place places.now) (rest_words rest.entry) verb }
+{
+    has_places(places, verb, rest) || !has_places(&AnyName, verb, rest)
+}
+
+/// Whether each name of a text has its place, where the text is in good form but for the ranges of its numbers. A
+/// text in another form has no names.
 pub fn is_known<P: Places>(places: &P, text: &str) -> bool
     ensures { result ≡ is_known (P.place places.now) text.now }
 {
-    match op_meant(places, text) {
-        Some(_) => true,
-        None => !is_formed(text),
+    match first_verb(text) {
+        Some(verb) => match rest_of(verb, text) {
+            Some(rest) => is_verb_known(places, verb, rest),
+            None => true,
+        },
+        None => true,
     }
 }
 

@@ -5,6 +5,7 @@ use Rattle.std.specs.List.{filter}
 use Rattle.std.specs.Option.{option_map_or}
 use Rattle.std.proofs.lemmas.Bool.Decides.{nat_tests}
 use Rattle.std.proofs.lemmas.List.{map-append}
+use Rattle.osbase.specs.declared.references.AlarmRef.{AlarmRef}
 use Rattle.osbase.specs.declared.references.CounterRef.{CounterRef}
 use Rattle.osbase.specs.declared.references.TaskRef.{TaskRef}
 use Rattle.osbase.specs.declared.references.Runner.{Runner}
@@ -16,7 +17,7 @@ use Rattle.osbase.specs.declared.histories.Job.{Job}
 use Rattle.osbase.specs.declared.histories.TaskEvents.{TaskEvents}
 use Rattle.osbase.specs.Sets.{numbers_from}
 use Rattle.osbase.specs.declared.turns.TheConstants.{TASKS}
-use Rattle.osbase.specs.Counting.{counts_after, counts_of}
+use Rattle.osbase.specs.Counting.{alarm_after, alarm_of, counts_after, counts_of}
 use Rattle.osbase.specs.History.{History, Entry, Took, Printed, agreement_after, agreement_of, better_of, current_after, current_job, current_task, events_after, events_of, first_greatest, giving_way, giving_way_after, greater, greatest_ceiling, held_after, held_by, job_count, jobs_after, live_jobs, marks_of, no_events, oldest, oldest_of, open_after, open_call, phase_after, phase_of, same_runner, stamped_anew, without_oldest}
 use Rattle.oscript.specs.declared.Op.{Op}
 use Rattle.oscript.specs.Frames.{frame_after, frame_of}
@@ -93,6 +94,13 @@ pub counts-same : (c : CounterRef) (s : CoreSet) (m : Bool) (k : History) → co
 counts-same c s m k = reads-same (counts_of c) (λ e h j p. ap (counts_after c e) p) (λ a b h. refl) s (base_of m) k (by m)
   where
     by : (b : Bool) → counts_of c (base_of b) ≡ 0
+    by true = refl
+    by false = refl
+
+pub settings-same : (c : CounterRef) (a : AlarmRef) (s : CoreSet) (m : Bool) (k : History) → alarm_of c a (among s (base_of m) k) ≡ alarm_of c a k
+settings-same c a s m k = reads-same (alarm_of c a) (λ e h j p. ap (alarm_after c a e) p) (λ x y h. refl) s (base_of m) k (by m)
+  where
+    by : (b : Bool) → alarm_of c a (base_of b) ≡ None
     by true = refl
     by false = refl
 

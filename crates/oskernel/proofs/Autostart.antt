@@ -25,8 +25,8 @@ abbrev pub ref_at : CoreId → ℕ → TaskRef
 ref_at core n = record { core = core; index = n }
 
 -- one task more
-pub autostarts-more : (agreement : Option Agreement) (ps : List (TaskRef × Task)) (i : ℕ) (p : TaskRef × Task) (h : History) → slice_get ps i ≡ Some p → autostarts agreement (take (suc i) ps) h ≡ cond (starts_in agreement p.1) (activates p.0 (autostarts agreement (take i ps) h)) (autostarts agreement (take i ps) h)
-autostarts-more agreement = each-more (λ (p : TaskRef × Task) h. cond (starts_in agreement p.1) (activates p.0 h) h) (autostarts agreement) (λ h. refl) (λ p ps h. refl)
+pub autostarts-more : (agreement : Option Agreement) (ps : List (TaskRef × Task)) (i : ℕ) (p : TaskRef × Task) (h : History) → slice_get ps i ≡ Some p → autostarts agreement (take (suc i) ps) h ≡ cond (starts_in agreement p.1.auto) (activates p.0 (autostarts agreement (take i ps) h)) (autostarts agreement (take i ps) h)
+autostarts-more agreement = each-more (λ (p : TaskRef × Task) h. cond (starts_in agreement p.1.auto) (activates p.0 h) h) (autostarts agreement) (λ h. refl) (λ p ps h. refl)
 
 -- the task at a place, with its reference
 pub task_refs-at : (own : Core) (i : ℕ) (t : Task) → slice_get own.tasks i ≡ Some t → slice_get (task_refs own) i ≡ Some (ref_at own.id i, t)
@@ -83,19 +83,18 @@ next-place old now tasks core index place t same_view same_tasks same_core some 
     (subst (λ (r : Runner). job_count r now.tasks.jobs < activation_limit old.view.own r) (sym own) base)
 
 -- and it is the next one of autostart
-pub next-start : (v : View) (old : KernelState) (h : History) (tasks : List Task) (core : CoreId) (index place : ℕ) (t : Task) (agreement : Option Agreement) → Stands v h old → tasks ≡ old.view.own.tasks → core ≡ old.view.own.id → index ≡ place → place < length tasks → t ≡ get_or tasks place t → autostarts agreement (take (place + 1) (task_refs v.own)) h ≡ cond (starts_in agreement t) (activates (ref_at core index) (autostarts agreement (take place (task_refs v.own)) h)) (autostarts agreement (take place (task_refs v.own)) h)
+pub next-start : (v : View) (old : KernelState) (h : History) (tasks : List Task) (core : CoreId) (index place : ℕ) (t : Task) (agreement : Option Agreement) → Stands v h old → tasks ≡ old.view.own.tasks → core ≡ old.view.own.id → index ≡ place → place < length tasks → t ≡ get_or tasks place t → autostarts agreement (take (place + 1) (task_refs v.own)) h ≡ cond (starts_in agreement t.auto) (activates (ref_at core index) (autostarts agreement (take place (task_refs v.own)) h)) (autostarts agreement (take place (task_refs v.own)) h)
 next-start v old h tasks core index place t agreement stands same_tasks same_core same_index within is =
     let view_is : old.view ≡ v = ap (λ (s : KernelState). s.view) stands.is in
     let at : slice_get v.own.tasks place ≡ Some t = task-at tasks v.own.tasks place t (same_tasks ∙ ap (λ (w : View). w.own.tasks) view_is) within is in
     let own : ref_at v.own.id place ≡ ref_at core index = ap (λ (c : CoreId). ref_at c place) (sym (same_core ∙ ap (λ (w : View). w.own.id) view_is)) ∙ ap (ref_at core) (sym same_index) in
     ap (λ (n : ℕ). autostarts agreement (take n (task_refs v.own)) h) (add-one place)
     ∙ autostarts-more agreement (task_refs v.own) place (ref_at v.own.id place, t) h (task_refs-at v.own place t at)
-    ∙ ap (λ (r : TaskRef). cond (starts_in agreement t) (activates r (autostarts agreement (take place (task_refs v.own)) h)) (autostarts agreement (take place (task_refs v.own)) h)) own
+    ∙ ap (λ (r : TaskRef). cond (starts_in agreement t.auto) (activates r (autostarts agreement (take place (task_refs v.own)) h)) (autostarts agreement (take place (task_refs v.own)) h)) own
 
 -- past the last task autostart is done
-pub all-started : (v : View) (old : KernelState) (h : History) (tasks : List Task) (place : ℕ) (agreement : Option Agreement) → Stands v h old → tasks ≡ old.view.own.tasks → length tasks ≤ place → agreement ≡ agreement_of h → autostarts agreement (take place (task_refs v.own)) h ≡ autostarts (agreement_of h) (task_refs v.own) h
-all-started v old h tasks place agreement stands same_tasks past agreed =
+pub all-started : (v : View) (old : KernelState) (h : History) (tasks : List Task) (place : ℕ) (agreement : Option Agreement) → Stands v h old → tasks ≡ old.view.own.tasks → length tasks ≤ place → autostarts agreement (take place (task_refs v.own)) h ≡ autostarts agreement (task_refs v.own) h
+all-started v old h tasks place agreement stands same_tasks past =
     let same : tasks ≡ v.own.tasks = same_tasks ∙ ap (λ (s : KernelState). s.view.own.tasks) stands.is in
     let count : length (task_refs v.own) ≡ length tasks = pairs-length (ref_at v.own.id) 0 v.own.tasks ∙ ap length (sym same) in
     ap (λ (ps : List (TaskRef × Task)). autostarts agreement ps h) (take-whole (task_refs v.own) place (omega (arith, past, count)))
-    ∙ ap (λ (a : Option Agreement). autostarts a (task_refs v.own) h) agreed

@@ -1,4 +1,4 @@
--- A core whose scripts name no other core's objects, and that takes no mail, keeps no call open and posts nothing.
+-- A core whose scripts and alarms name no other core's objects, and that takes no mail, keeps no call open and posts nothing.
 use Rattle.std.proofs.Common.{Bool, Option, ◌≡◌, true, false, None, [], ◌∷◌, refl}
 use Rattle.std.proofs.lemmas.Bool.{false≢true}
 use Rattle.osbase.specs.declared.references.CoreId.{CoreId}
@@ -12,7 +12,7 @@ use Rattle.oscall.proofs.Carried.{anybody, is_local, nobody}
 use Rattle.osstate.specs.State.{state_of}
 use Rattle.oskernel.specs.Admission.{is_settled}
 use Rattle.oskernel.specs.Step.{after}
-use Rattle.oskernel.proofs.Carried.{is_replied, ScriptsAllow}
+use Rattle.oskernel.proofs.Carried.{is_replied, NamesAllow}
 use Rattle.oskernel.proofs.Holding.{Holds, holds-after}
 use Rattle.oskernel.proofs.Stages.{is_mail}
 
@@ -53,5 +53,5 @@ pub mail-replied : (names : CoreId → Bool) (i : Item) → is_mail i ≡ false 
 mail-replied names (Item.Received from number message) none = cc
 mail-replied names i none = refl
 
-pub calm-after : (v : View) → ScriptsAllow v nobody → (h : History) (i : Item) → is_mail i ≡ false → Calm h → Calm (after v h i)
-calm-after v scripts h i none calm = holds-after v nobody nobody Calm calm-holds scripts h i (mail-replied anybody i none) (calm-took i h none calm)
+pub calm-after : (v : View) → NamesAllow v nobody → (h : History) (i : Item) → is_mail i ≡ false → Calm h → Calm (after v h i)
+calm-after v allowed h i none calm = holds-after v nobody nobody Calm calm-holds allowed h i (mail-replied anybody i none) (calm-took i h none calm)

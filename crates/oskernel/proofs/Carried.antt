@@ -5,6 +5,7 @@ use Rattle.std.specs.Option.{option_map_or}
 use Rattle.std.proofs.lemmas.Bool.{and_from, and_parts, or_right}
 use Rattle.osbase.specs.declared.statuses.Status.{Status}
 use Rattle.osbase.specs.declared.references.CoreId.{CoreId}
+use Rattle.osbase.specs.declared.references.AlarmRef.{AlarmRef}
 use Rattle.osbase.specs.declared.references.CounterRef.{CounterRef}
 use Rattle.osbase.specs.declared.references.TaskRef.{TaskRef}
 use Rattle.osbase.specs.declared.references.Runner.{Runner}
@@ -17,7 +18,7 @@ use Rattle.osbase.specs.declared.marks.Mark.{Mark}
 use Rattle.osbase.specs.declared.histories.Job.{Job}
 use Rattle.osbase.specs.declared.histories.OpenCall.{OpenCall}
 use Rattle.osbase.specs.declared.histories.Phase.{Phase}
-use Rattle.osbase.specs.History.{Counted, History, Noted, Printed, Took, agreement_of, current_task, open_call, same_job}
+use Rattle.osbase.specs.History.{AlarmSet, History, Noted, Printed, Took, agreement_of, current_task, open_call, same_job}
 use Rattle.osbase.specs.Marks.{core_of_runner, names_only}
 use Rattle.osbase.specs.Phases.{is_scheduling}
 use Rattle.oscript.specs.declared.Op.{Op}
@@ -25,14 +26,16 @@ use Rattle.oscript.specs.declared.Action.TheVariants.{Perform, End}
 use Rattle.oscript.specs.declared.Frame.{Frame}
 use Rattle.oscript.specs.Rows.{objects_of}
 use Rattle.oscript.specs.Frames.{action_at}
+use Rattle.osplan.specs.declared.plans.Alarm.{Alarm}
+use Rattle.osplan.specs.declared.plans.AlarmStart.{AlarmStart}
 use Rattle.osplan.specs.declared.plans.Counter.{Counter}
 use Rattle.osplan.specs.declared.plans.Task.{Task}
 use Rattle.osplan.specs.View.{View}
-use Rattle.osstate.specs.Readings.{best_job, frame_at, is_own, phase_at, running, script_of, task_ref, task_refs}
+use Rattle.osstate.specs.Readings.{best_job, frame_at, is_own, numbered_alarms, numbered_counters, phase_at, running, script_of, task_ref, task_refs}
 use Rattle.oscall.specs.Border.{core_of_call}
 use Rattle.oscall.specs.Tasks.{activates}
-use Rattle.oscall.proofs.Carried.{IsAllowed, IsKept, seen_as, anybody, either-carried, printed-carried, operates-carried, request-carried, action-carried, resumes-carried, ends_unasked-carried}
-use Rattle.oskernel.specs.Step.{after, autostarts, closes, counter_refs, counts_each, dispatches, effect, enters, gate_mark, goes_on, goes_to, leaves, starts_in, performs}
+use Rattle.oscall.proofs.Carried.{AlarmsAllow, IsAllowed, IsKept, counts-carried, seen_as, anybody, either-carried, printed-carried, operates-carried, request-carried, action-carried, resumes-carried, ends_unasked-carried}
+use Rattle.oskernel.specs.Step.{after, autostarts, closes, counts_each, dispatches, effect, enters, gate_mark, goes_on, goes_to, leaves, starts, starts_in, sets_by_itself, sets_each, performs}
 
 -- A request comes from a core that may be answered, and the call that it brings, or an action, is for an object that marks
 -- may name.
@@ -41,17 +44,19 @@ is_replied replies names (Item.Received from number (Message.Request call)) = re
 is_replied replies names (Item.Received from number (Message.Action call)) = names (core_of_call call)
 is_replied replies names item = true
 
--- Each operation of the core's scripts names the own core, or one that may be asked, if it names one.
-abbrev pub ScriptsAllow : View → (CoreId → Bool) → Type 0
-ScriptsAllow v may = (r : Runner) (n : ℕ) (op : Op) → slice_get (script_of v.own r) n ≡ Some op → IsAllowed v may op
+-- Each operation of the core's scripts names the own core, or one that may be asked, if it names one; and each alarm acts on one
+-- of these.
+pub record NamesAllow (v : View) (may : CoreId → Bool) : Type 0 where
+  pub scripts : (r : Runner) (n : ℕ) (op : Op) → slice_get (script_of v.own r) n ≡ Some op → IsAllowed v may op
+  pub alarms : AlarmsAllow v may
 
 -- Where every core may be asked and answered, nothing is demanded.
-pub allow-anybody : (v : View) → ScriptsAllow v anybody
-allow-anybody v r n op e = each (objects_of op)
+pub allow-anybody : (v : View) → NamesAllow v anybody
+allow-anybody v = record { scripts = λ r n op e. each _ (objects_of op); alarms = each _ v.own.alarms }
   where
-    each : (objects : List Object) → list_all (λ (object : Object). is_own v object.place.core || anybody object.place.core) objects ≡ true
-    each [] = refl
-    each (object ∷ objects) = and_from _ _ (or_right (is_own v object.place.core) true refl) (each objects)
+    each : {A : Type 0} (core_of : A → CoreId) (xs : List A) → list_all (λ (x : A). is_own v (core_of x) || anybody (core_of x)) xs ≡ true
+    each core_of [] = refl
+    each core_of (x ∷ xs) = and_from _ _ (or_right (is_own v (core_of x)) true refl) (each core_of xs)
 
 pub replied-anybody : (item : Item) → is_replied anybody anybody item ≡ true
 replied-anybody (Item.Received from number (Message.Request call)) = refl
@@ -102,7 +107,7 @@ steers-itself v h = record { phase = refl; awaits = refl; agreement = refl; curr
 
 -- Each part of a step carries a relation that services carry, and where a core is steered the same. Marks may name the
 -- core's own objects.
-module _ (v : View) (master : Bool) (ids : List CoreId) (may replies names : CoreId → Bool) (R : History → History → Type 0) (kept : IsKept v may replies names R) (steers : (h k : History) → R h k → SteersSame v (seen_as v master ids) h k) (acting : (h k : History) → R h k → NamesActing names v h) (scripts : ScriptsAllow v may) (own_named : names v.own.id ≡ true) where
+module _ (v : View) (master : Bool) (ids : List CoreId) (may replies names : CoreId → Bool) (R : History → History → Type 0) (kept : IsKept v may replies names R) (steers : (h k : History) → R h k → SteersSame v (seen_as v master ids) h k) (acting : (h k : History) → R h k → NamesActing names v h) (allowed : NamesAllow v may) (own_named : names v.own.id ≡ true) where
   abbrev other : View
   other = seen_as v master ids
 
@@ -125,15 +130,15 @@ module _ (v : View) (master : Bool) (ids : List CoreId) (may replies names : Cor
   autostarts-carried agreement [] named h k p = p
   autostarts-carried agreement (t ∷ ts) named h k p =
       let parts = and_parts (names t.0.core) _ named in
-      autostarts-carried agreement ts parts.1 _ _ (either (starts_in agreement t.1) (activates t.0 h) h (activates t.0 k) k (printed _ h k parts.0 p) p)
+      autostarts-carried agreement ts parts.1 _ _ (either (starts_in agreement t.1.auto) (activates t.0 h) h (activates t.0 k) k (printed _ h k parts.0 p) p)
 
   gate-named : (agreement : Agreement) → names_only names (gate_mark agreement) ≡ true
   gate-named Agreement.Conflict = refl
   gate-named agreement = refl
 
   performs-carried : (r : Runner) (o : Option Op) → IsNamed r → ((op : Op) → o ≡ Some op → IsAllowed v may op) → (h k : History) → R h k → R (performs v r (option_map_or Perform o End) h) (performs other r (option_map_or Perform o End) k)
-  performs-carried r None n allowed h k p = ends_unasked-carried v master ids may replies names R kept r h k n p
-  performs-carried r (Some op) n allowed h k p = operates-carried v master ids may replies names R kept op r h k n (allowed op refl) p
+  performs-carried r None n permitted h k p = ends_unasked-carried v master ids may replies names R kept r h k n p
+  performs-carried r (Some op) n permitted h k p = operates-carried v master ids may replies names R kept allowed.alarms own_named op r h k n (permitted op refl) p
 
   goes_on-carried : (o o' : Option Job) → runner_of o ≡ runner_of o' → passes_job names o ≡ true → (h k : History) → R h k → R (goes_on v o h) (goes_on other o' k)
   goes_on-carried None None e n h k p = p
@@ -143,24 +148,34 @@ module _ (v : View) (master : Bool) (ids : List CoreId) (may replies names : Cor
       let same : j.runner ≡ i.runner = cc in
       subst (λ (r : Runner). R (goes_on v (Some j) h) (performs other r (action_at (script_of other.own r) (frame_at other r k)) k)) same
       (subst (λ (f : Frame). R (goes_on v (Some j) h) (performs other j.runner (action_at (script_of other.own j.runner) f) k)) ((steers h k p).frame j.runner)
-      (performs-carried j.runner (slice_get (script_of v.own j.runner) (frame_at v j.runner h).pc) n (λ op f. scripts j.runner (frame_at v j.runner h).pc op f) h k p))
+      (performs-carried j.runner (slice_get (script_of v.own j.runner) (frame_at v j.runner h).pc) n (λ op f. allowed.scripts j.runner (frame_at v j.runner h).pc op f) h k p))
 
   closes-carried : (o : Option OpenCall) (s : Status) (value : Option ℤ) → passes (λ (call : OpenCall). names (core_of_runner call.runner)) o ≡ true → (h k : History) → R h k → R (closes o s value h) (closes o s value k)
   closes-carried None s value n h k p = p
   closes-carried (Some call) s value n h k p = resumes-carried v master ids may replies names R kept call.runner call.service s value h k n p
 
-  counts_each-carried : (ps : List (CounterRef × Counter)) (h k : History) → R h k → R (counts_each ps h) (counts_each ps k)
+  counts_each-carried : (ps : List (CounterRef × Counter)) (h k : History) → R h k → R (counts_each v ps h) (counts_each other ps k)
   counts_each-carried [] h k p = p
-  counts_each-carried (c ∷ cs) h k p = counts_each-carried cs _ _ (either c.1.software h _ k _ p (kept.local (Noted (Counted c.0)) h k refl p))
+  counts_each-carried (c ∷ cs) h k p =
+      counts_each-carried cs _ _ (either c.1.software h _ k _ p (counts-carried v master ids may replies names R kept allowed.alarms own_named c.0 h k p))
+
+  -- Alarms that start by themselves: a note each.
+  set_each-carried : (agreement : Option Agreement) (ps : List (AlarmRef × Alarm)) (h k : History) → R h k → R (sets_each agreement ps h) (sets_each agreement ps k)
+  set_each-carried agreement [] h k p = p
+  set_each-carried agreement (a ∷ rest) h k p = set_each-carried agreement rest _ _ (by a.1.auto)
+    where
+      by : (auto : Option AlarmStart) → R (sets_by_itself agreement a.0 auto h) (sets_by_itself agreement a.0 auto k)
+      by None = p
+      by (Some x) = either (starts_in agreement x.modes) _ h _ k (kept.local (Noted (AlarmSet a.0 x.start x.cycle)) h k refl p) p
 
   effect-carried : (item : Item) (h k : History) → is_replied replies names item ≡ true → R h k → R (effect v item h) (effect other item k)
   effect-carried (Item.Began core s) h k m p = printed _ h k refl p
   effect-carried (Item.Pass1 agreement) h k m p = printed _ h k (gate-named agreement) p
   effect-carried (Item.Pass2 cores) h k m p =
-      subst (λ (a : Option Agreement). R (autostarts (agreement_of h) (task_refs v.own) h) (autostarts a (task_refs v.own) k)) (steers h k p).agreement
-      (autostarts-carried (agreement_of h) (task_refs v.own) (refs-named 0 v.own.tasks) h k p)
+      subst (λ (a : Option Agreement). R (starts v (agreement_of h) h) (starts v a k)) (steers h k p).agreement
+      (set_each-carried (agreement_of h) (numbered_alarms v.own) _ _ (autostarts-carried (agreement_of h) (task_refs v.own) (refs-named 0 v.own.tasks) h k p))
   effect-carried (Item.Stim Stimulus.Op) h k m p = goes_on-carried (running v h) (running other k) (steers h k p).runs (acting h k p).runs h k p
-  effect-carried (Item.Stim Stimulus.Tick) h k m p = counts_each-carried (counter_refs v.own) _ _ (printed Mark.Tick h k refl p)
+  effect-carried (Item.Stim Stimulus.Tick) h k m p = counts_each-carried (numbered_counters v.own) _ _ (printed Mark.Tick h k refl p)
   effect-carried (Item.Stim (Stimulus.Irq isr)) h k m p = p
   effect-carried (Item.Received from number (Message.Request call)) h k m p =
       let parts = and_parts (replies from) (names (core_of_call call)) m in

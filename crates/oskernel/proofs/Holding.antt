@@ -13,7 +13,7 @@ use Rattle.osstate.specs.Readings.{is_own}
 use Rattle.oscall.specs.Returning.{queues}
 use Rattle.oscall.proofs.Carried.{anybody, is_local, IsKept, ServesSame}
 use Rattle.oskernel.specs.Step.{after}
-use Rattle.oskernel.proofs.Carried.{acting-anybody, after-carried, allow-anybody, is_replied, NamesActing, replied-anybody, ScriptsAllow, steers-itself, SteersSame}
+use Rattle.oskernel.proofs.Carried.{acting-anybody, after-carried, allow-anybody, is_replied, NamesActing, replied-anybody, NamesAllow, steers-itself, SteersSame}
 
 -- Each kind of entry that follows from an item keeps it: one of the core itself, an envelope to a core that may be
 -- asked, a reply to one that may be answered, and a call that is open there.
@@ -24,7 +24,7 @@ pub record Holds (may replies names : CoreId → Bool) (P : History → Type 0) 
   pub opened : (call : OpenCall) (h : History) → may call.core ≡ true → P h → P (Noted (Opened call) ∷ h)
 
 -- Where marks may name objects of the own core, of those that may be asked, and who acts, it holds after an item.
-module _ (v : View) (may replies names : CoreId → Bool) (P : History → Type 0) (holds : Holds may replies names P) (scripts : ScriptsAllow v may) (named : (core : CoreId) → (is_own v core || may core) ≡ true → names core ≡ true) (own_named : names v.own.id ≡ true) (acting : (h : History) → P h → NamesActing names v h) where
+module _ (v : View) (may replies names : CoreId → Bool) (P : History → Type 0) (holds : Holds may replies names P) (allowed : NamesAllow v may) (named : (core : CoreId) → (is_own v core || may core) ≡ true → names core ≡ true) (own_named : names v.own.id ≡ true) (acting : (h : History) → P h → NamesActing names v h) where
   -- One history, which has it.
   record Same (h k : History) : Type 0 where
     pub same : h ≡ k
@@ -34,7 +34,7 @@ module _ (v : View) (may replies names : CoreId → Bool) (P : History → Type 
   both f h k p q = record { same = rw p.same refl; has = q p.has }
 
   serves : (h k : History) → Same h k → ServesSame v may h k
-  serves h k p = rw p.same (record { started = λ core m. refl; jobs = λ r. refl; frame = λ r. refl; held = refl; events = refl; counts = λ c. refl })
+  serves h k p = rw p.same (record { started = λ core m. refl; jobs = λ r. refl; frame = λ r. refl; held = refl; events = refl; counts = λ c. refl; settings = λ c a. refl })
 
   steers : (h k : History) → Same h k → SteersSame v v h k
   steers h k p = rw p.same (steers-itself v k)
@@ -54,11 +54,11 @@ module _ (v : View) (may replies names : CoreId → Bool) (P : History → Type 
 
   pub holds-named : (h : History) (item : Item) → is_replied replies names item ≡ true → P (Took item ∷ h) → P (after v h item)
   holds-named h item m p =
-      (after-carried v v.is_master v.cores may replies names Same kept steers acts scripts own_named h h item item m (λ n. refl) (record { same = refl; has = p })).has
+      (after-carried v v.is_master v.cores may replies names Same kept steers acts allowed own_named h h item item m (λ n. refl) (record { same = refl; has = p })).has
 
 -- So it does where marks may name whatever there is.
-pub holds-after : (v : View) (may replies : CoreId → Bool) (P : History → Type 0) → Holds may replies anybody P → ScriptsAllow v may → (h : History) (item : Item) → is_replied replies anybody item ≡ true → P (Took item ∷ h) → P (after v h item)
-holds-after v may replies P holds scripts = holds-named v may replies anybody P holds scripts (λ core m. refl) refl (λ h p. acting-anybody v h)
+pub holds-after : (v : View) (may replies : CoreId → Bool) (P : History → Type 0) → Holds may replies anybody P → NamesAllow v may → (h : History) (item : Item) → is_replied replies anybody item ≡ true → P (Took item ∷ h) → P (after v h item)
+holds-after v may replies P holds allowed = holds-named v may replies anybody P holds allowed (λ core m. refl) refl (λ h p. acting-anybody v h)
 
 -- What every mark and every note keeps, whichever services there are.
 pub kept_after : (P : History → Type 0) → ((m : Mark) (h : History) → P h → P (Printed m ∷ h)) → ((n : Note) (h : History) → P h → P (Noted n ∷ h)) → (v : View) (h : History) (item : Item) → P (Took item ∷ h) → P (after v h item)

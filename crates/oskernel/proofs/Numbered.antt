@@ -1,7 +1,8 @@
 -- What is done for each object of a core in index order, when it is done for those before a place.
-use Rattle.std.proofs.Common.{◌≡◌, ℕ, zero, suc, ◌+◌, ◌≤◌, Some, List, [], ◌∷◌, length, take, refl, ap, sym, ◌∙◌, arith, map}
+use Rattle.std.proofs.Common.{◌≡◌, ℕ, zero, suc, ◌+◌, ◌≤◌, Some, List, [], ◌∷◌, length, take, refl, ap, sym, ◌∙◌, arith, map, add-one}
 use Rattle.std.specs.List.{slice_get, enumerate_from}
 use Rattle.osbase.specs.History.{History}
+use Rattle.osstate.specs.Readings.{numbered}
 
 -- the objects with their references, and the one at a place
 module _ {R A : Type 0} (ref : ℕ → R) where
@@ -35,3 +36,16 @@ each-more {A = A} step each none one (y ∷ ys) zero x h e =
     one y [] h ∙ none (step y h) ∙ ap (λ (z : A). step z h) same ∙ ap (step x) (sym (none h))
 each-more step each none one (y ∷ ys) (suc i) x h e =
     one y (take (suc i) ys) h ∙ each-more step each none one ys i x (step y h) e ∙ ap (step x) (sym (one y (take i ys) h))
+
+-- in a loop over numbered objects: the next one, and past the last one all of them
+module _ {R A : Type 0} (ref : ℕ → R) (step : R × A → History → History) (each : List (R × A) → History → History) (none : (h : History) → each [] h ≡ h) (one : (p : R × A) (ps : List (R × A)) (h : History) → each (p ∷ ps) h ≡ each ps (step p h)) (xs : List A) where
+  pub next-numbered : (place : ℕ) (x : A) (h : History) → slice_get xs place ≡ Some x → each (take (place + 1) (numbered ref xs)) h ≡ step (ref place, x) (each (take place (numbered ref xs)) h)
+  next-numbered place x h there =
+      let zero : 0 + place ≡ place = omega arith in
+      ap (λ (n : ℕ). each (take n (numbered ref xs)) h) (add-one place)
+      ∙ each-more step each none one (numbered ref xs) place (ref place, x) h (pairs-at ref 0 place x xs there ∙ ap (λ (m : ℕ). Some (ref m, x)) zero)
+
+  pub all-numbered : (place : ℕ) (h : History) → length xs ≤ place → each (take place (numbered ref xs)) h ≡ each (numbered ref xs) h
+  all-numbered place h past =
+      let count : length (numbered ref xs) ≡ length xs = pairs-length ref 0 xs in
+      ap (λ (ps : List (R × A)). each ps h) (take-whole (numbered ref xs) place (omega (arith, past, count)))

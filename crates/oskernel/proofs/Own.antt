@@ -1,4 +1,4 @@
--- A core whose scripts name no other core's objects, and that takes no mail, prints marks of its own objects alone.
+-- A core whose scripts and alarms name no other core's objects, and that takes no mail, prints marks of its own objects alone.
 use Rattle.std.proofs.Common.{◌≡◌, ℕ, Bool, true, false, nat_lt, not, cond, Option, Some, None, List, [], ◌∷◌, ◌++◌, length, refl, sym, ◌∙◌}
 use Rattle.std.specs.List.{filter, list_all}
 use Rattle.std.proofs.lemmas.Bool.{and_from, and_parts, false≢true, not-true}
@@ -18,7 +18,7 @@ use Rattle.osstate.specs.Readings.{current_priority, is_able, is_own}
 use Rattle.oscall.proofs.Carried.{is_local, nobody}
 use Rattle.oskernel.specs.Step.{after, history_from}
 use Rattle.oskernel.proofs.Calm.{Calm, calm-local, calm-took, mail-replied}
-use Rattle.oskernel.proofs.Carried.{NamesActing, passes, passes_job, ScriptsAllow}
+use Rattle.oskernel.proofs.Carried.{NamesActing, passes, passes_job, NamesAllow}
 use Rattle.oskernel.proofs.Holding.{Holds, holds-named}
 use Rattle.oskernel.proofs.Stages.{is_mail}
 
@@ -143,10 +143,10 @@ module _ (v : View) where
     opened = λ call h m p. absurd (false≢true m);
   }
 
-  module _ (scripts : ScriptsAllow v nobody) (same : is_own v v.own.id ≡ true) where
+  module _ (allowed : NamesAllow v nobody) (same : is_own v v.own.id ≡ true) where
     inward-after : (h : History) (i : Item) → is_mail i ≡ false → Inward v h → Inward v (after v h i)
     inward-after h i none p =
-        holds-named v nobody nobody (is_own v) (Inward v) inward-holds scripts (λ core m. sym (or-false (is_own v core)) ∙ m) same acting h i (mail-replied (is_own v) i none)
+        holds-named v nobody nobody (is_own v) (Inward v) inward-holds allowed (λ core m. sym (or-false (is_own v core)) ∙ m) same acting h i (mail-replied (is_own v) i none)
         (record { own = p.own; calm = calm-took i h none p.calm })
 
     -- So it stays by items of which none is mail.

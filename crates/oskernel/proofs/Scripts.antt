@@ -1,8 +1,8 @@
--- What the scripts of a separate core name, and those of the others.
+-- What the scripts and alarms of a separate core name, and those of the others.
 use Rattle.std.proofs.Common.{List, ◌≡◌, ℕ, Bool, true, false, not, ◌&&◌, ◌||◌, cond, Option, Some, None, [], refl, ap, subst, ◌∙◌, unwrap_or}
 use Rattle.std.specs.List.{list_all, list_any, slice_get}
 use Rattle.std.specs.Option.{option_map_or}
-use Rattle.std.proofs.lemmas.Bool.{not-false, not-true, not_from_false, or_left, or_right}
+use Rattle.std.proofs.lemmas.Bool.{not-false, not-true, not_from_false, or_left, or_parts, or_right}
 use Rattle.osbase.specs.declared.references.CoreId.{CoreId}
 use Rattle.osbase.specs.declared.references.Runner.{Runner}
 use Rattle.osbase.specs.History.{same_core}
@@ -10,15 +10,17 @@ use Rattle.osbase.proofs.Same.{same_core-true}
 use Rattle.osbase.specs.declared.objects.Object.{Object}
 use Rattle.oscript.specs.declared.Op.{Op}
 use Rattle.oscript.specs.Rows.{objects_of}
+use Rattle.osplan.specs.declared.plans.Alarm.{Alarm}
 use Rattle.osplan.specs.declared.plans.Plan.{Plan}
 use Rattle.osplan.specs.declared.plans.Core.{Core}
 use Rattle.osplan.specs.declared.plans.Task.{Task}
-use Rattle.osplan.specs.Separate.{has_operation, is_named_elsewhere, is_on, names_other, names_own}
-use Rattle.osplan.specs.View.{core_of, no_core, view_of}
+use Rattle.osplan.specs.Objects.{action_object}
+use Rattle.osplan.specs.Separate.{acts_on, has_operation, is_named_elsewhere, is_off, is_on, names_object, op_names}
+use Rattle.osplan.specs.View.{View, core_of, no_core, view_of}
 use Rattle.osplan.proofs.Tests.{all-not, all-weaker, fails-at, find-fails, find-holds}
 use Rattle.osstate.specs.Readings.{is_own, script_of}
 use Rattle.oscall.proofs.Carried.{nobody}
-use Rattle.oskernel.proofs.Carried.{ScriptsAllow}
+use Rattle.oskernel.proofs.Carried.{NamesAllow}
 
 -- Every core but this one.
 abbrev pub all_but : CoreId → CoreId → Bool
@@ -38,22 +40,33 @@ script-fails own test none (Runner.Isr i) n op e = cc
 none-all : (p q : Object → Bool) → ((object : Object) → p object ≡ false → q object ≡ true) → (objects : List Object) → list_any p objects ≡ false → list_all q objects ≡ true
 none-all p q then objects none = all-weaker (λ object. not (p object)) q (λ object fails. then object (not-true (p object) fails)) objects (all-not p objects none)
 
--- A separate core's scripts name none but its own objects.
-pub own-allow : (plan : Plan) (core : Core) (id : CoreId) → core_of plan id ≡ Some core → core.id ≡ id → has_operation (names_other core.id) core ≡ false → ScriptsAllow (view_of plan id) nobody
-own-allow plan core id found same inward r n op e =
-    none-all (λ (object : Object). not (is_on id object)) (λ (object : Object). is_own (view_of plan id) object.place.core || nobody object.place.core) (λ object own. or_left _ false (not-false (is_on id object) own)) (objects_of op)
-    (subst (λ (other : CoreId). names_other other op ≡ false) same
-    (script-fails (view_of plan id).own (names_other core.id) (ap (λ (o : Option Core). list_any (λ (task : Task). list_any (names_other core.id) task.script) (unwrap_or o (no_core id)).tasks) found ∙ inward) r n op e))
+-- A core that names no object that passes one test, by a script or an alarm: all that it names pass another, which each does that
+-- fails the first.
+names-allow : (v : View) (may : CoreId → Bool) (test : Object → Bool) → names_object test v.own ≡ false → ((object : Object) → test object ≡ false → (is_own v object.place.core || may object.place.core) ≡ true) → NamesAllow v may
+names-allow v may test none then =
+    let parts = or_parts (has_operation (op_names test) v.own) (acts_on test v.own) none in
+    record {
+      scripts = λ r n op e. none-all test (λ (object : Object). is_own v object.place.core || may object.place.core) then (objects_of op) (script-fails v.own (op_names test) parts.0 r n op e);
+      alarms = all-weaker (λ (alarm : Alarm). not (test (action_object alarm.action))) _ (λ alarm fails. then (action_object alarm.action) (not-true (test (action_object alarm.action)) fails)) v.own.alarms
+          (all-not (λ (alarm : Alarm). test (action_object alarm.action)) v.own.alarms parts.1);
+    }
 
--- Every other core's scripts name none of the objects of a core that is not named elsewhere.
-pub other-allow : (plan : Plan) (id other : CoreId) → is_named_elsewhere plan id ≡ false → same_core other id ≡ false → ScriptsAllow (view_of plan other) (all_but id)
-other-allow plan id other unnamed differs r n op e =
-    none-all (is_on id) (λ (object : Object). is_own (view_of plan other) object.place.core || all_but id object.place.core) (λ object apart. or_right _ _ (not_from_false (is_on id object) apart)) (objects_of op)
-    (script-fails (view_of plan other).own (names_own id) (by (core_of plan other) refl) r n op e)
+-- A separate core's scripts and alarms name none but its own objects.
+pub own-allow : (plan : Plan) (core : Core) (id : CoreId) → core_of plan id ≡ Some core → core.id ≡ id → names_object (is_off core.id) core ≡ false → NamesAllow (view_of plan id) nobody
+own-allow plan core id found same inward =
+    names-allow (view_of plan id) nobody (is_off id)
+    (ap (λ (o : Option Core). names_object (is_off id) (unwrap_or o (no_core id))) found ∙ subst (λ (other : CoreId). names_object (is_off other) core ≡ false) same inward)
+    (λ object own. or_left _ false (not-false (is_on id object) own))
+
+-- Every other core's scripts and alarms name none of the objects of a core that is not named elsewhere.
+pub other-allow : (plan : Plan) (id other : CoreId) → is_named_elsewhere plan id ≡ false → same_core other id ≡ false → NamesAllow (view_of plan other) (all_but id)
+other-allow plan id other unnamed differs =
+    names-allow (view_of plan other) (all_but id) (is_on id) (by (core_of plan other) refl)
+    (λ object apart. or_right _ _ (not_from_false (is_on id object) apart))
   where
-    by : (o : Option Core) → core_of plan other ≡ o → list_any (λ (task : Task). list_any (names_own id) task.script) (unwrap_or o (no_core other)).tasks ≡ false
+    by : (o : Option Core) → core_of plan other ≡ o → names_object (is_on id) (unwrap_or o (no_core other)) ≡ false
     by None found = refl
     by (Some core) found =
         let same = same_core-true core.id other (find-holds (λ (x : Core). same_core x.id other) plan.cores core found) in
-        let unnamed_here = find-fails (λ (x : Core). same_core x.id other) (λ (x : Core). not (same_core x.id id) && has_operation (names_own id) x) plan.cores core unnamed found in
-        subst (λ (b : Bool). (not b && has_operation (names_own id) core) ≡ false) (ap (λ (i : CoreId). same_core i id) same ∙ differs) unnamed_here
+        let unnamed_here = find-fails (λ (x : Core). same_core x.id other) (λ (x : Core). not (same_core x.id id) && names_object (is_on id) x) plan.cores core unnamed found in
+        subst (λ (b : Bool). (not b && names_object (is_on id) core) ≡ false) (ap (λ (i : CoreId). same_core i id) same ∙ differs) unnamed_here

@@ -13,9 +13,9 @@ use Rattle.osplan.specs.View.{View}
 use Rattle.osstate.specs.Readings.{best_job, frame_at, held_resources, is_own, knows_started, running, script_of, task_events}
 use Rattle.oscall.proofs.Carried.{anybody, is_local, IsKept, nobody, seen_as, ServesSame}
 use Rattle.oskernel.specs.Step.{after, effect}
-use Rattle.osbase.specs.Counting.{counts_of}
-use Rattle.oskernel.proofs.Among.{counts-same, agreement-same, among, base_of, best-later, count-same, current-same, delay, frame-same, later, open-same, phase-same, resources-same, running-later, stamp-later, task_events-same}
-use Rattle.oskernel.proofs.Carried.{acting-anybody, after-carried, is_going, is_replied, runner_of, ScriptsAllow, SteersSame}
+use Rattle.osbase.specs.Counting.{alarm_of, counts_of}
+use Rattle.oskernel.proofs.Among.{counts-same, agreement-same, among, base_of, best-later, count-same, current-same, delay, frame-same, later, open-same, phase-same, resources-same, running-later, settings-same, stamp-later, task_events-same}
+use Rattle.oskernel.proofs.Carried.{acting-anybody, after-carried, is_going, is_replied, runner_of, NamesAllow, SteersSame}
 
 -- What the core alone sees.
 abbrev pub alone_view : View → List CoreId → View
@@ -68,6 +68,7 @@ module _ (v : View) (ids : List CoreId) (s : CoreSet) where
     held = ap (held_resources v) p.same ∙ resources-same v s v.is_master k;
     events = ap (task_events v) p.same ∙ task_events-same v s v.is_master k;
     counts = λ c. ap (counts_of c) p.same ∙ counts-same c s v.is_master k;
+    settings = λ c a. ap (alarm_of c a) p.same ∙ settings-same c a s v.is_master k;
   }
     where
       own_only : (b : Bool) → (b || false) ≡ true → b ≡ true
@@ -89,10 +90,10 @@ module _ (v : View) (ids : List CoreId) (s : CoreSet) where
     reads = serves;
   }
 
-  module _ (scripts : ScriptsAllow v nobody) where
+  module _ (allowed : NamesAllow v nobody) where
     -- Two items with one effect, the first taken in the world and the second alone.
     same-after : (k : History) (item item' : Item) → is_replied nobody anybody item ≡ true → ((n : History) → effect self item n ≡ effect self item' n) → Along (Took item ∷ here k) (Took item' ∷ k) → after v (here k) item ≡ here (after self k item')
-    same-after k item item' replied same along = (after-carried v true ids nobody nobody anybody Along kept steers (λ h n p. acting-anybody v h) scripts refl (here k) k item item' replied same along).same
+    same-after k item item' replied same along = (after-carried v true ids nobody nobody anybody Along kept steers (λ h n p. acting-anybody v h) allowed refl (here k) k item item' replied same along).same
 
     -- So it is with the next stimulus, the end of the stimuli, and the second gate.
     pub same-stimulus : (stimulus : Stimulus) (k : History) → knows_started (here k) v.core ≡ true → knows_started k v.core ≡ true → after v (here k) (Item.Stim stimulus) ≡ here (after self k (Item.Stim stimulus))

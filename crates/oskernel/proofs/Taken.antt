@@ -17,9 +17,9 @@ use Rattle.osbase.specs.Sets.{has_core}
 use Rattle.osbase.proofs.Phasing.{in_phase}
 use Rattle.osstate.specs.State.{KernelState}
 use Rattle.osstate.specs.Sound.{is_posted, is_sender_known}
-use Rattle.oscall.specs.Border.{is_served}
+use Rattle.oscall.specs.Border.{is_action, is_served}
 use Rattle.oskernel.specs.Admission.{admits, is_awaited, is_empty, is_front_for, is_reply_to, is_settled}
-use Rattle.oskernel.specs.Taking.{is_acting, is_answered, is_filling, is_known, is_second_gate}
+use Rattle.oskernel.specs.Taking.{is_acting, is_answered, is_filling, is_going_on, is_known, is_second_gate}
 use Rattle.oskernel.proofs.Phases.{scheduling_past}
 
 pub acting : (places : ℕ) (s : KernelState) (item : Item) → admits places s item ≡ true → is_acting item ≡ true → is_before_live (phase_after (Took item) s.progress.phase) ≡ false
@@ -63,6 +63,14 @@ filling places s (Item.Received from number (Message.Action call)) some a b = ab
 filling places s (Item.Received from number (Message.Reply status value)) some a b = absurd (false≢true b)
 filling places s item some a b = absurd (false≢true b)
 
+empty : (xs : List Sent) → is_empty xs ≡ true → xs ≡ []
+empty [] e = refl
+empty (x ∷ xs) e = absurd (false≢true e)
+
+pub going_on : (places : ℕ) (s : KernelState) (item : Item) → admits places s item ≡ true → is_going_on item ≡ true → outbox_after (Took item) s.border.outbox ≡ []
+going_on places s (Item.Stim stimulus) a b = empty s.border.outbox (and_parts _ (is_empty s.border.outbox) (and_parts _ (is_settled s) a).1).1
+going_on places s item a b = absurd (false≢true b)
+
 -- an admitted item is a stimulus that there is, or a message that is answered, or neither kind
 reply-known : (status : Status) (has_value : Bool) (from : CoreId) (awaited : Option OpenCall) → option_map_or (is_reply_to from status has_value) awaited false ≡ true → is_some awaited ≡ true
 reply-known status has_value from None a = absurd (false≢true a)
@@ -70,7 +78,7 @@ reply-known status has_value from (Some call) a = refl
 
 message-known : (places : ℕ) (s : KernelState) (from : CoreId) (message : Message) → is_awaited places s from message ≡ true → is_answered s message ≡ true
 message-known places s from (Message.Request call) a = (and_parts (is_served s.view call) _ a).0
-message-known places s from (Message.Action call) a = a
+message-known places s from (Message.Action call) a = (and_parts (is_action call) _ a).1
 message-known places s from (Message.Reply status value) a = reply-known status (is_some value) from s.border.open_call a
 
 pub known : (places : ℕ) (s : KernelState) (item : Item) → admits places s item ≡ true → is_known s item ≡ true

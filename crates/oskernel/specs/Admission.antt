@@ -24,7 +24,7 @@ use Rattle.osplan.specs.View.{View, is_configured}
 use Rattle.osstate.specs.Readings.{is_own, next_start}
 use Rattle.osstate.specs.State.{KernelState}
 use Rattle.oscall.specs.Checks.{is_ok_status}
-use Rattle.oscall.specs.Border.{is_served}
+use Rattle.oscall.specs.Border.{is_action, is_served}
 
 -- `StartCore` answers E_OS_ID exactly for a core that is not configured, and else E_OK, or E_OS_STATE for one
 -- that was started already. [AUTOSAR SWS OS 4.x, StartCore; E_OS_STATE before StartOS]
@@ -79,10 +79,11 @@ abbrev pub is_reply_to : CoreId → Status → Bool → OpenCall → Bool
 is_reply_to from status has_value call =
     same_core call.core from && (if answers_value call.service && is_ok_status status then has_value else not has_value)
 
--- A message is expected: a request where the reply to it has a place, an action, or the reply of the open call. [own]
+-- A message is expected: a request where the reply to it has a place, an action that an alarm may have, or the reply of the open
+-- call. [own]
 abbrev pub is_awaited : ℕ → KernelState → CoreId → Message → Bool
 is_awaited places s from (Message.Request call) = is_served s.view call && nat_lt (length s.border.outbox) places
-is_awaited places s from (Message.Action call) = is_served s.view call
+is_awaited places s from (Message.Action call) = is_action call && is_served s.view call
 is_awaited places s from (Message.Reply status value) = option_map_or (is_reply_to from status (is_some value)) s.border.open_call false
 
 -- An envelope may be taken: its sender was started and is another core, its number is the next from there.

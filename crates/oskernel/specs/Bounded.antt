@@ -1,12 +1,13 @@
 -- What holds of every kernel.
-use Rattle.std.specs.Prelude.{ℕ, ◌*◌, ◌≤◌}
+use Rattle.std.specs.Prelude.{ℕ, ◌+◌, ◌*◌, ◌≤◌}
 use Rattle.osstate.specs.State.{KernelState}
+use Rattle.oscall.specs.Expiring.{posted_at_once}
 
 -- How many entries a step adds to the history at most: the item, what follows from it, and dispatch.
 abbrev pub step_entries : ℕ
 step_entries = 1024
 
--- The outbox has 8 places at least, and no step added more entries than it may.
+-- The outbox has places for all that the core's alarms may post at once, and 8 more; and no step added more entries than it may.
 pub record IsBounded (places : ℕ) (s : KernelState) : Type 0 where
-  pub outbox : 8 ≤ places
+  pub outbox : 8 + posted_at_once s.view.own ≤ places
   pub entries : s.progress.entries ≤ step_entries * s.progress.items

@@ -5,6 +5,7 @@ use Rattle.std.specs.Option.{option_map_or}
 use Rattle.osbase.specs.declared.statuses.Status.{Status}
 use Rattle.osbase.specs.declared.references.CoreId.{CoreId}
 use Rattle.osbase.specs.declared.references.ModeId.{ModeId}
+use Rattle.osbase.specs.declared.references.AlarmRef.{AlarmRef}
 use Rattle.osbase.specs.declared.references.CounterRef.{CounterRef}
 use Rattle.osbase.specs.declared.references.TaskRef.{TaskRef}
 use Rattle.osbase.specs.declared.references.Runner.{Runner}
@@ -20,14 +21,15 @@ use Rattle.osbase.specs.Phases.{is_scheduling}
 use Rattle.oscript.specs.declared.Action.{Action}
 use Rattle.oscript.specs.declared.Action.TheVariants.{Perform, End}
 use Rattle.oscript.specs.Frames.{action_at}
-use Rattle.osplan.specs.declared.plans.Core.{Core}
+use Rattle.osplan.specs.declared.plans.Alarm.{Alarm}
+use Rattle.osplan.specs.declared.plans.AlarmStart.{AlarmStart}
 use Rattle.osplan.specs.declared.plans.Counter.{Counter}
 use Rattle.osplan.specs.declared.plans.Task.{Task}
 use Rattle.osplan.specs.View.{View}
-use Rattle.osstate.specs.Readings.{script_of, frame_at, best_job, phase_at, running, task_refs}
+use Rattle.osstate.specs.Readings.{script_of, frame_at, best_job, numbered_alarms, numbered_counters, phase_at, running, task_refs}
 use Rattle.osstate.specs.State.{state_of}
-use Rattle.osclock.specs.Clocks.{counter_ref}
-use Rattle.oscall.specs.Counters.{counts}
+use Rattle.oscall.specs.Alarms.{sets_alarm}
+use Rattle.oscall.specs.Expiring.{counts}
 use Rattle.oscall.specs.Returning.{prints}
 use Rattle.oscall.specs.Tasks.{activates, ends_unasked}
 use Rattle.oscall.specs.Border.{serves_request, serves_action}
@@ -47,15 +49,29 @@ gate_mark Agreement.Conflict = Mark.ModesConflict
 gate_mark (Agreement.Mode m) = Mark.StartupHook
 gate_mark Agreement.NoMode = Mark.StartupHook
 
--- Autostart: the tasks whose list names the mode, in index order; none where there is no mode.
+-- Autostart: what has a list that names the mode; nothing where there is no mode.
 -- [OSEK/VDX OS 2.2.3, section 11.3; AUTOSAR SWS OS 4.x, SWS_Os_00608 to SWS_Os_00610]
-abbrev pub starts_in : Option Agreement → Task → Bool
-starts_in (Some (Agreement.Mode m)) task = list_any (λ (n : ModeId). n.index == m.index) task.auto
-starts_in other task = false
+abbrev pub starts_in : Option Agreement → List ModeId → Bool
+starts_in (Some (Agreement.Mode m)) modes = list_any (λ (n : ModeId). n.index == m.index) modes
+starts_in other modes = false
 
+-- The tasks are activated, in index order.
 abbrev pub autostarts : Option Agreement → List (TaskRef × Task) → History → History
 autostarts agreement [] h = h
-autostarts agreement (p ∷ ps) h = autostarts agreement ps (if starts_in agreement p.1 then activates p.0 h else h)
+autostarts agreement (p ∷ ps) h = autostarts agreement ps (if starts_in agreement p.1.auto then activates p.0 h else h)
+
+-- The alarms are set, in index order. [AUTOSAR SWS OS 4.x, OsAlarmAutostart]
+abbrev pub sets_by_itself : Option Agreement → AlarmRef → Option AlarmStart → History → History
+sets_by_itself agreement a None h = h
+sets_by_itself agreement a (Some x) h = if starts_in agreement x.modes then sets_alarm a x.start x.cycle h else h
+
+abbrev pub sets_each : Option Agreement → List (AlarmRef × Alarm) → History → History
+sets_each agreement [] h = h
+sets_each agreement (p ∷ ps) h = sets_each agreement ps (sets_by_itself agreement p.0 p.1.auto h)
+
+-- First the tasks, and then the alarms. [own]
+abbrev pub starts : View → Option Agreement → History → History
+starts v agreement h = sets_each agreement (numbered_alarms v.own) (autostarts agreement (task_refs v.own) h)
 
 -- The stimulus `op`: one operation of the running job, or its end; with nothing running it does nothing. [own]
 abbrev pub performs : View → Runner → Action → History → History
@@ -66,17 +82,14 @@ abbrev pub goes_on : View → Option Job → History → History
 goes_on v None h = h
 goes_on v (Some j) h = performs v j.runner (action_at (script_of v.own j.runner) (frame_at v j.runner h)) h
 
--- The stimulus `tick`: its line, and then each hardware counter of the core goes on by one, in index order.
--- [OSEK/VDX OS 2.2.3, section 9.1; AUTOSAR SWS OS 4.x, OsCounterType; the order: own]
-abbrev pub counter_refs : Core → List (CounterRef × Counter)
-counter_refs core = map (λ (p : ℕ × Counter). (counter_ref core p.0, p.1)) (enumerate_from 0 core.counters)
-
-abbrev pub counts_each : List (CounterRef × Counter) → History → History
-counts_each [] h = h
-counts_each (p ∷ ps) h = counts_each ps (if p.1.software then h else counts (Some p.0) h)
+-- The stimulus `tick`: its line, and then each hardware counter of the core goes on by one, in index order, and what is due by it
+-- acts. [OSEK/VDX OS 2.2.3, section 9.1; AUTOSAR SWS OS 4.x, OsCounterType; the order: own]
+abbrev pub counts_each : View → List (CounterRef × Counter) → History → History
+counts_each v [] h = h
+counts_each v (p ∷ ps) h = counts_each v ps (if p.1.software then h else counts v p.0 h)
 
 abbrev pub ticks : View → History → History
-ticks v h = counts_each (counter_refs v.own) (prints Mark.Tick h)
+ticks v h = counts_each v (numbered_counters v.own) (prints Mark.Tick h)
 
 -- A stimulus. An interrupt cannot be taken yet.
 abbrev pub stimulates : View → Stimulus → History → History
@@ -100,7 +113,7 @@ receives v from (Message.Reply status value) h = closes (open_call h) status val
 abbrev pub effect : View → Item → History → History
 effect v (Item.Began core status) h = prints (Mark.StartCoreReturned core status) h
 effect v (Item.Pass1 agreement) h = prints (gate_mark agreement) h
-effect v (Item.Pass2 cores) h = autostarts (agreement_of h) (task_refs v.own) h
+effect v (Item.Pass2 cores) h = starts v (agreement_of h) h
 effect v (Item.Stim stimulus) h = stimulates v stimulus h
 effect v (Item.Received from number message) h = receives v from message h
 effect v Item.On h = h

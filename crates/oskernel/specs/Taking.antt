@@ -52,3 +52,8 @@ abbrev pub is_filling : Item → Bool
 is_filling (Item.Stim stimulus) = true
 is_filling (Item.Received from number message) = is_request message
 is_filling item = false
+
+-- A core goes on with nothing in its outbox.
+abbrev pub is_going_on : Item → Bool
+is_going_on (Item.Stim stimulus) = true
+is_going_on item = false

@@ -14,7 +14,7 @@ use osbase::{
     Agreement, CORE_NUMBERS, CoreId, CoreSet, Item, Message, ModeId, OpenCall, Phase, RemoteCall,
     ServiceId, Status, Stimulus,
 };
-use oscall::{has_service, is_ok};
+use oscall::{is_action, is_ok};
 use osjobs::equality::{both, is_same_core};
 use osplan::CoreMode;
 use osstate::CoreState;
@@ -239,22 +239,12 @@ fn is_awaited<const P: usize, const J: usize, const OUT: usize>(
     ensures { result ≡ is_awaited OUT state.now from message.now }
 {
     match message {
-        Message::Request(call) => both(is_own_target(state, *call), state.has_place()),
-        Message::Action(call) => is_own_target(state, *call),
+        Message::Request(call) => both(state.has(call.object()), state.has_place()),
+        Message::Action(call) => both(is_action(*call), state.has(call.object())),
         Message::Reply { status, value } => {
             is_awaited_reply(state, from, *status, value.is_some())
         }
     }
-}
-
-// The call is one that goes across cores, to an object of this core.
-fn is_own_target<const P: usize, const J: usize, const OUT: usize>(
-    state: &CoreState<'_, P, J, OUT>,
-    call: RemoteCall,
-) -> bool
-    ensures { result ≡ is_served state.now.view call }
-{
-    both(has_service(call), state.has(call.object()))
 }
 
 fn is_awaited_reply<const P: usize, const J: usize, const OUT: usize>(

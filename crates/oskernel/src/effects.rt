@@ -1,6 +1,6 @@
 //! What follows from an item.
 
-ghost use Rattle.std.specs.Prelude.{◌&&◌, is_none, ◌≡◌, ◌==◌, ◌+◌, ◌<◌, ◌≤◌, ◌∷◌, ◌++◌, ◌||◌, [], if◌then◌else◌, Some, IsSome, IfSome, IsTrue, false, length, vec_len, vec_capacity};
+ghost use Rattle.std.specs.Prelude.{◌&&◌, is_none, ◌≡◌, ◌==◌, ◌+◌, ◌<◌, ◌≤◌, ◌^◌, ◌∷◌, ◌++◌, ◌||◌, [], if◌then◌else◌, Some, IsSome, IfSome, IsTrue, false, length, vec_len, vec_capacity};
 ghost use Rattle.std.specs.List.{list_any};
 ghost use Rattle.std.specs.Option.{option_map_or};
 ghost use Rattle.osbase.specs.declared.turns.TheConstants.{CORES};
@@ -8,25 +8,29 @@ ghost use Rattle.osbase.specs.History.{Took, agreement_of, current_task, job_cou
 ghost use Rattle.osbase.specs.Phases.{is_before_live, is_scheduling, is_past_first_gate};
 ghost use Rattle.osbase.specs.Runs.{is_stimulus};
 ghost use Rattle.oscript.specs.Frames.{action_at};
+ghost use Rattle.osplan.specs.Clocked.{are_clocks_within};
+ghost use Rattle.osplan.specs.View.{own_alarm};
 ghost use Rattle.osjobs.specs.Jobs.{is_plain};
 ghost use Rattle.osjobs.specs.Priorities.{is_own_runner};
-ghost use Rattle.osstate.specs.Does.{Adds, Does, Effects, HasRoom, Reads, item_entries, item_marks, service_entries, service_marks};
+ghost use Rattle.osstate.specs.Does.{Adds, Does, Effects, HasRoom, Reads, Remarks, item_entries, item_marks, service_entries, service_marks};
 ghost use Rattle.osstate.specs.Queries.{running_in};
-ghost use Rattle.osstate.specs.Readings.{frame_at, running, script_of, task_refs};
+ghost use Rattle.osstate.specs.Readings.{frame_at, numbered_alarms, running, script_of, task_refs};
 ghost use Rattle.osstate.specs.Sound.{activation_limit, is_agreed, is_first_gate, is_posted, is_sender_known};
+ghost use Rattle.oscall.specs.Expiring.{posted_at_once};
 ghost use Rattle.oscall.specs.Tasks.{activates};
 ghost use Rattle.oskernel.specs.Admission.{admits};
 ghost use Rattle.oskernel.specs.Bounded.{step_entries};
-ghost use Rattle.oskernel.specs.Step.{autostarts, closes, dispatches, effect, enters, gate_mark, goes_on, goes_to, leaves, performs, receives, starts_in, stimulates};
-ghost use Rattle.oskernel.specs.Taking.{TakesItem, agreement_on, is_acting, is_answered, is_filling, is_known, is_request, is_second_gate};
+ghost use Rattle.oskernel.specs.Step.{autostarts, closes, dispatches, effect, enters, gate_mark, goes_on, goes_to, leaves, performs, receives, sets_by_itself, sets_each, starts, starts_in, stimulates};
+ghost use Rattle.oskernel.specs.Taking.{TakesItem, agreement_on, is_acting, is_answered, is_filling, is_going_on, is_known, is_request, is_second_gate};
 
 use crate::ticks::tick;
 use osbase::{
-    Agreement, CoreId, Item, Job, Mark, Message, ModeId, Phase, Runner, Status, Stimulus, TaskRef,
+    Agreement, AlarmRef, CoreId, Item, Job, List, Mark, Message, ModeId, Phase, Runner, Status,
+    Stimulus, TaskRef,
 };
 use oscall::Answer;
 use oscript::Action;
-use osplan::Task;
+use osplan::{Alarm, Task};
 use osstate::CoreState;
 
 /// Takes an item that may be taken, and does what follows from it.
@@ -36,10 +40,11 @@ pub(crate) fn take<const P: usize, const J: usize, const OUT: usize>(
     marks: &mut Vec<Mark>,
 )
     requires admitted { IsTrue (admits OUT state.old item.now) }
-    requires outbox { 1 ≤ OUT }
+    requires outbox { 8 + posted_at_once state.old.view.own ≤ OUT }
     requires room { HasRoom step_entries item_marks state.old marks.old }
     ensures does { Does (λ v h. effect v item.now (Took item.now ∷ h)) state.old state.new marks.old.items marks.new.items }
     ensures takes { TakesItem (item_entries + 1) state.old state.new }
+    ensures view { state.new.view ≡ state.old.view }
     ensures adds { Adds item_marks marks.old.items marks.new.items }
     ensures len { vec_len marks.new ≤ vec_len marks.old + item_marks }
     ensures capacity { vec_capacity marks.new ≡ vec_capacity marks.old }
@@ -64,6 +69,7 @@ fn show_admitted<const P: usize, const J: usize, const OUT: usize>(
     ensures fresh { IsTrue (is_second_gate item.now) → IsTrue (is_before_live state.now.progress.phase) }
     ensures front { IsTrue (is_posted item.now) → 0 < length state.now.border.outbox }
     ensures filling { IsTrue (is_filling item.now) → length (outbox_after (Took item.now) state.now.border.outbox) < OUT }
+    ensures empty { IsTrue (is_going_on item.now) → outbox_after (Took item.now) state.now.border.outbox ≡ [] }
     ensures known { IsTrue (is_known state.now item.now) }
 {}
 
@@ -79,6 +85,8 @@ fn follow<const P: usize, const J: usize, const OUT: usize>(
     requires past { IsTrue (is_second_gate item.now) → IsTrue (is_past_first_gate state.old.progress.phase) }
     requires fresh { IsTrue (is_second_gate item.now) → state.old.tasks.jobs ≡ [] }
     requires outbox { IsTrue (is_filling item.now) → length state.old.border.outbox < OUT }
+    requires empty { IsTrue (is_going_on item.now) → state.old.border.outbox ≡ [] }
+    requires places { 8 + posted_at_once state.old.view.own ≤ OUT }
     requires room { HasRoom item_entries item_marks state.old marks.old }
     ensures { Effects item_entries item_marks (λ v h. effect v item.now h) state.old state.new marks.old marks.new }
 {
@@ -121,7 +129,7 @@ fn first_gate_mark(agreement: Agreement) -> Mark
     }
 }
 
-// The second gate is passed: the tasks of the agreed mode start by themselves, in index order.
+// The second gate is passed: the tasks of the agreed mode start by themselves, and then its alarms.
 fn start<const P: usize, const J: usize, const OUT: usize>(
     state: &mut CoreState<'_, P, J, OUT>,
     marks: &mut Vec<Mark>,
@@ -130,9 +138,24 @@ fn start<const P: usize, const J: usize, const OUT: usize>(
     requires past { IsTrue (is_past_first_gate state.old.progress.phase) }
     requires fresh { state.old.tasks.jobs ≡ [] }
     requires room { HasRoom item_entries item_marks state.old marks.old }
-    ensures { Effects item_entries item_marks (λ v h. autostarts (agreement_of h) (task_refs v.own) h) state.old state.new marks.old marks.new }
+    ensures { Effects item_entries item_marks (λ v h. starts v (agreement_of h) h) state.old state.new marks.old marks.new }
 {
     let mode = agreed_mode(state.agreement());
+    start_tasks(state, mode, marks);
+    start_alarms(state, mode);
+}
+
+// The tasks that start in the mode are activated, in index order.
+fn start_tasks<const P: usize, const J: usize, const OUT: usize>(
+    state: &mut CoreState<'_, P, J, OUT>,
+    mode: Option<ModeId>,
+    marks: &mut Vec<Mark>,
+)
+    requires live { is_before_live state.old.progress.phase ≡ false }
+    requires fresh { state.old.tasks.jobs ≡ [] }
+    requires room { HasRoom 32 32 state.old marks.old }
+    ensures { Effects 32 32 (λ v h. autostarts (Some (agreement_on mode)) (task_refs v.own) h) state.old state.new marks.old marks.new }
+{
     let core = state.id();
     let tasks = state.tasks();
     let mut index: u8 = 0;
@@ -166,20 +189,20 @@ fn autostart<const P: usize, const J: usize, const OUT: usize>(
     requires live { is_before_live state.old.progress.phase ≡ false }
     requires limit { job_count (Runner.Task reference) state.old.tasks.jobs < activation_limit state.old.view.own (Runner.Task reference) }
     requires room { HasRoom 1 1 state.old marks.old }
-    ensures effects { Effects 1 1 (λ v h. (if starts_in (Some (agreement_on mode)) task.now then activates reference h else h)) state.old state.new marks.old marks.new }
-    ensures jobs { state.new.tasks.jobs ≡ (if starts_in (Some (agreement_on mode)) task.now then state.old.tasks.jobs ++ record { runner = Runner.Task reference; stamp = state.old.progress.entries } ∷ [] else state.old.tasks.jobs) }
+    ensures effects { Effects 1 1 (λ v h. (if starts_in (Some (agreement_on mode)) task.now.auto then activates reference h else h)) state.old state.new marks.old marks.new }
+    ensures jobs { state.new.tasks.jobs ≡ (if starts_in (Some (agreement_on mode)) task.now.auto then state.old.tasks.jobs ++ record { runner = Runner.Task reference; stamp = state.old.progress.entries } ∷ [] else state.old.tasks.jobs) }
 {
-    if is_started_in(mode, task) {
+    if is_started_in(mode, &task.auto) {
         state.activate(reference, marks);
     }
 }
 
-// Whether the task's list names the mode; nothing starts by itself where there is no mode.
-fn is_started_in(mode: Option<ModeId>, task: &Task) -> bool
-    ensures { result ≡ starts_in (Some (agreement_on mode)) task.now }
+// Whether the list names the mode; nothing starts by itself where there is no mode.
+fn is_started_in(mode: Option<ModeId>, modes: &List<ModeId>) -> bool
+    ensures { result ≡ starts_in (Some (agreement_on mode)) modes.now }
 {
     match mode {
-        Some(agreed) => is_listed(task.auto.as_slice(), agreed),
+        Some(agreed) => is_listed(modes.as_slice(), agreed),
         None => false,
     }
 }
@@ -190,6 +213,42 @@ fn is_listed(modes: &[ModeId], mode: ModeId) -> bool
     modes.iter().any(|named| named.index == mode.index)
 }
 
+// The alarms that start in the mode are set, in index order.
+fn start_alarms<const P: usize, const J: usize, const OUT: usize>(
+    state: &mut CoreState<'_, P, J, OUT>,
+    mode: Option<ModeId>,
+)
+    requires count { state.old.progress.entries + 32 ≤ 2 ^ 63 }
+    ensures { Remarks 32 (λ v h. sets_each (Some (agreement_on mode)) (numbered_alarms v.own) h) state.old state.new }
+{
+    let core = state.id();
+    let alarms = state.alarms();
+    let mut index: u8 = 0;
+    for alarm in alarms {
+        let reference = AlarmRef { core, index };
+        set_by_itself(state, mode, alarm, reference);
+        index += 1;
+    }
+}
+
+fn set_by_itself<const P: usize, const J: usize, const OUT: usize>(
+    state: &mut CoreState<'_, P, J, OUT>,
+    mode: Option<ModeId>,
+    alarm: &Alarm,
+    reference: AlarmRef,
+)
+    requires own { own_alarm state.old.view.own reference ≡ Some alarm.now }
+    requires within { IsTrue (are_clocks_within state.old.view.own) }
+    requires count { state.old.progress.entries < 2 ^ 63 }
+    ensures { Remarks 1 (λ v h. sets_by_itself (Some (agreement_on mode)) reference alarm.now.auto h) state.old state.new }
+{
+    if let Some(start) = &alarm.auto {
+        if is_started_in(mode, &start.modes) {
+            state.set_alarm(reference, start.start, start.cycle);
+        }
+    }
+}
+
 // A stimulus: one operation of the running job or its end, or a tick.
 fn go_on<const P: usize, const J: usize, const OUT: usize>(
     state: &mut CoreState<'_, P, J, OUT>,
@@ -198,7 +257,8 @@ fn go_on<const P: usize, const J: usize, const OUT: usize>(
 )
     requires known { IsTrue (is_stimulus stimulus) }
     requires live { is_before_live state.old.progress.phase ≡ false }
-    requires outbox { length state.old.border.outbox < OUT }
+    requires outbox { state.old.border.outbox ≡ [] }
+    requires places { 8 + posted_at_once state.old.view.own ≤ OUT }
     requires room { HasRoom service_entries service_marks state.old marks.old }
     ensures { Effects service_entries service_marks (λ v h. stimulates v stimulus h) state.old state.new marks.old marks.new }
 {
@@ -215,7 +275,8 @@ fn go_on_by_one<const P: usize, const J: usize, const OUT: usize>(
     marks: &mut Vec<Mark>,
 )
     requires live { is_before_live state.old.progress.phase ≡ false }
-    requires outbox { length state.old.border.outbox < OUT }
+    requires outbox { state.old.border.outbox ≡ [] }
+    requires places { 8 + posted_at_once state.old.view.own ≤ OUT }
     requires room { HasRoom service_entries service_marks state.old marks.old }
     ensures { Effects service_entries service_marks (λ v h. goes_on v (running v h) h) state.old state.new marks.old marks.new }
 {
@@ -231,7 +292,8 @@ fn perform<const P: usize, const J: usize, const OUT: usize>(
 )
     requires own { IsTrue (is_own_runner state.old.view.own runner) }
     requires live { is_before_live state.old.progress.phase ≡ false }
-    requires outbox { length state.old.border.outbox < OUT }
+    requires outbox { state.old.border.outbox ≡ [] }
+    requires places { 8 + posted_at_once state.old.view.own ≤ OUT }
     requires room { HasRoom service_entries service_marks state.old marks.old }
     ensures { Effects service_entries service_marks (λ v h. performs v runner (action_at (script_of v.own runner) (frame_at v runner h)) h) state.old state.new marks.old marks.new }
 {

@@ -1,12 +1,13 @@
 -- The configuration of a separate core alone is within the limits, and a text can say it.
-use Rattle.std.proofs.Common.{◌≡◌, ℕ, Bool, true, false, not, ◌&&◌, nat_eq, nat_lt, List, [], ◌∷◌, ◌++◌, length, Option, Some, IsTrue, refl, sym, ap, ◌∙◌}
+use Rattle.std.proofs.Common.{◌≡◌, ℕ, Bool, true, false, not, ◌&&◌, nat_eq, nat_lt, List, [], ◌∷◌, ◌++◌, length, Option, Some, IsTrue, refl, sym, ap, subst, ◌∙◌}
 use Rattle.std.specs.List.{list_all, list_any, flat_map}
 use Rattle.std.specs.Option.{option_map_or}
 use Rattle.std.proofs.lemmas.List.{append-nil}
 use Rattle.std.proofs.lemmas.List.Folds.{list_any-append}
-use Rattle.std.proofs.lemmas.Bool.{and_parts, and_from, or_parts, or_left, or_right, not-true, not-false, not_from_false, eq-eqb}
+use Rattle.std.proofs.lemmas.Bool.{and_parts, and_from, or_from, or_parts, or_left, or_right, not-true, not-false, not_from_false, eq-eqb}
 use Rattle.osbase.specs.declared.references.CoreId.{CoreId}
 use Rattle.osbase.specs.declared.objects.Object.{Object}
+use Rattle.osbase.specs.Objects.{counter_object}
 use Rattle.osbase.specs.History.{same_core}
 use Rattle.osbase.proofs.Same.{same_core-true, same_core-refl}
 use Rattle.oscript.specs.declared.Op.{Op}
@@ -22,11 +23,12 @@ use Rattle.osplan.specs.declared.plans.Resource.{Resource}
 use Rattle.osplan.specs.declared.plans.Alarm.{Alarm}
 use Rattle.osplan.specs.declared.plans.Table.{Table}
 use Rattle.osplan.specs.View.{core_of}
-use Rattle.osplan.specs.Objects.{object_count}
-use Rattle.osplan.specs.Limits.{core_sizes, sizes_of, is_core_within, is_within, is_object, is_op_known, is_mode, is_core_mode, is_task_known, is_core_known, is_core_near, is_within_limits}
+use Rattle.osplan.specs.Objects.{action_object, alarm_modes, object_count}
+use Rattle.osplan.specs.Limits.{CoreSizes, StartSizes, core_sizes, sizes_of, is_alarm_known, is_alarm_near, is_core_within, is_within, is_object, is_op_known, is_mode, is_core_mode, is_task_known, is_core_known, is_core_near, is_within_limits}
 use Rattle.osplan.specs.Expressible.{is_core_expressible, is_expressible, are_distinct, object_names}
-use Rattle.osplan.specs.Separate.{agree, alone_of, has_operation, is_agreed_mode, is_named_elsewhere, is_on, is_separate, is_separate_core, is_started, names_other}
+use Rattle.osplan.specs.Separate.{acts_on, agree, alone_of, has_operation, is_agreed_mode, is_named_elsewhere, is_off, is_on, is_separate, is_separate_core, is_started, names_other}
 use Rattle.osplan.proofs.Distinct.{distinct-kept, distinct-front, distinct-back}
+use Rattle.osplan.proofs.Alarming.{own-sizes}
 use Rattle.osplan.proofs.Tests.{all-both, all-not, all-weaker, find-holds, find-passes}
 use Rattle.osplan.proofs.Within.{LimitParts, TextParts, limit-parts, text-parts}
 use Rattle.osplan.proofs.Separating.{SeparateParts, separate-parts}
@@ -82,20 +84,53 @@ module _ (plan : Plan) (id : CoreId) (core : Core) (found : core_of plan id ≡ 
       (all-weaker (λ op. is_op_known plan op && not (names_other core.id op)) (is_op_known (alone_of plan id core)) own-operation task.script
       (all-both (is_op_known plan) (λ op. not (names_other core.id op)) task.script ops.0 (all-not (names_other core.id) task.script (not-true _ parts.1)))) ops.1
 
-  core-alone : is_core_known plan core ≡ true → has_operation (names_other core.id) core ≡ false → is_core_known (alone_of plan id core) core ≡ true
-  core-alone known inside =
-      let parts = and_parts (is_core_mode plan core.mode) (list_all (is_task_known plan) core.tasks) known in
-      and_from _ _ parts.0
-      (all-weaker (λ (task : Task). is_task_known plan task && not (list_any (names_other core.id) task.script)) (is_task_known (alone_of plan id core)) own-script core.tasks
-      (all-both (is_task_known plan) (λ (task : Task). not (list_any (names_other core.id) task.script)) core.tasks parts.1 (all-not (λ (task : Task). list_any (names_other core.id) task.script) core.tasks inside)))
+  own-scripts : list_all (is_task_known plan) core.tasks ≡ true → has_operation (names_other core.id) core ≡ false → list_all (is_task_known (alone_of plan id core)) core.tasks ≡ true
+  own-scripts known inside =
+      all-weaker (λ (task : Task). is_task_known plan task && not (list_any (names_other core.id) task.script)) (is_task_known (alone_of plan id core)) own-script core.tasks
+      (all-both (is_task_known plan) (λ (task : Task). not (list_any (names_other core.id) task.script)) core.tasks known (all-not (λ (task : Task). list_any (names_other core.id) task.script) core.tasks inside))
+
+  -- an alarm names its counter, of this core, and an object that its action is for
+  abbrev stands-here : Alarm → Bool
+  stands-here alarm = is_alarm_near core.id alarm && not (is_off core.id (action_object alarm.action))
+
+  own-alarm : (alarm : Alarm) → (is_alarm_known plan alarm && stands-here alarm) ≡ true → is_alarm_known (alone_of plan id core) alarm ≡ true
+  own-alarm alarm h =
+      let parts = and_parts (is_alarm_known plan alarm) (stands-here alarm) h in
+      let here = and_parts (is_alarm_near core.id alarm) (not (is_off core.id (action_object alarm.action))) parts.1 in
+      let known = and_parts _ (list_all (is_mode plan) (alarm_modes alarm)) parts.0 in
+      let objects = and_parts (is_object plan (counter_object alarm.counter)) (is_object plan (action_object alarm.action)) known.0 in
+      and_from _ _
+      (and_from _ _ (own-object (counter_object alarm.counter) (and_from _ _ objects.0 (ap (λ b. not (not b)) here.0)))
+      (own-object (action_object alarm.action) (and_from _ _ objects.1 here.1))) known.1
+
+  own-alarms : list_all (is_alarm_known plan) core.alarms ≡ true → list_all (is_alarm_near core.id) core.alarms ≡ true → acts_on (is_off core.id) core ≡ false → list_all (is_alarm_known (alone_of plan id core)) core.alarms ≡ true
+  own-alarms known near acting =
+      all-weaker (λ (alarm : Alarm). is_alarm_known plan alarm && stands-here alarm) (is_alarm_known (alone_of plan id core)) own-alarm core.alarms
+      (all-both (is_alarm_known plan) stands-here core.alarms known
+      (all-both (is_alarm_near core.id) (λ (alarm : Alarm). not (is_off core.id (action_object alarm.action))) core.alarms near
+      (all-not (λ (alarm : Alarm). is_off core.id (action_object alarm.action)) core.alarms acting)))
+
+  core-alone : is_core_known plan core ≡ true → list_all (is_alarm_near core.id) core.alarms ≡ true → SeparateParts plan core → is_core_known (alone_of plan id core) core ≡ true
+  core-alone known near separate =
+      let parts = and_parts _ (list_all (is_alarm_known plan) core.alarms) known in
+      let scripts = and_parts (is_core_mode plan core.mode) (list_all (is_task_known plan) core.tasks) parts.0 in
+      and_from _ _ (and_from _ _ scripts.0 (own-scripts scripts.1 separate.inward)) (own-alarms parts.1 near separate.acting)
+
+  -- its alarms' counters are its own, in the whole as alone
+  same-sizes : list_all (is_alarm_near core.id) core.alarms ≡ true → core_sizes plan core ≡ core_sizes (alone_of plan id core) core
+  same-sizes near =
+      ap (λ (alarms : List (Option StartSizes)). let sizes : CoreSizes = record (core_sizes plan core) { alarms = alarms } in sizes)
+      (own-sizes plan core (ap (core_of plan) same ∙ found) near ∙ sym (own-sizes (alone_of plan id core) core (rw (same_core-refl core.id) refl) near))
 
   -- the modes and the mailboxes stay
-  sizes-alone : is_within (sizes_of plan) ≡ true → is_core_within (core_sizes core) ≡ true → is_within (sizes_of (alone_of plan id core)) ≡ true
+  sizes-alone : is_within (sizes_of plan) ≡ true → is_core_within (core_sizes (alone_of plan id core) core) ≡ true → is_within (sizes_of (alone_of plan id core)) ≡ true
   sizes-alone whole mine = and_from _ _ (and_from _ _ (and_parts _ _ (and_parts _ _ whole).0).0 refl) (and_from _ _ mine refl)
 
-  plan-alone : LimitParts plan → is_core_within (core_sizes core) ≡ true → is_core_known plan core ≡ true → is_core_near core ≡ true → has_operation (names_other core.id) core ≡ false → is_within_limits (alone_of plan id core) ≡ true
-  plan-alone limits within known near inside =
-      and_from _ _ (and_from _ _ (and_from _ _ (and_from _ _ (sizes-alone limits.sizes within) refl) (rw mine refl)) (and_from _ _ (core-alone known inside) refl)) (and_from _ _ near refl)
+  plan-alone : LimitParts plan → is_core_within (core_sizes plan core) ≡ true → is_core_known plan core ≡ true → is_core_near core ≡ true → SeparateParts plan core → is_within_limits (alone_of plan id core) ≡ true
+  plan-alone limits within known near separate =
+      let alarms = (and_parts _ (list_all (is_alarm_near core.id) core.alarms) near).1 in
+      let sizes = sizes-alone limits.sizes (subst (λ (s : CoreSizes). is_core_within s ≡ true) (same-sizes alarms) within) in
+      and_from _ _ (and_from _ _ (and_from _ _ (and_from _ _ sizes refl) (rw mine refl)) (and_from _ _ (core-alone known alarms separate) refl)) (and_from _ _ near refl)
 
   -- ---- what a text can say
   expressible-alone : TextParts plan → is_core_expressible core ≡ true → are_distinct (object_names core) ≡ true → is_expressible (alone_of plan id core) ≡ true
@@ -120,7 +155,7 @@ module _ (plan : Plan) (id : CoreId) (core : Core) (found : core_of plan id ≡ 
   separate-alone : SeparateParts plan core → is_separate (alone_of plan id core) id ≡ true
   separate-alone parts =
       rw mine (and_from _ _ (and_from _ _ (and_from _ _ (and_from _ _ (and_from _ _ started-alone parts.names) agreed-alone)
-      (ap (λ (cores : List CoreId). nat_eq (length cores) 0) parts.no_start)) (not_from_false _ parts.inward)) unnamed-alone)
+      (ap (λ (cores : List CoreId). nat_eq (length cores) 0) parts.no_start)) (not_from_false _ (or_from _ _ parts.inward parts.acting))) unnamed-alone)
 
 -- ---- the whole
 
@@ -137,12 +172,12 @@ whole-alone plan id core limits expressible found separate =
     let inside = limit-parts plan limits in
     let said = text-parts plan expressible in
     let mine = pick is_core_expressible said.cores in
-    let within = pick (λ (c : Core). is_core_within (core_sizes c)) inside.cores in
+    let within = pick (λ (c : Core). is_core_within (core_sizes plan c)) inside.cores in
     let parts = separate-parts plan core separate in
     let same = same_core-true core.id id (find-holds (λ (c : Core). same_core c.id id) plan.cores core found) in
     record {
       expressible_core = mine;
-      limits = plan-alone plan id core found same inside within (pick (is_core_known plan) inside.known) (pick is_core_near inside.near) parts.inward;
+      limits = plan-alone plan id core found same inside within (pick (is_core_known plan) inside.known) (pick is_core_near inside.near) parts;
       expressible = expressible-alone plan id core found same said mine (pick (λ (c : Core). are_distinct (object_names c)) (each-distinct plan.cores (distinct-back plan.modes (flat_map object_names plan.cores) said.names)));
       separate = separate-alone plan id core found same parts;
     }

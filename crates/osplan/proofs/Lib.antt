@@ -1,6 +1,7 @@
 pub mod Tests
 pub mod Distinct
 pub mod Within
+pub mod Alarming
 pub mod Clocked
 pub mod Starting
 pub mod Reached

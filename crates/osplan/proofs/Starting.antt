@@ -73,7 +73,7 @@ all-among (c ∷ cs) =
     (all-weaker (λ (d : Core). is_among (map (λ (e : Core). e.id) cs) d.id) (λ (d : Core). is_among (map (λ (e : Core). e.id) (c ∷ cs)) d.id) (λ d h. or_right (same_core c.id d.id) _ h) cs (all-among cs))
 
 numbers-low : (plan : Plan) → IsTrue (is_within_limits plan) → list_all (λ (c : Core). nat_lt c.id.number 16) plan.cores ≡ true
-numbers-low plan limits = all-weaker _ _ (λ c h. (fits c h).number) plan.cores (limit-parts plan limits).cores
+numbers-low plan limits = all-weaker _ _ (λ c h. (fits plan c h).number) plan.cores (limit-parts plan limits).cores
 
 all-known : (plan : Plan) → IsTrue (is_within_limits plan) → list_all (is_known plan) plan.cores ≡ true
 all-known plan limits =

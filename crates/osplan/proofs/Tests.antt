@@ -1,5 +1,5 @@
 -- Tests over lists.
-use Rattle.std.proofs.Common.{◌≡◌, ℕ, zero, suc, ◌≤◌, Bool, true, false, not, ◌&&◌, ◌||◌, nat_eq, cond, List, [], ◌∷◌, length, filter, Option, Some, None, is_some, refl, sym, ap, ◌∙◌, subst, arith}
+use Rattle.std.proofs.Common.{◌≡◌, ℕ, zero, suc, ◌≤◌, Bool, true, false, not, ◌&&◌, ◌||◌, nat_eq, cond, List, [], ◌∷◌, length, filter, map, Option, Some, None, is_some, refl, sym, ap, ◌∙◌, subst, arith}
 use Rattle.std.specs.List.{list_all, list_any, find, slice_get}
 use Rattle.std.specs.Option.{option_copied}
 use Rattle.std.specs.Borrow.{Bor}
@@ -18,6 +18,13 @@ all-both p q (x ∷ xs) a b =
     let first = and_parts (p x) (list_all p xs) a in
     let second = and_parts (q x) (list_all q xs) b in
     and_from (p x && q x) _ (and_from (p x) (q x) first.0 second.0) (all-both p q xs first.1 second.1)
+
+-- two functions that agree where a test holds
+pub map-where : {X Y : Type 0} (f g : X → Y) (p : X → Bool) → ((x : X) → p x ≡ true → f x ≡ g x) → (xs : List X) → list_all p xs ≡ true → map f xs ≡ map g xs
+map-where f g p same [] a = refl
+map-where f g p same (x ∷ xs) a =
+    let parts = and_parts (p x) (list_all p xs) a in
+    rw (same x parts.0, map-where f g p same xs parts.1) refl
 
 -- two tests that agree where a third holds
 pub any-same : {X : Type 0} (p q where_ : X → Bool) → ((x : X) → where_ x ≡ true → p x ≡ q x) → (xs : List X) → list_all where_ xs ≡ true → list_any p xs ≡ list_any q xs

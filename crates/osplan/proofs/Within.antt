@@ -1,5 +1,5 @@
 -- What the tests of a configuration say, by name, and what a kernel needs of a core.
-use Rattle.std.proofs.Common.{◌≡◌, ℕ, ◌+◌, ◌≤◌, ◌&&◌, true, nat_eq, nat_le, nat_lt, [], length, map, Some, is_some, IsTrue, sym, ◌∙◌, arith, sum_by}
+use Rattle.std.proofs.Common.{◌≡◌, ℕ, ◌+◌, ◌≤◌, true, nat_eq, nat_le, nat_lt, [], length, map, Some, is_some, IsTrue, sym, ◌∙◌, arith, sum_by}
 use Rattle.std.specs.List.{list_all}
 use Rattle.std.proofs.lemmas.Bool.{and_parts, leb-true, le-leb, lt-ltb}
 use Rattle.std.proofs.lemmas.List.{length-map}
@@ -8,19 +8,18 @@ use Rattle.osbase.specs.declared.references.CoreId.{CoreId}
 use Rattle.osbase.specs.History.{same_core}
 use Rattle.osplan.specs.declared.plans.Plan.{Plan}
 use Rattle.osplan.specs.declared.plans.Core.{Core}
-use Rattle.osplan.specs.declared.plans.Counter.{Counter}
 use Rattle.osplan.specs.declared.plans.Resource.{Resource}
 use Rattle.osplan.specs.declared.plans.Task.{Task}
-use Rattle.osplan.specs.View.{core_of}
-use Rattle.osplan.specs.Limits.{TaskSizes, is_between, jobs_of, task_sizes, counter_sizes, core_sizes, sizes_of, is_task_within, is_counter_within, is_core_within, is_within, is_ceiling, ceiling_of, is_core_known, is_core_near, numbers_of, are_numbers_distinct, is_within_limits}
-use Rattle.osplan.specs.Expressible.{are_mode_name, is_in_only_mode, are_distinct, declared_names, is_task_expressible, is_resource_expressible, is_counter_expressible, is_core_expressible, is_expressible}
+use Rattle.osplan.specs.View.{core_of, counter_in}
+use Rattle.osplan.specs.Limits.{TaskSizes, is_between, jobs_of, task_sizes, counter_sizes, core_sizes, sizes_of, is_task_within, is_counter_within, are_counters_within, are_alarms_within, alarm_sizes, is_alarm_within, is_core_within, is_within, is_ceiling, ceiling_of, is_core_known, is_core_near, numbers_of, are_numbers_distinct, is_within_limits}
+use Rattle.osplan.specs.Expressible.{are_mode_name, is_in_only_mode, are_distinct, declared_names, is_task_expressible, is_resource_expressible, is_counter_expressible, is_alarm_expressible, is_core_expressible, is_expressible}
 use Rattle.osplan.proofs.Tests.{all-weaker, find-passes, none-from}
 
 -- ---- the parts of both tests
 
 pub record LimitParts (plan : Plan) : Type 0 where
   pub sizes : is_within (sizes_of plan) ≡ true
-  pub cores : list_all (λ (c : Core). is_core_within (core_sizes c)) plan.cores ≡ true
+  pub cores : list_all (λ (c : Core). is_core_within (core_sizes plan c)) plan.cores ≡ true
   pub distinct : are_numbers_distinct (numbers_of plan.cores) ≡ true
   pub master : is_some (core_of plan plan.master) ≡ true
   pub known : list_all (is_core_known plan) plan.cores ≡ true
@@ -32,10 +31,10 @@ limit-parts plan h =
     let known = and_parts _ (list_all (is_core_known plan) plan.cores) near.0 in
     let master = and_parts _ (is_some (core_of plan plan.master)) known.0 in
     let distinct = and_parts (is_within (sizes_of plan)) (are_numbers_distinct (numbers_of plan.cores)) master.0 in
-    let cores = and_parts _ (list_all is_core_within (map core_sizes plan.cores)) distinct.0 in
+    let cores = and_parts _ (list_all is_core_within (map (core_sizes plan) plan.cores)) distinct.0 in
     record {
       sizes = distinct.0;
-      cores = sym (list_all-map is_core_within core_sizes plan.cores) ∙ cores.1;
+      cores = sym (list_all-map is_core_within (core_sizes plan) plan.cores) ∙ cores.1;
       distinct = distinct.1;
       master = master.1;
       known = known.1;
@@ -59,16 +58,16 @@ pub record CoreTextParts (core : Core) : Type 0 where
   pub tasks : list_all is_task_expressible core.tasks ≡ true
   pub resources : list_all is_resource_expressible core.resources ≡ true
   pub counters : list_all is_counter_expressible core.counters ≡ true
+  pub alarms : list_all is_alarm_expressible core.alarms ≡ true
   pub isrs : core.isrs ≡ []
-  pub alarms : core.alarms ≡ []
   pub tables : core.tables ≡ []
 
 pub core-text-parts : (core : Core) → IsTrue (is_core_expressible core) → CoreTextParts core
 core-text-parts core h =
     let tables = and_parts _ (nat_eq (length core.tables) 0) h in
-    let alarms = and_parts _ (nat_eq (length core.alarms) 0) tables.0 in
-    let isrs = and_parts _ (nat_eq (length core.isrs) 0) alarms.0 in
-    let counters = and_parts _ (list_all is_counter_expressible core.counters) isrs.0 in
+    let isrs = and_parts _ (nat_eq (length core.isrs) 0) tables.0 in
+    let alarms = and_parts _ (list_all is_alarm_expressible core.alarms) isrs.0 in
+    let counters = and_parts _ (list_all is_counter_expressible core.counters) alarms.0 in
     let resources = and_parts _ (list_all is_resource_expressible core.resources) counters.0 in
     let tasks = and_parts (is_in_only_mode core.mode) (list_all is_task_expressible core.tasks) resources.0 in
     record {
@@ -76,14 +75,14 @@ core-text-parts core h =
       tasks = tasks.1;
       resources = resources.1;
       counters = counters.1;
+      alarms = alarms.1;
       isrs = none-from core.isrs isrs.1;
-      alarms = none-from core.alarms alarms.1;
       tables = none-from core.tables tables.1;
     }
 
 -- ---- what a kernel needs
 
--- The core has its place among the flags of all cores, and its tasks, their jobs, its resources and its counters have room.
+-- The core has its place among the flags of all cores, and its tasks, their jobs, its resources, counters and alarms have room.
 pub record FitsKernel (core : Core) : Type 0 where
   pub number : nat_lt core.id.number 16 ≡ true
   pub tasks : length core.tasks ≤ 32
@@ -93,7 +92,7 @@ pub record FitsKernel (core : Core) : Type 0 where
   pub resources : length core.resources ≤ 16
   pub ceilings : list_all (λ (r : Resource). nat_lt r.ceiling 32) core.resources ≡ true
   pub counters : length core.counters ≤ 8
-  pub maxima : list_all (λ (c : Counter). nat_le 1 c.max && nat_le c.max 1000000000) core.counters ≡ true
+  pub alarms : length core.alarms ≤ 32
 
 pub between : (low high n : ℕ) → is_between low high (Some n) ≡ true → (low ≤ n) × (n ≤ high)
 between low high n h = let parts = and_parts (nat_le low n) (nat_le n high) h in (leb-true low n parts.0, leb-true n high parts.1)
@@ -108,14 +107,20 @@ task-fits task h =
 resource-fits : (resource : Resource) → is_ceiling (ceiling_of resource) ≡ true → nat_lt resource.ceiling 32 ≡ true
 resource-fits resource h = let ceiling = between _ _ resource.ceiling h in lt-ltb resource.ceiling 32 (omega arith)
 
-counter-fits : (counter : Counter) → is_counter_within (counter_sizes counter) ≡ true → (nat_le 1 counter.max && nat_le counter.max 1000000000) ≡ true
-counter-fits counter h = (and_parts _ _ h).0
+-- The last two parts of the limits of a core.
+pub clocks-of : (plan : Plan) (core : Core) → is_core_within (core_sizes plan core) ≡ true → (are_counters_within (map counter_sizes core.counters) ≡ true) × (are_alarms_within (map (alarm_sizes (counter_in plan)) core.alarms) ≡ true)
+clocks-of plan core h =
+    let alarms = and_parts _ (are_alarms_within (map (alarm_sizes (counter_in plan)) core.alarms)) h in
+    ((and_parts _ (are_counters_within (map counter_sizes core.counters)) alarms.0).1, alarms.1)
 
-pub fits : (core : Core) → is_core_within (core_sizes core) ≡ true → FitsKernel core
-fits core h =
-    let maxima = and_parts _ (list_all is_counter_within (map counter_sizes core.counters)) h in
-    let counters = and_parts _ (nat_le (length (map counter_sizes core.counters)) 8) maxima.0 in
-    let counted = leb-true (length (map counter_sizes core.counters)) _ counters.1 in
+pub fits : (plan : Plan) (core : Core) → is_core_within (core_sizes plan core) ≡ true → FitsKernel core
+fits plan core h =
+    let sizes = map counter_sizes core.counters in
+    let starts = map (alarm_sizes (counter_in plan)) core.alarms in
+    let clocks = clocks-of plan core h in
+    let alarms = leb-true (length starts) 32 (and_parts (nat_le (length starts) 32) (list_all is_alarm_within starts) clocks.1).0 in
+    let counted = leb-true (length sizes) 8 (and_parts (nat_le (length sizes) 8) (list_all is_counter_within sizes) clocks.0).0 in
+    let counters = and_parts _ (are_counters_within sizes) (and_parts _ (are_alarms_within starts) h).0 in
     let ceilings = and_parts _ (list_all is_ceiling (map ceiling_of core.resources)) counters.0 in
     let resources = and_parts _ (nat_le (length (map ceiling_of core.resources)) 16) ceilings.0 in
     let held = leb-true (length (map ceiling_of core.resources)) _ resources.1 in
@@ -134,10 +139,10 @@ fits core h =
       resources = omega (arith, length-map core.resources ceiling_of);
       ceilings = all-weaker _ _ resource-fits core.resources (sym (list_all-map is_ceiling ceiling_of core.resources) ∙ ceilings.1);
       counters = omega (arith, length-map core.counters counter_sizes);
-      maxima = all-weaker _ _ counter-fits core.counters (sym (list_all-map is_counter_within counter_sizes core.counters) ∙ maxima.1);
+      alarms = omega (arith, length-map core.alarms (alarm_sizes (counter_in plan)));
     }
 
 -- Each configured core fits.
 pub core-fits : (plan : Plan) (id : CoreId) (core : Core) → IsTrue (is_within_limits plan) → core_of plan id ≡ Some core → FitsKernel core
 core-fits plan id core limits found =
-    fits core (find-passes (λ (c : Core). same_core c.id id) (λ (c : Core). is_core_within (core_sizes c)) plan.cores core (limit-parts plan limits).cores found)
+    fits plan core (find-passes (λ (c : Core). same_core c.id id) (λ (c : Core). is_core_within (core_sizes plan c)) plan.cores core (limit-parts plan limits).cores found)

@@ -1,7 +1,7 @@
 -- What a text can say of a configuration so far, beside its limits: names in form and all different, one mode, scripts whose
--- arguments are of their kinds, whose masks have events and that stay within themselves, and no ISR, alarm or table. [own]
+-- arguments are of their kinds, whose masks have events and that stay within themselves, actions likewise, and no ISR or table. [own]
 -- Each is a test, so that a literal configuration passes it by computation.
-use Rattle.std.specs.Prelude.{ℕ, ◌==◌, ◌&&◌, nat_le, Bool, true, false, not, List, [], ◌∷◌, ◌++◌, length, map, codes}
+use Rattle.std.specs.Prelude.{ℕ, ◌==◌, ◌&&◌, nat_le, Bool, true, false, not, Some, List, [], ◌∷◌, ◌++◌, length, map, codes}
 use Rattle.std.specs.List.{list_all, list_any, flat_map}
 use Rattle.std.specs.Option.{option_map_or}
 use Rattle.std.specs.Str.{bytes_eq}
@@ -10,13 +10,16 @@ use Rattle.osbase.specs.Names.{is_name}
 use Rattle.oscript.specs.declared.Op.{Op}
 use Rattle.oscript.specs.Frames.{position_of}
 use Rattle.oscript.specs.Rows.{has_masks, is_in_form}
+use Rattle.osplan.specs.declared.plans.Alarm.{Alarm}
 use Rattle.osplan.specs.declared.plans.Plan.{Plan}
 use Rattle.osplan.specs.declared.plans.Core.{Core}
 use Rattle.osplan.specs.declared.plans.Counter.{Counter}
 use Rattle.osplan.specs.declared.plans.Resource.{Resource}
 use Rattle.osplan.specs.declared.plans.Task.{Task}
+use Rattle.osplan.specs.declared.plans.TimedAction.{TimedAction}
 use Rattle.osplan.specs.declared.plans.CoreMode.{CoreMode}
 use Rattle.osplan.specs.declared.plans.CoreMode.TheVariants.{Named, DontCare}
+use Rattle.osplan.specs.Objects.{alarm_modes}
 
 -- The name of the only mode.
 abbrev pub mode_name : List ℕ
@@ -39,11 +42,11 @@ abbrev pub are_distinct : List (List ℕ) → Bool
 are_distinct [] = true
 are_distinct (name ∷ names) = not (list_any (λ later. bytes_eq later name) names) && are_distinct names
 
--- The names of a core's objects: tasks, then resources, then counters. No other kind can be configured yet.
+-- The names of a core's objects: tasks, then resources, counters and alarms. No other kind can be configured yet.
 abbrev pub object_names : Core → List (List ℕ)
 object_names core =
     map (λ (task : Task). task.name) core.tasks ++ map (λ (resource : Resource). resource.name) core.resources
-    ++ map (λ (counter : Counter). counter.name) core.counters
+    ++ map (λ (counter : Counter). counter.name) core.counters ++ map (λ (alarm : Alarm). alarm.name) core.alarms
 
 -- Every name that a configuration declares: those of its modes, and those of its objects core by core.
 abbrev pub declared_names : Plan → List (List ℕ)
@@ -60,6 +63,15 @@ is_jumping_within script = list_all (goes_within (length script)) script
 abbrev pub is_script_expressible : List Op → Bool
 is_script_expressible script = list_all is_in_form script && list_all has_masks script && is_jumping_within script
 
+-- An action as the operation that a script has for it. [own]
+abbrev pub op_of_action : TimedAction → Op
+op_of_action (TimedAction.ActivateTask t) = Op.ActivateTask (Some t)
+op_of_action (TimedAction.SetEvent t mask) = Op.SetEvent (Some t) mask
+
+-- That operation has arguments of its kinds and a mask with an event.
+abbrev pub is_action_expressible : TimedAction → Bool
+is_action_expressible action = is_in_form (op_of_action action) && has_masks (op_of_action action)
+
 -- A task has a name in form, starts by itself in no mode but the only one, and has such a script.
 abbrev pub is_task_expressible : Task → Bool
 is_task_expressible task = is_name task.name && list_all is_only_mode task.auto && is_script_expressible task.script
@@ -72,11 +84,15 @@ is_resource_expressible resource = is_name resource.name
 abbrev pub is_counter_expressible : Counter → Bool
 is_counter_expressible counter = is_name counter.name
 
--- A core is of the only mode, and has no ISR, alarm or table.
+-- An alarm has a name in form, such an action, and is set by itself in no mode but the only one.
+abbrev pub is_alarm_expressible : Alarm → Bool
+is_alarm_expressible alarm = is_name alarm.name && is_action_expressible alarm.action && list_all is_only_mode (alarm_modes alarm)
+
+-- A core is of the only mode, and has no ISR or table.
 abbrev pub is_core_expressible : Core → Bool
 is_core_expressible core =
     is_in_only_mode core.mode && list_all is_task_expressible core.tasks && list_all is_resource_expressible core.resources
-    && list_all is_counter_expressible core.counters && (length core.isrs == 0) && (length core.alarms == 0) && (length core.tables == 0)
+    && list_all is_counter_expressible core.counters && list_all is_alarm_expressible core.alarms && (length core.isrs == 0) && (length core.tables == 0)
 
 -- The whole configuration can be said by a text; the names that it declares are different.
 abbrev pub is_expressible : Plan → Bool

@@ -1,14 +1,18 @@
 -- The limits of a configuration's numbers, each said once: a text that is read, the configuration that it means and the text that
 -- is written of it are judged by one test of their numbers. And that each reference of a configuration names an object of it.
 -- Each is a test, so that a literal configuration passes it by computation.
-use Rattle.std.specs.Prelude.{ℕ, ◌==◌, ◌&&◌, nat_le, nat_lt, Bool, true, false, not, Option, Some, None, is_some, unwrap_or, List, [], ◌∷◌, length, map, sum_by}
+use Rattle.std.specs.Prelude.{ℕ, ◌==◌, ◌&&◌, ◌||◌, nat_le, nat_lt, Bool, true, false, not, Option, Some, None, is_some, option_map, unwrap_or, List, [], ◌∷◌, length, map, sum_by}
 use Rattle.std.specs.List.{list_all, list_any}
 use Rattle.std.specs.Option.{option_map_or}
 use Rattle.osbase.specs.declared.references.CoreId.{CoreId}
+use Rattle.osbase.specs.declared.references.CounterRef.{CounterRef}
 use Rattle.osbase.specs.declared.references.ModeId.{ModeId}
 use Rattle.osbase.specs.declared.objects.Object.{Object}
+use Rattle.osbase.specs.Objects.{counter_object}
 use Rattle.oscript.specs.declared.Op.{Op}
 use Rattle.oscript.specs.Rows.{names_own_only, objects_of}
+use Rattle.osplan.specs.declared.plans.Alarm.{Alarm}
+use Rattle.osplan.specs.declared.plans.AlarmStart.{AlarmStart}
 use Rattle.osplan.specs.declared.plans.Plan.{Plan}
 use Rattle.osplan.specs.declared.plans.Core.{Core}
 use Rattle.osplan.specs.declared.plans.Counter.{Counter}
@@ -16,9 +20,9 @@ use Rattle.osplan.specs.declared.plans.Resource.{Resource}
 use Rattle.osplan.specs.declared.plans.Task.{Task}
 use Rattle.osplan.specs.declared.plans.CoreMode.{CoreMode}
 use Rattle.osplan.specs.declared.plans.CoreMode.TheVariants.{Named, DontCare}
-use Rattle.osplan.specs.Objects.{has_index}
-use Rattle.osplan.specs.Separate.{names_other}
-use Rattle.osplan.specs.View.{core_of}
+use Rattle.osplan.specs.Objects.{action_object, alarm_modes, has_index}
+use Rattle.osplan.specs.Separate.{is_on, names_other}
+use Rattle.osplan.specs.View.{core_of, counter_in}
 
 -- ---- the numbers that have limits. A number that a text has below 0 is none.
 
@@ -32,12 +36,20 @@ pub record CounterSizes : Type 0 where
   pub max : Option ℕ
   pub min : Option ℕ
 
+-- Of an automatic alarm, with the sizes of the counter that it goes by; with none where the alarm's counter is not one counter.
+pub record StartSizes : Type 0 where
+  pub start : Option ℕ
+  pub cycle : Option ℕ
+  pub counter : Option CounterSizes
+
+-- Of each alarm there are sizes if it is automatic.
 pub record CoreSizes : Type 0 where
   pub number : Option ℕ
   pub start : List (Option ℕ)
   pub tasks : List TaskSizes
   pub resources : List (Option ℕ)
   pub counters : List CounterSizes
+  pub alarms : List (Option StartSizes)
 
 pub record Sizes : Type 0 where
   pub modes : ℕ
@@ -81,18 +93,43 @@ is_ceiling number = is_between 0 31 number
 abbrev pub is_counter_within : CounterSizes → Bool
 is_counter_within s = is_between 1 1000000000 s.max && is_between 1 (unwrap_or s.max 0) s.min
 
+-- At most 8 counters. [own]
+abbrev pub are_counters_within : List CounterSizes → Bool
+are_counters_within counters = nat_le (length counters) 8 && list_all is_counter_within counters
+
+-- An alarm's cycle: 0 where it is due once, or the counter's least cycle to its greatest value [OSEK/VDX OS 2.2.3, section 13.6.3.3].
+abbrev pub is_cycle : CounterSizes → Option ℕ → Bool
+is_cycle counter cycle = is_between 0 0 cycle || is_between (unwrap_or counter.min 0) (unwrap_or counter.max 0) cycle
+
+-- An automatic alarm is first due after 1 count, or after as many as its counter's greatest value at most
+-- [AUTOSAR SWS OS 4.x, OsAlarmAlarmTime and OsAlarmCycleTime; that it is relative is own].
+abbrev pub is_start_by : StartSizes → CounterSizes → Bool
+is_start_by s counter = is_between 1 (unwrap_or counter.max 0) s.start && is_cycle counter s.cycle
+
+-- Where there is no counter to go by, nothing is asked of its start.
+abbrev pub is_start_within : StartSizes → Bool
+is_start_within s = option_map_or (is_start_by s) s.counter true
+
+-- Nothing is asked of an alarm that is not automatic.
+abbrev pub is_alarm_within : Option StartSizes → Bool
+is_alarm_within auto = option_map_or is_start_within auto true
+
+-- At most 32 alarms. [own]
+abbrev pub are_alarms_within : List (Option StartSizes) → Bool
+are_alarms_within alarms = nat_le (length alarms) 32 && list_all is_alarm_within alarms
+
 -- How many jobs of the task there may be at once; 0 where that number is not there, with which no task is within its limits.
 abbrev pub jobs_of : TaskSizes → ℕ
 jobs_of s = unwrap_or s.activations 0
 
 -- A core: number 0 to 7, at most 32 tasks, each of which passes the test, at most 64 jobs of all its tasks at once, at most 16
--- resources, and at most 8 counters. [own]
+-- resources, and its counters and alarms. [own]
 abbrev pub is_core_by : (TaskSizes → Bool) → CoreSizes → Bool
 is_core_by test s =
     is_between 0 7 s.number && list_all is_start s.start
     && nat_le (length s.tasks) 32 && list_all test s.tasks && nat_le (sum_by jobs_of s.tasks) 64
     && nat_le (length s.resources) 16 && list_all is_ceiling s.resources
-    && nat_le (length s.counters) 8 && list_all is_counter_within s.counters
+    && are_counters_within s.counters && are_alarms_within s.alarms
 
 -- The whole: 1 to 8 application modes, mailboxes of 1 to 16 envelopes, 1 to 8 cores. [own]
 abbrev pub is_by : (TaskSizes → Bool) → Sizes → Bool
@@ -141,17 +178,26 @@ ceiling_of resource = Some resource.ceiling
 abbrev pub counter_sizes : Counter → CounterSizes
 counter_sizes counter = record { max = Some counter.max; min = Some counter.min }
 
-abbrev pub core_sizes : Core → CoreSizes
-core_sizes core = record {
+abbrev pub start_sizes : Option CounterSizes → AlarmStart → StartSizes
+start_sizes counter auto = record { start = Some auto.start; cycle = Some auto.cycle; counter = counter }
+
+-- An alarm's, where counters are looked up so.
+abbrev pub alarm_sizes : (CounterRef → Option Counter) → Alarm → Option StartSizes
+alarm_sizes find_counter alarm = option_map (start_sizes (option_map counter_sizes (find_counter alarm.counter))) alarm.auto
+
+-- A core's in its configuration, where its alarms' counters are looked up, also those of other cores.
+abbrev pub core_sizes : Plan → Core → CoreSizes
+core_sizes plan core = record {
   number = number_of core.id;
   start = map number_of core.start;
   tasks = map task_sizes core.tasks;
   resources = map ceiling_of core.resources;
   counters = map counter_sizes core.counters;
+  alarms = map (alarm_sizes (counter_in plan)) core.alarms;
 }
 
 abbrev pub sizes_of : Plan → Sizes
-sizes_of plan = record { modes = length plan.modes; cap = Some plan.cap; cores = map core_sizes plan.cores }
+sizes_of plan = record { modes = length plan.modes; cap = Some plan.cap; cores = map (core_sizes plan) plan.cores }
 
 -- ---- its references
 
@@ -174,17 +220,26 @@ is_core_mode plan DontCare = true
 abbrev pub is_task_known : Plan → Task → Bool
 is_task_known plan task = list_all (is_op_known plan) task.script && list_all (is_mode plan) task.auto
 
--- A core's mode is there, and what its tasks name.
+-- An alarm's counter is there, what its action is for, and the modes in which it is set by itself.
+abbrev pub is_alarm_known : Plan → Alarm → Bool
+is_alarm_known plan alarm =
+    is_object plan (counter_object alarm.counter) && is_object plan (action_object alarm.action) && list_all (is_mode plan) (alarm_modes alarm)
+
+-- A core's mode is there, and what its tasks and its alarms name.
 abbrev pub is_core_known : Plan → Core → Bool
-is_core_known plan core = is_core_mode plan core.mode && list_all (is_task_known plan) core.tasks
+is_core_known plan core = is_core_mode plan core.mode && list_all (is_task_known plan) core.tasks && list_all (is_alarm_known plan) core.alarms
 
 -- On the core of this number the operation names no object of another core, where it may name its own alone.
 abbrev pub stays_on : CoreId → Op → Bool
 stays_on id op = not (names_own_only op && names_other id op)
 
--- So it is with each operation of the core's scripts. [own]
+-- The alarm's counter stands on the core of this number. [own]
+abbrev pub is_alarm_near : CoreId → Alarm → Bool
+is_alarm_near id alarm = is_on id (counter_object alarm.counter)
+
+-- So it is with each operation of the core's scripts, and with each of its alarms. [own]
 abbrev pub is_core_near : Core → Bool
-is_core_near core = list_all (λ (task : Task). list_all (stays_on core.id) task.script) core.tasks
+is_core_near core = list_all (λ (task : Task). list_all (stays_on core.id) task.script) core.tasks && list_all (is_alarm_near core.id) core.alarms
 
 -- The whole configuration is within the limits, with different cores, a configured master, no reference to what is not there, and
 -- none to another core's objects where only a core's own may be named.

@@ -7,12 +7,14 @@ use Rattle.osbase.specs.declared.objects.Object.{Object}
 use Rattle.osbase.specs.History.{same_core}
 use Rattle.oscript.specs.declared.Op.{Op}
 use Rattle.oscript.specs.Rows.{objects_of}
+use Rattle.osplan.specs.declared.plans.Alarm.{Alarm}
 use Rattle.osplan.specs.declared.plans.Plan.{Plan}
 use Rattle.osplan.specs.declared.plans.Core.{Core}
 use Rattle.osplan.specs.declared.plans.Task.{Task}
 use Rattle.osplan.specs.declared.plans.CoreMode.{CoreMode}
 use Rattle.osplan.specs.declared.plans.CoreMode.TheVariants.{Named, DontCare}
 use Rattle.osplan.specs.declared.separate.Standing.{Standing}
+use Rattle.osplan.specs.Objects.{action_object}
 use Rattle.osplan.specs.View.{core_of}
 
 -- ---- which cores are started
@@ -62,31 +64,46 @@ agree DontCare other = true
 abbrev pub is_agreed_mode : Plan → CoreMode → Bool
 is_agreed_mode plan mode = list_all (λ (c : Core). not (is_started plan c.id) || agree mode c.mode) plan.cores
 
--- ---- what scripts name
+-- ---- what scripts and alarms name
 
 -- The object stands on this core.
 abbrev pub is_on : CoreId → Object → Bool
 is_on id object = same_core object.place.core id
 
--- The operation names an object of this core. The invalid identifier names nothing.
+-- It stands on another.
+abbrev pub is_off : CoreId → Object → Bool
+is_off id object = not (is_on id object)
+
+-- The operation names an object that passes the test. The invalid identifier names nothing.
+abbrev pub op_names : (Object → Bool) → Op → Bool
+op_names test op = list_any test (objects_of op)
+
 abbrev pub names_own : CoreId → Op → Bool
-names_own id op = list_any (is_on id) (objects_of op)
+names_own id op = op_names (is_on id) op
 
 abbrev pub names_other : CoreId → Op → Bool
-names_other id op = list_any (λ object. not (is_on id object)) (objects_of op)
+names_other id op = op_names (is_off id) op
 
 -- A script of the core has such an operation.
 abbrev pub has_operation : (Op → Bool) → Core → Bool
 has_operation test core = list_any (λ (task : Task). list_any test task.script) core.tasks
 
--- Another core than the one of this number, started or not, has a script that names an object of that one.
+-- An alarm of the core acts on an object that passes the test.
+abbrev pub acts_on : (Object → Bool) → Core → Bool
+acts_on test core = list_any (λ (alarm : Alarm). test (action_object alarm.action)) core.alarms
+
+-- The core names an object that passes the test, by a script or an alarm. [own]
+abbrev pub names_object : (Object → Bool) → Core → Bool
+names_object test core = has_operation (op_names test) core || acts_on test core
+
+-- Another core than the one of this number, started or not, names an object of that one.
 abbrev pub is_named_elsewhere : Plan → CoreId → Bool
-is_named_elsewhere plan id = list_any (λ (other : Core). not (same_core other.id id) && has_operation (names_own id) other) plan.cores
+is_named_elsewhere plan id = list_any (λ (other : Core). not (same_core other.id id) && names_object (is_on id) other) plan.cores
 
 -- ---- separate cores, and the configuration of one alone
 
--- The core is started; it names a mode; no started core names another mode; it starts no core; no script of
--- it names an object of another core; and no script of another core, also of one that is never started,
+-- The core is started; it names a mode; no started core names another mode; it starts no core; no script or
+-- alarm of it names an object of another core; and none of another core, also of one that is never started,
 -- names an object of it. [own]
 abbrev pub is_separate_core : Plan → Core → Bool
 is_separate_core plan core =
@@ -94,7 +111,7 @@ is_separate_core plan core =
     && names_mode core.mode
     && is_agreed_mode plan core.mode
     && (length core.start == 0)
-    && not (has_operation (names_other core.id) core)
+    && not (names_object (is_off core.id) core)
     && not (is_named_elsewhere plan core.id)
 
 -- The configured core of this number is separate. [own]

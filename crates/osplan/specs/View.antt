@@ -1,5 +1,5 @@
 -- What one core sees of a configuration.
-use Rattle.std.specs.Prelude.{ℕ, if◌then◌else◌, Bool, Option, None, List, [], find, map, is_some, slice_get, unwrap_or}
+use Rattle.std.specs.Prelude.{ℕ, if◌then◌else◌, Bool, Option, None, List, [], find, map, is_some, option_and_then, slice_get, unwrap_or}
 use Rattle.osbase.specs.declared.references.AlarmRef.{AlarmRef}
 use Rattle.osbase.specs.declared.references.CoreId.{CoreId}
 use Rattle.osbase.specs.declared.references.CounterRef.{CounterRef}
@@ -17,6 +17,10 @@ use Rattle.osplan.specs.declared.plans.CoreMode.TheVariants.{DontCare}
 -- The core of this number, if one is configured.
 abbrev pub core_of : Plan → CoreId → Option Core
 core_of plan id = find (λ core. same_core core.id id) plan.cores
+
+-- The counter of this reference, on whichever core it stands.
+abbrev pub counter_in : Plan → CounterRef → Option Counter
+counter_in plan c = option_and_then (λ (core : Core). slice_get core.counters c.index) (core_of plan c.core)
 
 -- A core that is not configured has nothing.
 abbrev pub no_core : CoreId → Core

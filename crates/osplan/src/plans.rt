@@ -2,14 +2,15 @@
 
 ghost use Rattle.std.specs.Prelude.{◌≡◌, ◌↔◌, IsTrue, Option, option_copied};
 ghost use Rattle.std.specs.List.{list_all};
-ghost use Rattle.osplan.specs.Objects.{is_own_object, object_count};
+ghost use Rattle.osplan.specs.Objects.{action_object, call_of_action, is_own_object, object_count};
 ghost use Rattle.osplan.specs.View.{core_of};
-ghost use Rattle.osplan.specs.Limits.{is_core_near, is_within_limits, stays_on};
-ghost use Rattle.osplan.specs.Expressible.{is_expressible};
+ghost use Rattle.osplan.specs.Limits.{is_alarm_near, is_core_near, is_within_limits, stays_on};
+ghost use Rattle.osplan.specs.Expressible.{is_expressible, op_of_action};
+ghost use Rattle.osplan.specs.declared.plans.Task.{Task as TaskValue};
 
-use crate::separate::stays_on;
-use osbase::{CoreId, CounterRef, List, ModeId, Name, Object, ObjectKind, TaskRef};
-use oscript::Script;
+use crate::separate::{is_on, stays_on};
+use osbase::{CoreId, CounterRef, List, ModeId, Name, Object, ObjectKind, RemoteCall, TaskRef};
+use oscript::{Op, Script};
 use std::marker::Model;
 
 /// A task (OSEK/VDX OS 2.2.3, section 4).
@@ -63,16 +64,47 @@ pub enum TimedAction {
     SetEvent(TaskRef, u32),
 }
 
+impl TimedAction {
+    /// The call that the action makes, also of a task of the alarm's own core.
+    pub fn call(self) -> RemoteCall
+        ensures { result ≡ call_of_action self }
+    {
+        match self {
+            TimedAction::ActivateTask(task) => RemoteCall::ActivateTask(task),
+            TimedAction::SetEvent(task, mask) => RemoteCall::SetEvent { task, mask },
+        }
+    }
+
+    /// The object that the action is for.
+    pub fn object(self) -> Object
+        ensures { result ≡ action_object self }
+    {
+        self.call().object()
+    }
+
+    /// The operation that a script has for the action.
+    pub fn op(self) -> Op
+        ensures { result ≡ op_of_action self }
+    {
+        match self {
+            TimedAction::ActivateTask(task) => Op::ActivateTask(Some(task)),
+            TimedAction::SetEvent(task, mask) => Op::SetEvent(Some(task), mask),
+        }
+    }
+}
+
 /// How an alarm is set by itself: in these application modes, first due after so many counts, and again after each
 /// cycle (AUTOSAR SWS OS 4.x, OsAlarmAutostart).
 #[derive(Debug, Drop)]
 pub struct AlarmStart {
     pub modes: List<ModeId>,
+    /// 1 to the counter's greatest value.
     pub start: u32,
+    /// The counter's least cycle to its greatest value; 0 where it is due once.
     pub cycle: u32,
 }
 
-/// An alarm (OSEK/VDX OS 2.2.3, section 9.2). None can be configured yet.
+/// An alarm (OSEK/VDX OS 2.2.3, section 9.2).
 #[derive(Debug, Drop)]
 pub struct Alarm {
     pub name: Name,
@@ -168,16 +200,37 @@ fn is_script_near(id: CoreId, task: &Task) -> bool
     task.script.as_slice().iter().all(|op| stays_on(id, *op))
 }
 
+fn is_alarm_near(id: CoreId, alarm: &Alarm) -> bool
+    ensures { result ≡ is_alarm_near id alarm.now }
+{
+    is_on(id, alarm.counter.object())
+}
+
+fn are_scripts_near(core: &Core) -> bool
+    ensures { result ≡ list_all (λ (task : TaskValue). list_all (stays_on core.now.id) task.script) core.now.tasks }
+{
+    core.tasks
+        .as_slice()
+        .iter()
+        .all(|task| is_script_near(core.id, task))
+}
+
+fn are_alarms_near(core: &Core) -> bool
+    ensures { result ≡ list_all (is_alarm_near core.now.id) core.now.alarms }
+{
+    core.alarms
+        .as_slice()
+        .iter()
+        .all(|alarm| is_alarm_near(core.id, alarm))
+}
+
 impl Core {
     /// Whether no operation of the core's scripts names an object of another core, where it may name the
-    /// core's own alone.
+    /// core's own alone, and the counters of its alarms are its own.
     pub fn is_near(&self) -> bool
         ensures { result ≡ is_core_near self.now }
     {
-        self.tasks
-            .as_slice()
-            .iter()
-            .all(|task| is_script_near(self.id, task))
+        are_scripts_near(self) && are_alarms_near(self)
     }
 
     /// Whether the object is one of the core's own.

@@ -9,10 +9,10 @@ ghost use Rattle.osbase.specs.declared.turns.TheConstants.{CORES};
 ghost use Rattle.osplan.specs.Limits.{is_within_limits, stays_on};
 ghost use Rattle.osplan.specs.Expressible.{is_core_expressible};
 ghost use Rattle.osplan.specs.Flags.{is_named_by_one_of, is_next, AreStarted};
-ghost use Rattle.osplan.specs.Separate.{agree, alone_of, cut_of, has_operation, is_among, is_named_elsewhere, is_agreed_mode, is_on, is_separate, is_separate_core, is_started, names_mode, names_other, names_own, standing_of};
+ghost use Rattle.osplan.specs.Separate.{acts_on, agree, alone_of, cut_of, has_operation, is_among, is_named_elsewhere, is_agreed_mode, is_off, is_on, is_separate, is_separate_core, is_started, names_mode, names_object, names_other, names_own, standing_of};
 
 use crate::faults::ConfFault;
-use crate::plans::{Config, Core, CoreMode, Counter, Plan, Resource, Task};
+use crate::plans::{Alarm, AlarmStart, Config, Core, CoreMode, Counter, Plan, Resource, Task};
 use osbase::{CORE_NUMBERS, CORES, CoreId, CoreSet, List, Name, Object};
 use oscript::Op;
 use std::alloc::{AllocError, Global};
@@ -102,20 +102,27 @@ fn is_agreed_mode(plan: &Plan, started: &CoreSet, mode: CoreMode) -> bool
         || agree(mode, core.mode))
 }
 
-fn is_on(id: CoreId, object: Option<Object>) -> bool
+/// Whether the object stands on this core.
+pub fn is_on(id: CoreId, object: Object) -> bool
+    ensures { result ≡ is_on id object }
+{
+    object.place.core.number == id.number
+}
+
+fn is_there_on(id: CoreId, object: Option<Object>) -> bool
     ensures { result ≡ option_map_or (is_on id) object false }
 {
     match object {
-        Some(object) => object.place.core.number == id.number,
+        Some(object) => is_on(id, object),
         None => false,
     }
 }
 
-fn is_off(id: CoreId, object: Option<Object>) -> bool
-    ensures { result ≡ option_map_or (λ o. not (is_on id o)) object false }
+fn is_there_off(id: CoreId, object: Option<Object>) -> bool
+    ensures { result ≡ option_map_or (is_off id) object false }
 {
     match object {
-        Some(object) => object.place.core.number != id.number,
+        Some(object) => !is_on(id, object),
         None => false,
     }
 }
@@ -123,13 +130,13 @@ fn is_off(id: CoreId, object: Option<Object>) -> bool
 fn is_any_on(id: CoreId, objects: &[Option<Object>]) -> bool
     ensures { result ≡ list_any (λ object. option_map_or (is_on id) object false) objects.now }
 {
-    objects.iter().any(|object| is_on(id, *object))
+    objects.iter().any(|object| is_there_on(id, *object))
 }
 
 fn is_any_off(id: CoreId, objects: &[Option<Object>]) -> bool
-    ensures { result ≡ list_any (λ object. option_map_or (λ o. not (is_on id o)) object false) objects.now }
+    ensures { result ≡ list_any (λ object. option_map_or (is_off id) object false) objects.now }
 {
-    objects.iter().any(|object| is_off(id, *object))
+    objects.iter().any(|object| is_there_off(id, *object))
 }
 
 fn names_own(id: CoreId, op: Op) -> bool
@@ -163,7 +170,7 @@ fn is_script_inward(id: CoreId, task: &Task) -> bool
     task.script.as_slice().iter().any(|op| names_own(id, *op))
 }
 
-fn is_outward(core: &Core) -> bool
+fn has_script_outward(core: &Core) -> bool
     ensures { result ≡ has_operation (names_other core.now.id) core.now }
 {
     core.tasks
@@ -172,7 +179,22 @@ fn is_outward(core: &Core) -> bool
         .any(|task| is_script_outward(core.id, task))
 }
 
-fn is_inward(id: CoreId, other: &Core) -> bool
+fn has_alarm_outward(core: &Core) -> bool
+    ensures { result ≡ acts_on (is_off core.now.id) core.now }
+{
+    core.alarms
+        .as_slice()
+        .iter()
+        .any(|alarm| !is_on(core.id, alarm.action.object()))
+}
+
+fn is_outward(core: &Core) -> bool
+    ensures { result ≡ names_object (is_off core.now.id) core.now }
+{
+    has_script_outward(core) || has_alarm_outward(core)
+}
+
+fn has_script_inward(id: CoreId, other: &Core) -> bool
     ensures { result ≡ has_operation (names_own id) other.now }
 {
     other
@@ -182,14 +204,29 @@ fn is_inward(id: CoreId, other: &Core) -> bool
         .any(|task| is_script_inward(id, task))
 }
 
+fn has_alarm_inward(id: CoreId, other: &Core) -> bool
+    ensures { result ≡ acts_on (is_on id) other.now }
+{
+    other
+        .alarms
+        .as_slice()
+        .iter()
+        .any(|alarm| is_on(id, alarm.action.object()))
+}
+
+fn is_inward(id: CoreId, other: &Core) -> bool
+    ensures { result ≡ names_object (is_on id) other.now }
+{
+    has_script_inward(id, other) || has_alarm_inward(id, other)
+}
+
 fn is_named_elsewhere(plan: &Plan, id: CoreId) -> bool
     ensures { result ≡ is_named_elsewhere plan.now id }
 {
     plan.cores.as_slice().iter().any(|other| other.id.number != id.number && is_inward(id, other))
 }
 
-// Only tasks have scripts so far: ISRs, alarms and tables, which could name objects of other cores too, cannot
-// be configured yet.
+// Tasks and alarms alone name objects so far: ISRs and tables, which could too, cannot be configured yet.
 fn is_separate_core(plan: &Plan, core: &Core) -> bool
     requires { IsTrue (is_within_limits plan.now) }
     ensures { result ≡ is_separate_core plan.now core.now }
@@ -205,7 +242,7 @@ fn is_separate_core(plan: &Plan, core: &Core) -> bool
 
 /// Whether the core of this number is separate: it is started, by start lists that lead to it from the
 /// master; it names a mode other than DONOTCARE, and no started core names another; it starts no core;
-/// and no script of it names an object of another core, nor any script of another core, started or not,
+/// and no script or alarm of it names an object of another core, nor any of another core, started or not,
 /// an object of it. A core that is not configured is not separate. Takes no memory.
 pub fn is_separate(config: &Config, core: CoreId) -> bool
     ensures { result ≡ is_separate config.now core }
@@ -281,6 +318,46 @@ fn copied_counters(alloc: Global, counters: &[Counter]) -> Result<List<Counter>,
     Ok(copies)
 }
 
+fn copied_start(alloc: Global, start: &AlarmStart) -> Result<AlarmStart, AllocError>
+    ensures { IfOk result (λ copy. copy ≡ start.now) }
+{
+    Ok(AlarmStart {
+        modes: List::from_vec(start.modes.as_slice().to_vec(alloc)?),
+        start: start.start,
+        cycle: start.cycle,
+    })
+}
+
+fn copied_auto(alloc: Global, auto: &Option<AlarmStart>) -> Result<Option<AlarmStart>, AllocError>
+    ensures { IfOk result (λ copy. copy ≡ auto.now) }
+{
+    match auto {
+        Some(start) => Ok(Some(copied_start(alloc, start)?)),
+        None => Ok(None),
+    }
+}
+
+fn copied_alarm(alloc: Global, alarm: &Alarm) -> Result<Alarm, AllocError>
+    ensures { IfOk result (λ copy. copy ≡ alarm.now) }
+{
+    Ok(Alarm {
+        name: Name::new(alloc, alarm.name.as_str())?,
+        counter: alarm.counter,
+        action: alarm.action,
+        auto: copied_auto(alloc, &alarm.auto)?,
+    })
+}
+
+fn copied_alarms(alloc: Global, alarms: &[Alarm]) -> Result<List<Alarm>, AllocError>
+    ensures { IfOk result (λ copies. copies ≡ alarms.now) }
+{
+    let mut copies = List::new(alloc);
+    for alarm in alarms {
+        copies.push(copied_alarm(alloc, alarm)?)?;
+    }
+    Ok(copies)
+}
+
 fn copied_names(alloc: Global, names: &[Name]) -> Result<List<Name>, AllocError>
     ensures { IfOk result (λ copies. copies ≡ names.now) }
 {
@@ -303,7 +380,7 @@ fn copied_core(alloc: Global, core: &Core) -> Result<Core, AllocError>
         resources: copied_resources(alloc, core.resources.as_slice())?,
         isrs: List::new(alloc),
         counters: copied_counters(alloc, core.counters.as_slice())?,
-        alarms: List::new(alloc),
+        alarms: copied_alarms(alloc, core.alarms.as_slice())?,
         tables: List::new(alloc),
     })
 }

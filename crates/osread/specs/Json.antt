@@ -1,11 +1,11 @@
 -- How JSON data is read: values, lists of them, and members of objects.
-use Rattle.std.specs.Prelude.{ℕ, Bool, false, Option, Some, None, option_and_then, option_map, if◌then◌else◌, List, [], ◌∷◌, map}
+use Rattle.std.specs.Prelude.{ℕ, Bool, false, Option, Some, None, is_some, option_and_then, option_map, if◌then◌else◌, List, [], ◌∷◌, map}
 use Rattle.std.specs.Borrow.{Bor}
 use Rattle.std.specs.Option.{option_map_or}
 use Rattle.std.specs.List.{list_all, list_any}
 use Rattle.std.specs.Str.{bytes_eq}
 use Rattle.serde_json.specs.Data.{Num, unsigned, negative, float, Data, Items, no_items, item, Members, no_members, member}
-use Rattle.serde_json.specs.Find.{get, as_number, as_str, as_array, as_object}
+use Rattle.serde_json.specs.Find.{get, as_null, as_number, as_str, as_array, as_object}
 use Rattle.osbase.specs.Names.{is_name}
 use Rattle.osread.specs.Reading.{◌>>=◌, value_if, each}
 
@@ -40,6 +40,10 @@ values_of d = option_map elements (as_array d)
 -- A list of values, each read.
 abbrev pub each_of : {X : Type 0} → (Data → Option X) → Data → Option (List X)
 each_of read d = values_of d >>= each read
+
+-- Null, which is None, or a value that is read. [own]
+abbrev pub or_null : {X : Type 0} → (Data → Option X) → Data → Option (Option X)
+or_null read d = if is_some (as_null d) then Some None else option_map (λ x. Some x) (read d)
 
 -- A member that has to be there, and one that may be left out for its default. [own]
 abbrev pub member_of : {X : Type 0} → (Data → Option X) → List ℕ → Data → Option X

@@ -22,6 +22,6 @@ pub use members::{at, at_or, only_members};
 pub use parts::{PartReader, read_parts};
 pub use refusals::Refusal;
 pub use values::{
-    BoolReader, JsonReader, ListOf, NameReader, Text, TextReader, Whole, WholeReader,
+    BoolReader, JsonReader, ListOf, NameReader, OrNull, Text, TextReader, Whole, WholeReader,
 };
 pub use words::part_count;

@@ -1,13 +1,14 @@
-//! Readers of JSON values: whole numbers, names, texts, and lists of whatever is read.
+//! Readers of JSON values: whole numbers, names, texts, and lists of whatever is read, or null in its place.
 
 ghost use Rattle.std.specs.Prelude.{◌≡◌, Bool, true, IfOk, IsTrue, Option, map};
 ghost use Rattle.std.specs.List.{list_all};
+ghost use Rattle.std.specs.Option.{option_map_or};
 ghost use Rattle.osbase.specs.Names.{is_name};
 ghost use Rattle.serde_json.specs.Data.{Data};
 ghost use Rattle.serde_json.specs.Find.{as_bool, as_str};
 ghost use Rattle.serde_json.specs.View.{view};
 ghost use Rattle.osread.specs.Reading.{Gives, each};
-ghost use Rattle.osread.specs.Json.{whole_of, if_name, name_of, each_of};
+ghost use Rattle.osread.specs.Json.{whole_of, if_name, name_of, each_of, or_null};
 
 use crate::loops::{Reader, read_each};
 use crate::refusals::Refusal;
@@ -140,6 +141,25 @@ fn name_in(text: &str) -> Result<Text<'_>, Refusal>
         Ok(Text { text })
     } else {
         Err(Refusal::Unfit)
+    }
+}
+
+/// Reads null, or such a value.
+#[derive(Clone, Copy, Debug)]
+pub struct OrNull<R> {
+    pub of: R,
+}
+
+impl<'v, U: Drop, R: JsonReader<'v, U>> JsonReader<'v, Option<U>> for OrNull<R> {
+    ghost shape = { λ reader d. or_null (R.shape reader.of) d };
+
+    ghost passes = { λ reader x. option_map_or (R.passes reader.of) x true };
+
+    fn read(&self, alloc: Global, value: &'v Value) -> Result<Option<U>, Refusal> {
+        if value.is_null() {
+            return Ok(None);
+        }
+        Ok(Some(self.of.read(alloc, value)?))
     }
 }
 

@@ -1,4 +1,5 @@
 pub mod Parts
+pub mod Asking
 pub mod Border
 pub mod Ceiling
 pub mod Chained
@@ -7,8 +8,10 @@ pub mod Keeping
 pub mod Laws
 pub mod Limit
 pub mod Oldest
+pub mod Present
 pub mod Refusals
 pub mod Refused
 pub mod Released
 pub mod Scheduling
 pub mod Variables
+pub mod Wrap

@@ -1,7 +1,9 @@
 -- What the worked examples are made of.
-use Rattle.std.specs.Prelude.{ℕ, true, false, Option, None, List, [], ◌∷◌, codes, replicate}
+use Rattle.std.specs.Prelude.{ℕ, pos, true, false, Option, Some, None, List, [], ◌∷◌, codes, replicate}
 use Rattle.std.specs.Option.{option_map}
+use Rattle.osbase.specs.declared.references.AlarmRef.{AlarmRef}
 use Rattle.osbase.specs.declared.references.CoreId.{CoreId}
+use Rattle.osbase.specs.declared.references.CounterRef.{CounterRef}
 use Rattle.osbase.specs.declared.references.ResourceRef.{ResourceRef}
 use Rattle.osbase.specs.declared.references.Runner.TheVariants as Runner
 use Rattle.osbase.specs.declared.references.TaskRef.{TaskRef}
@@ -15,8 +17,12 @@ use Rattle.osbase.specs.declared.messages.RemoteCall.{RemoteCall}
 use Rattle.osbase.specs.declared.messages.RemoteCall.TheVariants as Remote
 use Rattle.osbase.specs.declared.statuses.ServiceId.{ServiceId}
 use Rattle.osbase.specs.declared.statuses.Status.{Status}
+use Rattle.osbase.specs.declared.statuses.Status.TheVariants.{EOk}
 use Rattle.osbase.specs.History.{marks_of}
 use Rattle.oscript.specs.declared.Op.{Op}
+use Rattle.osplan.specs.declared.plans.Alarm.{Alarm}
+use Rattle.osplan.specs.declared.plans.Counter.{Counter}
+use Rattle.osplan.specs.declared.plans.TimedAction.TheVariants as TimedAction
 use Rattle.osplan.specs.declared.plans.Plan.{Plan}
 use Rattle.osplan.specs.declared.plans.Core.{Core}
 use Rattle.osplan.specs.declared.plans.Task.{Task}
@@ -72,6 +78,22 @@ with_resource name ceiling c = record c { resources = record { name = name; ceil
 abbrev pub first_resource : ℕ → ResourceRef
 first_resource n = record { core = core n; index = 0 }
 
+-- a counter that ticks advance, an alarm of the core's first counter that activates a task, and a core with these
+abbrev pub counter : List ℕ → ℕ → Counter
+counter name max = record { name = name; max = max; min = 1; software = false }
+
+abbrev pub counter_at : ℕ → ℕ → CounterRef
+counter_at n index = record { core = core n; index = index }
+
+abbrev pub alarm_for : ℕ → List ℕ → TaskRef → Alarm
+alarm_for n name t = record { name = name; counter = counter_at n 0; action = TimedAction.ActivateTask t; auto = None }
+
+abbrev pub alarm_at : ℕ → ℕ → AlarmRef
+alarm_at n index = record { core = core n; index = index }
+
+abbrev pub with_clocks : List Counter → List Alarm → Core → Core
+with_clocks counters alarms c = record c { counters = counters; alarms = alarms }
+
 -- a configuration with the defaults
 abbrev pub plan_of : List Core → Plan
 plan_of cores = record { cap = 16; master = core 0; modes = codes "M" ∷ []; cores = cores }
@@ -97,6 +119,9 @@ asked from number t = requested from number (Remote.ActivateTask t)
 abbrev pub replied : ℕ → ℕ → Status → Item
 replied from number status = Item.Received (core from) number (Message.Reply status None)
 
+abbrev pub replied_with : ℕ → ℕ → ℕ → Item
+replied_with from number value = Item.Received (core from) number (Message.Reply EOk (Some (pos value)))
+
 -- the items after the last stimulus of a core to its end
 abbrev pub end : List Item
 end = Item.PassEnd ∷ Item.Last None ∷ []
@@ -104,6 +129,9 @@ end = Item.PassEnd ∷ Item.Last None ∷ []
 -- the lines of a service of a task, and those of its end
 abbrev pub returned : TaskRef → ServiceId → Status → List Mark
 returned t service status = Mark.ServiceReturned (Runner.Task t) service status None ∷ []
+
+abbrev pub returned_with : TaskRef → ServiceId → ℕ → List Mark
+returned_with t service value = Mark.ServiceReturned (Runner.Task t) service EOk (Some (pos value)) ∷ []
 
 abbrev pub ended : TaskRef → List Mark
 ended t = Mark.PostTaskHook t ∷ Mark.Terminated t ∷ []

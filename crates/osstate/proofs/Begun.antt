@@ -1,11 +1,9 @@
 -- The state of a core that took no item.
-use Rattle.std.proofs.Common.{◌≡◌, ℕ, zero, suc, ◌+◌, ◌≤◌, Bool, true, false, cond, IsTrue, Option, Some, None, is_some, List, [], ◌∷◌, length, map, refl, ap, sym, subst, ◌∙◌, arith, replicate, nat_lt, sum_by, get_or, not, ◌||◌, ◌&&◌, unwrap_or}
+use Rattle.std.proofs.Common.{◌≡◌, ℕ, zero, suc, ◌+◌, ◌≤◌, Bool, true, false, cond, IsTrue, Option, Some, None, is_some, List, [], ◌∷◌, length, map, refl, ap, sym, subst, ◌∙◌, arith, replicate, nat_lt, sum_by, get_or, unwrap_or}
 use Rattle.std.specs.List.{find, list_all}
-use Rattle.std.specs.Option.{option_map_or}
 use Rattle.std.proofs.lemmas.Bool.{false≢true, and_parts}
 use Rattle.std.proofs.lemmas.List.{length-replicate}
 use Rattle.osbase.specs.declared.references.CoreId.{CoreId}
-use Rattle.osbase.specs.declared.objects.Object.{Object}
 use Rattle.osbase.specs.declared.histories.HeldResource.{HeldResource}
 use Rattle.osbase.specs.declared.histories.Sent.{Sent}
 use Rattle.osbase.specs.declared.histories.TaskEvents.{TaskEvents}
@@ -22,9 +20,8 @@ use Rattle.osplan.specs.declared.plans.Core.{Core}
 use Rattle.osplan.specs.declared.plans.Resource.{Resource}
 use Rattle.osplan.specs.declared.plans.Task.{Task}
 use Rattle.osplan.specs.View.{View, core_of, no_core, view_from, view_of}
-use Rattle.osplan.specs.Expressible.{is_expressible}
-use Rattle.osplan.specs.Limits.{is_within_limits, is_core_known, is_task_known, is_object, is_op_known}
-use Rattle.osplan.specs.Objects.{has_index, may_name}
+use Rattle.osplan.specs.Limits.{is_alarm_known, is_within_limits, is_core_known, is_task_known, is_object, is_op_known}
+use Rattle.osplan.specs.Objects.{may_name}
 use Rattle.osbase.specs.declared.turns.TheConstants.{TASKS}
 use Rattle.osclock.specs.Clocks.{ClockState, clocks_of}
 use Rattle.osjobs.specs.Jobs.{JobState, first_jobs}
@@ -34,30 +31,20 @@ use Rattle.osstate.specs.Steps.{state_from, first_border, first_progress, first_
 use Rattle.osstate.specs.Sound.{IsSound, is_agreed, has_objects_of}
 use Rattle.osbase.proofs.Same.{same_core-comm, same_core-true}
 use Rattle.osplan.proofs.Tests.{all-weaker, find-holds, find-passes}
+use Rattle.osplan.proofs.Alarming.{known-actions, known-named}
 use Rattle.osplan.proofs.Clocked.{clocks_within}
 use Rattle.osplan.proofs.Within.{FitsKernel, limit-parts, core-fits}
 
 -- An operation of a configuration names objects that are there, so on this core some of its own.
-known_op : (plan : Plan) (id : CoreId) (core : Core) → core_of plan id ≡ Some core → (op : Op) → is_op_known plan op ≡ true → has_objects_of core op ≡ true
-known_op plan id core found op h =
-    all-weaker (is_object plan) (may_name core) known (objects_of op) h
+known_scripts : (plan : Plan) (core : Core) → is_core_known plan core ≡ true → core_of plan core.id ≡ Some core → list_all (λ (t : Task). list_all (has_objects_of core) t.script) core.tasks ≡ true
+known_scripts plan core known found =
+    all-weaker (is_task_known plan) (λ (t : Task). list_all (has_objects_of core) t.script) each core.tasks (and_parts _ (list_all (is_task_known plan) core.tasks) (and_parts _ (list_all (is_alarm_known plan) core.alarms) known).0).1
   where
-    known : (object : Object) → is_object plan object ≡ true → may_name core object ≡ true
-    known object there = cases (same_core object.place.core core.id) refl
-      where
-        cases : (b : Bool) → same_core object.place.core core.id ≡ b → (not b || (b && has_index core object)) ≡ true
-        cases false e = refl
-        cases true e =
-            let here : object.place.core ≡ id = same_core-true object.place.core core.id e ∙ same_core-true core.id id (find-holds (λ (c : Core). same_core c.id id) plan.cores core found) in
-            let of_core : core_of plan object.place.core ≡ Some core = ap (core_of plan) here ∙ found in
-            subst (λ (o : Option Core). option_map_or (λ (c : Core). has_index c object) o false ≡ true) of_core there
+    known_op : (op : Op) → is_op_known plan op ≡ true → has_objects_of core op ≡ true
+    known_op op h = all-weaker (is_object plan) (may_name core) (known-named plan core found) (objects_of op) h
 
-known_scripts : (plan : Plan) (id : CoreId) (core : Core) → is_core_known plan core ≡ true → core_of plan id ≡ Some core → list_all (λ (t : Task). list_all (has_objects_of core) t.script) core.tasks ≡ true
-known_scripts plan id core known found =
-    all-weaker (is_task_known plan) (λ (t : Task). list_all (has_objects_of core) t.script) each core.tasks (and_parts _ (list_all (is_task_known plan) core.tasks) known).1
-  where
     each : (t : Task) → is_task_known plan t ≡ true → list_all (has_objects_of core) t.script ≡ true
-    each t h = all-weaker (is_op_known plan) (has_objects_of core) (known_op plan id core found) t.script (and_parts (list_all (is_op_known plan) t.script) _ h).0
+    each t h = all-weaker (is_op_known plan) (has_objects_of core) known_op t.script (and_parts (list_all (is_op_known plan) t.script) _ h).0
 
 -- A configured core's number is the one by which it is found.
 pub id_is : (plan : Plan) (id : CoreId) (core : Core) → core_of plan id ≡ Some core → core.id ≡ id
@@ -86,11 +73,11 @@ zeros_low (suc n) zero = omega arith
 zeros_low (suc n) (suc k) = zeros_low n k
 
 -- And it is sound.
-pub sound-begun : (priorities room : ℕ) (plan : Plan) (id : CoreId) (core : Core) (master : Bool) → IsTrue (is_within_limits plan) → IsTrue (is_expressible plan) → core_of plan id ≡ Some core
+pub sound-begun : (priorities room : ℕ) (plan : Plan) (id : CoreId) (core : Core) (master : Bool) → IsTrue (is_within_limits plan) → core_of plan id ≡ Some core
     → list_all (λ (t : Task). nat_lt t.priority priorities) (view_of plan id).own.tasks ≡ true
     → list_all (λ (r : Resource). nat_lt r.ceiling priorities) (view_of plan id).own.resources ≡ true
     → sum_by (λ (t : Task). t.activations) (view_of plan id).own.tasks ≤ room → IsSound priorities room (first_state plan core master)
-sound-begun priorities room plan id core master limits expressible found below ceilings sum = record {
+sound-begun priorities room plan id core master limits found below ceilings sum = record {
   tasks = fits.tasks;
   frames = length-replicate (length core.tasks) new_frame;
   bounded = subst (λ (v : View). list_all (λ (t : Task). nat_lt t.priority priorities) v.own.tasks ≡ true) (sym (view-own plan id core found)) below;
@@ -98,11 +85,12 @@ sound-begun priorities room plan id core master limits expressible found below c
   some = fits.some;
   resources = fits.resources;
   ceilings = subst (λ (v : View). list_all (λ (r : Resource). nat_lt r.ceiling priorities) v.own.resources ≡ true) (sym (view-own plan id core found)) ceilings;
-  scripts = known_scripts plan id core (find-passes (λ (c : Core). same_core c.id id) (is_core_known plan) plan.cores core (limit-parts plan limits).known found) found;
+  scripts = known_scripts plan core known mine;
+  actions = known-actions plan core mine known;
   jobs = (λ r. omega arith);
   idle = (λ e. refl);
   agreed = before_gate master;
-  clocks = record { within = clocks_within plan id core limits expressible found; history = []; is = refl };
+  clocks = record { within = clocks_within plan id core limits found; history = []; is = refl };
   caller = tt;
   began = omega arith;
   items = omega arith;
@@ -113,6 +101,12 @@ sound-begun priorities room plan id core master limits expressible found below c
     before_gate : (b : Bool) → is_past_first_gate (first_progress b).phase ≡ true → is_agreed None ≡ true
     before_gate true e = absurd (false≢true e)
     before_gate false e = absurd (false≢true e)
+
+    known : is_core_known plan core ≡ true
+    known = find-passes (λ (c : Core). same_core c.id id) (is_core_known plan) plan.cores core (limit-parts plan limits).known found
+
+    mine : core_of plan core.id ≡ Some core
+    mine = ap (core_of plan) (id_is plan id core found) ∙ found
 
     fits : FitsKernel core
     fits = core-fits plan id core limits found

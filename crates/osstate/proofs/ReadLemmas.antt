@@ -1,5 +1,5 @@
 -- What is read off the state is what is read off the history.
-use Rattle.std.proofs.Common.{◌≡◌, ℕ, Bool, true, false, cond, Option, Some, None, refl, ap, sym, subst, ◌∙◌}
+use Rattle.std.proofs.Common.{◌≡◌, ℕ, Bool, true, false, cond, List, Option, Some, None, refl, ap, sym, subst, ◌∙◌}
 use Rattle.std.specs.List.{list_all, slice_get}
 use Rattle.std.proofs.lemmas.Bool.{true≢false}
 use Rattle.std.specs.Option.{option_map_or}
@@ -14,19 +14,20 @@ use Rattle.oscript.specs.declared.Frame.{Frame}
 use Rattle.oscript.specs.declared.Action.{Action}
 use Rattle.oscript.specs.declared.Action.TheVariants.{Perform, End}
 use Rattle.oscript.specs.Frames.{action_at}
+use Rattle.osplan.specs.declared.plans.Alarm.{Alarm}
 use Rattle.osplan.specs.declared.plans.Core.{Core}
 use Rattle.osplan.specs.declared.plans.Task.{Task}
 use Rattle.osplan.specs.Clocked.{are_clocks_within}
-use Rattle.osplan.specs.Objects.{is_own_object}
-use Rattle.osplan.specs.View.{View, own_task}
+use Rattle.osplan.specs.Objects.{action_object, is_own_object, may_name}
+use Rattle.osplan.specs.View.{View, own_alarm, own_task}
 use Rattle.osplan.proofs.Tests.{passes-at}
-use Rattle.osclock.specs.Clocks.{alarm_in, counter_in, is_due_by, is_due_in, is_in_use_by, is_used, left_by, left_in, value_by}
-use Rattle.osclock.proofs.Asked.{due-read, left-read, used-read, value-read}
+use Rattle.osclock.specs.Clocks.{alarm_in, counter_in, counts_to_by, counts_to_in, due_by, due_in, is_in_use_by, is_used, left_by, left_in, value_by}
+use Rattle.osclock.proofs.Asked.{counts_to-read, dues-read, left-read, used-read, value-read}
 use Rattle.osjobs.specs.Priorities.{is_own_runner}
 use Rattle.osstate.specs.Does.{Reads}
 use Rattle.osstate.specs.Queries.{next_action_in}
 use Rattle.osstate.specs.Readings.{frame_at, script_of}
-use Rattle.osstate.specs.Sound.{is_action_known, has_objects_of}
+use Rattle.osstate.specs.Sound.{is_action_known, has_object_of, has_objects_of}
 use Rattle.osstate.specs.State.{KernelState, Stands, state_of}
 use Rattle.osstate.specs.Steps.{frame_in}
 use Rattle.osstate.proofs.Histories.{frame-own}
@@ -63,6 +64,14 @@ known_action core t u frame a all own is = subst (λ (b : Action). is_action_kno
     next None e = refl
     next (Some op) e = passes-at (has_objects_of core) u.script frame.pc op (script (same_core t.core core.id) own) e
 
+-- Nor does one of its alarms act on another object of this core.
+pub known_timed : (core : Core) (a : AlarmRef) (alarm : Alarm) → list_all (has_object_of core) core.alarms ≡ true → own_alarm core a ≡ Some alarm → may_name core (action_object alarm.action) ≡ true
+known_timed core a alarm all own = by (same_core a.core core.id) own
+  where
+    by : (b : Bool) → cond b (slice_get core.alarms a.index) None ≡ Some alarm → may_name core (action_object alarm.action) ≡ true
+    by true e = passes-at (has_object_of core) core.alarms a.index alarm all e
+    by false e = cc
+
 -- A counter and an alarm, of clocks that are those of what was counted.
 pub reads_value : (s : KernelState) (c : CounterRef) (n : ℕ) → is_own_object s.view.own (counter_object c) ≡ true → n ≡ (counter_in c s.clocks).value → Reads (λ v h. value_by v.own c h) s n
 reads_value s c n own is v h stands =
@@ -77,7 +86,11 @@ reads_left s a n within own is v h stands =
     read (λ (q : KernelState). left_in q.view.own a q.clocks) is stands
     ∙ left-read v.own a h (subst (λ (q : KernelState). are_clocks_within q.view.own ≡ true) stands.is within) (subst (λ (q : KernelState). is_own_object q.view.own (alarm_object a) ≡ true) stands.is own)
 
-pub reads_due : (s : KernelState) (a : AlarmRef) (b : Bool) → are_clocks_within s.view.own ≡ true → is_own_object s.view.own (alarm_object a) ≡ true → b ≡ is_due_in s.view.own a s.clocks → Reads (λ v h. is_due_by v.own a h) s b
-reads_due s a b within own is v h stands =
-    read (λ (q : KernelState). is_due_in q.view.own a q.clocks) is stands
-    ∙ due-read v.own a h (subst (λ (q : KernelState). are_clocks_within q.view.own ≡ true) stands.is within) (subst (λ (q : KernelState). is_own_object q.view.own (alarm_object a) ≡ true) stands.is own)
+pub reads_counts_to : (s : KernelState) (a : AlarmRef) (start n : ℕ) → are_clocks_within s.view.own ≡ true → is_own_object s.view.own (alarm_object a) ≡ true → n ≡ counts_to_in s.view.own a start s.clocks → Reads (λ v h. counts_to_by v.own a start h) s n
+reads_counts_to s a start n within own is v h stands =
+    read (λ (q : KernelState). counts_to_in q.view.own a start q.clocks) is stands
+    ∙ counts_to-read v.own a start h (subst (λ (q : KernelState). are_clocks_within q.view.own ≡ true) stands.is within) (subst (λ (q : KernelState). is_own_object q.view.own (alarm_object a) ≡ true) stands.is own)
+
+pub reads_dues : (s : KernelState) (c : CounterRef) (alarms : List AlarmRef) → are_clocks_within s.view.own ≡ true → alarms ≡ due_in s.view.own c s.clocks → Reads (λ v h. due_by v.own c h) s alarms
+reads_dues s c alarms within is v h stands =
+    read (λ (q : KernelState). due_in q.view.own c q.clocks) is stands ∙ dues-read v.own c h (subst (λ (q : KernelState). are_clocks_within q.view.own ≡ true) stands.is within)

@@ -43,8 +43,9 @@ pub record StaysInItem (most : ℕ) (old new : KernelState) : Type 0 where
   pub items : new.progress.items ≡ old.progress.items
   pub entries : new.progress.entries ≤ old.progress.entries + most
 
--- What one item adds at most, and what one service does. The worst item is a tick, with all alarms and schedule tables
--- of a core. A function of a service asks for this room and promises no more, so that a later service changes no bound. [own]
+-- What one item adds at most, and what one service or a tick does: the worst are a tick and IncrementCounter, with all alarms and
+-- schedule tables of a core. A function of a service asks for this room and promises no more, so that a later service changes no
+-- bound. [own]
 abbrev pub item_entries : ℕ
 item_entries = 1000
 
@@ -52,10 +53,10 @@ abbrev pub item_marks : ℕ
 item_marks = 500
 
 abbrev pub service_entries : ℕ
-service_entries = 16
+service_entries = 900
 
 abbrev pub service_marks : ℕ
-service_marks = 8
+service_marks = 480
 
 -- There is room for so many entries of the history and so many marks. [own]
 pub record HasRoom (entries marks : ℕ) (s : KernelState) (vec : Vec Mark Global) : Type 0 where

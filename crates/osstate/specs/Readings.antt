@@ -24,6 +24,7 @@ use Rattle.osplan.specs.declared.plans.Resource.{Resource}
 use Rattle.osplan.specs.declared.plans.Task.{Task}
 use Rattle.osplan.specs.View.{View, own_alarm, own_counter, own_resource, own_task}
 use Rattle.osbase.specs.declared.turns.TheConstants.{TASKS}
+use Rattle.osclock.specs.Clocks.{alarm_ref, counter_ref}
 use Rattle.osjobs.specs.Priorities.{events_in, held_in, is_able_in, priority_by, raised_of}
 
 -- The object is one of this core's.
@@ -103,9 +104,19 @@ phase_at v h = phase_of v.is_master h
 abbrev pub next_start : View → ℕ → Option CoreId
 next_start v began = slice_get v.own.start began
 
--- The core's tasks by reference, in index order.
+-- Objects in index order, each with its reference.
+abbrev pub numbered : {R A : Type 0} → (ℕ → R) → List A → List (R × A)
+numbered ref xs = map (λ p. (ref p.0, p.1)) (enumerate_from 0 xs)
+
+-- The core's tasks, counters and alarms by reference.
 abbrev pub task_refs : Core → List (TaskRef × Task)
-task_refs core = map (λ (p : ℕ × Task). (task_ref core p.0, p.1)) (enumerate_from 0 core.tasks)
+task_refs core = numbered (task_ref core) core.tasks
+
+abbrev pub numbered_counters : Core → List (CounterRef × Counter)
+numbered_counters core = numbered (counter_ref core) core.counters
+
+abbrev pub numbered_alarms : Core → List (AlarmRef × Alarm)
+numbered_alarms core = numbered (alarm_ref core) core.alarms
 
 -- Where each task's oldest live job stands, in index order.
 abbrev pub frames_at : View → History → List Frame

@@ -12,10 +12,11 @@ use Rattle.oscript.specs.declared.Op.{Op}
 use Rattle.oscript.specs.Rows.{objects_of}
 use Rattle.oscript.specs.declared.Action.{Action}
 use Rattle.oscript.specs.declared.Action.TheVariants.{Perform, End}
+use Rattle.osplan.specs.declared.plans.Alarm.{Alarm}
 use Rattle.osplan.specs.declared.plans.Core.{Core}
 use Rattle.osplan.specs.declared.plans.Resource.{Resource}
 use Rattle.osplan.specs.declared.plans.Task.{Task}
-use Rattle.osplan.specs.Objects.{may_name}
+use Rattle.osplan.specs.Objects.{action_object, may_name}
 use Rattle.osplan.specs.View.{own_task}
 use Rattle.osres.specs.declared.held.TheConstants.{RESOURCES}
 use Rattle.osjobs.specs.Priorities.{is_own_runner}
@@ -36,6 +37,10 @@ activation_limit core (Runner.Isr i) = 0
 -- The core may name whatever the operation names.
 abbrev pub has_objects_of : Core → Op → Bool
 has_objects_of core op = list_all (may_name core) (objects_of op)
+
+-- And whatever the alarm acts on.
+abbrev pub has_object_of : Core → Alarm → Bool
+has_object_of core alarm = may_name core (action_object alarm.action)
 
 -- What a job does next names no other object of this core either.
 abbrev pub is_action_known : Core → Action → Bool
@@ -67,8 +72,9 @@ pub record IsSound (priorities room : ℕ) (s : KernelState) : Type 0 where
   pub bounded : IsTrue (list_all (λ (t : Task). nat_lt t.priority priorities) s.view.own.tasks)
   pub limits : sum_by (λ (t : Task). t.activations) s.view.own.tasks ≤ room
   pub some : IsTrue (list_all (λ (t : Task). nat_le 1 t.activations) s.view.own.tasks)
-  -- and whose scripts name on this core only its own objects
+  -- and whose scripts name on this core only its own objects, as do the actions of its alarms
   pub scripts : IsTrue (list_all (λ (t : Task). list_all (has_objects_of s.view.own) t.script) s.view.own.tasks)
+  pub actions : IsTrue (list_all (has_object_of s.view.own) s.view.own.alarms)
   -- at most as many resources as there are places for, each with a ceiling below the bound
   pub resources : length s.view.own.resources ≤ RESOURCES
   pub ceilings : IsTrue (list_all (λ (r : Resource). nat_lt r.ceiling priorities) s.view.own.resources)

@@ -1,7 +1,8 @@
 //! The state of a core.
 
-ghost use Rattle.std.specs.Prelude.{◌≡◌, ◌==◌, ◌||◌, ◌∷◌, ◌<◌, ◌≤◌, ◌^◌, [], nat_lt, IsTrue, IsSome, IfSome, false, true, length, nat_le, option_copied, slice_get, slice_index, suc, sum_by};
+ghost use Rattle.std.specs.Prelude.{◌≡◌, ◌==◌, ◌||◌, ◌∷◌, ◌<◌, ◌≤◌, ◌^◌, [], nat_lt, IsTrue, IsSome, IfSome, false, true, length, nat_le, option_copied, option_map, Some, slice_get, slice_index, suc, sum_by};
 ghost use Rattle.std.specs.List.{list_all};
+ghost use Rattle.osbase.specs.declared.references.AlarmRef.{AlarmRef as AlarmRefValue};
 ghost use Rattle.osbase.specs.declared.turns.TheConstants.{CORES};
 ghost use Rattle.osbase.specs.History.{Took, Printed, Noted, AlarmCancelled, AlarmSet, Counted, Opened, Queued, Taken, Given, Done, job_count, phase_after, queued_count, same_core};
 ghost use Rattle.osbase.specs.Objects.{alarm_object, counter_object};
@@ -9,9 +10,11 @@ ghost use Rattle.osbase.specs.Phases.{is_before_live, is_past_first_gate};
 ghost use Rattle.osbase.specs.Sets.{has_core};
 ghost use Rattle.osplan.specs.declared.plans.Resource.{Resource as ResourceValue};
 ghost use Rattle.osplan.specs.declared.plans.Task.{Task as TaskValue};
-ghost use Rattle.osplan.specs.Objects.{is_own_object};
-ghost use Rattle.osplan.specs.View.{core_of, is_configured, own_task, view_of};
-ghost use Rattle.osclock.specs.Clocks.{alarm_in, counter_in, is_due_by, is_due_in, is_in_use_by, is_used, left_by, left_in, max_for, value_by};
+ghost use Rattle.osplan.specs.Clocked.{are_clocks_within};
+ghost use Rattle.osplan.specs.Objects.{action_object, is_own_object, may_name};
+ghost use Rattle.osplan.specs.declared.plans.Alarm.{Alarm as AlarmValue};
+ghost use Rattle.osplan.specs.View.{core_of, is_configured, own_alarm, own_task, view_of};
+ghost use Rattle.osclock.specs.Clocks.{alarm_in, attached_to, counter_in, counts_to_by, counts_to_in, due_by, due_in, is_in_use_by, is_used, left_by, left_in, max_for, value_by};
 ghost use Rattle.osjobs.specs.Jobs.{is_current, is_plain};
 ghost use Rattle.osjobs.specs.Priorities.{events_in, held_in, holds_any, is_extended, is_newest, is_own_runner, static_priority};
 ghost use Rattle.osstate.specs.Does.{Effects, HasRoom, Notes, Reads, Remarks};
@@ -32,11 +35,11 @@ use osbase::{
     Agreement, AlarmRef, CORES, CoreId, CounterRef, Envelope, HeldResource, Item, Job, Mark,
     Message, Object, OpenCall, Phase, ResourceRef, Runner, Sent, Status, TaskEvents, TaskRef,
 };
-use osclock::Clocks;
+use osclock::{AlarmList, Clocks};
 use oscript::{Action, Frame};
 use osjobs::equality::is_same_core;
 use osjobs::{Jobs, own};
-use osplan::{Alarm, Config, Core, CoreMode, Counter, Task};
+use osplan::{Alarm, Config, Core, CoreMode, Counter, Task, TimedAction};
 use osres::RESOURCES;
 use std::marker::Model;
 
@@ -521,6 +524,7 @@ impl<'a, const P: usize, const J: usize, const OUT: usize> CoreState<'a, P, J, O
     pub fn counter(&self, target: Option<CounterRef>) -> Option<&'a Counter>
         ensures value { option_copied result ≡ counter_named self.now.view.own target }
         ensures reads { Reads (λ v h. counter_named v.own target) self.now (option_copied result) }
+        ensures within { IsTrue (are_clocks_within self.now.view.own) }
     {
         let core = self.core;
         own::counter_of(core, target?)
@@ -539,6 +543,7 @@ impl<'a, const P: usize, const J: usize, const OUT: usize> CoreState<'a, P, J, O
     pub fn counters(&self) -> &'a [Counter]
         ensures value { result.now ≡ self.now.view.own.counters }
         ensures few { length result.now ≤ 8 }
+        ensures within { IsTrue (are_clocks_within self.now.view.own) }
     {
         let core = self.core;
         core.counters.as_slice()
@@ -546,7 +551,9 @@ impl<'a, const P: usize, const J: usize, const OUT: usize> CoreState<'a, P, J, O
 
     /// The core's alarms, in index order.
     pub fn alarms(&self) -> &'a [Alarm]
-        ensures { result.now ≡ self.now.view.own.alarms }
+        ensures value { result.now ≡ self.now.view.own.alarms }
+        ensures few { length result.now ≤ 32 }
+        ensures within { IsTrue (are_clocks_within self.now.view.own) }
     {
         let core = self.core;
         core.alarms.as_slice()
@@ -580,13 +587,41 @@ impl<'a, const P: usize, const J: usize, const OUT: usize> CoreState<'a, P, J, O
         self.clocks.left(self.core, alarm)
     }
 
-    /// Whether one of the core's alarms is due at the next count of its counter (OSEK/VDX OS 2.2.3, section 9.2).
-    pub fn is_due_next(&self, alarm: AlarmRef) -> bool
+    /// After how many counts the counter of one of the core's alarms has this value; the value that it has is a full turn
+    /// away (OSEK/VDX OS 2.2.3, section 13.6.3.4).
+    pub fn counts_to(&self, alarm: AlarmRef, start: u32) -> u32
         requires own { IsTrue (is_own_object self.now.view.own (alarm_object alarm)) }
-        ensures value { result ≡ is_due_in self.now.view.own alarm self.now.clocks }
-        ensures reads { Reads (λ v h. is_due_by v.own alarm h) self.now result }
+        requires turn { start ≤ max_for self.now.view.own alarm }
+        ensures value { result ≡ counts_to_in self.now.view.own alarm start self.now.clocks }
+        ensures reads { Reads (λ v h. counts_to_by v.own alarm start h) self.now result }
+        ensures later { 0 < result }
+        ensures within { result ≤ suc (max_for self.now.view.own alarm) }
     {
-        self.clocks.is_due_next(self.core, alarm)
+        self.clocks.counts_to(self.core, alarm, start)
+    }
+
+    /// What one of the core's alarms does when it is due (AUTOSAR SWS OS 4.x, OsAlarmAction).
+    pub fn alarm_action(&self, alarm: AlarmRef) -> TimedAction
+        requires own { IsTrue (is_own_object self.now.view.own (alarm_object alarm)) }
+        ensures value { option_map (λ (x : AlarmValue). x.action) (own_alarm self.now.view.own alarm) ≡ Some result }
+        ensures known { IsTrue (may_name self.now.view.own (action_object result)) }
+    {
+        match own::alarm_of(self.core, alarm) {
+            Some(own) => own.action,
+            None => unreachable!(),
+        }
+    }
+
+    /// The alarms of one of the core's counters that are due at its next count, in index order (OSEK/VDX OS 2.2.3,
+    /// section 9.2).
+    pub fn due_next(&self, counter: CounterRef) -> AlarmList
+        requires own { IsTrue (is_own_object self.now.view.own (counter_object counter)) }
+        ensures value { result.items ≡ due_in self.now.view.own counter self.now.clocks }
+        ensures reads { Reads (λ v h. due_by v.own counter h) self.now result.items }
+        ensures own { IsTrue (list_all (λ (a : AlarmRefValue). is_own_object self.now.view.own (alarm_object a)) result.items) }
+        ensures few { length result.items ≤ length (attached_to self.now.view.own counter) }
+    {
+        self.clocks.due_next(self.core, counter)
     }
 
     /// The priority of one of the core's tasks as it is configured (OSEK/VDX OS 2.2.3, section 4.5).

@@ -24,7 +24,7 @@ use Rattle.oskernel.specs.Admission.{admits, are_started_cores, is_agreement, is
 use Rattle.oskernel.specs.Step.{after, history_from, outbox_size, solo, solo_from, takes}
 use Rattle.oskernel.proofs.Among.{among, base_of, marks-same, open-same, phase-same}
 use Rattle.oskernel.proofs.Calm.{Calm, calm-after, settled}
-use Rattle.oskernel.proofs.Carried.{ScriptsAllow}
+use Rattle.oskernel.proofs.Carried.{NamesAllow}
 use Rattle.oskernel.proofs.Holding.{kept_after, quiet_after}
 use Rattle.oskernel.proofs.Stages.{is_mail, solo-parts, stage, stage_of}
 use Rattle.oskernel.proofs.Stepping.{alone_view, same-drained, same-gate, same-stimulus}
@@ -114,7 +114,11 @@ live_items st = map Item.Stim st ++ Item.Drained ∷ []
 abbrev pub boot_items : ModeId → CoreSet → List Stimulus → List Item
 boot_items m own st = Item.Entered ∷ Item.Pass1 (Agreement.Mode m) ∷ Item.Readied ∷ Item.Pass2 own ∷ live_items st
 
-module _ (v : View) (ids : List CoreId) (scripts : ScriptsAllow v nobody) where
+-- What the core names is the same where it stands alone.
+allow-alone : (v : View) (ids : List CoreId) → NamesAllow v nobody → NamesAllow (alone_view v ids) nobody
+allow-alone v ids allowed = record { scripts = allowed.scripts; alarms = allowed.alarms }
+
+module _ (v : View) (ids : List CoreId) (allowed : NamesAllow v nobody) where
   abbrev self : View
   self = alone_view v ids
 
@@ -135,8 +139,8 @@ module _ (v : View) (ids : List CoreId) (scripts : ScriptsAllow v nobody) where
     steady-on : (stimulus : Stimulus) (k : History) → Steady k → Steady (after self k (Item.Stim stimulus))
     steady-on stimulus k steady = record {
       live = phase-after self k (Item.Stim stimulus) ∙ steady.live;
-      calm = calm-after self scripts k (Item.Stim stimulus) refl steady.calm;
-      there = ap (λ (h : History). knows_started h v.core) (sym (same-stimulus v ids s scripts stimulus k steady.there steady.alone))
+      calm = calm-after self (allow-alone v ids allowed) k (Item.Stim stimulus) refl steady.calm;
+      there = ap (λ (h : History). knows_started h v.core) (sym (same-stimulus v ids s allowed stimulus k steady.there steady.alone))
           ∙ started-after v.core v (here k) (Item.Stim stimulus) ∙ steady.there;
       alone = started-after v.core self k (Item.Stim stimulus) ∙ steady.alone;
     }
@@ -149,7 +153,7 @@ module _ (v : View) (ids : List CoreId) (scripts : ScriptsAllow v nobody) where
     live [] k st steady taken begins drains = stops v self (here k) k (live_items st) (marks-same s v.is_master k)
     live (Item.Stim stimulus ∷ is) k st steady taken begins drains =
         let ahead = stimuli_in is ++ begins.0 in
-        let step = same-stimulus v ids s scripts stimulus k steady.there steady.alone in
+        let step = same-stimulus v ids s allowed stimulus k steady.there steady.alone in
         subst (λ (xs : List Stimulus). Goes v self (here k) k (Item.Stim stimulus ∷ is) (live_items xs)) begins.1
         (subst (λ (h : History). Goes v self h (after self k (Item.Stim stimulus)) is (live_items ahead)) (sym step)
         (live is (after self k (Item.Stim stimulus)) ahead (steady-on stimulus k steady)
@@ -168,7 +172,7 @@ module _ (v : View) (ids : List CoreId) (scripts : ScriptsAllow v nobody) where
         none = sym (drains refl) ∙ ends.1
 
         marks : marks_of (history_from v (after v (here k) Item.Drained) is) ≡ marks_of (after self k Item.Drained)
-        marks = ends.0 ∙ ap marks_of (same-drained v ids s scripts k steady.there steady.alone) ∙ marks-same s v.is_master (after self k Item.Drained)
+        marks = ends.0 ∙ ap marks_of (same-drained v ids s allowed k steady.there steady.alone) ∙ marks-same s v.is_master (after self k Item.Drained)
     live (i ∷ is) k st steady taken begins drains = let e : Some Phase.Live ≡ stage_of i = ap Some (sym (phase-here k ∙ steady.live)) ∙ (first v (here k) i is taken).at in cc
 
   -- ---- the gates
@@ -184,13 +188,13 @@ module _ (v : View) (ids : List CoreId) (scripts : ScriptsAllow v nobody) where
     readied = Took Item.Readied ∷ passed_first m
 
     gate-calm : Calm (after self readied (Item.Pass2 own))
-    gate-calm = calm-after self scripts readied (Item.Pass2 own) refl (record { closed = refl; empty = refl })
+    gate-calm = calm-after self (allow-alone v ids allowed) readied (Item.Pass2 own) refl (record { closed = refl; empty = refl })
 
     steady-first : (s : CoreSet) → has_core s v.core ≡ true → Steady s (after self readied (Item.Pass2 own))
     steady-first s s_in = record {
       live = phase-after self readied (Item.Pass2 own);
       calm = gate-calm;
-      there = ap (λ (h : History). knows_started h v.core) (sym (same-gate v ids s scripts readied own s_in own_in))
+      there = ap (λ (h : History). knows_started h v.core) (sym (same-gate v ids s allowed readied own s_in own_in))
           ∙ started-after v.core v (here s readied) (Item.Pass2 s) ∙ s_in;
       alone = started-after v.core self readied (Item.Pass2 own) ∙ own_in;
     }
@@ -201,8 +205,8 @@ module _ (v : View) (ids : List CoreId) (scripts : ScriptsAllow v nobody) where
     second (Item.Pass2 s ∷ is) st taken fits =
         let turn = first v (here own readied) (Item.Pass2 s) is taken in
         let s_in = (and_parts (has_core s v.core) (list_all (λ (id : CoreId). not (has_core s id) || is_configured v id) core_ids) turn.may).0 in
-        subst (λ (h : History). Goes v self h (after self readied (Item.Pass2 own)) is (live_items st)) (sym (same-gate v ids s scripts readied own s_in own_in))
-        (live s is (after self readied (Item.Pass2 own)) st (steady-first s s_in) (subst (λ (h : History). Taken v h is) (same-gate v ids s scripts readied own s_in own_in) turn.rest) fits.0 fits.1)
+        subst (λ (h : History). Goes v self h (after self readied (Item.Pass2 own)) is (live_items st)) (sym (same-gate v ids s allowed readied own s_in own_in))
+        (live s is (after self readied (Item.Pass2 own)) st (steady-first s s_in) (subst (λ (h : History). Taken v h is) (same-gate v ids s allowed readied own s_in own_in) turn.rest) fits.0 fits.1)
     second (i ∷ is) st taken fits = let e : Some Phase.SecondGate ≡ stage_of i = (first v (here own readied) i is taken).at in cc
 
     between : (items : List Item) (st : List Stimulus) → Taken v (here own (passed_first m)) items → FitsIn items st → Goes v self (here own (passed_first m)) (passed_first m) items (Item.Readied ∷ Item.Pass2 own ∷ live_items st)
@@ -281,7 +285,7 @@ module _ (v : View) (ids : List CoreId) (scripts : ScriptsAllow v nobody) where
         let parts = and_parts (is_stimulus x) (list_all is_stimulus xs) all in
         let count = counted k (Item.Stim x) in
         takes-next k (Item.Stim x) (live_items xs) (may-take k (omega arith) (Item.Stim x) (and_from _ _ (and_from _ _ (ap (stands_in Phase.Live) at) parts.0) (settled self k calm)))
-        (live-alone xs (after self k (Item.Stim x)) (phase-after self k (Item.Stim x) ∙ at) (calm-after self scripts k (Item.Stim x) refl calm) parts.1 (omega arith))
+        (live-alone xs (after self k (Item.Stim x)) (phase-after self k (Item.Stim x) ∙ at) (calm-after self (allow-alone v ids allowed) k (Item.Stim x) refl calm) parts.1 (omega arith))
 
     module _ (known : are_started_cores self own ≡ true) where
       gate-alone : (st : List Stimulus) → list_all is_stimulus st ≡ true → 4 + suc (length st) ≤ 2 ^ 48 → Goes_on readied (Item.Pass2 own ∷ live_items st)

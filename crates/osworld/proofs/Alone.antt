@@ -29,7 +29,7 @@ use Rattle.osstate.specs.Readings.{is_own}
 use Rattle.oscall.proofs.Carried.{nobody}
 use Rattle.oskernel.specs.Admission.{are_started_cores}
 use Rattle.oskernel.specs.Step.{history_from, solo}
-use Rattle.oskernel.proofs.Carried.{ScriptsAllow}
+use Rattle.oskernel.proofs.Carried.{NamesAllow}
 use Rattle.oskernel.proofs.Own.{inward-items}
 use Rattle.oskernel.proofs.Scripts.{other-allow, own-allow}
 use Rattle.oskernel.proofs.Stages.{is_mail}
@@ -108,8 +108,8 @@ module _ (plan : Plan) (stimuli : List CoreStimuli) (lists : List (CoreId × Lis
   no_start : v.own.start ≡ []
   no_start = ap (λ (o : Option Core). (unwrap_or o (no_core id)).start) found ∙ parts.no_start
 
-  scripts : ScriptsAllow v nobody
-  scripts = own-allow plan core id found same parts.inward
+  allowed : NamesAllow v nobody
+  allowed = own-allow plan core id found same (rw (parts.inward, parts.acting) refl)
 
   own_self : is_own v v.own.id ≡ true
   own_self = ap (λ (o : Option Core). same_core (unwrap_or o (no_core id)).id id) found ∙ own_id
@@ -150,7 +150,7 @@ module _ (plan : Plan) (stimuli : List CoreStimuli) (lists : List (CoreId × Lis
         (posts-replies id (view_of plan from) (other-allow plan id from unnamed other) (items_of lists from) [] (fits.cores from).alone refl refl)
 
     no_mail : list_all (λ (i : Item). not (is_mail i)) (items_of lists id) ≡ true
-    no_mail = takes-no-mail v scripts (items_of lists id) [] (fits.cores id).alone (record { closed = refl; empty = refl }) replies
+    no_mail = takes-no-mail v allowed (items_of lists id) [] (fits.cores id).alone (record { closed = refl; empty = refl }) replies
 
     no_conflict : AreAgreed (items_of lists id)
     no_conflict = never-conflict plan m agreed configured calls fits.board (items_of lists) (λ d. (fits.cores d).alone) fits.answers id
@@ -162,13 +162,13 @@ module _ (plan : Plan) (stimuli : List CoreStimuli) (lists : List (CoreId × Lis
     items_alone = ap (λ (k : CoreMode). Item.Entered ∷ Item.Pass1 (own_agreement k) ∷ Item.Readied ∷ Item.Pass2 (only id) ∷ map Item.Stim listed ++ Item.Drained ∷ []) in_mode
 
     goes : Goes v (alone_view v (id ∷ [])) [] [] (items_of lists id) (boot_items m (only id) listed)
-    goes = goes-alone v (id ∷ []) scripts m in_mode no_start (only id) (only-own id low) (items_of lists id) listed
+    goes = goes-alone v (id ∷ []) allowed m in_mode no_start (only id) (only-own id low) (items_of lists id) listed
         (record { each = (fits.cores id).alone; no_mail = no_mail; agreed = no_conflict }) ((fits.cores id).begins, (fits.cores id).drains)
 
     takes_alone : solo (alone_view v (id ∷ [])) (boot_items m (only id) listed) ≡ Some (history_from (alone_view v (id ∷ [])) [] (boot_items m (only id) listed))
     takes_alone =
         let few = known.few id in
-        solo-alone v (id ∷ []) scripts m in_mode no_start (only id) (only-own id low) (only-known v low) listed (known.there id) (omega arith)
+        solo-alone v (id ∷ []) allowed m in_mode no_start (only id) (only-own id low) (only-known v low) listed (known.there id) (omega arith)
 
     -- The marks name the core's own objects alone, which have the same names in its own configuration.
     abbrev marks : List Mark
@@ -177,7 +177,7 @@ module _ (plan : Plan) (stimuli : List CoreStimuli) (lists : List (CoreId × Lis
     lines_alone : lines_of plan marks ≡ lines_of (cut_of plan id) marks
     lines_alone =
         lines-same plan (cut_of plan id) (is_own v) core_alone marks
-        (inward-items v scripts own_self (items_of lists id) [] no_mail (record { own = refl; calm = record { closed = refl; empty = refl } })).own
+        (inward-items v allowed own_self (items_of lists id) [] no_mail (record { own = refl; calm = record { closed = refl; empty = refl } })).own
 
     begins_alone : IsBeginning marks (alone_report plan stimuli id).marks
     begins_alone = subst (λ (view : View). IsBeginning marks (Trace view (alone_items plan stimuli id))) (sym view_alone)

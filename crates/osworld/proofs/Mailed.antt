@@ -21,7 +21,7 @@ use Rattle.osstate.specs.State.{state_of}
 use Rattle.oskernel.specs.Admission.{admits, is_awaited, is_front_for, is_reply_to}
 use Rattle.oskernel.specs.Step.{after, history_from, outbox_size, solo_from}
 use Rattle.oskernel.proofs.Calm.{Calm, calm-after}
-use Rattle.oskernel.proofs.Carried.{replied-anybody, ScriptsAllow}
+use Rattle.oskernel.proofs.Carried.{replied-anybody, NamesAllow}
 use Rattle.oskernel.proofs.Holding.{Holds, holds-after, quiet_after}
 use Rattle.oskernel.proofs.Scripts.{all_but}
 use Rattle.oskernel.proofs.Stages.{is_mail, solo-parts}
@@ -68,7 +68,7 @@ meek-holds c = record {
   opened = λ call h m p. p;
 }
 
-module _ (c : CoreId) (v : View) (scripts : ScriptsAllow v (all_but c)) where
+module _ (c : CoreId) (v : View) (allowed : NamesAllow v (all_but c)) where
   posted-on : (h : History) (i : Item) → admits outbox_size (state_of v h) i ≡ true → Meek c h → list_all is_reply (posted c h) ≡ true → list_all is_reply (posted c (after v h i)) ≡ true
   posted-on h i taken meek all = ap (list_all is_reply) (posted-after v c i h) ∙ by i taken
     where
@@ -92,7 +92,7 @@ module _ (c : CoreId) (v : View) (scripts : ScriptsAllow v (all_but c)) where
   posts-replies (i ∷ is) h each meek all =
       let turn = solo-parts v h i is each in
       posts-replies is (after v h i) turn.1
-      (holds-after v (all_but c) anybody (Meek c) (meek-holds c) scripts h i (replied-anybody i) (meek-took c i h meek))
+      (holds-after v (all_but c) anybody (Meek c) (meek-holds c) allowed h i (replied-anybody i) (meek-took c i h meek))
       (posted-on h i turn.0 meek all)
 
 -- ---- what the core itself takes
@@ -112,7 +112,7 @@ received-later : (v : View) (from : CoreId) (items : List Item) (h : History) �
 received-later v from [] h = begins-itself (received from h)
 received-later v from (i ∷ is) h = begins-through _ _ _ (received-more v from h i) (received-later v from is (after v h i))
 
-module _ (v : View) (scripts : ScriptsAllow v nobody) where
+module _ (v : View) (allowed : NamesAllow v nobody) where
   -- Only replies come from every other core.
   abbrev OnlyReplies : History → Type 0
   OnlyReplies h = (from : CoreId) → same_core from v.core ≡ false → list_all is_reply (received from h) ≡ true
@@ -153,4 +153,4 @@ module _ (v : View) (scripts : ScriptsAllow v nobody) where
   takes-no-mail (i ∷ is) h each calm replies =
       let turn = solo-parts v h i is each in
       let none = no-mail h i is calm turn.0 replies in
-      and_from _ _ (not_from_false (is_mail i) none) (takes-no-mail is (after v h i) turn.1 (calm-after v scripts h i none calm) replies)
+      and_from _ _ (not_from_false (is_mail i) none) (takes-no-mail is (after v h i) turn.1 (calm-after v allowed h i none calm) replies)

@@ -1,12 +1,14 @@
 -- The data of a configuration has no float, and does not nest deeply.
-use Rattle.std.proofs.Common.{◌≡◌, ℕ, ◌≤◌, false, List, [], ◌∷◌, map, refl, arith}
+use Rattle.std.proofs.Common.{◌≡◌, ℕ, ◌≤◌, false, Option, Some, None, List, [], ◌∷◌, map, refl, arith}
 use Rattle.serde_json.specs.Data.{Data, depth, items_depth}
 use Rattle.serde_json.specs.View.{items_of}
 use Rattle.serde_json.specs.Written.{has_float, items_have_float}
+use Rattle.osplan.specs.declared.plans.Alarm.{Alarm}
+use Rattle.osplan.specs.declared.plans.AlarmStart.{AlarmStart}
 use Rattle.osplan.specs.declared.plans.Plan.{Plan}
 use Rattle.osplan.specs.declared.plans.Core.{Core}
 use Rattle.osplan.specs.declared.plans.Task.{Task}
-use Rattle.oswrite.specs.Writing.{id_data, mode_data, counter_data, resource_data, task_data, core_data, config_data}
+use Rattle.oswrite.specs.Writing.{id_data, mode_data, auto_data, alarm_data, counter_data, resource_data, task_data, core_data, config_data}
 
 no-item-float : {X : Type 0} (f : X → Data) → ((x : X) → has_float (f x) ≡ false) → (xs : List X) → items_have_float (items_of (map f xs)) ≡ false
 no-item-float f none [] = refl
@@ -15,8 +17,15 @@ no-item-float f none (x ∷ xs) = rw (none x, no-item-float f none xs) refl
 task-float : (plan : Plan) (task : Task) → has_float (task_data plan task) ≡ false
 task-float plan task = rw (no-item-float (mode_data plan) (λ m. refl) task.auto) refl
 
+auto-float : (plan : Plan) (auto : Option AlarmStart) → has_float (auto_data plan auto) ≡ false
+auto-float plan None = refl
+auto-float plan (Some auto) = rw (no-item-float (mode_data plan) (λ m. refl) auto.modes) refl
+
+alarm-float : (plan : Plan) (alarm : Alarm) → has_float (alarm_data plan alarm) ≡ false
+alarm-float plan alarm = rw (auto-float plan alarm.auto) refl
+
 core-float : (plan : Plan) (core : Core) → has_float (core_data plan core) ≡ false
-core-float plan core = rw (no-item-float counter_data (λ counter. refl) core.counters, no-item-float resource_data (λ resource. refl) core.resources, no-item-float id_data (λ id. refl) core.start, no-item-float (task_data plan) (task-float plan) core.tasks) refl
+core-float plan core = rw (no-item-float (alarm_data plan) (alarm-float plan) core.alarms, no-item-float counter_data (λ counter. refl) core.counters, no-item-float resource_data (λ resource. refl) core.resources, no-item-float id_data (λ id. refl) core.start, no-item-float (task_data plan) (task-float plan) core.tasks) refl
 
 pub config-float : (plan : Plan) → has_float (config_data plan) ≡ false
 config-float plan = rw (no-item-float (core_data plan) (core-float plan) plan.cores) refl
@@ -28,8 +37,16 @@ items-depth f n low (x ∷ xs) = let first : depth (f x) ≤ n = low x in let re
 task-depth : (plan : Plan) (task : Task) → depth (task_data plan task) ≤ 2
 task-depth plan task = let auto : items_depth (items_of (map (mode_data plan) task.auto)) ≤ 0 = items-depth (mode_data plan) 0 (λ m. omega arith) task.auto in omega arith
 
-core-depth : (plan : Plan) (core : Core) → depth (core_data plan core) ≤ 4
+auto-depth : (plan : Plan) (auto : Option AlarmStart) → depth (auto_data plan auto) ≤ 2
+auto-depth plan None = omega arith
+auto-depth plan (Some auto) = let modes : items_depth (items_of (map (mode_data plan) auto.modes)) ≤ 0 = items-depth (mode_data plan) 0 (λ m. omega arith) auto.modes in omega arith
+
+alarm-depth : (plan : Plan) (alarm : Alarm) → depth (alarm_data plan alarm) ≤ 3
+alarm-depth plan alarm = let auto : depth (auto_data plan alarm.auto) ≤ 2 = auto-depth plan alarm.auto in omega arith
+
+core-depth : (plan : Plan) (core : Core) → depth (core_data plan core) ≤ 5
 core-depth plan core =
+    let alarms : items_depth (items_of (map (alarm_data plan) core.alarms)) ≤ 3 = items-depth (alarm_data plan) 3 (alarm-depth plan) core.alarms in
     let counters : items_depth (items_of (map counter_data core.counters)) ≤ 1 = items-depth counter_data 1 (λ counter. omega arith) core.counters in
     let resources : items_depth (items_of (map resource_data core.resources)) ≤ 1 = items-depth resource_data 1 (λ resource. omega arith) core.resources in
     let start : items_depth (items_of (map id_data core.start)) ≤ 0 = items-depth id_data 0 (λ id. omega arith) core.start in
@@ -37,4 +54,4 @@ core-depth plan core =
     omega arith
 
 pub config-depth : (plan : Plan) → depth (config_data plan) ≤ 127
-config-depth plan = let cores : items_depth (items_of (map (core_data plan) plan.cores)) ≤ 4 = items-depth (core_data plan) 4 (core-depth plan) plan.cores in omega arith
+config-depth plan = let cores : items_depth (items_of (map (core_data plan) plan.cores)) ≤ 5 = items-depth (core_data plan) 5 (core-depth plan) plan.cores in omega arith

@@ -1,27 +1,28 @@
 -- What the place of an object finds in a configuration.
 use Rattle.std.proofs.Common.{◌≡◌, ℕ, zero, suc, ◌<◌, ◌≤◌, true, false, nat_lt, List, [], ◌∷◌, length, Option, Some, None, IsTrue, refl, sym, ap, ◌∙◌, arith}
-use Rattle.std.specs.List.{slice_get}
+use Rattle.std.specs.List.{list_all, slice_get}
 use Rattle.std.specs.Option.{option_map_or}
 use Rattle.std.proofs.lemmas.Bool.{and_parts, true≢false, ltb-true}
 use Rattle.osbase.specs.declared.objects.ObjectKind.{ObjectKind}
 use Rattle.osbase.specs.declared.objects.Object.{Object}
 use Rattle.osbase.specs.History.{same_core}
 use Rattle.osbase.specs.Names.{is_name}
+use Rattle.osplan.specs.declared.plans.Alarm.{Alarm}
 use Rattle.osplan.specs.declared.plans.Plan.{Plan}
 use Rattle.osplan.specs.declared.plans.Core.{Core}
 use Rattle.osplan.specs.declared.plans.Counter.{Counter}
 use Rattle.osplan.specs.declared.plans.Resource.{Resource}
 use Rattle.osplan.specs.declared.plans.Task.{Task}
-use Rattle.osplan.specs.Objects.{object_count}
+use Rattle.osplan.specs.Objects.{alarm_modes, object_count}
 use Rattle.osplan.specs.View.{core_of}
 use Rattle.osplan.specs.Limits.{is_object, is_within_limits}
-use Rattle.osplan.specs.Expressible.{is_script_expressible, is_task_expressible, is_resource_expressible, is_counter_expressible, is_core_expressible, is_expressible}
+use Rattle.osplan.specs.Expressible.{is_script_expressible, is_task_expressible, is_resource_expressible, is_counter_expressible, is_action_expressible, is_alarm_expressible, is_only_mode, is_core_expressible, is_expressible}
 use Rattle.osplan.proofs.Tests.{find-passes, passes-at}
 use Rattle.osplan.proofs.Within.{CoreTextParts, FitsKernel, core-fits, core-text-parts, text-parts}
 use Rattle.osplan.specs.Names.{name_in, name_of}
 use Rattle.osdraft.specs.Declarations.{declared_by}
-use Rattle.oswrite.proofs.Reshaped.{core_said}
-use Rattle.oswrite.proofs.Placed.{Stands, declared_at, task-stands, resource-stands, counter-stands}
+use Rattle.oswrite.proofs.Said.{core_said}
+use Rattle.oswrite.proofs.Placed.{Stands, declared_at, task-stands, resource-stands, counter-stands, alarm-stands}
 
 get-some : {X : Type 0} (xs : List X) (i : ℕ) → i < length xs → (x : X) × (slice_get xs i ≡ Some x)
 get-some [] i lt = absurd (omega arith)
@@ -32,7 +33,9 @@ get-some (x ∷ xs) (suc i) lt = get-some xs i (omega arith)
 pub record Named (plan : Plan) (core : Core) (kind : ObjectKind) (index : ℕ) (name : List ℕ) : Type 0 where
   pub name_is : name_in kind core index ≡ name
   pub in_form : is_name name ≡ true
-  pub declared : Stands (declared_by (core_said plan core)) (declared_at plan core kind name index)
+  pub max : Option ℕ
+  pub min : Option ℕ
+  pub declared : Stands (declared_by (core_said plan core)) (declared_at plan core kind name index max min)
   pub low : index ≤ 255
 
 name-at : (plan : Plan) (core : Core) → CoreTextParts core → FitsKernel core → (kind : ObjectKind) (index : ℕ) → index < object_count kind core → (name : List ℕ) × Named plan core kind index name
@@ -44,6 +47,8 @@ name-at plan core said fits ObjectKind.Task index within =
       record {
         name_is = ap (λ (o : Option Task). option_map_or (λ (t : Task). t.name) o []) task.1;
         in_form = (and_parts (is_name task.0.name) _ (and_parts _ (is_script_expressible task.0.script) sayable).0).0;
+        max = None;
+        min = None;
         declared = task-stands plan core index task.0 task.1;
         low = omega arith;
       },
@@ -55,6 +60,8 @@ name-at plan core said fits ObjectKind.Resource index within =
       record {
         name_is = ap (λ (o : Option Resource). option_map_or (λ (r : Resource). r.name) o []) resource.1;
         in_form = passes-at is_resource_expressible core.resources index resource.0 said.resources resource.1;
+        max = None;
+        min = None;
         declared = resource-stands plan core index resource.0 resource.1;
         low = omega arith;
       },
@@ -66,13 +73,26 @@ name-at plan core said fits ObjectKind.Counter index within =
       record {
         name_is = ap (λ (o : Option Counter). option_map_or (λ (c : Counter). c.name) o []) counter.1;
         in_form = passes-at is_counter_expressible core.counters index counter.0 said.counters counter.1;
+        max = Some counter.0.max;
+        min = Some counter.0.min;
         declared = counter-stands plan core index counter.0 counter.1;
         low = omega arith;
       },
     )
 name-at plan core said fits ObjectKind.Alarm index within =
-    let none : length core.alarms ≡ 0 = ap length said.alarms in
-    absurd (omega arith)
+    let alarm = get-some core.alarms index within in
+    let few : length core.alarms ≤ 32 = fits.alarms in
+    let sayable : is_alarm_expressible alarm.0 ≡ true = passes-at is_alarm_expressible core.alarms index alarm.0 said.alarms alarm.1 in (
+      alarm.0.name,
+      record {
+        name_is = ap (λ (o : Option Alarm). option_map_or (λ (a : Alarm). a.name) o []) alarm.1;
+        in_form = (and_parts (is_name alarm.0.name) (is_action_expressible alarm.0.action) (and_parts _ (list_all is_only_mode (alarm_modes alarm.0)) sayable).0).0;
+        max = None;
+        min = None;
+        declared = alarm-stands plan core index alarm.0 alarm.1;
+        low = omega arith;
+      },
+    )
 
 -- The core on which an object stands, and its name.
 pub record Found (plan : Plan) (object : Object) (core : Core) (name : List ℕ) : Type 0 where

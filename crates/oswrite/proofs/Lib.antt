@@ -1,4 +1,5 @@
 pub mod Joining
+pub mod Said
 pub mod Formed
 pub mod Reshaped
 pub mod Placed

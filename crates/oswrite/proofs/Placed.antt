@@ -1,5 +1,5 @@
 -- An object's name stands for the object, since no other has it.
-use Rattle.std.proofs.Common.{◌≡◌, ℕ, zero, suc, ◌+◌, ◌≤◌, ◌⊎◌, Bool, true, false, not, cond, List, [], ◌∷◌, ◌++◌, map, Option, Some, option_and_then, inl, inr, refl, sym, ap, ◌∙◌, subst, arith}
+use Rattle.std.proofs.Common.{◌≡◌, ℕ, zero, suc, ◌+◌, ◌≤◌, ◌⊎◌, Bool, true, false, not, cond, List, [], ◌∷◌, ◌++◌, map, Option, Some, None, option_and_then, inl, inr, refl, sym, ap, ◌∙◌, subst, arith}
 use Rattle.std.specs.List.{list_any, enumerate_from, find, flat_map, slice_get}
 use Rattle.std.specs.Str.{bytes_eq}
 use Rattle.std.proofs.lemmas.Bool.{and_parts, not-true, or_left, or_right, true≢false, eqb-true, cases_Bool}
@@ -9,6 +9,7 @@ use Rattle.osbase.specs.declared.objects.ObjectKind.{ObjectKind}
 use Rattle.osbase.specs.declared.objects.Place.{Place}
 use Rattle.osbase.specs.History.{same_core}
 use Rattle.osbase.proofs.Same.{same_kind-self}
+use Rattle.osplan.specs.declared.plans.Alarm.{Alarm}
 use Rattle.osplan.specs.declared.plans.Plan.{Plan}
 use Rattle.osplan.specs.declared.plans.Core.{Core}
 use Rattle.osplan.specs.declared.plans.Counter.{Counter}
@@ -18,9 +19,9 @@ use Rattle.osplan.specs.Expressible.{are_distinct, object_names}
 use Rattle.osplan.proofs.Tests.{find-holds}
 use Rattle.osdraft.specs.declared.shapes.CoreText.{CoreText}
 use Rattle.osdraft.specs.declared.declarations.Declaration.{Declaration}
-use Rattle.osdraft.specs.Declarations.{byte_of, id_of, task_declaration, resource_declaration, counter_declaration, declared_tasks, declared_resources, declared_counters, declared_by, declarations, has_name, place_in, place_of}
+use Rattle.osdraft.specs.Declarations.{byte_of, id_of, task_declaration, resource_declaration, counter_declaration, alarm_declaration, declared_tasks, declared_resources, declared_counters, declared_alarms, declared_by, declarations, has_name, place_in, place_of}
 use Rattle.osdraft.proofs.Numbers.{any-map, byte-small}
-use Rattle.oswrite.proofs.Reshaped.{task_said, resource_said, counter_said, core_said}
+use Rattle.oswrite.proofs.Said.{task_said, resource_said, counter_said, alarm_said, core_said}
 
 abbrev pub names : List Declaration → List (List ℕ)
 names objects = map (λ (d : Declaration). d.name) objects
@@ -91,12 +92,17 @@ module _ (plan : Plan) where
   counters-named core n [] = refl
   counters-named core n (counter ∷ counters) = ap (λ rest. counter.name ∷ rest) (counters-named core (n + 1) counters)
 
+  alarms-named : (core : CoreText) (n : ℕ) (alarms : List Alarm) → names (map (alarm_declaration core) (enumerate_from n (map (alarm_said plan) alarms))) ≡ map (λ (alarm : Alarm). alarm.name) alarms
+  alarms-named core n [] = refl
+  alarms-named core n (alarm ∷ alarms) = ap (λ rest. alarm.name ∷ rest) (alarms-named core (n + 1) alarms)
+
   objects-named : (core : Core) → names (declared_by (core_said plan core)) ≡ object_names core
   objects-named core =
       let text = core_said plan core in
-      rw (← tasks-named text 0 core.tasks, ← resources-named text 0 core.resources, ← counters-named text 0 core.counters)
-      (map-append (λ (d : Declaration). d.name) (declared_tasks text ++ declared_resources text) (declared_counters text)
-      ∙ ap (λ first. first ++ names (declared_counters text)) (map-append (λ (d : Declaration). d.name) (declared_tasks text) (declared_resources text)))
+      rw (← tasks-named text 0 core.tasks, ← resources-named text 0 core.resources, ← counters-named text 0 core.counters, ← alarms-named text 0 core.alarms)
+      (map-append (λ (d : Declaration). d.name) (declared_tasks text ++ declared_resources text ++ declared_counters text) (declared_alarms text)
+      ∙ ap (λ first. first ++ names (declared_alarms text)) (map-append (λ (d : Declaration). d.name) (declared_tasks text ++ declared_resources text) (declared_counters text))
+      ∙ ap (λ first. first ++ names (declared_counters text) ++ names (declared_alarms text)) (map-append (λ (d : Declaration). d.name) (declared_tasks text) (declared_resources text)))
 
   pub names-said : (cores : List Core) → names (declarations (map (core_said plan) cores)) ≡ flat_map object_names cores
   names-said [] = refl
@@ -106,25 +112,34 @@ module _ (plan : Plan) where
 
   -- ---- the objects of a core
 
-  abbrev pub declared_at : Core → ObjectKind → List ℕ → ℕ → Declaration
-  declared_at core kind name index = record { name = name; kind = kind; core = id_of (core_said plan core); index = index }
+  abbrev pub declared_at : Core → ObjectKind → List ℕ → ℕ → Option ℕ → Option ℕ → Declaration
+  declared_at core kind name index max min = record { name = name; kind = kind; core = id_of (core_said plan core); index = index; max = max; min = min }
 
-  pub task-stands : (core : Core) (i : ℕ) (task : Task) → slice_get core.tasks i ≡ Some task → Stands (declared_by (core_said plan core)) (declared_at core ObjectKind.Task task.name i)
+  -- what one of the first three kinds declares
+  stands-early : (text : CoreText) (d : Declaration) → Stands (declared_tasks text ++ declared_resources text ++ declared_counters text) d → Stands (declared_by text) d
+  stands-early text d among = stands-front (declared_tasks text ++ declared_resources text ++ declared_counters text) (declared_alarms text) d among
+
+  pub task-stands : (core : Core) (i : ℕ) (task : Task) → slice_get core.tasks i ≡ Some task → Stands (declared_by (core_said plan core)) (declared_at core ObjectKind.Task task.name i None None)
   task-stands core i task is =
       let text = core_said plan core in
-      stands-front (declared_tasks text ++ declared_resources text) (declared_counters text) _
-      (stands-front (declared_tasks text) (declared_resources text) _ (stands-first (task_declaration text) (task_said plan) core.tasks i task is))
+      stands-early text _ (stands-front (declared_tasks text ++ declared_resources text) (declared_counters text) _
+      (stands-front (declared_tasks text) (declared_resources text) _ (stands-first (task_declaration text) (task_said plan) core.tasks i task is)))
 
-  pub resource-stands : (core : Core) (i : ℕ) (resource : Resource) → slice_get core.resources i ≡ Some resource → Stands (declared_by (core_said plan core)) (declared_at core ObjectKind.Resource resource.name i)
+  pub resource-stands : (core : Core) (i : ℕ) (resource : Resource) → slice_get core.resources i ≡ Some resource → Stands (declared_by (core_said plan core)) (declared_at core ObjectKind.Resource resource.name i None None)
   resource-stands core i resource is =
       let text = core_said plan core in
-      stands-front (declared_tasks text ++ declared_resources text) (declared_counters text) _
-      (stands-back (declared_tasks text) (declared_resources text) _ (stands-first (resource_declaration text) resource_said core.resources i resource is))
+      stands-early text _ (stands-front (declared_tasks text ++ declared_resources text) (declared_counters text) _
+      (stands-back (declared_tasks text) (declared_resources text) _ (stands-first (resource_declaration text) resource_said core.resources i resource is)))
 
-  pub counter-stands : (core : Core) (i : ℕ) (counter : Counter) → slice_get core.counters i ≡ Some counter → Stands (declared_by (core_said plan core)) (declared_at core ObjectKind.Counter counter.name i)
+  pub counter-stands : (core : Core) (i : ℕ) (counter : Counter) → slice_get core.counters i ≡ Some counter → Stands (declared_by (core_said plan core)) (declared_at core ObjectKind.Counter counter.name i (Some counter.max) (Some counter.min))
   counter-stands core i counter is =
       let text = core_said plan core in
-      stands-back (declared_tasks text ++ declared_resources text) (declared_counters text) _ (stands-first (counter_declaration text) counter_said core.counters i counter is)
+      stands-early text _ (stands-back (declared_tasks text ++ declared_resources text) (declared_counters text) _ (stands-first (counter_declaration text) counter_said core.counters i counter is))
+
+  pub alarm-stands : (core : Core) (i : ℕ) (alarm : Alarm) → slice_get core.alarms i ≡ Some alarm → Stands (declared_by (core_said plan core)) (declared_at core ObjectKind.Alarm alarm.name i None None)
+  alarm-stands core i alarm is =
+      let text = core_said plan core in
+      stands-back (declared_tasks text ++ declared_resources text ++ declared_counters text) (declared_alarms text) _ (stands-first (alarm_declaration text) (alarm_said plan) core.alarms i alarm is)
 
   in-cores-if : (core : Core) (rest : List Declaration) (found : Core) (others : Option Core) (d : Declaration) (b : Bool) → cond b (Some core) others ≡ Some found → Stands (declared_by (core_said plan found)) d
       → (others ≡ Some found → Stands rest d) → Stands (declared_by (core_said plan core) ++ rest) d
@@ -139,12 +154,12 @@ module _ (plan : Plan) where
   in-cores (core ∷ cores) target found d e among =
       in-cores-if core (declarations (map (core_said plan) cores)) found (find (λ (c : Core). same_core c.id target.core) cores) d (same_core core.id target.core) e among (λ later. in-cores cores target found d later among)
 
-  pub placed : (cores : List Core) (kind : ObjectKind) (target : Place) (found : Core) (name : List ℕ) → are_distinct (flat_map object_names cores) ≡ true → target.core.number ≤ 255 → target.index ≤ 255
-      → find (λ (c : Core). same_core c.id target.core) cores ≡ Some found → Stands (declared_by (core_said plan found)) (declared_at found kind name target.index) → place_of (declarations (map (core_said plan) cores)) kind name ≡ Some target
-  placed cores kind target found name distinct low index e among =
+  pub placed : (cores : List Core) (kind : ObjectKind) (target : Place) (found : Core) (name : List ℕ) (max min : Option ℕ) → are_distinct (flat_map object_names cores) ≡ true → target.core.number ≤ 255 → target.index ≤ 255
+      → find (λ (c : Core). same_core c.id target.core) cores ≡ Some found → Stands (declared_by (core_said plan found)) (declared_at found kind name target.index max min) → place_of (declarations (map (core_said plan) cores)) kind name ≡ Some target
+  placed cores kind target found name max min distinct low index e among =
       let number : found.id.number ≡ target.core.number = eqb-true found.id.number target.core.number (find-holds (λ (c : Core). same_core c.id target.core) cores found e) in
       let id : byte_of (Some found.id.number) ≡ target.core.number = ap (λ n. byte_of (Some n)) number ∙ byte-small target.core.number low in
-      ap (option_and_then (place_in kind)) (stands-found (declarations (map (core_said plan) cores)) (declared_at found kind name target.index) (ap are_distinct (names-said cores) ∙ distinct) (in-cores cores target found _ e among))
+      ap (option_and_then (place_in kind)) (stands-found (declarations (map (core_said plan) cores)) (declared_at found kind name target.index max min) (ap are_distinct (names-said cores) ∙ distinct) (in-cores cores target found _ e among))
       ∙ rw (same_kind-self kind)
       (ap (λ (n : ℕ). let p : Place = record { core = record { number = n }; index = byte_of (Some target.index) } in Some p) id
       ∙ ap (λ (n : ℕ). let p : Place = record { core = target.core; index = n } in Some p) (byte-small target.index index))

@@ -1,48 +1,36 @@
 -- The data of a configuration has the shape of one.
-use Rattle.std.proofs.Common.{◌≡◌, ℕ, Bool, true, List, [], ◌∷◌, map, Option, Some, refl, sym, ap, ◌∙◌}
+use Rattle.std.proofs.Common.{◌≡◌, ℕ, ◌&&◌, Bool, true, List, [], ◌∷◌, map, Option, Some, None, option_map, IsTrue, refl, sym, ap, ◌∙◌}
 use Rattle.std.specs.List.{list_all}
+use Rattle.std.specs.Option.{option_map_or}
 use Rattle.std.proofs.lemmas.Bool.{and_parts, true≢false, eqb-true}
 use Rattle.std.proofs.lemmas.Slice.Eq.{bytes_eq-Decides}
 use Rattle.serde_json.specs.Data.{Data}
 use Rattle.serde_json.specs.View.{items_of}
+use Rattle.osbase.specs.Objects.{counter_object}
+use Rattle.osbase.specs.declared.references.CounterRef.{CounterRef}
 use Rattle.osbase.specs.declared.references.ModeId.{ModeId}
+use Rattle.osplan.specs.declared.plans.Alarm.{Alarm}
+use Rattle.osplan.specs.declared.plans.AlarmStart.{AlarmStart}
 use Rattle.osplan.specs.declared.plans.Plan.{Plan}
 use Rattle.osplan.specs.declared.plans.Core.{Core}
 use Rattle.osplan.specs.declared.plans.Counter.{Counter}
 use Rattle.osplan.specs.declared.plans.Resource.{Resource}
 use Rattle.osplan.specs.declared.plans.Task.{Task}
 use Rattle.osbase.specs.Names.{is_name}
-use Rattle.osplan.specs.Limits.{ceiling_of, number_of}
-use Rattle.osplan.specs.Expressible.{mode_name, are_mode_name, is_only_mode, is_script_expressible, is_task_expressible, is_resource_expressible, is_counter_expressible, is_core_expressible}
-use Rattle.osdraft.specs.declared.shapes.ConfigText.{ConfigText}
-use Rattle.osdraft.specs.declared.shapes.CoreText.{CoreText}
-use Rattle.osdraft.specs.declared.shapes.CounterText.{CounterText}
-use Rattle.osdraft.specs.declared.shapes.ResourceText.{ResourceText}
-use Rattle.osdraft.specs.declared.shapes.TaskText.{TaskText}
+use Rattle.osplan.specs.Limits as limits
+use Rattle.osplan.specs.Limits.{number_of}
+use Rattle.osplan.specs.Objects.{alarm_modes}
+use Rattle.osplan.specs.Expressible.{mode_name, are_mode_name, is_only_mode, is_script_expressible, is_task_expressible, is_resource_expressible, is_counter_expressible, is_alarm_expressible, is_core_expressible, is_expressible}
 use Rattle.osread.specs.Reading.{each}
-use Rattle.osread.specs.Json.{elements, whole_of, name_of}
-use Rattle.osdraft.specs.Shape.{task_shape, resource_shape, counter_shape, core_shape, config_shape}
+use Rattle.osread.specs.Json.{elements, whole_of, name_of, or_null}
+use Rattle.osdraft.specs.Shape.{task_shape, resource_shape, counter_shape, alarm_start_shape, alarm_shape, core_shape, config_shape}
 use Rattle.osplan.specs.Names.{name_of_mode}
-use Rattle.osplan.proofs.Within.{core-text-parts}
-use Rattle.oswrite.specs.Writing.{script_text, id_data, mode_data, task_data, resource_data, counter_data, core_data, config_data}
+use Rattle.osplan.proofs.Tests.{all-both}
+use Rattle.osplan.proofs.Within.{limit-parts, text-parts, core-text-parts}
+use Rattle.oswrite.specs.Writing.{id_data, mode_data, task_data, resource_data, counter_data, start_data, auto_data, alarm_data, core_data, config_data}
 use Rattle.osread.proofs.Contents.{elements-items_of}
-
--- ---- what the text says
-
-abbrev pub task_said : Plan → Task → TaskText
-task_said plan task = record { name = task.name; prio = Some task.priority; auto = map (name_of_mode plan) task.auto; activations = Some task.activations; extended = task.extended; preemptable = task.preemptable; script = script_text plan task.script }
-
-abbrev pub resource_said : Resource → ResourceText
-resource_said resource = record { name = resource.name; ceiling = ceiling_of resource }
-
-abbrev pub counter_said : Counter → CounterText
-counter_said counter = record { name = counter.name; max = Some counter.max; min = Some counter.min; software = counter.software }
-
-abbrev pub core_said : Plan → Core → CoreText
-core_said plan core = record { id = number_of core.id; start = map number_of core.start; tasks = map (task_said plan) core.tasks; resources = map resource_said core.resources; counters = map counter_said core.counters }
-
-abbrev pub config_said : Plan → ConfigText
-config_said plan = record { version = Some 1; cap = Some plan.cap; master = number_of plan.master; cores = map (core_said plan) plan.cores }
+use Rattle.oswrite.proofs.Formed.{found}
+use Rattle.oswrite.proofs.Said.{task_said, resource_said, counter_said, start_said, counter_name, alarm_said, core_said, config_said}
 
 -- ---- modes
 
@@ -74,7 +62,10 @@ always (x ∷ xs) = always xs
 
 -- ---- objects
 
-module _ (plan : Plan) (modes : are_mode_name plan.modes ≡ true) where
+module _ (plan : Plan) (inside : IsTrue (limits.is_within_limits plan)) (sayable : IsTrue (is_expressible plan)) where
+  abbrev modes : are_mode_name plan.modes ≡ true
+  modes = (text-parts plan sayable).modes
+
   mode-shape : (mode : ModeId) → is_only_mode mode ≡ true → name_of (mode_data plan mode) ≡ Some (name_of_mode plan mode)
   mode-shape mode h = rw (mode-text plan modes mode h) refl
 
@@ -92,17 +83,43 @@ module _ (plan : Plan) (modes : are_mode_name plan.modes ≡ true) where
   unfolding counter_shape
   counter-shape counter h = rw h refl
 
-  core-shape : (core : Core) → is_core_expressible core ≡ true → core_shape (core_data plan core) ≡ Some (core_said plan core)
+  start-shape : (auto : AlarmStart) → list_all is_only_mode auto.modes ≡ true → alarm_start_shape (start_data plan auto) ≡ Some (start_said plan auto)
+  unfolding alarm_start_shape
+  start-shape auto h = rw (each-items name_of (mode_data plan) (name_of_mode plan) is_only_mode mode-shape auto.modes h) refl
+
+  auto-shape : (auto : Option AlarmStart) → list_all is_only_mode (option_map_or (λ (auto : AlarmStart). auto.modes) auto []) ≡ true → or_null alarm_start_shape (auto_data plan auto) ≡ Some (option_map (start_said plan) auto)
+  auto-shape None h = refl
+  auto-shape (Some auto) h = rw (start-shape auto h) refl
+
+  -- its counter's name is in form, since the counter is one of the configuration
+  counter-formed : (counter : CounterRef) → limits.is_object plan (counter_object counter) ≡ true → is_name (counter_name plan counter) ≡ true
+  counter-formed counter known = let here = found plan inside sayable (counter_object counter) known in rw here.2.name_is here.2.named.in_form
+
+  alarm-shape : (alarm : Alarm) → (is_alarm_expressible alarm && limits.is_alarm_known plan alarm) ≡ true → alarm_shape (alarm_data plan alarm) ≡ Some (alarm_said plan alarm)
+  unfolding alarm_shape
+  alarm-shape alarm h =
+      let parts = and_parts (is_alarm_expressible alarm) (limits.is_alarm_known plan alarm) h in
+      let said = and_parts _ (list_all is_only_mode (alarm_modes alarm)) parts.0 in
+      let name = (and_parts (is_name alarm.name) _ said.0).0 in
+      let counter = counter-formed alarm.counter (and_parts (limits.is_object plan (counter_object alarm.counter)) _ (and_parts _ (list_all (limits.is_mode plan) (alarm_modes alarm)) parts.1).0).0 in
+      rw (name, counter, auto-shape alarm.auto said.1) refl
+
+  core-shape : (core : Core) → (is_core_expressible core && limits.is_core_known plan core) ≡ true → core_shape (core_data plan core) ≡ Some (core_said plan core)
   unfolding core_shape
   core-shape core h =
-      let parts = core-text-parts core h in
+      let both = and_parts (is_core_expressible core) (limits.is_core_known plan core) h in
+      let parts = core-text-parts core both.0 in
+      let alarms = all-both is_alarm_expressible (limits.is_alarm_known plan) core.alarms parts.alarms (and_parts _ (list_all (limits.is_alarm_known plan) core.alarms) both.1).1 in
       rw (
+        each-items alarm_shape (alarm_data plan) (alarm_said plan) (λ (alarm : Alarm). is_alarm_expressible alarm && limits.is_alarm_known plan alarm) alarm-shape core.alarms alarms,
         each-items counter_shape counter_data counter_said is_counter_expressible counter-shape core.counters parts.counters,
         each-items resource_shape resource_data resource_said is_resource_expressible resource-shape core.resources parts.resources,
         each-items whole_of id_data number_of (λ id. true) (λ id e. refl) core.start (always core.start),
         each-items task_shape (task_data plan) (task_said plan) is_task_expressible task-shape core.tasks parts.tasks,
       ) refl
 
-  pub config-shape : list_all is_core_expressible plan.cores ≡ true → config_shape (config_data plan) ≡ Some (config_said plan)
+  pub config-shape : config_shape (config_data plan) ≡ Some (config_said plan)
   unfolding config_shape
-  config-shape cores = rw (each-items core_shape (core_data plan) (core_said plan) is_core_expressible core-shape plan.cores cores) refl
+  config-shape =
+      let cores = all-both is_core_expressible (limits.is_core_known plan) plan.cores (text-parts plan sayable).cores (limit-parts plan inside).known in
+      rw (each-items core_shape (core_data plan) (core_said plan) (λ (core : Core). is_core_expressible core && limits.is_core_known plan core) core-shape plan.cores cores) refl

@@ -1,8 +1,13 @@
 -- What the text of a configuration means is the configuration.
-use Rattle.std.proofs.Common.{◌≡◌, ℕ, ◌<◌, Bool, true, ◌&&◌, List, map, Option, Some, unwrap_or, IsTrue, refl, sym, ap, ◌∙◌, arith}
-use Rattle.std.specs.List.{list_all, flat_map}
-use Rattle.std.proofs.lemmas.Bool.{and_parts, ltb-true, true≢false, eqb-true}
+use Rattle.std.proofs.Common.{◌≡◌, ℕ, ◌<◌, Bool, true, ◌&&◌, List, [], ◌∷◌, ◌++◌, map, Option, Some, None, is_some, option_map, unwrap_or, IsTrue, refl, sym, ap, ◌∙◌, arith}
+use Rattle.std.specs.List.{list_all, flat_map, AllByRecursion}
+use Rattle.std.specs.Option.{option_map_or}
+use Rattle.std.proofs.lemmas.Bool.{and_parts, and_from, ltb-true, true≢false, eqb-true}
 use Rattle.std.proofs.lemmas.List.Folds.{list_all-map}
+use Rattle.std.proofs.lemmas.Simd.{map-map}
+use Rattle.osbase.specs.Objects.{counter_object, counter_place}
+use Rattle.osbase.specs.declared.objects.ObjectKind.{ObjectKind}
+use Rattle.osbase.specs.declared.references.CounterRef.{CounterRef}
 use Rattle.osbase.specs.declared.references.CoreId.{CoreId}
 use Rattle.osbase.specs.declared.objects.Object.{Object}
 use Rattle.osbase.specs.History.{same_core}
@@ -13,6 +18,9 @@ use Rattle.oscript.specs.Rows.{has_masks, is_in_form}
 use Rattle.osforms.specs.Operation.{op_meant}
 use Rattle.osforms.proofs.Joining.{has_none}
 use Rattle.osforms.proofs.Operations.{IsNamed, text-meant, text-none, text-some}
+use Rattle.osplan.specs.declared.plans.Alarm.{Alarm}
+use Rattle.osplan.specs.declared.plans.AlarmStart.{AlarmStart}
+use Rattle.osplan.specs.declared.plans.TimedAction.{TimedAction}
 use Rattle.osplan.specs.declared.plans.Plan.{Plan}
 use Rattle.osplan.specs.declared.plans.Core.{Core}
 use Rattle.osplan.specs.declared.plans.Counter.{Counter}
@@ -21,23 +29,31 @@ use Rattle.osplan.specs.declared.plans.Task.{Task}
 use Rattle.osplan.specs.declared.plans.CoreMode.{CoreMode}
 use Rattle.osplan.specs.declared.plans.CoreMode.TheVariants.{Named, DontCare}
 use Rattle.osplan.specs.Limits as limits
-use Rattle.osplan.specs.Limits.{task_sizes, core_sizes, number_of, is_start, is_task_within, is_core_within}
+use Rattle.osplan.specs.Limits.{task_sizes, alarm_sizes, start_sizes, core_sizes, number_of, are_counters_within, is_alarm_within, is_start, is_task_within, is_core_within}
+use Rattle.osplan.specs.Objects.{action_object, alarm_modes}
+use Rattle.osplan.specs.View.{core_of, counter_in}
 use Rattle.osplan.specs.Expressible as said
 use Rattle.osplan.proofs.Tests.{all-both, all-weaker, find-holds}
 use Rattle.osplan.proofs.Distinct.{distinct-back}
 use Rattle.osplan.proofs.Starting.{master-low}
 use Rattle.osplan.proofs.Within.{TextParts, CoreTextParts, limit-parts, text-parts, core-text-parts}
 use Rattle.osdraft.specs.declared.declarations.Declaration.{Declaration}
-use Rattle.osdraft.specs.Declarations.{byte_of, number_id, word_of, declarations, place_of}
+use Rattle.osdraft.specs.Action.{action_of, action_of_op}
+use Rattle.osdraft.specs.Check.{counter_sizes, names_of}
+use Rattle.osdraft.specs.Declarations.{byte_of, counter_ref, number_id, word_of, declarations, place_of}
 use Rattle.osdraft.specs.Operation.{operations_of, op_of}
-use Rattle.osdraft.specs.Meaning.{only_mode, task_plan, resource_plan, counter_plan, core_plan, plan_of}
+use Rattle.osdraft.specs.Meaning.{only_mode, task_plan, resource_plan, counter_plan, start_plan, alarm_plan, core_plan, plan_of}
 use Rattle.osplan.specs.Names.{name_of, name_of_mode}
 use Rattle.oswrite.specs.Writing.{op_text, script_text}
-use Rattle.osdraft.proofs.Numbers.{IsByte, byte-small, is-byte, task-bytes, counter-words, core-bytes, cap-byte, map-back}
+use Rattle.osdraft.proofs.Numbers.{IsByte, byte-small, is-byte, task-bytes, counter-words, start-words, core-bytes, cap-byte, map-back}
+use Rattle.osdraft.proofs.Alarms.{any_action, op-action}
+use Rattle.osdraft.proofs.Named.{HasCounters, NamedCounter, named-counter}
+use Rattle.osdraft.proofs.Standing.{IsFound, each-found}
 use Rattle.oswrite.proofs.Joining.{parts-pieces}
 use Rattle.oswrite.proofs.Formed.{found}
-use Rattle.oswrite.proofs.Reshaped.{task_said, resource_said, counter_said, core_said, config_said, modes-are, mode-is}
-use Rattle.oswrite.proofs.Placed.{placed}
+use Rattle.oswrite.proofs.Said.{task_said, resource_said, counter_said, start_said, counter_name, alarm_said, core_said, config_said}
+use Rattle.oswrite.proofs.Reshaped.{modes-are, mode-is}
+use Rattle.oswrite.proofs.Placed.{names-said, placed}
 
 id-back : (id : CoreId) → IsByte (number_of id) → number_id (number_of id) ≡ id
 id-back id byte = ap (λ (number : Option ℕ). let i : CoreId = record { number = unwrap_or number 0 } in i) byte
@@ -54,8 +70,11 @@ is_kept_op plan op = limits.is_op_known plan op && is_in_form op && has_masks op
 abbrev pub is_kept_task : Plan → Task → Bool
 is_kept_task plan task = is_task_within (task_sizes task) && limits.is_task_known plan task && said.is_task_expressible task
 
+abbrev pub is_kept_alarm : Plan → Alarm → Bool
+is_kept_alarm plan alarm = is_alarm_within (alarm_sizes (counter_in plan) alarm) && limits.is_alarm_known plan alarm && said.is_alarm_expressible alarm
+
 abbrev pub is_kept_core : Plan → Core → Bool
-is_kept_core plan core = is_core_within (core_sizes core) && limits.is_core_known plan core && said.is_core_expressible core
+is_kept_core plan core = is_core_within (core_sizes plan core) && limits.is_core_known plan core && said.is_core_expressible core
 
 pub record KeptTask (plan : Plan) (task : Task) : Type 0 where
   pub within : is_task_within (task_sizes task) ≡ true
@@ -63,9 +82,16 @@ pub record KeptTask (plan : Plan) (task : Task) : Type 0 where
   pub jumps : said.is_jumping_within task.script ≡ true
   pub auto : list_all said.is_only_mode task.auto ≡ true
 
+pub record KeptAlarm (plan : Plan) (alarm : Alarm) : Type 0 where
+  pub within : is_alarm_within (alarm_sizes (counter_in plan) alarm) ≡ true
+  pub counter : limits.is_object plan (counter_object alarm.counter) ≡ true
+  pub operation : is_kept_op plan (said.op_of_action alarm.action) ≡ true
+  pub auto : list_all said.is_only_mode (alarm_modes alarm) ≡ true
+
 pub record KeptCore (plan : Plan) (core : Core) : Type 0 where
-  pub within : is_core_within (core_sizes core) ≡ true
+  pub within : is_core_within (core_sizes plan core) ≡ true
   pub tasks : list_all (is_kept_task plan) core.tasks ≡ true
+  pub alarms : list_all (is_kept_alarm plan) core.alarms ≡ true
   pub said : CoreTextParts core
 
 pub kept-task : (plan : Plan) (task : Task) → is_kept_task plan task ≡ true → KeptTask plan task
@@ -82,16 +108,39 @@ kept-task plan task h =
       auto = (and_parts (is_name task.name) _ parts.0).1;
     }
 
+action-op-known : (plan : Plan) (action : TimedAction) → limits.is_object plan (action_object action) ≡ true → limits.is_op_known plan (said.op_of_action action) ≡ true
+action-op-known plan (TimedAction.ActivateTask task) h = and_from _ true h refl
+action-op-known plan (TimedAction.SetEvent task mask) h = and_from _ true h refl
+
+pub kept-alarm : (plan : Plan) (alarm : Alarm) → is_kept_alarm plan alarm ≡ true → KeptAlarm plan alarm
+kept-alarm plan alarm h =
+    let sayable = and_parts _ (said.is_alarm_expressible alarm) h in
+    let within = and_parts (is_alarm_within (alarm_sizes (counter_in plan) alarm)) (limits.is_alarm_known plan alarm) sayable.0 in
+    let known = and_parts (limits.is_object plan (counter_object alarm.counter)) (limits.is_object plan (action_object alarm.action)) (and_parts _ (list_all (limits.is_mode plan) (alarm_modes alarm)) within.1).0 in
+    let parts = and_parts _ (list_all said.is_only_mode (alarm_modes alarm)) sayable.1 in
+    let op = said.op_of_action alarm.action in
+    let forms = and_parts (is_in_form op) (has_masks op) (and_parts (is_name alarm.name) (said.is_action_expressible alarm.action) parts.0).1 in
+    record {
+      within = within.0;
+      counter = known.0;
+      operation = and_from _ _ (and_from _ _ (action-op-known plan alarm.action known.1) forms.0) forms.1;
+      auto = parts.1;
+    }
+
 pub kept-core : (plan : Plan) (core : Core) → is_kept_core plan core ≡ true → KeptCore plan core
 kept-core plan core h =
     let sayable = and_parts _ (said.is_core_expressible core) h in
-    let within = and_parts (is_core_within (core_sizes core)) (limits.is_core_known plan core) sayable.0 in
+    let within = and_parts (is_core_within (core_sizes plan core)) (limits.is_core_known plan core) sayable.0 in
     let parts = core-text-parts core sayable.1 in
+    let bytes = core-bytes (core_sizes plan core) within.0 in
+    let known = and_parts _ (list_all (limits.is_alarm_known plan) core.alarms) within.1 in
     record {
       within = within.0;
       tasks = all-both _ _ core.tasks
-          (all-both _ _ core.tasks (sym (list_all-map is_task_within task_sizes core.tasks) ∙ (core-bytes (core_sizes core) within.0).2)
-          (and_parts (limits.is_core_mode plan core.mode) (list_all (limits.is_task_known plan) core.tasks) within.1).1) parts.tasks;
+          (all-both _ _ core.tasks (sym (list_all-map is_task_within task_sizes core.tasks) ∙ bytes.2)
+          (and_parts (limits.is_core_mode plan core.mode) (list_all (limits.is_task_known plan) core.tasks) known.0).1) parts.tasks;
+      alarms = all-both _ _ core.alarms
+          (all-both _ _ core.alarms (sym (list_all-map is_alarm_within (alarm_sizes (counter_in plan)) core.alarms) ∙ bytes.5) known.1) parts.alarms;
       said = parts;
     }
 
@@ -120,7 +169,7 @@ module _ (plan : Plan) (inside : IsTrue (limits.is_within_limits plan)) (sayable
       record {
         in_form = rw here.2.name_is here.2.named.in_form;
         found = ap (place_of objects object.kind) here.2.name_is
-            ∙ placed plan plan.cores object.kind object.place core name (distinct-back plan.modes (flat_map said.object_names plan.cores) parts.names) (omega arith) here.2.named.low here.2.core_is here.2.named.declared;
+            ∙ placed plan plan.cores object.kind object.place core name here.2.named.max here.2.named.min (distinct-back plan.modes (flat_map said.object_names plan.cores) parts.names) (omega arith) here.2.named.low here.2.core_is here.2.named.declared;
       }
 
   pub op-meant : (op : Op) → is_kept_op plan op ≡ true → op_meant (place_of objects) (op_text plan op) ≡ Some op
@@ -173,19 +222,73 @@ module _ (plan : Plan) (inside : IsTrue (limits.is_within_limits plan)) (sayable
       let min : word_of (Some counter.min) ≡ counter.min = ap (λ o. unwrap_or o 0) words.1 in
       rw (max, min) refl
 
+  -- each core's text has its counters
+  core-has : (core : Core) → is_kept_core plan core ≡ true → core_of plan core.id ≡ Some core → HasCounters plan (core_said plan core)
+  core-has core h found =
+      let bytes = core-bytes (core_sizes plan core) (kept-core plan core h).within in
+      let id : number_id (number_of core.id) ≡ core.id = id-back core.id bytes.0 in
+      let same : map counter_sizes (map counter_said core.counters) ≡ map limits.counter_sizes core.counters = map-map counter_sizes counter_said core.counters in
+      record {
+        core = core;
+        found = ap (core_of plan) id ∙ found;
+        same = sym same;
+        within = ap are_counters_within same ∙ bytes.4;
+      }
+
+  cores-have : (cores : List Core) → list_all (is_kept_core plan) cores ≡ true → AllByRecursion (IsFound plan.cores) cores → AllByRecursion (HasCounters plan) (map (core_said plan) cores)
+  cores-have [] kept found = tt
+  cores-have (core ∷ cores) kept found =
+      let parts = and_parts (is_kept_core plan core) (list_all (is_kept_core plan) cores) kept in
+      (core-has core parts.0 found.0, cores-have cores parts.1 found.1)
+
+  -- The name of a counter of the configuration stands for it,
+  pub counter-placed : (counter : CounterRef) → limits.is_object plan (counter_object counter) ≡ true → place_of objects ObjectKind.Counter (counter_name plan counter) ≡ Some (counter_place counter)
+  counter-placed counter known = (object-named (counter_object counter) known).found
+
+  pub counter-ref-back : (id : CoreId) (counter : CounterRef) → limits.is_object plan (counter_object counter) ≡ true → counter_ref objects id (counter_name plan counter) ≡ counter
+  counter-ref-back id counter known = rw (counter-placed counter known) refl
+
+  -- and its numbers are the counter's.
+  pub counter-named : (id : CoreId) (counter : CounterRef) → limits.is_object plan (counter_object counter) ≡ true → NamedCounter plan objects id (counter_name plan counter)
+  counter-named id counter known =
+      let bounds = limit-parts plan inside in
+      let apart : said.are_distinct (names_of objects) ≡ true = ap (λ rest. said.are_distinct (said.mode_name ∷ rest)) (names-said plan plan.cores) ∙ ap (λ modes. said.are_distinct (modes ++ flat_map said.object_names plan.cores)) (sym (modes-are plan.modes parts.modes)) ∙ parts.names in
+      named-counter plan (map (core_said plan) plan.cores) id (counter_name plan counter) apart (cores-have plan.cores (kept-cores plan inside sayable) (each-found plan.cores bounds.distinct)) (ap is_some (counter-placed counter known))
+
+  auto-back : (id : CoreId) (counter : CounterRef) (auto : Option AlarmStart) → limits.is_object plan (counter_object counter) ≡ true → is_alarm_within (option_map (start_sizes (option_map limits.counter_sizes (counter_in plan counter))) auto) ≡ true
+      → list_all said.is_only_mode (option_map_or (λ (auto : AlarmStart). auto.modes) auto []) ≡ true → option_map start_plan (option_map (start_said plan) auto) ≡ auto
+  auto-back id counter None known within modes = refl
+  auto-back id counter (Some auto) known within modes =
+      let named = counter-named id counter known in
+      let sizes : option_map limits.counter_sizes (counter_in plan counter) ≡ Some named.sizes = ap (λ r. option_map limits.counter_sizes (counter_in plan r)) (sym (counter-ref-back id counter known)) ∙ named.planned in
+      let words = start-words (start_sizes (option_map limits.counter_sizes (counter_in plan counter)) auto) named.sizes sizes within named.within in
+      let start : word_of (Some auto.start) ≡ auto.start = ap (λ o. unwrap_or o 0) words.0 in
+      let cycle : word_of (Some auto.cycle) ≡ auto.cycle = ap (λ o. unwrap_or o 0) words.1 in
+      rw (start, cycle, map-back (λ (name : List ℕ). only_mode) (name_of_mode plan) said.is_only_mode (λ m e. sym (mode-is m e)) auto.modes modes) refl
+
+  action-back : (action : TimedAction) → is_kept_op plan (said.op_of_action action) ≡ true → action_of objects (op_text plan (said.op_of_action action)) ≡ action
+  action-back action h =
+      ap (λ (op : Op). unwrap_or (action_of_op op) any_action) (op-back (said.op_of_action action) h) ∙ ap (λ (o : Option TimedAction). unwrap_or o any_action) (op-action action)
+
+  alarm-back : (id : CoreId) (alarm : Alarm) → is_kept_alarm plan alarm ≡ true → alarm_plan objects id (alarm_said plan alarm) ≡ alarm
+  alarm-back id alarm h =
+      let kept = kept-alarm plan alarm h in
+      rw (counter-ref-back id alarm.counter kept.counter, action-back alarm.action kept.operation, auto-back id alarm.counter alarm.auto kept.counter kept.within kept.auto) refl
+
   core-back : (core : Core) → is_kept_core plan core ≡ true → core_plan objects (core_said plan core) ≡ core
   core-back core h =
       let kept = kept-core plan core h in
-      let bytes = core-bytes (core_sizes core) kept.within in
+      let bytes = core-bytes (core_sizes plan core) kept.within in
+      let counters = (and_parts _ (list_all limits.is_counter_within (map limits.counter_sizes core.counters)) bytes.4).1 in
       rw (
         id-back core.id bytes.0,
         mode-back core.mode kept.said.mode,
         map-back number_id number_of (λ id. is_start (number_of id)) (λ id e. id-back id (is-byte _ _ (number_of id) e (omega arith))) core.start (sym (list_all-map is_start number_of core.start) ∙ bytes.1),
         map-back (task_plan objects) (task_said plan) (is_kept_task plan) task-back core.tasks kept.tasks,
         map-back resource_plan resource_said (λ (resource : Resource). limits.is_ceiling (limits.ceiling_of resource)) resource-back core.resources (sym (list_all-map limits.is_ceiling limits.ceiling_of core.resources) ∙ bytes.3),
-        map-back counter_plan counter_said (λ (counter : Counter). limits.is_counter_within (limits.counter_sizes counter)) counter-back core.counters (sym (list_all-map limits.is_counter_within limits.counter_sizes core.counters) ∙ bytes.4),
+        map-back counter_plan counter_said (λ (counter : Counter). limits.is_counter_within (limits.counter_sizes counter)) counter-back core.counters (sym (list_all-map limits.is_counter_within limits.counter_sizes core.counters) ∙ counters),
+        map-back (alarm_plan objects core.id) (alarm_said plan) (is_kept_alarm plan) (alarm-back core.id) core.alarms kept.alarms,
         kept.said.isrs,
-        kept.said.alarms,
         kept.said.tables,
       ) refl
 

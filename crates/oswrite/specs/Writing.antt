@@ -1,18 +1,23 @@
 -- The JSON data that a configuration is written as: every member, in ascending order of names. [own]
-use Rattle.std.specs.Prelude.{ℕ, List, map, codes}
+use Rattle.std.specs.Prelude.{ℕ, Option, Some, None, List, map, codes}
 use Rattle.std.specs.List.{join_by}
-use Rattle.serde_json.specs.Data.{unsigned, Data, boolean, number, string, array, object, no_members, member}
+use Rattle.serde_json.specs.Data.{unsigned, Data, null, boolean, number, string, array, object, no_members, member}
 use Rattle.serde_json.specs.View.{items_of}
 use Rattle.serde_json.specs.Written.{compact_text}
+use Rattle.osbase.specs.Objects.{counter_place}
+use Rattle.osbase.specs.declared.objects.ObjectKind.{ObjectKind}
 use Rattle.osbase.specs.declared.references.CoreId.{CoreId}
 use Rattle.osbase.specs.declared.references.ModeId.{ModeId}
 use Rattle.oscript.specs.declared.Op.{Op}
 use Rattle.osforms.specs.Operation as forms
+use Rattle.osplan.specs.declared.plans.Alarm.{Alarm}
+use Rattle.osplan.specs.declared.plans.AlarmStart.{AlarmStart}
 use Rattle.osplan.specs.declared.plans.Plan.{Plan}
 use Rattle.osplan.specs.declared.plans.Core.{Core}
 use Rattle.osplan.specs.declared.plans.Counter.{Counter}
 use Rattle.osplan.specs.declared.plans.Resource.{Resource}
 use Rattle.osplan.specs.declared.plans.Task.{Task}
+use Rattle.osplan.specs.Expressible.{op_of_action}
 use Rattle.osplan.specs.Names.{name_of_mode, name_of}
 
 -- ---- scripts
@@ -65,14 +70,34 @@ counter_data counter = object
     (member (codes "name") (string counter.name)
     (member (codes "software") (boolean counter.software) no_members))))
 
--- A core: its counters, its number, its resources, the cores that it starts, and its tasks.
+-- How an alarm is set by itself: its cycle, in which modes, and when it is first due; null where it is not.
+abbrev pub start_data : Plan → AlarmStart → Data
+start_data plan auto = object
+    (member (codes "cycle") (whole_data auto.cycle)
+    (member (codes "modes") (list_data (mode_data plan) auto.modes)
+    (member (codes "start") (whole_data auto.start) no_members)))
+
+abbrev pub auto_data : Plan → Option AlarmStart → Data
+auto_data plan None = null
+auto_data plan (Some auto) = start_data plan auto
+
+-- An alarm: its action, how it is set by itself, its counter's name and its own. The action has the text of its operation.
+abbrev pub alarm_data : Plan → Alarm → Data
+alarm_data plan alarm = object
+    (member (codes "action") (string (op_text plan (op_of_action alarm.action)))
+    (member (codes "auto") (auto_data plan alarm.auto)
+    (member (codes "counter") (string (name_of plan ObjectKind.Counter (counter_place alarm.counter)))
+    (member (codes "name") (string alarm.name) no_members))))
+
+-- A core: its alarms, its counters, its number, its resources, the cores that it starts, and its tasks.
 abbrev pub core_data : Plan → Core → Data
 core_data plan core = object
+    (member (codes "alarms") (list_data (alarm_data plan) core.alarms)
     (member (codes "counters") (list_data counter_data core.counters)
     (member (codes "id") (id_data core.id)
     (member (codes "resources") (list_data resource_data core.resources)
     (member (codes "start") (list_data id_data core.start)
-    (member (codes "tasks") (list_data (task_data plan) core.tasks) no_members)))))
+    (member (codes "tasks") (list_data (task_data plan) core.tasks) no_members))))))
 
 -- A configuration: the size of a mailbox, its cores, the master core and the version, 1.
 abbrev pub config_data : Plan → Data

@@ -4,12 +4,12 @@ ghost use Rattle.std.specs.Prelude.{◌≡◌, IfOk, Some, string_bytes};
 ghost use Rattle.serde_json.specs.Data.{Data};
 ghost use Rattle.serde_json.specs.View.{view};
 ghost use Rattle.osdraft.specs.Meaning.{config_of};
-ghost use Rattle.oswrite.specs.Writing.{script_text, id_data, mode_data, list_data, counter_data, resource_data, task_data, core_data, config_data, config_text};
+ghost use Rattle.oswrite.specs.Writing.{script_text, id_data, mode_data, list_data, start_data, auto_data, alarm_data, counter_data, resource_data, task_data, core_data, config_data, config_text};
 
 use osbase::{CoreId, ModeId, ObjectKind, Place};
 use oscript::Op;
 use osforms::{Names, op_text};
-use osplan::{Config, Core, Counter, Plan, Resource, Task};
+use osplan::{Alarm, AlarmStart, Config, Core, Counter, Plan, Resource, Task};
 use serde_json::{Value, json};
 use std::alloc::{AllocError, Global};
 
@@ -119,15 +119,61 @@ impl Writer<Counter> for PlanWriter<'_> {
     }
 }
 
+impl Writer<AlarmStart> for PlanWriter<'_> {
+    ghost written = { λ writer. start_data writer.plan.now };
+
+    fn value(&self, alloc: Global, auto: &AlarmStart) -> Result<Value, AllocError> {
+        let modes = list_value(alloc, self, auto.modes.as_slice())?;
+        json!(in alloc; {
+            "cycle": u64::from(auto.cycle),
+            "modes": modes,
+            "start": u64::from(auto.start)
+        })
+    }
+}
+
+fn auto_value(
+    alloc: Global,
+    writer: &PlanWriter,
+    auto: &Option<AlarmStart>,
+) -> Result<Value, AllocError>
+    ensures { IfOk result (λ value. view value ≡ auto_data writer.now.plan.now auto.now) }
+{
+    match auto {
+        Some(auto) => writer.value(alloc, auto),
+        None => Ok(Value::Null),
+    }
+}
+
+impl Writer<Alarm> for PlanWriter<'_> {
+    ghost written = { λ writer. alarm_data writer.plan.now };
+
+    fn value(&self, alloc: Global, alarm: &Alarm) -> Result<Value, AllocError> {
+        let action = op_text(alloc, self, alarm.action.op())?;
+        let auto = auto_value(alloc, self, &alarm.auto)?;
+        let counter = self
+            .plan
+            .name_of(ObjectKind::Counter, alarm.counter.place());
+        json!(in alloc; {
+            "action": action,
+            "auto": auto,
+            "counter": counter,
+            "name": alarm.name.as_str()
+        })
+    }
+}
+
 impl Writer<Core> for PlanWriter<'_> {
     ghost written = { λ writer. core_data writer.plan.now };
 
     fn value(&self, alloc: Global, core: &Core) -> Result<Value, AllocError> {
+        let alarms = list_value(alloc, self, core.alarms.as_slice())?;
         let counters = list_value(alloc, self, core.counters.as_slice())?;
         let resources = list_value(alloc, self, core.resources.as_slice())?;
         let start = list_value(alloc, self, core.start.as_slice())?;
         let tasks = list_value(alloc, self, core.tasks.as_slice())?;
         json!(in alloc; {
+            "alarms": alarms,
             "counters": counters,
             "id": u64::from(core.id.number),
             "resources": resources,

@@ -140,6 +140,7 @@ fn an_object_of_another_shape(rt: HostRuntime) -> Result<(), Fail> {
         r#"{"cores":[{"id":0,"counters":[{"name":"K","max":1,"ceiling":1}]}]}"#,
         r#"{"cores":[{"id":0,"counters":[{"name":"K","max":1},null]}]}"#,
         r#"{"cores":[{"id":0}],"counters":[]}"#,
+        r#"{"cores":[{"id":0}],"alarms":[]}"#,
     ];
     for text in texts {
         assert_eq!(rt;
@@ -182,6 +183,8 @@ fn a_member_that_is_no_whole_number(rt: HostRuntime) -> Result<(), Fail> {
         r#"{"cores":[{"id":0,"resources":[{"name":"R","ceiling":@}]}]}"#,
         r#"{"cores":[{"id":0,"counters":[{"name":"K","max":@}]}]}"#,
         r#"{"cores":[{"id":0,"counters":[{"name":"K","max":1,"min":@}]}]}"#,
+        r#"{"cores":[{"id":0,"tasks":[{"name":"A","prio":1,"script":""}],"counters":[{"name":"K","max":1}],"alarms":[{"name":"W","counter":"K","action":"ActivateTask A","auto":{"modes":[],"start":@,"cycle":0}}]}]}"#,
+        r#"{"cores":[{"id":0,"tasks":[{"name":"A","prio":1,"script":""}],"counters":[{"name":"K","max":1}],"alarms":[{"name":"W","counter":"K","action":"ActivateTask A","auto":{"modes":[],"start":1,"cycle":@}}]}]}"#,
     ] {
         answers(&rt, rt.alloc(), text, &values, Some(ConfFault::Shape))?;
     }
@@ -197,6 +200,8 @@ fn a_member_that_is_no_list(rt: HostRuntime) -> Result<(), Fail> {
         r#"{"cores":[{"id":0,"tasks":@}]}"#,
         r#"{"cores":[{"id":0,"resources":@}]}"#,
         r#"{"cores":[{"id":0,"counters":@}]}"#,
+        r#"{"cores":[{"id":0,"alarms":@}]}"#,
+        r#"{"cores":[{"id":0,"tasks":[{"name":"A","prio":1,"script":""}],"counters":[{"name":"K","max":1}],"alarms":[{"name":"W","counter":"K","action":"ActivateTask A","auto":{"modes":@,"start":1,"cycle":0}}]}]}"#,
         r#"{"cores":[{"id":0,"tasks":[{"name":"A","prio":1,"auto":@,"script":""}]}]}"#,
     ] {
         answers(&rt, rt.alloc(), text, &values, Some(ConfFault::Shape))?;
@@ -211,6 +216,10 @@ fn a_member_that_is_no_text(rt: HostRuntime) -> Result<(), Fail> {
         r#"{"cores":[{"id":0,"tasks":[{"name":@,"prio":1,"script":""}]}]}"#,
         r#"{"cores":[{"id":0,"resources":[{"name":@,"ceiling":1}]}]}"#,
         r#"{"cores":[{"id":0,"counters":[{"name":@,"max":1}]}]}"#,
+        r#"{"cores":[{"id":0,"tasks":[{"name":"A","prio":1,"script":""}],"counters":[{"name":"K","max":1}],"alarms":[{"name":@,"counter":"K","action":"ActivateTask A"}]}]}"#,
+        r#"{"cores":[{"id":0,"tasks":[{"name":"A","prio":1,"script":""}],"counters":[{"name":"K","max":1}],"alarms":[{"name":"W","counter":@,"action":"ActivateTask A"}]}]}"#,
+        r#"{"cores":[{"id":0,"tasks":[{"name":"A","prio":1,"script":""}],"counters":[{"name":"K","max":1}],"alarms":[{"name":"W","counter":"K","action":@}]}]}"#,
+        r#"{"cores":[{"id":0,"tasks":[{"name":"A","prio":1,"script":""}],"counters":[{"name":"K","max":1}],"alarms":[{"name":"W","counter":"K","action":"ActivateTask A","auto":{"modes":[@],"start":1,"cycle":0}}]}]}"#,
         r#"{"cores":[{"id":0,"tasks":[{"name":"A","prio":1,"auto":[@],"script":""}]}]}"#,
         r#"{"cores":[{"id":0,"tasks":[{"name":"A","prio":1,"script":@}]}]}"#,
     ] {

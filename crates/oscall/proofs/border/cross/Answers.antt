@@ -1,4 +1,4 @@
-use Rattle.std.proofs.Common.{◌≡◌, Bool, true, cond, Option, ap, sym, ◌∙◌, lit≤}
+use Rattle.std.proofs.Common.{◌≡◌, Bool, true, cond, ap, sym, ◌∙◌, lit≤}
 use Rattle.osstate.specs.Readings.{is_own}
 use Rattle.osstate.specs.State.{KernelState}
 use Rattle.osstate.proofs.Effecting.{as_effect, then}
@@ -13,5 +13,5 @@ returns g c =
     as_effect (λ v h stands.
     let own : is_own v (core_of_call c.args.call) ≡ true = ap (is_own v) (sym c.requires.core) ∙ sym (read (λ (s : KernelState). is_own s.view c.args.core) c.is_own.ensures.value stands) ∙ c.if-not-is_own.false in
     ap (λ (b : Bool). cond b (returns_with c.args.runner c.args.service (answer_to c.args.call v h) (effect_of c.args.call v h)) (asks c.args.runner c.args.service (core_of_call c.args.call) c.args.call h)) own
-    ∙ ap (λ (answer : Option Answer). returns_with c.args.runner c.args.service answer (effect_of c.args.call v h)) (sym (c.serve-answer.ensures.answer v h stands)))
+    ∙ ap (λ (answer : Answer). returns_with c.args.runner c.args.service answer (effect_of c.args.call v h)) (sym (c.serve-answer.ensures.answer v h stands)))
     (lit≤ tt) (lit≤ tt) (then c.serve-answer.ensures.effects c.finish.ensures)

@@ -1,4 +1,4 @@
-use Rattle.std.proofs.Common.{Option, ap, sym, lit≤}
+use Rattle.std.proofs.Common.{ap, sym, lit≤}
 use Rattle.osstate.proofs.Effecting.{as_effect, then}
 use Rattle.oscall.specs.declared.returning.Answer.{Answer}
 use Rattle.oscall.specs.Border.{effect_of, reports_served}
@@ -6,5 +6,5 @@ use Rattle.oscall.proofs.border.serve_action.Goals as goal
 
 pub returns : goal.returns
 returns g c =
-    as_effect (λ v h stands. ap (λ (answer : Option Answer). reports_served c.args.from c.args.call answer (effect_of c.args.call v h)) (sym (c.serve_for-answer.ensures.answer v h stands)))
+    as_effect (λ v h stands. ap (λ (answer : Answer). reports_served c.args.from c.args.call answer (effect_of c.args.call v h)) (sym (c.serve_for-answer.ensures.answer v h stands)))
     (lit≤ tt) (lit≤ tt) (then c.serve_for-answer.ensures.effects c.report.ensures)

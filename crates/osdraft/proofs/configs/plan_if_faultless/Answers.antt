@@ -1,5 +1,4 @@
-use Rattle.std.proofs.Common.{◌≡◌, Some, true, rules, sym, ap, ◌∙◌}
-use Rattle.osread.specs.Reading.{value_if}
+use Rattle.std.proofs.Common.{◌≡◌, true, rules}
 use Rattle.osdraft.specs.Check.{is_each_once, is_text_numbered}
 use Rattle.osdraft.proofs.Counting.{faultless_of}
 use Rattle.osdraft.proofs.configs.plan_if_faultless.Goals as goal

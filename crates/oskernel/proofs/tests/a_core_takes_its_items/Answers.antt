@@ -4,4 +4,4 @@ use Rattle.oskernel.proofs.tests.a_core_takes_its_items.Goals as goal
 pub new-kernel-requires : goal.new-kernel-requires
 new-kernel-requires g c =
     let fits = c.in_ok-two_cores.ensures in
-    rw c.new-config.ensures (search rules, (fits.configured, (fits.priorities, (fits.ceilings, (fits.activations, search rules)))))
+    rw c.new-config.ensures (search rules, (fits.configured, (fits.priorities, (fits.ceilings, (fits.activations, fits.outbox)))))

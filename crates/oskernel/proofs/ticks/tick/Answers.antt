@@ -1,20 +1,71 @@
-use Rattle.std.proofs.Common.{ap, sym, ◌∙◌, arith}
+use Rattle.std.proofs.Common.{◌≡◌, ◌<◌, ◌≤◌, ◌+◌, ◌*◌, ◌^◌, false, IsTrue, filter, length, suc, vec_len, vec_capacity, rules, refl, ap, sym, ◌∙◌, arith}
 use Rattle.osbase.specs.declared.marks.Mark.{Mark}
+use Rattle.osbase.specs.declared.references.CoreId.{CoreId}
+use Rattle.osbase.specs.declared.references.CounterRef.{CounterRef}
+use Rattle.osclock.specs.Clocks.{attached_to, counter_ref}
+use Rattle.osbase.specs.Objects.{counter_object}
+use Rattle.osbase.specs.Phases.{is_before_live}
+use Rattle.osclock.proofs.Places.{counter-own}
+use Rattle.osplan.specs.Objects.{is_own_object}
+use Rattle.osplan.specs.View.{View}
 use Rattle.osstate.specs.State.{KernelState}
 use Rattle.osstate.proofs.Effecting.{as_effect, then, unprinted}
+use Rattle.oscall.proofs.Remarking.{unmoved}
+use Rattle.oscall.specs.Expiring.{posted_at_once, posted_by, posts_by}
 use Rattle.oscall.specs.Returning.{prints}
-use Rattle.oskernel.proofs.Ticking.{all-counted, next-counted}
+use Rattle.oscall.proofs.Owned.{alarms-few}
+use Rattle.oskernel.proofs.Ticking.{all-counted, clock_at, every-more, every-within, next-counted, portion-more, portion-within}
 use Rattle.oskernel.proofs.ticks.tick.Goals as goal
 
-pub loop-counter-preserved : goal.loop-counter-preserved
-loop-counter-preserved g c = record {
+pub loop-counter-init : goal.loop-counter-init
+loop-counter-init g c = record {
   place = omega arith;
-  effects =
-      as_effect (λ v h stands. next-counted v c.print.new.self.view (ap (λ (s : KernelState). s.view) stands.is) h c.counters-counters.result.now c.counters-counters.ensures.value c.id-core.result c.loop-counter.index c.loop-counter.counter-index c.counter-item.result c.id-core.ensures.own c.loop-counter.invariant.place c.loop-counter-test.true c.counter-item.is)
-      (omega arith) (omega arith) (then c.loop-counter.invariant.effects (unprinted c.count_by_tick.ensures));
+  outbox = omega (arith, ap (λ (s : KernelState). length s.border.outbox) c.print.ensures.state, ap length c.requires.outbox);
+  effects = as_effect {f = λ v h. h} (λ v h stands. refl) (omega arith) (omega arith) (unprinted unmoved);
 }
+
+pub count_by_tick-requires : goal.count_by_tick-requires
+count_by_tick-requires g c =
+    let own = c.print.new.self.view.own in
+    let place = c.loop-counter.counter-index in
+    let reference : CounterRef = clock_at c.id-core.result c.loop-counter.index in
+    let here : reference ≡ counter_ref own place = ap (λ (core : CoreId). clock_at core c.loop-counter.index) c.id-core.ensures.own ∙ ap (clock_at own.id) c.loop-counter.invariant.place in
+    let view = c.loop-counter.invariant.effects.stays.view in
+    let attached : length (attached_to c.loop-counter.state.view.own reference) ≡ length (attached_to own (counter_ref own place)) = ap (λ (w : View). length (attached_to w.own reference)) view ∙ ap (λ (r : CounterRef). length (attached_to own r)) here in
+    let posted : posted_by c.loop-counter.state.view.own reference ≡ length (filter (posts_by own) (attached_to own (counter_ref own place))) = ap (λ (w : View). posted_by w.own reference) view ∙ ap (posted_by own) here in
+    let places : posted_at_once own ≡ posted_at_once c.args.state.now.view.own = ap (λ (w : View). posted_at_once w.own) c.print.ensures.effects.stays.view in
+    let few = alarms-few own c.counters-counters.ensures.within in
+    let outbox : length c.loop-counter.state.border.outbox + posted_by c.loop-counter.state.view.own reference ≤ g.row.OUT = omega (arith, c.loop-counter.invariant.outbox, posted, portion-within own (posts_by own) place, places, c.requires.places) in
+    let count : c.loop-counter.state.progress.entries + suc (3 * length (attached_to c.loop-counter.state.view.own reference)) ≤ 2 ^ 63 =
+    omega (arith, attached, every-within own place, few, c.loop-counter.invariant.effects.stays.entries, c.print.ensures.effects.stays.entries, c.requires.room.count, c.loop-counter-test.true, c.counters-counters.ensures.few) in
+    let marks : vec_len c.loop-counter.marks + 3 * length (attached_to c.loop-counter.state.view.own reference) ≤ vec_capacity c.loop-counter.marks =
+    omega (arith, attached, every-within own place, few, c.loop-counter.invariant.effects.len, c.loop-counter.invariant.effects.capacity, c.print.ensures.effects.len, c.print.ensures.effects.capacity, c.requires.room.place) in
+    let live : is_before_live c.loop-counter.state.progress.phase ≡ false = ap is_before_live (c.loop-counter.invariant.effects.stays.phase ∙ c.print.ensures.effects.stays.phase) ∙ c.requires.live in
+    let inside : place < length own.counters = omega (arith, c.loop-counter-test.true, ap length c.counters-counters.ensures.value) in
+    let mine : IsTrue (is_own_object c.loop-counter.state.view.own (counter_object reference)) =
+    ap (λ (w : View). is_own_object w.own (counter_object reference)) view ∙ ap (λ (r : CounterRef). is_own_object own (counter_object r)) here ∙ counter-own own place inside in
+    search (rules, outbox, count, marks, live, mine)
+
+pub loop-counter-preserved : goal.loop-counter-preserved
+loop-counter-preserved g c =
+    let own = c.print.new.self.view.own in
+    let place = c.loop-counter.counter-index in
+    let reference : CounterRef = clock_at c.id-core.result c.loop-counter.index in
+    let here : reference ≡ counter_ref own place = ap (λ (core : CoreId). clock_at core c.loop-counter.index) c.id-core.ensures.own ∙ ap (clock_at own.id) c.loop-counter.invariant.place in
+    let view = c.loop-counter.invariant.effects.stays.view in
+    let attached : length (attached_to c.loop-counter.state.view.own reference) ≡ length (attached_to own (counter_ref own place)) = ap (λ (w : View). length (attached_to w.own reference)) view ∙ ap (λ (r : CounterRef). length (attached_to own r)) here in
+    let posted : posted_by c.loop-counter.state.view.own reference ≡ length (filter (posts_by own) (attached_to own (counter_ref own place))) = ap (λ (w : View). posted_by w.own reference) view ∙ ap (posted_by own) here in
+    record {
+      place = omega arith;
+      outbox = omega (arith, c.count_by_tick.ensures.outbox, c.loop-counter.invariant.outbox, posted, portion-more own (posts_by own) place);
+      effects =
+          as_effect (λ v h stands. next-counted v c.print.new.self.view (ap (λ (s : KernelState). s.view) stands.is) h c.counters-counters.result.now c.counters-counters.ensures.value c.id-core.result c.loop-counter.index place c.counter-item.result c.id-core.ensures.own c.loop-counter.invariant.place c.loop-counter-test.true c.counter-item.is)
+          (omega (arith, attached, every-more own place)) (omega (arith, attached, every-more own place)) (then c.loop-counter.invariant.effects c.count_by_tick.ensures.effects);
+    }
 
 pub returns : goal.returns
 returns g c =
+    let own = c.print.new.self.view.own in
+    let few = alarms-few own c.counters-counters.ensures.within in
     as_effect (λ v h stands. sym (all-counted v c.print.new.self.view (c.print.ensures.effects.stays.view ∙ ap (λ (s : KernelState). s.view) stands.is) (prints Mark.Tick h) c.counters-counters.result.now c.counters-counters.ensures.value c.loop-counter.counter-index c.loop-counter-test.false))
-    (omega (arith, c.counters-counters.ensures.few)) (omega arith) (then c.print.ensures.effects c.loop-counter.invariant.effects)
+    (omega (arith, c.counters-counters.ensures.few, few, every-within own c.loop-counter.counter-index)) (omega (arith, few, every-within own c.loop-counter.counter-index)) (then c.print.ensures.effects c.loop-counter.invariant.effects)

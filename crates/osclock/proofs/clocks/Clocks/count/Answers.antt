@@ -1,10 +1,16 @@
-use Rattle.std.proofs.Common.{◌<◌, length, ap, subst, sym, ◌∙◌, get_or}
-use Rattle.osclock.specs.Clocks.{ClockState, IsBounded, max_of, unset}
-use Rattle.osclock.proofs.Bounds.{alarms-length, counter-inside, counter-within, passing-bounded}
+use Rattle.std.proofs.Common.{◌<◌, length, ap, subst, sym, ◌∙◌}
+use Rattle.std.specs.List.{slice_set}
+use Rattle.oscount.specs.declared.counters.Counter.{Counter}
+use Rattle.osclock.specs.Clocks.{ClockState}
+use Rattle.osclock.proofs.Beyond.{counted-is}
+use Rattle.osclock.proofs.Bounds.{attached-bounded, attached-inside, counter-inside, counter-within, list-inside}
 use Rattle.osclock.proofs.clocks.Clocks.count.Goals as goal
 
 pub counter-before-requires : goal.counter-before-requires
 counter-before-requires c = counter-inside c.args.core.now _ c.args.counter c.requires.clocks c.requires.own
+
+pub list_at-requires : goal.list_at-requires
+list_at-requires c = list-inside c.args.core.now _ c.args.counter _ (ap (λ (s : ClockState). s.attached) c.self.view_is) c.requires.clocks c.requires.own
 
 pub pass_alarms-requires-clause-max : goal.pass_alarms-requires-clause-max
 pass_alarms-requires-clause-max c = rw c.counter-before.ensures (counter-within c.args.core.now _ c.args.counter c.requires.clocks c.requires.own).few
@@ -12,13 +18,12 @@ pass_alarms-requires-clause-max c = rw c.counter-before.ensures (counter-within 
 pub pass_alarms-requires-clause-value : goal.pass_alarms-requires-clause-value
 pass_alarms-requires-clause-value c = rw c.counter-before.ensures (counter-within c.args.core.now _ c.args.counter c.requires.clocks c.requires.own).value
 
-pub pass_alarms-requires-clause-length : goal.pass_alarms-requires-clause-length
-pass_alarms-requires-clause-length c = ap (λ (s : ClockState). length s.alarms) c.self.view_is ∙ alarms-length c.args.core.now _ c.requires.clocks
+pub pass_alarms-requires-clause-places : goal.pass_alarms-requires-clause-places
+pass_alarms-requires-clause-places c = attached-inside c.args.core.now c.args.counter _ _ c.list_at.result.now c.self.view_is c.requires.clocks c.requires.own c.list_at.ensures.value
 
 pub pass_alarms-requires-clause-bounded : goal.pass_alarms-requires-clause-bounded
-pass_alarms-requires-clause-bounded c n attached =
-    let is = counter-within c.args.core.now _ c.args.counter c.requires.clocks c.requires.own in
-    rw (c.counter-before.ensures, is.is) (subst (λ (s : ClockState). IsBounded (max_of c.args.core.now c.args.counter) (get_or s.alarms n unset)) (sym c.self.view_is) (passing-bounded c.args.core.now _ c.args.counter n c.requires.clocks attached))
+pass_alarms-requires-clause-bounded c =
+    attached-bounded c.args.core.now c.args.counter _ _ c.counter-before.result c.list_at.result.now c.self.view_is c.requires.clocks c.requires.own c.counter-before.ensures c.list_at.ensures.value
 
 pub advanced-requires-clause-max : goal.advanced-requires-clause-max
 advanced-requires-clause-max c = rw c.counter-before.ensures (counter-within c.args.core.now _ c.args.counter c.requires.clocks c.requires.own).few
@@ -28,3 +33,8 @@ advanced-requires-clause-value c = rw c.counter-before.ensures (counter-within c
 
 pub set_counter-requires : goal.set_counter-requires
 set_counter-requires c = subst (λ (s : ClockState). c.args.counter.index < length s.counters) (sym c.self.view_is) (counter-inside c.args.core.now _ c.args.counter c.requires.clocks c.requires.own)
+
+pub returns : goal.returns
+returns c =
+    counted-is c.args.core.now c.args.counter _ _ c.counter-before.result c.list_at.result.now _ _ c.self.view_is c.requires.clocks c.requires.own c.counter-before.ensures c.list_at.ensures.value
+    (c.set_counter.ensures ∙ ap (λ (k : Counter). slice_set c.self.inside.counters.items c.args.counter.index k) c.advanced.ensures.state) c.pass_alarms.ensures

@@ -13,6 +13,7 @@ invariant_of-self g c = rw c.count_one.ensures (record {
   resources = c.self.invariant.resources;
   ceilings = c.self.invariant.ceilings;
   scripts = c.self.invariant.scripts;
+  actions = c.self.invariant.actions;
   jobs = c.self.invariant.jobs;
   idle = c.self.invariant.idle;
   agreed = c.self.invariant.agreed;

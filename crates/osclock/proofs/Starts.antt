@@ -1,0 +1,44 @@
+-- An alarm that is set by itself is set within its counter's values.
+use Rattle.std.proofs.Common.{◌≡◌, ℕ, suc, ◌<◌, ◌≤◌, Bool, true, false, cond, Option, Some, None, is_some, refl, ap, sym, ◌∙◌, arith}
+use Rattle.std.specs.List.{slice_get}
+use Rattle.std.specs.Option.{option_map_or}
+use Rattle.std.proofs.lemmas.Bool.{false≢true}
+use Rattle.osbase.specs.declared.references.AlarmRef.{AlarmRef}
+use Rattle.osbase.specs.History.{same_core}
+use Rattle.osplan.specs.declared.plans.Alarm.{Alarm}
+use Rattle.osplan.specs.declared.plans.AlarmStart.{AlarmStart}
+use Rattle.osplan.specs.declared.plans.Core.{Core}
+use Rattle.osplan.specs.declared.plans.Counter.{Counter}
+use Rattle.osplan.specs.Clocked.{are_clocks_within}
+use Rattle.osplan.specs.Limits.{alarm_sizes, is_alarm_within}
+use Rattle.osplan.specs.View.{own_alarm, own_counter}
+use Rattle.osplan.proofs.Clocked.{clock-parts, start-bounds}
+use Rattle.osplan.proofs.Tests.{passes-at}
+use Rattle.osclock.specs.Clocks.{max_for, max_of}
+use Rattle.osclock.proofs.Law.{attached}
+use Rattle.osclock.proofs.Places.{counter-is, counter-place, some-at}
+
+-- What setting an alarm asks of its first count and its cycle.
+pub record StartsWithin (max : ℕ) (auto : AlarmStart) : Type 0 where
+  pub later : 0 < auto.start
+  pub turn : auto.start ≤ suc max
+  pub cycle : auto.cycle ≤ max
+
+own-start : (core : Core) (a : AlarmRef) (alarm : Alarm) → are_clocks_within core ≡ true → own_alarm core a ≡ Some alarm → is_alarm_within (alarm_sizes (own_counter core) alarm) ≡ true
+own-start core a alarm within is = by (same_core a.core core.id) is
+  where
+    by : (b : Bool) → cond b (slice_get core.alarms a.index) None ≡ Some alarm → is_alarm_within (alarm_sizes (own_counter core) alarm) ≡ true
+    by true e = passes-at (λ (x : Alarm). is_alarm_within (alarm_sizes (own_counter core) x)) core.alarms a.index alarm (clock-parts core within).starts e
+    by false e = cc
+
+pub starts-within : (core : Core) (a : AlarmRef) (alarm : Alarm) (auto : AlarmStart) → are_clocks_within core ≡ true → own_alarm core a ≡ Some alarm → alarm.auto ≡ Some auto → StartsWithin (max_for core a) auto
+starts-within core a alarm auto within is starts = by (own_counter core alarm.counter) refl
+  where
+    by : (o : Option Counter) → own_counter core alarm.counter ≡ o → StartsWithin (max_for core a) auto
+    by None none =
+        let own = attached core a alarm within is in
+        absurd (false≢true (ap (λ (o : Option Counter). is_some o) (sym none ∙ counter-is core alarm.counter own) ∙ some-at core.counters alarm.counter.index (counter-place core alarm.counter own).inside))
+    by (Some counter) found =
+        let max : max_for core a ≡ counter.max = ap (λ (o : Option Alarm). option_map_or (λ (x : Alarm). max_of core x.counter) o 0) is ∙ ap (λ (o : Option Counter). option_map_or (λ (x : Counter). x.max) o 0) found in
+        let bounds = start-bounds core alarm auto counter (own-start core a alarm within is) starts found in
+        record { later = omega (arith, bounds.0); turn = omega (arith, bounds.1, max); cycle = omega (arith, bounds.2, max) }

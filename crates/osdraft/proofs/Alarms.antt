@@ -1,0 +1,149 @@
+-- The plan of an alarm, which is made while its names and its action are judged.
+use Rattle.std.proofs.Common.{◌≡◌, ℕ, ◌&&◌, ◌||◌, not, Bool, true, false, cond, List, Option, Some, None, is_some, option_map, unwrap_or, refl, sym, ap, ◌∙◌}
+use Rattle.std.specs.List.{list_all}
+use Rattle.std.proofs.lemmas.Bool.{and_parts, true≢false}
+use Rattle.osbase.specs.Objects.{counter_of}
+use Rattle.osbase.specs.declared.references.CoreId.{CoreId}
+use Rattle.osbase.specs.declared.objects.Object.{Object}
+use Rattle.osbase.specs.declared.objects.ObjectKind.{ObjectKind}
+use Rattle.osbase.specs.declared.objects.Place.{Place}
+use Rattle.oscript.specs.declared.Op.{Op}
+use Rattle.oscript.specs.Rows as rows
+use Rattle.oscript.specs.Rows.{is_in_form, objects_of}
+use Rattle.osforms.specs.Action.{is_action, is_action_op}
+use Rattle.osforms.specs.Operation.{op_meant, has_masks, is_known}
+use Rattle.osforms.proofs.ActionTexts.{meant_action, action-formed}
+use Rattle.osforms.proofs.Known.{formed-known}
+use Rattle.osforms.proofs.Operations.{meant-known, meant_masks}
+use Rattle.osplan.specs.declared.plans.TimedAction.{TimedAction}
+use Rattle.osplan.specs.Expressible.{op_of_action}
+use Rattle.osplan.specs.Objects.{action_object}
+use Rattle.osread.specs.Reading.{value_if}
+use Rattle.osdraft.specs.declared.shapes.AlarmText.{AlarmText}
+use Rattle.osdraft.specs.declared.declarations.Declaration.{Declaration}
+use Rattle.osdraft.specs.Action.{action_of, action_of_op, is_action_known, known_action}
+use Rattle.osdraft.specs.Check.{alarm_modes, is_mode_name}
+use Rattle.osdraft.specs.Declarations.{place_of}
+use Rattle.osdraft.specs.Meaning.{known_alarm, start_plan}
+use Rattle.osdraft.specs.Operation.{is_operation_known}
+
+-- ---- operations that are actions
+
+abbrev pub any_action : TimedAction
+any_action = TimedAction.ActivateTask (record { core = record { number = 0 }; index = 0 })
+
+action-is : (op : Op) → value_if (is_action_op op) (unwrap_or (action_of_op op) any_action) ≡ action_of_op op
+action-is (Op.ActivateTask (Some task)) = refl
+action-is (Op.SetEvent (Some task) mask) = refl
+action-is op = refl
+
+-- The operation of the action of an operation that is one is that operation.
+pub action-op : (op : Op) → is_action_op op ≡ true → op_of_action (unwrap_or (action_of_op op) any_action) ≡ op
+action-op (Op.ActivateTask (Some task)) is = refl
+action-op (Op.SetEvent (Some task) mask) is = refl
+action-op op is = absurd (true≢false (sym is))
+
+pub op-action : (action : TimedAction) → action_of_op (op_of_action action) ≡ Some action
+op-action (TimedAction.ActivateTask task) = refl
+op-action (TimedAction.SetEvent task mask) = refl
+
+-- What each object of an operation passes, that of its action passes.
+pub action-passes : (p : Object → Bool) (op : Op) → is_action_op op ≡ true → list_all p (objects_of op) ≡ true → p (action_object (unwrap_or (action_of_op op) any_action)) ≡ true
+action-passes p (Op.ActivateTask (Some task)) is all = (and_parts _ true all).0
+action-passes p (Op.SetEvent (Some task) mask) is all = (and_parts _ true all).0
+action-passes p op is all = absurd (true≢false (sym is))
+
+-- ---- the action of a text
+
+masked : (f : Bool) (a : TimedAction) → value_if f a ≡ value_if ((not f || true) && (not f || true) && f) a
+masked true a = refl
+masked false a = refl
+
+unmasked : (f : Bool) (a : TimedAction) → None ≡ value_if ((not f || true) && (not f || false) && f) a
+unmasked true a = refl
+unmasked false a = refl
+
+by-masks : (op : Op) (m f : Bool) → is_action_op op ≡ f → cond m (action_of_op op) None ≡ value_if ((not f || true) && (not f || m) && f) (unwrap_or (action_of_op op) any_action)
+by-masks op true f is = sym (action-is op) ∙ ap (λ b. value_if b (unwrap_or (action_of_op op) any_action)) is ∙ masked f _
+by-masks op false f is = unmasked f _
+
+-- The action of the operation that a text means is that of a text without a fault, if its mask has an event.
+pub action_if : (objects : List Declaration) (text : List ℕ) (op : Op) → op_meant (place_of objects) text ≡ Some op → cond (rows.has_masks op) (action_of_op op) None ≡ known_action objects text
+action_if objects text op e =
+    let place = place_of objects in
+    rw ((meant-known place text op e).1, e, ← meant_masks place text op e) (by-masks op (rows.has_masks op) (is_action text) (meant_action place text op e))
+
+unknown-by : (f k m : Bool) (a : TimedAction) → (f ≡ true → k ≡ false) → None ≡ value_if ((not f || k) && (not f || m) && f) a
+unknown-by true k m a unknown = rw (unknown refl) refl
+unknown-by false k m a unknown = refl
+
+-- A text that means no operation has none.
+pub action_unknown : (objects : List Declaration) (text : List ℕ) → op_meant (place_of objects) text ≡ None → None ≡ known_action objects text
+action_unknown objects text e =
+    unknown-by (is_action text) (is_known (place_of objects) text) (has_masks text) (action_of objects text) (λ acting. formed-known (place_of objects) text (action-formed text acting) ∙ ap is_some e)
+
+-- An action whose name is known has an operation.
+meant-by : (objects : List Declaration) (text : List ℕ) (o : Option Op) → op_meant (place_of objects) text ≡ o → is_action text ≡ true → is_action_known objects text ≡ true → (op : Op) × (op_meant (place_of objects) text ≡ Some op) × (is_action_op op ≡ true)
+meant-by objects text None e acting known =
+    let none : is_known (place_of objects) text ≡ false = formed-known (place_of objects) text (action-formed text acting) ∙ ap is_some e in
+    let there : is_operation_known objects text ≡ true = ap (λ f. not f || is_operation_known objects text) (sym acting) ∙ known in
+    absurd (true≢false (sym there ∙ none))
+meant-by objects text (Some op) e acting known = (op, e, meant_action (place_of objects) text op e ∙ acting)
+
+pub action-meant : (objects : List Declaration) (text : List ℕ) → is_action text ≡ true → is_action_known objects text ≡ true → (op : Op) × (op_meant (place_of objects) text ≡ Some op) × (is_action_op op ≡ true)
+action-meant objects text acting known = meant-by objects text (op_meant (place_of objects) text) refl acting known
+
+-- ---- what a text can say of it
+
+pub action-in-form : (op : Op) → is_in_form op ≡ true → is_in_form (op_of_action (unwrap_or (action_of_op op) any_action)) ≡ true
+action-in-form (Op.ActivateTask (Some task)) h = h
+action-in-form (Op.SetEvent (Some task) mask) h = h
+action-in-form op h = refl
+
+pub action-masks : (op : Op) → rows.has_masks op ≡ true → rows.has_masks (op_of_action (unwrap_or (action_of_op op) any_action)) ≡ true
+action-masks (Op.ActivateTask (Some task)) h = h
+action-masks (Op.SetEvent (Some task) mask) h = h
+action-masks op h = refl
+
+-- ---- the plan of an alarm
+
+record Made (k m f : Bool) (a b : TimedAction) : Type 0 where
+  pub known : k ≡ true
+  pub masked : m ≡ true
+  pub acting : f ≡ true
+  pub same : a ≡ b
+
+made : (k m f : Bool) (a b : TimedAction) → value_if (k && m && f) a ≡ Some b → Made k m f a b
+made true true true a b e = record { known = refl; masked = refl; acting = refl; same = cc }
+made true true false a b e = cc
+made true false f a b e = cc
+made false m f a b e = cc
+
+not-made : {X : Type 0} (p k s m f : Bool) (a : TimedAction) (x : X) → value_if (k && m && f) a ≡ None → value_if ((p && k && s) && m && f) x ≡ None
+not-made false k s m f a x e = refl
+not-made true false s m f a x e = refl
+not-made true true false m f a x e = refl
+not-made true true true true true a x e = cc
+not-made true true true true false a x e = refl
+not-made true true true false f a x e = refl
+
+last-fails : {X : Type 0} (p k m f : Bool) (x : X) → value_if ((p && k && false) && m && f) x ≡ None
+last-fails false k m f x = refl
+last-fails true false m f x = refl
+last-fails true true m f x = refl
+
+module _ (objects : List Declaration) (id : CoreId) (alarm : AlarmText) where
+  pub alarm_made : (place : Place) (action : TimedAction) → place_of objects ObjectKind.Counter alarm.counter ≡ Some place → known_action objects alarm.action ≡ Some action → list_all is_mode_name (alarm_modes alarm) ≡ true
+      → known_alarm objects id alarm ≡ Some (record { name = alarm.name; counter = counter_of place; action = action; auto = option_map start_plan alarm.auto })
+  alarm_made place action found acts modes =
+      let parts = made (is_action_known objects alarm.action) _ (is_action alarm.action) (action_of objects alarm.action) action acts in
+      rw (found, parts.known, parts.masked, parts.acting, modes, parts.same) refl
+
+  pub no_counter : place_of objects ObjectKind.Counter alarm.counter ≡ None → known_alarm objects id alarm ≡ None
+  no_counter none = rw none refl
+
+  pub no_action : known_action objects alarm.action ≡ None → known_alarm objects id alarm ≡ None
+  no_action none = not-made (is_some (place_of objects ObjectKind.Counter alarm.counter)) _ (list_all is_mode_name (alarm_modes alarm)) _ (is_action alarm.action) (action_of objects alarm.action) _ none
+
+  pub no_modes : list_all is_mode_name (alarm_modes alarm) ≡ false → known_alarm objects id alarm ≡ None
+  no_modes none = rw none (last-fails (is_some (place_of objects ObjectKind.Counter alarm.counter)) _ _ (is_action alarm.action) _)

@@ -1,0 +1,61 @@
+-- An operation's text is an action's exactly where the operation is one.
+use Rattle.std.proofs.Common.{◌≡◌, ℕ, ◌&&◌, true, false, Option, Some, None, is_some, List, [], ◌∷◌, refl, sym, ap, ◌∙◌}
+use Rattle.std.specs.List.{list_all}
+use Rattle.std.specs.Option.{option_map_or}
+use Rattle.std.proofs.lemmas.Bool.{true≢false}
+use Rattle.osbase.specs.declared.objects.ObjectKind.{ObjectKind}
+use Rattle.osbase.specs.declared.objects.Place.{Place}
+use Rattle.oscript.specs.declared.Op.{Op}
+use Rattle.oscript.specs.declared.rows.Arg.{Arg}
+use Rattle.oscript.specs.declared.rows.Arg.TheVariants.{Object, Mask, Number, Int, Variable}
+use Rattle.oscript.specs.declared.rows.Verb.{Verb}
+use Rattle.oscript.specs.Rows.{form_of_op}
+use Rattle.osforms.specs.Action.{is_action, is_action_form, is_action_op, is_action_verb, is_named}
+use Rattle.osforms.specs.Form.{form_of}
+use Rattle.osforms.specs.Operation.{op_meant, place_of_any, resolve_arg, resolve_args}
+use Rattle.osforms.proofs.KindTexts.{mapped}
+use Rattle.osforms.proofs.Meant.{any_meant}
+use Rattle.osforms.proofs.Operations.{meant-form}
+use Rattle.osforms.proofs.RoundTrip.{both}
+
+module _ (place : ObjectKind → List ℕ → Option Place) where
+  arg-named : (shown : Arg (List ℕ)) (arg : Arg Place) → resolve_arg place shown ≡ Some arg → is_named arg ≡ is_named shown
+  arg-named (Object kind None) arg e = let is : Object kind None ≡ arg = cc in rw (← is) refl
+  arg-named (Object kind (Some name)) arg e =
+      let m = mapped (λ found. Object kind (Some found)) (place kind name) arg e in
+      rw (← m.2) refl
+  arg-named (Mask mask) arg e = let is : Mask mask ≡ arg = cc in rw (← is) refl
+  arg-named (Number n) arg e = let is : Number n ≡ arg = cc in rw (← is) refl
+  arg-named (Int z) arg e = let is : Int z ≡ arg = cc in rw (← is) refl
+  arg-named (Variable x) arg e = let is : Variable x ≡ arg = cc in rw (← is) refl
+
+  args-named : (shown : List (Arg (List ℕ))) (args : List (Arg Place)) → resolve_args place shown ≡ Some args → list_all is_named args ≡ list_all is_named shown
+  args-named [] args e = let is : [] ≡ args = cc in rw (← is) refl
+  args-named (a ∷ shown) args e =
+      let m = both (resolve_arg place a) (resolve_args place shown) args e in
+      rw (← m.4, arg-named a m.0 m.2, args-named shown m.1 m.3) refl
+
+  -- The operation that a text means is an action where the text is one.
+  pub meant_action : (text : List ℕ) (op : Op) → op_meant place text ≡ Some op → is_action_op op ≡ is_action text
+  meant_action text op e =
+      let m = meant-form place text op e in
+      ap (λ (verb : Verb). is_action_verb verb && list_all is_named (form_of_op op).1) m.verb_is
+      ∙ ap (λ (args : List (Arg Place)). is_action_verb m.form.0 && list_all is_named args) m.args_are
+      ∙ ap (λ b. is_action_verb m.form.0 && b) (args-named m.form.1 m.args m.placed)
+      ∙ sym (ap (λ o. option_map_or is_action_form o false) m.formed)
+
+action-by : (o : Option (Verb × List (Arg (List ℕ)))) → is_some o ≡ false → option_map_or is_action_form o false ≡ false
+action-by None none = refl
+action-by (Some form) none = absurd (true≢false none)
+
+-- A text that means no operation, whatever its names stand for, is no action.
+pub no_action : (text : List ℕ) → op_meant place_of_any text ≡ None → is_action text ≡ false
+no_action text none = action-by (form_of text) (sym (any_meant text) ∙ ap is_some none)
+
+-- An action is in good form.
+formed-by : (o : Option (Verb × List (Arg (List ℕ)))) → option_map_or is_action_form o false ≡ true → is_some o ≡ true
+formed-by None e = absurd (true≢false (sym e))
+formed-by (Some form) e = refl
+
+pub action-formed : (text : List ℕ) → is_action text ≡ true → is_some (form_of text) ≡ true
+action-formed text e = formed-by (form_of text) e

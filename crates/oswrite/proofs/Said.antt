@@ -1,0 +1,47 @@
+-- What the text of a configuration says.
+use Rattle.std.proofs.Common.{ℕ, List, map, Some, option_map}
+use Rattle.osbase.specs.Objects.{counter_place}
+use Rattle.osbase.specs.declared.objects.ObjectKind.{ObjectKind}
+use Rattle.osbase.specs.declared.references.CounterRef.{CounterRef}
+use Rattle.osplan.specs.declared.plans.Alarm.{Alarm}
+use Rattle.osplan.specs.declared.plans.AlarmStart.{AlarmStart}
+use Rattle.osplan.specs.declared.plans.Plan.{Plan}
+use Rattle.osplan.specs.declared.plans.Core.{Core}
+use Rattle.osplan.specs.declared.plans.Counter.{Counter}
+use Rattle.osplan.specs.declared.plans.Resource.{Resource}
+use Rattle.osplan.specs.declared.plans.Task.{Task}
+use Rattle.osplan.specs.Expressible.{op_of_action}
+use Rattle.osplan.specs.Limits.{ceiling_of, number_of}
+use Rattle.osplan.specs.Names.{name_of, name_of_mode}
+use Rattle.osdraft.specs.declared.shapes.AlarmStartText.{AlarmStartText}
+use Rattle.osdraft.specs.declared.shapes.AlarmText.{AlarmText}
+use Rattle.osdraft.specs.declared.shapes.ConfigText.{ConfigText}
+use Rattle.osdraft.specs.declared.shapes.CoreText.{CoreText}
+use Rattle.osdraft.specs.declared.shapes.CounterText.{CounterText}
+use Rattle.osdraft.specs.declared.shapes.ResourceText.{ResourceText}
+use Rattle.osdraft.specs.declared.shapes.TaskText.{TaskText}
+use Rattle.oswrite.specs.Writing.{op_text, script_text}
+
+abbrev pub task_said : Plan → Task → TaskText
+task_said plan task = record { name = task.name; prio = Some task.priority; auto = map (name_of_mode plan) task.auto; activations = Some task.activations; extended = task.extended; preemptable = task.preemptable; script = script_text plan task.script }
+
+abbrev pub resource_said : Resource → ResourceText
+resource_said resource = record { name = resource.name; ceiling = ceiling_of resource }
+
+abbrev pub counter_said : Counter → CounterText
+counter_said counter = record { name = counter.name; max = Some counter.max; min = Some counter.min; software = counter.software }
+
+abbrev pub start_said : Plan → AlarmStart → AlarmStartText
+start_said plan auto = record { modes = map (name_of_mode plan) auto.modes; start = Some auto.start; cycle = Some auto.cycle }
+
+abbrev pub counter_name : Plan → CounterRef → List ℕ
+counter_name plan counter = name_of plan ObjectKind.Counter (counter_place counter)
+
+abbrev pub alarm_said : Plan → Alarm → AlarmText
+alarm_said plan alarm = record { name = alarm.name; counter = counter_name plan alarm.counter; action = op_text plan (op_of_action alarm.action); auto = option_map (start_said plan) alarm.auto }
+
+abbrev pub core_said : Plan → Core → CoreText
+core_said plan core = record { id = number_of core.id; start = map number_of core.start; tasks = map (task_said plan) core.tasks; resources = map resource_said core.resources; counters = map counter_said core.counters; alarms = map (alarm_said plan) core.alarms }
+
+abbrev pub config_said : Plan → ConfigText
+config_said plan = record { version = Some 1; cap = Some plan.cap; master = number_of plan.master; cores = map (core_said plan) plan.cores }
