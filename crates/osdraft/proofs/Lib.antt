@@ -11,3 +11,4 @@ pub mod Sayings
 pub mod Known
 pub mod Indexing
 pub mod Counting
+pub mod Few

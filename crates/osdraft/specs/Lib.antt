@@ -5,3 +5,4 @@ pub mod Shape
 pub mod Check
 pub mod Meaning
 pub mod Index
+pub mod Few

@@ -14,6 +14,7 @@ ghost use Rattle.osread.specs.Faults.{failing, first_fault};
 ghost use Rattle.osdraft.specs.Action.{is_action_known, is_action_masked};
 ghost use Rattle.osdraft.specs.Declarations.{declarations, declared_sizes, place_of};
 ghost use Rattle.osdraft.specs.Operation.{is_operation_known};
+ghost use Rattle.osdraft.specs.Few.{are_objects_few, is_core_few};
 ghost use Rattle.osdraft.specs.Check.{are_masks, are_near, are_readable, are_scripts_short, is_core_short, is_script_short, is_text_numbered, is_core_masked, is_core_near, is_operation_near, is_script_near, task_sizes, counter_sizes, start_sizes, alarm_sizes, bare_sizes, core_sizes, sizes_of, numbers_of, is_text_within, is_each_once, are_operations_known, is_mode_name, alarm_modes, is_task_known, is_alarm_known, is_alarm_near, is_core_known, is_task_masked, is_alarm_masked, are_known, are_operations, tests_of};
 
 use crate::declarations::{Declaration, number_id};
@@ -189,6 +190,29 @@ fn are_cores_numbered(objects: &Objects, cores: &[CoreText]) -> bool
     ensures { result ≡ list_all (λ (core : Core). is_core_by is_task_numbered (core_sizes objects.now.declared core)) cores.now }
 {
     cores.iter().all(|core| is_core_numbered(objects, core))
+}
+
+fn is_core_few(core: &CoreText) -> bool
+    ensures { result ≡ is_core_few core.now }
+{
+    core.tasks.len() <= TASKS
+        && core.resources.len() <= RESOURCES
+        && core.counters.len() <= COUNTERS
+        && core.alarms.len() <= ALARMS
+}
+
+fn are_cores_few(cores: &[CoreText]) -> bool
+    ensures { result ≡ list_all is_core_few cores.now }
+{
+    cores.iter().all(is_core_few)
+}
+
+/// Whether the text has no more cores, and no more objects of each kind, than a configuration may have. So many names are
+/// the most that are ever looked up.
+pub fn are_objects_few(text: &ConfigText) -> bool
+    ensures { result ≡ are_objects_few text.now }
+{
+    text.cores.len() <= CORES && are_cores_few(text.cores.as_slice())
 }
 
 /// Whether the text is of version 1 and within the limits, but for its scripts, whose operations are counted where they

@@ -8,7 +8,7 @@ ghost use Rattle.osread.specs.Faults.{failing, first_fault, GivesOr};
 ghost use Rattle.osdraft.specs.Check.{has_named_objects, tests_of};
 ghost use Rattle.osdraft.specs.Meaning.{plan_of, config_of, IsLeastFault};
 
-use crate::checks::{fault_of, is_each_once, is_numbered};
+use crate::checks::{are_objects_few, fault_of, is_each_once, is_numbered};
 use crate::places::Objects;
 use crate::plans::plan_of;
 use crate::shapes::{ConfigReader, ConfigText};
@@ -29,12 +29,15 @@ fn shape_of(alloc: Global, value: &Value) -> Result<ConfigText<'_>, ConfFault>
 }
 
 // Scripts are counted and judged while the plan is made, and again where it cannot be.
-#[tactic(auto, using(crate::proofs::Counting::within_split, crate::proofs::Counting::readable_split))]
+#[tactic(auto, using(crate::proofs::Counting::within_split, crate::proofs::Counting::readable_split, crate::proofs::Few::too_many))]
 fn plan_if_faultless(alloc: Global, text: &ConfigText) -> Result<Plan, ConfFault>
     requires named { IsTrue (list_all has_named_objects text.now.cores) }
     ensures ok { IfOk result (λ plan. (failing (tests_of text.now) ≡ []) × (plan ≡ plan_of text.now)) }
     ensures fault { IfErr result (λ fault. fault ≢ ConfFault.NoMemory → first_fault (failing (tests_of text.now)) ≡ Some fault) }
 {
+    if !are_objects_few(text) {
+        return Err(ConfFault::Limit);
+    }
     let objects = Objects::of(alloc, text.cores.as_slice())?;
     if !is_numbered(text, &objects) {
         return Err(ConfFault::Limit);
