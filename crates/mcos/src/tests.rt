@@ -5,6 +5,7 @@ mod counters;
 mod events;
 mod limits;
 mod program;
+mod tables;
 
 ghost use Rattle.std.specs.Prelude.{◌≡◌, None, Some, length};
 
@@ -46,7 +47,7 @@ const BESIDE: &str =
     r#"{"cores":[{"id":0,"start":[1,2],"tasks":[{"name":"A","prio":1,"auto":["M"],"script":"ActivateTask B;TerminateTask"}]},{"id":1,"tasks":[{"name":"B","prio":1,"script":"TerminateTask"}]},{"id":2,"tasks":[{"name":"V","prio":1,"auto":["M"],"script":"TerminateTask"}]}]}"#;
 
 const ALONE: &str =
-    r#"{"cap":16,"cores":[{"alarms":[],"counters":[],"id":2,"resources":[],"start":[],"tasks":[{"activations":1,"auto":["M"],"extended":false,"name":"V","preemptable":true,"prio":1,"script":"TerminateTask"}]}],"master":2,"version":1}
+    r#"{"cap":16,"cores":[{"alarms":[],"counters":[],"id":2,"resources":[],"start":[],"tables":[],"tasks":[{"activations":1,"auto":["M"],"extended":false,"name":"V","preemptable":true,"prio":1,"script":"TerminateTask"}]}],"master":2,"version":1}
 "#;
 
 const ALONE_TRACE: &str = "core 2\nhook Startup\nact V\npre V\npost V\nend V\nended\n";

@@ -2,7 +2,7 @@
 use Rattle.std.proofs.Common.{◌≡◌, ℕ, Bool, true, false, nat_eq, refl, ap, sym, ◌∙◌}
 use Rattle.std.proofs.lemmas.Bool.{eqb-true, eq-eqb, and_parts, and_from, false≢true}
 use Rattle.osbase.specs.declared.objects.ObjectKind.{ObjectKind}
-use Rattle.osbase.specs.declared.objects.ObjectKind.TheVariants.{Task, Resource, Counter, Alarm}
+use Rattle.osbase.specs.declared.objects.ObjectKind.TheVariants.{Task, Resource, Counter, Alarm, Table}
 use Rattle.osbase.specs.declared.references.CoreId.{CoreId}
 use Rattle.osbase.specs.declared.references.TaskRef.{TaskRef}
 use Rattle.osbase.specs.declared.references.IsrRef.{IsrRef}
@@ -60,6 +60,7 @@ same_kind-true Task Task e = refl
 same_kind-true Resource Resource e = refl
 same_kind-true Counter Counter e = refl
 same_kind-true Alarm Alarm e = refl
+same_kind-true Table Table e = refl
 same_kind-true k j e = absurd (false≢true e)
 
 pub same_kind-self : (k : ObjectKind) → same_kind k k ≡ true
@@ -67,3 +68,4 @@ same_kind-self Task = refl
 same_kind-self Resource = refl
 same_kind-self Counter = refl
 same_kind-self Alarm = refl
+same_kind-self Table = refl

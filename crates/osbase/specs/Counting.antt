@@ -1,9 +1,11 @@
--- What is read off a core's history of its counters and alarms: how often a counter was advanced, and when an alarm is due.
+-- What is read off a core's history of its counters, alarms and schedule tables: how often a counter was advanced, when an alarm is
+-- due, and how long a table runs.
 use Rattle.std.specs.Prelude.{ℕ, suc, ◌+◌, ◌-◌, ◌%◌, ◌==◌, ◌&&◌, ◌||◌, nat_le, nat_lt, Bool, false, if◌then◌else◌, Option, Some, None, option_map, [], ◌∷◌}
 use Rattle.std.specs.Option.{option_map_or}
 use Rattle.osbase.specs.declared.references.CounterRef.{CounterRef}
 use Rattle.osbase.specs.declared.references.AlarmRef.{AlarmRef}
-use Rattle.osbase.specs.History.{History, Entry, Noted, Counted, AlarmSet, AlarmCancelled, same_core}
+use Rattle.osbase.specs.declared.references.TableRef.{TableRef}
+use Rattle.osbase.specs.History.{History, Entry, Noted, Counted, AlarmSet, AlarmCancelled, TableStarted, TableQuit, TableNext, same_core}
 
 -- Equality of references.
 abbrev pub same_counter : CounterRef → CounterRef → Bool
@@ -11,6 +13,9 @@ same_counter a b = same_core a.core b.core && (a.index == b.index)
 
 abbrev pub same_alarm : AlarmRef → AlarmRef → Bool
 same_alarm a b = same_core a.core b.core && (a.index == b.index)
+
+abbrev pub same_table : TableRef → TableRef → Bool
+same_table a b = same_core a.core b.core && (a.index == b.index)
 
 -- ---- counters
 
@@ -83,3 +88,36 @@ counts_left setting = if nat_lt setting.counts setting.first then setting.first 
 abbrev pub left_of : ℕ → Option AlarmSetting → Option ℕ
 left_of max None = None
 left_of max (Some setting) = if is_in_turn max setting && will_be_due setting then Some (counts_left setting) else None
+
+-- ---- schedule tables
+
+-- A table that runs: after how many counts from its start its first period begins, and how many counts of its counter there were
+-- since it was started.
+pub record TableRun : Type 0 where
+  pub wait : ℕ
+  pub counts : ℕ
+
+-- It is stopped, or waits for the end of a period of another table, or runs. [AUTOSAR SWS OS 4.x, ScheduleTableStatusType]
+pub data TableState : Type 0 where
+  Stopped : TableState
+  NextOf : TableRef → TableState
+  Running : TableRun → TableState
+
+abbrev pub started_after : ℕ → TableState
+started_after wait = Running (record { wait = wait; counts = 0 })
+
+abbrev pub counted_once : TableState → TableState
+counted_once (Running run) = Running (record run { counts = suc run.counts })
+counted_once state = state
+
+-- The state of a table, by its counter: the last entry that concerns it tells. [AUTOSAR SWS OS 4.x, section 7.3]
+abbrev pub table_after : CounterRef → TableRef → Entry → TableState → TableState
+table_after c s (Noted (TableStarted t wait)) state = if same_table t s then started_after wait else state
+table_after c s (Noted (TableQuit t)) state = if same_table t s then Stopped else state
+table_after c s (Noted (TableNext t u)) state = if same_table u s then NextOf t else state
+table_after c s (Noted (Counted d)) state = if same_counter d c then counted_once state else state
+table_after c s e state = state
+
+abbrev pub table_state : CounterRef → TableRef → History → TableState
+table_state c s [] = Stopped
+table_state c s (e ∷ h) = table_after c s e (table_state c s h)

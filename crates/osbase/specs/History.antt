@@ -16,6 +16,7 @@ use Rattle.osbase.specs.declared.references.TaskRef.{TaskRef}
 use Rattle.osbase.specs.declared.references.IsrRef.{IsrRef}
 use Rattle.osbase.specs.declared.references.CounterRef.{CounterRef}
 use Rattle.osbase.specs.declared.references.AlarmRef.{AlarmRef}
+use Rattle.osbase.specs.declared.references.TableRef.{TableRef}
 use Rattle.osbase.specs.declared.references.Runner.{Runner}
 use Rattle.osbase.specs.declared.messages.Envelope.{Envelope}
 use Rattle.osbase.specs.declared.items.CoreSet.{CoreSet}
@@ -45,6 +46,11 @@ pub data Note : Type 0 where
   -- or once alone where that is 0; and an alarm is cancelled
   AlarmSet : AlarmRef → ℕ → ℕ → Note
   AlarmCancelled : AlarmRef → Note
+  -- a schedule table runs, and its first period begins after so many counts, counted from here; it stops, or waits no longer; and the
+  -- second of two tables waits for the end of a period of the first
+  TableStarted : TableRef → ℕ → Note
+  TableQuit : TableRef → Note
+  TableNext : TableRef → TableRef → Note
   -- an operation of the runner's oldest live job is done, with this status and value
   Done : Runner → Status → Option ℤ → Note
 

@@ -4,8 +4,9 @@ use Rattle.osbase.specs.declared.references.TaskRef.{TaskRef}
 use Rattle.osbase.specs.declared.references.ResourceRef.{ResourceRef}
 use Rattle.osbase.specs.declared.references.CounterRef.{CounterRef}
 use Rattle.osbase.specs.declared.references.AlarmRef.{AlarmRef}
+use Rattle.osbase.specs.declared.references.TableRef.{TableRef}
 use Rattle.osbase.specs.declared.objects.ObjectKind.{ObjectKind}
-use Rattle.osbase.specs.declared.objects.ObjectKind.TheVariants.{Task, Resource, Counter, Alarm}
+use Rattle.osbase.specs.declared.objects.ObjectKind.TheVariants.{Task, Resource, Counter, Alarm, Table}
 use Rattle.osbase.specs.declared.objects.Place.{Place}
 use Rattle.osbase.specs.declared.objects.Object.{Object}
 use Rattle.osbase.specs.declared.messages.RemoteCall.{RemoteCall}
@@ -17,6 +18,7 @@ same_kind Task Task = true
 same_kind Resource Resource = true
 same_kind Counter Counter = true
 same_kind Alarm Alarm = true
+same_kind Table Table = true
 same_kind kind other = false
 
 -- Where a reference's object stands, and the reference of a place. [own]
@@ -44,6 +46,12 @@ alarm_place a = record { core = a.core; index = a.index }
 abbrev pub alarm_of : Place → AlarmRef
 alarm_of p = record { core = p.core; index = p.index }
 
+abbrev pub table_place : TableRef → Place
+table_place s = record { core = s.core; index = s.index }
+
+abbrev pub table_of : Place → TableRef
+table_of p = record { core = p.core; index = p.index }
+
 abbrev pub task_object : TaskRef → Object
 task_object t = record { kind = Task; place = task_place t }
 
@@ -55,6 +63,9 @@ counter_object c = record { kind = Counter; place = counter_place c }
 
 abbrev pub alarm_object : AlarmRef → Object
 alarm_object a = record { kind = Alarm; place = alarm_place a }
+
+abbrev pub table_object : TableRef → Object
+table_object s = record { kind = Table; place = table_place s }
 
 -- The object that a call across cores is for. [AUTOSAR SWS OS 4.x, SWS_Os_00596 and SWS_Os_00602]
 abbrev pub object_of_call : RemoteCall → Object

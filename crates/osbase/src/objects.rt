@@ -1,9 +1,9 @@
 //! Objects of every kind, as the operations of scripts and the calls across cores name them.
 
 ghost use Rattle.std.specs.Prelude.{◌≡◌};
-ghost use Rattle.osbase.specs.Objects.{alarm_object, alarm_of, alarm_place, counter_object, counter_of, counter_place, resource_object, resource_of, resource_place, same_kind, task_object, task_of, task_place};
+ghost use Rattle.osbase.specs.Objects.{alarm_object, alarm_of, alarm_place, counter_object, counter_of, counter_place, resource_object, resource_of, resource_place, same_kind, table_object, table_of, table_place, task_object, task_of, task_place};
 
-use crate::references::{AlarmRef, CoreId, CounterRef, ResourceRef, TaskRef};
+use crate::references::{AlarmRef, CoreId, CounterRef, ResourceRef, TableRef, TaskRef};
 
 /// The kinds of objects that operations and calls can name so far.
 #[derive(Clone, Copy, Debug, PartialEq, Eq)]
@@ -12,6 +12,7 @@ pub enum ObjectKind {
     Resource,
     Counter,
     Alarm,
+    Table,
 }
 
 impl ObjectKind {
@@ -160,6 +161,38 @@ impl AlarmRef {
     {
         Object {
             kind: ObjectKind::Alarm,
+            place: self.place(),
+        }
+    }
+}
+
+impl TableRef {
+    /// The schedule table that stands at this place.
+    pub fn at(place: Place) -> Self
+        ensures { result ≡ table_of place }
+    {
+        TableRef {
+            core: place.core,
+            index: place.index,
+        }
+    }
+
+    /// Where the schedule table stands.
+    pub fn place(self) -> Place
+        ensures { result ≡ table_place self }
+    {
+        Place {
+            core: self.core,
+            index: self.index,
+        }
+    }
+
+    /// The schedule table as an object of its kind.
+    pub fn object(self) -> Object
+        ensures { result ≡ table_object self }
+    {
+        Object {
+            kind: ObjectKind::Table,
             place: self.place(),
         }
     }

@@ -1,5 +1,5 @@
 -- One fact for each service: what it does to one history it does to every history that reads the same to it.
-use Rattle.std.proofs.Common.{◌≡◌, ◌==◌, ◌&&◌, ◌||◌, ℕ, nat_le, Bool, true, false, not, cond, Option, Some, None, is_none, option_map, List, [], ◌∷◌, refl, ap, sym, subst, ◌∙◌, ℤ, pos}
+use Rattle.std.proofs.Common.{◌≡◌, ◌==◌, ◌&&◌, ◌||◌, ℕ, nat_le, Bool, true, false, not, cond, Option, Some, None, is_none, option_map, List, [], ◌∷◌, filter_map, find, refl, ap, sym, subst, ◌∙◌, ℤ, pos}
 use Rattle.std.specs.List.{list_all}
 use Rattle.std.specs.Option.{option_map_or}
 use Rattle.osres.specs.Resources.{is_occupied}
@@ -11,6 +11,7 @@ use Rattle.osbase.specs.declared.references.CoreId.{CoreId}
 use Rattle.osbase.specs.declared.references.AlarmRef.{AlarmRef}
 use Rattle.osbase.specs.declared.references.CounterRef.{CounterRef}
 use Rattle.osbase.specs.declared.references.ResourceRef.{ResourceRef}
+use Rattle.osbase.specs.declared.references.TableRef.{TableRef}
 use Rattle.osbase.specs.declared.references.TaskRef.{TaskRef}
 use Rattle.osbase.specs.declared.references.Runner.{Runner}
 use Rattle.osbase.specs.declared.references.Variable.{Variable}
@@ -22,18 +23,24 @@ use Rattle.osbase.specs.declared.marks.Mark.{Mark}
 use Rattle.osbase.specs.declared.histories.OpenCall.{OpenCall}
 use Rattle.osbase.specs.declared.histories.HeldResource.{HeldResource}
 use Rattle.osbase.specs.declared.histories.TaskEvents.{TaskEvents}
-use Rattle.osbase.specs.Counting.{AlarmSetting, alarm_of, counts_of, counts_to, is_due, is_in_use, left_of, one_count_more, value_after}
-use Rattle.osbase.specs.History.{Entry, History, Took, Printed, Noted, AlarmCancelled, AlarmSet, Counted, Opened, Queued, Taken, Given, Done, awaits_one_of, have_common, job_count, live_jobs, same_runner}
+use Rattle.osbase.specs.Counting.{AlarmSetting, TableState, Stopped, alarm_of, counted_once, counts_of, counts_to, is_due, is_in_use, left_of, one_count_more, table_state, value_after}
+use Rattle.osbase.specs.History.{Entry, History, Took, Printed, Noted, AlarmCancelled, AlarmSet, Counted, Opened, Queued, TableNext, TableQuit, TableStarted, Taken, Given, Done, awaits_one_of, have_common, job_count, live_jobs, same_core, same_runner}
 use Rattle.osbase.specs.Marks.{core_of_runner, names_only}
+use Rattle.osbase.specs.Objects.{table_object}
 use Rattle.osbase.specs.Words.{status_number}
+use Rattle.osbase.proofs.Same.{same_core-true}
 use Rattle.oscript.specs.declared.Frame.{Frame}
 use Rattle.oscript.specs.declared.Op.{Op}
 use Rattle.oscript.specs.Frames.{value_of}
 use Rattle.oscript.specs.Rows.{objects_of}
 use Rattle.osplan.specs.declared.plans.Alarm.{Alarm}
+use Rattle.osplan.specs.declared.plans.Core.{Core}
 use Rattle.osplan.specs.declared.plans.Counter.{Counter}
-use Rattle.osplan.specs.Objects.{action_object, call_of_action}
-use Rattle.osplan.specs.View.{View, own_alarm}
+use Rattle.osplan.specs.declared.plans.ExpiryPoint.{ExpiryPoint}
+use Rattle.osplan.specs.declared.plans.Table.{Table}
+use Rattle.osplan.specs.declared.plans.TimedAction.{TimedAction}
+use Rattle.osplan.specs.Objects.{call_of_action, has_index, is_own_object}
+use Rattle.osplan.specs.View.{View, own_alarm, own_table}
 use Rattle.osjobs.specs.Priorities.{events_in, held_in, holds_any, is_newest}
 use Rattle.osstate.specs.Queries.{is_at_limit, is_suspended}
 use Rattle.osstate.specs.Readings.{events_at, frame_at, held_resources, is_own, knows_started, resource_of, task_events}
@@ -43,17 +50,30 @@ use Rattle.oscall.specs.Border.{answer_to, border_checks, calls, core_of_call, c
 use Rattle.oscall.specs.Chaining.{chaining_checks, chains_here, chains_to, ends_caller, exceeds_limit, resumes}
 use Rattle.oscall.specs.Callers.{by_task, holding_none}
 use Rattle.oscall.specs.Checks.{Check, first_failing, is_ok_status}
-use Rattle.osclock.specs.Clocks.{attached_to, counts_to_by, due_by, is_in_use_by, max_for, max_of, setting_by, value_by}
+use Rattle.osclock.specs.Clocks.{attached_to, counts_to_by, counts_to_value_by, due_by, is_in_use_by, max_for, max_of, setting_by, value_by}
+use Rattle.ostable.specs.declared.table.Due.{Due}
+use Rattle.ostable.specs.declared.tables.DueTable.{DueTable}
+use Rattle.ostable.specs.Ahead.{due_at, status_of}
+use Rattle.ostable.specs.Status.{is_running, is_stopped, number_of}
+use Rattle.ostable.specs.Tables.{due_table, due_table_by, due_tables_by, next_by, state_by, table_refs, timed_by, waits_for}
+use Rattle.ostable.specs.Tables.{due_by as table_due_by}
+use Rattle.ostable.specs.Waiting.{are_own, repeats}
+use Rattle.ostable.proofs.Asked.{dues-own}
 use Rattle.oscall.specs.Counters.{counts_and_returns, incrementing_checks, own_clock, tells_value}
 use Rattle.oscall.specs.Events.{begins_to_wait, by_extended, clearing_checks, clears, clears_and_returns, goes_on_or_waits, own_target, reading_checks, releases, sets_events, tells_events, waiting_checks}
 use Rattle.oscall.specs.Alarms.{is_increment, is_setting, is_start, sets_alarm}
-use Rattle.oscall.specs.Expiring.{acts, acts_here, counts, expire_each, expires, posts}
+use Rattle.oscall.specs.Advancing.{counts}
+use Rattle.oscall.specs.Expiring.{acts, acts_here, expire_each, expires, posts}
 use Rattle.oscall.specs.Operations.{absolute_call, inquiry_call, operates, relative_call}
+use Rattle.oscall.specs.Passing.{activations_of, acts_each, begins, due_point, first_point, is_activation, pass_each, passes, reaches, settings_of, stops}
+use Rattle.oscall.specs.Passing.{ends as ends_period}
 use Rattle.oscall.specs.Returning.{answers, asks, queues, reports, returns}
 use Rattle.oscall.specs.Variables.{sets, sum_of}
 use Rattle.oscall.specs.Tasks.{activates, ends, ends_unasked}
 use Rattle.oscall.specs.Resources.{gives, is_below, takes}
-use Rattle.osplan.proofs.Tests.{passes-at}
+use Rattle.oscall.specs.Service.{Service, effect_by, status_by}
+use Rattle.oscall.specs.Tables.{absolute_start, counts_to_start, does_service, is_offset, is_value, own_pair, own_schedule, quits_next, relative_start, status_inquiry, stop, suits, switch}
+use Rattle.oscall.proofs.Allowed.{ActionsAllow, IsAllowedPoint, acts_within, alarm-allowed, all-filter, due-allowed, first-allowed}
 use Rattle.oscall.proofs.Owned.{own-alarm}
 
 -- Which cores one asks, or answers: every one, and none.
@@ -66,10 +86,6 @@ nobody core = false
 -- The core of each object that an operation names is the own core, or one that may be asked.
 abbrev pub IsAllowed : View → (CoreId → Bool) → Op → Type 0
 IsAllowed v may op = list_all (λ (object : Object). is_own v object.place.core || may object.place.core) (objects_of op) ≡ true
-
--- The core of what each alarm acts on is the own core, or one that may be asked.
-abbrev pub AlarmsAllow : View → (CoreId → Bool) → Type 0
-AlarmsAllow v may = list_all (λ (x : Alarm). is_own v (action_object x.action).place.core || may (action_object x.action).place.core) v.own.alarms ≡ true
 
 -- What a core sees that differs only in who is the master and which cores there are.
 abbrev pub seen_as : View → Bool → List CoreId → View
@@ -84,6 +100,7 @@ pub record ServesSame (v : View) (may : CoreId → Bool) (h k : History) : Type 
   pub events : task_events v h ≡ task_events v k
   pub counts : (c : CounterRef) → counts_of c h ≡ counts_of c k
   pub settings : (c : CounterRef) (a : AlarmRef) → alarm_of c a h ≡ alarm_of c a k
+  pub tables : (c : CounterRef) (s : TableRef) → table_state c s h ≡ table_state c s k
 
 -- A note of the core itself, or a mark that names only objects of cores that pass: neither an item nor what goes to
 -- another core.
@@ -105,6 +122,17 @@ pub record IsKept (v : View) (may answered names : CoreId → Bool) (R : History
   pub replied : (core : CoreId) (s : Status) (value : Option ℤ) (h k : History) → answered core ≡ true → R h k → R (queues core (Message.Reply s value) h) (queues core (Message.Reply s value) k)
   pub opened : (call : OpenCall) (h k : History) → may call.core ≡ true → R h k → R (Noted (Opened call) ∷ h) (Noted (Opened call) ∷ k)
   pub reads : (h k : History) → R h k → ServesSame v may h k
+
+-- ---- lists
+
+-- Two tests that agree at each element find the same, and two functions keep the same.
+find-agree : {X : Type 0} (p q : X → Bool) → ((x : X) → p x ≡ q x) → (xs : List X) → find p xs ≡ find q xs
+find-agree p q same [] = refl
+find-agree p q same (x ∷ xs) = rw (same x, find-agree p q same xs) refl
+
+kept-agree : {X Y : Type 0} (f g : X → Option Y) → ((x : X) → f x ≡ g x) → (xs : List X) → filter_map f xs ≡ filter_map g xs
+kept-agree f g same [] = refl
+kept-agree f g same (x ∷ xs) = rw (same x, kept-agree f g same xs) refl
 
 -- Each function of a service carries such a relation: related before, related after. The second history is that of a
 -- core that sees another master and other cores.
@@ -437,8 +465,34 @@ module _ (v : View) (master : Bool) (ids : List CoreId) (may answered names : Co
           subst (λ (b : Bool). R (cond (knows_started h core) (posts call h) (refused h)) (cond b (posts call k) (refused k))) ((kept.reads h k p).started core allowed)
           (either-carried (knows_started h core) (posts call h) (refused h) (posts call k) (refused k) (posts-carried call h k object m p) (printed-carried (Mark.ErrorHook Status.EOsCore) h k refl p))
 
-  -- Where what the core's alarms act on is allowed, and marks may name what is its own.
-  module _ (alarms : AlarmsAllow v may) (own_named : names v.own.id ≡ true) where
+  -- Of the tables of the core: their states, what is due of them at the next count, and which waits for which.
+  state-same : (s : TableRef) (h k : History) → R h k → state_by v.own s h ≡ state_by v.own s k
+  state-same s h k p = by (own_table v.own s)
+    where
+      by : (o : Option Table) → option_map_or (λ (x : Table). table_state x.counter s h) o Stopped ≡ option_map_or (λ (x : Table). table_state x.counter s k) o Stopped
+      by None = refl
+      by (Some x) = (kept.reads h k p).tables x.counter s
+
+  next-same : (s : TableRef) (h k : History) → R h k → next_by v.own s h ≡ next_by v.own s k
+  next-same s h k p = find-agree _ _ (λ u. ap (waits_for s) (state-same u h k p)) (table_refs v.own)
+
+  table_due-same : (s : TableRef) (h k : History) → R h k → table_due_by v.own s h ≡ table_due_by v.own s k
+  table_due-same s h k p = by (own_table v.own s)
+    where
+      by : (o : Option Table) → option_map_or (λ (x : Table). due_at x (counted_once (table_state x.counter s h))) o None ≡ option_map_or (λ (x : Table). due_at x (counted_once (table_state x.counter s k))) o None
+      by None = refl
+      by (Some x) = ap (λ (state : TableState). due_at x (counted_once state)) ((kept.reads h k p).tables x.counter s)
+
+  due_tables-same : (c : CounterRef) (h k : History) → R h k → due_tables_by v.own c h ≡ due_tables_by v.own c k
+  due_tables-same c h k p = kept-agree (due_table_by v.own h) (due_table_by v.own k) one (timed_by v.own c)
+    where
+      one : (s : TableRef) → due_table_by v.own h s ≡ due_table_by v.own k s
+      one s =
+          ap (λ (next : Option TableRef). option_map (due_table s next) (table_due_by v.own s h)) (next-same s h k p)
+          ∙ ap (λ (due : Option Due). option_map (due_table s (next_by v.own s k)) due) (table_due-same s h k p)
+
+  -- Where what the core's alarms and tables act on is allowed, and marks may name what is its own.
+  module _ (actions : ActionsAllow v may) (own_named : names v.own.id ≡ true) where
     expires-carried : (a : AlarmRef) (h k : History) → R h k → R (expires v a h) (expires other a k)
     expires-carried a h k p = by (own_alarm v.own a) refl
       where
@@ -447,7 +501,7 @@ module _ (v : View) (master : Bool) (ids : List CoreId) (may answered names : Co
         by None is = p
         by (Some x) is =
             let own = own-alarm v.own a x is in
-            acts-carried (call_of_action x.action) _ _ (passes-at _ v.own.alarms a.index x alarms own.1) (printed-carried (Mark.AlarmExpired a) h k (subst (λ (core : CoreId). names core ≡ true) (sym own.0) own_named) p)
+            acts-carried (call_of_action x.action) _ _ (alarm-allowed v may actions a x is) (printed-carried (Mark.AlarmExpired a) h k (subst (λ (core : CoreId). names core ≡ true) (sym own.0) own_named) p)
 
     expire_each-carried : (due : List AlarmRef) (h k : History) → R h k → R (expire_each v due h) (expire_each other due k)
     expire_each-carried [] h k p = p
@@ -456,10 +510,55 @@ module _ (v : View) (master : Bool) (ids : List CoreId) (may answered names : Co
     due-same : (c : CounterRef) (h k : History) → R h k → due_by v.own c h ≡ due_by v.own c k
     due-same c h k p = filter_agree _ _ (λ a. ap (λ (s : Option AlarmSetting). is_due (max_for v.own a) (option_map one_count_more s)) (setting-same a h k p)) (attached_to v.own c)
 
+    -- What a table does: its points, and the ends of its periods.
+    acts_each-carried : (all : List TimedAction) (h k : History) → list_all (acts_within v may) all ≡ true → R h k → R (acts_each v all h) (acts_each other all k)
+    acts_each-carried [] h k m p = p
+    acts_each-carried (action ∷ rest) h k m p =
+        let parts = and_parts (acts_within v may action) (list_all (acts_within v may) rest) m in
+        acts_each-carried rest _ _ parts.1 (acts-carried (call_of_action action) h k parts.0 p)
+
+    reaches-carried : (s : TableRef) (o : Option ExpiryPoint) (h k : History) → names s.core ≡ true → IsAllowedPoint v may o → R h k → R (reaches v s o h) (reaches other s o k)
+    reaches-carried s None h k n m p = p
+    reaches-carried s (Some point) h k n m p =
+        acts_each-carried (settings_of point.actions) _ _ (all-filter (acts_within v may) (λ (action : TimedAction). not (is_activation action)) point.actions m)
+        (acts_each-carried (activations_of point.actions) _ _ (all-filter (acts_within v may) is_activation point.actions m) (printed-carried (Mark.ExpiryPoint s point.offset) h k n p))
+
+    stops-carried : (s : TableRef) (h k : History) → names s.core ≡ true → R h k → R (stops s h) (stops s k)
+    stops-carried s h k n p = kept.local (Noted (TableQuit s)) _ _ refl (printed-carried (Mark.TableStopped s) h k n p)
+
+    begins-carried : (s : TableRef) (h k : History) → names s.core ≡ true → R h k → R (begins v s h) (begins other s k)
+    begins-carried s h k n p =
+        reaches-carried s (first_point v.own s) _ _ n (first-allowed v may actions s) (kept.local (Noted (TableStarted s 0)) _ _ refl (printed-carried (Mark.TableBegun s) h k n p))
+
+    -- Marks may name a table of the core.
+    table-named : (s : TableRef) → is_own_object v.own (table_object s) ≡ true → names s.core ≡ true
+    table-named s own =
+        subst (λ (core : CoreId). names core ≡ true) (sym (same_core-true s.core v.own.id (and_parts (same_core s.core v.own.id) (has_index v.own (table_object s)) own).0)) own_named
+
+    end-carried : (s : TableRef) (next : Option TableRef) (h k : History) → is_own_object v.own (table_object s) ≡ true → option_map_or (λ (u : TableRef). is_own_object v.own (table_object u)) next true ≡ true → R h k → R (ends_period v s next h) (ends_period other s next k)
+    end-carried s (Some u) h k own next_own p = begins-carried u _ _ (table-named u next_own) (stops-carried s h k (table-named s own) p)
+    end-carried s None h k own next_own p =
+        either-carried (repeats v.own s) (reaches v s (first_point v.own s) h) (stops s h) (reaches other s (first_point v.own s) k) (stops s k)
+        (reaches-carried s (first_point v.own s) h k (table-named s own) (first-allowed v may actions s) p) (stops-carried s h k (table-named s own) p)
+
+    passes-carried : (d : DueTable) (h k : History) → are_own v.own d ≡ true → R h k → R (passes v d h) (passes other d k)
+    passes-carried d h k own p =
+        let parts = and_parts (is_own_object v.own (table_object d.table)) (option_map_or (λ (u : TableRef). is_own_object v.own (table_object u)) d.next true) own in
+        let there = reaches-carried d.table (due_point v.own d) h k (table-named d.table parts.0) (due-allowed v may actions d) p in
+        either-carried d.due.ends (ends_period v d.table d.next (reaches v d.table (due_point v.own d) h)) (reaches v d.table (due_point v.own d) h) (ends_period other d.table d.next (reaches other d.table (due_point v.own d) k)) (reaches other d.table (due_point v.own d) k)
+        (end-carried d.table d.next _ _ parts.0 parts.1 there) there
+
+    pass_each-carried : (due : List DueTable) (h k : History) → list_all (are_own v.own) due ≡ true → R h k → R (pass_each v due h) (pass_each other due k)
+    pass_each-carried [] h k own p = p
+    pass_each-carried (d ∷ due) h k own p =
+        let parts = and_parts (are_own v.own d) (list_all (are_own v.own) due) own in
+        pass_each-carried due _ _ parts.1 (passes-carried d h k parts.0 p)
+
     pub counts-carried : (c : CounterRef) (h k : History) → R h k → R (counts v c h) (counts other c k)
     counts-carried c h k p =
-        subst (λ (due : List AlarmRef). R (counts v c h) (expire_each other due (Noted (Counted c) ∷ k))) (due-same c h k p)
-        (expire_each-carried (due_by v.own c h) _ _ (kept.local (Noted (Counted c)) h k refl p))
+        subst (λ (tables : List DueTable). R (counts v c h) (pass_each other tables (expire_each other (due_by v.own c k) (Noted (Counted c) ∷ k)))) (due_tables-same c h k p)
+        (subst (λ (due : List AlarmRef). R (counts v c h) (pass_each other (due_tables_by v.own c h) (expire_each other due (Noted (Counted c) ∷ k)))) (due-same c h k p)
+        (pass_each-carried (due_tables_by v.own c h) _ _ (dues-own v.own c h) (expire_each-carried (due_by v.own c h) _ _ (kept.local (Noted (Counted c)) h k refl p))))
 
     counts_and_returns-carried : (r : Runner) (target : Option CounterRef) (h k : History) → IsNamed r → R h k → R (counts_and_returns v r target h) (counts_and_returns other r target k)
     counts_and_returns-carried r None h k n p = p
@@ -469,6 +568,82 @@ module _ (v : View) (master : Bool) (ids : List CoreId) (may answered names : Co
     increment-carried target r h k n allowed p =
         answers-carried r ServiceId.IncrementCounter (incrementing_checks v target) (incrementing_checks v target) refl
         (counts_and_returns v r target) (counts_and_returns other r target) h k n p (counts_and_returns-carried r target h k n p)
+
+  -- ---- services of tables of the core
+
+  -- What a service checks, does and tells is the same in both.
+  record IsServed (s : Service) (h k : History) : Type 0 where
+    status : status_by s v h ≡ status_by s other k
+    effect : R (s.effect v h) (s.effect other k)
+    value : s.value v h ≡ s.value other k
+
+  done_by-carried : (r : Runner) (service : ServiceId) (s : Service) (h k : History) → IsNamed r → R h k → IsServed s h k → R (does_service v r service (Some s) h) (does_service other r service (Some s) k)
+  done_by-carried r service s h k n p served =
+      subst (λ (value : Option ℤ). R (does_service v r service (Some s) h) (returns r service (status_by s other k) (cond (is_ok_status (status_by s other k)) value None) (effect_by s other k))) served.value
+      (subst (λ (status : Status). R (does_service v r service (Some s) h) (returns r service status (cond (is_ok_status status) (s.value v h) None) (cond (is_ok_status status) (s.effect other k) k))) served.status
+      (returns-carried r service (status_by s v h) (cond (is_ok_status (status_by s v h)) (s.value v h) None) _ _ n
+      (either-carried (is_ok_status (status_by s v h)) (s.effect v h) h (s.effect other k) k served.effect p)))
+
+  -- A service of what a script names, if it names such a thing.
+  does-carried : {A : Type 0} (service_for : A → Service) (r : Runner) (service : ServiceId) (o : Option A) (h k : History) → IsNamed r → R h k → ((x : A) → IsServed (service_for x) h k) → R (does_service v r service (option_map service_for o) h) (does_service other r service (option_map service_for o) k)
+  does-carried service_for r service None h k n p served = returns-carried r service Status.EOsId None h k n p
+  does-carried service_for r service (Some x) h k n p served = done_by-carried r service (service_for x) h k n p (served x)
+
+  abbrev start_checks : (Core → Table → Counter → Bool) → TableRef → TableState → List Check
+  start_checks test s state = (not (is_stopped (status_of state)), Status.EOsState) ∷ (not (suits (test v.own) v.own s), Status.EOsValue) ∷ []
+
+  relative-served : (offset : ℕ) (s : TableRef) (h k : History) → R h k → IsServed (relative_start offset s) h k
+  relative-served offset s h k p = record {
+    status = ap (λ (state : TableState). first_failing (start_checks (λ core. is_offset core offset) s state)) (state-same s h k p);
+    effect = kept.local (Noted (TableStarted s offset)) h k refl p;
+    value = refl;
+  }
+
+  counts_to-same : (s : TableRef) (start : ℕ) (h k : History) → R h k → counts_to_start v.own s start h ≡ counts_to_start v.own s start k
+  counts_to-same s start h k p = by (own_table v.own s)
+    where
+      by : (o : Option Table) → option_map_or (λ (x : Table). counts_to_value_by v.own x.counter start h) o 0 ≡ option_map_or (λ (x : Table). counts_to_value_by v.own x.counter start k) o 0
+      by None = refl
+      by (Some x) = ap (λ (count : ℕ). counts_to (max_of v.own x.counter) (value_after (max_of v.own x.counter) count) start) ((kept.reads h k p).counts x.counter)
+
+  absolute-served : (start : ℕ) (s : TableRef) (h k : History) → R h k → IsServed (absolute_start start s) h k
+  absolute-served start s h k p = record {
+    status = ap (λ (state : TableState). first_failing (start_checks (λ core. is_value start) s state)) (state-same s h k p);
+    effect =
+        subst (λ (wait : ℕ). R (Noted (TableStarted s (counts_to_start v.own s start h)) ∷ h) (Noted (TableStarted s wait) ∷ k)) (counts_to-same s start h k p)
+        (kept.local (Noted (TableStarted s (counts_to_start v.own s start h))) h k refl p);
+    value = refl;
+  }
+
+  quits_next-carried : (s : TableRef) (h k : History) → R h k → R (quits_next v.own s h) (quits_next v.own s k)
+  quits_next-carried s h k p = subst (λ (o : Option TableRef). R (quits_next v.own s h) (quits o k)) (next-same s h k p) (by (next_by v.own s h))
+    where
+      quits : Option TableRef → History → History
+      quits o n = option_map_or (λ (u : TableRef). Noted (TableQuit u) ∷ n) o n
+
+      by : (o : Option TableRef) → R (quits o h) (quits o k)
+      by None = p
+      by (Some u) = kept.local (Noted (TableQuit u)) h k refl p
+
+  switch-served : (q : TableRef × TableRef) (h k : History) → R h k → IsServed (switch q) h k
+  switch-served q h k p = record {
+    status =
+        ap (λ (state : TableState). first_failing ((not (is_stopped (status_of state)), Status.EOsState) ∷ (not (is_running (status_of (state_by v.own q.0 h))), Status.EOsNofunc) ∷ [])) (state-same q.1 h k p)
+        ∙ ap (λ (state : TableState). first_failing ((not (is_stopped (status_of (state_by v.own q.1 k))), Status.EOsState) ∷ (not (is_running (status_of state)), Status.EOsNofunc) ∷ [])) (state-same q.0 h k p);
+    effect = kept.local (Noted (TableNext q.0 q.1)) _ _ refl (quits_next-carried q.0 h k p);
+    value = refl;
+  }
+
+  stop-served : (s : TableRef) (h k : History) → R h k → IsServed (stop s) h k
+  stop-served s h k p = record {
+    status = ap (λ (state : TableState). first_failing ((is_stopped (status_of state), Status.EOsNofunc) ∷ [])) (state-same s h k p);
+    effect = kept.local (Noted (TableQuit s)) _ _ refl (quits_next-carried s h k p);
+    value = refl;
+  }
+
+  inquiry-served : (s : TableRef) (h k : History) → R h k → IsServed (status_inquiry s) h k
+  inquiry-served s h k p =
+      record { status = refl; effect = p; value = ap (λ (state : TableState). Some (pos (number_of (status_of state)))) (state-same s h k p) }
 
   -- GetCounterValue of a counter of the core, or of none.
   value-carried : (target : Option CounterRef) (r : Runner) (h k : History) → IsNamed r → R h k
@@ -483,7 +658,7 @@ module _ (v : View) (master : Bool) (ids : List CoreId) (may answered names : Co
   may_call call_for op_for some None allowed = tt
   may_call call_for op_for some (Some a) allowed = some a allowed
 
-  module _ (alarms : AlarmsAllow v may) (own_named : names v.own.id ≡ true) where
+  module _ (actions : ActionsAllow v may) (own_named : names v.own.id ≡ true) where
     pub operates-carried : (op : Op) → Carried op
     operates-carried Op.Work r h k n allowed p = done-carried r h k p
     operates-carried (Op.Set x z) r h k n allowed p = sets-carried (λ frame. z) x r h k n p
@@ -502,7 +677,7 @@ module _ (v : View) (master : Bool) (ids : List CoreId) (may answered names : Co
     operates-carried (Op.ClearEvent mask) r h k n allowed p = clear_event-carried mask r h k n allowed p
     operates-carried (Op.GetEvent target x) r h k n allowed p = reads_event-carried (own_target v.own target) r h k n p
     operates-carried (Op.WaitEvent mask) r h k n allowed p = wait_event-carried mask r h k n allowed p
-    operates-carried (Op.IncrementCounter target) r h k n allowed p = increment-carried alarms own_named target r h k n allowed p
+    operates-carried (Op.IncrementCounter target) r h k n allowed p = increment-carried actions own_named target r h k n allowed p
     operates-carried (Op.GetCounterValue target x) r h k n allowed p = value-carried (own_clock v.own target) r h k n p
     operates-carried (Op.SetRelAlarm target increment cycle) r h k n allowed p =
         calls-carried r ServiceId.SetRelAlarm (relative_call target increment cycle) h k n (may_call (λ a. Remote.SetRelAlarm a increment cycle) (λ o. Op.SetRelAlarm o increment cycle) (λ a m. (and_parts _ true m).0) target allowed) p
@@ -512,3 +687,13 @@ module _ (v : View) (master : Bool) (ids : List CoreId) (may answered names : Co
         calls-carried r ServiceId.CancelAlarm (option_map Remote.CancelAlarm target) h k n (may_call Remote.CancelAlarm Op.CancelAlarm (λ a m. (and_parts _ true m).0) target allowed) p
     operates-carried (Op.GetAlarm target x) r h k n allowed p =
         calls-carried r ServiceId.GetAlarm (inquiry_call target x) h k n (may_call (λ a. Remote.GetAlarm a x) (λ o. Op.GetAlarm o x) (λ a m. (and_parts _ true m).0) target allowed) p
+    operates-carried (Op.StartScheduleTableRel target offset) r h k n allowed p =
+        does-carried (relative_start offset) r ServiceId.StartScheduleTableRel (own_schedule v.own target) h k n p (λ s. relative-served offset s h k p)
+    operates-carried (Op.StartScheduleTableAbs target start) r h k n allowed p =
+        does-carried (absolute_start start) r ServiceId.StartScheduleTableAbs (own_schedule v.own target) h k n p (λ s. absolute-served start s h k p)
+    operates-carried (Op.NextScheduleTable from to) r h k n allowed p =
+        does-carried switch r ServiceId.NextScheduleTable (own_pair v.own from to) h k n p (λ q. switch-served q h k p)
+    operates-carried (Op.StopScheduleTable target) r h k n allowed p =
+        does-carried stop r ServiceId.StopScheduleTable (own_schedule v.own target) h k n p (λ s. stop-served s h k p)
+    operates-carried (Op.GetScheduleTableStatus target x) r h k n allowed p =
+        does-carried status_inquiry r ServiceId.GetScheduleTableStatus (own_schedule v.own target) h k n p (λ s. inquiry-served s h k p)

@@ -1,8 +1,7 @@
 -- What is known of an alarm of the core, and of those that pass a test.
-use Rattle.std.proofs.Common.{◌≡◌, ◌<◌, ◌≤◌, ◌+◌, ◌&&◌, ℕ, zero, suc, pos, Bool, true, false, not, cond, Option, Some, None, is_some, option_map, List, [], ◌∷◌, ◌++◌, filter, get_or, take, length, length-append, refl, ap, sym, subst, ◌∙◌, arith}
+use Rattle.std.proofs.Common.{◌≡◌, ◌≤◌, ◌&&◌, ℕ, pos, Bool, true, false, not, cond, Option, Some, None, is_some, option_map, List, [], ◌∷◌, filter, length, refl, ap, ◌∙◌, arith}
 use Rattle.std.specs.List.{slice_get}
 use Rattle.std.specs.Option.{option_map_or}
-use Rattle.std.proofs.lemmas.List.Elements.{filter_more}
 use Rattle.osbase.specs.declared.references.AlarmRef.{AlarmRef}
 use Rattle.osbase.specs.declared.references.CounterRef.{CounterRef}
 use Rattle.osbase.specs.declared.statuses.Status.TheVariants.{EOk, EOsNofunc}
@@ -17,13 +16,13 @@ use Rattle.osplan.specs.Objects.{action_object}
 use Rattle.osplan.specs.View.{View, own_alarm}
 use Rattle.osplan.proofs.Clocked.{clock-parts}
 use Rattle.osplan.proofs.Tests.{length-filter-le}
-use Rattle.osclock.specs.Clocks.{ClockState, alarm_refs, attached_to, due_in, is_attached, is_due_in, is_in_use_by, left_by, max_for, setting_by}
+use Rattle.osclock.specs.Clocks.{alarm_refs, attached_to, is_attached, is_in_use_by, left_by, max_for, setting_by}
 use Rattle.osclock.proofs.Attached.{alarm-refs-length}
 use Rattle.oscall.specs.declared.returning.Answer.{Answer}
 use Rattle.oscall.specs.Alarms.{inquiry}
 use Rattle.oscall.specs.Checks.{first_failing, is_ok_status}
 use Rattle.oscall.specs.Service.{answer_by}
-use Rattle.oscall.specs.Expiring.{posted_at_once, posted_by, posted_for, posts_by}
+use Rattle.oscall.specs.Advancing.{posted_for}
 
 -- An alarm of the core stands on it, at its index.
 pub own-alarm : (core : Core) (a : AlarmRef) (x : Alarm) → own_alarm core a ≡ Some x → (a.core ≡ core.id) × (slice_get core.alarms a.index ≡ Some x)
@@ -52,37 +51,6 @@ alarms-few core within = omega (arith, alarm-refs-length core, (clock-parts core
 
 pub attached-few : (core : Core) (c : CounterRef) → are_clocks_within core ≡ true → length (attached_to core c) ≤ 32
 attached-few core c within = omega (arith, length-filter-le (is_attached core c) (alarm_refs core), alarms-few core within)
-
--- One counter's alarms post no more than all.
-pub posted-fewer : (core : Core) (c : CounterRef) → posted_by core c ≤ posted_at_once core
-posted-fewer core c = kept-fewer (posts_by core) (is_attached core c) (alarm_refs core)
-
--- The first ones of a list that pass are no more than all that pass.
-taken-fewer : {X : Type 0} (p : X → Bool) (xs : List X) (i : ℕ) → length (filter p (take i xs)) ≤ length (filter p xs)
-taken-fewer p [] zero = omega arith
-taken-fewer p [] (suc i) = omega arith
-taken-fewer p (x ∷ xs) zero = omega arith
-taken-fewer {X} p (x ∷ xs) (suc i) = by (p x) (taken-fewer p xs i)
-  where
-    by : (b : Bool) → length (filter p (take i xs)) ≤ length (filter p xs) → length (cond b (x ∷ filter p (take i xs)) (filter p (take i xs))) ≤ length (cond b (x ∷ filter p xs) (filter p xs))
-    by true rest = omega (arith, rest)
-    by false rest = rest
-
--- Of those that are due at a count, the first ones post no more than all alarms of the counter.
-pub posted-so-far : (core : Core) (c : CounterRef) (s : ClockState) (due : List AlarmRef) (i : ℕ) → due ≡ due_in core c s → length (filter (posts_by core) (take i due)) ≤ posted_by core c
-posted-so-far core c s due i is =
-    omega (arith, taken-fewer (posts_by core) due i, subst (λ (xs : List AlarmRef). length (filter (posts_by core) xs) ≤ posted_by core c) (sym is) (kept-fewer (posts_by core) (λ (a : AlarmRef). is_due_in core a s) (attached_to core c)))
-
--- One more of them.
-pub posted-more : (core : Core) (due : List AlarmRef) (i : ℕ) (a : AlarmRef) → i < length due → a ≡ get_or due i a → length (filter (posts_by core) (take (i + 1) due)) ≡ length (filter (posts_by core) (take i due)) + posted_for core a
-posted-more core due i a within is =
-    ap length (filter_more (posts_by core) due i a within) ∙ ap (λ (x : AlarmRef). length (filter (posts_by core) (take i due) ++ cond (posts_by core x) (x ∷ []) [])) (sym is)
-    ∙ length-append (filter (posts_by core) (take i due)) (cond (posts_by core a) (a ∷ []) [])
-    ∙ ap (λ (n : ℕ). length (filter (posts_by core) (take i due)) + n) (by (posts_by core a))
-  where
-    by : (b : Bool) → length (cond b (a ∷ []) []) ≡ cond b 1 0
-    by true = refl
-    by false = refl
 
 -- ---- how many counts are left
 

@@ -14,7 +14,7 @@ use Rattle.osplan.specs.View.{View, own_counter}
 use Rattle.osclock.specs.Clocks.{value_by}
 use Rattle.osstate.specs.Readings.{is_own}
 use Rattle.oscall.specs.Checks.{Check}
-use Rattle.oscall.specs.Expiring.{counts}
+use Rattle.oscall.specs.Advancing.{counts}
 use Rattle.oscall.specs.Returning.{answers, returns}
 
 -- A hardware counter of the core, which ticks alone advance. [AUTOSAR SWS OS 4.x, OsCounterType]

@@ -1,19 +1,15 @@
--- What is due at a count.
-use Rattle.std.specs.Prelude.{ℕ, Bool, false, if◌then◌else◌, List, [], ◌∷◌, length}
-use Rattle.std.specs.List.{filter}
+-- What an alarm does when it is due.
+use Rattle.std.specs.Prelude.{if◌then◌else◌, List, [], ◌∷◌}
 use Rattle.std.specs.Option.{option_map_or}
 use Rattle.osbase.specs.declared.statuses.Status.TheVariants.{EOsCore}
 use Rattle.osbase.specs.declared.references.AlarmRef.{AlarmRef}
-use Rattle.osbase.specs.declared.references.CounterRef.{CounterRef}
 use Rattle.osbase.specs.declared.messages.Message.{Message}
 use Rattle.osbase.specs.declared.messages.RemoteCall.{RemoteCall}
 use Rattle.osbase.specs.declared.marks.Mark.TheVariants as Mark
-use Rattle.osbase.specs.History.{History, Noted, Counted}
+use Rattle.osbase.specs.History.{History}
 use Rattle.osplan.specs.declared.plans.Alarm.{Alarm}
-use Rattle.osplan.specs.declared.plans.Core.{Core}
-use Rattle.osplan.specs.Objects.{call_of_action, is_posting}
+use Rattle.osplan.specs.Objects.{call_of_action}
 use Rattle.osplan.specs.View.{View, own_alarm}
-use Rattle.osclock.specs.Clocks.{alarm_refs, attached_to, due_by}
 use Rattle.osstate.specs.Readings.{is_own, knows_started}
 use Rattle.oscall.specs.Border.{answer_to, core_of_call, effect_of}
 use Rattle.oscall.specs.Returning.{prints, queues, reports}
@@ -39,25 +35,3 @@ expires v a h = option_map_or (λ (x : Alarm). acts v (call_of_action x.action) 
 abbrev pub expire_each : View → List AlarmRef → History → History
 expire_each v [] h = h
 expire_each v (a ∷ due) h = expire_each v due (expires v a h)
-
--- The counter goes on by one; then each of its alarms acts that is due at this count, in index order.
--- [OSEK/VDX OS 2.2.3, section 9.1 and 9.2; the order: own]
-abbrev pub counts : View → CounterRef → History → History
-counts v c h = expire_each v (due_by v.own c h) (Noted (Counted c) ∷ h)
-
--- ---- how many envelopes join the outbox, at most
-
--- The core's alarm acts on another core's task.
-abbrev pub posts_by : Core → AlarmRef → Bool
-posts_by core a = option_map_or (is_posting core) (own_alarm core a) false
-
-abbrev pub posted_for : Core → AlarmRef → ℕ
-posted_for core a = if posts_by core a then 1 else 0
-
--- At one count.
-abbrev pub posted_by : Core → CounterRef → ℕ
-posted_by core c = length (filter (posts_by core) (attached_to core c))
-
--- At a tick, by which each alarm is due at most once.
-abbrev pub posted_at_once : Core → ℕ
-posted_at_once core = length (filter (posts_by core) (alarm_refs core))

@@ -8,7 +8,10 @@ pub mod Events
 pub mod Alarms
 pub mod Border
 pub mod Expiring
+pub mod Passing
+pub mod Advancing
 pub mod Counters
+pub mod Tables
 pub mod Chaining
 pub mod Variables
 pub mod Operations

@@ -16,6 +16,7 @@ use Rattle.oscall.specs.Resources.{gets_resource, releases_resource}
 use Rattle.oscall.specs.Events.{clears_event, gets_event, waits_event}
 use Rattle.oscall.specs.Counters.{gets_value, increments}
 use Rattle.oscall.specs.Border.{calls}
+use Rattle.oscall.specs.Tables.{absolute_start, does_service, own_pair, own_schedule, relative_start, status_inquiry, stop, switch}
 use Rattle.oscall.specs.Chaining.{chains}
 use Rattle.oscall.specs.Variables.{adds, adds_variable, sets, stores_status}
 
@@ -58,3 +59,8 @@ operates v r (Op.SetRelAlarm target increment cycle) h = calls v r Service.SetRe
 operates v r (Op.SetAbsAlarm target start cycle) h = calls v r Service.SetAbsAlarm (absolute_call target start cycle) h
 operates v r (Op.CancelAlarm target) h = calls v r Service.CancelAlarm (option_map Remote.CancelAlarm target) h
 operates v r (Op.GetAlarm target x) h = calls v r Service.GetAlarm (inquiry_call target x) h
+operates v r (Op.StartScheduleTableRel target offset) h = does_service v r Service.StartScheduleTableRel (option_map (relative_start offset) (own_schedule v.own target)) h
+operates v r (Op.StartScheduleTableAbs target start) h = does_service v r Service.StartScheduleTableAbs (option_map (absolute_start start) (own_schedule v.own target)) h
+operates v r (Op.NextScheduleTable from to) h = does_service v r Service.NextScheduleTable (option_map switch (own_pair v.own from to)) h
+operates v r (Op.StopScheduleTable target) h = does_service v r Service.StopScheduleTable (option_map stop (own_schedule v.own target)) h
+operates v r (Op.GetScheduleTableStatus target x) h = does_service v r Service.GetScheduleTableStatus (option_map status_inquiry (own_schedule v.own target)) h

@@ -7,10 +7,10 @@ ghost use Rattle.osplan.specs.Objects.{is_own_object, may_name};
 ghost use Rattle.osjobs.specs.Priorities.{is_own_runner};
 ghost use Rattle.osbase.specs.Phases.{is_before_live};
 ghost use Rattle.osstate.specs.Does.{Effects, HasRoom, service_entries, service_marks};
-ghost use Rattle.oscall.specs.Expiring.{posted_at_once};
+ghost use Rattle.osplan.specs.Objects.{posted_at_once};
 ghost use Rattle.oscall.specs.Counters.{gets_value, increments, is_hardware, own_clock, tells_value};
 
-use crate::expiring::advance;
+use crate::advancing::advance;
 use crate::returning::{Answer, accept, finish, refuse};
 use osbase::{CounterRef, Mark, Runner, ServiceId, Status};
 use osstate::CoreState;

@@ -1,44 +1,23 @@
-//! What is due when a counter goes on.
+//! What an alarm does when it is due.
 
 ghost use Rattle.std.specs.Prelude.{◌≡◌, ◌<◌, ◌≤◌, ◌+◌, ◌*◌, IsTrue, false, true, length, suc};
 ghost use Rattle.osbase.specs.declared.turns.TheConstants.{CORES};
 ghost use Rattle.osbase.specs.History.{same_core};
-ghost use Rattle.osbase.specs.Objects.{alarm_object, counter_object};
+ghost use Rattle.osbase.specs.Objects.{alarm_object};
 ghost use Rattle.osbase.specs.Phases.{is_before_live};
 ghost use Rattle.osplan.specs.Objects.{is_own_object};
-ghost use Rattle.osclock.specs.Clocks.{attached_to};
 ghost use Rattle.osstate.specs.Does.{Effects, HasRoom};
 ghost use Rattle.oscall.specs.Border.{core_of_call, is_known_call, is_served};
-ghost use Rattle.oscall.specs.Expiring.{acts, acts_here, counts, expires, posted_by, posted_for, posts};
+ghost use Rattle.oscall.specs.Advancing.{posted_for};
+ghost use Rattle.oscall.specs.Expiring.{acts, acts_here, expires, posts};
 
 use crate::border::serve;
 use crate::returning::is_ok;
-use osbase::{AlarmRef, CoreId, CounterRef, Mark, Message, RemoteCall, Status};
+use osbase::{AlarmRef, CoreId, Mark, Message, RemoteCall, Status};
 use osstate::CoreState;
 
-/// One of the core's counters goes on by one; then each of its alarms acts that is due at this count, in index order
-/// (OSEK/VDX OS 2.2.3, section 9.1 and 9.2).
-pub fn advance<const P: usize, const J: usize, const OUT: usize>(
-    state: &mut CoreState<'_, P, J, OUT>,
-    counter: CounterRef,
-    marks: &mut Vec<Mark>,
-)
-    requires own { IsTrue (is_own_object state.old.view.own (counter_object counter)) }
-    requires live { is_before_live state.old.progress.phase ≡ false }
-    requires outbox { length state.old.border.outbox + posted_by state.old.view.own counter ≤ OUT }
-    requires room { HasRoom (suc (3 * length (attached_to state.old.view.own counter))) (3 * length (attached_to state.old.view.own counter)) state.old marks.old }
-    ensures effects { Effects (suc (3 * length (attached_to state.old.view.own counter))) (3 * length (attached_to state.old.view.own counter)) (λ v h. counts v counter h) state.old state.new marks.old marks.new }
-    ensures outbox { length state.new.border.outbox ≤ length state.old.border.outbox + posted_by state.old.view.own counter }
-{
-    let due = state.due_next(counter);
-    state.count(counter);
-    for slot in due.as_slice() {
-        expire(state, slot.alarm, marks);
-    }
-}
-
 // The alarm's line, and then its action.
-fn expire<const P: usize, const J: usize, const OUT: usize>(
+pub(crate) fn expire<const P: usize, const J: usize, const OUT: usize>(
     state: &mut CoreState<'_, P, J, OUT>,
     alarm: AlarmRef,
     marks: &mut Vec<Mark>,
@@ -56,7 +35,7 @@ fn expire<const P: usize, const J: usize, const OUT: usize>(
 }
 
 // A task of the core is acted on at once, another core's by an envelope without a reply.
-fn act<const P: usize, const J: usize, const OUT: usize>(
+pub(crate) fn act<const P: usize, const J: usize, const OUT: usize>(
     state: &mut CoreState<'_, P, J, OUT>,
     call: RemoteCall,
     marks: &mut Vec<Mark>,

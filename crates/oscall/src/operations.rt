@@ -5,7 +5,7 @@ ghost use Rattle.osbase.specs.Phases.{is_before_live};
 ghost use Rattle.osjobs.specs.Priorities.{is_own_runner};
 ghost use Rattle.osstate.specs.Does.{Effects, HasRoom, service_entries, service_marks};
 ghost use Rattle.osstate.specs.Sound.{has_objects_of};
-ghost use Rattle.oscall.specs.Expiring.{posted_at_once};
+ghost use Rattle.osplan.specs.Objects.{posted_at_once};
 ghost use Rattle.oscall.specs.Operations.{absolute_call, inquiry_call, operates, relative_call, setting_call};
 
 use crate::border::call;
@@ -13,6 +13,10 @@ use crate::chaining::chain;
 use crate::counters::{get_counter_value, increment_counter};
 use crate::events::{clear_event, get_event, wait_event};
 use crate::resources::{get_resource, release_resource};
+use crate::tables::{
+    get_schedule_table_status, next_schedule_table, start_schedule_table_abs,
+    start_schedule_table_rel, stop_schedule_table,
+};
 use crate::tasks::{schedule, terminate};
 use crate::variables::{add, add_variable, set, store_status};
 use osbase::{AlarmRef, Mark, RemoteCall, Runner, ServiceId, Status, TaskRef, Variable};
@@ -75,6 +79,17 @@ pub fn operate<const P: usize, const J: usize, const OUT: usize>(
         Op::GetAlarm(target, variable) => {
             let target = inquiry_of(target, variable);
             call(state, runner, ServiceId::GetAlarm, target, marks);
+        }
+        Op::StartScheduleTableRel(target, offset) => {
+            start_schedule_table_rel(state, runner, target, offset, marks);
+        }
+        Op::StartScheduleTableAbs(target, start) => {
+            start_schedule_table_abs(state, runner, target, start, marks);
+        }
+        Op::NextScheduleTable(from, to) => next_schedule_table(state, runner, from, to, marks),
+        Op::StopScheduleTable(target) => stop_schedule_table(state, runner, target, marks),
+        Op::GetScheduleTableStatus(target, _) => {
+            get_schedule_table_status(state, runner, target, marks);
         }
     }
 }

@@ -17,7 +17,7 @@ use Rattle.oscount.specs.declared.alarms.Expiry.{Expiry}
 use Rattle.oscount.specs.declared.counters.Counter.{Counter}
 use Rattle.oscount.specs.Clocks.{counts_until, expiry_at, is_due_next}
 use Rattle.oscount.proofs.Expiries.{left-is, next-due}
-use Rattle.osclock.specs.Clocks.{AreClocks, ClockState, alarm_in, alarm_refs, clocks_by, clocks_of, counter_for, counter_in, counts_to_by, counts_to_in, due_by, due_in, is_attached, is_due_by, is_due_in, is_in_use_by, is_used, left_by, left_in, max_of, no_counter, unset, value_by}
+use Rattle.osclock.specs.Clocks.{AreClocks, ClockState, alarm_in, alarm_refs, clocks_by, clocks_of, counter_for, counter_in, counts_to_by, counts_to_in, counts_to_value_by, counts_to_value_in, due_by, due_in, is_attached, is_due_by, is_due_in, is_in_use_by, is_used, left_by, left_in, max_of, no_counter, unset, value_by}
 use Rattle.osclock.proofs.Attached.{attached-counter, attached-own, kept-same}
 use Rattle.osclock.proofs.Bounds.{list-at}
 use Rattle.osclock.proofs.Places.{alarm-some}
@@ -63,6 +63,9 @@ counts_to-read core a start h within own = by (own_alarm core a) refl
         → (let k : Counter = option_map_or (λ (x : AlarmValue). counter_in x.counter (clocks_of core h)) o no_counter in counts_to k.max k.value start) ≡ option_map_or (λ (x : AlarmValue). counts_to (max_of core x.counter) (value_by core x.counter h) start) o 0
     by None e = absurd (false≢true (ap (λ (o : Option AlarmValue). is_some o) (sym e) ∙ alarm-some core a own))
     by (Some x) e = ap (λ (k : Counter). counts_to k.max k.value start) (counter-at core x.counter h (attached core a x within e))
+
+pub counts_to_value-read : (core : Core) (c : CounterRef) (start : ℕ) (h : History) → is_own_object core (counter_object c) ≡ true → counts_to_value_in c start (clocks_of core h) ≡ counts_to_value_by core c start h
+counts_to_value-read core c start h own = ap (λ (k : Counter). counts_to k.max k.value start) (counter-at core c h own)
 
 pub due-read : (core : Core) (a : AlarmRef) (h : History) → are_clocks_within core ≡ true → is_own_object core (alarm_object a) ≡ true → is_due_in core a (clocks_of core h) ≡ is_due_by core a h
 due-read core a h within own = ap (is_due_next (counter_for core a (clocks_of core h))) (alarm-at core a h own) ∙ by (own_alarm core a) refl

@@ -24,7 +24,7 @@ listed f G first (x ∷ xs) same =
     ap (λ y. y ∷ map f xs) (same 0 x refl ∙ ap G (let here : first + 0 ≡ first = omega arith in here))
     ∙ ap (λ ys. G first ∷ ys) (listed f G (first + 1) xs (λ k y at. same (suc k) y at ∙ ap G (let on : first + suc k ≡ first + 1 + k = omega arith in on)))
 
-repeated : {Y : Type 0} (y : Y) (G : ℕ → Y) (first count : ℕ) → ((n : ℕ) → y ≡ G n) → replicate count y ≡ map G (numbers_from first count)
+pub repeated : {Y : Type 0} (y : Y) (G : ℕ → Y) (first count : ℕ) → ((n : ℕ) → y ≡ G n) → replicate count y ≡ map G (numbers_from first count)
 repeated y G first zero same = refl
 repeated y G first (suc count) same = ap (λ z. z ∷ replicate count y) (same first) ∙ ap (λ ys. G first ∷ ys) (repeated y G (first + 1) count same)
 

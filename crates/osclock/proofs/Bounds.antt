@@ -1,5 +1,5 @@
 -- What holds of the clocks of a core within its limits.
-use Rattle.std.proofs.Common.{◌≡◌, ℕ, suc, ◌+◌, ◌<◌, ◌≤◌, ◌^◌, ◌%◌, Bool, true, false, cond, ◌&&◌, nat_le, All, IfSome, Option, Some, None, List, [], length, map, refl, ap, sym, subst, ◌∙◌, arith, get_or}
+use Rattle.std.proofs.Common.{◌≡◌, ℕ, suc, ◌+◌, ◌-◌, ◌<◌, ◌≤◌, ◌^◌, ◌%◌, Bool, true, false, cond, ◌&&◌, nat_le, All, IfSome, Option, Some, None, List, [], length, map, refl, ap, sym, subst, ◌∙◌, arith, get_or}
 use Rattle.std.specs.List.{slice_get}
 use Rattle.std.specs.Option.{option_map_or}
 use Rattle.std.proofs.Math.Nat.{mod-eq_of_lt, mod-lt}
@@ -9,7 +9,7 @@ use Rattle.std.proofs.lemmas.List.Elements.{All-same}
 use Rattle.arrayvec.specs.ArrayVec.{ArrayVec as Items}
 use Rattle.osbase.specs.declared.references.AlarmRef.{AlarmRef}
 use Rattle.osbase.specs.declared.references.CounterRef.{CounterRef}
-use Rattle.osbase.specs.Counting.{AlarmSetting, alarm_of, counts_left, counts_of, is_in_turn, will_be_due}
+use Rattle.osbase.specs.Counting.{AlarmSetting, alarm_of, counts_left, counts_of, counts_to, is_in_turn, will_be_due}
 use Rattle.osbase.specs.Objects.{alarm_object, counter_object}
 use Rattle.osbase.specs.Sets.{numbers_from}
 use Rattle.osbase.proofs.Tables.{table-at}
@@ -88,6 +88,12 @@ counter-within core s c clocks own =
   where
     below : counts_of c clocks.history % suc (max_of core c) < suc (max_of core c)
     below = mod-lt (counts_of c clocks.history) (omega arith)
+
+-- the counts to a value are within a turn
+pub turn-within : (max value start : ℕ) → counts_to max value start ≤ suc max
+turn-within max value start =
+    let less : (start + max - value) % suc max < suc max = mod-lt (start + max - value) (omega arith) in
+    omega (arith, less)
 
 -- the counter of an own alarm
 pub counter-of : (core : Core) (s : ClockState) (a : AlarmRef) → AreClocks core s → is_own_object core (alarm_object a) ≡ true → IsCounter (max_for core a) (counter_for core a s)

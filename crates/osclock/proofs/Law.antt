@@ -1,9 +1,9 @@
 -- What an entry does to the state is what it does to what is read off the history.
 use Rattle.std.proofs.Common.{◌≡◌, ℕ, suc, ◌+◌, ◌<◌, ◌%◌, Bool, true, false, cond, ◌&&◌, Option, Some, None, is_some, option_map, List, ◌∷◌, length, refl, ap, sym, ◌∙◌, arith, get_or}
-use Rattle.std.specs.List.{list_all, slice_get, slice_set}
+use Rattle.std.specs.List.{slice_get, slice_set}
 use Rattle.std.specs.Option.{option_map_or}
 use Rattle.std.proofs.Math.Nat.{mod-add-mod}
-use Rattle.std.proofs.lemmas.Bool.{and_parts, cond-false, cond-true, false≢true}
+use Rattle.std.proofs.lemmas.Bool.{cond-false, cond-true, false≢true}
 use Rattle.osbase.specs.declared.references.AlarmRef.{AlarmRef}
 use Rattle.osbase.specs.declared.references.CounterRef.{CounterRef}
 use Rattle.osbase.specs.History.{History, Entry, Noted, Counted, AlarmSet, AlarmCancelled, same_core}
@@ -15,6 +15,7 @@ use Rattle.osplan.specs.declared.plans.Core.{Core}
 use Rattle.osplan.specs.Clocked.{are_clocks_within, is_alarm_attached}
 use Rattle.osplan.specs.Objects.{is_own_object}
 use Rattle.osplan.specs.View.{own_alarm}
+use Rattle.osplan.proofs.Clocked.{clock-parts}
 use Rattle.osplan.proofs.Tests.{passes-at}
 use Rattle.oscount.specs.declared.counters.Counter.{Counter}
 use Rattle.oscount.specs.declared.alarms.Alarm.{Alarm}
@@ -40,7 +41,7 @@ pub attached : (core : Core) (a : AlarmRef) (x : AlarmValue) → are_clocks_with
 attached core a x within own = by (same_core a.core core.id) own
   where
     by : (b : Bool) → cond b (slice_get core.alarms a.index) None ≡ Some x → is_own_object core (counter_object x.counter) ≡ true
-    by true e = passes-at (is_alarm_attached core) core.alarms a.index x (and_parts _ (list_all (is_alarm_attached core) core.alarms) within).1 e
+    by true e = passes-at (is_alarm_attached core) core.alarms a.index x (clock-parts core within).attached e
     by false e = cc
 
 abbrev pub read : Core → AlarmRef → History → AlarmValue → Alarm

@@ -88,9 +88,13 @@ left_by core a h = left_of (max_for core a) (setting_by core a h)
 abbrev pub is_due_by : Core → AlarmRef → History → Bool
 is_due_by core a h = is_due (max_for core a) (option_map one_count_more (setting_by core a h))
 
--- After how many counts its counter has this value, the present one after a full turn. [OSEK/VDX OS 2.2.3, section 13.6.3.4]
+-- After how many counts a counter has this value, the present one after a full turn; and so the counter of an alarm.
+-- [OSEK/VDX OS 2.2.3, section 13.6.3.4; AUTOSAR SWS OS 4.x, SWS_Os_00351]
+abbrev pub counts_to_value_by : Core → CounterRef → ℕ → History → ℕ
+counts_to_value_by core c start h = counts_to (max_of core c) (value_by core c h) start
+
 abbrev pub counts_to_by : Core → AlarmRef → ℕ → History → ℕ
-counts_to_by core a start h = option_map_or (λ (x : AlarmValue). counts_to (max_of core x.counter) (value_by core x.counter h) start) (own_alarm core a) 0
+counts_to_by core a start h = option_map_or (λ (x : AlarmValue). counts_to_value_by core x.counter start h) (own_alarm core a) 0
 
 -- The alarms of a counter that are due at its next count, in index order: the order in which they expire at that count. [own]
 abbrev pub due_by : Core → CounterRef → History → List AlarmRef
@@ -153,6 +157,9 @@ is_due_in core a s = is_due_next (counter_for core a s) (alarm_in a s)
 
 abbrev pub due_in : Core → CounterRef → ClockState → List AlarmRef
 due_in core c s = filter (λ (a : AlarmRef). is_due_in core a s) (attached_to core c)
+
+abbrev pub counts_to_value_in : CounterRef → ℕ → ClockState → ℕ
+counts_to_value_in c start s = counts_to (counter_in c s).max (counter_in c s).value start
 
 abbrev pub counts_to_in : Core → AlarmRef → ℕ → ClockState → ℕ
 counts_to_in core a start s = counts_to (counter_for core a s).max (counter_for core a s).value start

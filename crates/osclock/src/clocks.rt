@@ -11,7 +11,7 @@ ghost use Rattle.osplan.specs.declared.plans.Counter.{Counter as CounterValue};
 ghost use Rattle.osplan.specs.Clocked.{are_clocks_within};
 ghost use Rattle.osplan.specs.Objects.{is_own_object};
 ghost use Rattle.oscount.specs.Clocks.{counter_at, is_due_next};
-ghost use Rattle.osclock.specs.Clocks.{AreClocks, IsBounded, alarm_in, alarm_ref, all_beyond, attached_to, clocks_by, clocks_of, counter_for, counter_in, counter_ref, counts_to_in, due_after, due_in, is_attached, is_used, left_in, max_for, unset};
+ghost use Rattle.osclock.specs.Clocks.{AreClocks, IsBounded, alarm_in, alarm_ref, all_beyond, attached_to, clocks_by, clocks_of, counter_for, counter_in, counter_ref, counts_to_in, counts_to_value_in, due_after, due_in, is_attached, is_used, left_in, max_for, max_of, unset};
 
 use crate::slots::AlarmSlot;
 use arrayvec::ArrayVec;
@@ -135,6 +135,19 @@ impl Clocks {
         ensures turn { result ≤ suc (max_for core.now alarm) }
     {
         oscount::counts_to(self.counter_for(core, alarm), start)
+    }
+
+    /// After how many counts a counter of the core has this value; the value that it has is a full turn away (AUTOSAR SWS
+    /// OS 4.x, SWS_Os_00351).
+    pub fn counts_to_value(&self, core: &Core, counter: CounterRef, start: u32) -> u32
+        requires clocks { AreClocks core.now self.now }
+        requires own { IsTrue (is_own_object core.now (counter_object counter)) }
+        requires turn { start ≤ max_of core.now counter }
+        ensures state { result ≡ counts_to_value_in counter start self.now }
+        ensures later { 0 < result }
+        ensures turn { result ≤ suc (max_of core.now counter) }
+    {
+        oscount::counts_to(self.counter(counter), start)
     }
 
     /// The alarms of a counter of the core that are due at its next count (OSEK/VDX OS 2.2.3, section 9.2).

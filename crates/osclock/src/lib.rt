@@ -6,5 +6,5 @@
 pub mod clocks;
 pub mod slots;
 
-pub use clocks::{AlarmList, Clocks};
+pub use clocks::{AlarmList, COUNTERS, Clocks};
 pub use slots::AlarmSlot;

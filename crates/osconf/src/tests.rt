@@ -7,6 +7,7 @@ mod limits;
 mod names;
 mod operations;
 mod resources;
+mod tables;
 
 use crate::{ConfFault, config_text, cut, is_separate, read_config, read_schedule, read_stimuli};
 use osbase::{Choice, CoreId};
@@ -203,7 +204,7 @@ fn too_many_words_are_a_limit(rt: HostRuntime) -> Result<(), Fail> {
 #[test]
 fn tasks_are_written_and_read_back_in_their_order(rt: HostRuntime) -> Result<(), Fail> {
     let written =
-        "{\"cap\":16,\"cores\":[{\"alarms\":[],\"counters\":[],\"id\":0,\"resources\":[],\"start\":[],\"tasks\":[{\"activations\":60,\"auto\":[],\"extended\":false,\"name\":\"B\",\"preemptable\":false,\"prio\":31,\"script\":\"ActivateTask A;TerminateTask\"},{\"activations\":3,\"auto\":[\"M\"],\"extended\":false,\"name\":\"A\",\"preemptable\":true,\"prio\":0,\"script\":\"ActivateTask C\"},{\"activations\":1,\"auto\":[\"M\"],\"extended\":false,\"name\":\"C\",\"preemptable\":true,\"prio\":0,\"script\":\"\"}]}],\"master\":0,\"version\":1}";
+        "{\"cap\":16,\"cores\":[{\"alarms\":[],\"counters\":[],\"id\":0,\"resources\":[],\"start\":[],\"tables\":[],\"tasks\":[{\"activations\":60,\"auto\":[],\"extended\":false,\"name\":\"B\",\"preemptable\":false,\"prio\":31,\"script\":\"ActivateTask A;TerminateTask\"},{\"activations\":3,\"auto\":[\"M\"],\"extended\":false,\"name\":\"A\",\"preemptable\":true,\"prio\":0,\"script\":\"ActivateTask C\"},{\"activations\":1,\"auto\":[\"M\"],\"extended\":false,\"name\":\"C\",\"preemptable\":true,\"prio\":0,\"script\":\"\"}]}],\"master\":0,\"version\":1}";
     let text = config_text(rt.alloc(), &read_config(rt.alloc(), written)?)?;
     assert!(rt; text.as_str() == written);
     Ok(())
@@ -212,7 +213,7 @@ fn tasks_are_written_and_read_back_in_their_order(rt: HostRuntime) -> Result<(),
 #[test]
 fn a_configuration_is_written_and_read_back(rt: HostRuntime) -> Result<(), Fail> {
     let written =
-        "{\"cap\":16,\"cores\":[{\"alarms\":[],\"counters\":[],\"id\":0,\"resources\":[],\"start\":[1],\"tasks\":[{\"activations\":1,\"auto\":[\"M\"],\"extended\":false,\"name\":\"A\",\"preemptable\":true,\"prio\":1,\"script\":\"ActivateTask B;TerminateTask\"}]},{\"alarms\":[],\"counters\":[],\"id\":1,\"resources\":[],\"start\":[],\"tasks\":[{\"activations\":1,\"auto\":[],\"extended\":false,\"name\":\"B\",\"preemptable\":true,\"prio\":1,\"script\":\"TerminateTask\"}]}],\"master\":0,\"version\":1}";
+        "{\"cap\":16,\"cores\":[{\"alarms\":[],\"counters\":[],\"id\":0,\"resources\":[],\"start\":[1],\"tables\":[],\"tasks\":[{\"activations\":1,\"auto\":[\"M\"],\"extended\":false,\"name\":\"A\",\"preemptable\":true,\"prio\":1,\"script\":\"ActivateTask B;TerminateTask\"}]},{\"alarms\":[],\"counters\":[],\"id\":1,\"resources\":[],\"start\":[],\"tables\":[],\"tasks\":[{\"activations\":1,\"auto\":[],\"extended\":false,\"name\":\"B\",\"preemptable\":true,\"prio\":1,\"script\":\"TerminateTask\"}]}],\"master\":0,\"version\":1}";
     let text = config_text(rt.alloc(), &read_config(rt.alloc(), TWO_CORES)?)?;
     assert!(rt; text.as_str() == written);
     let again = config_text(rt.alloc(), &read_config(rt.alloc(), written)?)?;
@@ -230,7 +231,7 @@ fn a_separate_core_is_cut_printed_and_read(rt: HostRuntime) -> Result<(), Fail> 
     let alone = cut(rt.alloc(), &config, CoreId { number: 2 })?;
     let text = config_text(rt.alloc(), &alone)?;
     let written =
-        "{\"cap\":2,\"cores\":[{\"alarms\":[],\"counters\":[],\"id\":2,\"resources\":[],\"start\":[],\"tasks\":[{\"activations\":1,\"auto\":[\"M\"],\"extended\":false,\"name\":\"V\",\"preemptable\":true,\"prio\":1,\"script\":\"work;ActivateTask V;ActivateTask ?;TerminateTask\"}]}],\"master\":2,\"version\":1}";
+        "{\"cap\":2,\"cores\":[{\"alarms\":[],\"counters\":[],\"id\":2,\"resources\":[],\"start\":[],\"tables\":[],\"tasks\":[{\"activations\":1,\"auto\":[\"M\"],\"extended\":false,\"name\":\"V\",\"preemptable\":true,\"prio\":1,\"script\":\"work;ActivateTask V;ActivateTask ?;TerminateTask\"}]}],\"master\":2,\"version\":1}";
     assert!(rt; text.as_str() == written);
     let read = read_config(rt.alloc(), text.as_str())?;
     assert!(rt; config_text(rt.alloc(), &read)?.as_str() == written);

@@ -3,18 +3,19 @@ use Rattle.std.proofs.Common.{◌≡◌, ℕ, Bool, true, List, [], ◌∷◌, O
 use Rattle.std.specs.List.{list_all, slice_get}
 use Rattle.std.proofs.lemmas.Bool.{and_parts, false≢true}
 use Rattle.osbase.specs.declared.references.AlarmRef.{AlarmRef}
+use Rattle.osbase.specs.declared.references.TableRef.{TableRef}
 use Rattle.osbase.specs.declared.references.CounterRef.{CounterRef}
 use Rattle.osbase.specs.declared.references.ResourceRef.{ResourceRef}
 use Rattle.osbase.specs.declared.references.TaskRef.{TaskRef}
-use Rattle.osbase.specs.Objects.{alarm_of, counter_of, resource_of, task_of}
-use Rattle.osbase.specs.declared.objects.ObjectKind.TheVariants.{Task, Resource, Counter, Alarm}
+use Rattle.osbase.specs.Objects.{alarm_of, counter_of, resource_of, table_of, task_of}
+use Rattle.osbase.specs.declared.objects.ObjectKind.TheVariants.{Task, Resource, Counter, Alarm, Table}
 use Rattle.osbase.specs.declared.objects.Place.{Place}
 use Rattle.osbase.specs.declared.objects.Object.{Object as Named}
 use Rattle.oscript.specs.declared.rows.Arg.{Arg}
 use Rattle.oscript.specs.declared.rows.Arg.TheVariants.{Object, Mask, Number, Int, Variable}
 use Rattle.oscript.specs.declared.rows.Kind.{Kind}
-use Rattle.oscript.specs.declared.rows.TheConstants.{ALARM, COUNTER, RESOURCE, TASK}
-use Rattle.oscript.specs.Rows.{alarm_argument, are_of, counter_argument, int_in, is_of, mask_in, number_in, objects_in, place_in, resource_argument, task_argument, variable_in}
+use Rattle.oscript.specs.declared.rows.TheConstants.{ALARM, COUNTER, RESOURCE, TABLE, TASK}
+use Rattle.oscript.specs.Rows.{alarm_argument, are_of, counter_argument, int_in, is_of, mask_in, number_in, objects_in, place_in, resource_argument, table_argument, task_argument, variable_in}
 
 -- an object's argument is taken back
 pub task-back : (target : Option TaskRef) → option_map task_of (place_in Task (Some (task_argument target))) ≡ target
@@ -32,6 +33,10 @@ counter-back (Some c) = refl
 pub alarm-back : (target : Option AlarmRef) → option_map alarm_of (place_in Alarm (Some (alarm_argument target))) ≡ target
 alarm-back None = refl
 alarm-back (Some a) = refl
+
+pub table-back : (target : Option TableRef) → option_map table_of (place_in Table (Some (table_argument target))) ≡ target
+table-back None = refl
+table-back (Some a) = refl
 
 -- the objects of the later arguments
 pub rest-pass : (p : Named → Bool) (arg : Arg Place) (args : List (Arg Place)) → list_all p (objects_in (arg ∷ args)) ≡ true → list_all p (objects_in args) ≡ true
@@ -78,6 +83,14 @@ alarm-same a is = absurd (false≢true is)
 
 pub alarm-kept : Kept ALARM (λ o. alarm_argument (option_map alarm_of (place_in Alarm o)))
 alarm-kept = record { same = alarm-same }
+
+table-same : (a : Arg Place) → is_of TABLE a ≡ true → table_argument (option_map table_of (place_in Table (Some a))) ≡ a
+table-same (Object Table None) is = refl
+table-same (Object Table (Some place)) is = refl
+table-same a is = absurd (false≢true is)
+
+pub table-kept : Kept TABLE (λ o. table_argument (option_map table_of (place_in Table o)))
+table-kept = record { same = table-same }
 
 mask-same : (a : Arg Place) → is_of Kind.Mask a ≡ true → Mask (mask_in (Some a)) ≡ a
 mask-same (Mask mask) is = refl

@@ -1,15 +1,16 @@
 -- The grammar of operations: a row for each. An operation as its verb and its arguments, and the objects that it names.
 use Rattle.std.specs.Prelude.{ℕ, ◌&&◌, nat_le, ℤ, pos, negsuc, Bool, true, false, if◌then◌else◌, Option, Some, None, List, [], ◌∷◌, codes, option_map, filter_map, slice_get}
 use Rattle.std.specs.List.{list_all}
-use Rattle.osbase.specs.Objects.{alarm_of, alarm_place, counter_of, counter_place, resource_of, resource_place, same_kind, task_of, task_place}
+use Rattle.osbase.specs.Objects.{alarm_of, alarm_place, counter_of, counter_place, resource_of, resource_place, same_kind, table_of, table_place, task_of, task_place}
 use Rattle.osbase.specs.Words.{service_name}
 use Rattle.osbase.specs.declared.objects.Object.{Object as Named}
 use Rattle.osbase.specs.declared.objects.ObjectKind.{ObjectKind}
-use Rattle.osbase.specs.declared.objects.ObjectKind.TheVariants.{Task, Resource, Counter, Alarm}
+use Rattle.osbase.specs.declared.objects.ObjectKind.TheVariants.{Task, Resource, Counter, Alarm, Table}
 use Rattle.osbase.specs.declared.objects.Place.{Place}
 use Rattle.osbase.specs.declared.references.AlarmRef.{AlarmRef}
 use Rattle.osbase.specs.declared.references.CounterRef.{CounterRef}
 use Rattle.osbase.specs.declared.references.ResourceRef.{ResourceRef}
+use Rattle.osbase.specs.declared.references.TableRef.{TableRef}
 use Rattle.osbase.specs.declared.references.TaskRef.{TaskRef}
 use Rattle.osbase.specs.declared.references.Variable.{Variable as VariableRef}
 use Rattle.osbase.specs.declared.statuses.ServiceId.TheVariants as Service
@@ -22,7 +23,7 @@ use Rattle.oscript.specs.declared.rows.Args.{Args}
 use Rattle.oscript.specs.declared.rows.Form.{Form}
 use Rattle.oscript.specs.declared.rows.Kind.{Kind}
 use Rattle.oscript.specs.declared.rows.Row.{Row}
-use Rattle.oscript.specs.declared.rows.TheConstants.{ALARM, COUNTER, POSITION, RESOURCE, TASK, TICKS}
+use Rattle.oscript.specs.declared.rows.TheConstants.{ALARM, COUNTER, POSITION, RESOURCE, TABLE, TASK, TICKS}
 use Rattle.oscript.specs.declared.rows.Verb.{Verb}
 
 -- The arguments, from the left.
@@ -68,6 +69,11 @@ row_of Verb.SetRelAlarm = service_row Service.SetRelAlarm (Three ALARM TICKS TIC
 row_of Verb.SetAbsAlarm = service_row Service.SetAbsAlarm (Three ALARM TICKS TICKS)
 row_of Verb.CancelAlarm = service_row Service.CancelAlarm (One ALARM)
 row_of Verb.GetAlarm = service_row Service.GetAlarm (Two ALARM Kind.Variable)
+row_of Verb.StartScheduleTableRel = service_row Service.StartScheduleTableRel (Two TABLE TICKS)
+row_of Verb.StartScheduleTableAbs = service_row Service.StartScheduleTableAbs (Two TABLE TICKS)
+row_of Verb.NextScheduleTable = service_row Service.NextScheduleTable (Two TABLE TABLE)
+row_of Verb.StopScheduleTable = service_row Service.StopScheduleTable (One TABLE)
+row_of Verb.GetScheduleTableStatus = service_row Service.GetScheduleTableStatus (Two TABLE Kind.Variable)
 
 abbrev pub word_of : Verb → List ℕ
 word_of verb = (row_of verb).0
@@ -104,6 +110,9 @@ counter_at args i = option_map counter_of (place_at Counter args i)
 
 abbrev pub alarm_at : List (Arg Place) → ℕ → Option AlarmRef
 alarm_at args i = option_map alarm_of (place_at Alarm args i)
+
+abbrev pub table_at : List (Arg Place) → ℕ → Option TableRef
+table_at args i = option_map table_of (place_at Table args i)
 
 -- The events of the mask at this place.
 abbrev pub mask_in : Option (Arg Place) → ℕ
@@ -160,6 +169,11 @@ op_by Verb.SetRelAlarm args = Op.SetRelAlarm (alarm_at args 0) (number_at args 1
 op_by Verb.SetAbsAlarm args = Op.SetAbsAlarm (alarm_at args 0) (number_at args 1) (number_at args 2)
 op_by Verb.CancelAlarm args = Op.CancelAlarm (alarm_at args 0)
 op_by Verb.GetAlarm args = Op.GetAlarm (alarm_at args 0) (variable_at args 1)
+op_by Verb.StartScheduleTableRel args = Op.StartScheduleTableRel (table_at args 0) (number_at args 1)
+op_by Verb.StartScheduleTableAbs args = Op.StartScheduleTableAbs (table_at args 0) (number_at args 1)
+op_by Verb.NextScheduleTable args = Op.NextScheduleTable (table_at args 0) (table_at args 1)
+op_by Verb.StopScheduleTable args = Op.StopScheduleTable (table_at args 0)
+op_by Verb.GetScheduleTableStatus args = Op.GetScheduleTableStatus (table_at args 0) (variable_at args 1)
 
 -- The operation of a form. [own]
 abbrev pub op_of : Verb × List (Arg Place) → Op
@@ -176,6 +190,9 @@ counter_argument target = Object Counter (option_map counter_place target)
 
 abbrev pub alarm_argument : Option AlarmRef → Arg Place
 alarm_argument target = Object Alarm (option_map alarm_place target)
+
+abbrev pub table_argument : Option TableRef → Arg Place
+table_argument target = Object Table (option_map table_place target)
 
 -- The form of an operation. [own]
 abbrev pub form_of_op : Op → Verb × List (Arg Place)
@@ -202,6 +219,11 @@ form_of_op (Op.SetRelAlarm target increment cycle) = (Verb.SetRelAlarm, alarm_ar
 form_of_op (Op.SetAbsAlarm target start cycle) = (Verb.SetAbsAlarm, alarm_argument target ∷ Number start ∷ Number cycle ∷ [])
 form_of_op (Op.CancelAlarm target) = (Verb.CancelAlarm, alarm_argument target ∷ [])
 form_of_op (Op.GetAlarm target x) = (Verb.GetAlarm, alarm_argument target ∷ Variable x.index ∷ [])
+form_of_op (Op.StartScheduleTableRel target offset) = (Verb.StartScheduleTableRel, table_argument target ∷ Number offset ∷ [])
+form_of_op (Op.StartScheduleTableAbs target start) = (Verb.StartScheduleTableAbs, table_argument target ∷ Number start ∷ [])
+form_of_op (Op.NextScheduleTable from to) = (Verb.NextScheduleTable, table_argument from ∷ table_argument to ∷ [])
+form_of_op (Op.StopScheduleTable target) = (Verb.StopScheduleTable, table_argument target ∷ [])
+form_of_op (Op.GetScheduleTableStatus target x) = (Verb.GetScheduleTableStatus, table_argument target ∷ Variable x.index ∷ [])
 
 -- ---- arguments of their kinds
 
@@ -261,4 +283,9 @@ names_own_only (Op.GetResource target) = true
 names_own_only (Op.ReleaseResource target) = true
 names_own_only (Op.GetEvent target x) = true
 names_own_only (Op.GetCounterValue target x) = true
+names_own_only (Op.StartScheduleTableRel target offset) = true
+names_own_only (Op.StartScheduleTableAbs target start) = true
+names_own_only (Op.NextScheduleTable from to) = true
+names_own_only (Op.StopScheduleTable target) = true
+names_own_only (Op.GetScheduleTableStatus target x) = true
 names_own_only op = false

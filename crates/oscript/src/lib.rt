@@ -6,8 +6,8 @@ pub mod rows;
 ghost use Rattle.std.specs.Prelude.{◌≡◌, ◌<◌, ◌^◌};
 ghost use Rattle.oscript.specs.Frames.{action_at, completed, new_frame, op_has_status, place_after, position_of, result_of, rewound, stored, value_of, with_value};
 
-use osbase::{AlarmRef, CounterRef, List, ResourceRef, Status, TaskRef, Variable};
-pub use rows::{Arg, Args, Form, Kind, Row, VERBS, Verb, form_of_op, op_of, row_of};
+use osbase::{AlarmRef, CounterRef, List, ResourceRef, Status, TableRef, TaskRef, Variable};
+pub use rows::{Arg, Args, Form, Kind, Row, VERBS, Verb, form_of_op, op_of, row_of, verb_of};
 
 /// One operation of a script. In place of an object, `None` is the invalid identifier, `?`.
 #[derive(Clone, Copy, Debug, PartialEq, Eq)]
@@ -60,6 +60,17 @@ pub enum Op {
     CancelAlarm(Option<AlarmRef>),
     /// GetAlarm: the variable gets the ticks that are left (OSEK/VDX OS 2.2.3, section 13.6.3.2).
     GetAlarm(Option<AlarmRef>, Variable),
+    /// StartScheduleTableRel: the first period begins after so many ticks (AUTOSAR SWS OS 4.x, SWS_Os_00347).
+    StartScheduleTableRel(Option<TableRef>, u32),
+    /// StartScheduleTableAbs: the first period begins when the counter reaches this value (AUTOSAR SWS OS 4.x,
+    /// SWS_Os_00358).
+    StartScheduleTableAbs(Option<TableRef>, u32),
+    /// NextScheduleTable: the second table waits for the end of a period of the first (AUTOSAR SWS OS 4.x, SWS_Os_00191).
+    NextScheduleTable(Option<TableRef>, Option<TableRef>),
+    /// StopScheduleTable (AUTOSAR SWS OS 4.x, SWS_Os_00006).
+    StopScheduleTable(Option<TableRef>),
+    /// GetScheduleTableStatus: the variable gets the number of the status (AUTOSAR SWS OS 4.x, SWS_Os_00227).
+    GetScheduleTableStatus(Option<TableRef>, Variable),
 }
 
 impl Op {
@@ -67,7 +78,7 @@ impl Op {
     pub fn has_status(self) -> bool
         ensures { result ≡ op_has_status self }
     {
-        row_of(form_of_op(self).verb).service.is_some()
+        row_of(verb_of(self)).service.is_some()
     }
 
     /// The variable that gets the operation's value, if it has one.
@@ -82,6 +93,7 @@ impl Op {
             Op::GetEvent(_, variable) => Some(variable),
             Op::GetCounterValue(_, variable) => Some(variable),
             Op::GetAlarm(_, variable) => Some(variable),
+            Op::GetScheduleTableStatus(_, variable) => Some(variable),
             _ => None,
         }
     }

@@ -2,12 +2,13 @@
 //! that it names.
 
 ghost use Rattle.std.specs.Prelude.{◌≡◌, List, [], ◌∷◌, filter_map, option_map, slice_get};
-ghost use Rattle.osbase.specs.Objects.{alarm_of, counter_of, resource_of, task_of};
-ghost use Rattle.oscript.specs.Rows.{alarm_argument, alarm_at, counter_argument, counter_at, form_of_op, form_view, has_masks, int_at, items, mask_at, names_own_only, number_at, object_in, objects_of, op_of, place_at, plain_row, resource_argument, resource_at, row_of, row_view, service_row, task_at, task_argument, variable_at};
+ghost use Rattle.osbase.specs.Objects.{alarm_of, counter_of, resource_of, table_of, task_of};
+ghost use Rattle.oscript.specs.Rows.{alarm_argument, alarm_at, counter_argument, counter_at, form_of_op, form_view, has_masks, int_at, items, mask_at, names_own_only, number_at, object_in, objects_of, op_of, place_at, plain_row, resource_argument, resource_at, row_of, row_view, service_row, table_argument, table_at, task_at, task_argument, variable_at};
 
 use crate::Op;
 use osbase::{
-    AlarmRef, CounterRef, Object, ObjectKind, Place, ResourceRef, ServiceId, TaskRef, Variable,
+    AlarmRef, CounterRef, Object, ObjectKind, Place, ResourceRef, ServiceId, TableRef, TaskRef,
+    Variable,
 };
 
 /// What an argument of an operation has to be.
@@ -60,6 +61,11 @@ pub enum Verb {
     SetAbsAlarm,
     CancelAlarm,
     GetAlarm,
+    StartScheduleTableRel,
+    StartScheduleTableAbs,
+    NextScheduleTable,
+    StopScheduleTable,
+    GetScheduleTableStatus,
 }
 
 /// One row of the grammar: an operation's word, the kinds of its arguments, and the service that it
@@ -72,7 +78,7 @@ pub struct Row {
 }
 
 /// Every operation. A word is looked for from the front, so what scripts have most stands first.
-pub const VERBS: [Verb; 23] = [
+pub const VERBS: [Verb; 28] = [
     Verb::ActivateTask,
     Verb::TerminateTask,
     Verb::Work,
@@ -96,6 +102,11 @@ pub const VERBS: [Verb; 23] = [
     Verb::SetAbsAlarm,
     Verb::CancelAlarm,
     Verb::GetAlarm,
+    Verb::StartScheduleTableRel,
+    Verb::StartScheduleTableAbs,
+    Verb::NextScheduleTable,
+    Verb::StopScheduleTable,
+    Verb::GetScheduleTableStatus,
 ];
 
 /// A task's name, or `?`.
@@ -109,6 +120,9 @@ pub const COUNTER: Kind = Kind::Object(ObjectKind::Counter);
 
 /// An alarm's name, or `?`.
 pub const ALARM: Kind = Kind::Object(ObjectKind::Alarm);
+
+/// A schedule table's name, or `?`.
+pub const TABLE: Kind = Kind::Object(ObjectKind::Table);
 
 /// Ticks of a counter, or a value of one: any number of 32 bits.
 pub const TICKS: Kind = Kind::Number(0, 4294967295);
@@ -171,6 +185,20 @@ pub fn row_of(verb: Verb) -> Row
         Verb::SetAbsAlarm => service_row(ServiceId::SetAbsAlarm, Args::Three(ALARM, TICKS, TICKS)),
         Verb::CancelAlarm => service_row(ServiceId::CancelAlarm, Args::One(ALARM)),
         Verb::GetAlarm => service_row(ServiceId::GetAlarm, Args::Two(ALARM, Kind::Variable)),
+        Verb::StartScheduleTableRel => {
+            service_row(ServiceId::StartScheduleTableRel, Args::Two(TABLE, TICKS))
+        }
+        Verb::StartScheduleTableAbs => {
+            service_row(ServiceId::StartScheduleTableAbs, Args::Two(TABLE, TICKS))
+        }
+        Verb::NextScheduleTable => {
+            service_row(ServiceId::NextScheduleTable, Args::Two(TABLE, TABLE))
+        }
+        Verb::StopScheduleTable => service_row(ServiceId::StopScheduleTable, Args::One(TABLE)),
+        Verb::GetScheduleTableStatus => service_row(
+            ServiceId::GetScheduleTableStatus,
+            Args::Two(TABLE, Kind::Variable),
+        ),
     }
 }
 
@@ -282,6 +310,21 @@ fn alarm_at(args: Args<Arg<Place>>, i: usize) -> Option<AlarmRef>
     alarm_in(place_at(args, ObjectKind::Alarm, i))
 }
 
+#[inline(always)]
+fn table_in(target: Option<Place>) -> Option<TableRef>
+    ensures { result ≡ option_map table_of target }
+{
+    Some(TableRef::at(target?))
+}
+
+// The schedule table that the argument at this place names.
+#[inline(always)]
+fn table_at(args: Args<Arg<Place>>, i: usize) -> Option<TableRef>
+    ensures { result ≡ table_at (items args) i }
+{
+    table_in(place_at(args, ObjectKind::Table, i))
+}
+
 // The mask at this place.
 #[inline(always)]
 fn mask_at(args: Args<Arg<Place>>, i: usize) -> u32
@@ -361,13 +404,18 @@ pub fn op_of(form: Form<Place>) -> Op
         }
         Verb::CancelAlarm => Op::CancelAlarm(alarm_at(args, 0)),
         Verb::GetAlarm => Op::GetAlarm(alarm_at(args, 0), variable_at(args, 1)),
+        Verb::StartScheduleTableRel => {
+            Op::StartScheduleTableRel(table_at(args, 0), number_at(args, 1))
+        }
+        Verb::StartScheduleTableAbs => {
+            Op::StartScheduleTableAbs(table_at(args, 0), number_at(args, 1))
+        }
+        Verb::NextScheduleTable => Op::NextScheduleTable(table_at(args, 0), table_at(args, 1)),
+        Verb::StopScheduleTable => Op::StopScheduleTable(table_at(args, 0)),
+        Verb::GetScheduleTableStatus => {
+            Op::GetScheduleTableStatus(table_at(args, 0), variable_at(args, 1))
+        }
     }
-}
-
-fn formed(verb: Verb, args: Args<Arg<Place>>) -> Form<Place>
-    ensures { form_view result ≡ (verb, items args) }
-{
-    Form { verb, args }
 }
 
 fn task_argument(target: Option<TaskRef>) -> Arg<Place>
@@ -406,6 +454,15 @@ fn alarm_argument(target: Option<AlarmRef>) -> Arg<Place>
     }
 }
 
+fn table_argument(target: Option<TableRef>) -> Arg<Place>
+    ensures { result ≡ table_argument target }
+{
+    match target {
+        Some(table) => Arg::Object(ObjectKind::Table, Some(table.place())),
+        None => Arg::Object(ObjectKind::Table, None),
+    }
+}
+
 fn timed_arguments(target: Option<AlarmRef>, first: u32, cycle: u32) -> Args<Arg<Place>>
     ensures { items result ≡ alarm_argument target ∷ Arg.Number first ∷ Arg.Number cycle ∷ [] }
 {
@@ -422,63 +479,94 @@ fn variable_argument(variable: Variable) -> Arg<Place>
     Arg::Variable(variable.index)
 }
 
+/// What an operation does.
+pub fn verb_of(op: Op) -> Verb
+    ensures { result ≡ (form_of_op op).0 }
+{
+    match op {
+        Op::Work => Verb::Work,
+        Op::Set(_, _) => Verb::Set,
+        Op::Add(_, _) => Verb::Add,
+        Op::AddVariable(_, _) => Verb::AddVariable,
+        Op::StoreStatus(_) => Verb::StoreStatus,
+        Op::Jump(_) => Verb::Jump,
+        Op::JumpIfZero(_, _) => Verb::JumpIfZero,
+        Op::ActivateTask(_) => Verb::ActivateTask,
+        Op::TerminateTask => Verb::TerminateTask,
+        Op::ChainTask(_) => Verb::ChainTask,
+        Op::Schedule => Verb::Schedule,
+        Op::GetResource(_) => Verb::GetResource,
+        Op::ReleaseResource(_) => Verb::ReleaseResource,
+        Op::SetEvent(_, _) => Verb::SetEvent,
+        Op::ClearEvent(_) => Verb::ClearEvent,
+        Op::GetEvent(_, _) => Verb::GetEvent,
+        Op::WaitEvent(_) => Verb::WaitEvent,
+        Op::IncrementCounter(_) => Verb::IncrementCounter,
+        Op::GetCounterValue(_, _) => Verb::GetCounterValue,
+        Op::SetRelAlarm(_, _, _) => Verb::SetRelAlarm,
+        Op::SetAbsAlarm(_, _, _) => Verb::SetAbsAlarm,
+        Op::CancelAlarm(_) => Verb::CancelAlarm,
+        Op::GetAlarm(_, _) => Verb::GetAlarm,
+        Op::StartScheduleTableRel(_, _) => Verb::StartScheduleTableRel,
+        Op::StartScheduleTableAbs(_, _) => Verb::StartScheduleTableAbs,
+        Op::NextScheduleTable(_, _) => Verb::NextScheduleTable,
+        Op::StopScheduleTable(_) => Verb::StopScheduleTable,
+        Op::GetScheduleTableStatus(_, _) => Verb::GetScheduleTableStatus,
+    }
+}
+
+fn one(arg: Arg<Place>) -> Args<Arg<Place>>
+    ensures { items result ≡ arg ∷ [] }
+{
+    Args::One(arg)
+}
+
+fn two(first: Arg<Place>, second: Arg<Place>) -> Args<Arg<Place>>
+    ensures { items result ≡ first ∷ second ∷ [] }
+{
+    Args::Two(first, second)
+}
+
+// The arguments of an operation, as a script has them.
+fn args_of(op: Op) -> Args<Arg<Place>>
+    ensures { items result ≡ (form_of_op op).1 }
+{
+    match op {
+        Op::Work | Op::TerminateTask | Op::Schedule => Args::Zero,
+        Op::Set(x, n) => two(variable_argument(x), Arg::Int(n)),
+        Op::Add(x, n) => two(variable_argument(x), Arg::Int(n)),
+        Op::AddVariable(x, y) => two(variable_argument(x), variable_argument(y)),
+        Op::StoreStatus(x) => one(variable_argument(x)),
+        Op::Jump(position) => one(Arg::Number(position)),
+        Op::JumpIfZero(x, position) => two(variable_argument(x), Arg::Number(position)),
+        Op::ActivateTask(target) | Op::ChainTask(target) => one(task_argument(target)),
+        Op::GetResource(target) | Op::ReleaseResource(target) => one(resource_argument(target)),
+        Op::SetEvent(target, mask) => two(task_argument(target), Arg::Mask(mask)),
+        Op::ClearEvent(mask) | Op::WaitEvent(mask) => one(Arg::Mask(mask)),
+        Op::GetEvent(target, x) => two(task_argument(target), variable_argument(x)),
+        Op::IncrementCounter(target) => one(counter_argument(target)),
+        Op::GetCounterValue(target, x) => two(counter_argument(target), variable_argument(x)),
+        Op::SetRelAlarm(target, first, cycle) | Op::SetAbsAlarm(target, first, cycle) => {
+            timed_arguments(target, first, cycle)
+        }
+        Op::CancelAlarm(target) => one(alarm_argument(target)),
+        Op::GetAlarm(target, x) => two(alarm_argument(target), variable_argument(x)),
+        Op::StartScheduleTableRel(target, start) | Op::StartScheduleTableAbs(target, start) => {
+            two(table_argument(target), Arg::Number(start))
+        }
+        Op::NextScheduleTable(from, to) => two(table_argument(from), table_argument(to)),
+        Op::StopScheduleTable(target) => one(table_argument(target)),
+        Op::GetScheduleTableStatus(target, x) => two(table_argument(target), variable_argument(x)),
+    }
+}
+
 /// The form of an operation.
 pub fn form_of_op(op: Op) -> Form<Place>
     ensures { form_view result ≡ form_of_op op }
 {
-    match op {
-        Op::Work => formed(Verb::Work, Args::Zero),
-        Op::Set(x, n) => formed(Verb::Set, Args::Two(variable_argument(x), Arg::Int(n))),
-        Op::Add(x, n) => formed(Verb::Add, Args::Two(variable_argument(x), Arg::Int(n))),
-        Op::AddVariable(x, y) => formed(
-            Verb::AddVariable,
-            Args::Two(variable_argument(x), variable_argument(y)),
-        ),
-        Op::StoreStatus(x) => formed(Verb::StoreStatus, Args::One(variable_argument(x))),
-        Op::Jump(position) => formed(Verb::Jump, Args::One(Arg::Number(position))),
-        Op::JumpIfZero(x, position) => formed(
-            Verb::JumpIfZero,
-            Args::Two(variable_argument(x), Arg::Number(position)),
-        ),
-        Op::ActivateTask(target) => formed(Verb::ActivateTask, Args::One(task_argument(target))),
-        Op::TerminateTask => formed(Verb::TerminateTask, Args::Zero),
-        Op::ChainTask(target) => formed(Verb::ChainTask, Args::One(task_argument(target))),
-        Op::Schedule => formed(Verb::Schedule, Args::Zero),
-        Op::GetResource(target) => {
-            formed(Verb::GetResource, Args::One(resource_argument(target)))
-        }
-        Op::ReleaseResource(target) => formed(
-            Verb::ReleaseResource,
-            Args::One(resource_argument(target)),
-        ),
-        Op::SetEvent(target, mask) => formed(
-            Verb::SetEvent,
-            Args::Two(task_argument(target), Arg::Mask(mask)),
-        ),
-        Op::ClearEvent(mask) => formed(Verb::ClearEvent, Args::One(Arg::Mask(mask))),
-        Op::GetEvent(target, x) => formed(
-            Verb::GetEvent,
-            Args::Two(task_argument(target), variable_argument(x)),
-        ),
-        Op::WaitEvent(mask) => formed(Verb::WaitEvent, Args::One(Arg::Mask(mask))),
-        Op::IncrementCounter(target) => {
-            formed(Verb::IncrementCounter, Args::One(counter_argument(target)))
-        }
-        Op::GetCounterValue(target, x) => formed(
-            Verb::GetCounterValue,
-            Args::Two(counter_argument(target), variable_argument(x)),
-        ),
-        Op::SetRelAlarm(target, increment, cycle) => {
-            formed(Verb::SetRelAlarm, timed_arguments(target, increment, cycle))
-        }
-        Op::SetAbsAlarm(target, start, cycle) => {
-            formed(Verb::SetAbsAlarm, timed_arguments(target, start, cycle))
-        }
-        Op::CancelAlarm(target) => formed(Verb::CancelAlarm, Args::One(alarm_argument(target))),
-        Op::GetAlarm(target, x) => formed(
-            Verb::GetAlarm,
-            Args::Two(alarm_argument(target), variable_argument(x)),
-        ),
+    Form {
+        verb: verb_of(op),
+        args: args_of(op),
     }
 }
 
@@ -512,7 +600,7 @@ impl Op {
     pub fn objects(self) -> [Option<Object>; 3]
         ensures { filter_map (λ o. o) result ≡ objects_of self }
     {
-        objects_in(form_of_op(self).args)
+        objects_in(args_of(self))
     }
 
     /// Whether each mask of the operation has an event.
@@ -536,6 +624,11 @@ impl Op {
             Op::ReleaseResource(_) => true,
             Op::GetEvent(_, _) => true,
             Op::GetCounterValue(_, _) => true,
+            Op::StartScheduleTableRel(_, _) => true,
+            Op::StartScheduleTableAbs(_, _) => true,
+            Op::NextScheduleTable(_, _) => true,
+            Op::StopScheduleTable(_) => true,
+            Op::GetScheduleTableStatus(_, _) => true,
             _ => false,
         }
     }

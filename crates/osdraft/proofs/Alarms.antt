@@ -105,21 +105,21 @@ action-masks (Op.ActivateTask (Some task)) h = h
 action-masks (Op.SetEvent (Some task) mask) h = h
 action-masks op h = refl
 
--- ---- the plan of an alarm
+-- ---- the plans of alarms and tables, whose tests are partly those of their actions
 
-record Made (k m f : Bool) (a b : TimedAction) : Type 0 where
+pub record Made {X : Type 0} (k m f : Bool) (a b : X) : Type 0 where
   pub known : k ≡ true
   pub masked : m ≡ true
   pub acting : f ≡ true
   pub same : a ≡ b
 
-made : (k m f : Bool) (a b : TimedAction) → value_if (k && m && f) a ≡ Some b → Made k m f a b
+pub made : {X : Type 0} (k m f : Bool) (a b : X) → value_if (k && m && f) a ≡ Some b → Made k m f a b
 made true true true a b e = record { known = refl; masked = refl; acting = refl; same = cc }
 made true true false a b e = cc
 made true false f a b e = cc
 made false m f a b e = cc
 
-not-made : {X : Type 0} (p k s m f : Bool) (a : TimedAction) (x : X) → value_if (k && m && f) a ≡ None → value_if ((p && k && s) && m && f) x ≡ None
+pub not-made : {X Y : Type 0} (p k s m f : Bool) (a : Y) (x : X) → value_if (k && m && f) a ≡ None → value_if ((p && k && s) && m && f) x ≡ None
 not-made false k s m f a x e = refl
 not-made true false s m f a x e = refl
 not-made true true false m f a x e = refl
@@ -127,7 +127,7 @@ not-made true true true true true a x e = cc
 not-made true true true true false a x e = refl
 not-made true true true false f a x e = refl
 
-last-fails : {X : Type 0} (p k m f : Bool) (x : X) → value_if ((p && k && false) && m && f) x ≡ None
+pub last-fails : {X : Type 0} (p k m f : Bool) (x : X) → value_if ((p && k && false) && m && f) x ≡ None
 last-fails false k m f x = refl
 last-fails true false m f x = refl
 last-fails true true m f x = refl

@@ -2,8 +2,9 @@
 use Rattle.std.proofs.Common.{◌≡◌, ◌&&◌, nat_le, Bool, true, false, List, [], ◌∷◌, Some, length, map, refl, sym, ap, ◌∙◌}
 use Rattle.std.specs.List.{list_all, sum_by}
 use Rattle.std.proofs.lemmas.Bool.{and_from, and_parts}
+use Rattle.std.proofs.lemmas.List.{length-map}
 use Rattle.std.proofs.lemmas.List.Folds.{list_all-map}
-use Rattle.osplan.specs.Limits.{has_number, is_between, are_alarms_within, are_counters_within, is_ceiling, is_core_by, is_core_within, is_start, jobs_of, is_task_numbered, is_task_short, is_task_within}
+use Rattle.osplan.specs.Limits.{has_number, is_between, are_alarms_within, are_counters_within, are_tables_within, most_cores, most_posted, is_ceiling, is_core_by, is_core_within, is_start, jobs_of, is_task_numbered, is_task_short, is_task_within}
 use Rattle.osdraft.specs.declared.declarations.Declaration.{Declaration}
 use Rattle.osdraft.specs.declared.shapes.ConfigText.{ConfigText}
 use Rattle.osdraft.specs.declared.shapes.CoreText.{CoreText}
@@ -11,8 +12,9 @@ use Rattle.osplan.specs.declared.plans.Plan.{Plan}
 use Rattle.osread.specs.Faults.{failing}
 use Rattle.osread.specs.Reading.{value_if}
 use Rattle.osdraft.specs.Meaning.{plan_of}
-use Rattle.osdraft.specs.Check.{are_known, are_masks, are_near, are_operations, are_operations_known, are_readable, are_scripts_short, alarm_sizes, bare_sizes, core_sizes, counter_sizes, is_alarm_known, is_core_known, is_core_readable, is_core_short, is_each_once, is_mode_name, is_script_short, is_task_known, is_task_readable, is_text_numbered, is_text_within, numbers_of, sizes_of, task_sizes, tests_of}
+use Rattle.osdraft.specs.Check.{are_known, are_masks, are_near, are_operations, are_operations_known, are_readable, are_scripts_short, are_timed, alarm_sizes, bare_sizes, core_sizes, counter_sizes, is_alarm_known, is_core_known, is_core_readable, is_core_short, is_each_once, is_mode_name, is_script_short, is_task_known, is_table_known, is_task_readable, is_text_numbered, is_text_within, numbers_of, sizes_of, table_sizes, task_sizes, tests_of}
 use Rattle.osdraft.specs.Declarations.{declarations}
+use Rattle.osdraft.specs.Posted.{posted_at_once}
 
 and-true : (b : Bool) → (b && true) ≡ b
 and-true true = refl
@@ -39,32 +41,36 @@ all-split p q r each (x ∷ xs) = rw (each x, all-split p q r each xs) (exchange
 
 -- ---- limits
 
-later : (a n s b c d e f : Bool) → (a && (n && s) && b && c && d && e && f) ≡ ((a && n && b && c && d && e && f) && s)
-later false n s b c d e f = refl
-later true false s b c d e f = refl
-later true true true b c d e f = sym (and-true (b && c && d && e && f))
-later true true false b c d e f = sym (and-false (b && c && d && e && f))
+later : (a n s b c d e f g h : Bool) → (a && (n && s) && b && c && d && e && f && g && h) ≡ ((a && n && b && c && d && e && f && g && h) && s)
+later false n s b c d e f g h = refl
+later true false s b c d e f g h = refl
+later true true true b c d e f g h = sym (and-true (b && c && d && e && f && g && h))
+later true true false b c d e f g h = sym (and-false (b && c && d && e && f && g && h))
 
-pub both_true : (b : Bool) → (b && true && true) ≡ b
-both_true true = refl
-both_true false = refl
+pub all_true : (b : Bool) → (b && true && true && true && true) ≡ b
+all_true true = refl
+all_true false = refl
 
-bare : (b c d : Bool) → (b && c && d) ≡ (b && true && true && c && d)
-bare true c d = refl
-bare false c d = refl
+bare : (b c d e f : Bool) → (b && c && d && e && f) ≡ (b && true && true && true && true && c && d && e && f)
+bare true c d e f = refl
+bare false c d e f = refl
 
-pub bare_split : (objects : List Declaration) (core : CoreText) → is_core_by is_task_numbered (core_sizes objects core) ≡ (is_core_by is_task_numbered (bare_sizes core) && are_counters_within (map counter_sizes core.counters) && are_alarms_within (map (alarm_sizes objects) core.alarms))
+pub bare_split : (objects : List Declaration) (core : CoreText)
+    → is_core_by is_task_numbered (core_sizes objects core)
+    ≡ (is_core_by is_task_numbered (bare_sizes core) && are_counters_within (map counter_sizes core.counters) && are_alarms_within (map (alarm_sizes objects) core.alarms)
+    && are_tables_within (map (table_sizes objects) core.tables) && nat_le (posted_at_once objects core) most_posted)
 bare_split objects core =
     let s = core_sizes objects core in
     bare (is_between 0 7 s.number && list_all is_start s.start && nat_le (length s.tasks) 32 && list_all is_task_numbered s.tasks && nat_le (sum_by jobs_of s.tasks) 64 && nat_le (length s.resources) 16 && list_all is_ceiling s.resources)
-    (are_counters_within s.counters) (are_alarms_within s.alarms)
+    (are_counters_within s.counters) (are_alarms_within s.alarms) (are_tables_within s.tables) (nat_le s.posted most_posted)
 
 core-split : (objects : List Declaration) (core : CoreText) → is_core_within (core_sizes objects core) ≡ (is_core_by is_task_numbered (core_sizes objects core) && is_core_short core)
 core-split objects core =
     let s = core_sizes objects core in
     let before = is_between 0 7 s.number && list_all is_start s.start && nat_le (length s.tasks) 32 in
     rw (all-split is_task_within is_task_numbered is_task_short (λ task. refl) (map task_sizes core.tasks), list_all-map is_task_short task_sizes core.tasks)
-    (later before (list_all is_task_numbered s.tasks) (is_core_short core) (nat_le (sum_by jobs_of s.tasks) 64) (nat_le (length s.resources) 16) (list_all is_ceiling s.resources) (are_counters_within s.counters) (are_alarms_within s.alarms))
+    (later before (list_all is_task_numbered s.tasks) (is_core_short core) (nat_le (sum_by jobs_of s.tasks) 64) (nat_le (length s.resources) 16) (list_all is_ceiling s.resources) (are_counters_within s.counters) (are_alarms_within s.alarms)
+    (are_tables_within s.tables) (nat_le s.posted most_posted))
 
 cores-split : (objects : List Declaration) (cores : List CoreText) → list_all is_core_within (map (core_sizes objects) cores) ≡ (list_all (is_core_by is_task_numbered) (map (core_sizes objects) cores) && list_all is_core_short cores)
 cores-split objects cores =
@@ -79,6 +85,12 @@ within_split t =
     let numbered = list_all (is_core_by is_task_numbered) s.cores in
     rw (cores-split (declarations t.cores) t.cores) (ap (λ b. is_between 1 1 t.version && b) (and-assoc before numbered (are_scripts_short t)) ∙ and-assoc (is_between 1 1 t.version) (before && numbered) (are_scripts_short t))
 
+-- what is left of a text's numbers when those beside its cores have been judged
+pub cores-left : (t : ConfigText) → is_between 1 1 t.version ≡ true → is_between 1 16 t.cap ≡ true
+    → (is_between 1 most_cores (Some (length t.cores)) && list_all (λ (core : CoreText). is_core_by is_task_numbered (core_sizes (declarations t.cores) core)) t.cores) ≡ is_text_numbered t
+cores-left t version cap =
+    rw (version, cap, length-map t.cores (core_sizes (declarations t.cores)), list_all-map (is_core_by is_task_numbered) (core_sizes (declarations t.cores)) t.cores) refl
+
 -- ---- names
 
 behind : (m s k : Bool) → (m && (s && k)) ≡ ((m && k) && s)
@@ -86,17 +98,18 @@ behind true true k = sym (and-true k)
 behind true false k = sym (and-false k)
 behind false s k = refl
 
-swapped : (k s a : Bool) → (k && s && a) ≡ (k && a && s)
-swapped true true a = sym (and-true a)
-swapped true false a = sym (and-false a)
-swapped false s a = refl
+swapped : (k s a b : Bool) → (k && s && a && b) ≡ (k && a && b && s)
+swapped true true a b = sym (and-true (a && b))
+swapped true false a b = sym (and-false (a && b))
+swapped false s a b = refl
 
 core-readable : (objects : List Declaration) (core : CoreText) → is_core_readable objects core ≡ (is_core_known objects core && is_core_short core)
 core-readable objects core =
     let alarms = list_all (is_alarm_known objects) core.alarms in
-    ap (λ b. b && alarms)
+    let tables = list_all (is_table_known objects) core.tables in
+    ap (λ b. b && alarms && tables)
     (all-split (is_task_readable objects) (is_task_known objects) is_script_short (λ task. behind (list_all is_mode_name task.auto) (is_script_short task) (are_operations_known objects task.script)) core.tasks)
-    ∙ swapped (list_all (is_task_known objects) core.tasks) (list_all is_script_short core.tasks) alarms
+    ∙ swapped (list_all (is_task_known objects) core.tasks) (list_all is_script_short core.tasks) alarms tables
 
 pub readable_split : (t : ConfigText) → are_readable t ≡ (are_known t && are_scripts_short t)
 readable_split t =
@@ -110,11 +123,12 @@ made : {X : Type 0} (b : Bool) (x y : X) → value_if b x ≡ Some y → b ≡ t
 made true x y e = refl
 made false x y e = cc
 
-pub faultless_of : (t : ConfigText) (plan : Plan) → is_text_numbered t ≡ true → is_each_once t ≡ true → value_if (are_readable t && are_near t && are_masks t && are_operations t) (plan_of t) ≡ Some plan → failing (tests_of t) ≡ []
+pub faultless_of : (t : ConfigText) (plan : Plan) → is_text_numbered t ≡ true → is_each_once t ≡ true → value_if (are_readable t && are_near t && are_masks t && are_timed t && are_operations t) (plan_of t) ≡ Some plan → failing (tests_of t) ≡ []
 faultless_of t plan numbered once e =
-    let operations = and_parts (are_readable t && are_near t && are_masks t) (are_operations t) (made _ (plan_of t) plan e) in
-    let masks = and_parts (are_readable t && are_near t) (are_masks t) operations.0 in
+    let operations = and_parts (are_readable t && are_near t && are_masks t && are_timed t) (are_operations t) (made _ (plan_of t) plan e) in
+    let timed = and_parts (are_readable t && are_near t && are_masks t) (are_timed t) operations.0 in
+    let masks = and_parts (are_readable t && are_near t) (are_masks t) timed.0 in
     let near = and_parts (are_readable t) (are_near t) masks.0 in
     let known = and_parts (are_known t) (are_scripts_short t) (sym (readable_split t) ∙ near.0) in
     let within : is_text_within t ≡ true = within_split t ∙ and_from (is_text_numbered t) (are_scripts_short t) numbered known.1 in
-    rw (within, once, known.0, near.1, masks.1, operations.1) refl
+    rw (within, once, known.0, near.1, masks.1, timed.1, operations.1) refl

@@ -18,7 +18,7 @@ use Rattle.osread.specs.Reading.{value_if, each}
 use Rattle.osdraft.specs.Declarations.{id_of, place_of}
 use Rattle.osdraft.specs.Operation.{known_op, op_of, operations_of}
 use Rattle.osdraft.specs.Check.{is_core_near, is_script_near}
-use Rattle.osdraft.specs.Meaning.{alarm_plan, core_plan, task_plan}
+use Rattle.osdraft.specs.Meaning.{alarm_plan, core_plan, table_plan, task_plan}
 
 -- ---- operations
 
@@ -76,7 +76,7 @@ few_if false p q r x = refl
 
 -- ---- scripts
 
--- The plan's scripts stay on their cores where the text's do, and so do its alarms' counters
+-- The plan's scripts stay on their cores where the text's do, and so do the counters of its alarms and tables
 near-script : (objects : List Declaration) (id : CoreId) (tasks : List TaskText)
     → list_all (λ (task : Task). list_all (limits.stays_on id) task.script) (map (task_plan objects) tasks) ≡ list_all (λ (task : TaskText). is_script_near objects id task.script) tasks
 near-script objects id [] = refl
@@ -84,4 +84,9 @@ near-script objects id (task ∷ tasks) = rw (list_all-map (limits.stays_on id) 
 
 pub near_kept : (objects : List Declaration) (cores : List CoreText) → list_all limits.is_core_near (map (core_plan objects) cores) ≡ list_all (is_core_near objects) cores
 near_kept objects [] = refl
-near_kept objects (core ∷ cores) = rw (near-script objects (id_of core) core.tasks, list_all-map (limits.is_alarm_near (id_of core)) (alarm_plan objects (id_of core)) core.alarms, near_kept objects cores) refl
+near_kept objects (core ∷ cores) = rw (
+  near-script objects (id_of core) core.tasks,
+  list_all-map (limits.is_alarm_near (id_of core)) (alarm_plan objects (id_of core)) core.alarms,
+  list_all-map (limits.is_table_near (id_of core)) (table_plan objects (id_of core)) core.tables,
+  near_kept objects cores,
+) refl

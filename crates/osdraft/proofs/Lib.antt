@@ -12,3 +12,7 @@ pub mod Known
 pub mod Indexing
 pub mod Counting
 pub mod Few
+pub mod Posting
+pub mod Points
+pub mod Tabled
+pub mod Sending

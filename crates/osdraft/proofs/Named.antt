@@ -19,7 +19,7 @@ use Rattle.osdraft.specs.declared.shapes.CoreText.{CoreText}
 use Rattle.osdraft.specs.declared.shapes.CounterText.{CounterText}
 use Rattle.osdraft.specs.declared.declarations.Declaration.{Declaration}
 use Rattle.osdraft.specs.Check.{counter_sizes, names_of}
-use Rattle.osdraft.specs.Declarations.{byte_of, id_of, task_declaration, resource_declaration, counter_declaration, alarm_declaration, declared_tasks, declared_resources, declared_counters, declared_alarms, declared_by, declarations, has_name, is_alone, place_of, counter_ref, counter_declared, declared_sizes}
+use Rattle.osdraft.specs.Declarations.{byte_of, id_of, task_declaration, resource_declaration, counter_declaration, alarm_declaration, table_declaration, declared_tasks, declared_resources, declared_counters, declared_alarms, declared_tables, declared_by, declarations, has_name, is_alone, place_of, counter_ref, counter_declared, declared_sizes}
 use Rattle.osdraft.proofs.Numbers.{byte-small}
 use Rattle.osdraft.proofs.Alone.{alone}
 
@@ -78,7 +78,9 @@ module _ (plan : Plan) (text : CoreText) (has : HasCounters plan text) where
       let fits = few in
       let counters = counters-sized 0 text.counters at (omega arith) all in
       let first = both-sized plan (declared_tasks text) (declared_resources text) (unsized plan (task_declaration text) (λ p. tt) 0 text.tasks) (unsized plan (resource_declaration text) (λ p. tt) 0 text.resources) in
-      both-sized plan (declared_tasks text ++ declared_resources text ++ declared_counters text) (declared_alarms text) (both-sized plan (declared_tasks text ++ declared_resources text) (declared_counters text) first counters) (unsized plan (alarm_declaration text) (λ p. tt) 0 text.alarms)
+      let next = both-sized plan (declared_tasks text ++ declared_resources text) (declared_counters text) first counters in
+      let last = both-sized plan (declared_tasks text ++ declared_resources text ++ declared_counters text) (declared_alarms text) next (unsized plan (alarm_declaration text) (λ p. tt) 0 text.alarms) in
+      both-sized plan (declared_tasks text ++ declared_resources text ++ declared_counters text ++ declared_alarms text) (declared_tables text) last (unsized plan (table_declaration text) (λ p. tt) 0 text.tables)
 
 all-sized : (plan : Plan) (cores : List CoreText) → AllByRecursion (HasCounters plan) cores → AreSized plan (declarations cores)
 all-sized plan [] has = tt

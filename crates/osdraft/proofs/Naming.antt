@@ -13,9 +13,10 @@ use Rattle.osdraft.specs.declared.shapes.CoreText.{CoreText}
 use Rattle.osdraft.specs.declared.shapes.CounterText.{CounterText}
 use Rattle.osdraft.specs.declared.shapes.ResourceText.{ResourceText}
 use Rattle.osdraft.specs.declared.shapes.TaskText.{TaskText}
+use Rattle.osdraft.specs.declared.table_shapes.TableText.{TableText}
 use Rattle.osdraft.specs.declared.declarations.Declaration.{Declaration}
-use Rattle.osdraft.specs.Check.{has_named_tasks, has_named_resources, has_named_counters, has_named_alarms, has_named_objects}
-use Rattle.osdraft.specs.Declarations.{task_declaration, resource_declaration, counter_declaration, alarm_declaration, declared_tasks, declared_resources, declared_counters, declared_alarms, declared_by, declarations, has_name}
+use Rattle.osdraft.specs.Check.{has_named_tasks, has_named_resources, has_named_counters, has_named_alarms, has_named_tables, has_named_objects}
+use Rattle.osdraft.specs.Declarations.{task_declaration, resource_declaration, counter_declaration, alarm_declaration, table_declaration, declared_tasks, declared_resources, declared_counters, declared_alarms, declared_tables, declared_by, declarations, has_name}
 
 tasks-named : (core : CoreText) (n : ℕ) (tasks : List TaskText) → list_all (λ (task : TaskText). is_name task.name) tasks ≡ true → list_all (λ (d : Declaration). is_name d.name) (map (task_declaration core) (enumerate_from n tasks)) ≡ true
 tasks-named core n [] named = refl
@@ -43,15 +44,23 @@ alarms-named core n (alarm ∷ alarms) named =
     let parts = and_parts (is_name alarm.name) _ named in
     and_from _ _ parts.0 (alarms-named core (n + 1) alarms parts.1)
 
+tables-named : (core : CoreText) (n : ℕ) (tables : List TableText) → list_all (λ (table : TableText). is_name table.name) tables ≡ true → list_all (λ (d : Declaration). is_name d.name) (map (table_declaration core) (enumerate_from n tables)) ≡ true
+tables-named core n [] named = refl
+tables-named core n (table ∷ tables) named =
+    let parts = and_parts (is_name table.name) _ named in
+    and_from _ _ parts.0 (tables-named core (n + 1) tables parts.1)
+
 objects-named : (core : CoreText) → has_named_objects core ≡ true → list_all (λ (d : Declaration). is_name d.name) (declared_by core) ≡ true
 objects-named core named =
     let test = λ (d : Declaration). is_name d.name in
-    let alarms = and_parts (has_named_tasks core && has_named_resources core && has_named_counters core) (has_named_alarms core) named in
+    let tables = and_parts (has_named_tasks core && has_named_resources core && has_named_counters core && has_named_alarms core) (has_named_tables core) named in
+    let alarms = and_parts (has_named_tasks core && has_named_resources core && has_named_counters core) (has_named_alarms core) tables.0 in
     let counters = and_parts (has_named_tasks core && has_named_resources core) (has_named_counters core) alarms.0 in
     let parts = and_parts (has_named_tasks core) (has_named_resources core) counters.0 in
     let first = list_all-append test (declared_tasks core) (declared_resources core) ∙ and_from _ _ (tasks-named core 0 core.tasks parts.0) (resources-named core 0 core.resources parts.1) in
     let next = list_all-append test (declared_tasks core ++ declared_resources core) (declared_counters core) ∙ and_from _ _ first (counters-named core 0 core.counters counters.1) in
-    list_all-append test (declared_tasks core ++ declared_resources core ++ declared_counters core) (declared_alarms core) ∙ and_from _ _ next (alarms-named core 0 core.alarms alarms.1)
+    let last = list_all-append test (declared_tasks core ++ declared_resources core ++ declared_counters core) (declared_alarms core) ∙ and_from _ _ next (alarms-named core 0 core.alarms alarms.1) in
+    list_all-append test (declared_tasks core ++ declared_resources core ++ declared_counters core ++ declared_alarms core) (declared_tables core) ∙ and_from _ _ last (tables-named core 0 core.tables tables.1)
 
 pub declared-named : (cores : List CoreText) → list_all has_named_objects cores ≡ true → list_all (λ (d : Declaration). is_name d.name) (declarations cores) ≡ true
 declared-named [] named = refl

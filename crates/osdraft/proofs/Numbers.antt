@@ -1,5 +1,5 @@
 -- The plan of a text has the text's numbers, which are within their limits.
-use Rattle.std.proofs.Common.{inl, inr, ◌≡◌, ℕ, ◌*◌, ◌||◌, ◌≤◌, Bool, true, false, cond, eqb, leb, nat_le, sum_by, List, [], ◌∷◌, length, map, unwrap_or, Option, Some, None, refl, sym, ap, ◌∙◌, arith}
+use Rattle.std.proofs.Common.{inl, inr, ◌≡◌, ℕ, ◌-◌, ◌*◌, ◌||◌, ◌≤◌, Bool, true, false, cond, eqb, leb, nat_le, sum_by, List, [], ◌∷◌, length, map, unwrap_or, Option, Some, None, refl, sym, ap, ◌∙◌, arith}
 use Rattle.std.specs.List.{list_all, list_any}
 use Rattle.std.specs.Option.{option_map_or}
 use Rattle.std.proofs.lemmas.Bool.{and_parts, and_from, le-leb, true≢false, eq-eqb, eqb-true, or_cases, or_left, or_right}
@@ -8,7 +8,7 @@ use Rattle.std.proofs.lemmas.List.Folds.{fold-map, list_all-map}
 use Rattle.std.proofs.lemmas.List.Sums.{sum_by-cons}
 use Rattle.osplan.specs.declared.plans.Core.{Core}
 use Rattle.osplan.specs.Limits as limits
-use Rattle.osplan.specs.Limits.{TaskSizes, CounterSizes, StartSizes, CoreSizes, Sizes, are_alarms_within, are_counters_within, is_alarm_within, is_between, is_ceiling, is_counter_within, is_cycle, is_start, is_start_by, is_start_within, is_task_numbered, is_task_within, is_core_within, is_within, jobs_of, most_activations, number_of, same_number}
+use Rattle.osplan.specs.Limits.{TaskSizes, CounterSizes, StartSizes, TableSizes, CoreSizes, Sizes, are_alarms_within, are_counters_within, are_tables_within, is_alarm_within, is_between, is_ceiling, is_counter_within, is_cycle, is_start, is_start_by, is_start_within, is_table_start, is_table_start_within, is_table_within, first_offset, is_task_numbered, is_task_within, is_core_within, is_within, jobs_of, most_activations, most_posted, number_of, same_number}
 use Rattle.osplan.proofs.Tests.{all-weaker}
 use Rattle.osplan.proofs.Within.{between}
 use Rattle.osdraft.specs.declared.shapes.ConfigText.{ConfigText}
@@ -44,7 +44,7 @@ is-byte low high (Some n) h small =
 abbrev pub IsWord : Option ℕ → Type 0
 IsWord number = Some (word_of number) ≡ number
 
-is-word : (low high : ℕ) (number : Option ℕ) → is_between low high number ≡ true → high ≤ 4294967295 → IsWord number
+pub is-word : (low high : ℕ) (number : Option ℕ) → is_between low high number ≡ true → high ≤ 4294967295 → IsWord number
 is-word low high None h small = absurd (true≢false (sym h))
 is-word low high (Some n) h small =
     let most : n ≤ high = (between low high n h).1 in
@@ -60,7 +60,7 @@ task-bytes s h =
     let few : most_activations s.extended ≤ 64 = few-activations s.extended in
     (is-byte _ _ s.priority numbers.0 (omega arith), is-byte _ _ s.activations numbers.1 (omega arith))
 
-most : (low high : ℕ) (number : Option ℕ) → is_between low high number ≡ true → unwrap_or number 0 ≤ high
+pub most : (low high : ℕ) (number : Option ℕ) → is_between low high number ≡ true → unwrap_or number 0 ≤ high
 most low high None h = absurd (true≢false (sym h))
 most low high (Some n) h = (between low high n h).1
 
@@ -85,16 +85,24 @@ start-words s counter is h within =
     let greatest : unwrap_or counter.max 0 ≤ 1000000000 = most 1 1000000000 counter.max (and_parts (is_between 1 1000000000 counter.max) _ within).0 in
     (is-word _ _ s.start parts.0 (omega arith), cycle-word counter s.cycle parts.1 greatest)
 
+-- and of an automatic schedule table
+pub table-start-word : (s : TableSizes) (counter : CounterSizes) (offset : Option ℕ) → s.counter ≡ Some counter → is_counter_within counter ≡ true → is_table_start_within s offset ≡ true → IsWord offset
+table-start-word s counter offset is within h =
+    let start : is_table_start s counter offset ≡ true = ap (λ (o : Option CounterSizes). option_map_or (λ (c : CounterSizes). is_table_start s c offset) o true) (sym is) ∙ h in
+    let greatest : unwrap_or counter.max 0 ≤ 1000000000 = most 1 1000000000 counter.max (and_parts (is_between 1 1000000000 counter.max) _ within).0 in
+    is-word 1 (unwrap_or counter.max 0 - first_offset s.points) offset start (omega (arith, greatest))
+
 pub core-bytes : (s : CoreSizes) → is_core_within s ≡ true → IsByte s.number × (list_all is_start s.start ≡ true) × (list_all is_task_within s.tasks ≡ true) × (list_all is_ceiling s.resources ≡ true) × (are_counters_within s.counters ≡ true)
-    × (list_all is_alarm_within s.alarms ≡ true)
+    × (list_all is_alarm_within s.alarms ≡ true) × (list_all is_table_within s.tables ≡ true)
 core-bytes s h =
-    let alarms = and_parts _ (are_alarms_within s.alarms) h in
+    let tables = and_parts _ (are_tables_within s.tables) (and_parts _ (nat_le s.posted most_posted) h).0 in
+    let alarms = and_parts _ (are_alarms_within s.alarms) tables.0 in
     let counters = and_parts _ (are_counters_within s.counters) alarms.0 in
     let resources = and_parts _ (list_all is_ceiling s.resources) counters.0 in
     let count = and_parts _ (nat_le (length s.resources) 16) resources.0 in
     let tasks = and_parts _ (list_all is_task_within s.tasks) (and_parts _ (nat_le (sum_by jobs_of s.tasks) 64) count.0).0 in
     let numbers = and_parts _ _ (and_parts _ _ tasks.0).0 in
-    (is-byte _ _ s.number numbers.0 (omega arith), numbers.1, tasks.1, resources.1, counters.1, (and_parts _ (list_all is_alarm_within s.alarms) alarms.1).1)
+    (is-byte _ _ s.number numbers.0 (omega arith), numbers.1, tasks.1, resources.1, counters.1, (and_parts _ (list_all is_alarm_within s.alarms) alarms.1).1, (and_parts _ (list_all is_table_within s.tables) tables.1).1)
 
 pub cap-byte : (s : Sizes) → is_within s ≡ true → IsByte s.cap
 cap-byte s h = is-byte _ _ s.cap (and_parts _ (is_between _ _ s.cap) (and_parts _ _ (and_parts _ _ h).0).0).1 (omega arith)

@@ -9,12 +9,16 @@ use Rattle.oscript.specs.declared.Op.TheVariants.{Work}
 use Rattle.oscript.specs.Rows as rows
 use Rattle.oscript.specs.Rows.{is_in_form}
 use Rattle.osbase.specs.declared.references.CoreId.{CoreId}
+use Rattle.osforms.specs.Action.{is_action}
 use Rattle.osforms.specs.Operation.{op_meant, has_masks}
 use Rattle.osforms.proofs.Operations.{meant-in-form, meant_masks}
 use Rattle.osplan.specs.declared.plans.Alarm.{Alarm}
 use Rattle.osplan.specs.declared.plans.AlarmStart.{AlarmStart}
 use Rattle.osplan.specs.declared.plans.Counter.{Counter}
+use Rattle.osplan.specs.declared.plans.ExpiryPoint.{ExpiryPoint}
 use Rattle.osplan.specs.declared.plans.Resource.{Resource}
+use Rattle.osplan.specs.declared.plans.Table.{Table}
+use Rattle.osplan.specs.declared.plans.TableStart.{TableStart}
 use Rattle.osplan.specs.declared.plans.Task.{Task}
 use Rattle.osplan.specs.Expressible as said
 use Rattle.osplan.specs.Limits.{are_numbers_distinct}
@@ -28,12 +32,16 @@ use Rattle.osdraft.specs.declared.shapes.CounterText.{CounterText}
 use Rattle.osdraft.specs.declared.shapes.ResourceText.{ResourceText}
 use Rattle.osdraft.specs.declared.shapes.TaskText.{TaskText}
 use Rattle.osread.specs.Faults.{failing}
+use Rattle.osdraft.specs.declared.table_shapes.PointText.{PointText}
+use Rattle.osdraft.specs.declared.table_shapes.TableStartText.{TableStartText}
+use Rattle.osdraft.specs.declared.table_shapes.TableText.{TableText}
 use Rattle.osdraft.specs.declared.declarations.Declaration.{Declaration}
-use Rattle.osdraft.specs.Check.{numbers_of, has_named_tasks, has_named_resources, has_named_counters, has_named_alarms, has_named_objects, is_task_masked, is_alarm_masked, is_core_masked, is_task_script, is_alarm_acting, is_core_script, tests_of}
-use Rattle.osdraft.specs.Declarations.{id_of, task_declaration, resource_declaration, counter_declaration, alarm_declaration, declared_tasks, declared_resources, declared_counters, declared_alarms, declared_by, declarations, place_of}
+use Rattle.osdraft.specs.Action.{action_of, is_action_masked}
+use Rattle.osdraft.specs.Check.{numbers_of, has_named_tasks, has_named_resources, has_named_counters, has_named_alarms, has_named_tables, has_named_objects, is_task_masked, is_alarm_masked, is_point_masked, is_table_masked, is_core_masked, is_task_script, is_alarm_acting, is_point_acting, is_table_acting, is_core_script, tests_of}
+use Rattle.osdraft.specs.Declarations.{id_of, task_declaration, resource_declaration, counter_declaration, alarm_declaration, table_declaration, declared_tasks, declared_resources, declared_counters, declared_alarms, declared_tables, declared_by, declarations, place_of}
 use Rattle.osdraft.specs.Operation.{is_operation, op_of, operations_of}
-use Rattle.osdraft.specs.Meaning.{only_mode, task_plan, resource_plan, counter_plan, start_plan, alarm_plan, core_plan, plan_of}
-use Rattle.osplan.proofs.Tests.{all-both}
+use Rattle.osdraft.specs.Meaning.{only_mode, task_plan, resource_plan, counter_plan, start_plan, alarm_plan, point_plan, table_start_plan, table_plan, core_plan, plan_of}
+use Rattle.osplan.proofs.Tests.{all-both, all-flat}
 use Rattle.osdraft.proofs.Alarms.{action-in-form, action-masks}
 use Rattle.osdraft.proofs.Numbers.{list_all-by, list_all-total}
 use Rattle.osdraft.proofs.Bounds.{faultless}
@@ -60,15 +68,21 @@ alarms-named : (objects : List Declaration) (core : CoreText) (n : ℕ) (alarms 
 alarms-named objects core n [] = refl
 alarms-named objects core n (alarm ∷ alarms) = ap (λ names. alarm.name ∷ names) (alarms-named objects core (n + 1) alarms)
 
+tables-named : (objects : List Declaration) (core : CoreText) (n : ℕ) (tables : List TableText)
+    → map (λ (table : Table). table.name) (map (table_plan objects (id_of core)) tables) ≡ map (λ (d : Declaration). d.name) (map (table_declaration core) (enumerate_from n tables))
+tables-named objects core n [] = refl
+tables-named objects core n (table ∷ tables) = ap (λ names. table.name ∷ names) (tables-named objects core (n + 1) tables)
+
 abbrev names : List Declaration → List (List ℕ)
 names objects = map (λ (d : Declaration). d.name) objects
 
 objects-named : (objects : List Declaration) (core : CoreText) → said.object_names (core_plan objects core) ≡ names (declared_by core)
 objects-named objects core =
-    rw (tasks-named objects core 0 core.tasks, resources-named core 0 core.resources, counters-named core 0 core.counters, alarms-named objects core 0 core.alarms)
-    (ap (λ first. first ++ names (declared_counters core) ++ names (declared_alarms core)) (sym (map-append (λ (d : Declaration). d.name) (declared_tasks core) (declared_resources core)))
-    ∙ ap (λ first. first ++ names (declared_alarms core)) (sym (map-append (λ (d : Declaration). d.name) (declared_tasks core ++ declared_resources core) (declared_counters core)))
-    ∙ sym (map-append (λ (d : Declaration). d.name) (declared_tasks core ++ declared_resources core ++ declared_counters core) (declared_alarms core)))
+    rw (tasks-named objects core 0 core.tasks, resources-named core 0 core.resources, counters-named core 0 core.counters, alarms-named objects core 0 core.alarms, tables-named objects core 0 core.tables)
+    (ap (λ first. first ++ names (declared_counters core) ++ names (declared_alarms core) ++ names (declared_tables core)) (sym (map-append (λ (d : Declaration). d.name) (declared_tasks core) (declared_resources core)))
+    ∙ ap (λ first. first ++ names (declared_alarms core) ++ names (declared_tables core)) (sym (map-append (λ (d : Declaration). d.name) (declared_tasks core ++ declared_resources core) (declared_counters core)))
+    ∙ ap (λ first. first ++ names (declared_tables core)) (sym (map-append (λ (d : Declaration). d.name) (declared_tasks core ++ declared_resources core ++ declared_counters core) (declared_alarms core)))
+    ∙ sym (map-append (λ (d : Declaration). d.name) (declared_tasks core ++ declared_resources core ++ declared_counters core ++ declared_alarms core) (declared_tables core)))
 
 names-kept : (objects : List Declaration) (cores : List CoreText) → flat_map said.object_names (map (core_plan objects) cores) ≡ map (λ (d : Declaration). d.name) (declarations cores)
 names-kept objects [] = refl
@@ -105,29 +119,56 @@ modes-said : (auto : Option AlarmStartText) → list_all is_only_mode (option_ma
 modes-said None = refl
 modes-said (Some auto) = list_all-total is_only_mode (λ (name : List ℕ). only_mode) (λ name. refl) auto.modes
 
+action-said : (objects : List Declaration) (text : List ℕ) → (is_action_masked text && is_action text) ≡ true → said.is_action_expressible (action_of objects text) ≡ true
+action-said objects text h =
+    let parts = and_parts (is_action_masked text) (is_action text) h in
+    let masked : has_masks text ≡ true = ap (λ acting. not acting || has_masks text) (sym parts.1) ∙ parts.0 in
+    and_from _ _ (action-in-form (op_of objects text) (op-said objects text)) (action-masks (op_of objects text) (op-masked objects text masked))
+
 alarm-said : (objects : List Declaration) (id : CoreId) (alarm : AlarmText) → (is_name alarm.name && is_alarm_masked alarm && is_alarm_acting alarm) ≡ true → said.is_alarm_expressible (alarm_plan objects id alarm) ≡ true
 alarm-said objects id alarm h =
     let parts = and_parts (is_name alarm.name && is_alarm_masked alarm) (is_alarm_acting alarm) h in
     let named = and_parts (is_name alarm.name) (is_alarm_masked alarm) parts.0 in
-    let masked : has_masks alarm.action ≡ true = ap (λ acting. not acting || has_masks alarm.action) (sym parts.1) ∙ named.1 in
-    and_from _ _ (and_from _ _ named.0 (and_from _ _ (action-in-form (op_of objects alarm.action) (op-said objects alarm.action)) (action-masks (op_of objects alarm.action) (op-masked objects alarm.action masked)))) (modes-said alarm.auto)
+    and_from _ _ (and_from _ _ named.0 (action-said objects alarm.action (and_from _ _ named.1 parts.1))) (modes-said alarm.auto)
+
+point-said : (objects : List Declaration) (point : PointText) → (is_point_masked point && is_point_acting point) ≡ true → list_all said.is_action_expressible (point_plan objects point).actions ≡ true
+point-said objects point h =
+    let parts = and_parts (is_point_masked point) (is_point_acting point) h in
+    list_all-by (λ (text : List ℕ). is_action_masked text && is_action text) said.is_action_expressible (action_of objects) (action-said objects) point.actions (all-both is_action_masked is_action point.actions parts.0 parts.1)
+
+table-modes-said : (auto : Option TableStartText) → list_all is_only_mode (option_map_or (λ (auto : TableStart). auto.modes) (option_map table_start_plan auto) []) ≡ true
+table-modes-said None = refl
+table-modes-said (Some auto) = list_all-total is_only_mode (λ (name : List ℕ). only_mode) (λ name. refl) auto.modes
+
+table-said : (objects : List Declaration) (id : CoreId) (table : TableText) → (is_name table.name && is_table_masked table && is_table_acting table) ≡ true → said.is_table_expressible (table_plan objects id table) ≡ true
+table-said objects id table h =
+    let parts = and_parts (is_name table.name && is_table_masked table) (is_table_acting table) h in
+    let named = and_parts (is_name table.name) (is_table_masked table) parts.0 in
+    let points = all-both is_point_masked is_point_acting table.points named.1 parts.1 in
+    and_from _ _ (and_from _ _ named.0 (all-flat said.is_action_expressible (λ (point : ExpiryPoint). point.actions) (map (point_plan objects) table.points)
+    (list_all-by (λ (point : PointText). is_point_masked point && is_point_acting point) (λ (point : ExpiryPoint). list_all said.is_action_expressible point.actions) (point_plan objects) (point-said objects) table.points points))) (table-modes-said table.auto)
 
 core-said : (objects : List Declaration) (core : CoreText) → (has_named_objects core && is_core_masked core && is_core_script objects core) ≡ true → said.is_core_expressible (core_plan objects core) ≡ true
 core-said objects core h =
     let parts = and_parts (has_named_objects core && is_core_masked core) (is_core_script objects core) h in
     let first = and_parts (has_named_objects core) (is_core_masked core) parts.0 in
-    let all = and_parts (has_named_tasks core && has_named_resources core && has_named_counters core) (has_named_alarms core) first.0 in
+    let every = and_parts (has_named_tasks core && has_named_resources core && has_named_counters core && has_named_alarms core) (has_named_tables core) first.0 in
+    let all = and_parts (has_named_tasks core && has_named_resources core && has_named_counters core) (has_named_alarms core) every.0 in
     let counted = and_parts (has_named_tasks core && has_named_resources core) (has_named_counters core) all.0 in
-    let masks = and_parts (list_all is_task_masked core.tasks) (list_all is_alarm_masked core.alarms) first.1 in
-    let scripts = and_parts (list_all (is_task_script objects) core.tasks) (list_all is_alarm_acting core.alarms) parts.1 in
+    let table_masks = and_parts _ (list_all is_table_masked core.tables) first.1 in
+    let masks = and_parts (list_all is_task_masked core.tasks) (list_all is_alarm_masked core.alarms) table_masks.0 in
+    let table_acts = and_parts _ (list_all is_table_acting core.tables) parts.1 in
+    let scripts = and_parts (list_all (is_task_script objects) core.tasks) (list_all is_alarm_acting core.alarms) table_acts.0 in
     let named = and_parts (has_named_tasks core) (has_named_resources core) counted.0 in
     let masked = all-both (λ (task : TaskText). is_name task.name) is_task_masked core.tasks named.0 masks.0 in
     let tasks = all-both (λ (task : TaskText). is_name task.name && is_task_masked task) (is_task_script objects) core.tasks masked scripts.0 in
     let acting = all-both (λ (alarm : AlarmText). is_name alarm.name && is_alarm_masked alarm) is_alarm_acting core.alarms (all-both (λ (alarm : AlarmText). is_name alarm.name) is_alarm_masked core.alarms all.1 masks.1) scripts.1 in
     let alarms = list_all-by (λ (alarm : AlarmText). is_name alarm.name && is_alarm_masked alarm && is_alarm_acting alarm) said.is_alarm_expressible (alarm_plan objects (id_of core)) (alarm-said objects (id_of core)) core.alarms acting in
+    let table_acting = all-both (λ (table : TableText). is_name table.name && is_table_masked table) is_table_acting core.tables (all-both (λ (table : TableText). is_name table.name) is_table_masked core.tables every.1 table_masks.1) table_acts.1 in
+    let tables = list_all-by (λ (table : TableText). is_name table.name && is_table_masked table && is_table_acting table) said.is_table_expressible (table_plan objects (id_of core)) (table-said objects (id_of core)) core.tables table_acting in
     let resources = list_all-by (λ (resource : ResourceText). is_name resource.name) said.is_resource_expressible resource_plan (λ resource e. e) core.resources named.1 in
     let counters = list_all-by (λ (counter : CounterText). is_name counter.name) said.is_counter_expressible counter_plan (λ counter e. e) core.counters counted.1 in
-    and_from _ _ (and_from _ _ (and_from _ _ (and_from _ _ (and_from _ _ (list_all-by (λ (task : TaskText). is_name task.name && is_task_masked task && is_task_script objects task) said.is_task_expressible (task_plan objects) (task-said objects) core.tasks tasks) resources) counters) alarms) refl) refl
+    and_from _ _ (and_from _ _ (and_from _ _ (and_from _ _ (and_from _ _ (list_all-by (λ (task : TaskText). is_name task.name && is_task_masked task && is_task_script objects task) said.is_task_expressible (task_plan objects) (task-said objects) core.tasks tasks) resources) counters) alarms) tables) refl
 
 pub expressible-of : (t : ConfigText) → list_all has_named_objects t.cores ≡ true → failing (tests_of t) ≡ [] → said.is_expressible (plan_of t) ≡ true
 expressible-of t named none =
@@ -135,5 +176,5 @@ expressible-of t named none =
     let once = and_parts (are_numbers_distinct (numbers_of t.cores)) _ passed.1 in
     let objects = declarations t.cores in
     let masked = all-both has_named_objects is_core_masked t.cores named passed.4 in
-    let cores = all-both (λ (core : CoreText). has_named_objects core && is_core_masked core) (is_core_script objects) t.cores masked passed.5 in
+    let cores = all-both (λ (core : CoreText). has_named_objects core && is_core_masked core) (is_core_script objects) t.cores masked passed.6 in
     and_from _ _ (list_all-by (λ (core : CoreText). has_named_objects core && is_core_masked core && is_core_script objects core) said.is_core_expressible (core_plan objects) (core-said objects) t.cores cores) (ap (λ names. said.are_distinct (mode_name ∷ names)) (names-kept objects t.cores) ∙ once.1)

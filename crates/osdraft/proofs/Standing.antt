@@ -20,8 +20,9 @@ use Rattle.osdraft.specs.declared.shapes.CoreText.{CoreText}
 use Rattle.osdraft.specs.declared.shapes.CounterText.{CounterText}
 use Rattle.osdraft.specs.declared.shapes.ResourceText.{ResourceText}
 use Rattle.osdraft.specs.declared.shapes.TaskText.{TaskText}
+use Rattle.osdraft.specs.declared.table_shapes.TableText.{TableText}
 use Rattle.osdraft.specs.declared.declarations.Declaration.{Declaration}
-use Rattle.osdraft.specs.Declarations.{byte_of, task_declaration, resource_declaration, counter_declaration, alarm_declaration, declared_tasks, declared_resources, declared_counters, declared_alarms, declared_by, declarations, has_name, place_in, place_of}
+use Rattle.osdraft.specs.Declarations.{byte_of, task_declaration, resource_declaration, counter_declaration, alarm_declaration, table_declaration, declared_tasks, declared_resources, declared_counters, declared_alarms, declared_tables, declared_by, declarations, has_name, place_in, place_of}
 use Rattle.osdraft.specs.Meaning.{core_plan, plan_of}
 use Rattle.osdraft.proofs.Numbers.{byte-at_most}
 
@@ -84,11 +85,19 @@ module _ (t : ConfigText) where
       let count : length (planned core).alarms ≡ length core.alarms = length-map core.alarms _ in
       and_from _ _ (rw found (rw count (le-leb (suc (byte_of (Some n))) (length core.alarms) (omega arith)))) (alarms-there core (n + 1) alarms found (omega arith))
 
+  tables-there : (core : CoreText) (n : ℕ) (tables : List TableText) → IsFound (plan_of t).cores (planned core) → n + length tables ≤ length core.tables → list_all is_there (map (table_declaration core) (enumerate_from n tables)) ≡ true
+  tables-there core n [] found within = refl
+  tables-there core n (table ∷ tables) found within =
+      let below : byte_of (Some n) ≤ n = byte-at_most n in
+      let count : length (planned core).tables ≡ length core.tables = length-map core.tables _ in
+      and_from _ _ (rw found (rw count (le-leb (suc (byte_of (Some n))) (length core.tables) (omega arith)))) (tables-there core (n + 1) tables found (omega arith))
+
   objects-there : (core : CoreText) → IsFound (plan_of t).cores (planned core) → list_all is_there (declared_by core) ≡ true
   objects-there core found =
       let first = list_all-append is_there (declared_tasks core) (declared_resources core) ∙ and_from _ _ (tasks-there core 0 core.tasks found (omega arith)) (resources-there core 0 core.resources found (omega arith)) in
       let next = list_all-append is_there (declared_tasks core ++ declared_resources core) (declared_counters core) ∙ and_from _ _ first (counters-there core 0 core.counters found (omega arith)) in
-      list_all-append is_there (declared_tasks core ++ declared_resources core ++ declared_counters core) (declared_alarms core) ∙ and_from _ _ next (alarms-there core 0 core.alarms found (omega arith))
+      let last = list_all-append is_there (declared_tasks core ++ declared_resources core ++ declared_counters core) (declared_alarms core) ∙ and_from _ _ next (alarms-there core 0 core.alarms found (omega arith)) in
+      list_all-append is_there (declared_tasks core ++ declared_resources core ++ declared_counters core ++ declared_alarms core) (declared_tables core) ∙ and_from _ _ last (tables-there core 0 core.tables found (omega arith))
 
   all-there : (cores : List CoreText) → AllByRecursion (IsFound (plan_of t).cores) (map planned cores) → list_all is_there (declarations cores) ≡ true
   all-there [] found = refl

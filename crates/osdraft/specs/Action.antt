@@ -1,4 +1,4 @@
--- The actions of alarms, and what the names in them stand for. [own]
+-- The actions of alarms and schedule tables, and what the names in them stand for. [own]
 use Rattle.std.specs.Prelude.{ℕ, ◌&&◌, ◌||◌, not, Bool, Option, Some, None, unwrap_or, List}
 use Rattle.oscript.specs.declared.Op.{Op}
 use Rattle.osforms.specs.Action.{is_action}

@@ -1,6 +1,6 @@
 -- The tests of a configuration's text, a row for each fault past its shape that a text can have so far. Each is defined apart from
 -- the others, over the text as it stands. [own]
-use Rattle.std.specs.Prelude.{ℕ, ◌&&◌, nat_le, Bool, Option, is_some, option_map, List, [], ◌∷◌, length, map}
+use Rattle.std.specs.Prelude.{ℕ, ◌&&◌, nat_le, Bool, Option, None, is_some, option_map, List, [], ◌∷◌, length, map}
 use Rattle.std.specs.List.{list_all}
 use Rattle.std.specs.Option.{option_map_or}
 use Rattle.std.specs.Str.{bytes_eq}
@@ -11,8 +11,8 @@ use Rattle.osbase.specs.History.{same_core}
 use Rattle.osforms.specs.Action.{is_action}
 use Rattle.osforms.specs.Operation.{has_masks}
 use Rattle.osplan.specs.Expressible.{are_distinct, is_jumping_within, mode_name}
-use Rattle.osplan.specs.Limits.{TaskSizes, CounterSizes, StartSizes, CoreSizes, Sizes, is_between, is_by, is_task_numbered, is_task_short, is_within, has_number, are_numbers_distinct, stays_on}
-use Rattle.osplan.specs.declared.faults.ConfFault.TheVariants.{Limit, DuplicateName, UnknownName, WrongCore, BadMask, BadScript}
+use Rattle.osplan.specs.Limits.{TaskSizes, CounterSizes, StartSizes, PointSizes, TableSizes, CoreSizes, Sizes, is_between, is_by, is_task_numbered, is_task_short, is_within, is_table_timed, has_number, are_numbers_distinct, stays_on}
+use Rattle.osplan.specs.declared.faults.ConfFault.TheVariants.{Limit, DuplicateName, UnknownName, WrongCore, BadMask, BadTable, BadScript}
 use Rattle.osdraft.specs.declared.shapes.AlarmStartText.{AlarmStartText}
 use Rattle.osdraft.specs.declared.shapes.AlarmText.{AlarmText}
 use Rattle.osdraft.specs.declared.shapes.ConfigText.{ConfigText}
@@ -20,10 +20,14 @@ use Rattle.osdraft.specs.declared.shapes.CoreText.{CoreText}
 use Rattle.osdraft.specs.declared.shapes.CounterText.{CounterText}
 use Rattle.osdraft.specs.declared.shapes.ResourceText.{ResourceText}
 use Rattle.osdraft.specs.declared.shapes.TaskText.{TaskText}
+use Rattle.osdraft.specs.declared.table_shapes.PointText.{PointText}
+use Rattle.osdraft.specs.declared.table_shapes.TableStartText.{TableStartText}
+use Rattle.osdraft.specs.declared.table_shapes.TableText.{TableText}
 use Rattle.osread.specs.Faults.{Tests}
 use Rattle.osdraft.specs.declared.declarations.Declaration.{Declaration}
 use Rattle.osdraft.specs.Action.{is_action_known, is_action_masked}
 use Rattle.osdraft.specs.Declarations.{counter_declared, counter_ref, declarations, declared_sizes, id_of, place_of}
+use Rattle.osdraft.specs.Posted.{posted_at_once}
 use Rattle.osdraft.specs.Operation.{operations_of, op_of, is_operation_known, is_operation}
 
 -- ---- limits: those of a configuration, over the text's numbers
@@ -41,6 +45,22 @@ start_sizes objects counter auto = record { start = auto.start; cycle = auto.cyc
 abbrev pub alarm_sizes : List Declaration → AlarmText → Option StartSizes
 alarm_sizes objects alarm = option_map (start_sizes objects alarm.counter) alarm.auto
 
+abbrev pub point_sizes : PointText → PointSizes
+point_sizes point = record { offset = point.offset; actions = length point.actions }
+
+abbrev pub table_sizes : List Declaration → TableText → TableSizes
+table_sizes objects table = record {
+  duration = table.duration;
+  repeating = table.repeating;
+  points = map point_sizes table.points;
+  auto = option_map (λ (auto : TableStartText). auto.offset) table.auto;
+  counter = option_map declared_sizes (counter_declared objects table.counter);
+}
+
+-- The same, whichever its counter is.
+abbrev pub table_times : TableText → TableSizes
+table_times table = record (table_sizes [] table) { counter = None }
+
 abbrev pub core_sizes : List Declaration → CoreText → CoreSizes
 core_sizes objects core = record {
   number = core.id;
@@ -49,11 +69,13 @@ core_sizes objects core = record {
   resources = map (λ (resource : ResourceText). resource.ceiling) core.resources;
   counters = map counter_sizes core.counters;
   alarms = map (alarm_sizes objects) core.alarms;
+  tables = map (table_sizes objects) core.tables;
+  posted = posted_at_once objects core;
 }
 
--- Without its counters and its alarms.
+-- Without its counters, its alarms and its tables.
 abbrev pub bare_sizes : CoreText → CoreSizes
-bare_sizes core = record (core_sizes [] core) { counters = []; alarms = [] }
+bare_sizes core = record (core_sizes [] core) { counters = []; alarms = []; tables = []; posted = 0 }
 
 -- There is one mode.
 abbrev pub sizes_of : ConfigText → Sizes
@@ -104,9 +126,12 @@ has_named_counters core = list_all (λ (counter : CounterText). is_name counter.
 abbrev pub has_named_alarms : CoreText → Bool
 has_named_alarms core = list_all (λ (alarm : AlarmText). is_name alarm.name) core.alarms
 
+abbrev pub has_named_tables : CoreText → Bool
+has_named_tables core = list_all (λ (table : TableText). is_name table.name) core.tables
+
 -- Each object of the core has a name in form, as in every shape.
 abbrev pub has_named_objects : CoreText → Bool
-has_named_objects core = has_named_tasks core && has_named_resources core && has_named_counters core && has_named_alarms core
+has_named_objects core = has_named_tasks core && has_named_resources core && has_named_counters core && has_named_alarms core && has_named_tables core
 
 abbrev pub are_operations_known : List Declaration → List ℕ → Bool
 are_operations_known objects script = list_all (is_operation_known objects) (operations_of script)
@@ -123,10 +148,19 @@ alarm_modes alarm = option_map_or (λ (auto : AlarmStartText). auto.modes) alarm
 abbrev pub is_alarm_known : List Declaration → AlarmText → Bool
 is_alarm_known objects alarm = is_some (place_of objects Counter alarm.counter) && is_action_known objects alarm.action && list_all is_mode_name (alarm_modes alarm)
 
-abbrev pub is_core_known : List Declaration → CoreText → Bool
-is_core_known objects core = list_all (is_task_known objects) core.tasks && list_all (is_alarm_known objects) core.alarms
+abbrev pub is_point_known : List Declaration → PointText → Bool
+is_point_known objects point = list_all (is_action_known objects) point.actions
 
--- The master is a configured core, and each name in an autostart, an operation or an alarm has its object.
+abbrev pub table_modes : TableText → List (List ℕ)
+table_modes table = option_map_or (λ (auto : TableStartText). auto.modes) table.auto []
+
+abbrev pub is_table_known : List Declaration → TableText → Bool
+is_table_known objects table = is_some (place_of objects Counter table.counter) && list_all (is_point_known objects) table.points && list_all is_mode_name (table_modes table)
+
+abbrev pub is_core_known : List Declaration → CoreText → Bool
+is_core_known objects core = list_all (is_task_known objects) core.tasks && list_all (is_alarm_known objects) core.alarms && list_all (is_table_known objects) core.tables
+
+-- The master is a configured core, and each name in an autostart, an operation, an alarm or a table has its object.
 abbrev pub are_known : ConfigText → Bool
 are_known t = has_number (numbers_of t.cores) t.master && list_all (is_core_known (declarations t.cores)) t.cores
 
@@ -138,7 +172,7 @@ abbrev pub is_task_readable : List Declaration → TaskText → Bool
 is_task_readable objects task = list_all is_mode_name task.auto && are_operations_readable objects task.script
 
 abbrev pub is_core_readable : List Declaration → CoreText → Bool
-is_core_readable objects core = list_all (is_task_readable objects) core.tasks && list_all (is_alarm_known objects) core.alarms
+is_core_readable objects core = list_all (is_task_readable objects) core.tasks && list_all (is_alarm_known objects) core.alarms && list_all (is_table_known objects) core.tables
 
 abbrev pub are_readable : ConfigText → Bool
 are_readable t = has_number (numbers_of t.cores) t.master && list_all (is_core_readable (declarations t.cores)) t.cores
@@ -156,10 +190,14 @@ is_script_near objects id script = list_all (is_operation_near objects id) (oper
 abbrev pub is_alarm_near : List Declaration → CoreId → AlarmText → Bool
 is_alarm_near objects id alarm = same_core (counter_ref objects id alarm.counter).core id
 
-abbrev pub is_core_near : List Declaration → CoreText → Bool
-is_core_near objects core = list_all (λ (task : TaskText). is_script_near objects (id_of core) task.script) core.tasks && list_all (is_alarm_near objects (id_of core)) core.alarms
+-- And the table's.
+abbrev pub is_table_near : List Declaration → CoreId → TableText → Bool
+is_table_near objects id table = same_core (counter_ref objects id table.counter).core id
 
--- So it is with each operation of each core's scripts, and with each alarm.
+abbrev pub is_core_near : List Declaration → CoreText → Bool
+is_core_near objects core = list_all (λ (task : TaskText). is_script_near objects (id_of core) task.script) core.tasks && list_all (is_alarm_near objects (id_of core)) core.alarms && list_all (is_table_near objects (id_of core)) core.tables
+
+-- So it is with each operation of each core's scripts, and with each alarm and each table.
 abbrev pub are_near : ConfigText → Bool
 are_near t = list_all (is_core_near (declarations t.cores)) t.cores
 
@@ -171,12 +209,27 @@ is_task_masked task = list_all has_masks (operations_of task.script)
 abbrev pub is_alarm_masked : AlarmText → Bool
 is_alarm_masked alarm = is_action_masked alarm.action
 
+abbrev pub is_point_masked : PointText → Bool
+is_point_masked point = list_all is_action_masked point.actions
+
+abbrev pub is_table_masked : TableText → Bool
+is_table_masked table = list_all is_point_masked table.points
+
 abbrev pub is_core_masked : CoreText → Bool
-is_core_masked core = list_all is_task_masked core.tasks && list_all is_alarm_masked core.alarms
+is_core_masked core = list_all is_task_masked core.tasks && list_all is_alarm_masked core.alarms && list_all is_table_masked core.tables
 
 -- Each mask in an operation or an action in good form is in its range.
 abbrev pub are_masks : ConfigText → Bool
 are_masks t = list_all is_core_masked t.cores
+
+-- ---- tables
+
+abbrev pub is_core_timed : List Declaration → CoreText → Bool
+is_core_timed objects core = list_all (λ (table : TableText). is_table_timed (table_sizes objects table)) core.tables
+
+-- The points of each table come in order, with delays that its counter admits.
+abbrev pub are_timed : ConfigText → Bool
+are_timed t = list_all (is_core_timed (declarations t.cores)) t.cores
 
 -- ---- scripts
 
@@ -191,14 +244,21 @@ is_task_script objects task = is_script objects task.script
 abbrev pub is_alarm_acting : AlarmText → Bool
 is_alarm_acting alarm = is_action alarm.action
 
-abbrev pub is_core_script : List Declaration → CoreText → Bool
-is_core_script objects core = list_all (is_task_script objects) core.tasks && list_all is_alarm_acting core.alarms
+-- And each action of the point.
+abbrev pub is_point_acting : PointText → Bool
+is_point_acting point = list_all is_action point.actions
 
--- So it is with each script and each alarm.
+abbrev pub is_table_acting : TableText → Bool
+is_table_acting table = list_all is_point_acting table.points
+
+abbrev pub is_core_script : List Declaration → CoreText → Bool
+is_core_script objects core = list_all (is_task_script objects) core.tasks && list_all is_alarm_acting core.alarms && list_all is_table_acting core.tables
+
+-- So it is with each script, each alarm and each table.
 abbrev pub are_operations : ConfigText → Bool
 are_operations t = list_all (is_core_script (declarations t.cores)) t.cores
 
 -- ---- the table, in ascending order of faults
 
 abbrev pub tests_of : ConfigText → Tests
-tests_of t = (Limit, is_text_within t) ∷ (DuplicateName, is_each_once t) ∷ (UnknownName, are_known t) ∷ (WrongCore, are_near t) ∷ (BadMask, are_masks t) ∷ (BadScript, are_operations t) ∷ []
+tests_of t = (Limit, is_text_within t) ∷ (DuplicateName, is_each_once t) ∷ (UnknownName, are_known t) ∷ (WrongCore, are_near t) ∷ (BadMask, are_masks t) ∷ (BadTable, are_timed t) ∷ (BadScript, are_operations t) ∷ []

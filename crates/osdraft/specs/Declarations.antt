@@ -6,7 +6,7 @@ use Rattle.osbase.specs.Objects.{counter_of, same_kind}
 use Rattle.osbase.specs.declared.references.CoreId.{CoreId}
 use Rattle.osbase.specs.declared.references.CounterRef.{CounterRef}
 use Rattle.osbase.specs.declared.objects.ObjectKind.{ObjectKind}
-use Rattle.osbase.specs.declared.objects.ObjectKind.TheVariants.{Task, Resource, Counter, Alarm}
+use Rattle.osbase.specs.declared.objects.ObjectKind.TheVariants.{Task, Resource, Counter, Alarm, Table}
 use Rattle.osbase.specs.declared.objects.Place.{Place}
 use Rattle.osplan.specs.Expressible.{mode_name}
 use Rattle.osplan.specs.Limits.{CounterSizes}
@@ -15,6 +15,7 @@ use Rattle.osdraft.specs.declared.shapes.CoreText.{CoreText}
 use Rattle.osdraft.specs.declared.shapes.CounterText.{CounterText}
 use Rattle.osdraft.specs.declared.shapes.ResourceText.{ResourceText}
 use Rattle.osdraft.specs.declared.shapes.TaskText.{TaskText}
+use Rattle.osdraft.specs.declared.table_shapes.TableText.{TableText}
 use Rattle.osdraft.specs.declared.declarations.Declaration.{Declaration}
 
 -- A number as a byte: 0 where it is no byte, which no text without a fault has.
@@ -63,9 +64,16 @@ alarm_declaration core p = record { name = p.1.name; kind = Alarm; core = id_of 
 abbrev pub declared_alarms : CoreText → List Declaration
 declared_alarms core = map (alarm_declaration core) (enumerate_from 0 core.alarms)
 
--- A core declares its tasks, then its resources, its counters and its alarms, in their order. No other kind can be configured yet.
+-- The schedule table of a core at an index.
+abbrev pub table_declaration : CoreText → ℕ × TableText → Declaration
+table_declaration core p = record { name = p.1.name; kind = Table; core = id_of core; index = p.0; max = None; min = None }
+
+abbrev pub declared_tables : CoreText → List Declaration
+declared_tables core = map (table_declaration core) (enumerate_from 0 core.tables)
+
+-- A core declares its tasks, then its resources, its counters, its alarms and its tables, in their order. No other kind can be configured yet.
 abbrev pub declared_by : CoreText → List Declaration
-declared_by core = declared_tasks core ++ declared_resources core ++ declared_counters core ++ declared_alarms core
+declared_by core = declared_tasks core ++ declared_resources core ++ declared_counters core ++ declared_alarms core ++ declared_tables core
 
 -- All objects, core by core.
 abbrev pub declarations : List CoreText → List Declaration
@@ -103,3 +111,7 @@ counter_declared objects name = if is_alone objects name then option_and_then if
 
 abbrev pub declared_sizes : Declaration → CounterSizes
 declared_sizes declaration = record { max = declaration.max; min = declaration.min }
+
+-- Where the object of a kind and a name stands, where the name is that object's alone.
+abbrev pub place_alone : List Declaration → ObjectKind → List ℕ → Option Place
+place_alone objects kind name = if is_alone objects name then place_of objects kind name else None

@@ -6,3 +6,4 @@ pub mod Check
 pub mod Meaning
 pub mod Index
 pub mod Few
+pub mod Posted

@@ -9,6 +9,9 @@ use Rattle.osplan.specs.declared.plans.Plan.{Plan}
 use Rattle.osplan.specs.declared.plans.Core.{Core}
 use Rattle.osplan.specs.declared.plans.Counter.{Counter}
 use Rattle.osplan.specs.declared.plans.Resource.{Resource}
+use Rattle.osplan.specs.declared.plans.ExpiryPoint.{ExpiryPoint}
+use Rattle.osplan.specs.declared.plans.Table.{Table}
+use Rattle.osplan.specs.declared.plans.TableStart.{TableStart}
 use Rattle.osplan.specs.declared.plans.Task.{Task}
 use Rattle.osplan.specs.declared.plans.CoreMode.TheVariants.{Named}
 use Rattle.serde_json.specs.Data.{Data}
@@ -22,6 +25,9 @@ use Rattle.osdraft.specs.declared.shapes.CoreText.{CoreText}
 use Rattle.osdraft.specs.declared.shapes.CounterText.{CounterText}
 use Rattle.osdraft.specs.declared.shapes.ResourceText.{ResourceText}
 use Rattle.osdraft.specs.declared.shapes.TaskText.{TaskText}
+use Rattle.osdraft.specs.declared.table_shapes.PointText.{PointText}
+use Rattle.osdraft.specs.declared.table_shapes.TableStartText.{TableStartText}
+use Rattle.osdraft.specs.declared.table_shapes.TableText.{TableText}
 use Rattle.osplan.specs.Expressible.{mode_name}
 use Rattle.osread.specs.Faults.{IsLeast, failing, if_faultless}
 use Rattle.osdraft.specs.Shape.{config_shape}
@@ -29,7 +35,7 @@ use Rattle.osdraft.specs.declared.declarations.Declaration.{Declaration}
 use Rattle.osdraft.specs.Action.{action_of}
 use Rattle.osdraft.specs.Declarations.{byte_of, counter_ref, declarations, number_id, id_of, word_of}
 use Rattle.osdraft.specs.Operation.{operations_of, op_of}
-use Rattle.osdraft.specs.Check.{is_task_readable, is_core_readable, is_alarm_known, is_task_masked, is_alarm_masked, is_core_masked, is_task_script, is_alarm_acting, is_core_script, tests_of}
+use Rattle.osdraft.specs.Check.{is_task_readable, is_core_readable, is_alarm_known, is_point_known, is_table_known, is_point_masked, is_table_masked, is_point_acting, is_table_acting, is_task_masked, is_alarm_masked, is_core_masked, is_task_script, is_alarm_acting, is_core_script, tests_of}
 use Rattle.osread.specs.Reading.{value_if}
 
 -- There is one mode, of number 0.
@@ -65,6 +71,23 @@ alarm_plan objects id alarm = record {
   auto = option_map start_plan alarm.auto;
 }
 
+abbrev pub point_plan : List Declaration → PointText → ExpiryPoint
+point_plan objects point = record { offset = word_of point.offset; actions = map (action_of objects) point.actions }
+
+abbrev pub table_start_plan : TableStartText → TableStart
+table_start_plan auto = record { modes = map (λ (name : List ℕ). only_mode) auto.modes; offset = word_of auto.offset }
+
+-- Of a schedule table of the core of this number.
+abbrev pub table_plan : List Declaration → CoreId → TableText → Table
+table_plan objects id table = record {
+  name = table.name;
+  counter = counter_ref objects id table.counter;
+  duration = word_of table.duration;
+  repeating = table.repeating;
+  points = map (point_plan objects) table.points;
+  auto = option_map table_start_plan table.auto;
+}
+
 abbrev pub core_plan : List Declaration → CoreText → Core
 core_plan objects core = record {
   id = id_of core;
@@ -75,15 +98,21 @@ core_plan objects core = record {
   isrs = [];
   counters = map counter_plan core.counters;
   alarms = map (alarm_plan objects (id_of core)) core.alarms;
-  tables = [];
+  tables = map (table_plan objects (id_of core)) core.tables;
 }
 
--- The plans of a task, an alarm and a core whose names are known, whose operations are few, whose masks are in their range and whose scripts have no fault.
+-- The plans of a task, an alarm, a point, a table and a core whose names are known, whose operations are few, whose masks are in their range and whose scripts have no fault.
 abbrev pub known_task : List Declaration → TaskText → Option Task
 known_task objects task = value_if (is_task_readable objects task && is_task_masked task && is_task_script objects task) (task_plan objects task)
 
 abbrev pub known_alarm : List Declaration → CoreId → AlarmText → Option Alarm
 known_alarm objects id alarm = value_if (is_alarm_known objects alarm && is_alarm_masked alarm && is_alarm_acting alarm) (alarm_plan objects id alarm)
+
+abbrev pub known_point : List Declaration → PointText → Option ExpiryPoint
+known_point objects point = value_if (is_point_known objects point && is_point_masked point && is_point_acting point) (point_plan objects point)
+
+abbrev pub known_table : List Declaration → CoreId → TableText → Option Table
+known_table objects id table = value_if (is_table_known objects table && is_table_masked table && is_table_acting table) (table_plan objects id table)
 
 abbrev pub known_core : List Declaration → CoreText → Option Core
 known_core objects core = value_if (is_core_readable objects core && is_core_masked core && is_core_script objects core) (core_plan objects core)

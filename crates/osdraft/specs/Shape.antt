@@ -9,6 +9,9 @@ use Rattle.osdraft.specs.declared.shapes.CoreText.{CoreText}
 use Rattle.osdraft.specs.declared.shapes.CounterText.{CounterText}
 use Rattle.osdraft.specs.declared.shapes.ResourceText.{ResourceText}
 use Rattle.osdraft.specs.declared.shapes.TaskText.{TaskText}
+use Rattle.osdraft.specs.declared.table_shapes.PointText.{PointText}
+use Rattle.osdraft.specs.declared.table_shapes.TableStartText.{TableStartText}
+use Rattle.osdraft.specs.declared.table_shapes.TableText.{TableText}
 use Rattle.osread.specs.Reading.{◌>>=◌}
 use Rattle.osread.specs.Json.{whole_of, name_of, each_of, or_null, member_of, member_or, only_members}
 
@@ -63,17 +66,47 @@ alarm_shape d = do
   auto ← member_or (or_null alarm_start_shape) None (codes "auto") d
   Some (record { name = name; counter = counter; action = action; auto = auto })
 
--- A core: its number; the cores that it starts, its tasks, its resources, its counters and its alarms, none by default.
+-- An expiry point of a schedule table: its offset and its actions.
+unfoldable pub point_shape : Data → Option PointText
+point_shape d = do
+  _ ← only_members (codes "offset" ∷ codes "actions" ∷ []) d
+  offset ← member_of whole_of (codes "offset") d
+  actions ← member_of (each_of as_str) (codes "actions") d
+  Some (record { offset = offset; actions = actions })
+
+-- How a schedule table is started by itself: in which modes, and after how many counts.
+unfoldable pub table_start_shape : Data → Option TableStartText
+table_start_shape d = do
+  _ ← only_members (codes "modes" ∷ codes "offset" ∷ []) d
+  modes ← member_of (each_of name_of) (codes "modes") d
+  offset ← member_of whole_of (codes "offset") d
+  Some (record { modes = modes; offset = offset })
+
+-- A schedule table: its name, its counter's, its duration and its points; whether it repeats, which is not so by default; how it is
+-- started by itself, or null, by default, where it is not.
+unfoldable pub table_shape : Data → Option TableText
+table_shape d = do
+  _ ← only_members (codes "name" ∷ codes "counter" ∷ codes "duration" ∷ codes "points" ∷ codes "repeating" ∷ codes "auto" ∷ []) d
+  name ← member_of name_of (codes "name") d
+  counter ← member_of name_of (codes "counter") d
+  duration ← member_of whole_of (codes "duration") d
+  points ← member_of (each_of point_shape) (codes "points") d
+  repeating ← member_or as_bool false (codes "repeating") d
+  auto ← member_or (or_null table_start_shape) None (codes "auto") d
+  Some (record { name = name; counter = counter; duration = duration; points = points; repeating = repeating; auto = auto })
+
+-- A core: its number; the cores that it starts, its tasks, its resources, its counters, its alarms and its tables, none by default.
 unfoldable pub core_shape : Data → Option CoreText
 core_shape d = do
-  _ ← only_members (codes "id" ∷ codes "start" ∷ codes "tasks" ∷ codes "resources" ∷ codes "counters" ∷ codes "alarms" ∷ []) d
+  _ ← only_members (codes "id" ∷ codes "start" ∷ codes "tasks" ∷ codes "resources" ∷ codes "counters" ∷ codes "alarms" ∷ codes "tables" ∷ []) d
   id ← member_of whole_of (codes "id") d
   start ← member_or (each_of whole_of) [] (codes "start") d
   tasks ← member_or (each_of task_shape) [] (codes "tasks") d
   resources ← member_or (each_of resource_shape) [] (codes "resources") d
   counters ← member_or (each_of counter_shape) [] (codes "counters") d
   alarms ← member_or (each_of alarm_shape) [] (codes "alarms") d
-  Some (record { id = id; start = start; tasks = tasks; resources = resources; counters = counters; alarms = alarms })
+  tables ← member_or (each_of table_shape) [] (codes "tables") d
+  Some (record { id = id; start = start; tasks = tasks; resources = resources; counters = counters; alarms = alarms; tables = tables })
 
 -- A configuration: its version, 1 by default; the size of a mailbox, 16 by default; the master core, 0 by default; its cores.
 unfoldable pub config_shape : Data → Option ConfigText

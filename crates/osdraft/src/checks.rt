@@ -1,6 +1,6 @@
 //! The tests of a configuration's text, one for each fault past its shape, in ascending order.
 
-ghost use Rattle.std.specs.Prelude.{◌≡◌, ◌==◌, ◌&&◌, ◌<◌, ◌^◌, true, false, Some, is_some, map, sum_by};
+ghost use Rattle.std.specs.Prelude.{◌≡◌, ◌==◌, ◌&&◌, ◌<◌, ◌^◌, true, false, Some, is_some, length, map, sum_by};
 ghost use Rattle.std.specs.List.{list_all, slice_split};
 ghost use Rattle.osbase.specs.declared.objects.ObjectKind.TheVariants.{Counter as CounterKind};
 ghost use Rattle.osdraft.specs.declared.shapes.AlarmText.{AlarmText as Alarm};
@@ -9,18 +9,22 @@ ghost use Rattle.osdraft.specs.declared.shapes.CounterText.{CounterText as Count
 ghost use Rattle.osdraft.specs.declared.shapes.ResourceText.{ResourceText as Resource};
 ghost use Rattle.osdraft.specs.declared.shapes.TaskText.{TaskText as Task};
 ghost use Rattle.osforms.specs.Operation.{has_masks};
-ghost use Rattle.osplan.specs.Limits.{are_alarms_within, are_counters_within, are_numbers_distinct, has_number, is_alarm_within, is_between, is_ceiling, is_core_by, is_counter_within, is_cycle, is_start, is_start_within, is_task_numbered, jobs_of, most_activations, same_number};
+ghost use Rattle.osplan.specs.Limits.{are_alarms_within, are_counters_within, are_numbers_distinct, has_number, is_alarm_within, is_between, is_ceiling, is_core_by, is_counter_within, is_cycle, is_start, is_start_within, is_task_numbered, jobs_of, most_activations, most_cores, same_number};
 ghost use Rattle.osread.specs.Faults.{failing, first_fault};
 ghost use Rattle.osdraft.specs.Action.{is_action_known, is_action_masked};
 ghost use Rattle.osdraft.specs.Declarations.{declarations, declared_sizes, place_of};
 ghost use Rattle.osdraft.specs.Operation.{is_operation_known};
 ghost use Rattle.osdraft.specs.Few.{are_objects_few, is_core_few};
-ghost use Rattle.osdraft.specs.Check.{are_masks, are_near, are_readable, are_scripts_short, is_core_short, is_script_short, is_text_numbered, is_core_masked, is_core_near, is_operation_near, is_script_near, task_sizes, counter_sizes, start_sizes, alarm_sizes, bare_sizes, core_sizes, sizes_of, numbers_of, is_text_within, is_each_once, are_operations_known, is_mode_name, alarm_modes, is_task_known, is_alarm_known, is_alarm_near, is_core_known, is_task_masked, is_alarm_masked, are_known, are_operations, tests_of};
+ghost use Rattle.osdraft.specs.Check.{are_masks, are_near, are_readable, are_scripts_short, is_core_short, is_script_short, is_text_numbered, is_core_masked, is_core_near, is_operation_near, is_script_near, task_sizes, counter_sizes, start_sizes, alarm_sizes, bare_sizes, core_sizes, sizes_of, numbers_of, is_text_within, is_each_once, are_operations_known, is_mode_name, alarm_modes, is_task_known, is_alarm_known, is_alarm_near, is_core_known, is_task_masked, is_alarm_masked, is_core_timed, are_timed, are_known, are_operations, tests_of};
 
 use crate::declarations::{Declaration, number_id};
 use crate::places::{MODE, Objects};
 use crate::shapes::{
     AlarmStartText, AlarmText, ConfigText, CoreText, CounterText, ResourceText, TaskText,
+};
+use crate::table_checks::{
+    TABLES, are_posted_few, are_tables_known, are_tables_masked, are_tables_near, are_tables_timed,
+    are_tables_within,
 };
 use osbase::{CoreId, ObjectKind, TASKS};
 use osforms::{Places, has_masks, is_action, is_known, op_meant};
@@ -48,7 +52,7 @@ const CORES: usize = 8;
 /// The most operations of a script.
 pub(crate) const OPERATIONS: usize = 256;
 
-fn is_between(low: u64, high: u64, number: Whole) -> bool
+pub(crate) fn is_between(low: u64, high: u64, number: Whole) -> bool
     ensures { result ≡ is_between low high number }
 {
     match number {
@@ -161,8 +165,8 @@ fn are_alarms_within(objects: &Objects, alarms: &[AlarmText]) -> bool
     alarms.len() <= ALARMS && is_each_alarm_within(objects, alarms)
 }
 
-// Whether the core is within its limits, but for its counters and its alarms.
-#[tactic(auto, using(crate::proofs::Numbers::mapped, crate::proofs::Numbers::few_jobs, crate::proofs::Counting::both_true))]
+// Whether the core is within its limits, but for its counters, its alarms and its tables, and what these post.
+#[tactic(auto, using(crate::proofs::Numbers::mapped, crate::proofs::Numbers::few_jobs, crate::proofs::Counting::all_true))]
 fn is_bare_core_numbered(core: &CoreText) -> bool
     ensures { result ≡ is_core_by is_task_numbered (bare_sizes core.now) }
 {
@@ -184,12 +188,20 @@ fn is_core_numbered(objects: &Objects, core: &CoreText) -> bool
     is_bare_core_numbered(core)
         && are_counters_within(core.counters.as_slice())
         && are_alarms_within(objects, core.alarms.as_slice())
+        && are_tables_within(objects, core.tables.as_slice())
+        && are_posted_few(objects, core)
 }
 
 fn are_cores_numbered(objects: &Objects, cores: &[CoreText]) -> bool
     ensures { result ≡ list_all (λ (core : Core). is_core_by is_task_numbered (core_sizes objects.now.declared core)) cores.now }
 {
     cores.iter().all(|core| is_core_numbered(objects, core))
+}
+
+fn are_cores_within(objects: &Objects, cores: &[CoreText]) -> bool
+    ensures { result ≡ (is_between 1 most_cores (Some (length cores.now)) && list_all (λ (core : Core). is_core_by is_task_numbered (core_sizes objects.now.declared core)) cores.now) }
+{
+    1 <= cores.len() && cores.len() <= CORES && are_cores_numbered(objects, cores)
 }
 
 fn is_core_few(core: &CoreText) -> bool
@@ -199,6 +211,7 @@ fn is_core_few(core: &CoreText) -> bool
         && core.resources.len() <= RESOURCES
         && core.counters.len() <= COUNTERS
         && core.alarms.len() <= ALARMS
+        && core.tables.len() <= TABLES
 }
 
 fn are_cores_few(cores: &[CoreText]) -> bool
@@ -217,16 +230,13 @@ pub fn are_objects_few(text: &ConfigText) -> bool
 
 /// Whether the text is of version 1 and within the limits, but for its scripts, whose operations are counted where they
 /// are read.
-#[tactic(auto, using(crate::proofs::Numbers::mapped))]
 pub fn is_numbered(text: &ConfigText, objects: &Objects) -> bool
     requires objects { objects.now.declared ≡ declarations text.now.cores }
     ensures { result ≡ is_text_numbered text.now }
 {
     is_between(1, 1, text.version)
         && is_between(1, 16, text.cap)
-        && 1 <= text.cores.len()
-        && text.cores.len() <= CORES
-        && are_cores_numbered(objects, text.cores.as_slice())
+        && are_cores_within(objects, text.cores.as_slice())
 }
 
 fn is_script_short(task: &TaskText) -> bool
@@ -326,7 +336,7 @@ fn is_task_known(objects: &Objects, task: &TaskText) -> bool
     are_mode_names(task.auto.as_slice()) && are_operations_known(objects, task.script.as_str())
 }
 
-fn is_action_known(objects: &Objects, text: &str) -> bool
+pub(crate) fn is_action_known(objects: &Objects, text: &str) -> bool
     ensures { result ≡ is_action_known objects.now.declared text.now }
 {
     !is_action(text) || is_known(objects, text)
@@ -342,7 +352,7 @@ pub fn are_alarm_modes(alarm: &AlarmText) -> bool
     }
 }
 
-fn is_counter(objects: &Objects, name: &str) -> bool
+pub(crate) fn is_counter(objects: &Objects, name: &str) -> bool
     ensures { result ≡ is_some (place_of objects.now.declared CounterKind name.now) }
 {
     objects.place(ObjectKind::Counter, name).is_some()
@@ -373,6 +383,7 @@ fn is_core_known(objects: &Objects, core: &CoreText) -> bool
 {
     are_tasks_known(objects, core.tasks.as_slice())
         && are_alarms_known(objects, core.alarms.as_slice())
+        && are_tables_known(objects, core.tables.as_slice())
 }
 
 fn are_cores_known(objects: &Objects, cores: &[CoreText]) -> bool
@@ -441,6 +452,7 @@ fn is_core_near(objects: &Objects, core: &CoreText) -> bool
     let id = number_id(core.id);
     are_scripts_near(objects, id, core.tasks.as_slice())
         && are_alarms_near(objects, id, core.alarms.as_slice())
+        && are_tables_near(objects, id, core.tables.as_slice())
 }
 
 fn are_near(text: &ConfigText, objects: &Objects) -> bool
@@ -465,7 +477,7 @@ fn is_task_masked(task: &TaskText) -> bool
     task.script.as_str().is_empty() || are_parts_masked(task.script.as_str())
 }
 
-fn is_action_masked(text: &str) -> bool
+pub(crate) fn is_action_masked(text: &str) -> bool
     ensures { result ≡ is_action_masked text.now }
 {
     !is_action(text) || has_masks(text)
@@ -492,7 +504,9 @@ fn are_alarms_masked(alarms: &[AlarmText]) -> bool
 fn is_core_masked(core: &CoreText) -> bool
     ensures { result ≡ is_core_masked core.now }
 {
-    are_tasks_masked(core.tasks.as_slice()) && are_alarms_masked(core.alarms.as_slice())
+    are_tasks_masked(core.tasks.as_slice())
+        && are_alarms_masked(core.alarms.as_slice())
+        && are_tables_masked(core.tables.as_slice())
 }
 
 fn are_masks(text: &ConfigText) -> bool
@@ -501,12 +515,30 @@ fn are_masks(text: &ConfigText) -> bool
     text.cores.as_slice().iter().all(is_core_masked)
 }
 
+fn is_core_timed(objects: &Objects, core: &CoreText) -> bool
+    ensures { result ≡ is_core_timed objects.now.declared core.now }
+{
+    are_tables_timed(objects, core.tables.as_slice())
+}
+
+/// Whether the points of each table come in order, with delays that its counter admits.
+pub fn are_timed(text: &ConfigText, objects: &Objects) -> bool
+    requires objects { objects.now.declared ≡ declarations text.now.cores }
+    ensures { result ≡ are_timed text.now }
+{
+    text.cores
+        .as_slice()
+        .iter()
+        .all(|core| is_core_timed(objects, core))
+}
+
 // The fault of a text without those, some name of which names nothing or what it may not name, some mask of which is
-// out of its range, or some script or action of which is not in good form.
+// out of its range, the points of some table of which do not come in order, or some script or action of which is not in
+// good form.
 fn fault_of_names(text: &ConfigText, objects: &Objects) -> ConfFault
     requires objects { objects.now.declared ≡ declarations text.now.cores }
     requires checked { (is_text_within text.now && is_each_once text.now) ≡ true }
-    requires faulty { (are_known text.now && are_near text.now && are_masks text.now && are_operations text.now) ≡ false }
+    requires faulty { (are_known text.now && are_near text.now && are_masks text.now && are_timed text.now && are_operations text.now) ≡ false }
     ensures { first_fault (failing (tests_of text.now)) ≡ Some result }
 {
     if !are_known(text, objects) {
@@ -515,6 +547,8 @@ fn fault_of_names(text: &ConfigText, objects: &Objects) -> ConfFault
         ConfFault::WrongCore
     } else if !are_masks(text) {
         ConfFault::BadMask
+    } else if !are_timed(text, objects) {
+        ConfFault::BadTable
     } else {
         ConfFault::BadScript
     }
@@ -525,7 +559,7 @@ fn fault_of_names(text: &ConfigText, objects: &Objects) -> ConfFault
 pub fn fault_of(text: &ConfigText, objects: &Objects) -> ConfFault
     requires objects { objects.now.declared ≡ declarations text.now.cores }
     requires numbered { is_text_numbered text.now ≡ true }
-    requires faulty { (is_each_once text.now && (are_readable text.now && are_near text.now && are_masks text.now && are_operations text.now)) ≡ false }
+    requires faulty { (is_each_once text.now && (are_readable text.now && are_near text.now && are_masks text.now && are_timed text.now && are_operations text.now)) ≡ false }
     ensures { first_fault (failing (tests_of text.now)) ≡ Some result }
 {
     if !are_scripts_short(text) {

@@ -1,7 +1,7 @@
 //! The objects that a configuration's text declares, in one list.
 
 ghost use Rattle.std.specs.Prelude.{◌≡◌, ◌++◌, IfOk, OnOk};
-ghost use Rattle.osdraft.specs.Declarations.{byte_of, declarations, declared_alarms, declared_by, declared_counters, declared_resources, declared_tasks, number_id, word_of};
+ghost use Rattle.osdraft.specs.Declarations.{byte_of, declarations, declared_alarms, declared_by, declared_counters, declared_resources, declared_tables, declared_tasks, number_id, word_of};
 
 use crate::shapes::CoreText;
 use osbase::{CoreId, List, ObjectKind};
@@ -132,6 +132,25 @@ fn declare_alarms<'t>(
     Ok(())
 }
 
+fn declare_tables<'t>(
+    declared: &mut List<Declaration<'t>>,
+    core: &'t CoreText<'t>,
+) -> Result<(), AllocError>
+    ensures { OnOk result (declared.new ≡ declared.old ++ declared_tables core.now) }
+{
+    for (index, table) in core.tables.as_slice().iter().enumerate() {
+        declared.push(Declaration {
+            name: Text::of(table.name.as_str()),
+            kind: ObjectKind::Table,
+            core: number_id(core.id),
+            index,
+            max: None,
+            min: None,
+        })?;
+    }
+    Ok(())
+}
+
 fn declare<'t>(
     declared: &mut List<Declaration<'t>>,
     core: &'t CoreText<'t>,
@@ -141,7 +160,8 @@ fn declare<'t>(
     declare_tasks(declared, core)?;
     declare_resources(declared, core)?;
     declare_counters(declared, core)?;
-    declare_alarms(declared, core)
+    declare_alarms(declared, core)?;
+    declare_tables(declared, core)
 }
 
 /// The objects of these cores.

@@ -11,5 +11,8 @@ mod declarations;
 mod places;
 mod plans;
 mod shapes;
+mod table_checks;
+mod table_plans;
+mod table_shapes;
 
 pub use configs::read_config;

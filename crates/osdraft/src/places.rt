@@ -1,13 +1,13 @@
 //! Where the objects of a configuration's text stand, by their names.
 
-ghost use Rattle.std.specs.Prelude.{◌≡◌, IfOk, IsTrue, count_by, find, is_some, map, option_copied, true};
+ghost use Rattle.std.specs.Prelude.{◌≡◌, IfOk, IfSome, IsTrue, count_by, find, is_some, map, option_copied, true};
 ghost use Rattle.std.specs.List.{list_all, list_any};
 ghost use Rattle.std.specs.Str.{bytes_eq};
 ghost use Rattle.osbase.specs.Names.{is_name};
 ghost use Rattle.osplan.specs.Expressible.{are_distinct};
 ghost use Rattle.osdraft.specs.declared.declarations.Declaration.{Declaration as Declared};
 ghost use Rattle.osdraft.specs.Check.{has_named_objects, names_of};
-ghost use Rattle.osdraft.specs.Declarations.{counter_declared, declarations, has_name, is_alone, place_in};
+ghost use Rattle.osdraft.specs.Declarations.{counter_declared, declarations, has_name, is_alone, place_alone, place_in};
 ghost use Rattle.osdraft.specs.Index.{Indexes};
 
 use crate::declarations::{Declaration, byte_of, declarations_of};
@@ -97,6 +97,23 @@ impl<'t> Objects<'t> {
             Some(declaration) => {
                 if declaration.kind.is(ObjectKind::Counter) && self.is_alone(name) {
                     Some(declaration)
+                } else {
+                    None
+                }
+            }
+            None => None,
+        }
+    }
+
+    /// Where the object of this kind and name stands, if that is the name of no other object and of no mode.
+    pub fn place_alone(&self, kind: ObjectKind, name: &str) -> Option<Place>
+        ensures value { result ≡ place_alone self.now.declared kind name.now }
+        ensures in_form { IfSome result (λ _. is_name name.now ≡ true) }
+    {
+        match self.find(name) {
+            Some(declaration) => {
+                if self.is_alone(name) {
+                    place_in(kind, declaration)
                 } else {
                     None
                 }

@@ -9,15 +9,16 @@ ghost use Rattle.osread.specs.Reading.{Gives, value_if};
 ghost use Rattle.osdraft.specs.Action.{action_of_op, known_action};
 ghost use Rattle.osdraft.specs.Declarations.{declarations, number_id};
 ghost use Rattle.osdraft.specs.Operation.{is_operation, known_op, op_of, operations_of};
-ghost use Rattle.osdraft.specs.Check.{are_operations_readable, is_task_readable, is_alarm_known, is_core_readable, is_core_near, is_task_masked, is_alarm_masked, is_core_masked, are_readable, are_near, are_masks, is_script, is_task_script, is_alarm_acting, is_core_script, are_operations};
+ghost use Rattle.osdraft.specs.Check.{are_operations_readable, is_task_readable, is_alarm_known, is_core_readable, is_core_near, is_task_masked, is_alarm_masked, is_core_masked, are_readable, are_near, are_masks, are_timed, is_script, is_task_script, is_alarm_acting, is_core_script, are_operations};
 ghost use Rattle.osdraft.specs.Meaning.{only_mode, task_plan, resource_plan, counter_plan, start_plan, alarm_plan, core_plan, known_task, known_alarm, known_core, plan_of};
 
-use crate::checks::{OPERATIONS, are_alarm_modes, are_mode_names, has_core};
+use crate::checks::{OPERATIONS, are_alarm_modes, are_mode_names, are_timed, has_core};
 use crate::declarations::{byte_of, number_id, word_of};
 use crate::places::{MODE, Objects};
 use crate::shapes::{
     AlarmStartText, AlarmText, ConfigText, CoreText, CounterText, ResourceText, TaskText,
 };
+use crate::table_plans::tables_of;
 use osbase::{CoreId, CounterRef, List, ModeId, Name, ObjectKind};
 use oscript::{Op, Script};
 use osforms::{Places, op_meant};
@@ -72,7 +73,8 @@ fn script_of(alloc: Global, objects: &Objects, script: &str) -> Result<Script, R
     }
 }
 
-fn modes_of(alloc: Global, names: &[Text]) -> Result<Vec<ModeId>, AllocError>
+/// The modes of an autostart, each of which is the only one.
+pub fn modes_of(alloc: Global, names: &[Text]) -> Result<Vec<ModeId>, AllocError>
     ensures { IfOk result (λ modes. modes.items ≡ map (λ (name : Items ℕ). only_mode) names.now) }
 {
     names.iter().map(|_| ONLY_MODE).collect(alloc)
@@ -160,7 +162,8 @@ fn counters_of<'e>(
     read_each(alloc, objects, counters)
 }
 
-fn action_of_op(op: Op) -> Option<TimedAction>
+/// The action that an operation is, if it is one.
+pub fn action_of_op(op: Op) -> Option<TimedAction>
     ensures { result ≡ action_of_op op }
 {
     match op {
@@ -170,8 +173,8 @@ fn action_of_op(op: Op) -> Option<TimedAction>
     }
 }
 
-// The action that a text means; None where it is not in good form, or its name or its mask not what it has to be.
-fn action_meant(objects: &Objects, text: &str) -> Option<TimedAction>
+/// The action that a text means; None where it is not in good form, or its name or its mask not what it has to be.
+pub fn action_meant(objects: &Objects, text: &str) -> Option<TimedAction>
     ensures { result ≡ known_action objects.now.declared text.now }
 {
     match op_meant(objects, text) {
@@ -276,7 +279,7 @@ impl<'e> Reader<'e, CoreText<'e>, Core> for Objects<'e> {
             isrs: List::new(alloc),
             counters: counters_of(alloc, self, core.counters.as_slice())?,
             alarms: alarms_of(alloc, self, number_id(core.id), core.alarms.as_slice())?,
-            tables: List::new(alloc),
+            tables: tables_of(alloc, self, number_id(core.id), core.tables.as_slice())?,
         })
     }
 }
@@ -297,7 +300,7 @@ fn are_near(cores: &[Core]) -> bool
     cores.iter().all(|core| core.is_near())
 }
 
-// The plans of cores, none of whose scripts and alarms names an object of another core where it may not.
+// The plans of cores, none of whose scripts, alarms and tables names an object of another core where it may not.
 #[tactic(auto, using(crate::proofs::Known::near_kept))]
 fn near_cores_of<'e>(
     alloc: Global,
@@ -315,18 +318,21 @@ fn near_cores_of<'e>(
 }
 
 /// The plan of a text. `Unfit` where a script has more operations than it may have, a name names nothing, or what it may
-/// not name, a mask is out of its range, an operation or an action is not in good form, or an operation goes on outside of
-/// its script.
+/// not name, a mask is out of its range, the points of a table do not come in order or have delays that its counter does
+/// not admit, an operation or an action is not in good form, or an operation goes on outside of its script.
 pub fn plan_of<'e>(
     alloc: Global,
     text: &'e ConfigText<'e>,
     objects: &Objects<'e>,
 ) -> Result<Plan, Refusal>
     requires objects { objects.now.declared ≡ declarations text.now.cores }
-    ensures { Gives (λ x. x) result (value_if (are_readable text.now && are_near text.now && are_masks text.now && are_operations text.now) (plan_of text.now)) }
+    ensures { Gives (λ x. x) result (value_if (are_readable text.now && are_near text.now && are_masks text.now && are_timed text.now && are_operations text.now) (plan_of text.now)) }
 {
     let cores = text.cores.as_slice();
     if !has_core(cores, text.master) {
+        return Err(Refusal::Unfit);
+    }
+    if !are_timed(text, objects) {
         return Err(Refusal::Unfit);
     }
     let mut modes = List::new(alloc);

@@ -7,6 +7,7 @@ ghost use Rattle.osbase.specs.Names.{is_name};
 ghost use Rattle.osdraft.specs.Check.{has_named_objects};
 ghost use Rattle.osdraft.specs.Shape.{task_shape, resource_shape, counter_shape, alarm_start_shape, alarm_shape, core_shape, config_shape};
 
+use crate::table_shapes::{TableReader, TableText};
 use osbase::List;
 use osread::{
     BoolReader, JsonReader, ListOf, NameReader, OrNull, Refusal, Text, TextReader, Whole,
@@ -69,6 +70,7 @@ pub struct CoreText<'v> {
     pub resources: List<ResourceText<'v>>,
     pub counters: List<CounterText<'v>>,
     pub alarms: List<AlarmText<'v>>,
+    pub tables: List<TableText<'v>>,
 }
 
 /// A configuration as a text has it.
@@ -223,7 +225,15 @@ impl<'v> JsonReader<'v, CoreText<'v>> for CoreReader {
     fn read(&self, alloc: Global, value: &'v Value) -> Result<CoreText<'v>, Refusal> {
         only_members(
             value,
-            &["id", "start", "tasks", "resources", "counters", "alarms"],
+            &[
+                "id",
+                "start",
+                "tasks",
+                "resources",
+                "counters",
+                "alarms",
+                "tables",
+            ],
         )?;
         Ok(CoreText {
             id: at(alloc, value, "id", &WholeReader)?,
@@ -260,6 +270,13 @@ impl<'v> JsonReader<'v, CoreText<'v>> for CoreReader {
                 value,
                 "alarms",
                 &ListOf { of: AlarmReader },
+                List::new(alloc),
+            )?,
+            tables: at_or(
+                alloc,
+                value,
+                "tables",
+                &ListOf { of: TableReader },
                 List::new(alloc),
             )?,
         })

@@ -1,14 +1,15 @@
 -- What is proved of each operation by itself: a line for its row, and for an argument that is an object one that it is
 -- taken back. All else is proved for every row at once.
-use Rattle.std.proofs.Common.{◌≡◌, ℕ, ◌==◌, ◌&&◌, not, Bool, true, Some, List, length, refl, ap}
+use Rattle.std.proofs.Common.{◌≡◌, ℕ, ◌==◌, ◌&&◌, not, Bool, true, Some, List, length, option_map, refl, ap, ◌∙◌}
 use Rattle.std.specs.List.{list_all}
 use Rattle.osbase.specs.declared.objects.Place.{Place}
 use Rattle.osbase.specs.Names.{is_name_part}
+use Rattle.osbase.specs.Objects.{table_of, table_place}
 use Rattle.oscript.specs.declared.Op.{Op}
 use Rattle.oscript.specs.declared.rows.Verb.{Verb}
 use Rattle.oscript.specs.declared.rows.Arg.{Arg}
 use Rattle.oscript.specs.Rows.{are_of, form_of_op, kinds_of, op_of, word_of}
-use Rattle.oscript.proofs.Arguments.{alarm-back, alarm-kept, counter-back, counter-kept, int-kept, mask-kept, none-kept, number-kept, one-kept, resource-back, resource-kept, task-back, task-kept, three-kept, two-kept, variable-kept}
+use Rattle.oscript.proofs.Arguments.{alarm-back, table-back, alarm-kept, table-kept, counter-back, counter-kept, int-kept, mask-kept, none-kept, number-kept, one-kept, resource-back, resource-kept, task-back, task-kept, three-kept, two-kept, variable-kept}
 use Rattle.osforms.specs.Form.{verb_of}
 use Rattle.osforms.proofs.KindTexts.{is_kind}
 
@@ -46,6 +47,11 @@ is-row Verb.SetRelAlarm = (refl, refl, refl, λ args. refl, three-kept alarm-kep
 is-row Verb.SetAbsAlarm = (refl, refl, refl, λ args. refl, three-kept alarm-kept number-kept number-kept)
 is-row Verb.CancelAlarm = (refl, refl, refl, λ args. refl, one-kept alarm-kept)
 is-row Verb.GetAlarm = (refl, refl, refl, λ args. refl, two-kept alarm-kept variable-kept)
+is-row Verb.StartScheduleTableRel = (refl, refl, refl, λ args. refl, two-kept table-kept number-kept)
+is-row Verb.StartScheduleTableAbs = (refl, refl, refl, λ args. refl, two-kept table-kept number-kept)
+is-row Verb.NextScheduleTable = (refl, refl, refl, λ args. refl, two-kept table-kept table-kept)
+is-row Verb.StopScheduleTable = (refl, refl, refl, λ args. refl, one-kept table-kept)
+is-row Verb.GetScheduleTableStatus = (refl, refl, refl, λ args. refl, two-kept table-kept variable-kept)
 
 -- The operation of an operation's form is that operation.
 pub is-op : (op : Op) → op_of (form_of_op op) ≡ op
@@ -61,4 +67,9 @@ is-op (Op.SetRelAlarm target increment cycle) = ap (λ t. Op.SetRelAlarm t incre
 is-op (Op.SetAbsAlarm target start cycle) = ap (λ t. Op.SetAbsAlarm t start cycle) (alarm-back target)
 is-op (Op.CancelAlarm target) = ap Op.CancelAlarm (alarm-back target)
 is-op (Op.GetAlarm target x) = ap (λ t. Op.GetAlarm t x) (alarm-back target)
+is-op (Op.StartScheduleTableRel target offset) = ap (λ t. Op.StartScheduleTableRel t offset) (table-back target)
+is-op (Op.StartScheduleTableAbs target start) = ap (λ t. Op.StartScheduleTableAbs t start) (table-back target)
+is-op (Op.NextScheduleTable from to) = ap (λ t. Op.NextScheduleTable t (option_map table_of (option_map table_place to))) (table-back from) ∙ ap (λ t. Op.NextScheduleTable from t) (table-back to)
+is-op (Op.StopScheduleTable target) = ap Op.StopScheduleTable (table-back target)
+is-op (Op.GetScheduleTableStatus target x) = ap (λ t. Op.GetScheduleTableStatus t x) (table-back target)
 is-op op = refl

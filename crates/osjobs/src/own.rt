@@ -1,11 +1,11 @@
 //! A core's own objects, by their references.
 
 ghost use Rattle.std.specs.Prelude.{◌≡◌, option_copied};
-ghost use Rattle.osplan.specs.View.{own_alarm, own_counter, own_resource, own_task};
+ghost use Rattle.osplan.specs.View.{own_alarm, own_counter, own_resource, own_table, own_task};
 
 use crate::equality::is_same_core;
-use osbase::{AlarmRef, CounterRef, ResourceRef, TaskRef};
-use osplan::{Alarm, Core, Counter, Resource, Task};
+use osbase::{AlarmRef, CounterRef, ResourceRef, TableRef, TaskRef};
+use osplan::{Alarm, Core, Counter, Resource, Table, Task};
 
 /// The task of this reference, if it is one of this core's.
 pub fn task_of(core: &Core, task: TaskRef) -> Option<&Task>
@@ -43,6 +43,16 @@ pub fn alarm_of(core: &Core, alarm: AlarmRef) -> Option<&Alarm>
 {
     if is_same_core(alarm.core, core.id) {
         return core.alarms.as_slice().get(usize::from(alarm.index));
+    }
+    None
+}
+
+/// The schedule table of this reference, if it is one of this core's.
+pub fn table_of(core: &Core, table: TableRef) -> Option<&Table>
+    ensures { option_copied result ≡ own_table core.now table }
+{
+    if is_same_core(table.core, core.id) {
+        return core.tables.as_slice().get(usize::from(table.index));
     }
     None
 }

@@ -7,6 +7,7 @@ use Rattle.std.proofs.lemmas.Bool.Decides.{nat_tests}
 use Rattle.std.proofs.lemmas.List.{map-append}
 use Rattle.osbase.specs.declared.references.AlarmRef.{AlarmRef}
 use Rattle.osbase.specs.declared.references.CounterRef.{CounterRef}
+use Rattle.osbase.specs.declared.references.TableRef.{TableRef}
 use Rattle.osbase.specs.declared.references.TaskRef.{TaskRef}
 use Rattle.osbase.specs.declared.references.Runner.{Runner}
 use Rattle.osbase.specs.declared.items.CoreSet.{CoreSet}
@@ -17,7 +18,7 @@ use Rattle.osbase.specs.declared.histories.Job.{Job}
 use Rattle.osbase.specs.declared.histories.TaskEvents.{TaskEvents}
 use Rattle.osbase.specs.Sets.{numbers_from}
 use Rattle.osbase.specs.declared.turns.TheConstants.{TASKS}
-use Rattle.osbase.specs.Counting.{alarm_after, alarm_of, counts_after, counts_of}
+use Rattle.osbase.specs.Counting.{Stopped, alarm_after, alarm_of, counts_after, counts_of, table_after, table_state}
 use Rattle.osbase.specs.History.{History, Entry, Took, Printed, agreement_after, agreement_of, better_of, current_after, current_job, current_task, events_after, events_of, first_greatest, giving_way, giving_way_after, greater, greatest_ceiling, held_after, held_by, job_count, jobs_after, live_jobs, marks_of, no_events, oldest, oldest_of, open_after, open_call, phase_after, phase_of, same_runner, stamped_anew, without_oldest}
 use Rattle.oscript.specs.declared.Op.{Op}
 use Rattle.oscript.specs.Frames.{frame_after, frame_of}
@@ -101,6 +102,13 @@ pub settings-same : (c : CounterRef) (a : AlarmRef) (s : CoreSet) (m : Bool) (k 
 settings-same c a s m k = reads-same (alarm_of c a) (λ e h j p. ap (alarm_after c a e) p) (λ x y h. refl) s (base_of m) k (by m)
   where
     by : (b : Bool) → alarm_of c a (base_of b) ≡ None
+    by true = refl
+    by false = refl
+
+pub tables-same : (c : CounterRef) (t : TableRef) (s : CoreSet) (m : Bool) (k : History) → table_state c t (among s (base_of m) k) ≡ table_state c t k
+tables-same c t s m k = reads-same (table_state c t) (λ e h j p. ap (table_after c t e) p) (λ x y h. refl) s (base_of m) k (by m)
+  where
+    by : (b : Bool) → table_state c t (base_of b) ≡ Stopped
     by true = refl
     by false = refl
 

@@ -8,7 +8,7 @@ use Rattle.osbase.specs.declared.references.TaskRef.{TaskRef}
 use Rattle.osbase.specs.declared.references.Runner.{Runner}
 use Rattle.osbase.specs.declared.items.Agreement.{Agreement}
 use Rattle.osbase.specs.declared.histories.Job.{Job}
-use Rattle.osbase.specs.History.{History, agreement_of, same_runner, same_core, job_count}
+use Rattle.osbase.specs.History.{History, same_runner, same_core, job_count}
 use Rattle.osplan.specs.declared.plans.Core.{Core}
 use Rattle.osplan.specs.declared.plans.Task.{Task}
 use Rattle.osplan.specs.View.{View}

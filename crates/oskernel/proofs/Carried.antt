@@ -7,6 +7,7 @@ use Rattle.osbase.specs.declared.statuses.Status.{Status}
 use Rattle.osbase.specs.declared.references.CoreId.{CoreId}
 use Rattle.osbase.specs.declared.references.AlarmRef.{AlarmRef}
 use Rattle.osbase.specs.declared.references.CounterRef.{CounterRef}
+use Rattle.osbase.specs.declared.references.TableRef.{TableRef}
 use Rattle.osbase.specs.declared.references.TaskRef.{TaskRef}
 use Rattle.osbase.specs.declared.references.Runner.{Runner}
 use Rattle.osbase.specs.declared.messages.Message.{Message}
@@ -18,7 +19,7 @@ use Rattle.osbase.specs.declared.marks.Mark.{Mark}
 use Rattle.osbase.specs.declared.histories.Job.{Job}
 use Rattle.osbase.specs.declared.histories.OpenCall.{OpenCall}
 use Rattle.osbase.specs.declared.histories.Phase.{Phase}
-use Rattle.osbase.specs.History.{AlarmSet, History, Noted, Printed, Took, agreement_of, current_task, open_call, same_job}
+use Rattle.osbase.specs.History.{AlarmSet, History, Noted, Printed, TableStarted, Took, agreement_of, current_task, open_call, same_job}
 use Rattle.osbase.specs.Marks.{core_of_runner, names_only}
 use Rattle.osbase.specs.Phases.{is_scheduling}
 use Rattle.oscript.specs.declared.Op.{Op}
@@ -29,13 +30,18 @@ use Rattle.oscript.specs.Frames.{action_at}
 use Rattle.osplan.specs.declared.plans.Alarm.{Alarm}
 use Rattle.osplan.specs.declared.plans.AlarmStart.{AlarmStart}
 use Rattle.osplan.specs.declared.plans.Counter.{Counter}
+use Rattle.osplan.specs.declared.plans.Table.{Table}
+use Rattle.osplan.specs.declared.plans.TableStart.{TableStart}
 use Rattle.osplan.specs.declared.plans.Task.{Task}
+use Rattle.osplan.specs.declared.plans.TimedAction.{TimedAction}
+use Rattle.osplan.specs.Objects.{action_object, core_actions}
 use Rattle.osplan.specs.View.{View}
-use Rattle.osstate.specs.Readings.{best_job, frame_at, is_own, numbered_alarms, numbered_counters, phase_at, running, script_of, task_ref, task_refs}
+use Rattle.osstate.specs.Readings.{best_job, frame_at, is_own, numbered_alarms, numbered_counters, numbered_tables, phase_at, running, script_of, task_ref, task_refs}
 use Rattle.oscall.specs.Border.{core_of_call}
 use Rattle.oscall.specs.Tasks.{activates}
-use Rattle.oscall.proofs.Carried.{AlarmsAllow, IsAllowed, IsKept, counts-carried, seen_as, anybody, either-carried, printed-carried, operates-carried, request-carried, action-carried, resumes-carried, ends_unasked-carried}
-use Rattle.oskernel.specs.Step.{after, autostarts, closes, counts_each, dispatches, effect, enters, gate_mark, goes_on, goes_to, leaves, starts, starts_in, sets_by_itself, sets_each, performs}
+use Rattle.oscall.proofs.Allowed.{ActionsAllow}
+use Rattle.oscall.proofs.Carried.{IsAllowed, IsKept, counts-carried, seen_as, anybody, either-carried, printed-carried, operates-carried, request-carried, action-carried, resumes-carried, ends_unasked-carried}
+use Rattle.oskernel.specs.Step.{after, autostarts, closes, counts_each, dispatches, effect, enters, gate_mark, goes_on, goes_to, leaves, starts, starts_by_itself, starts_each, starts_in, sets_by_itself, sets_each, performs}
 
 -- A request comes from a core that may be answered, and the call that it brings, or an action, is for an object that marks
 -- may name.
@@ -44,15 +50,15 @@ is_replied replies names (Item.Received from number (Message.Request call)) = re
 is_replied replies names (Item.Received from number (Message.Action call)) = names (core_of_call call)
 is_replied replies names item = true
 
--- Each operation of the core's scripts names the own core, or one that may be asked, if it names one; and each alarm acts on one
--- of these.
+-- Each operation of the core's scripts names the own core, or one that may be asked, if it names one; and each alarm and each
+-- schedule table acts on one of these.
 pub record NamesAllow (v : View) (may : CoreId → Bool) : Type 0 where
   pub scripts : (r : Runner) (n : ℕ) (op : Op) → slice_get (script_of v.own r) n ≡ Some op → IsAllowed v may op
-  pub alarms : AlarmsAllow v may
+  pub actions : ActionsAllow v may
 
 -- Where every core may be asked and answered, nothing is demanded.
 pub allow-anybody : (v : View) → NamesAllow v anybody
-allow-anybody v = record { scripts = λ r n op e. each _ (objects_of op); alarms = each _ v.own.alarms }
+allow-anybody v = record { scripts = λ r n op e. each (λ (object : Object). object.place.core) (objects_of op); actions = each (λ (action : TimedAction). (action_object action).place.core) (core_actions v.own) }
   where
     each : {A : Type 0} (core_of : A → CoreId) (xs : List A) → list_all (λ (x : A). is_own v (core_of x) || anybody (core_of x)) xs ≡ true
     each core_of [] = refl
@@ -138,7 +144,7 @@ module _ (v : View) (master : Bool) (ids : List CoreId) (may replies names : Cor
 
   performs-carried : (r : Runner) (o : Option Op) → IsNamed r → ((op : Op) → o ≡ Some op → IsAllowed v may op) → (h k : History) → R h k → R (performs v r (option_map_or Perform o End) h) (performs other r (option_map_or Perform o End) k)
   performs-carried r None n permitted h k p = ends_unasked-carried v master ids may replies names R kept r h k n p
-  performs-carried r (Some op) n permitted h k p = operates-carried v master ids may replies names R kept allowed.alarms own_named op r h k n (permitted op refl) p
+  performs-carried r (Some op) n permitted h k p = operates-carried v master ids may replies names R kept allowed.actions own_named op r h k n (permitted op refl) p
 
   goes_on-carried : (o o' : Option Job) → runner_of o ≡ runner_of o' → passes_job names o ≡ true → (h k : History) → R h k → R (goes_on v o h) (goes_on other o' k)
   goes_on-carried None None e n h k p = p
@@ -157,7 +163,7 @@ module _ (v : View) (master : Bool) (ids : List CoreId) (may replies names : Cor
   counts_each-carried : (ps : List (CounterRef × Counter)) (h k : History) → R h k → R (counts_each v ps h) (counts_each other ps k)
   counts_each-carried [] h k p = p
   counts_each-carried (c ∷ cs) h k p =
-      counts_each-carried cs _ _ (either c.1.software h _ k _ p (counts-carried v master ids may replies names R kept allowed.alarms own_named c.0 h k p))
+      counts_each-carried cs _ _ (either c.1.software h _ k _ p (counts-carried v master ids may replies names R kept allowed.actions own_named c.0 h k p))
 
   -- Alarms that start by themselves: a note each.
   set_each-carried : (agreement : Option Agreement) (ps : List (AlarmRef × Alarm)) (h k : History) → R h k → R (sets_each agreement ps h) (sets_each agreement ps k)
@@ -168,12 +174,21 @@ module _ (v : View) (master : Bool) (ids : List CoreId) (may replies names : Cor
       by None = p
       by (Some x) = either (starts_in agreement x.modes) _ h _ k (kept.local (Noted (AlarmSet a.0 x.start x.cycle)) h k refl p) p
 
+  -- Tables that start by themselves: a note each.
+  starts_each-carried : (agreement : Option Agreement) (ps : List (TableRef × Table)) (h k : History) → R h k → R (starts_each agreement ps h) (starts_each agreement ps k)
+  starts_each-carried agreement [] h k p = p
+  starts_each-carried agreement (s ∷ rest) h k p = starts_each-carried agreement rest _ _ (by s.1.auto)
+    where
+      by : (auto : Option TableStart) → R (starts_by_itself agreement s.0 auto h) (starts_by_itself agreement s.0 auto k)
+      by None = p
+      by (Some x) = either (starts_in agreement x.modes) _ h _ k (kept.local (Noted (TableStarted s.0 x.offset)) h k refl p) p
+
   effect-carried : (item : Item) (h k : History) → is_replied replies names item ≡ true → R h k → R (effect v item h) (effect other item k)
   effect-carried (Item.Began core s) h k m p = printed _ h k refl p
   effect-carried (Item.Pass1 agreement) h k m p = printed _ h k (gate-named agreement) p
   effect-carried (Item.Pass2 cores) h k m p =
       subst (λ (a : Option Agreement). R (starts v (agreement_of h) h) (starts v a k)) (steers h k p).agreement
-      (set_each-carried (agreement_of h) (numbered_alarms v.own) _ _ (autostarts-carried (agreement_of h) (task_refs v.own) (refs-named 0 v.own.tasks) h k p))
+      (starts_each-carried (agreement_of h) (numbered_tables v.own) _ _ (set_each-carried (agreement_of h) (numbered_alarms v.own) _ _ (autostarts-carried (agreement_of h) (task_refs v.own) (refs-named 0 v.own.tasks) h k p)))
   effect-carried (Item.Stim Stimulus.Op) h k m p = goes_on-carried (running v h) (running other k) (steers h k p).runs (acting h k p).runs h k p
   effect-carried (Item.Stim Stimulus.Tick) h k m p = counts_each-carried (numbered_counters v.own) _ _ (printed Mark.Tick h k refl p)
   effect-carried (Item.Stim (Stimulus.Irq isr)) h k m p = p

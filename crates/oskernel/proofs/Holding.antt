@@ -34,7 +34,7 @@ module _ (v : View) (may replies names : CoreId → Bool) (P : History → Type 
   both f h k p q = record { same = rw p.same refl; has = q p.has }
 
   serves : (h k : History) → Same h k → ServesSame v may h k
-  serves h k p = rw p.same (record { started = λ core m. refl; jobs = λ r. refl; frame = λ r. refl; held = refl; events = refl; counts = λ c. refl; settings = λ c a. refl })
+  serves h k p = rw p.same (record { started = λ core m. refl; jobs = λ r. refl; frame = λ r. refl; held = refl; events = refl; counts = λ c. refl; settings = λ c a. refl; tables = λ c s. refl })
 
   steers : (h k : History) → Same h k → SteersSame v v h k
   steers h k p = rw p.same (steers-itself v k)

@@ -12,3 +12,4 @@ pub mod Own
 pub mod Scripts
 pub mod Among
 pub mod Stepping
+pub mod Starting

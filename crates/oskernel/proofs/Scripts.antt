@@ -1,4 +1,4 @@
--- What the scripts and alarms of a separate core name, and those of the others.
+-- What the scripts, alarms and schedule tables of a separate core name, and those of the others.
 use Rattle.std.proofs.Common.{List, ◌≡◌, ℕ, Bool, true, false, not, ◌&&◌, ◌||◌, cond, Option, Some, None, [], refl, ap, subst, ◌∙◌, unwrap_or}
 use Rattle.std.specs.List.{list_all, list_any, slice_get}
 use Rattle.std.specs.Option.{option_map_or}
@@ -10,11 +10,11 @@ use Rattle.osbase.proofs.Same.{same_core-true}
 use Rattle.osbase.specs.declared.objects.Object.{Object}
 use Rattle.oscript.specs.declared.Op.{Op}
 use Rattle.oscript.specs.Rows.{objects_of}
-use Rattle.osplan.specs.declared.plans.Alarm.{Alarm}
 use Rattle.osplan.specs.declared.plans.Plan.{Plan}
 use Rattle.osplan.specs.declared.plans.Core.{Core}
 use Rattle.osplan.specs.declared.plans.Task.{Task}
-use Rattle.osplan.specs.Objects.{action_object}
+use Rattle.osplan.specs.declared.plans.TimedAction.{TimedAction}
+use Rattle.osplan.specs.Objects.{action_object, core_actions}
 use Rattle.osplan.specs.Separate.{acts_on, has_operation, is_named_elsewhere, is_off, is_on, names_object, op_names}
 use Rattle.osplan.specs.View.{View, core_of, no_core, view_of}
 use Rattle.osplan.proofs.Tests.{all-not, all-weaker, fails-at, find-fails, find-holds}
@@ -40,15 +40,15 @@ script-fails own test none (Runner.Isr i) n op e = cc
 none-all : (p q : Object → Bool) → ((object : Object) → p object ≡ false → q object ≡ true) → (objects : List Object) → list_any p objects ≡ false → list_all q objects ≡ true
 none-all p q then objects none = all-weaker (λ object. not (p object)) q (λ object fails. then object (not-true (p object) fails)) objects (all-not p objects none)
 
--- A core that names no object that passes one test, by a script or an alarm: all that it names pass another, which each does that
+-- A core that names no object that passes one test, by a script, an alarm or a schedule table: all that it names pass another, which each does that
 -- fails the first.
 names-allow : (v : View) (may : CoreId → Bool) (test : Object → Bool) → names_object test v.own ≡ false → ((object : Object) → test object ≡ false → (is_own v object.place.core || may object.place.core) ≡ true) → NamesAllow v may
 names-allow v may test none then =
     let parts = or_parts (has_operation (op_names test) v.own) (acts_on test v.own) none in
     record {
       scripts = λ r n op e. none-all test (λ (object : Object). is_own v object.place.core || may object.place.core) then (objects_of op) (script-fails v.own (op_names test) parts.0 r n op e);
-      alarms = all-weaker (λ (alarm : Alarm). not (test (action_object alarm.action))) _ (λ alarm fails. then (action_object alarm.action) (not-true (test (action_object alarm.action)) fails)) v.own.alarms
-          (all-not (λ (alarm : Alarm). test (action_object alarm.action)) v.own.alarms parts.1);
+      actions = all-weaker (λ (action : TimedAction). not (test (action_object action))) _ (λ action fails. then (action_object action) (not-true (test (action_object action)) fails)) (core_actions v.own)
+          (all-not (λ (action : TimedAction). test (action_object action)) (core_actions v.own) parts.1);
     }
 
 -- A separate core's scripts and alarms name none but its own objects.

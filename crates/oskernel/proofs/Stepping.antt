@@ -13,8 +13,8 @@ use Rattle.osplan.specs.View.{View}
 use Rattle.osstate.specs.Readings.{best_job, frame_at, held_resources, is_own, knows_started, running, script_of, task_events}
 use Rattle.oscall.proofs.Carried.{anybody, is_local, IsKept, nobody, seen_as, ServesSame}
 use Rattle.oskernel.specs.Step.{after, effect}
-use Rattle.osbase.specs.Counting.{alarm_of, counts_of}
-use Rattle.oskernel.proofs.Among.{counts-same, agreement-same, among, base_of, best-later, count-same, current-same, delay, frame-same, later, open-same, phase-same, resources-same, running-later, settings-same, stamp-later, task_events-same}
+use Rattle.osbase.specs.Counting.{alarm_of, counts_of, table_state}
+use Rattle.oskernel.proofs.Among.{counts-same, agreement-same, among, base_of, best-later, count-same, current-same, delay, frame-same, later, open-same, phase-same, resources-same, running-later, settings-same, stamp-later, tables-same, task_events-same}
 use Rattle.oskernel.proofs.Carried.{acting-anybody, after-carried, is_going, is_replied, runner_of, NamesAllow, SteersSame}
 
 -- What the core alone sees.
@@ -69,6 +69,7 @@ module _ (v : View) (ids : List CoreId) (s : CoreSet) where
     events = ap (task_events v) p.same ∙ task_events-same v s v.is_master k;
     counts = λ c. ap (counts_of c) p.same ∙ counts-same c s v.is_master k;
     settings = λ c a. ap (alarm_of c a) p.same ∙ settings-same c a s v.is_master k;
+    tables = λ c t. ap (table_state c t) p.same ∙ tables-same c t s v.is_master k;
   }
     where
       own_only : (b : Bool) → (b || false) ≡ true → b ≡ true

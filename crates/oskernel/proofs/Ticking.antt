@@ -1,20 +1,26 @@
 -- A tick, counter by counter.
-use Rattle.std.proofs.Common.{◌≡◌, ℕ, zero, suc, ◌+◌, ◌<◌, ◌≤◌, Bool, true, cond, Some, List, [], ◌∷◌, ◌++◌, length, filter, take, refl, ap, sym, subst, ◌∙◌, arith, get_or, sum_by, add-one}
+use Rattle.std.proofs.Common.{◌≡◌, ℕ, zero, suc, ◌+◌, ◌<◌, ◌≤◌, true, cond, Some, List, [], ◌∷◌, ◌++◌, length, filter, take, refl, ap, sym, subst, ◌∙◌, arith, get_or, sum_by, add-one}
 use Rattle.std.specs.List.{slice_get}
-use Rattle.std.proofs.lemmas.List.Sums.{sum_by_push}
+use Rattle.std.proofs.lemmas.List.Sums.{length-filter, sum_by-cons, sum_by-le-sum_by, sum_by_push}
 use Rattle.std.proofs.lemmas.Option.{slice_get-get_or}
 use Rattle.osbase.specs.declared.references.AlarmRef.{AlarmRef}
 use Rattle.osbase.specs.declared.references.CoreId.{CoreId}
 use Rattle.osbase.specs.declared.references.CounterRef.{CounterRef}
+use Rattle.osbase.specs.declared.references.TableRef.{TableRef}
 use Rattle.osbase.specs.History.{History}
 use Rattle.osbase.specs.Sets.{numbers_from}
 use Rattle.osplan.specs.declared.plans.Core.{Core}
 use Rattle.osplan.specs.declared.plans.Counter.{Counter}
+use Rattle.osplan.specs.Objects.{greatest_posted, posted_at_once}
 use Rattle.osplan.specs.View.{View}
 use Rattle.osclock.specs.Clocks.{alarm_refs, attached_to, counter_ref}
 use Rattle.osclock.proofs.Portions.{attached-portions}
 use Rattle.osstate.specs.Readings.{numbered_counters}
-use Rattle.oscall.specs.Expiring.{counts}
+use Rattle.ostable.specs.Tables.{table_refs, timed_by}
+use Rattle.ostable.proofs.Portions.{sum-of-plans, timed-portions}
+use Rattle.ostable.proofs.Sums.{sum-both}
+use Rattle.oscall.specs.Advancing.{counts, posted_at_point, posted_by, posted_for, posts_by}
+use Rattle.oscall.proofs.Postings.{sum-of-alarms}
 use Rattle.oskernel.specs.Step.{counts_each}
 use Rattle.oskernel.proofs.Numbered.{all-numbered, next-numbered}
 
@@ -45,34 +51,74 @@ module _ (v old : View) (view_is : old ≡ v) (h : History) (counters : List Cou
   all-counted place past =
       all-numbered (counter_ref v.own) step (counts_each v) (λ k. refl) (λ p ps k. refl) v.own.counters place h (subst (λ (xs : List Counter). length xs ≤ place) here past)
 
--- ---- how many alarms the counters before a place have, of those that pass a test
+-- ---- how much the counters before a place come to
 
-abbrev pub every : AlarmRef → Bool
-every a = true
-
-abbrev pub portion : Core → (AlarmRef → Bool) → ℕ → ℕ
-portion core p place = sum_by (λ (n : ℕ). length (filter p (attached_to core (counter_ref core n)))) (numbers_from 0 place)
+abbrev pub total : (ℕ → ℕ) → ℕ → ℕ
+total f place = sum_by f (numbers_from 0 place)
 
 numbers-more : (first place : ℕ) → numbers_from first (suc place) ≡ numbers_from first place ++ (first + place) ∷ []
 numbers-more first zero = ap (λ (n : ℕ). n ∷ []) (let same : first ≡ first + 0 = omega arith in same)
 numbers-more first (suc place) = ap (λ (ns : List ℕ). first ∷ ns) (numbers-more (first + 1) place ∙ ap (λ (n : ℕ). numbers_from (first + 1) place ++ n ∷ []) (let same : (first + 1) + place ≡ first + suc place = omega arith in same))
 
-pub portion-more : (core : Core) (p : AlarmRef → Bool) (place : ℕ) → portion core p (place + 1) ≡ portion core p place + length (filter p (attached_to core (counter_ref core place)))
-portion-more core p place =
-    ap (portion core p) (add-one place)
-    ∙ ap (sum_by (λ (n : ℕ). length (filter p (attached_to core (counter_ref core n))))) (numbers-more 0 place ∙ ap (λ (n : ℕ). numbers_from 0 place ++ n ∷ []) (let same : 0 + place ≡ place = omega arith in same))
-    ∙ sum_by_push (λ (n : ℕ). length (filter p (attached_to core (counter_ref core n)))) (numbers_from 0 place) place
+pub total-more : (f : ℕ → ℕ) (place : ℕ) → total f (place + 1) ≡ total f place + f place
+total-more f place =
+    ap (total f) (add-one place)
+    ∙ ap (sum_by f) (numbers-more 0 place ∙ ap (λ (n : ℕ). numbers_from 0 place ++ n ∷ []) (let same : 0 + place ≡ place = omega arith in same))
+    ∙ sum_by_push f (numbers_from 0 place) place
 
-filter-every : (xs : List AlarmRef) → length (filter every xs) ≡ length xs
+-- The alarms and the tables of the counter at a place, and how many envelopes they may add to the outbox.
+abbrev pub alarms_at : Core → ℕ → ℕ
+alarms_at core n = length (attached_to core (counter_ref core n))
+
+abbrev pub tables_at : Core → ℕ → ℕ
+tables_at core n = length (timed_by core (counter_ref core n))
+
+abbrev pub posted_at : Core → ℕ → ℕ
+posted_at core n = posted_by core (counter_ref core n)
+
+-- In all they are at most those of the core.
+filter-every : (xs : List AlarmRef) → length (filter (λ a. true) xs) ≡ length xs
 filter-every [] = refl
 filter-every (x ∷ xs) = ap suc (filter-every xs)
 
--- With this counter's they are at most those of the core.
-pub portion-within : (core : Core) (p : AlarmRef → Bool) (place : ℕ) → portion core p place + length (filter p (attached_to core (counter_ref core place))) ≤ length (filter p (alarm_refs core))
-portion-within core p place = subst (λ (n : ℕ). n ≤ length (filter p (alarm_refs core))) (portion-more core p place) (attached-portions core p (place + 1))
+pub alarms-within : (core : Core) (place : ℕ) → total (alarms_at core) place ≤ length (alarm_refs core)
+alarms-within core place =
+    omega (
+      arith,
+      sum_by-le-sum_by (alarms_at core) (λ (n : ℕ). length (filter (λ a. true) (attached_to core (counter_ref core n)))) (numbers_from 0 place) (λ n. omega (arith, filter-every (attached_to core (counter_ref core n)))),
+      attached-portions core (λ a. true) place,
+      filter-every (alarm_refs core),
+    )
 
-pub every-within : (core : Core) (place : ℕ) → portion core every place + length (attached_to core (counter_ref core place)) ≤ length (alarm_refs core)
-every-within core place = omega (arith, portion-within core every place, filter-every (attached_to core (counter_ref core place)), filter-every (alarm_refs core))
+sum-of-ones : {X : Type 0} (xs : List X) → sum_by (λ x. 1) xs ≡ length xs
+sum-of-ones [] = refl
+sum-of-ones (x ∷ xs) = sum_by-cons (λ y. 1) x xs ∙ ap (λ (n : ℕ). 1 + n) (sum-of-ones xs) ∙ omega arith
 
-pub every-more : (core : Core) (place : ℕ) → portion core every (place + 1) ≡ portion core every place + length (attached_to core (counter_ref core place))
-every-more core place = omega (arith, portion-more core every place, filter-every (attached_to core (counter_ref core place)))
+pub tables-within : (core : Core) (place : ℕ) → total (tables_at core) place ≤ length (table_refs core)
+tables-within core place =
+    omega (
+      arith,
+      sum_by-le-sum_by (tables_at core) (λ (n : ℕ). sum_by (λ (s : TableRef). 1) (timed_by core (counter_ref core n))) (numbers_from 0 place) (λ n. omega (arith, sum-of-ones (timed_by core (counter_ref core n)))),
+      timed-portions core (λ (s : TableRef). 1) place,
+      sum-of-ones (table_refs core),
+    )
+
+alarms-posted : (core : Core) (place : ℕ) → total (λ (n : ℕ). sum_by (posted_for core) (attached_to core (counter_ref core n))) place ≤ sum_by (posted_for core) (alarm_refs core)
+alarms-posted core place =
+    omega (
+      arith,
+      sum_by-le-sum_by (λ (n : ℕ). sum_by (posted_for core) (attached_to core (counter_ref core n))) (λ (n : ℕ). length (filter (posts_by core) (attached_to core (counter_ref core n)))) (numbers_from 0 place) (λ n. omega (arith, length-filter (posts_by core) (attached_to core (counter_ref core n)))),
+      attached-portions core (posts_by core) place,
+      length-filter (posts_by core) (alarm_refs core),
+    )
+
+pub posted-within : (core : Core) (place : ℕ) → total (posted_at core) place ≤ posted_at_once core
+posted-within core place =
+    omega (
+      arith,
+      sum-both (λ (n : ℕ). sum_by (posted_for core) (attached_to core (counter_ref core n))) (λ (n : ℕ). sum_by (posted_at_point core) (timed_by core (counter_ref core n))) (numbers_from 0 place),
+      alarms-posted core place,
+      sum-of-alarms core,
+      timed-portions core (posted_at_point core) place,
+      sum-of-plans core (greatest_posted core),
+    )

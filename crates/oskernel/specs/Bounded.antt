@@ -1,7 +1,7 @@
 -- What holds of every kernel.
 use Rattle.std.specs.Prelude.{ℕ, ◌+◌, ◌*◌, ◌≤◌}
 use Rattle.osstate.specs.State.{KernelState}
-use Rattle.oscall.specs.Expiring.{posted_at_once}
+use Rattle.osplan.specs.Objects.{posted_at_once}
 
 -- How many entries a step adds to the history at most: the item, what follows from it, and dispatch.
 abbrev pub step_entries : ℕ

@@ -1,11 +1,12 @@
 -- A core's step: which item may be taken, what follows from it, and a core by itself.
-use Rattle.std.specs.Prelude.{ℕ, ℤ, ◌==◌, ◌&&◌, Bool, false, if◌then◌else◌, Option, Some, None, is_none, List, [], ◌∷◌, map}
-use Rattle.std.specs.List.{enumerate_from, list_any}
+use Rattle.std.specs.Prelude.{ℕ, ℤ, ◌==◌, ◌&&◌, Bool, false, if◌then◌else◌, Option, Some, None, is_none, List, [], ◌∷◌}
+use Rattle.std.specs.List.{list_any}
 use Rattle.std.specs.Option.{option_map_or}
 use Rattle.osbase.specs.declared.statuses.Status.{Status}
 use Rattle.osbase.specs.declared.references.CoreId.{CoreId}
 use Rattle.osbase.specs.declared.references.ModeId.{ModeId}
 use Rattle.osbase.specs.declared.references.AlarmRef.{AlarmRef}
+use Rattle.osbase.specs.declared.references.TableRef.{TableRef}
 use Rattle.osbase.specs.declared.references.CounterRef.{CounterRef}
 use Rattle.osbase.specs.declared.references.TaskRef.{TaskRef}
 use Rattle.osbase.specs.declared.references.Runner.{Runner}
@@ -16,20 +17,22 @@ use Rattle.osbase.specs.declared.items.Item.{Item}
 use Rattle.osbase.specs.declared.marks.Mark.{Mark}
 use Rattle.osbase.specs.declared.histories.Job.{Job}
 use Rattle.osbase.specs.declared.histories.OpenCall.{OpenCall}
-use Rattle.osbase.specs.History.{History, Took, same_job, open_call, current_task, agreement_of}
+use Rattle.osbase.specs.History.{History, Noted, TableStarted, Took, same_job, open_call, current_task, agreement_of}
 use Rattle.osbase.specs.Phases.{is_scheduling}
 use Rattle.oscript.specs.declared.Action.{Action}
 use Rattle.oscript.specs.declared.Action.TheVariants.{Perform, End}
 use Rattle.oscript.specs.Frames.{action_at}
 use Rattle.osplan.specs.declared.plans.Alarm.{Alarm}
 use Rattle.osplan.specs.declared.plans.AlarmStart.{AlarmStart}
+use Rattle.osplan.specs.declared.plans.Table.{Table}
+use Rattle.osplan.specs.declared.plans.TableStart.{TableStart}
 use Rattle.osplan.specs.declared.plans.Counter.{Counter}
 use Rattle.osplan.specs.declared.plans.Task.{Task}
 use Rattle.osplan.specs.View.{View}
-use Rattle.osstate.specs.Readings.{script_of, frame_at, best_job, numbered_alarms, numbered_counters, phase_at, running, task_refs}
+use Rattle.osstate.specs.Readings.{script_of, frame_at, best_job, numbered_alarms, numbered_counters, numbered_tables, phase_at, running, task_refs}
 use Rattle.osstate.specs.State.{state_of}
 use Rattle.oscall.specs.Alarms.{sets_alarm}
-use Rattle.oscall.specs.Expiring.{counts}
+use Rattle.oscall.specs.Advancing.{counts}
 use Rattle.oscall.specs.Returning.{prints}
 use Rattle.oscall.specs.Tasks.{activates, ends_unasked}
 use Rattle.oscall.specs.Border.{serves_request, serves_action}
@@ -69,9 +72,19 @@ abbrev pub sets_each : Option Agreement → List (AlarmRef × Alarm) → History
 sets_each agreement [] h = h
 sets_each agreement (p ∷ ps) h = sets_each agreement ps (sets_by_itself agreement p.0 p.1.auto h)
 
--- First the tasks, and then the alarms. [own]
+-- The schedule tables are started, in index order. [AUTOSAR SWS OS 4.x, OsScheduleTableAutostart]
+abbrev pub starts_by_itself : Option Agreement → TableRef → Option TableStart → History → History
+starts_by_itself agreement s None h = h
+starts_by_itself agreement s (Some x) h = if starts_in agreement x.modes then Noted (TableStarted s x.offset) ∷ h else h
+
+abbrev pub starts_each : Option Agreement → List (TableRef × Table) → History → History
+starts_each agreement [] h = h
+starts_each agreement (p ∷ ps) h = starts_each agreement ps (starts_by_itself agreement p.0 p.1.auto h)
+
+-- First the tasks, then the alarms, and then the tables. [own]
 abbrev pub starts : View → Option Agreement → History → History
-starts v agreement h = sets_each agreement (numbered_alarms v.own) (autostarts agreement (task_refs v.own) h)
+starts v agreement h =
+    starts_each agreement (numbered_tables v.own) (sets_each agreement (numbered_alarms v.own) (autostarts agreement (task_refs v.own) h))
 
 -- The stimulus `op`: one operation of the running job, or its end; with nothing running it does nothing. [own]
 abbrev pub performs : View → Runner → Action → History → History

@@ -9,28 +9,28 @@ ghost use Rattle.osbase.specs.Phases.{is_before_live, is_scheduling, is_past_fir
 ghost use Rattle.osbase.specs.Runs.{is_stimulus};
 ghost use Rattle.oscript.specs.Frames.{action_at};
 ghost use Rattle.osplan.specs.Clocked.{are_clocks_within};
-ghost use Rattle.osplan.specs.View.{own_alarm};
+ghost use Rattle.osplan.specs.View.{own_alarm, own_table};
 ghost use Rattle.osjobs.specs.Jobs.{is_plain};
 ghost use Rattle.osjobs.specs.Priorities.{is_own_runner};
 ghost use Rattle.osstate.specs.Does.{Adds, Does, Effects, HasRoom, Reads, Remarks, item_entries, item_marks, service_entries, service_marks};
 ghost use Rattle.osstate.specs.Queries.{running_in};
-ghost use Rattle.osstate.specs.Readings.{frame_at, numbered_alarms, running, script_of, task_refs};
+ghost use Rattle.osstate.specs.Readings.{frame_at, numbered_alarms, numbered_tables, running, script_of, task_refs};
 ghost use Rattle.osstate.specs.Sound.{activation_limit, is_agreed, is_first_gate, is_posted, is_sender_known};
-ghost use Rattle.oscall.specs.Expiring.{posted_at_once};
+ghost use Rattle.osplan.specs.Objects.{posted_at_once};
 ghost use Rattle.oscall.specs.Tasks.{activates};
 ghost use Rattle.oskernel.specs.Admission.{admits};
 ghost use Rattle.oskernel.specs.Bounded.{step_entries};
-ghost use Rattle.oskernel.specs.Step.{autostarts, closes, dispatches, effect, enters, gate_mark, goes_on, goes_to, leaves, performs, receives, sets_by_itself, sets_each, starts, starts_in, stimulates};
+ghost use Rattle.oskernel.specs.Step.{autostarts, closes, dispatches, effect, enters, gate_mark, goes_on, goes_to, leaves, performs, receives, sets_by_itself, sets_each, starts, starts_by_itself, starts_each, starts_in, stimulates};
 ghost use Rattle.oskernel.specs.Taking.{TakesItem, agreement_on, is_acting, is_answered, is_filling, is_going_on, is_known, is_request, is_second_gate};
 
 use crate::ticks::tick;
 use osbase::{
     Agreement, AlarmRef, CoreId, Item, Job, List, Mark, Message, ModeId, Phase, Runner, Status,
-    Stimulus, TaskRef,
+    Stimulus, TableRef, TaskRef,
 };
 use oscall::Answer;
 use oscript::Action;
-use osplan::{Alarm, Task};
+use osplan::{Alarm, Table, Task};
 use osstate::CoreState;
 
 /// Takes an item that may be taken, and does what follows from it.
@@ -129,7 +129,7 @@ fn first_gate_mark(agreement: Agreement) -> Mark
     }
 }
 
-// The second gate is passed: the tasks of the agreed mode start by themselves, and then its alarms.
+// The second gate is passed: the tasks of the agreed mode start by themselves, then its alarms, and then its schedule tables.
 fn start<const P: usize, const J: usize, const OUT: usize>(
     state: &mut CoreState<'_, P, J, OUT>,
     marks: &mut Vec<Mark>,
@@ -143,6 +143,7 @@ fn start<const P: usize, const J: usize, const OUT: usize>(
     let mode = agreed_mode(state.agreement());
     start_tasks(state, mode, marks);
     start_alarms(state, mode);
+    start_tables(state, mode);
 }
 
 // The tasks that start in the mode are activated, in index order.
@@ -245,6 +246,42 @@ fn set_by_itself<const P: usize, const J: usize, const OUT: usize>(
     if let Some(start) = &alarm.auto {
         if is_started_in(mode, &start.modes) {
             state.set_alarm(reference, start.start, start.cycle);
+        }
+    }
+}
+
+// The schedule tables that start in the mode are started, in index order.
+fn start_tables<const P: usize, const J: usize, const OUT: usize>(
+    state: &mut CoreState<'_, P, J, OUT>,
+    mode: Option<ModeId>,
+)
+    requires count { state.old.progress.entries + 8 ≤ 2 ^ 63 }
+    ensures { Remarks 8 (λ v h. starts_each (Some (agreement_on mode)) (numbered_tables v.own) h) state.old state.new }
+{
+    let core = state.id();
+    let tables = state.tables();
+    let mut index: u8 = 0;
+    for table in tables {
+        let reference = TableRef { core, index };
+        start_by_itself(state, mode, table, reference);
+        index += 1;
+    }
+}
+
+fn start_by_itself<const P: usize, const J: usize, const OUT: usize>(
+    state: &mut CoreState<'_, P, J, OUT>,
+    mode: Option<ModeId>,
+    table: &Table,
+    reference: TableRef,
+)
+    requires own { own_table state.old.view.own reference ≡ Some table.now }
+    requires within { IsTrue (are_clocks_within state.old.view.own) }
+    requires count { state.old.progress.entries < 2 ^ 63 }
+    ensures { Remarks 1 (λ v h. starts_by_itself (Some (agreement_on mode)) reference table.now.auto h) state.old state.new }
+{
+    if let Some(start) = &table.auto {
+        if is_started_in(mode, &start.modes) {
+            state.start_table(reference, start.offset);
         }
     }
 }

@@ -10,7 +10,7 @@ ghost use Rattle.osstate.specs.Readings.{phase_at};
 ghost use Rattle.osstate.specs.State.{state_of};
 ghost use Rattle.osstate.specs.Does.{Adds, Does, Reads};
 ghost use Rattle.oskernel.specs.declared.kernel.TheConstants.{STEP_MARKS};
-ghost use Rattle.oscall.specs.Expiring.{posted_at_once};
+ghost use Rattle.osplan.specs.Objects.{posted_at_once};
 ghost use Rattle.oskernel.specs.Step.{after, takes};
 ghost use Rattle.oskernel.specs.Wants.{front_of, go_on_unless, post_or as front_or, want_in, want_of};
 ghost use Rattle.oskernel.specs.Admission.{takes_in};

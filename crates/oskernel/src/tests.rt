@@ -7,7 +7,7 @@ ghost use Rattle.osplan.specs.declared.plans.Task.{Task as TaskValue};
 ghost use Rattle.osplan.specs.Limits.{is_within_limits};
 ghost use Rattle.osplan.specs.Expressible.{is_expressible};
 ghost use Rattle.osplan.specs.View.{core_of, view_of};
-ghost use Rattle.oscall.specs.Expiring.{posted_at_once};
+ghost use Rattle.osplan.specs.Objects.{posted_at_once};
 
 use super::*;
 use osbase::{

@@ -4,9 +4,10 @@ ghost use Rattle.std.specs.Prelude.{◌≡◌, ◌+◌, ◌*◌, ◌≤◌, [], 
 ghost use Rattle.osbase.specs.Objects.{counter_object};
 ghost use Rattle.osbase.specs.Phases.{is_before_live};
 ghost use Rattle.osclock.specs.Clocks.{attached_to};
-ghost use Rattle.osplan.specs.Objects.{is_own_object};
+ghost use Rattle.ostable.specs.Tables.{timed_by};
+ghost use Rattle.osplan.specs.Objects.{is_own_object, posted_at_once};
 ghost use Rattle.osstate.specs.Does.{Effects, HasRoom, service_entries, service_marks};
-ghost use Rattle.oscall.specs.Expiring.{counts, posted_at_once, posted_by};
+ghost use Rattle.oscall.specs.Advancing.{counts, posted_by};
 ghost use Rattle.oskernel.specs.Step.{ticks};
 
 use osbase::{CounterRef, Mark};
@@ -46,8 +47,8 @@ fn count_by_tick<const P: usize, const J: usize, const OUT: usize>(
     requires own { IsTrue (is_own_object state.old.view.own (counter_object reference)) }
     requires live { is_before_live state.old.progress.phase ≡ false }
     requires outbox { length state.old.border.outbox + posted_by state.old.view.own reference ≤ OUT }
-    requires room { HasRoom (suc (3 * length (attached_to state.old.view.own reference))) (3 * length (attached_to state.old.view.own reference)) state.old marks.old }
-    ensures effects { Effects (suc (3 * length (attached_to state.old.view.own reference))) (3 * length (attached_to state.old.view.own reference)) (λ v h. (if counter.now.software then h else counts v reference h)) state.old state.new marks.old marks.new }
+    requires room { HasRoom (suc (3 * length (attached_to state.old.view.own reference) + 38 * length (timed_by state.old.view.own reference))) (3 * length (attached_to state.old.view.own reference) + 36 * length (timed_by state.old.view.own reference)) state.old marks.old }
+    ensures effects { Effects (suc (3 * length (attached_to state.old.view.own reference) + 38 * length (timed_by state.old.view.own reference))) (3 * length (attached_to state.old.view.own reference) + 36 * length (timed_by state.old.view.own reference)) (λ v h. (if counter.now.software then h else counts v reference h)) state.old state.new marks.old marks.new }
     ensures outbox { length state.new.border.outbox ≤ length state.old.border.outbox + posted_by state.old.view.own reference }
 {
     if !counter.software {

@@ -1,8 +1,9 @@
 -- Of a configured core: what it may name of what a configuration names, and its alarms with the counters that they go by.
-use Rattle.std.proofs.Common.{◌≡◌, Bool, true, false, not, ◌&&◌, ◌||◌, Some, Option, map, slice_get, option_and_then, refl, ap, subst, ◌∙◌}
+use Rattle.std.proofs.Common.{◌≡◌, Bool, true, false, not, ◌&&◌, ◌||◌, Some, Option, List, flat_map, map, slice_get, option_and_then, refl, ap, sym, subst, ◌∙◌}
 use Rattle.std.specs.List.{list_all}
 use Rattle.std.specs.Option.{option_map_or}
 use Rattle.std.proofs.lemmas.Bool.{and_parts, and_from}
+use Rattle.std.proofs.lemmas.List.Folds.{list_all-map}
 use Rattle.osbase.specs.declared.references.CounterRef.{CounterRef}
 use Rattle.osbase.specs.declared.objects.Object.{Object}
 use Rattle.osbase.specs.History.{same_core}
@@ -11,11 +12,13 @@ use Rattle.osbase.proofs.Same.{same_core-true}
 use Rattle.osplan.specs.declared.plans.Alarm.{Alarm}
 use Rattle.osplan.specs.declared.plans.Core.{Core}
 use Rattle.osplan.specs.declared.plans.Plan.{Plan}
-use Rattle.osplan.specs.Clocked.{is_alarm_attached}
-use Rattle.osplan.specs.Limits.{alarm_sizes, is_alarm_known, is_alarm_near, is_core_known, is_object}
-use Rattle.osplan.specs.Objects.{action_object, has_index, may_name}
+use Rattle.osplan.specs.declared.plans.Table.{Table}
+use Rattle.osplan.specs.declared.plans.TimedAction.{TimedAction}
+use Rattle.osplan.specs.Clocked.{is_alarm_attached, is_table_attached}
+use Rattle.osplan.specs.Limits.{alarm_sizes, is_action_known, is_alarm_known, is_alarm_near, is_core_known, is_core_mode, is_core_timed, is_mode, is_object, is_table_known, is_table_near, is_table_timed, is_task_known, table_sizes}
+use Rattle.osplan.specs.Objects.{action_object, alarm_modes, core_actions, has_index, may_name, table_actions, table_modes}
 use Rattle.osplan.specs.View.{core_of, counter_in, own_counter}
-use Rattle.osplan.proofs.Tests.{all-both, all-weaker, map-where}
+use Rattle.osplan.proofs.Tests.{all-append, all-both, all-flat, all-weaker, map-where}
 
 module _ (plan : Plan) (core : Core) (found : core_of plan core.id ≡ Some core) where
   -- an object that stands on this core is one of it
@@ -32,12 +35,32 @@ module _ (plan : Plan) (core : Core) (found : core_of plan core.id ≡ Some core
       by false index = refl
       by true index = index refl
 
-  -- So is what its alarms are for.
-  pub known-actions : is_core_known plan core ≡ true → list_all (λ (alarm : Alarm). may_name core (action_object alarm.action)) core.alarms ≡ true
+  -- What its tasks, its alarms and its tables name is known.
+  pub record KnownParts : Type 0 where
+    pub tasks : list_all (is_task_known plan) core.tasks ≡ true
+    pub alarms : list_all (is_alarm_known plan) core.alarms ≡ true
+    pub tables : list_all (is_table_known plan) core.tables ≡ true
+
+  pub known-parts : is_core_known plan core ≡ true → KnownParts
+  known-parts known =
+      let tables = and_parts _ (list_all (is_table_known plan) core.tables) known in
+      let alarms = and_parts _ (list_all (is_alarm_known plan) core.alarms) tables.0 in
+      record { tasks = (and_parts (is_core_mode plan core.mode) _ alarms.0).1; alarms = alarms.1; tables = tables.1 }
+
+  named-each : (actions : List TimedAction) → list_all (is_action_known plan) actions ≡ true → list_all (λ (action : TimedAction). may_name core (action_object action)) actions ≡ true
+  named-each = all-weaker (is_action_known plan) (λ (action : TimedAction). may_name core (action_object action)) (λ action h. known-named (action_object action) h)
+
+  -- So is what its alarms and tables are for.
+  pub known-actions : is_core_known plan core ≡ true → list_all (λ (action : TimedAction). may_name core (action_object action)) (core_actions core) ≡ true
   known-actions known =
-      all-weaker (is_alarm_known plan) (λ (alarm : Alarm). may_name core (action_object alarm.action))
-      (λ alarm h. known-named (action_object alarm.action) (and_parts _ (is_object plan (action_object alarm.action)) (and_parts _ _ h).0).1)
-      core.alarms (and_parts _ (list_all (is_alarm_known plan) core.alarms) known).1
+      let parts = known-parts known in
+      named-each (core_actions core) (all-append (is_action_known plan) (map (λ (alarm : Alarm). alarm.action) core.alarms) (flat_map table_actions core.tables)
+      (list_all-map (is_action_known plan) (λ (alarm : Alarm). alarm.action) core.alarms
+      ∙ all-weaker (is_alarm_known plan) (λ (alarm : Alarm). is_action_known plan alarm.action)
+      (λ alarm h. (and_parts (is_object plan (counter_object alarm.counter)) _ (and_parts _ (list_all (is_mode plan) (alarm_modes alarm)) h).0).1) core.alarms parts.alarms)
+      (all-flat (is_action_known plan) table_actions core.tables
+      (all-weaker (is_table_known plan) (λ (table : Table). list_all (is_action_known plan) (table_actions table))
+      (λ table h. (and_parts (is_object plan (counter_object table.counter)) _ (and_parts _ (list_all (is_mode plan) (table_modes table)) h).0).1) core.tables parts.tables)))
 
   -- Each alarm is attached to a counter of the core, where that counter is there and no other core's.
   pub attached : list_all (is_alarm_known plan) core.alarms ≡ true → list_all (is_alarm_near core.id) core.alarms ≡ true → list_all (is_alarm_attached core) core.alarms ≡ true
@@ -58,3 +81,23 @@ module _ (plan : Plan) (core : Core) (found : core_of plan core.id ≡ Some core
   own-sizes near =
       map-where (alarm_sizes (counter_in plan)) (alarm_sizes (own_counter core)) (is_alarm_near core.id)
       (λ alarm h. rw (own-is alarm.counter h) refl) core.alarms near
+
+  -- So it is with tables.
+  pub tables-attached : list_all (is_table_known plan) core.tables ≡ true → list_all (is_table_near core.id) core.tables ≡ true → list_all (is_table_attached core) core.tables ≡ true
+  tables-attached known near =
+      all-weaker (λ (table : Table). is_table_known plan table && is_table_near core.id table) (is_table_attached core)
+      (λ table h. let parts = and_parts (is_table_known plan table) (is_table_near core.id table) h in
+      let there = and_parts (is_object plan (counter_object table.counter)) _ (and_parts _ (list_all (is_mode plan) (table_modes table)) parts.0).0 in
+      and_from _ _ parts.1 (own-index (counter_object table.counter) there.0 parts.1))
+      core.tables (all-both (is_table_known plan) (is_table_near core.id) core.tables known near)
+
+  own-timing : (table : Table) → is_table_near core.id table ≡ true → table_sizes (counter_in plan) table ≡ table_sizes (own_counter core) table
+  own-timing table near = rw (own-is table.counter near) refl
+
+  pub own-tables : list_all (is_table_near core.id) core.tables ≡ true → map (table_sizes (counter_in plan)) core.tables ≡ map (table_sizes (own_counter core)) core.tables
+  own-tables near = map-where (table_sizes (counter_in plan)) (table_sizes (own_counter core)) (is_table_near core.id) own-timing core.tables near
+
+  pub own-timed : list_all (is_table_near core.id) core.tables ≡ true → is_core_timed plan core ≡ list_all (λ (table : Table). is_table_timed (table_sizes (own_counter core) table)) core.tables
+  own-timed near =
+      sym (list_all-map is_table_timed (table_sizes (counter_in plan)) core.tables) ∙ ap (list_all is_table_timed) (own-tables near)
+      ∙ list_all-map is_table_timed (table_sizes (own_counter core)) core.tables

@@ -6,6 +6,7 @@ use Rattle.std.proofs.lemmas.List.{append-nil}
 use Rattle.std.proofs.lemmas.List.Folds.{list_any-append}
 use Rattle.std.proofs.lemmas.Bool.{and_parts, and_from, or_from, or_parts, or_left, or_right, not-true, not-false, not_from_false, eq-eqb}
 use Rattle.osbase.specs.declared.references.CoreId.{CoreId}
+use Rattle.osbase.specs.declared.references.CounterRef.{CounterRef}
 use Rattle.osbase.specs.declared.objects.Object.{Object}
 use Rattle.osbase.specs.Objects.{counter_object}
 use Rattle.osbase.specs.History.{same_core}
@@ -22,16 +23,17 @@ use Rattle.osplan.specs.declared.plans.Isr.{Isr}
 use Rattle.osplan.specs.declared.plans.Resource.{Resource}
 use Rattle.osplan.specs.declared.plans.Alarm.{Alarm}
 use Rattle.osplan.specs.declared.plans.Table.{Table}
+use Rattle.osplan.specs.declared.plans.TimedAction.{TimedAction}
 use Rattle.osplan.specs.View.{core_of}
-use Rattle.osplan.specs.Objects.{action_object, alarm_modes, object_count}
-use Rattle.osplan.specs.Limits.{CoreSizes, StartSizes, core_sizes, sizes_of, is_alarm_known, is_alarm_near, is_core_within, is_within, is_object, is_op_known, is_mode, is_core_mode, is_task_known, is_core_known, is_core_near, is_within_limits}
+use Rattle.osplan.specs.Objects.{action_object, alarm_modes, object_count, table_actions, table_modes}
+use Rattle.osplan.specs.Limits.{CoreSizes, StartSizes, TableSizes, core_sizes, sizes_of, is_action_known, is_alarm_known, is_alarm_near, is_core_timed, is_core_within, is_table_known, is_table_near, is_within, is_object, is_op_known, is_mode, is_core_mode, is_task_known, is_core_known, is_core_near, is_within_limits}
 use Rattle.osplan.specs.Expressible.{is_core_expressible, is_expressible, are_distinct, object_names}
-use Rattle.osplan.specs.Separate.{acts_on, agree, alone_of, has_operation, is_agreed_mode, is_named_elsewhere, is_off, is_on, is_separate, is_separate_core, is_started, names_other}
+use Rattle.osplan.specs.Separate.{agree, alone_of, has_operation, is_agreed_mode, is_named_elsewhere, is_off, is_on, is_separate, is_separate_core, is_started, names_other}
 use Rattle.osplan.proofs.Distinct.{distinct-kept, distinct-front, distinct-back}
-use Rattle.osplan.proofs.Alarming.{own-sizes}
+use Rattle.osplan.proofs.Alarming.{known-parts, own-sizes, own-tables, own-timed}
 use Rattle.osplan.proofs.Tests.{all-both, all-not, all-weaker, find-holds, find-passes}
-use Rattle.osplan.proofs.Within.{LimitParts, TextParts, limit-parts, text-parts}
-use Rattle.osplan.proofs.Separating.{SeparateParts, separate-parts}
+use Rattle.osplan.proofs.Within.{LimitParts, NearParts, TextParts, limit-parts, near-parts, text-parts}
+use Rattle.osplan.proofs.Separating.{SeparateParts, any-acting, separate-parts}
 
 agree-self : (mode : CoreMode) → agree mode mode ≡ true
 agree-self (Named m) = eq-eqb m.index m.index refl
@@ -89,6 +91,19 @@ module _ (plan : Plan) (id : CoreId) (core : Core) (found : core_of plan id ≡ 
       all-weaker (λ (task : Task). is_task_known plan task && not (list_any (names_other core.id) task.script)) (is_task_known (alone_of plan id core)) own-script core.tasks
       (all-both (is_task_known plan) (λ (task : Task). not (list_any (names_other core.id) task.script)) core.tasks known (all-not (λ (task : Task). list_any (names_other core.id) task.script) core.tasks inside))
 
+  -- an action of this core is for an object of it
+  own-action : (action : TimedAction) → (is_action_known plan action && not (is_off core.id (action_object action))) ≡ true → is_action_known (alone_of plan id core) action ≡ true
+  own-action action h = own-object (action_object action) h
+
+  own-actions : (actions : List TimedAction) → list_all (is_action_known plan) actions ≡ true → list_any (λ (action : TimedAction). is_off core.id (action_object action)) actions ≡ false → list_all (is_action_known (alone_of plan id core)) actions ≡ true
+  own-actions actions known acting =
+      all-weaker (λ (action : TimedAction). is_action_known plan action && not (is_off core.id (action_object action))) (is_action_known (alone_of plan id core)) own-action actions
+      (all-both (is_action_known plan) (λ (action : TimedAction). not (is_off core.id (action_object action))) actions known
+      (all-not (λ (action : TimedAction). is_off core.id (action_object action)) actions acting))
+
+  own-counter : (counter : CounterRef) → is_object plan (counter_object counter) ≡ true → is_on core.id (counter_object counter) ≡ true → is_object (alone_of plan id core) (counter_object counter) ≡ true
+  own-counter counter known here = own-object (counter_object counter) (and_from _ _ known (ap (λ b. not (not b)) here))
+
   -- an alarm names its counter, of this core, and an object that its action is for
   abbrev stands-here : Alarm → Bool
   stands-here alarm = is_alarm_near core.id alarm && not (is_off core.id (action_object alarm.action))
@@ -98,39 +113,66 @@ module _ (plan : Plan) (id : CoreId) (core : Core) (found : core_of plan id ≡ 
       let parts = and_parts (is_alarm_known plan alarm) (stands-here alarm) h in
       let here = and_parts (is_alarm_near core.id alarm) (not (is_off core.id (action_object alarm.action))) parts.1 in
       let known = and_parts _ (list_all (is_mode plan) (alarm_modes alarm)) parts.0 in
-      let objects = and_parts (is_object plan (counter_object alarm.counter)) (is_object plan (action_object alarm.action)) known.0 in
-      and_from _ _
-      (and_from _ _ (own-object (counter_object alarm.counter) (and_from _ _ objects.0 (ap (λ b. not (not b)) here.0)))
-      (own-object (action_object alarm.action) (and_from _ _ objects.1 here.1))) known.1
+      let objects = and_parts (is_object plan (counter_object alarm.counter)) (is_action_known plan alarm.action) known.0 in
+      and_from _ _ (and_from _ _ (own-counter alarm.counter objects.0 here.0) (own-action alarm.action (and_from _ _ objects.1 here.1))) known.1
 
-  own-alarms : list_all (is_alarm_known plan) core.alarms ≡ true → list_all (is_alarm_near core.id) core.alarms ≡ true → acts_on (is_off core.id) core ≡ false → list_all (is_alarm_known (alone_of plan id core)) core.alarms ≡ true
+  own-alarms : list_all (is_alarm_known plan) core.alarms ≡ true → list_all (is_alarm_near core.id) core.alarms ≡ true → list_any (λ (alarm : Alarm). is_off core.id (action_object alarm.action)) core.alarms ≡ false → list_all (is_alarm_known (alone_of plan id core)) core.alarms ≡ true
   own-alarms known near acting =
       all-weaker (λ (alarm : Alarm). is_alarm_known plan alarm && stands-here alarm) (is_alarm_known (alone_of plan id core)) own-alarm core.alarms
       (all-both (is_alarm_known plan) stands-here core.alarms known
       (all-both (is_alarm_near core.id) (λ (alarm : Alarm). not (is_off core.id (action_object alarm.action))) core.alarms near
       (all-not (λ (alarm : Alarm). is_off core.id (action_object alarm.action)) core.alarms acting)))
 
-  core-alone : is_core_known plan core ≡ true → list_all (is_alarm_near core.id) core.alarms ≡ true → SeparateParts plan core → is_core_known (alone_of plan id core) core ≡ true
-  core-alone known near separate =
-      let parts = and_parts _ (list_all (is_alarm_known plan) core.alarms) known in
-      let scripts = and_parts (is_core_mode plan core.mode) (list_all (is_task_known plan) core.tasks) parts.0 in
-      and_from _ _ (and_from _ _ scripts.0 (own-scripts scripts.1 separate.inward)) (own-alarms parts.1 near separate.acting)
+  -- and so does a table
+  abbrev lies-here : Table → Bool
+  lies-here table = is_table_near core.id table && not (list_any (λ (action : TimedAction). is_off core.id (action_object action)) (table_actions table))
 
-  -- its alarms' counters are its own, in the whole as alone
-  same-sizes : list_all (is_alarm_near core.id) core.alarms ≡ true → core_sizes plan core ≡ core_sizes (alone_of plan id core) core
+  own-table : (table : Table) → (is_table_known plan table && lies-here table) ≡ true → is_table_known (alone_of plan id core) table ≡ true
+  own-table table h =
+      let parts = and_parts (is_table_known plan table) (lies-here table) h in
+      let here = and_parts (is_table_near core.id table) _ parts.1 in
+      let known = and_parts _ (list_all (is_mode plan) (table_modes table)) parts.0 in
+      let objects = and_parts (is_object plan (counter_object table.counter)) (list_all (is_action_known plan) (table_actions table)) known.0 in
+      and_from _ _ (and_from _ _ (own-counter table.counter objects.0 here.0) (own-actions (table_actions table) objects.1 (not-true _ here.1))) known.1
+
+  own-tables-known : list_all (is_table_known plan) core.tables ≡ true → list_all (is_table_near core.id) core.tables ≡ true → list_any (λ (table : Table). list_any (λ (action : TimedAction). is_off core.id (action_object action)) (table_actions table)) core.tables ≡ false → list_all (is_table_known (alone_of plan id core)) core.tables ≡ true
+  own-tables-known known near acting =
+      all-weaker (λ (table : Table). is_table_known plan table && lies-here table) (is_table_known (alone_of plan id core)) own-table core.tables
+      (all-both (is_table_known plan) lies-here core.tables known
+      (all-both (is_table_near core.id) (λ (table : Table). not (list_any (λ (action : TimedAction). is_off core.id (action_object action)) (table_actions table))) core.tables near
+      (all-not (λ (table : Table). list_any (λ (action : TimedAction). is_off core.id (action_object action)) (table_actions table)) core.tables acting)))
+
+  core-alone : is_core_known plan core ≡ true → NearParts core → SeparateParts plan core → is_core_known (alone_of plan id core) core ≡ true
+  core-alone known near separate =
+      let parts = known-parts plan core (ap (core_of plan) same ∙ found) known in
+      let acting = or_parts _ _ (sym (any-acting (is_off core.id) core) ∙ separate.acting) in
+      let mode = and_parts (is_core_mode plan core.mode) _ (and_parts _ (list_all (is_alarm_known plan) core.alarms) (and_parts _ (list_all (is_table_known plan) core.tables) known).0).0 in
+      and_from _ _ (and_from _ _ (and_from _ _ mode.0 (own-scripts parts.tasks separate.inward)) (own-alarms parts.alarms near.alarms acting.0)) (own-tables-known parts.tables near.tables acting.1)
+
+  -- its alarms' and its tables' counters are its own, in the whole as alone
+  by-itself : core_of (alone_of plan id core) core.id ≡ Some core
+  by-itself = rw (same_core-refl core.id) refl
+
+  same-sizes : NearParts core → core_sizes plan core ≡ core_sizes (alone_of plan id core) core
   same-sizes near =
+      let mine-too : core_of plan core.id ≡ Some core = ap (core_of plan) same ∙ found in
       ap (λ (alarms : List (Option StartSizes)). let sizes : CoreSizes = record (core_sizes plan core) { alarms = alarms } in sizes)
-      (own-sizes plan core (ap (core_of plan) same ∙ found) near ∙ sym (own-sizes (alone_of plan id core) core (rw (same_core-refl core.id) refl) near))
+      (own-sizes plan core mine-too near.alarms ∙ sym (own-sizes (alone_of plan id core) core by-itself near.alarms))
+      ∙ ap (λ (tables : List TableSizes). let sizes : CoreSizes = record (core_sizes (alone_of plan id core) core) { tables = tables } in sizes)
+      (own-tables plan core mine-too near.tables ∙ sym (own-tables (alone_of plan id core) core by-itself near.tables))
+
+  timed-alone : NearParts core → is_core_timed plan core ≡ true → is_core_timed (alone_of plan id core) core ≡ true
+  timed-alone near timed = own-timed (alone_of plan id core) core by-itself near.tables ∙ sym (own-timed plan core (ap (core_of plan) same ∙ found) near.tables) ∙ timed
 
   -- the modes and the mailboxes stay
   sizes-alone : is_within (sizes_of plan) ≡ true → is_core_within (core_sizes (alone_of plan id core) core) ≡ true → is_within (sizes_of (alone_of plan id core)) ≡ true
   sizes-alone whole mine = and_from _ _ (and_from _ _ (and_parts _ _ (and_parts _ _ whole).0).0 refl) (and_from _ _ mine refl)
 
-  plan-alone : LimitParts plan → is_core_within (core_sizes plan core) ≡ true → is_core_known plan core ≡ true → is_core_near core ≡ true → SeparateParts plan core → is_within_limits (alone_of plan id core) ≡ true
-  plan-alone limits within known near separate =
-      let alarms = (and_parts _ (list_all (is_alarm_near core.id) core.alarms) near).1 in
-      let sizes = sizes-alone limits.sizes (subst (λ (s : CoreSizes). is_core_within s ≡ true) (same-sizes alarms) within) in
-      and_from _ _ (and_from _ _ (and_from _ _ (and_from _ _ sizes refl) (rw mine refl)) (and_from _ _ (core-alone known alarms separate) refl)) (and_from _ _ near refl)
+  plan-alone : LimitParts plan → is_core_within (core_sizes plan core) ≡ true → is_core_known plan core ≡ true → is_core_near core ≡ true → is_core_timed plan core ≡ true → SeparateParts plan core → is_within_limits (alone_of plan id core) ≡ true
+  plan-alone limits within known near timed separate =
+      let parts = near-parts core near in
+      let sizes = sizes-alone limits.sizes (subst (λ (s : CoreSizes). is_core_within s ≡ true) (same-sizes parts) within) in
+      and_from _ _ (and_from _ _ (and_from _ _ (and_from _ _ (and_from _ _ sizes refl) (rw mine refl)) (and_from _ _ (core-alone known parts separate) refl)) (and_from _ _ near refl)) (and_from _ _ (timed-alone parts timed) refl)
 
   -- ---- what a text can say
   expressible-alone : TextParts plan → is_core_expressible core ≡ true → are_distinct (object_names core) ≡ true → is_expressible (alone_of plan id core) ≡ true
@@ -177,7 +219,7 @@ whole-alone plan id core limits expressible found separate =
     let same = same_core-true core.id id (find-holds (λ (c : Core). same_core c.id id) plan.cores core found) in
     record {
       expressible_core = mine;
-      limits = plan-alone plan id core found same inside within (pick (is_core_known plan) inside.known) (pick is_core_near inside.near) parts;
+      limits = plan-alone plan id core found same inside within (pick (is_core_known plan) inside.known) (pick is_core_near inside.near) (pick (is_core_timed plan) inside.timed) parts;
       expressible = expressible-alone plan id core found same said mine (pick (λ (c : Core). are_distinct (object_names c)) (each-distinct plan.cores (distinct-back plan.modes (flat_map object_names plan.cores) said.names)));
       separate = separate-alone plan id core found same parts;
     }

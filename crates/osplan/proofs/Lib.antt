@@ -3,6 +3,7 @@ pub mod Distinct
 pub mod Within
 pub mod Alarming
 pub mod Clocked
+pub mod Timing
 pub mod Starting
 pub mod Reached
 pub mod Separating

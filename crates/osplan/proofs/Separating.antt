@@ -1,12 +1,20 @@
 -- What a separate core's test says, part by part.
-use Rattle.std.proofs.Common.{◌≡◌, true, false, not, nat_eq, [], length}
+use Rattle.std.proofs.Common.{◌≡◌, Bool, true, false, not, ◌||◌, nat_eq, [], flat_map, length, map, ap, ◌∙◌}
+use Rattle.std.specs.List.{list_any}
+use Rattle.std.proofs.lemmas.List.Folds.{list_any-append}
 use Rattle.std.proofs.lemmas.Bool.{and_parts, not-true, or_parts}
+use Rattle.osbase.specs.declared.objects.Object.{Object}
+use Rattle.osplan.specs.declared.plans.Alarm.{Alarm}
+use Rattle.osplan.specs.declared.plans.ExpiryPoint.{ExpiryPoint}
 use Rattle.osplan.specs.declared.plans.Plan.{Plan}
 use Rattle.osplan.specs.declared.plans.Core.{Core}
+use Rattle.osplan.specs.declared.plans.Table.{Table}
+use Rattle.osplan.specs.declared.plans.TimedAction.{TimedAction}
+use Rattle.osplan.specs.Objects.{action_object, table_actions}
 use Rattle.osplan.specs.Separate.{acts_on, has_operation, is_agreed_mode, is_named_elsewhere, is_off, is_separate_core, is_started, names_mode, names_object, names_other}
-use Rattle.osplan.proofs.Tests.{none-from}
+use Rattle.osplan.proofs.Tests.{any-by, any-flat, any-mapped, none-from}
 
--- The core names a mode, which no started core contradicts; it starts no core; its scripts and its alarms name no
+-- The core names a mode, which no started core contradicts; it starts no core; its scripts, its alarms and its tables name no
 -- other core's objects, and no other core names its own.
 pub record SeparateParts (plan : Plan) (core : Core) : Type 0 where
   pub names : names_mode core.mode ≡ true
@@ -31,3 +39,21 @@ separate-parts plan core separate =
       acting = named.1;
       unnamed = not-true _ last.1;
     }
+
+-- What its alarms act on, and what its tables, table by table and point by point.
+module _ (test : Object → Bool) where
+  abbrev acts : TimedAction → Bool
+  acts action = test (action_object action)
+
+  pub any-acting : (core : Core) → acts_on test core ≡ (list_any (λ (alarm : Alarm). acts alarm.action) core.alarms || list_any (λ (table : Table). list_any acts (table_actions table)) core.tables)
+  any-acting core =
+      list_any-append acts (map (λ (alarm : Alarm). alarm.action) core.alarms) (flat_map table_actions core.tables)
+      ∙ ap (λ (b : Bool). b || list_any acts (flat_map table_actions core.tables)) (any-mapped acts (λ (alarm : Alarm). alarm.action) core.alarms)
+      ∙ ap (λ (b : Bool). list_any (λ (alarm : Alarm). acts alarm.action) core.alarms || b) (any-flat acts table_actions core.tables)
+
+  pub any-pointed : (core : Core) → acts_on test core ≡ (list_any (λ (alarm : Alarm). acts alarm.action) core.alarms || list_any (λ (table : Table). list_any (λ (point : ExpiryPoint). list_any acts point.actions) table.points) core.tables)
+  any-pointed core =
+      any-acting core
+      ∙ ap (λ (b : Bool). list_any (λ (alarm : Alarm). acts alarm.action) core.alarms || b)
+      (any-by (λ (table : Table). list_any acts (table_actions table)) (λ (table : Table). list_any (λ (point : ExpiryPoint). list_any acts point.actions) table.points)
+      (λ table. any-flat acts (λ (point : ExpiryPoint). point.actions) table.points) core.tables)

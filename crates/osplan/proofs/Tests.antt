@@ -1,10 +1,11 @@
 -- Tests over lists.
-use Rattle.std.proofs.Common.{◌≡◌, ℕ, zero, suc, ◌≤◌, Bool, true, false, not, ◌&&◌, ◌||◌, nat_eq, cond, List, [], ◌∷◌, length, filter, map, Option, Some, None, is_some, refl, sym, ap, ◌∙◌, subst, arith}
+use Rattle.std.proofs.Common.{◌≡◌, ℕ, zero, suc, ◌<◌, ◌≤◌, Bool, true, false, not, ◌&&◌, ◌||◌, nat_eq, cond, List, [], ◌∷◌, ◌++◌, flat_map, length, filter, map, Option, Some, None, is_some, refl, sym, ap, ◌∙◌, subst, arith}
 use Rattle.std.specs.List.{list_all, list_any, find, slice_get}
 use Rattle.std.specs.Option.{option_copied}
 use Rattle.std.specs.Borrow.{Bor}
 use Rattle.std.proofs.lemmas.Bool.{and_parts, and_from, eqb-true, not-true, not_from_false, or_left, or_parts, or_right}
 use Rattle.std.proofs.lemmas.List.{nil_from_length}
+use Rattle.std.proofs.lemmas.List.Folds.{list_any-append}
 
 pub all-weaker : {X : Type 0} (p q : X → Bool) → ((x : X) → p x ≡ true → q x ≡ true) → (xs : List X) → list_all p xs ≡ true → list_all q xs ≡ true
 all-weaker p q imply [] a = refl
@@ -106,3 +107,29 @@ length-filter-le {X} p (x ∷ xs) = by (p x) (length-filter-le p xs)
 -- A list of length 0 is empty.
 pub none-from : {X : Type 0} (xs : List X) → nat_eq (length xs) 0 ≡ true → xs ≡ []
 none-from xs e = nil_from_length xs (eqb-true (length xs) 0 e)
+
+pub all-append : {X : Type 0} (p : X → Bool) (xs ys : List X) → list_all p xs ≡ true → list_all p ys ≡ true → list_all p (xs ++ ys) ≡ true
+all-append p [] ys a b = b
+all-append p (x ∷ xs) ys a b = let parts = and_parts (p x) (list_all p xs) a in and_from _ _ parts.0 (all-append p xs ys parts.1 b)
+
+pub all-flat : {X Y : Type 0} (p : Y → Bool) (f : X → List Y) (xs : List X) → list_all (λ x. list_all p (f x)) xs ≡ true → list_all p (flat_map f xs) ≡ true
+all-flat p f [] a = refl
+all-flat p f (x ∷ xs) a = let parts = and_parts (list_all p (f x)) (list_all (λ y. list_all p (f y)) xs) a in all-append p (f x) (flat_map f xs) parts.0 (all-flat p f xs parts.1)
+
+pub any-flat : {X Y : Type 0} (p : Y → Bool) (f : X → List Y) (xs : List X) → list_any p (flat_map f xs) ≡ list_any (λ x. list_any p (f x)) xs
+any-flat p f [] = refl
+any-flat p f (x ∷ xs) = list_any-append p (f x) (flat_map f xs) ∙ ap (λ (b : Bool). list_any p (f x) || b) (any-flat p f xs)
+
+pub any-mapped : {X Y : Type 0} (p : Y → Bool) (f : X → Y) (xs : List X) → list_any p (map f xs) ≡ list_any (λ x. p (f x)) xs
+any-mapped p f [] = refl
+any-mapped p f (x ∷ xs) = ap (λ (b : Bool). p (f x) || b) (any-mapped p f xs)
+
+pub any-by : {X : Type 0} (p q : X → Bool) → ((x : X) → p x ≡ q x) → (xs : List X) → list_any p xs ≡ list_any q xs
+any-by p q same [] = refl
+any-by p q same (x ∷ xs) = ap (λ (b : Bool). b || list_any p xs) (same x) ∙ ap (λ (b : Bool). q x || b) (any-by p q same xs)
+
+-- Something stands at each place of a list.
+pub some-at : {X : Type 0} (xs : List X) (i : ℕ) → i < length xs → is_some (slice_get xs i) ≡ true
+some-at [] i inside = absurd (omega (arith, inside))
+some-at (x ∷ xs) zero inside = refl
+some-at (x ∷ xs) (suc i) inside = some-at xs i (omega (arith, inside))

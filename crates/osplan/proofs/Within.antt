@@ -10,9 +10,10 @@ use Rattle.osplan.specs.declared.plans.Plan.{Plan}
 use Rattle.osplan.specs.declared.plans.Core.{Core}
 use Rattle.osplan.specs.declared.plans.Resource.{Resource}
 use Rattle.osplan.specs.declared.plans.Task.{Task}
+use Rattle.osplan.specs.Objects.{posted_at_once}
 use Rattle.osplan.specs.View.{core_of, counter_in}
-use Rattle.osplan.specs.Limits.{TaskSizes, is_between, jobs_of, task_sizes, counter_sizes, core_sizes, sizes_of, is_task_within, is_counter_within, are_counters_within, are_alarms_within, alarm_sizes, is_alarm_within, is_core_within, is_within, is_ceiling, ceiling_of, is_core_known, is_core_near, numbers_of, are_numbers_distinct, is_within_limits}
-use Rattle.osplan.specs.Expressible.{are_mode_name, is_in_only_mode, are_distinct, declared_names, is_task_expressible, is_resource_expressible, is_counter_expressible, is_alarm_expressible, is_core_expressible, is_expressible}
+use Rattle.osplan.specs.Limits.{TaskSizes, is_between, jobs_of, task_sizes, counter_sizes, core_sizes, sizes_of, is_task_within, is_counter_within, are_counters_within, are_alarms_within, alarm_sizes, is_alarm_within, are_tables_within, is_table_within, table_sizes, is_alarm_near, is_core_timed, is_table_near, stays_on, is_core_within, is_within, is_ceiling, ceiling_of, is_core_known, is_core_near, numbers_of, are_numbers_distinct, is_within_limits}
+use Rattle.osplan.specs.Expressible.{are_mode_name, is_in_only_mode, are_distinct, declared_names, is_task_expressible, is_resource_expressible, is_counter_expressible, is_alarm_expressible, is_table_expressible, is_core_expressible, is_expressible}
 use Rattle.osplan.proofs.Tests.{all-weaker, find-passes, none-from}
 
 -- ---- the parts of both tests
@@ -24,10 +25,12 @@ pub record LimitParts (plan : Plan) : Type 0 where
   pub master : is_some (core_of plan plan.master) ≡ true
   pub known : list_all (is_core_known plan) plan.cores ≡ true
   pub near : list_all is_core_near plan.cores ≡ true
+  pub timed : list_all (is_core_timed plan) plan.cores ≡ true
 
 pub limit-parts : (plan : Plan) → IsTrue (is_within_limits plan) → LimitParts plan
 limit-parts plan h =
-    let near = and_parts _ (list_all is_core_near plan.cores) h in
+    let timed = and_parts _ (list_all (is_core_timed plan) plan.cores) h in
+    let near = and_parts _ (list_all is_core_near plan.cores) timed.0 in
     let known = and_parts _ (list_all (is_core_known plan) plan.cores) near.0 in
     let master = and_parts _ (is_some (core_of plan plan.master)) known.0 in
     let distinct = and_parts (is_within (sizes_of plan)) (are_numbers_distinct (numbers_of plan.cores)) master.0 in
@@ -39,6 +42,7 @@ limit-parts plan h =
       master = master.1;
       known = known.1;
       near = near.1;
+      timed = timed.1;
     }
 
 pub record TextParts (plan : Plan) : Type 0 where
@@ -59,14 +63,14 @@ pub record CoreTextParts (core : Core) : Type 0 where
   pub resources : list_all is_resource_expressible core.resources ≡ true
   pub counters : list_all is_counter_expressible core.counters ≡ true
   pub alarms : list_all is_alarm_expressible core.alarms ≡ true
+  pub tables : list_all is_table_expressible core.tables ≡ true
   pub isrs : core.isrs ≡ []
-  pub tables : core.tables ≡ []
 
 pub core-text-parts : (core : Core) → IsTrue (is_core_expressible core) → CoreTextParts core
 core-text-parts core h =
-    let tables = and_parts _ (nat_eq (length core.tables) 0) h in
-    let isrs = and_parts _ (nat_eq (length core.isrs) 0) tables.0 in
-    let alarms = and_parts _ (list_all is_alarm_expressible core.alarms) isrs.0 in
+    let isrs = and_parts _ (nat_eq (length core.isrs) 0) h in
+    let tables = and_parts _ (list_all is_table_expressible core.tables) isrs.0 in
+    let alarms = and_parts _ (list_all is_alarm_expressible core.alarms) tables.0 in
     let counters = and_parts _ (list_all is_counter_expressible core.counters) alarms.0 in
     let resources = and_parts _ (list_all is_resource_expressible core.resources) counters.0 in
     let tasks = and_parts (is_in_only_mode core.mode) (list_all is_task_expressible core.tasks) resources.0 in
@@ -76,13 +80,14 @@ core-text-parts core h =
       resources = resources.1;
       counters = counters.1;
       alarms = alarms.1;
+      tables = tables.1;
       isrs = none-from core.isrs isrs.1;
-      tables = none-from core.tables tables.1;
     }
 
 -- ---- what a kernel needs
 
--- The core has its place among the flags of all cores, and its tasks, their jobs, its resources, counters and alarms have room.
+-- The core has its place among the flags of all cores; its tasks, their jobs, its resources, counters, alarms and tables have room, and so
+-- has what these post.
 pub record FitsKernel (core : Core) : Type 0 where
   pub number : nat_lt core.id.number 16 ≡ true
   pub tasks : length core.tasks ≤ 32
@@ -93,6 +98,8 @@ pub record FitsKernel (core : Core) : Type 0 where
   pub ceilings : list_all (λ (r : Resource). nat_lt r.ceiling 32) core.resources ≡ true
   pub counters : length core.counters ≤ 8
   pub alarms : length core.alarms ≤ 32
+  pub tables : length core.tables ≤ 8
+  pub posted : posted_at_once core ≤ 56
 
 pub between : (low high n : ℕ) → is_between low high (Some n) ≡ true → (low ≤ n) × (n ≤ high)
 between low high n h = let parts = and_parts (nat_le low n) (nat_le n high) h in (leb-true low n parts.0, leb-true n high parts.1)
@@ -107,20 +114,35 @@ task-fits task h =
 resource-fits : (resource : Resource) → is_ceiling (ceiling_of resource) ≡ true → nat_lt resource.ceiling 32 ≡ true
 resource-fits resource h = let ceiling = between _ _ resource.ceiling h in lt-ltb resource.ceiling 32 (omega arith)
 
--- The last two parts of the limits of a core.
-pub clocks-of : (plan : Plan) (core : Core) → is_core_within (core_sizes plan core) ≡ true → (are_counters_within (map counter_sizes core.counters) ≡ true) × (are_alarms_within (map (alarm_sizes (counter_in plan)) core.alarms) ≡ true)
+-- The last parts of the limits of a core.
+pub record ClocksOf (plan : Plan) (core : Core) : Type 0 where
+  pub counters : are_counters_within (map counter_sizes core.counters) ≡ true
+  pub alarms : are_alarms_within (map (alarm_sizes (counter_in plan)) core.alarms) ≡ true
+  pub tables : are_tables_within (map (table_sizes (counter_in plan)) core.tables) ≡ true
+  pub posted : posted_at_once core ≤ 56
+
+pub clocks-of : (plan : Plan) (core : Core) → is_core_within (core_sizes plan core) ≡ true → ClocksOf plan core
 clocks-of plan core h =
-    let alarms = and_parts _ (are_alarms_within (map (alarm_sizes (counter_in plan)) core.alarms)) h in
-    ((and_parts _ (are_counters_within (map counter_sizes core.counters)) alarms.0).1, alarms.1)
+    let posted = and_parts _ (nat_le (posted_at_once core) 56) h in
+    let tables = and_parts _ (are_tables_within (map (table_sizes (counter_in plan)) core.tables)) posted.0 in
+    let alarms = and_parts _ (are_alarms_within (map (alarm_sizes (counter_in plan)) core.alarms)) tables.0 in
+    record {
+      counters = (and_parts _ (are_counters_within (map counter_sizes core.counters)) alarms.0).1;
+      alarms = alarms.1;
+      tables = tables.1;
+      posted = leb-true (posted_at_once core) 56 posted.1;
+    }
 
 pub fits : (plan : Plan) (core : Core) → is_core_within (core_sizes plan core) ≡ true → FitsKernel core
 fits plan core h =
     let sizes = map counter_sizes core.counters in
     let starts = map (alarm_sizes (counter_in plan)) core.alarms in
+    let timed = map (table_sizes (counter_in plan)) core.tables in
     let clocks = clocks-of plan core h in
-    let alarms = leb-true (length starts) 32 (and_parts (nat_le (length starts) 32) (list_all is_alarm_within starts) clocks.1).0 in
-    let counted = leb-true (length sizes) 8 (and_parts (nat_le (length sizes) 8) (list_all is_counter_within sizes) clocks.0).0 in
-    let counters = and_parts _ (are_counters_within sizes) (and_parts _ (are_alarms_within starts) h).0 in
+    let alarms = leb-true (length starts) 32 (and_parts (nat_le (length starts) 32) (list_all is_alarm_within starts) clocks.alarms).0 in
+    let counted = leb-true (length sizes) 8 (and_parts (nat_le (length sizes) 8) (list_all is_counter_within sizes) clocks.counters).0 in
+    let tables = leb-true (length timed) 8 (and_parts (nat_le (length timed) 8) (list_all is_table_within timed) clocks.tables).0 in
+    let counters = and_parts _ (are_counters_within sizes) (and_parts _ (are_alarms_within starts) (and_parts _ (are_tables_within timed) (and_parts _ (nat_le (posted_at_once core) 56) h).0).0).0 in
     let ceilings = and_parts _ (list_all is_ceiling (map ceiling_of core.resources)) counters.0 in
     let resources = and_parts _ (nat_le (length (map ceiling_of core.resources)) 16) ceilings.0 in
     let held = leb-true (length (map ceiling_of core.resources)) _ resources.1 in
@@ -140,9 +162,23 @@ fits plan core h =
       ceilings = all-weaker _ _ resource-fits core.resources (sym (list_all-map is_ceiling ceiling_of core.resources) ∙ ceilings.1);
       counters = omega (arith, length-map core.counters counter_sizes);
       alarms = omega (arith, length-map core.alarms (alarm_sizes (counter_in plan)));
+      tables = omega (arith, length-map core.tables (table_sizes (counter_in plan)));
+      posted = clocks.posted;
     }
 
 -- Each configured core fits.
 pub core-fits : (plan : Plan) (id : CoreId) (core : Core) → IsTrue (is_within_limits plan) → core_of plan id ≡ Some core → FitsKernel core
 core-fits plan id core limits found =
     fits plan core (find-passes (λ (c : Core). same_core c.id id) (λ (c : Core). is_core_within (core_sizes plan c)) plan.cores core (limit-parts plan limits).cores found)
+
+-- What each alarm and each table of a core goes by stands on the core, and so does what scripts may not name elsewhere.
+pub record NearParts (core : Core) : Type 0 where
+  pub scripts : list_all (λ (task : Task). list_all (stays_on core.id) task.script) core.tasks ≡ true
+  pub alarms : list_all (is_alarm_near core.id) core.alarms ≡ true
+  pub tables : list_all (is_table_near core.id) core.tables ≡ true
+
+pub near-parts : (core : Core) → is_core_near core ≡ true → NearParts core
+near-parts core near =
+    let tables = and_parts _ (list_all (is_table_near core.id) core.tables) near in
+    let alarms = and_parts _ (list_all (is_alarm_near core.id) core.alarms) tables.0 in
+    record { scripts = alarms.0; alarms = alarms.1; tables = tables.1 }

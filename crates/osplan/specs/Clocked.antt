@@ -1,10 +1,11 @@
--- What a kernel has room for of a core's counters and alarms.
+-- What a kernel has room for of a core's counters, alarms and schedule tables.
 use Rattle.std.specs.Prelude.{◌&&◌, Bool, map}
 use Rattle.std.specs.List.{list_all}
 use Rattle.osbase.specs.Objects.{counter_object}
 use Rattle.osplan.specs.declared.plans.Alarm.{Alarm}
 use Rattle.osplan.specs.declared.plans.Core.{Core}
-use Rattle.osplan.specs.Limits.{alarm_sizes, are_alarms_within, are_counters_within, counter_sizes}
+use Rattle.osplan.specs.declared.plans.Table.{Table}
+use Rattle.osplan.specs.Limits.{TableSizes, alarm_sizes, are_alarms_within, are_counters_within, are_tables_within, counter_sizes, is_table_timed, table_sizes}
 use Rattle.osplan.specs.Objects.{is_own_object}
 use Rattle.osplan.specs.View.{own_counter}
 
@@ -12,8 +13,16 @@ use Rattle.osplan.specs.View.{own_counter}
 abbrev pub is_alarm_attached : Core → Alarm → Bool
 is_alarm_attached core alarm = is_own_object core (counter_object alarm.counter)
 
--- The core's counters and alarms are within the limits, each alarm by a counter of the core. [own]
+abbrev pub is_table_attached : Core → Table → Bool
+is_table_attached core table = is_own_object core (counter_object table.counter)
+
+abbrev pub own_table_sizes : Core → Table → TableSizes
+own_table_sizes core table = table_sizes (own_counter core) table
+
+-- The core's counters, alarms and tables are within the limits, each alarm and table by a counter of the core; and the tables' points
+-- come in order. [own]
 abbrev pub are_clocks_within : Core → Bool
 are_clocks_within core =
     are_counters_within (map counter_sizes core.counters) && are_alarms_within (map (alarm_sizes (own_counter core)) core.alarms)
-    && list_all (is_alarm_attached core) core.alarms
+    && list_all (is_alarm_attached core) core.alarms && are_tables_within (map (own_table_sizes core) core.tables)
+    && list_all (is_table_attached core) core.tables && list_all (λ (table : Table). is_table_timed (own_table_sizes core table)) core.tables

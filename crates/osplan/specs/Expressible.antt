@@ -1,5 +1,5 @@
 -- What a text can say of a configuration so far, beside its limits: names in form and all different, one mode, scripts whose
--- arguments are of their kinds, whose masks have events and that stay within themselves, actions likewise, and no ISR or table. [own]
+-- arguments are of their kinds, whose masks have events and that stay within themselves, actions likewise, and no ISR. [own]
 -- Each is a test, so that a literal configuration passes it by computation.
 use Rattle.std.specs.Prelude.{ℕ, ◌==◌, ◌&&◌, nat_le, Bool, true, false, not, Some, List, [], ◌∷◌, ◌++◌, length, map, codes}
 use Rattle.std.specs.List.{list_all, list_any, flat_map}
@@ -15,11 +15,12 @@ use Rattle.osplan.specs.declared.plans.Plan.{Plan}
 use Rattle.osplan.specs.declared.plans.Core.{Core}
 use Rattle.osplan.specs.declared.plans.Counter.{Counter}
 use Rattle.osplan.specs.declared.plans.Resource.{Resource}
+use Rattle.osplan.specs.declared.plans.Table.{Table}
 use Rattle.osplan.specs.declared.plans.Task.{Task}
 use Rattle.osplan.specs.declared.plans.TimedAction.{TimedAction}
 use Rattle.osplan.specs.declared.plans.CoreMode.{CoreMode}
 use Rattle.osplan.specs.declared.plans.CoreMode.TheVariants.{Named, DontCare}
-use Rattle.osplan.specs.Objects.{alarm_modes}
+use Rattle.osplan.specs.Objects.{alarm_modes, table_actions, table_modes}
 
 -- The name of the only mode.
 abbrev pub mode_name : List ℕ
@@ -42,11 +43,12 @@ abbrev pub are_distinct : List (List ℕ) → Bool
 are_distinct [] = true
 are_distinct (name ∷ names) = not (list_any (λ later. bytes_eq later name) names) && are_distinct names
 
--- The names of a core's objects: tasks, then resources, counters and alarms. No other kind can be configured yet.
+-- The names of a core's objects: tasks, then resources, counters, alarms and tables. No other kind can be configured yet.
 abbrev pub object_names : Core → List (List ℕ)
 object_names core =
     map (λ (task : Task). task.name) core.tasks ++ map (λ (resource : Resource). resource.name) core.resources
     ++ map (λ (counter : Counter). counter.name) core.counters ++ map (λ (alarm : Alarm). alarm.name) core.alarms
+    ++ map (λ (table : Table). table.name) core.tables
 
 -- Every name that a configuration declares: those of its modes, and those of its objects core by core.
 abbrev pub declared_names : Plan → List (List ℕ)
@@ -88,11 +90,16 @@ is_counter_expressible counter = is_name counter.name
 abbrev pub is_alarm_expressible : Alarm → Bool
 is_alarm_expressible alarm = is_name alarm.name && is_action_expressible alarm.action && list_all is_only_mode (alarm_modes alarm)
 
--- A core is of the only mode, and has no ISR or table.
+-- A table has a name in form, such actions, and starts by itself in no mode but the only one.
+abbrev pub is_table_expressible : Table → Bool
+is_table_expressible table = is_name table.name && list_all is_action_expressible (table_actions table) && list_all is_only_mode (table_modes table)
+
+-- A core is of the only mode, and has no ISR.
 abbrev pub is_core_expressible : Core → Bool
 is_core_expressible core =
     is_in_only_mode core.mode && list_all is_task_expressible core.tasks && list_all is_resource_expressible core.resources
-    && list_all is_counter_expressible core.counters && list_all is_alarm_expressible core.alarms && (length core.isrs == 0) && (length core.tables == 0)
+    && list_all is_counter_expressible core.counters && list_all is_alarm_expressible core.alarms
+    && list_all is_table_expressible core.tables && (length core.isrs == 0)
 
 -- The whole configuration can be said by a text; the names that it declares are different.
 abbrev pub is_expressible : Plan → Bool

@@ -1,7 +1,7 @@
 -- The limits of a configuration's numbers, each said once: a text that is read, the configuration that it means and the text that
 -- is written of it are judged by one test of their numbers. And that each reference of a configuration names an object of it.
 -- Each is a test, so that a literal configuration passes it by computation.
-use Rattle.std.specs.Prelude.{ℕ, ◌==◌, ◌&&◌, ◌||◌, nat_le, nat_lt, Bool, true, false, not, Option, Some, None, is_some, option_map, unwrap_or, List, [], ◌∷◌, length, map, sum_by}
+use Rattle.std.specs.Prelude.{ℕ, ◌-◌, ◌==◌, ◌&&◌, ◌||◌, nat_le, nat_lt, Bool, true, false, not, Option, Some, None, is_some, option_map, unwrap_or, List, [], ◌∷◌, length, map, sum_by}
 use Rattle.std.specs.List.{list_all, list_any}
 use Rattle.std.specs.Option.{option_map_or}
 use Rattle.osbase.specs.declared.references.CoreId.{CoreId}
@@ -13,14 +13,18 @@ use Rattle.oscript.specs.declared.Op.{Op}
 use Rattle.oscript.specs.Rows.{names_own_only, objects_of}
 use Rattle.osplan.specs.declared.plans.Alarm.{Alarm}
 use Rattle.osplan.specs.declared.plans.AlarmStart.{AlarmStart}
+use Rattle.osplan.specs.declared.plans.ExpiryPoint.{ExpiryPoint}
 use Rattle.osplan.specs.declared.plans.Plan.{Plan}
 use Rattle.osplan.specs.declared.plans.Core.{Core}
 use Rattle.osplan.specs.declared.plans.Counter.{Counter}
 use Rattle.osplan.specs.declared.plans.Resource.{Resource}
+use Rattle.osplan.specs.declared.plans.Table.{Table}
+use Rattle.osplan.specs.declared.plans.TableStart.{TableStart}
 use Rattle.osplan.specs.declared.plans.Task.{Task}
+use Rattle.osplan.specs.declared.plans.TimedAction.{TimedAction}
 use Rattle.osplan.specs.declared.plans.CoreMode.{CoreMode}
 use Rattle.osplan.specs.declared.plans.CoreMode.TheVariants.{Named, DontCare}
-use Rattle.osplan.specs.Objects.{action_object, alarm_modes, has_index}
+use Rattle.osplan.specs.Objects.{action_object, alarm_modes, has_index, posted_at_once, table_actions, table_modes}
 use Rattle.osplan.specs.Separate.{is_on, names_other}
 use Rattle.osplan.specs.View.{core_of, counter_in}
 
@@ -42,7 +46,19 @@ pub record StartSizes : Type 0 where
   pub cycle : Option ℕ
   pub counter : Option CounterSizes
 
--- Of each alarm there are sizes if it is automatic.
+pub record PointSizes : Type 0 where
+  pub offset : Option ℕ
+  pub actions : ℕ
+
+-- Of a schedule table, with the sizes of its counter as of an automatic alarm; of one that starts by itself, with its offset.
+pub record TableSizes : Type 0 where
+  pub duration : Option ℕ
+  pub repeating : Bool
+  pub points : List PointSizes
+  pub auto : Option (Option ℕ)
+  pub counter : Option CounterSizes
+
+-- Of each alarm there are sizes if it is automatic. Posted is how many envelopes its alarms and tables may add to the outbox at once.
 pub record CoreSizes : Type 0 where
   pub number : Option ℕ
   pub start : List (Option ℕ)
@@ -50,11 +66,37 @@ pub record CoreSizes : Type 0 where
   pub resources : List (Option ℕ)
   pub counters : List CounterSizes
   pub alarms : List (Option StartSizes)
+  pub tables : List TableSizes
+  pub posted : ℕ
 
 pub record Sizes : Type 0 where
   pub modes : ℕ
   pub cap : Option ℕ
   pub cores : List CoreSizes
+
+-- ---- how many there may be at most, of each kind on a core, and of cores [own]
+
+abbrev pub most_cores : ℕ
+most_cores = 8
+
+abbrev pub most_tasks : ℕ
+most_tasks = 32
+
+abbrev pub most_resources : ℕ
+most_resources = 16
+
+abbrev pub most_counters : ℕ
+most_counters = 8
+
+abbrev pub most_alarms : ℕ
+most_alarms = 32
+
+abbrev pub most_tables : ℕ
+most_tables = 8
+
+-- Envelopes that alarms and tables add to a core's outbox at once.
+abbrev pub most_posted : ℕ
+most_posted = 56
 
 -- ---- their limits
 
@@ -93,9 +135,9 @@ is_ceiling number = is_between 0 31 number
 abbrev pub is_counter_within : CounterSizes → Bool
 is_counter_within s = is_between 1 1000000000 s.max && is_between 1 (unwrap_or s.max 0) s.min
 
--- At most 8 counters. [own]
+-- And there are not too many. [own]
 abbrev pub are_counters_within : List CounterSizes → Bool
-are_counters_within counters = nat_le (length counters) 8 && list_all is_counter_within counters
+are_counters_within counters = nat_le (length counters) most_counters && list_all is_counter_within counters
 
 -- An alarm's cycle: 0 where it is due once, or the counter's least cycle to its greatest value [OSEK/VDX OS 2.2.3, section 13.6.3.3].
 abbrev pub is_cycle : CounterSizes → Option ℕ → Bool
@@ -114,27 +156,52 @@ is_start_within s = option_map_or (is_start_by s) s.counter true
 abbrev pub is_alarm_within : Option StartSizes → Bool
 is_alarm_within auto = option_map_or is_start_within auto true
 
--- At most 32 alarms. [own]
 abbrev pub are_alarms_within : List (Option StartSizes) → Bool
-are_alarms_within alarms = nat_le (length alarms) 32 && list_all is_alarm_within alarms
+are_alarms_within alarms = nat_le (length alarms) most_alarms && list_all is_alarm_within alarms
+
+-- The offset of the table's first point; 0 where it has none.
+abbrev pub first_offset : List PointSizes → ℕ
+first_offset [] = 0
+first_offset (point ∷ points) = unwrap_or point.offset 0
+
+-- An automatic table first begins after 1 count, or at most so many that its first point comes within the counter's values
+-- [AUTOSAR SWS OS 4.x, OsScheduleTableStartValue and SWS_Os_00276; that it is relative is own].
+abbrev pub is_table_start : TableSizes → CounterSizes → Option ℕ → Bool
+is_table_start s counter offset = is_between 1 (unwrap_or counter.max 0 - first_offset s.points) offset
+
+abbrev pub is_table_start_within : TableSizes → Option ℕ → Bool
+is_table_start_within s offset = option_map_or (λ (counter : CounterSizes). is_table_start s counter offset) s.counter true
+
+-- A point has 1 to 8 actions. [AUTOSAR SWS OS 4.x, SWS_Os_00407; the most is own]
+abbrev pub is_point_within : PointSizes → Bool
+is_point_within s = is_between 1 8 (Some s.actions)
+
+-- A schedule table: its duration 1 to 1,000,000,000, and 1 to 16 points. [own]
+abbrev pub is_table_within : TableSizes → Bool
+is_table_within s =
+    is_between 1 1000000000 s.duration && is_between 1 16 (Some (length s.points)) && list_all is_point_within s.points
+    && option_map_or (is_table_start_within s) s.auto true
+
+abbrev pub are_tables_within : List TableSizes → Bool
+are_tables_within tables = nat_le (length tables) most_tables && list_all is_table_within tables
 
 -- How many jobs of the task there may be at once; 0 where that number is not there, with which no task is within its limits.
 abbrev pub jobs_of : TaskSizes → ℕ
 jobs_of s = unwrap_or s.activations 0
 
--- A core: number 0 to 7, at most 32 tasks, each of which passes the test, at most 64 jobs of all its tasks at once, at most 16
--- resources, and its counters and alarms. [own]
+-- A core: number 0 to 7, its tasks, each of which passes the test, at most 64 jobs of all its tasks at once, its resources, counters,
+-- alarms and tables, and what these post. [own]
 abbrev pub is_core_by : (TaskSizes → Bool) → CoreSizes → Bool
 is_core_by test s =
     is_between 0 7 s.number && list_all is_start s.start
-    && nat_le (length s.tasks) 32 && list_all test s.tasks && nat_le (sum_by jobs_of s.tasks) 64
-    && nat_le (length s.resources) 16 && list_all is_ceiling s.resources
-    && are_counters_within s.counters && are_alarms_within s.alarms
+    && nat_le (length s.tasks) most_tasks && list_all test s.tasks && nat_le (sum_by jobs_of s.tasks) 64
+    && nat_le (length s.resources) most_resources && list_all is_ceiling s.resources
+    && are_counters_within s.counters && are_alarms_within s.alarms && are_tables_within s.tables && nat_le s.posted most_posted
 
 -- The whole: 1 to 8 application modes, mailboxes of 1 to 16 envelopes, 1 to 8 cores. [own]
 abbrev pub is_by : (TaskSizes → Bool) → Sizes → Bool
 is_by test s =
-    is_between 1 8 (Some s.modes) && is_between 1 16 s.cap && is_between 1 8 (Some (length s.cores))
+    is_between 1 8 (Some s.modes) && is_between 1 16 s.cap && is_between 1 most_cores (Some (length s.cores))
     && list_all (is_core_by test) s.cores
 
 abbrev pub is_core_within : CoreSizes → Bool
@@ -142,6 +209,53 @@ is_core_within s = is_core_by is_task_within s
 
 abbrev pub is_within : Sizes → Bool
 is_within s = is_by is_task_within s
+
+-- ---- the points of schedule tables
+
+-- The offsets are there, and increase. [AUTOSAR SWS OS 4.x, OsScheduleTblExpPointOffset]
+abbrev pub is_before : Option ℕ → Option ℕ → Bool
+is_before (Some a) (Some b) = nat_lt a b
+is_before a b = false
+
+abbrev pub are_ascending : List PointSizes → Bool
+are_ascending [] = true
+are_ascending (point ∷ []) = is_some point.offset
+are_ascending (point ∷ next ∷ points) = is_before point.offset next.offset && are_ascending (next ∷ points)
+
+abbrev pub last_offset : List PointSizes → ℕ
+last_offset [] = 0
+last_offset (point ∷ []) = unwrap_or point.offset 0
+last_offset (point ∷ next ∷ points) = last_offset (next ∷ points)
+
+-- The delays between neighbours.
+abbrev pub delays : List PointSizes → List ℕ
+delays [] = []
+delays (point ∷ []) = []
+delays (point ∷ next ∷ points) = (unwrap_or next.offset 0 - unwrap_or point.offset 0) ∷ delays (next ∷ points)
+
+-- From the last point to the end of the period.
+abbrev pub final_delay : TableSizes → ℕ
+final_delay s = unwrap_or s.duration 0 - last_offset s.points
+
+-- The counter admits the delay. [AUTOSAR SWS OS 4.x, SWS_Os_00403, SWS_Os_00408 and SWS_Os_00443]
+abbrev pub is_delay : CounterSizes → ℕ → Bool
+is_delay counter delay = nat_le (unwrap_or counter.min 0) delay && nat_le delay (unwrap_or counter.max 0)
+
+-- It admits an initial offset, which may be 0. [AUTOSAR SWS OS 4.x, SWS_Os_00400 and SWS_Os_00440]
+abbrev pub is_initial : CounterSizes → ℕ → Bool
+is_initial counter offset = (offset == 0) || is_delay counter offset
+
+-- And a final delay, of which a table that does not repeat may have less than the least. [AUTOSAR SWS OS 4.x, SWS_Os_00427 and SWS_Os_00444]
+abbrev pub is_final : TableSizes → CounterSizes → Bool
+is_final s counter = nat_le (final_delay s) (unwrap_or counter.max 0) && (not s.repeating || is_delay counter (final_delay s))
+
+abbrev pub is_timed_by : TableSizes → CounterSizes → Bool
+is_timed_by s counter = is_initial counter (first_offset s.points) && list_all (is_delay counter) (delays s.points) && is_final s counter
+
+-- The points come in order, none past the period's end, with delays that the table's counter admits, if there is one.
+abbrev pub is_table_timed : TableSizes → Bool
+is_table_timed s =
+    are_ascending s.points && nat_le (last_offset s.points) (unwrap_or s.duration 0) && option_map_or (is_timed_by s) s.counter true
 
 -- ---- numbers of cores
 
@@ -185,7 +299,20 @@ start_sizes counter auto = record { start = Some auto.start; cycle = Some auto.c
 abbrev pub alarm_sizes : (CounterRef → Option Counter) → Alarm → Option StartSizes
 alarm_sizes find_counter alarm = option_map (start_sizes (option_map counter_sizes (find_counter alarm.counter))) alarm.auto
 
--- A core's in its configuration, where its alarms' counters are looked up, also those of other cores.
+abbrev pub point_sizes : ExpiryPoint → PointSizes
+point_sizes point = record { offset = Some point.offset; actions = length point.actions }
+
+-- A table's, in the same way.
+abbrev pub table_sizes : (CounterRef → Option Counter) → Table → TableSizes
+table_sizes find_counter table = record {
+  duration = Some table.duration;
+  repeating = table.repeating;
+  points = map point_sizes table.points;
+  auto = option_map (λ (auto : TableStart). Some auto.offset) table.auto;
+  counter = option_map counter_sizes (find_counter table.counter);
+}
+
+-- A core's in its configuration, where its alarms' and its tables' counters are looked up, also those of other cores.
 abbrev pub core_sizes : Plan → Core → CoreSizes
 core_sizes plan core = record {
   number = number_of core.id;
@@ -194,6 +321,8 @@ core_sizes plan core = record {
   resources = map ceiling_of core.resources;
   counters = map counter_sizes core.counters;
   alarms = map (alarm_sizes (counter_in plan)) core.alarms;
+  tables = map (table_sizes (counter_in plan)) core.tables;
+  posted = posted_at_once core;
 }
 
 abbrev pub sizes_of : Plan → Sizes
@@ -220,14 +349,25 @@ is_core_mode plan DontCare = true
 abbrev pub is_task_known : Plan → Task → Bool
 is_task_known plan task = list_all (is_op_known plan) task.script && list_all (is_mode plan) task.auto
 
+-- What an action is for is there.
+abbrev pub is_action_known : Plan → TimedAction → Bool
+is_action_known plan action = is_object plan (action_object action)
+
 -- An alarm's counter is there, what its action is for, and the modes in which it is set by itself.
 abbrev pub is_alarm_known : Plan → Alarm → Bool
 is_alarm_known plan alarm =
-    is_object plan (counter_object alarm.counter) && is_object plan (action_object alarm.action) && list_all (is_mode plan) (alarm_modes alarm)
+    is_object plan (counter_object alarm.counter) && is_action_known plan alarm.action && list_all (is_mode plan) (alarm_modes alarm)
 
--- A core's mode is there, and what its tasks and its alarms name.
+-- A table's counter is there, what its actions are for, and the modes in which it starts by itself.
+abbrev pub is_table_known : Plan → Table → Bool
+is_table_known plan table =
+    is_object plan (counter_object table.counter) && list_all (is_action_known plan) (table_actions table) && list_all (is_mode plan) (table_modes table)
+
+-- A core's mode is there, and what its tasks, its alarms and its tables name.
 abbrev pub is_core_known : Plan → Core → Bool
-is_core_known plan core = is_core_mode plan core.mode && list_all (is_task_known plan) core.tasks && list_all (is_alarm_known plan) core.alarms
+is_core_known plan core =
+    is_core_mode plan core.mode && list_all (is_task_known plan) core.tasks && list_all (is_alarm_known plan) core.alarms
+    && list_all (is_table_known plan) core.tables
 
 -- On the core of this number the operation names no object of another core, where it may name its own alone.
 abbrev pub stays_on : CoreId → Op → Bool
@@ -237,13 +377,23 @@ stays_on id op = not (names_own_only op && names_other id op)
 abbrev pub is_alarm_near : CoreId → Alarm → Bool
 is_alarm_near id alarm = is_on id (counter_object alarm.counter)
 
--- So it is with each operation of the core's scripts, and with each of its alarms. [own]
-abbrev pub is_core_near : Core → Bool
-is_core_near core = list_all (λ (task : Task). list_all (stays_on core.id) task.script) core.tasks && list_all (is_alarm_near core.id) core.alarms
+-- And the table's.
+abbrev pub is_table_near : CoreId → Table → Bool
+is_table_near id table = is_on id (counter_object table.counter)
 
--- The whole configuration is within the limits, with different cores, a configured master, no reference to what is not there, and
--- none to another core's objects where only a core's own may be named.
+-- So it is with each operation of the core's scripts, and with each of its alarms and tables. [own]
+abbrev pub is_core_near : Core → Bool
+is_core_near core =
+    list_all (λ (task : Task). list_all (stays_on core.id) task.script) core.tasks && list_all (is_alarm_near core.id) core.alarms
+    && list_all (is_table_near core.id) core.tables
+
+-- The points of each of the core's tables come in order.
+abbrev pub is_core_timed : Plan → Core → Bool
+is_core_timed plan core = list_all (λ (table : Table). is_table_timed (table_sizes (counter_in plan) table)) core.tables
+
+-- The whole configuration is within the limits, with different cores, a configured master, no reference to what is not there, none
+-- to another core's objects where only a core's own may be named, and tables whose points come in order.
 abbrev pub is_within_limits : Plan → Bool
 is_within_limits plan =
     is_within (sizes_of plan) && are_numbers_distinct (numbers_of plan.cores) && is_some (core_of plan plan.master)
-    && list_all (is_core_known plan) plan.cores && list_all is_core_near plan.cores
+    && list_all (is_core_known plan) plan.cores && list_all is_core_near plan.cores && list_all (is_core_timed plan) plan.cores

@@ -10,7 +10,7 @@ use Rattle.osbase.specs.declared.references.ResourceRef.{ResourceRef}
 use Rattle.osbase.specs.declared.references.Runner.{Runner}
 use Rattle.osbase.specs.declared.references.TableRef.{TableRef}
 use Rattle.osbase.specs.declared.references.TaskRef.{TaskRef}
-use Rattle.osbase.specs.Objects.{alarm_place, resource_place, task_place}
+use Rattle.osbase.specs.Objects.{alarm_place, resource_place, table_place, task_place}
 use Rattle.osplan.specs.declared.plans.Alarm.{Alarm}
 use Rattle.osplan.specs.declared.plans.Core.{Core}
 use Rattle.osplan.specs.declared.plans.Counter.{Counter}
@@ -32,6 +32,7 @@ name_in ObjectKind.Task core index = option_map_or (λ (task : Task). task.name)
 name_in ObjectKind.Resource core index = option_map_or (λ (resource : Resource). resource.name) (slice_get core.resources index) []
 name_in ObjectKind.Counter core index = option_map_or (λ (counter : Counter). counter.name) (slice_get core.counters index) []
 name_in ObjectKind.Alarm core index = option_map_or (λ (alarm : Alarm). alarm.name) (slice_get core.alarms index) []
+name_in ObjectKind.Table core index = option_map_or (λ (table : Table). table.name) (slice_get core.tables index) []
 
 abbrev pub name_of : Plan → ObjectKind → Place → List ℕ
 name_of plan kind place = option_map_or (λ (core : Core). name_in kind core place.index) (core_of plan place.core) []
@@ -45,13 +46,13 @@ resource_name plan resource = name_of plan ObjectKind.Resource (resource_place r
 abbrev pub alarm_name : Plan → AlarmRef → List ℕ
 alarm_name plan alarm = name_of plan ObjectKind.Alarm (alarm_place alarm)
 
+abbrev pub table_name : Plan → TableRef → List ℕ
+table_name plan table = name_of plan ObjectKind.Table (table_place table)
+
 -- ---- objects that no operation names yet
 
 abbrev pub isr_name : Plan → IsrRef → List ℕ
 isr_name plan isr = option_map_or (λ (core : Core). option_map_or (λ (i : Isr). i.name) (slice_get core.isrs isr.index) []) (core_of plan isr.core) []
-
-abbrev pub table_name : Plan → TableRef → List ℕ
-table_name plan table = option_map_or (λ (core : Core). option_map_or (λ (t : Table). t.name) (slice_get core.tables table.index) []) (core_of plan table.core) []
 
 abbrev pub runner_name : Plan → Runner → List ℕ
 runner_name plan (Runner.Task task) = task_name plan task

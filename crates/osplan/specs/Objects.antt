@@ -1,17 +1,20 @@
--- The objects of a core, kind by kind, and what its alarms name.
-use Rattle.std.specs.Prelude.{ℕ, ◌&&◌, ◌||◌, nat_lt, Bool, not, List, [], length}
+-- The objects of a core, kind by kind, and what its alarms and schedule tables name.
+use Rattle.std.specs.Prelude.{ℕ, ◌+◌, ◌&&◌, ◌||◌, nat_lt, Bool, not, List, [], ◌∷◌, ◌++◌, count_by, flat_map, length, map, sum_by}
 use Rattle.std.specs.Option.{option_map_or}
 use Rattle.osbase.specs.declared.objects.ObjectKind.{ObjectKind}
-use Rattle.osbase.specs.declared.objects.ObjectKind.TheVariants.{Task, Resource, Counter, Alarm}
+use Rattle.osbase.specs.declared.objects.ObjectKind.TheVariants.{Task, Resource, Counter, Alarm, Table}
 use Rattle.osbase.specs.declared.objects.Object.{Object}
 use Rattle.osbase.specs.declared.messages.RemoteCall.{RemoteCall}
 use Rattle.osbase.specs.declared.references.ModeId.{ModeId}
-use Rattle.osbase.specs.History.{same_core}
+use Rattle.osbase.specs.History.{greater, same_core}
 use Rattle.osbase.specs.Objects.{object_of_call}
 use Rattle.osplan.specs.declared.plans.Alarm.{Alarm as AlarmValue}
 use Rattle.osplan.specs.declared.plans.AlarmStart.{AlarmStart}
 use Rattle.osplan.specs.declared.plans.TimedAction.{TimedAction}
 use Rattle.osplan.specs.declared.plans.Core.{Core}
+use Rattle.osplan.specs.declared.plans.ExpiryPoint.{ExpiryPoint}
+use Rattle.osplan.specs.declared.plans.Table.{Table as TableValue}
+use Rattle.osplan.specs.declared.plans.TableStart.{TableStart}
 
 -- How many objects of a kind a core has.
 abbrev pub object_count : ObjectKind → Core → ℕ
@@ -19,6 +22,7 @@ object_count Task core = length core.tasks
 object_count Resource core = length core.resources
 object_count Counter core = length core.counters
 object_count Alarm core = length core.alarms
+object_count Table core = length core.tables
 
 -- The core has so many objects of the kind that one stands at the object's index.
 abbrev pub has_index : Core → Object → Bool
@@ -47,6 +51,37 @@ action_object action = object_of_call (call_of_action action)
 abbrev pub alarm_modes : AlarmValue → List ModeId
 alarm_modes alarm = option_map_or (λ (auto : AlarmStart). auto.modes) alarm.auto []
 
--- An alarm of the core acts on another core's object.
-abbrev pub is_posting : Core → AlarmValue → Bool
-is_posting core alarm = not (same_core (action_object alarm.action).place.core core.id)
+-- ---- schedule tables
+
+-- The modes in which a table starts by itself. [AUTOSAR SWS OS 4.x, OsScheduleTableAutostart]
+abbrev pub table_modes : TableValue → List ModeId
+table_modes table = option_map_or (λ (auto : TableStart). auto.modes) table.auto []
+
+-- The actions of a table, point by point.
+abbrev pub table_actions : TableValue → List TimedAction
+table_actions table = flat_map (λ (point : ExpiryPoint). point.actions) table.points
+
+-- ---- both
+
+-- The actions of a core's alarms, and then those of its tables.
+abbrev pub core_actions : Core → List TimedAction
+core_actions core = map (λ (alarm : AlarmValue). alarm.action) core.alarms ++ flat_map table_actions core.tables
+
+-- The action is for another core's object.
+abbrev pub is_posting : Core → TimedAction → Bool
+is_posting core action = not (same_core (action_object action).place.core core.id)
+
+-- How many actions of a point, and of that point of a table that has most, are for other cores.
+abbrev pub posted_at : Core → ExpiryPoint → ℕ
+posted_at core point = count_by (is_posting core) point.actions
+
+abbrev pub greatest_of : List ℕ → ℕ
+greatest_of [] = 0
+greatest_of (n ∷ ns) = greater n (greatest_of ns)
+
+abbrev pub greatest_posted : Core → TableValue → ℕ
+greatest_posted core table = greatest_of (map (posted_at core) table.points)
+
+-- How many envelopes the core's alarms and tables may add to its outbox at once: each alarm one, and each table those of one point. [own]
+abbrev pub posted_at_once : Core → ℕ
+posted_at_once core = count_by (λ (alarm : AlarmValue). is_posting core alarm.action) core.alarms + sum_by (greatest_posted core) core.tables

@@ -7,14 +7,14 @@ use Rattle.osbase.specs.declared.objects.Object.{Object}
 use Rattle.osbase.specs.History.{same_core}
 use Rattle.oscript.specs.declared.Op.{Op}
 use Rattle.oscript.specs.Rows.{objects_of}
-use Rattle.osplan.specs.declared.plans.Alarm.{Alarm}
 use Rattle.osplan.specs.declared.plans.Plan.{Plan}
 use Rattle.osplan.specs.declared.plans.Core.{Core}
 use Rattle.osplan.specs.declared.plans.Task.{Task}
+use Rattle.osplan.specs.declared.plans.TimedAction.{TimedAction}
 use Rattle.osplan.specs.declared.plans.CoreMode.{CoreMode}
 use Rattle.osplan.specs.declared.plans.CoreMode.TheVariants.{Named, DontCare}
 use Rattle.osplan.specs.declared.separate.Standing.{Standing}
-use Rattle.osplan.specs.Objects.{action_object}
+use Rattle.osplan.specs.Objects.{action_object, core_actions}
 use Rattle.osplan.specs.View.{core_of}
 
 -- ---- which cores are started
@@ -64,7 +64,7 @@ agree DontCare other = true
 abbrev pub is_agreed_mode : Plan → CoreMode → Bool
 is_agreed_mode plan mode = list_all (λ (c : Core). not (is_started plan c.id) || agree mode c.mode) plan.cores
 
--- ---- what scripts and alarms name
+-- ---- what scripts, alarms and tables name
 
 -- The object stands on this core.
 abbrev pub is_on : CoreId → Object → Bool
@@ -88,11 +88,11 @@ names_other id op = op_names (is_off id) op
 abbrev pub has_operation : (Op → Bool) → Core → Bool
 has_operation test core = list_any (λ (task : Task). list_any test task.script) core.tasks
 
--- An alarm of the core acts on an object that passes the test.
+-- An alarm or a schedule table of the core acts on an object that passes the test.
 abbrev pub acts_on : (Object → Bool) → Core → Bool
-acts_on test core = list_any (λ (alarm : Alarm). test (action_object alarm.action)) core.alarms
+acts_on test core = list_any (λ (action : TimedAction). test (action_object action)) (core_actions core)
 
--- The core names an object that passes the test, by a script or an alarm. [own]
+-- The core names an object that passes the test, by a script, an alarm or a table. [own]
 abbrev pub names_object : (Object → Bool) → Core → Bool
 names_object test core = has_operation (op_names test) core || acts_on test core
 
@@ -102,8 +102,8 @@ is_named_elsewhere plan id = list_any (λ (other : Core). not (same_core other.i
 
 -- ---- separate cores, and the configuration of one alone
 
--- The core is started; it names a mode; no started core names another mode; it starts no core; no script or
--- alarm of it names an object of another core; and none of another core, also of one that is never started,
+-- The core is started; it names a mode; no started core names another mode; it starts no core; no script,
+-- alarm or table of it names an object of another core; and none of another core, also of one that is never started,
 -- names an object of it. [own]
 abbrev pub is_separate_core : Plan → Core → Bool
 is_separate_core plan core =

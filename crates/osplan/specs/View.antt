@@ -4,6 +4,7 @@ use Rattle.osbase.specs.declared.references.AlarmRef.{AlarmRef}
 use Rattle.osbase.specs.declared.references.CoreId.{CoreId}
 use Rattle.osbase.specs.declared.references.CounterRef.{CounterRef}
 use Rattle.osbase.specs.declared.references.ResourceRef.{ResourceRef}
+use Rattle.osbase.specs.declared.references.TableRef.{TableRef}
 use Rattle.osbase.specs.declared.references.TaskRef.{TaskRef}
 use Rattle.osbase.specs.History.{same_core}
 use Rattle.osplan.specs.declared.plans.Plan.{Plan}
@@ -11,6 +12,7 @@ use Rattle.osplan.specs.declared.plans.Alarm.{Alarm}
 use Rattle.osplan.specs.declared.plans.Core.{Core}
 use Rattle.osplan.specs.declared.plans.Counter.{Counter}
 use Rattle.osplan.specs.declared.plans.Resource.{Resource}
+use Rattle.osplan.specs.declared.plans.Table.{Table}
 use Rattle.osplan.specs.declared.plans.Task.{Task}
 use Rattle.osplan.specs.declared.plans.CoreMode.TheVariants.{DontCare}
 
@@ -70,3 +72,7 @@ own_counter core c = if same_core c.core core.id then slice_get core.counters c.
 -- The alarm of this reference, if it is one of the core's own.
 abbrev pub own_alarm : Core → AlarmRef → Option Alarm
 own_alarm core a = if same_core a.core core.id then slice_get core.alarms a.index else None
+
+-- The schedule table of this reference, if it is one of the core's own.
+abbrev pub own_table : Core → TableRef → Option Table
+own_table core s = if same_core s.core core.id then slice_get core.tables s.index else None

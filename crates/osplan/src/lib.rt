@@ -11,7 +11,7 @@ pub mod separate;
 
 pub use faults::ConfFault;
 pub use plans::{
-    Alarm, AlarmStart, Config, Core, CoreMode, Counter, Isr, Plan, Resource, Table, Task,
-    TimedAction,
+    Alarm, AlarmStart, Config, Core, CoreMode, Counter, ExpiryPoint, Isr, Plan, Resource, Table,
+    TableStart, Task, TimedAction,
 };
 pub use separate::{Standing, cut, is_separate, standing_of, stays_on};

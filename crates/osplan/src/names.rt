@@ -28,6 +28,10 @@ impl Core {
                 Some(alarm) => alarm.name.as_str(),
                 None => "",
             },
+            ObjectKind::Table => match self.tables.as_slice().get(index) {
+                Some(table) => table.name.as_str(),
+                None => "",
+            },
         }
     }
 }
@@ -87,13 +91,7 @@ impl Plan {
     pub fn table_name(&self, table: TableRef) -> &str
         ensures { result.now ≡ table_name self.now table }
     {
-        let Some(core) = self.core(table.core) else {
-            return "";
-        };
-        match core.tables.as_slice().get(usize::from(table.index)) {
-            Some(table) => table.name.as_str(),
-            None => "",
-        }
+        self.name_of(ObjectKind::Table, table.place())
     }
 
     /// The name of a task or an ISR.

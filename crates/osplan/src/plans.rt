@@ -4,7 +4,7 @@ ghost use Rattle.std.specs.Prelude.{◌≡◌, ◌↔◌, IsTrue, Option, option
 ghost use Rattle.std.specs.List.{list_all};
 ghost use Rattle.osplan.specs.Objects.{action_object, call_of_action, is_own_object, object_count};
 ghost use Rattle.osplan.specs.View.{core_of};
-ghost use Rattle.osplan.specs.Limits.{is_alarm_near, is_core_near, is_within_limits, stays_on};
+ghost use Rattle.osplan.specs.Limits.{is_alarm_near, is_core_near, is_table_near, is_within_limits, stays_on};
 ghost use Rattle.osplan.specs.Expressible.{is_expressible, op_of_action};
 ghost use Rattle.osplan.specs.declared.plans.Task.{Task as TaskValue};
 
@@ -57,7 +57,8 @@ pub struct Counter {
     pub software: bool,
 }
 
-/// What an alarm does when it is due: its task may stand on another core (AUTOSAR SWS OS 4.x, OsAlarmAction).
+/// What an alarm does when it is due, or a schedule table at a point: its task may stand on another core (AUTOSAR SWS OS
+/// 4.x, OsAlarmAction and OsScheduleTableExpiryPoint).
 #[derive(Clone, Copy, Debug, PartialEq, Eq)]
 pub enum TimedAction {
     ActivateTask(TaskRef),
@@ -114,10 +115,37 @@ pub struct Alarm {
     pub auto: Option<AlarmStart>,
 }
 
-/// A schedule table. None can be configured yet.
+/// What a schedule table does so many counts after its period begins (AUTOSAR SWS OS 4.x, OsScheduleTableExpiryPoint).
+#[derive(Debug, Drop)]
+pub struct ExpiryPoint {
+    /// 0 to the table's duration, greater than that of the point before.
+    pub offset: u32,
+    /// 1 to 8 actions. All activations come before all settings of events.
+    pub actions: List<TimedAction>,
+}
+
+/// How a schedule table is started by itself: in these application modes, its first period after so many counts
+/// (AUTOSAR SWS OS 4.x, OsScheduleTableAutostart).
+#[derive(Debug, Drop)]
+pub struct TableStart {
+    pub modes: List<ModeId>,
+    /// 1 to the counter's greatest value less the offset of the first point.
+    pub offset: u32,
+}
+
+/// A schedule table (AUTOSAR SWS OS 4.x, OsScheduleTable).
 #[derive(Debug, Drop)]
 pub struct Table {
     pub name: Name,
+    /// The counter, one of its own core.
+    pub counter: CounterRef,
+    /// The counts of a period, 1 to 1,000,000,000 (OsScheduleTableDuration).
+    pub duration: u32,
+    /// Whether another period follows each (OsScheduleTableRepeating).
+    pub repeating: bool,
+    /// 1 to 16 points by ascending offset.
+    pub points: List<ExpiryPoint>,
+    pub auto: Option<TableStart>,
 }
 
 /// The application mode with which a core calls StartOS (AUTOSAR SWS OS 4.x, SWS_Os_00608 to SWS_Os_00610).
@@ -224,13 +252,28 @@ fn are_alarms_near(core: &Core) -> bool
         .all(|alarm| is_alarm_near(core.id, alarm))
 }
 
+fn is_table_near(id: CoreId, table: &Table) -> bool
+    ensures { result ≡ is_table_near id table.now }
+{
+    is_on(id, table.counter.object())
+}
+
+fn are_tables_near(core: &Core) -> bool
+    ensures { result ≡ list_all (is_table_near core.now.id) core.now.tables }
+{
+    core.tables
+        .as_slice()
+        .iter()
+        .all(|table| is_table_near(core.id, table))
+}
+
 impl Core {
     /// Whether no operation of the core's scripts names an object of another core, where it may name the
-    /// core's own alone, and the counters of its alarms are its own.
+    /// core's own alone, and the counters of its alarms and tables are its own.
     pub fn is_near(&self) -> bool
         ensures { result ≡ is_core_near self.now }
     {
-        are_scripts_near(self) && are_alarms_near(self)
+        are_scripts_near(self) && are_alarms_near(self) && are_tables_near(self)
     }
 
     /// Whether the object is one of the core's own.
@@ -249,6 +292,7 @@ impl Core {
             ObjectKind::Resource => self.resources.len(),
             ObjectKind::Counter => self.counters.len(),
             ObjectKind::Alarm => self.alarms.len(),
+            ObjectKind::Table => self.tables.len(),
         }
     }
 }

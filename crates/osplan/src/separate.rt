@@ -9,10 +9,17 @@ ghost use Rattle.osbase.specs.declared.turns.TheConstants.{CORES};
 ghost use Rattle.osplan.specs.Limits.{is_within_limits, stays_on};
 ghost use Rattle.osplan.specs.Expressible.{is_core_expressible};
 ghost use Rattle.osplan.specs.Flags.{is_named_by_one_of, is_next, AreStarted};
+ghost use Rattle.osplan.specs.Objects.{action_object};
+ghost use Rattle.osplan.specs.declared.plans.Alarm.{Alarm as AlarmValue};
+ghost use Rattle.osplan.specs.declared.plans.ExpiryPoint.{ExpiryPoint as PointValue};
+ghost use Rattle.osplan.specs.declared.plans.Table.{Table as TableValue};
 ghost use Rattle.osplan.specs.Separate.{acts_on, agree, alone_of, cut_of, has_operation, is_among, is_named_elsewhere, is_agreed_mode, is_off, is_on, is_separate, is_separate_core, is_started, names_mode, names_object, names_other, names_own, standing_of};
 
 use crate::faults::ConfFault;
-use crate::plans::{Alarm, AlarmStart, Config, Core, CoreMode, Counter, Plan, Resource, Task};
+use crate::plans::{
+    Alarm, AlarmStart, Config, Core, CoreMode, Counter, ExpiryPoint, Plan, Resource, Table,
+    TableStart, Task,
+};
 use osbase::{CORE_NUMBERS, CORES, CoreId, CoreSet, List, Name, Object};
 use oscript::Op;
 use std::alloc::{AllocError, Global};
@@ -180,7 +187,7 @@ fn has_script_outward(core: &Core) -> bool
 }
 
 fn has_alarm_outward(core: &Core) -> bool
-    ensures { result ≡ acts_on (is_off core.now.id) core.now }
+    ensures { result ≡ list_any (λ (alarm : AlarmValue). is_off core.now.id (action_object alarm.action)) core.now.alarms }
 {
     core.alarms
         .as_slice()
@@ -188,10 +195,45 @@ fn has_alarm_outward(core: &Core) -> bool
         .any(|alarm| !is_on(core.id, alarm.action.object()))
 }
 
+fn is_point_outward(id: CoreId, point: &ExpiryPoint) -> bool
+    ensures { result ≡ list_any (λ action. is_off id (action_object action)) point.now.actions }
+{
+    point
+        .actions
+        .as_slice()
+        .iter()
+        .any(|action| !is_on(id, action.object()))
+}
+
+fn is_table_outward(id: CoreId, table: &Table) -> bool
+    ensures { result ≡ list_any (λ (point : PointValue). list_any (λ action. is_off id (action_object action)) point.actions) table.now.points }
+{
+    table
+        .points
+        .as_slice()
+        .iter()
+        .any(|point| is_point_outward(id, point))
+}
+
+fn has_table_outward(core: &Core) -> bool
+    ensures { result ≡ list_any (λ (table : TableValue). list_any (λ (point : PointValue). list_any (λ action. is_off core.now.id (action_object action)) point.actions) table.points) core.now.tables }
+{
+    core.tables
+        .as_slice()
+        .iter()
+        .any(|table| is_table_outward(core.id, table))
+}
+
+fn acts_outward(core: &Core) -> bool
+    ensures { result ≡ acts_on (is_off core.now.id) core.now }
+{
+    has_alarm_outward(core) || has_table_outward(core)
+}
+
 fn is_outward(core: &Core) -> bool
     ensures { result ≡ names_object (is_off core.now.id) core.now }
 {
-    has_script_outward(core) || has_alarm_outward(core)
+    has_script_outward(core) || acts_outward(core)
 }
 
 fn has_script_inward(id: CoreId, other: &Core) -> bool
@@ -205,7 +247,7 @@ fn has_script_inward(id: CoreId, other: &Core) -> bool
 }
 
 fn has_alarm_inward(id: CoreId, other: &Core) -> bool
-    ensures { result ≡ acts_on (is_on id) other.now }
+    ensures { result ≡ list_any (λ (alarm : AlarmValue). is_on id (action_object alarm.action)) other.now.alarms }
 {
     other
         .alarms
@@ -214,10 +256,46 @@ fn has_alarm_inward(id: CoreId, other: &Core) -> bool
         .any(|alarm| is_on(id, alarm.action.object()))
 }
 
+fn is_point_inward(id: CoreId, point: &ExpiryPoint) -> bool
+    ensures { result ≡ list_any (λ action. is_on id (action_object action)) point.now.actions }
+{
+    point
+        .actions
+        .as_slice()
+        .iter()
+        .any(|action| is_on(id, action.object()))
+}
+
+fn is_table_inward(id: CoreId, table: &Table) -> bool
+    ensures { result ≡ list_any (λ (point : PointValue). list_any (λ action. is_on id (action_object action)) point.actions) table.now.points }
+{
+    table
+        .points
+        .as_slice()
+        .iter()
+        .any(|point| is_point_inward(id, point))
+}
+
+fn has_table_inward(id: CoreId, other: &Core) -> bool
+    ensures { result ≡ list_any (λ (table : TableValue). list_any (λ (point : PointValue). list_any (λ action. is_on id (action_object action)) point.actions) table.points) other.now.tables }
+{
+    other
+        .tables
+        .as_slice()
+        .iter()
+        .any(|table| is_table_inward(id, table))
+}
+
+fn acts_inward(id: CoreId, other: &Core) -> bool
+    ensures { result ≡ acts_on (is_on id) other.now }
+{
+    has_alarm_inward(id, other) || has_table_inward(id, other)
+}
+
 fn is_inward(id: CoreId, other: &Core) -> bool
     ensures { result ≡ names_object (is_on id) other.now }
 {
-    has_script_inward(id, other) || has_alarm_inward(id, other)
+    has_script_inward(id, other) || acts_inward(id, other)
 }
 
 fn is_named_elsewhere(plan: &Plan, id: CoreId) -> bool
@@ -226,7 +304,7 @@ fn is_named_elsewhere(plan: &Plan, id: CoreId) -> bool
     plan.cores.as_slice().iter().any(|other| other.id.number != id.number && is_inward(id, other))
 }
 
-// Tasks and alarms alone name objects so far: ISRs and tables, which could too, cannot be configured yet.
+// Tasks, alarms and tables name objects so far: ISRs, which could too, cannot be configured yet.
 fn is_separate_core(plan: &Plan, core: &Core) -> bool
     requires { IsTrue (is_within_limits plan.now) }
     ensures { result ≡ is_separate_core plan.now core.now }
@@ -242,7 +320,7 @@ fn is_separate_core(plan: &Plan, core: &Core) -> bool
 
 /// Whether the core of this number is separate: it is started, by start lists that lead to it from the
 /// master; it names a mode other than DONOTCARE, and no started core names another; it starts no core;
-/// and no script or alarm of it names an object of another core, nor any of another core, started or not,
+/// and no script, alarm or table of it names an object of another core, nor any of another core, started or not,
 /// an object of it. A core that is not configured is not separate. Takes no memory.
 pub fn is_separate(config: &Config, core: CoreId) -> bool
     ensures { result ≡ is_separate config.now core }
@@ -358,6 +436,69 @@ fn copied_alarms(alloc: Global, alarms: &[Alarm]) -> Result<List<Alarm>, AllocEr
     Ok(copies)
 }
 
+fn copied_point(alloc: Global, point: &ExpiryPoint) -> Result<ExpiryPoint, AllocError>
+    ensures { IfOk result (λ copy. copy ≡ point.now) }
+{
+    Ok(ExpiryPoint {
+        offset: point.offset,
+        actions: List::from_vec(point.actions.as_slice().to_vec(alloc)?),
+    })
+}
+
+fn copied_points(alloc: Global, points: &[ExpiryPoint]) -> Result<List<ExpiryPoint>, AllocError>
+    ensures { IfOk result (λ copies. copies ≡ points.now) }
+{
+    let mut copies = List::new(alloc);
+    for point in points {
+        copies.push(copied_point(alloc, point)?)?;
+    }
+    Ok(copies)
+}
+
+fn copied_table_start(alloc: Global, start: &TableStart) -> Result<TableStart, AllocError>
+    ensures { IfOk result (λ copy. copy ≡ start.now) }
+{
+    Ok(TableStart {
+        modes: List::from_vec(start.modes.as_slice().to_vec(alloc)?),
+        offset: start.offset,
+    })
+}
+
+fn copied_table_auto(
+    alloc: Global,
+    auto: &Option<TableStart>,
+) -> Result<Option<TableStart>, AllocError>
+    ensures { IfOk result (λ copy. copy ≡ auto.now) }
+{
+    match auto {
+        Some(start) => Ok(Some(copied_table_start(alloc, start)?)),
+        None => Ok(None),
+    }
+}
+
+fn copied_table(alloc: Global, table: &Table) -> Result<Table, AllocError>
+    ensures { IfOk result (λ copy. copy ≡ table.now) }
+{
+    Ok(Table {
+        name: Name::new(alloc, table.name.as_str())?,
+        counter: table.counter,
+        duration: table.duration,
+        repeating: table.repeating,
+        points: copied_points(alloc, table.points.as_slice())?,
+        auto: copied_table_auto(alloc, &table.auto)?,
+    })
+}
+
+fn copied_tables(alloc: Global, tables: &[Table]) -> Result<List<Table>, AllocError>
+    ensures { IfOk result (λ copies. copies ≡ tables.now) }
+{
+    let mut copies = List::new(alloc);
+    for table in tables {
+        copies.push(copied_table(alloc, table)?)?;
+    }
+    Ok(copies)
+}
+
 fn copied_names(alloc: Global, names: &[Name]) -> Result<List<Name>, AllocError>
     ensures { IfOk result (λ copies. copies ≡ names.now) }
 {
@@ -381,7 +522,7 @@ fn copied_core(alloc: Global, core: &Core) -> Result<Core, AllocError>
         isrs: List::new(alloc),
         counters: copied_counters(alloc, core.counters.as_slice())?,
         alarms: copied_alarms(alloc, core.alarms.as_slice())?,
-        tables: List::new(alloc),
+        tables: copied_tables(alloc, core.tables.as_slice())?,
     })
 }
 

@@ -4,6 +4,7 @@ pub mod Border
 pub mod Ceiling
 pub mod Chained
 pub mod Distant
+pub mod Ending
 pub mod Keeping
 pub mod Laws
 pub mod Limit

@@ -25,6 +25,7 @@ use Rattle.osplan.specs.declared.plans.Counter.{Counter}
 use Rattle.osplan.specs.declared.plans.TimedAction.TheVariants as TimedAction
 use Rattle.osplan.specs.declared.plans.Plan.{Plan}
 use Rattle.osplan.specs.declared.plans.Core.{Core}
+use Rattle.osplan.specs.declared.plans.Table.{Table}
 use Rattle.osplan.specs.declared.plans.Task.{Task}
 use Rattle.osplan.specs.declared.plans.CoreMode.TheVariants.{Named}
 use Rattle.osplan.specs.View.{view_of}
@@ -93,6 +94,9 @@ alarm_at n index = record { core = core n; index = index }
 
 abbrev pub with_clocks : List Counter → List Alarm → Core → Core
 with_clocks counters alarms c = record c { counters = counters; alarms = alarms }
+
+abbrev pub with_tables : List Table → Core → Core
+with_tables tables c = record c { tables = tables }
 
 -- a configuration with the defaults
 abbrev pub plan_of : List Core → Plan

@@ -6,6 +6,7 @@ pub mod border;
 pub mod ceiling;
 pub mod chained;
 pub mod distant;
+pub mod ending;
 pub mod keeping;
 pub mod laws;
 pub mod limit;

@@ -20,10 +20,12 @@ use Rattle.osplan.specs.declared.plans.Core.{Core}
 use Rattle.osplan.specs.declared.plans.Resource.{Resource}
 use Rattle.osplan.specs.declared.plans.Task.{Task}
 use Rattle.osplan.specs.View.{View, core_of, no_core, view_from, view_of}
-use Rattle.osplan.specs.Limits.{is_alarm_known, is_within_limits, is_core_known, is_task_known, is_object, is_op_known}
+use Rattle.osplan.specs.Limits.{is_within_limits, is_core_known, is_task_known, is_object, is_op_known}
 use Rattle.osplan.specs.Objects.{may_name}
 use Rattle.osbase.specs.declared.turns.TheConstants.{TASKS}
 use Rattle.osclock.specs.Clocks.{ClockState, clocks_of}
+use Rattle.ostable.proofs.Waiting.{waits-begun}
+use Rattle.ostable.specs.Tables.{TableStates, tables_of}
 use Rattle.osjobs.specs.Jobs.{JobState, first_jobs}
 use Rattle.osstate.specs.declared.progress.Progress.{Progress}
 use Rattle.osstate.specs.State.{state_of, tasks_from}
@@ -31,14 +33,14 @@ use Rattle.osstate.specs.Steps.{state_from, first_border, first_progress, first_
 use Rattle.osstate.specs.Sound.{IsSound, is_agreed, has_objects_of}
 use Rattle.osbase.proofs.Same.{same_core-comm, same_core-true}
 use Rattle.osplan.proofs.Tests.{all-weaker, find-holds, find-passes}
-use Rattle.osplan.proofs.Alarming.{known-actions, known-named}
+use Rattle.osplan.proofs.Alarming.{known-actions, known-named, known-parts}
 use Rattle.osplan.proofs.Clocked.{clocks_within}
 use Rattle.osplan.proofs.Within.{FitsKernel, limit-parts, core-fits}
 
 -- An operation of a configuration names objects that are there, so on this core some of its own.
 known_scripts : (plan : Plan) (core : Core) → is_core_known plan core ≡ true → core_of plan core.id ≡ Some core → list_all (λ (t : Task). list_all (has_objects_of core) t.script) core.tasks ≡ true
 known_scripts plan core known found =
-    all-weaker (is_task_known plan) (λ (t : Task). list_all (has_objects_of core) t.script) each core.tasks (and_parts _ (list_all (is_task_known plan) core.tasks) (and_parts _ (list_all (is_alarm_known plan) core.alarms) known).0).1
+    all-weaker (is_task_known plan) (λ (t : Task). list_all (has_objects_of core) t.script) each core.tasks (known-parts plan core found known).tasks
   where
     known_op : (op : Op) → is_op_known plan op ≡ true → has_objects_of core op ≡ true
     known_op op h = all-weaker (is_object plan) (may_name core) (known-named plan core found) (objects_of op) h
@@ -62,9 +64,9 @@ all-begun x first (suc count) = ap (λ xs. x ∷ xs) (all-begun x (first + 1) co
 -- The state before any item stands for the empty history.
 pub state-begun : (plan : Plan) (id : CoreId) (core : Core) → core_of plan id ≡ Some core → first_state plan core (same_core core.id plan.master) ≡ state_of (view_of plan id) []
 state-begun plan id core found =
-    ap (λ (fs : List Frame). state_from plan core (first_progress (same_core core.id plan.master)) (tasks_from first_jobs fs) (clocks_of core []) first_border) (sym (all-begun new_frame 0 (length core.tasks)))
-    ∙ ap (λ (held : List (List HeldResource)). state_from plan core (first_progress (same_core core.id plan.master)) (tasks_from (record first_jobs { held = held }) (map (λ (n : ℕ). new_frame) (numbers_from 0 (length core.tasks)))) (clocks_of core []) first_border) (sym (all-begun [] 0 TASKS))
-    ∙ ap (λ (events : List TaskEvents). state_from plan core (first_progress (same_core core.id plan.master)) (tasks_from (record first_jobs { held = map (λ (n : ℕ). []) (numbers_from 0 TASKS); events = events }) (map (λ (n : ℕ). new_frame) (numbers_from 0 (length core.tasks)))) (clocks_of core []) first_border) (sym (all-begun no_events 0 TASKS))
+    ap (λ (fs : List Frame). state_from plan core (first_progress (same_core core.id plan.master)) (tasks_from first_jobs fs) (clocks_of core []) (tables_of core []) first_border) (sym (all-begun new_frame 0 (length core.tasks)))
+    ∙ ap (λ (held : List (List HeldResource)). state_from plan core (first_progress (same_core core.id plan.master)) (tasks_from (record first_jobs { held = held }) (map (λ (n : ℕ). new_frame) (numbers_from 0 (length core.tasks)))) (clocks_of core []) (tables_of core []) first_border) (sym (all-begun [] 0 TASKS))
+    ∙ ap (λ (events : List TaskEvents). state_from plan core (first_progress (same_core core.id plan.master)) (tasks_from (record first_jobs { held = map (λ (n : ℕ). []) (numbers_from 0 TASKS); events = events }) (map (λ (n : ℕ). new_frame) (numbers_from 0 (length core.tasks)))) (clocks_of core []) (tables_of core []) first_border) (sym (all-begun no_events 0 TASKS))
     ∙ ap (λ (v : View). state_of v []) (view-own plan id core found)
 
 zeros_low : (n k : ℕ) → get_or (replicate n 0) k 0 ≤ 0
@@ -91,6 +93,8 @@ sound-begun priorities room plan id core master limits found below ceilings sum 
   idle = (λ e. refl);
   agreed = before_gate master;
   clocks = record { within = clocks_within plan id core limits found; history = []; is = refl };
+  tables = record { within = clocks_within plan id core limits found; history = []; is = refl };
+  waiting = waits-begun core;
   caller = tt;
   began = omega arith;
   items = omega arith;
@@ -112,14 +116,15 @@ sound-begun priorities room plan id core master limits found below ceilings sum 
     fits = core-fits plan id core limits found
 
 -- The parts of a state before any item, each with what it is.
-pub parts-begun : (plan : Plan) (core : Core) (b : Bool) (p : Progress) (n : ℕ) (jobs : JobState) (frames : List Frame) (clocks : ClockState) (outbox : List Sent) → p ≡ first_progress b → n ≡ length core.tasks → jobs ≡ first_jobs → frames ≡ replicate n new_frame → clocks ≡ clocks_of core [] → outbox ≡ []
-    → state_from plan core p (tasks_from jobs frames) clocks (record first_border { outbox = outbox }) ≡ first_state plan core b
-parts-begun plan core b p n jobs frames clocks outbox progress count no_jobs new_frames no_counts no_outbox =
-    ap (λ (q : Progress). state_from plan core q (tasks_from jobs frames) clocks (record first_border { outbox = outbox })) progress
-    ∙ ap (λ (js : JobState). state_from plan core (first_progress b) (tasks_from js frames) clocks (record first_border { outbox = outbox })) no_jobs
-    ∙ ap (λ (fs : List Frame). state_from plan core (first_progress b) (tasks_from first_jobs fs) clocks (record first_border { outbox = outbox })) (new_frames ∙ ap (λ (m : ℕ). replicate m new_frame) count)
-    ∙ ap (λ (k : ClockState). state_from plan core (first_progress b) (first_tasks (length core.tasks)) k (record first_border { outbox = outbox })) no_counts
-    ∙ ap (λ (out : List Sent). state_from plan core (first_progress b) (first_tasks (length core.tasks)) (clocks_of core []) (record first_border { outbox = out })) no_outbox
+pub parts-begun : (plan : Plan) (core : Core) (b : Bool) (p : Progress) (n : ℕ) (jobs : JobState) (frames : List Frame) (clocks : ClockState) (tables : TableStates) (outbox : List Sent) → p ≡ first_progress b → n ≡ length core.tasks → jobs ≡ first_jobs → frames ≡ replicate n new_frame → clocks ≡ clocks_of core [] → tables ≡ tables_of core [] → outbox ≡ []
+    → state_from plan core p (tasks_from jobs frames) clocks tables (record first_border { outbox = outbox }) ≡ first_state plan core b
+parts-begun plan core b p n jobs frames clocks tables outbox progress count no_jobs new_frames no_counts none_started no_outbox =
+    ap (λ (q : Progress). state_from plan core q (tasks_from jobs frames) clocks tables (record first_border { outbox = outbox })) progress
+    ∙ ap (λ (js : JobState). state_from plan core (first_progress b) (tasks_from js frames) clocks tables (record first_border { outbox = outbox })) no_jobs
+    ∙ ap (λ (fs : List Frame). state_from plan core (first_progress b) (tasks_from first_jobs fs) clocks tables (record first_border { outbox = outbox })) (new_frames ∙ ap (λ (m : ℕ). replicate m new_frame) count)
+    ∙ ap (λ (k : ClockState). state_from plan core (first_progress b) (first_tasks (length core.tasks)) k tables (record first_border { outbox = outbox })) no_counts
+    ∙ ap (λ (x : TableStates). state_from plan core (first_progress b) (first_tasks (length core.tasks)) (clocks_of core []) x (record first_border { outbox = outbox })) none_started
+    ∙ ap (λ (out : List Sent). state_from plan core (first_progress b) (first_tasks (length core.tasks)) (clocks_of core []) (tables_of core []) (record first_border { outbox = out })) no_outbox
 
 -- A configured core's number is among those that a core sees.
 pub is_some-core_of : (id : CoreId) (cores : List Core) → is_some (find (λ (c : Core). same_core c.id id) cores) ≡ is_some (find (same_core id) (map (λ (c : Core). c.id) cores))

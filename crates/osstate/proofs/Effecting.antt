@@ -2,13 +2,14 @@
 use Rattle.std.proofs.Common.{◌≡◌, ℕ, ◌+◌, ◌≤◌, ◌<◌, List, [], ◌∷◌, ◌++◌, refl, ap, sym, subst, ◌∙◌, arith, append_assoc, length-append, Vec, Global, vec_len, vec_capacity}
 use Rattle.std.proofs.lemmas.List.{append-nil}
 use Rattle.osbase.specs.declared.references.CoreId.{CoreId}
+use Rattle.osbase.specs.declared.histories.Sent.{Sent}
 use Rattle.osbase.specs.declared.messages.Message.{Message}
 use Rattle.osbase.specs.declared.marks.Mark.{Mark}
 use Rattle.osbase.specs.declared.turns.TheConstants.{CORES}
 use Rattle.osbase.specs.History.{History, Entry, Note, Printed, Noted, Queued, queued_count}
 use Rattle.osplan.specs.View.{View}
 use Rattle.osstate.specs.State.{KernelState, Stands, state_of}
-use Rattle.osstate.specs.Steps.{next_envelope, state_after}
+use Rattle.osstate.specs.Steps.{next_envelope, one_more, state_after}
 use Rattle.osstate.specs.Does.{Adds, Effects, Remarks, StaysInItem}
 use Rattle.osstate.proofs.Histories.{notes, notes_queued}
 
@@ -83,9 +84,23 @@ noting {n} {s} {s'} is step = record {
   stays = stays_in s s' (Noted n) is (record { view = refl; phase = refl; items = refl; entries = omega arith });
 }
 
-pub queueing : {to : CoreId} {message : Message} {s s' : KernelState} → to.number < CORES → s' ≡ state_after (Noted (Queued to (next_envelope s to message))) s → Remarks 1 (λ v h. Noted (Queued to (record { number = queued_count to h; message = message })) ∷ h) s s'
-queueing {to} {message} {s} {s'} known is = record {
-  notes = notes_queued known is;
-  silent = (λ v h. refl);
-  stays = stays_in s s' (Noted (Queued to (next_envelope s to message))) is (record { view = refl; phase = refl; items = refl; entries = omega arith });
-}
+-- One envelope more.
+pub queueing : {to : CoreId} {message : Message} {s old : KernelState} {waiting : List Sent} {counts : List ℕ} → s ≡ old → to.number < CORES
+    → waiting ≡ s.border.outbox ++ (let x : Sent = record { to = to; envelope = next_envelope s to message } in x) ∷ [] → counts ≡ one_more to s.border.queued
+    → Remarks 1 (λ v h. Noted (Queued to (record { number = queued_count to h; message = message })) ∷ h) old
+    (record s { progress = record s.progress { entries = s.progress.entries + 1 }; border = record s.border { outbox = waiting; queued = counts } })
+queueing {to} {message} {s} {old} {waiting} {counts} same known joins more =
+    subst (λ (q : KernelState). Remarks 1 (λ v h. Noted (Queued to (record { number = queued_count to h; message = message })) ∷ h) q new) same (record {
+      notes = notes_queued known is;
+      silent = (λ v h. refl);
+      stays = stays_in s new (Noted (Queued to (next_envelope s to message))) is (record { view = refl; phase = refl; items = refl; entries = omega arith });
+    })
+  where
+    new : KernelState
+    new = record s { progress = record s.progress { entries = s.progress.entries + 1 }; border = record s.border { outbox = waiting; queued = counts } }
+
+    bordered : List Sent → List ℕ → KernelState
+    bordered xs ns = record s { progress = record s.progress { entries = s.progress.entries + 1 }; border = record s.border { outbox = xs; queued = ns } }
+
+    is : new ≡ state_after (Noted (Queued to (next_envelope s to message))) s
+    is = ap (λ (xs : List Sent). bordered xs counts) joins ∙ ap (bordered (s.border.outbox ++ record { to = to; envelope = next_envelope s to message } ∷ [])) more

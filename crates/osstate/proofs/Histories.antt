@@ -6,13 +6,14 @@ use Rattle.osbase.specs.declared.statuses.Status.{Status}
 use Rattle.osbase.specs.declared.references.AlarmRef.{AlarmRef}
 use Rattle.osbase.specs.declared.references.CoreId.{CoreId}
 use Rattle.osbase.specs.declared.references.CounterRef.{CounterRef}
+use Rattle.osbase.specs.declared.references.TableRef.{TableRef}
 use Rattle.osbase.specs.declared.references.TaskRef.{TaskRef}
 use Rattle.osbase.specs.declared.references.Runner.{Runner}
 use Rattle.osbase.specs.declared.messages.Message.{Message}
 use Rattle.osbase.specs.declared.items.Item.{Item}
 use Rattle.osbase.specs.declared.marks.Mark.{Mark}
 use Rattle.osbase.specs.declared.turns.TheConstants.{CORES}
-use Rattle.osbase.specs.History.{History, Entry, Took, Printed, Noted, AlarmCancelled, AlarmSet, Counted, Opened, Queued, Taken, Given, Done, events_of, held_by, no_events, same_core, same_task, queued_count, received_count, with_awaited, with_cleared, with_none_set, with_set, without_resource}
+use Rattle.osbase.specs.History.{History, Entry, Took, Printed, Noted, AlarmCancelled, AlarmSet, TableNext, TableQuit, TableStarted, Counted, Opened, Queued, Taken, Given, Done, events_of, held_by, no_events, same_core, same_task, queued_count, received_count, with_awaited, with_cleared, with_none_set, with_set, without_resource}
 use Rattle.osbase.specs.declared.histories.HeldResource.{HeldResource}
 use Rattle.osbase.specs.declared.histories.OpenCall.{OpenCall}
 use Rattle.osbase.specs.declared.histories.TaskEvents.{TaskEvents}
@@ -28,7 +29,9 @@ use Rattle.osplan.specs.View.{View, own_task}
 use Rattle.osbase.specs.declared.turns.TheConstants.{TASKS}
 use Rattle.osres.specs.Resources.{held_at}
 use Rattle.osevent.specs.Events.{with_events}
-use Rattle.osclock.specs.Clocks.{ClockState}
+use Rattle.osclock.specs.Clocks.{clocks_of, ClockState}
+use Rattle.ostable.specs.Tables.{TableStates}
+use Rattle.ostable.proofs.Law.{after as tables-after}
 use Rattle.osclock.proofs.Law.{after}
 use Rattle.osjobs.specs.Jobs.{is_plain}
 use Rattle.osjobs.specs.Priorities.{is_own_runner}
@@ -208,9 +211,13 @@ opened call v h = changed (state_of v (Noted (Opened call) ∷ h)) _ _ _ _ _ _ (
 abbrev with_clocks : KernelState → ClockState → KernelState
 with_clocks s clocks = record s { clocks = clocks }
 
+abbrev with_tables : KernelState → TableStates → KernelState
+with_tables s tables = record s { tables = tables }
+
 pub counted : (c : CounterRef) (v : View) (h : History) → are_clocks_within v.own ≡ true → state_after (Noted (Counted c)) (state_of v h) ≡ state_of v (Noted (Counted c) ∷ h)
 counted c v h within =
     ap (with_clocks (state_after (Noted (Counted c)) (state_of v h))) (after v.own (Noted (Counted c)) h within)
+    ∙ ap (with_tables (with_clocks (state_after (Noted (Counted c)) (state_of v h)) (clocks_of v.own (Noted (Counted c) ∷ h)))) (tables-after v.own (Noted (Counted c)) h within)
     ∙ changed (state_of v (Noted (Counted c) ∷ h)) _ _ _ _ _ _ (add-one _) refl refl refl refl refl
 
 pub alarm_set : (a : AlarmRef) (first cycle : ℕ) (v : View) (h : History) → are_clocks_within v.own ≡ true → state_after (Noted (AlarmSet a first cycle)) (state_of v h) ≡ state_of v (Noted (AlarmSet a first cycle) ∷ h)
@@ -237,3 +244,19 @@ notes {e} is step v h stands =
 pub notes_queued : {to : CoreId} {message : Message} {old new : KernelState} → to.number < CORES → new ≡ state_after (Noted (Queued to (next_envelope old to message))) old → Notes (λ v h. Noted (Queued to (record { number = queued_count to h; message = message })) ∷ h) old new
 notes_queued {to} {message} known is v h stands =
     record { is = is ∙ ap (λ (q : KernelState). state_after (Noted (Queued to (next_envelope q to message))) q) stands.is ∙ queued to message known v h }
+
+-- what is told of a table
+pub table_started : (s : TableRef) (wait : ℕ) (v : View) (h : History) → are_clocks_within v.own ≡ true → state_after (Noted (TableStarted s wait)) (state_of v h) ≡ state_of v (Noted (TableStarted s wait) ∷ h)
+table_started s wait v h within =
+    ap (with_tables (state_after (Noted (TableStarted s wait)) (state_of v h))) (tables-after v.own (Noted (TableStarted s wait)) h within)
+    ∙ changed (state_of v (Noted (TableStarted s wait) ∷ h)) _ _ _ _ _ _ (add-one _) refl refl refl refl refl
+
+pub table_quit : (s : TableRef) (v : View) (h : History) → are_clocks_within v.own ≡ true → state_after (Noted (TableQuit s)) (state_of v h) ≡ state_of v (Noted (TableQuit s) ∷ h)
+table_quit s v h within =
+    ap (with_tables (state_after (Noted (TableQuit s)) (state_of v h))) (tables-after v.own (Noted (TableQuit s)) h within)
+    ∙ changed (state_of v (Noted (TableQuit s) ∷ h)) _ _ _ _ _ _ (add-one _) refl refl refl refl refl
+
+pub table_next : (s next : TableRef) (v : View) (h : History) → are_clocks_within v.own ≡ true → state_after (Noted (TableNext s next)) (state_of v h) ≡ state_of v (Noted (TableNext s next) ∷ h)
+table_next s next v h within =
+    ap (with_tables (state_after (Noted (TableNext s next)) (state_of v h))) (tables-after v.own (Noted (TableNext s next)) h within)
+    ∙ changed (state_of v (Noted (TableNext s next) ∷ h)) _ _ _ _ _ _ (add-one _) refl refl refl refl refl

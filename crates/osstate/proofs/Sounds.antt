@@ -11,15 +11,18 @@ use Rattle.osbase.specs.declared.items.Agreement.{Agreement}
 use Rattle.osbase.specs.declared.histories.Phase.{Phase}
 use Rattle.osbase.specs.declared.histories.Sent.{Sent}
 use Rattle.osbase.specs.declared.references.Runner.{Runner}
-use Rattle.osbase.specs.declared.marks.Mark.TheVariants as Mark
+use Rattle.osbase.specs.declared.marks.Mark.{Mark}
+use Rattle.osjobs.specs.Jobs.{is_plain}
 use Rattle.osbase.specs.declared.histories.Job.{Job}
 use Rattle.osbase.specs.declared.histories.OpenCall.{OpenCall}
-use Rattle.osbase.specs.History.{Printed, Took, agreement_after, began_after, closed_by, job_count, same_core, same_runner, stamped_anew, without_oldest, phase_on}
+use Rattle.osbase.specs.History.{Printed, Took, agreement_after, began_after, closed_by, job_count, jobs_after, same_core, same_runner, stamped_anew, without_oldest, phase_on}
 use Rattle.osplan.specs.declared.plans.Core.{Core}
 use Rattle.osplan.specs.declared.plans.Task.{Task}
 use Rattle.osplan.specs.View.{own_task}
 use Rattle.osplan.proofs.Tests.{passes-at}
 use Rattle.osclock.specs.Clocks.{AreClocks, ClockState}
+use Rattle.ostable.specs.Tables.{AreTables, TableStates}
+use Rattle.ostable.specs.Waiting.{all_wait_by_counter}
 use Rattle.osjobs.specs.Priorities.{is_own_runner}
 use Rattle.osstate.specs.State.{KernelState}
 use Rattle.osstate.specs.Steps.{one_more, progress_after, received_after, state_after}
@@ -43,6 +46,8 @@ activated priorities room t s sound below live = record {
   idle = (λ e. absurd (false≢true (sym live ∙ e)));
   agreed = sound.agreed;
   clocks = sound.clocks;
+  tables = sound.tables;
+  waiting = sound.waiting;
   caller = sound.caller;
   began = omega (arith, sound.began);
   items = omega (arith, sound.items);
@@ -70,6 +75,8 @@ terminated priorities room t s sound = record {
   idle = (λ e. ap (without_oldest (Runner.Task t)) (sound.idle e));
   agreed = sound.agreed;
   clocks = sound.clocks;
+  tables = sound.tables;
+  waiting = sound.waiting;
   caller = still_own (is_own_runner s.view.own) (Runner.Task t) s.border.open_call sound.caller;
   began = omega (arith, sound.began);
   items = omega (arith, sound.items);
@@ -92,6 +99,8 @@ released priorities room t s sound = record {
   idle = (λ e. ap (stamped_anew (Runner.Task t) s.progress.entries) (sound.idle e));
   agreed = sound.agreed;
   clocks = sound.clocks;
+  tables = sound.tables;
+  waiting = sound.waiting;
   caller = sound.caller;
   began = omega (arith, sound.began);
   items = omega (arith, sound.items);
@@ -178,6 +187,8 @@ taken priorities room item outbox s sound forward onward = record {
   idle = (λ e. sound.idle (forward e));
   agreed = agreed-on item s.progress.phase s.progress.agreement onward sound.agreed;
   clocks = sound.clocks;
+  tables = sound.tables;
+  waiting = sound.waiting;
   caller = sound.caller;
   began = began-within item s.progress.began s.progress.entries sound.began;
   items = omega (arith, sound.items);
@@ -185,10 +196,10 @@ taken priorities room item outbox s sound forward onward = record {
   received = received-within item s.border.received s.progress.entries sound.received;
 }
 
--- an entry of a counter or an alarm
-pub clocked : (priorities room : ℕ) (clocks : ClockState) (s : KernelState) → IsSound priorities room s → AreClocks s.view.own clocks
-    → IsSound priorities room (record s { progress = record s.progress { entries = s.progress.entries + 1 }; clocks = clocks })
-clocked priorities room clocks s sound are = record {
+-- an entry of a counter, an alarm or a table
+pub clocked : (priorities room : ℕ) (clocks : ClockState) (timetables : TableStates) (s : KernelState) → IsSound priorities room s → AreClocks s.view.own clocks → AreTables s.view.own timetables → all_wait_by_counter s.view.own timetables ≡ true
+    → IsSound priorities room (record s { progress = record s.progress { entries = s.progress.entries + 1 }; clocks = clocks; tables = timetables })
+clocked priorities room clocks timetables s sound are tables waiting = record {
   tasks = sound.tasks;
   frames = sound.frames;
   bounded = sound.bounded;
@@ -202,9 +213,18 @@ clocked priorities room clocks s sound are = record {
   idle = sound.idle;
   agreed = sound.agreed;
   clocks = are;
+  tables = tables;
+  waiting = waiting;
   caller = sound.caller;
   began = omega (arith, sound.began);
   items = omega (arith, sound.items);
   queued = (λ k. omega (arith, sound.queued k));
   received = (λ k. omega (arith, sound.received k));
 }
+
+-- a mark that begins and ends no job
+pub plain-jobs : (m : Mark) (stamp : ℕ) (jobs : List Job) → is_plain m ≡ true → jobs_after (Printed m) stamp jobs ≡ jobs
+plain-jobs (Mark.Activated t) stamp jobs e = absurd (false≢true e)
+plain-jobs (Mark.Terminated t) stamp jobs e = absurd (false≢true e)
+plain-jobs (Mark.Released t) stamp jobs e = absurd (false≢true e)
+plain-jobs m stamp jobs e = refl

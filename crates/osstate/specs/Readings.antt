@@ -6,6 +6,7 @@ use Rattle.osbase.specs.declared.references.AlarmRef.{AlarmRef}
 use Rattle.osbase.specs.declared.references.CoreId.{CoreId}
 use Rattle.osbase.specs.declared.references.CounterRef.{CounterRef}
 use Rattle.osbase.specs.declared.references.ResourceRef.{ResourceRef}
+use Rattle.osbase.specs.declared.references.TableRef.{TableRef}
 use Rattle.osbase.specs.declared.references.TaskRef.{TaskRef}
 use Rattle.osbase.specs.declared.references.Runner.{Runner}
 use Rattle.osbase.specs.declared.histories.Job.{Job}
@@ -21,10 +22,12 @@ use Rattle.osplan.specs.declared.plans.Alarm.{Alarm}
 use Rattle.osplan.specs.declared.plans.Core.{Core}
 use Rattle.osplan.specs.declared.plans.Counter.{Counter}
 use Rattle.osplan.specs.declared.plans.Resource.{Resource}
+use Rattle.osplan.specs.declared.plans.Table.{Table}
 use Rattle.osplan.specs.declared.plans.Task.{Task}
-use Rattle.osplan.specs.View.{View, own_alarm, own_counter, own_resource, own_task}
+use Rattle.osplan.specs.View.{View, own_alarm, own_counter, own_resource, own_table, own_task}
 use Rattle.osbase.specs.declared.turns.TheConstants.{TASKS}
 use Rattle.osclock.specs.Clocks.{alarm_ref, counter_ref}
+use Rattle.ostable.specs.Tables.{table_ref}
 use Rattle.osjobs.specs.Priorities.{events_in, held_in, is_able_in, priority_by, raised_of}
 
 -- The object is one of this core's.
@@ -65,7 +68,7 @@ abbrev pub resource_of : Core → Option ResourceRef → Option HeldResource
 resource_of core None = None
 resource_of core (Some r) = option_map (λ (x : Resource). record { index = r.index; ceiling = x.ceiling }) (own_resource core r)
 
--- A counter and an alarm that a script names, in the same way.
+-- A counter, an alarm and a table that a script names, in the same way.
 abbrev pub counter_named : Core → Option CounterRef → Option Counter
 counter_named core None = None
 counter_named core (Some c) = own_counter core c
@@ -73,6 +76,10 @@ counter_named core (Some c) = own_counter core c
 abbrev pub alarm_named : Core → Option AlarmRef → Option Alarm
 alarm_named core None = None
 alarm_named core (Some a) = own_alarm core a
+
+abbrev pub table_named : Core → Option TableRef → Option Table
+table_named core None = None
+table_named core (Some s) = own_table core s
 
 -- The current priority of a job: the greatest of its static one, of the ceilings of what its task holds and, for the running
 -- job of a task that cannot be preempted, unless it gives way, of all tasks. [OSEK/VDX OS 2.2.3, section 4.5, 4.6.2 and 8.5]
@@ -108,7 +115,7 @@ next_start v began = slice_get v.own.start began
 abbrev pub numbered : {R A : Type 0} → (ℕ → R) → List A → List (R × A)
 numbered ref xs = map (λ p. (ref p.0, p.1)) (enumerate_from 0 xs)
 
--- The core's tasks, counters and alarms by reference.
+-- The core's tasks, counters, alarms and tables by reference.
 abbrev pub task_refs : Core → List (TaskRef × Task)
 task_refs core = numbered (task_ref core) core.tasks
 
@@ -117,6 +124,9 @@ numbered_counters core = numbered (counter_ref core) core.counters
 
 abbrev pub numbered_alarms : Core → List (AlarmRef × Alarm)
 numbered_alarms core = numbered (alarm_ref core) core.alarms
+
+abbrev pub numbered_tables : Core → List (TableRef × Table)
+numbered_tables core = numbered (table_ref core) core.tables
 
 -- Where each task's oldest live job stands, in index order.
 abbrev pub frames_at : View → History → List Frame

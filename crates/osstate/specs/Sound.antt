@@ -12,15 +12,17 @@ use Rattle.oscript.specs.declared.Op.{Op}
 use Rattle.oscript.specs.Rows.{objects_of}
 use Rattle.oscript.specs.declared.Action.{Action}
 use Rattle.oscript.specs.declared.Action.TheVariants.{Perform, End}
-use Rattle.osplan.specs.declared.plans.Alarm.{Alarm}
 use Rattle.osplan.specs.declared.plans.Core.{Core}
 use Rattle.osplan.specs.declared.plans.Resource.{Resource}
 use Rattle.osplan.specs.declared.plans.Task.{Task}
-use Rattle.osplan.specs.Objects.{action_object, may_name}
+use Rattle.osplan.specs.declared.plans.TimedAction.{TimedAction}
+use Rattle.osplan.specs.Objects.{action_object, core_actions, may_name}
 use Rattle.osplan.specs.View.{own_task}
 use Rattle.osres.specs.declared.held.TheConstants.{RESOURCES}
 use Rattle.osjobs.specs.Priorities.{is_own_runner}
 use Rattle.osclock.specs.Clocks.{AreClocks}
+use Rattle.ostable.specs.Tables.{AreTables}
+use Rattle.ostable.specs.Waiting.{all_wait_by_counter}
 use Rattle.osstate.specs.State.{KernelState}
 
 -- The first gate came to a mode or to none, and not to a conflict.
@@ -38,9 +40,9 @@ activation_limit core (Runner.Isr i) = 0
 abbrev pub has_objects_of : Core → Op → Bool
 has_objects_of core op = list_all (may_name core) (objects_of op)
 
--- And whatever the alarm acts on.
-abbrev pub has_object_of : Core → Alarm → Bool
-has_object_of core alarm = may_name core (action_object alarm.action)
+-- And whatever the action is for.
+abbrev pub has_object_of : Core → TimedAction → Bool
+has_object_of core action = may_name core (action_object action)
 
 -- What a job does next names no other object of this core either.
 abbrev pub is_action_known : Core → Action → Bool
@@ -72,9 +74,9 @@ pub record IsSound (priorities room : ℕ) (s : KernelState) : Type 0 where
   pub bounded : IsTrue (list_all (λ (t : Task). nat_lt t.priority priorities) s.view.own.tasks)
   pub limits : sum_by (λ (t : Task). t.activations) s.view.own.tasks ≤ room
   pub some : IsTrue (list_all (λ (t : Task). nat_le 1 t.activations) s.view.own.tasks)
-  -- and whose scripts name on this core only its own objects, as do the actions of its alarms
+  -- and whose scripts name on this core only its own objects, as do the actions of its alarms and tables
   pub scripts : IsTrue (list_all (λ (t : Task). list_all (has_objects_of s.view.own) t.script) s.view.own.tasks)
-  pub actions : IsTrue (list_all (has_object_of s.view.own) s.view.own.alarms)
+  pub actions : IsTrue (list_all (has_object_of s.view.own) (core_actions s.view.own))
   -- at most as many resources as there are places for, each with a ceiling below the bound
   pub resources : length s.view.own.resources ≤ RESOURCES
   pub ceilings : IsTrue (list_all (λ (r : Resource). nat_lt r.ceiling priorities) s.view.own.resources)
@@ -83,8 +85,10 @@ pub record IsSound (priorities room : ℕ) (s : KernelState) : Type 0 where
   pub idle : IsTrue (is_before_live s.progress.phase) → s.tasks.jobs ≡ []
   -- a core that goes on past the first gate met no conflict of modes there
   pub agreed : IsTrue (is_past_first_gate s.progress.phase) → IsTrue (is_agreed s.progress.agreement)
-  -- the counters and alarms have room, and their values are those of what was counted
+  -- the counters, alarms and tables have room, and are as what was counted says; and no table waits for one of another counter
   pub clocks : AreClocks s.view.own s.clocks
+  pub tables : AreTables s.view.own s.tables
+  pub waiting : IsTrue (all_wait_by_counter s.view.own s.tables)
   -- a call that awaits its reply is one of an own task
   pub caller : IfSome s.border.open_call (λ call. IsTrue (is_own_runner s.view.own call.runner))
   -- nothing is counted more often than the history has entries

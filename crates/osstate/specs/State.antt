@@ -14,6 +14,7 @@ use Rattle.oscript.specs.declared.Frame.{Frame}
 use Rattle.osplan.specs.View.{View}
 use Rattle.osjobs.specs.Jobs.{JobState}
 use Rattle.osclock.specs.Clocks.{ClockState, clocks_of}
+use Rattle.ostable.specs.Tables.{TableStates, tables_of}
 use Rattle.osstate.specs.declared.progress.Progress.{Progress}
 use Rattle.osstate.specs.Readings.{phase_at, frames_at, held_resources, task_events}
 
@@ -49,6 +50,7 @@ pub record KernelState : Type 0 where
   pub progress : Progress
   pub tasks : TaskState
   pub clocks : ClockState
+  pub tables : TableStates
   pub border : BorderState
 
 -- What is read off a history, group by group.
@@ -75,7 +77,7 @@ border_of h = record {
 
 -- The record of all readings of a history.
 abbrev pub state_of : View → History → KernelState
-state_of v h = record { view = v; progress = progress_of v h; tasks = tasks_of v h; clocks = clocks_of v.own h; border = border_of h }
+state_of v h = record { view = v; progress = progress_of v h; tasks = tasks_of v h; clocks = clocks_of v.own h; tables = tables_of v.own h; border = border_of h }
 
 -- The kernel stands for this history of this core: each of its fields equals what it is for. A relation,
 -- so that the kernel needs to store no history. [own]

@@ -15,6 +15,7 @@ use Rattle.osplan.specs.declared.plans.Core.{Core}
 use Rattle.osplan.specs.View.{view_from}
 use Rattle.osjobs.specs.Jobs.{first_jobs, jobs_by}
 use Rattle.osclock.specs.Clocks.{ClockState, clocks_by, clocks_of}
+use Rattle.ostable.specs.Tables.{TableStates, tables_by, tables_of}
 use Rattle.osstate.specs.declared.progress.Progress.{Progress}
 use Rattle.osstate.specs.Readings.{script_of}
 use Rattle.osstate.specs.State.{KernelState, TaskState, BorderState, jobs_in, tasks_from}
@@ -95,12 +96,14 @@ state_after e s = record {
   progress = progress_after e s.progress;
   tasks = tasks_after s.view.own e s.progress.entries s.tasks;
   clocks = clocks_by s.view.own e s.clocks;
+  tables = tables_by s.view.own e s.tables;
   border = border_after e s.border;
 }
 
 -- The state of a core that took no item, and the state whose parts these are.
-abbrev pub state_from : Plan → Core → Progress → TaskState → ClockState → BorderState → KernelState
-state_from plan core progress tasks clocks border = record { view = view_from plan core.id core; progress = progress; tasks = tasks; clocks = clocks; border = border }
+abbrev pub state_from : Plan → Core → Progress → TaskState → ClockState → TableStates → BorderState → KernelState
+state_from plan core progress tasks clocks tables border =
+    record { view = view_from plan core.id core; progress = progress; tasks = tasks; clocks = clocks; tables = tables; border = border }
 
 abbrev pub first_state : Plan → Core → Bool → KernelState
-first_state plan core is_master = state_from plan core (first_progress is_master) (first_tasks (length core.tasks)) (clocks_of core []) first_border
+first_state plan core is_master = state_from plan core (first_progress is_master) (first_tasks (length core.tasks)) (clocks_of core []) (tables_of core []) first_border

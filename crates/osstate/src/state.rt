@@ -26,6 +26,8 @@ ghost use Rattle.osres.specs.Resources.{is_occupied};
 ghost use Rattle.osstate.specs.State.{state_of};
 ghost use Rattle.osstate.specs.Steps.{frame_in, next_envelope, state_after};
 
+mod tables;
+
 use crate::border::{self, Border};
 use crate::frames;
 use crate::progress::Progress;
@@ -41,6 +43,7 @@ use osjobs::equality::is_same_core;
 use osjobs::{Jobs, own};
 use osplan::{Alarm, Config, Core, CoreMode, Counter, Task, TimedAction};
 use osres::RESOURCES;
+use ostable::Tables;
 use std::marker::Model;
 
 /// The whole state of a core, with room for `J` live jobs and `OUT` envelopes; priorities and ceilings are below `P`.
@@ -54,6 +57,7 @@ pub struct CoreState<'a, const P: usize, const J: usize, const OUT: usize> {
     // Where each task stands in its script, in index order.
     frames: ArrayVec<FrameSlot, 32>,
     clocks: Clocks,
+    tables: Tables,
     border: Border<OUT>,
 }
 
@@ -65,9 +69,9 @@ impl<'a, const P: usize, const J: usize, const OUT: usize> Model for CoreState<'
     ghost use Rattle.osstate.specs.Steps.{state_from};
     ghost use Rattle.osstate.specs.Sound.{IsSound};
 
-    ghost view = { λ s. state_from s.config.now s.core.now s.progress (tasks_from s.jobs s.frames.items) s.clocks (record { open_call = s.border.open_call; outbox = s.border.outbox.items; queued = s.border.queued; received = s.border.received }) };
+    ghost view = { λ s. state_from s.config.now s.core.now s.progress (tasks_from s.jobs s.frames.items) s.clocks s.tables (record { open_call = s.border.open_call; outbox = s.border.outbox.items; queued = s.border.queued; received = s.border.received }) };
 
-    ghost invariant = { λ s. IsSound P J (state_from s.config.now s.core.now s.progress (tasks_from s.jobs s.frames.items) s.clocks (record { open_call = s.border.open_call; outbox = s.border.outbox.items; queued = s.border.queued; received = s.border.received })) };
+    ghost invariant = { λ s. IsSound P J (state_from s.config.now s.core.now s.progress (tasks_from s.jobs s.frames.items) s.clocks s.tables (record { open_call = s.border.open_call; outbox = s.border.outbox.items; queued = s.border.queued; received = s.border.received })) };
 }
 
 impl<'a, const P: usize, const J: usize, const OUT: usize> CoreState<'a, P, J, OUT> {
@@ -92,6 +96,7 @@ impl<'a, const P: usize, const J: usize, const OUT: usize> CoreState<'a, P, J, O
             jobs: Jobs::new(),
             frames,
             clocks: Clocks::new(core),
+            tables: Tables::new(core),
             border: Border {
                 open_call: None,
                 outbox: ArrayVec::new(),
@@ -260,7 +265,8 @@ impl<'a, const P: usize, const J: usize, const OUT: usize> CoreState<'a, P, J, O
         self.progress.entries += 1;
     }
 
-    /// One of the core's counters goes on by one, and with it each alarm of it (OSEK/VDX OS 2.2.3, section 9.1 and 9.2).
+    /// One of the core's counters goes on by one, and with it each alarm and each schedule table of it (OSEK/VDX OS 2.2.3,
+    /// section 9.1 and 9.2; AUTOSAR SWS OS 4.x, section 7.3).
     pub fn count(&mut self, counter: CounterRef)
         requires own { IsTrue (is_own_object self.old.view.own (counter_object counter)) }
         requires count { self.old.progress.entries < 2 ^ 63 }
@@ -268,6 +274,7 @@ impl<'a, const P: usize, const J: usize, const OUT: usize> CoreState<'a, P, J, O
         ensures remarks { Remarks 1 (λ v h. Noted (Counted counter) ∷ h) self.old self.new }
     {
         self.clocks.count(self.core, counter);
+        self.tables.count(self.core, counter);
         self.progress.entries += 1;
     }
 

@@ -116,7 +116,7 @@ boot_items m own st = Item.Entered ∷ Item.Pass1 (Agreement.Mode m) ∷ Item.Re
 
 -- What the core names is the same where it stands alone.
 allow-alone : (v : View) (ids : List CoreId) → NamesAllow v nobody → NamesAllow (alone_view v ids) nobody
-allow-alone v ids allowed = record { scripts = allowed.scripts; alarms = allowed.alarms }
+allow-alone v ids allowed = record { scripts = allowed.scripts; actions = allowed.actions }
 
 module _ (v : View) (ids : List CoreId) (allowed : NamesAllow v nobody) where
   abbrev self : View

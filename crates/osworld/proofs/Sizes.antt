@@ -6,13 +6,10 @@ use Rattle.osplan.specs.declared.plans.Plan.{Plan}
 use Rattle.osplan.specs.declared.plans.Core.{Core}
 use Rattle.osplan.specs.declared.plans.Resource.{Resource}
 use Rattle.osplan.specs.declared.plans.Task.{Task}
-use Rattle.osplan.specs.View.{core_of, no_core, view_of}
 use Rattle.osplan.specs.Limits.{is_within_limits}
-use Rattle.osplan.proofs.Tests.{length-filter-le}
+use Rattle.osplan.specs.Objects.{posted_at_once}
+use Rattle.osplan.specs.View.{core_of, no_core, view_of}
 use Rattle.osplan.proofs.Within.{core-fits}
-use Rattle.osclock.specs.Clocks.{alarm_refs}
-use Rattle.osclock.proofs.Attached.{alarm-refs-length}
-use Rattle.oscall.specs.Expiring.{posted_at_once, posts_by}
 
 module _ (plan : Plan) (id : CoreId) (limits : IsTrue (is_within_limits plan)) where
   some-priorities : (o : Option Core) → core_of plan id ≡ o → IsSome o → list_all (λ (t : Task). nat_lt t.priority 32) (unwrap_or o (no_core id)).tasks ≡ true
@@ -27,11 +24,10 @@ module _ (plan : Plan) (id : CoreId) (limits : IsTrue (is_within_limits plan)) w
   some-activations None found some = omega arith
   some-activations (Some core) found some = (core-fits plan id core limits found).activations
 
-  -- its alarms are few, so that what they post at once has places
+  -- what its alarms and tables post at once has places
   some-outbox : (o : Option Core) → core_of plan id ≡ o → IsSome o → 8 + posted_at_once (unwrap_or o (no_core id)) ≤ 64
   some-outbox None found some = lit≤ tt
-  some-outbox (Some core) found some =
-      omega (arith, length-filter-le (posts_by core) (alarm_refs core), alarm-refs-length core, (core-fits plan id core limits found).alarms)
+  some-outbox (Some core) found some = omega (arith, (core-fits plan id core limits found).posted)
 
   pub view-priorities : IsSome (core_of plan id) → list_all (λ (t : Task). nat_lt t.priority 32) (view_of plan id).own.tasks ≡ true
   view-priorities some = some-priorities (core_of plan id) refl some

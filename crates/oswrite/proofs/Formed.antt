@@ -12,17 +12,18 @@ use Rattle.osplan.specs.declared.plans.Plan.{Plan}
 use Rattle.osplan.specs.declared.plans.Core.{Core}
 use Rattle.osplan.specs.declared.plans.Counter.{Counter}
 use Rattle.osplan.specs.declared.plans.Resource.{Resource}
+use Rattle.osplan.specs.declared.plans.Table.{Table}
 use Rattle.osplan.specs.declared.plans.Task.{Task}
-use Rattle.osplan.specs.Objects.{alarm_modes, object_count}
+use Rattle.osplan.specs.Objects.{alarm_modes, object_count, table_actions, table_modes}
 use Rattle.osplan.specs.View.{core_of}
 use Rattle.osplan.specs.Limits.{is_object, is_within_limits}
-use Rattle.osplan.specs.Expressible.{is_script_expressible, is_task_expressible, is_resource_expressible, is_counter_expressible, is_action_expressible, is_alarm_expressible, is_only_mode, is_core_expressible, is_expressible}
+use Rattle.osplan.specs.Expressible.{is_script_expressible, is_task_expressible, is_resource_expressible, is_counter_expressible, is_action_expressible, is_alarm_expressible, is_table_expressible, is_only_mode, is_core_expressible, is_expressible}
 use Rattle.osplan.proofs.Tests.{find-passes, passes-at}
 use Rattle.osplan.proofs.Within.{CoreTextParts, FitsKernel, core-fits, core-text-parts, text-parts}
 use Rattle.osplan.specs.Names.{name_in, name_of}
 use Rattle.osdraft.specs.Declarations.{declared_by}
 use Rattle.oswrite.proofs.Said.{core_said}
-use Rattle.oswrite.proofs.Placed.{Stands, declared_at, task-stands, resource-stands, counter-stands, alarm-stands}
+use Rattle.oswrite.proofs.Placed.{Stands, declared_at, task-stands, resource-stands, counter-stands, alarm-stands, table-stands}
 
 get-some : {X : Type 0} (xs : List X) (i : ℕ) → i < length xs → (x : X) × (slice_get xs i ≡ Some x)
 get-some [] i lt = absurd (omega arith)
@@ -90,6 +91,20 @@ name-at plan core said fits ObjectKind.Alarm index within =
         max = None;
         min = None;
         declared = alarm-stands plan core index alarm.0 alarm.1;
+        low = omega arith;
+      },
+    )
+name-at plan core said fits ObjectKind.Table index within =
+    let table = get-some core.tables index within in
+    let few : length core.tables ≤ 8 = fits.tables in
+    let sayable : is_table_expressible table.0 ≡ true = passes-at is_table_expressible core.tables index table.0 said.tables table.1 in (
+      table.0.name,
+      record {
+        name_is = ap (λ (o : Option Table). option_map_or (λ (t : Table). t.name) o []) table.1;
+        in_form = (and_parts (is_name table.0.name) (list_all is_action_expressible (table_actions table.0)) (and_parts _ (list_all is_only_mode (table_modes table.0)) sayable).0).0;
+        max = None;
+        min = None;
+        declared = table-stands plan core index table.0 table.1;
         low = omega arith;
       },
     )

@@ -14,14 +14,15 @@ use Rattle.osplan.specs.declared.plans.Plan.{Plan}
 use Rattle.osplan.specs.declared.plans.Core.{Core}
 use Rattle.osplan.specs.declared.plans.Counter.{Counter}
 use Rattle.osplan.specs.declared.plans.Resource.{Resource}
+use Rattle.osplan.specs.declared.plans.Table.{Table}
 use Rattle.osplan.specs.declared.plans.Task.{Task}
 use Rattle.osplan.specs.Expressible.{are_distinct, object_names}
 use Rattle.osplan.proofs.Tests.{find-holds}
 use Rattle.osdraft.specs.declared.shapes.CoreText.{CoreText}
 use Rattle.osdraft.specs.declared.declarations.Declaration.{Declaration}
-use Rattle.osdraft.specs.Declarations.{byte_of, id_of, task_declaration, resource_declaration, counter_declaration, alarm_declaration, declared_tasks, declared_resources, declared_counters, declared_alarms, declared_by, declarations, has_name, place_in, place_of}
+use Rattle.osdraft.specs.Declarations.{byte_of, id_of, task_declaration, resource_declaration, counter_declaration, alarm_declaration, table_declaration, declared_tasks, declared_resources, declared_counters, declared_alarms, declared_tables, declared_by, declarations, has_name, place_in, place_of}
 use Rattle.osdraft.proofs.Numbers.{any-map, byte-small}
-use Rattle.oswrite.proofs.Said.{task_said, resource_said, counter_said, alarm_said, core_said}
+use Rattle.oswrite.proofs.Said.{task_said, resource_said, counter_said, alarm_said, table_said, core_said}
 
 abbrev pub names : List Declaration → List (List ℕ)
 names objects = map (λ (d : Declaration). d.name) objects
@@ -96,13 +97,18 @@ module _ (plan : Plan) where
   alarms-named core n [] = refl
   alarms-named core n (alarm ∷ alarms) = ap (λ rest. alarm.name ∷ rest) (alarms-named core (n + 1) alarms)
 
+  tables-named : (core : CoreText) (n : ℕ) (tables : List Table) → names (map (table_declaration core) (enumerate_from n (map (table_said plan) tables))) ≡ map (λ (table : Table). table.name) tables
+  tables-named core n [] = refl
+  tables-named core n (table ∷ tables) = ap (λ rest. table.name ∷ rest) (tables-named core (n + 1) tables)
+
   objects-named : (core : Core) → names (declared_by (core_said plan core)) ≡ object_names core
   objects-named core =
       let text = core_said plan core in
-      rw (← tasks-named text 0 core.tasks, ← resources-named text 0 core.resources, ← counters-named text 0 core.counters, ← alarms-named text 0 core.alarms)
-      (map-append (λ (d : Declaration). d.name) (declared_tasks text ++ declared_resources text ++ declared_counters text) (declared_alarms text)
-      ∙ ap (λ first. first ++ names (declared_alarms text)) (map-append (λ (d : Declaration). d.name) (declared_tasks text ++ declared_resources text) (declared_counters text))
-      ∙ ap (λ first. first ++ names (declared_counters text) ++ names (declared_alarms text)) (map-append (λ (d : Declaration). d.name) (declared_tasks text) (declared_resources text)))
+      rw (← tasks-named text 0 core.tasks, ← resources-named text 0 core.resources, ← counters-named text 0 core.counters, ← alarms-named text 0 core.alarms, ← tables-named text 0 core.tables)
+      (map-append (λ (d : Declaration). d.name) (declared_tasks text ++ declared_resources text ++ declared_counters text ++ declared_alarms text) (declared_tables text)
+      ∙ ap (λ first. first ++ names (declared_tables text)) (map-append (λ (d : Declaration). d.name) (declared_tasks text ++ declared_resources text ++ declared_counters text) (declared_alarms text))
+      ∙ ap (λ first. first ++ names (declared_alarms text) ++ names (declared_tables text)) (map-append (λ (d : Declaration). d.name) (declared_tasks text ++ declared_resources text) (declared_counters text))
+      ∙ ap (λ first. first ++ names (declared_counters text) ++ names (declared_alarms text) ++ names (declared_tables text)) (map-append (λ (d : Declaration). d.name) (declared_tasks text) (declared_resources text)))
 
   pub names-said : (cores : List Core) → names (declarations (map (core_said plan) cores)) ≡ flat_map object_names cores
   names-said [] = refl
@@ -117,7 +123,9 @@ module _ (plan : Plan) where
 
   -- what one of the first three kinds declares
   stands-early : (text : CoreText) (d : Declaration) → Stands (declared_tasks text ++ declared_resources text ++ declared_counters text) d → Stands (declared_by text) d
-  stands-early text d among = stands-front (declared_tasks text ++ declared_resources text ++ declared_counters text) (declared_alarms text) d among
+  stands-early text d among =
+      stands-front (declared_tasks text ++ declared_resources text ++ declared_counters text ++ declared_alarms text) (declared_tables text) d
+      (stands-front (declared_tasks text ++ declared_resources text ++ declared_counters text) (declared_alarms text) d among)
 
   pub task-stands : (core : Core) (i : ℕ) (task : Task) → slice_get core.tasks i ≡ Some task → Stands (declared_by (core_said plan core)) (declared_at core ObjectKind.Task task.name i None None)
   task-stands core i task is =
@@ -139,7 +147,13 @@ module _ (plan : Plan) where
   pub alarm-stands : (core : Core) (i : ℕ) (alarm : Alarm) → slice_get core.alarms i ≡ Some alarm → Stands (declared_by (core_said plan core)) (declared_at core ObjectKind.Alarm alarm.name i None None)
   alarm-stands core i alarm is =
       let text = core_said plan core in
-      stands-back (declared_tasks text ++ declared_resources text ++ declared_counters text) (declared_alarms text) _ (stands-first (alarm_declaration text) (alarm_said plan) core.alarms i alarm is)
+      stands-front (declared_tasks text ++ declared_resources text ++ declared_counters text ++ declared_alarms text) (declared_tables text) _
+      (stands-back (declared_tasks text ++ declared_resources text ++ declared_counters text) (declared_alarms text) _ (stands-first (alarm_declaration text) (alarm_said plan) core.alarms i alarm is))
+
+  pub table-stands : (core : Core) (i : ℕ) (table : Table) → slice_get core.tables i ≡ Some table → Stands (declared_by (core_said plan core)) (declared_at core ObjectKind.Table table.name i None None)
+  table-stands core i table is =
+      let text = core_said plan core in
+      stands-back (declared_tasks text ++ declared_resources text ++ declared_counters text ++ declared_alarms text) (declared_tables text) _ (stands-first (table_declaration text) (table_said plan) core.tables i table is)
 
   in-cores-if : (core : Core) (rest : List Declaration) (found : Core) (others : Option Core) (d : Declaration) (b : Bool) → cond b (Some core) others ≡ Some found → Stands (declared_by (core_said plan found)) d
       → (others ≡ Some found → Stands rest d) → Stands (declared_by (core_said plan core) ++ rest) d

@@ -15,22 +15,27 @@ use Rattle.osplan.specs.declared.plans.Plan.{Plan}
 use Rattle.osplan.specs.declared.plans.Core.{Core}
 use Rattle.osplan.specs.declared.plans.Counter.{Counter}
 use Rattle.osplan.specs.declared.plans.Resource.{Resource}
+use Rattle.osplan.specs.declared.plans.ExpiryPoint.{ExpiryPoint}
+use Rattle.osplan.specs.declared.plans.Table.{Table}
+use Rattle.osplan.specs.declared.plans.TableStart.{TableStart}
+use Rattle.osplan.specs.declared.plans.TimedAction.{TimedAction}
 use Rattle.osplan.specs.declared.plans.Task.{Task}
 use Rattle.osbase.specs.Names.{is_name}
 use Rattle.osplan.specs.Limits as limits
 use Rattle.osplan.specs.Limits.{number_of}
-use Rattle.osplan.specs.Objects.{alarm_modes}
-use Rattle.osplan.specs.Expressible.{mode_name, are_mode_name, is_only_mode, is_script_expressible, is_task_expressible, is_resource_expressible, is_counter_expressible, is_alarm_expressible, is_core_expressible, is_expressible}
+use Rattle.osplan.specs.Objects.{alarm_modes, table_actions, table_modes}
+use Rattle.osplan.specs.Expressible.{mode_name, are_mode_name, is_only_mode, is_script_expressible, is_task_expressible, is_resource_expressible, is_counter_expressible, is_action_expressible, is_alarm_expressible, is_table_expressible, is_core_expressible, is_expressible}
 use Rattle.osread.specs.Reading.{each}
 use Rattle.osread.specs.Json.{elements, whole_of, name_of, or_null}
-use Rattle.osdraft.specs.Shape.{task_shape, resource_shape, counter_shape, alarm_start_shape, alarm_shape, core_shape, config_shape}
+use Rattle.serde_json.specs.Find.{as_str}
+use Rattle.osdraft.specs.Shape.{task_shape, resource_shape, counter_shape, alarm_start_shape, alarm_shape, point_shape, table_start_shape, table_shape, core_shape, config_shape}
 use Rattle.osplan.specs.Names.{name_of_mode}
 use Rattle.osplan.proofs.Tests.{all-both}
 use Rattle.osplan.proofs.Within.{limit-parts, text-parts, core-text-parts}
-use Rattle.oswrite.specs.Writing.{id_data, mode_data, task_data, resource_data, counter_data, start_data, auto_data, alarm_data, core_data, config_data}
+use Rattle.oswrite.specs.Writing.{id_data, mode_data, task_data, resource_data, counter_data, start_data, auto_data, alarm_data, action_data, point_data, table_start_data, table_auto_data, table_data, core_data, config_data}
 use Rattle.osread.proofs.Contents.{elements-items_of}
 use Rattle.oswrite.proofs.Formed.{found}
-use Rattle.oswrite.proofs.Said.{task_said, resource_said, counter_said, start_said, counter_name, alarm_said, core_said, config_said}
+use Rattle.oswrite.proofs.Said.{task_said, resource_said, counter_said, start_said, counter_name, action_said, alarm_said, point_said, table_start_said, table_said, core_said, config_said}
 
 -- ---- modes
 
@@ -104,17 +109,41 @@ module _ (plan : Plan) (inside : IsTrue (limits.is_within_limits plan)) (sayable
       let counter = counter-formed alarm.counter (and_parts (limits.is_object plan (counter_object alarm.counter)) _ (and_parts _ (list_all (limits.is_mode plan) (alarm_modes alarm)) parts.1).0).0 in
       rw (name, counter, auto-shape alarm.auto said.1) refl
 
+  point-shape : (point : ExpiryPoint) → point_shape (point_data plan point) ≡ Some (point_said plan point)
+  unfolding point_shape
+  point-shape point = rw (each-items as_str (action_data plan) (action_said plan) (λ (action : TimedAction). true) (λ action e. refl) point.actions (always point.actions)) refl
+
+  table-start-shape : (auto : TableStart) → list_all is_only_mode auto.modes ≡ true → table_start_shape (table_start_data plan auto) ≡ Some (table_start_said plan auto)
+  unfolding table_start_shape
+  table-start-shape auto h = rw (each-items name_of (mode_data plan) (name_of_mode plan) is_only_mode mode-shape auto.modes h) refl
+
+  table-auto-shape : (auto : Option TableStart) → list_all is_only_mode (option_map_or (λ (auto : TableStart). auto.modes) auto []) ≡ true → or_null table_start_shape (table_auto_data plan auto) ≡ Some (option_map (table_start_said plan) auto)
+  table-auto-shape None h = refl
+  table-auto-shape (Some auto) h = rw (table-start-shape auto h) refl
+
+  table-shape : (table : Table) → (is_table_expressible table && limits.is_table_known plan table) ≡ true → table_shape (table_data plan table) ≡ Some (table_said plan table)
+  unfolding table_shape
+  table-shape table h =
+      let parts = and_parts (is_table_expressible table) (limits.is_table_known plan table) h in
+      let said = and_parts _ (list_all is_only_mode (table_modes table)) parts.0 in
+      let name = (and_parts (is_name table.name) (list_all is_action_expressible (table_actions table)) said.0).0 in
+      let counter = counter-formed table.counter (and_parts (limits.is_object plan (counter_object table.counter)) _ (and_parts _ (list_all (limits.is_mode plan) (table_modes table)) parts.1).0).0 in
+      rw (name, counter, each-items point_shape (point_data plan) (point_said plan) (λ (point : ExpiryPoint). true) (λ point e. point-shape point) table.points (always table.points), table-auto-shape table.auto said.1) refl
+
   core-shape : (core : Core) → (is_core_expressible core && limits.is_core_known plan core) ≡ true → core_shape (core_data plan core) ≡ Some (core_said plan core)
   unfolding core_shape
   core-shape core h =
       let both = and_parts (is_core_expressible core) (limits.is_core_known plan core) h in
       let parts = core-text-parts core both.0 in
-      let alarms = all-both is_alarm_expressible (limits.is_alarm_known plan) core.alarms parts.alarms (and_parts _ (list_all (limits.is_alarm_known plan) core.alarms) both.1).1 in
+      let known = and_parts _ (list_all (limits.is_table_known plan) core.tables) both.1 in
+      let alarms = all-both is_alarm_expressible (limits.is_alarm_known plan) core.alarms parts.alarms (and_parts _ (list_all (limits.is_alarm_known plan) core.alarms) known.0).1 in
+      let tables = all-both is_table_expressible (limits.is_table_known plan) core.tables parts.tables known.1 in
       rw (
         each-items alarm_shape (alarm_data plan) (alarm_said plan) (λ (alarm : Alarm). is_alarm_expressible alarm && limits.is_alarm_known plan alarm) alarm-shape core.alarms alarms,
         each-items counter_shape counter_data counter_said is_counter_expressible counter-shape core.counters parts.counters,
         each-items resource_shape resource_data resource_said is_resource_expressible resource-shape core.resources parts.resources,
         each-items whole_of id_data number_of (λ id. true) (λ id e. refl) core.start (always core.start),
+        each-items table_shape (table_data plan) (table_said plan) (λ (table : Table). is_table_expressible table && limits.is_table_known plan table) table-shape core.tables tables,
         each-items task_shape (task_data plan) (task_said plan) is_task_expressible task-shape core.tasks parts.tasks,
       ) refl
 

@@ -1,9 +1,9 @@
 -- What the text of a configuration means is the configuration.
-use Rattle.std.proofs.Common.{◌≡◌, ℕ, ◌<◌, Bool, true, ◌&&◌, List, [], ◌∷◌, ◌++◌, map, Option, Some, None, is_some, option_map, unwrap_or, IsTrue, refl, sym, ap, ◌∙◌, arith}
+use Rattle.std.proofs.Common.{◌≡◌, ℕ, ◌<◌, ◌≤◌, Bool, true, ◌&&◌, nat_le, List, [], ◌∷◌, ◌++◌, map, Option, Some, None, is_some, option_map, unwrap_or, IsTrue, refl, sym, ap, ◌∙◌, arith}
 use Rattle.std.specs.List.{list_all, flat_map, AllByRecursion}
 use Rattle.std.specs.Option.{option_map_or}
-use Rattle.std.proofs.lemmas.Bool.{and_parts, and_from, ltb-true, true≢false, eqb-true}
-use Rattle.std.proofs.lemmas.List.Folds.{list_all-map}
+use Rattle.std.proofs.lemmas.Bool.{and_parts, and_from, leb-true, ltb-true, true≢false, eqb-true}
+use Rattle.std.proofs.lemmas.List.Folds.{list_all-append, list_all-map}
 use Rattle.std.proofs.lemmas.Simd.{map-map}
 use Rattle.osbase.specs.Objects.{counter_object, counter_place}
 use Rattle.osbase.specs.declared.objects.ObjectKind.{ObjectKind}
@@ -20,6 +20,9 @@ use Rattle.osforms.proofs.Joining.{has_none}
 use Rattle.osforms.proofs.Operations.{IsNamed, text-meant, text-none, text-some}
 use Rattle.osplan.specs.declared.plans.Alarm.{Alarm}
 use Rattle.osplan.specs.declared.plans.AlarmStart.{AlarmStart}
+use Rattle.osplan.specs.declared.plans.ExpiryPoint.{ExpiryPoint}
+use Rattle.osplan.specs.declared.plans.Table.{Table}
+use Rattle.osplan.specs.declared.plans.TableStart.{TableStart}
 use Rattle.osplan.specs.declared.plans.TimedAction.{TimedAction}
 use Rattle.osplan.specs.declared.plans.Plan.{Plan}
 use Rattle.osplan.specs.declared.plans.Core.{Core}
@@ -29,29 +32,30 @@ use Rattle.osplan.specs.declared.plans.Task.{Task}
 use Rattle.osplan.specs.declared.plans.CoreMode.{CoreMode}
 use Rattle.osplan.specs.declared.plans.CoreMode.TheVariants.{Named, DontCare}
 use Rattle.osplan.specs.Limits as limits
-use Rattle.osplan.specs.Limits.{task_sizes, alarm_sizes, start_sizes, core_sizes, number_of, are_counters_within, is_alarm_within, is_start, is_task_within, is_core_within}
-use Rattle.osplan.specs.Objects.{action_object, alarm_modes}
+use Rattle.osplan.specs.Limits.{CounterSizes, PointSizes, TableSizes, task_sizes, alarm_sizes, start_sizes, point_sizes, table_sizes, core_sizes, number_of, are_ascending, are_counters_within, is_alarm_within, is_between, is_point_within, is_start, is_table_start_within, is_table_timed, is_table_within, is_task_within, is_timed_by, is_core_within, last_offset}
+use Rattle.osplan.specs.Objects.{action_object, alarm_modes, table_actions, table_modes}
 use Rattle.osplan.specs.View.{core_of, counter_in}
 use Rattle.osplan.specs.Expressible as said
 use Rattle.osplan.proofs.Tests.{all-both, all-weaker, find-holds}
 use Rattle.osplan.proofs.Distinct.{distinct-back}
 use Rattle.osplan.proofs.Starting.{master-low}
-use Rattle.osplan.proofs.Within.{TextParts, CoreTextParts, limit-parts, text-parts, core-text-parts}
+use Rattle.osplan.proofs.Within.{TextParts, CoreTextParts, between, limit-parts, text-parts, core-text-parts}
 use Rattle.osdraft.specs.declared.declarations.Declaration.{Declaration}
 use Rattle.osdraft.specs.Action.{action_of, action_of_op}
 use Rattle.osdraft.specs.Check.{counter_sizes, names_of}
 use Rattle.osdraft.specs.Declarations.{byte_of, counter_ref, number_id, word_of, declarations, place_of}
 use Rattle.osdraft.specs.Operation.{operations_of, op_of}
-use Rattle.osdraft.specs.Meaning.{only_mode, task_plan, resource_plan, counter_plan, start_plan, alarm_plan, core_plan, plan_of}
+use Rattle.osdraft.specs.Meaning.{only_mode, task_plan, resource_plan, counter_plan, start_plan, alarm_plan, point_plan, table_start_plan, table_plan, core_plan, plan_of}
 use Rattle.osplan.specs.Names.{name_of, name_of_mode}
 use Rattle.oswrite.specs.Writing.{op_text, script_text}
-use Rattle.osdraft.proofs.Numbers.{IsByte, byte-small, is-byte, task-bytes, counter-words, start-words, core-bytes, cap-byte, map-back}
+use Rattle.osdraft.proofs.Numbers.{IsByte, byte-small, is-byte, is-word, task-bytes, counter-words, start-words, table-start-word, core-bytes, cap-byte, map-back}
 use Rattle.osdraft.proofs.Alarms.{any_action, op-action}
 use Rattle.osdraft.proofs.Named.{HasCounters, NamedCounter, named-counter}
+use Rattle.osdraft.proofs.Points.{offsets-low}
 use Rattle.osdraft.proofs.Standing.{IsFound, each-found}
 use Rattle.oswrite.proofs.Joining.{parts-pieces}
 use Rattle.oswrite.proofs.Formed.{found}
-use Rattle.oswrite.proofs.Said.{task_said, resource_said, counter_said, start_said, counter_name, alarm_said, core_said, config_said}
+use Rattle.oswrite.proofs.Said.{task_said, resource_said, counter_said, start_said, counter_name, action_said, alarm_said, point_said, table_start_said, table_said, core_said, config_said}
 use Rattle.oswrite.proofs.Reshaped.{modes-are, mode-is}
 use Rattle.oswrite.proofs.Placed.{names-said, placed}
 
@@ -73,8 +77,12 @@ is_kept_task plan task = is_task_within (task_sizes task) && limits.is_task_know
 abbrev pub is_kept_alarm : Plan → Alarm → Bool
 is_kept_alarm plan alarm = is_alarm_within (alarm_sizes (counter_in plan) alarm) && limits.is_alarm_known plan alarm && said.is_alarm_expressible alarm
 
+abbrev pub is_kept_table : Plan → Table → Bool
+is_kept_table plan table =
+    is_table_within (table_sizes (counter_in plan) table) && is_table_timed (table_sizes (counter_in plan) table) && limits.is_table_known plan table && said.is_table_expressible table
+
 abbrev pub is_kept_core : Plan → Core → Bool
-is_kept_core plan core = is_core_within (core_sizes plan core) && limits.is_core_known plan core && said.is_core_expressible core
+is_kept_core plan core = is_core_within (core_sizes plan core) && limits.is_core_known plan core && limits.is_core_timed plan core && said.is_core_expressible core
 
 pub record KeptTask (plan : Plan) (task : Task) : Type 0 where
   pub within : is_task_within (task_sizes task) ≡ true
@@ -88,10 +96,22 @@ pub record KeptAlarm (plan : Plan) (alarm : Alarm) : Type 0 where
   pub operation : is_kept_op plan (said.op_of_action alarm.action) ≡ true
   pub auto : list_all said.is_only_mode (alarm_modes alarm) ≡ true
 
+abbrev pub is_kept_point : Plan → ExpiryPoint → Bool
+is_kept_point plan point = is_between 0 1000000000 (Some point.offset) && list_all (λ (action : TimedAction). is_kept_op plan (said.op_of_action action)) point.actions
+
+pub record KeptTable (plan : Plan) (table : Table) : Type 0 where
+  pub within : is_table_within (table_sizes (counter_in plan) table) ≡ true
+  pub timed : is_table_timed (table_sizes (counter_in plan) table) ≡ true
+  pub counter : limits.is_object plan (counter_object table.counter) ≡ true
+  pub duration : is_between 1 1000000000 (Some table.duration) ≡ true
+  pub points : list_all (is_kept_point plan) table.points ≡ true
+  pub auto : list_all said.is_only_mode (table_modes table) ≡ true
+
 pub record KeptCore (plan : Plan) (core : Core) : Type 0 where
   pub within : is_core_within (core_sizes plan core) ≡ true
   pub tasks : list_all (is_kept_task plan) core.tasks ≡ true
   pub alarms : list_all (is_kept_alarm plan) core.alarms ≡ true
+  pub tables : list_all (is_kept_table plan) core.tables ≡ true
   pub said : CoreTextParts core
 
 pub kept-task : (plan : Plan) (task : Task) → is_kept_task plan task ≡ true → KeptTask plan task
@@ -127,13 +147,55 @@ kept-alarm plan alarm h =
       auto = parts.1;
     }
 
+-- what each action of all points passes, each action of each point passes
+each-flat : {X Y : Type 0} (p : Y → Bool) (f : X → List Y) (xs : List X) → list_all p (flat_map f xs) ≡ true → list_all (λ x. list_all p (f x)) xs ≡ true
+each-flat p f [] h = refl
+each-flat p f (x ∷ xs) h =
+    let parts = and_parts (list_all p (f x)) (list_all p (flat_map f xs)) (sym (list_all-append p (f x) (flat_map f xs)) ∙ h) in
+    and_from _ _ parts.0 (each-flat p f xs parts.1)
+
+kept-action : (plan : Plan) (action : TimedAction) → (limits.is_action_known plan action && said.is_action_expressible action) ≡ true → is_kept_op plan (said.op_of_action action) ≡ true
+kept-action plan action h =
+    let op = said.op_of_action action in
+    let both = and_parts (limits.is_action_known plan action) (said.is_action_expressible action) h in
+    let forms = and_parts (is_in_form op) (has_masks op) both.1 in
+    and_from _ _ (and_from _ _ (action-op-known plan action both.0) forms.0) forms.1
+
+pub kept-table : (plan : Plan) (table : Table) → is_kept_table plan table ≡ true → KeptTable plan table
+kept-table plan table h =
+    let sizes = table_sizes (counter_in plan) table in
+    let sayable = and_parts _ (said.is_table_expressible table) h in
+    let there = and_parts _ (limits.is_table_known plan table) sayable.0 in
+    let both = and_parts (is_table_within sizes) (is_table_timed sizes) there.0 in
+    let known = and_parts _ (list_all (limits.is_mode plan) (table_modes table)) there.1 in
+    let parts = and_parts _ (list_all said.is_only_mode (table_modes table)) sayable.1 in
+    let names = and_parts (limits.is_object plan (counter_object table.counter)) (list_all (limits.is_action_known plan) (table_actions table)) known.0 in
+    let forms = and_parts (is_name table.name) (list_all said.is_action_expressible (table_actions table)) parts.0 in
+    let actions = all-weaker (λ (action : TimedAction). limits.is_action_known plan action && said.is_action_expressible action) (λ (action : TimedAction). is_kept_op plan (said.op_of_action action)) (kept-action plan) (table_actions table)
+    (all-both (limits.is_action_known plan) said.is_action_expressible (table_actions table) names.1 forms.1) in
+    let start = and_parts _ (option_map_or (is_table_start_within sizes) sizes.auto true) both.0 in
+    let counts = and_parts (is_between 1 1000000000 (Some table.duration)) _ (and_parts _ (list_all is_point_within sizes.points) start.0).0 in
+    let order = and_parts (are_ascending sizes.points) (nat_le (last_offset sizes.points) table.duration) (and_parts _ (option_map_or (is_timed_by sizes) sizes.counter true) both.1).0 in
+    let last : last_offset sizes.points ≤ 1000000000 = omega (arith, leb-true _ _ order.1, (between 1 1000000000 table.duration counts.0).1) in
+    record {
+      within = both.0;
+      timed = both.1;
+      counter = names.0;
+      duration = counts.0;
+      points = all-both _ _ table.points (sym (list_all-map (λ (point : PointSizes). is_between 0 1000000000 point.offset) point_sizes table.points) ∙ offsets-low 1000000000 sizes.points order.0 last)
+          (each-flat (λ (action : TimedAction). is_kept_op plan (said.op_of_action action)) (λ (point : ExpiryPoint). point.actions) table.points actions);
+      auto = parts.1;
+    }
+
 pub kept-core : (plan : Plan) (core : Core) → is_kept_core plan core ≡ true → KeptCore plan core
 kept-core plan core h =
     let sayable = and_parts _ (said.is_core_expressible core) h in
-    let within = and_parts (is_core_within (core_sizes plan core)) (limits.is_core_known plan core) sayable.0 in
+    let timed = and_parts _ (limits.is_core_timed plan core) sayable.0 in
+    let within = and_parts (is_core_within (core_sizes plan core)) (limits.is_core_known plan core) timed.0 in
     let parts = core-text-parts core sayable.1 in
     let bytes = core-bytes (core_sizes plan core) within.0 in
-    let known = and_parts _ (list_all (limits.is_alarm_known plan) core.alarms) within.1 in
+    let knows = and_parts _ (list_all (limits.is_table_known plan) core.tables) within.1 in
+    let known = and_parts _ (list_all (limits.is_alarm_known plan) core.alarms) knows.0 in
     record {
       within = within.0;
       tasks = all-both _ _ core.tasks
@@ -141,13 +203,16 @@ kept-core plan core h =
           (and_parts (limits.is_core_mode plan core.mode) (list_all (limits.is_task_known plan) core.tasks) known.0).1) parts.tasks;
       alarms = all-both _ _ core.alarms
           (all-both _ _ core.alarms (sym (list_all-map is_alarm_within (alarm_sizes (counter_in plan)) core.alarms) ∙ bytes.5) known.1) parts.alarms;
+      tables = all-both _ _ core.tables
+          (all-both _ _ core.tables
+          (all-both _ _ core.tables (sym (list_all-map is_table_within (table_sizes (counter_in plan)) core.tables) ∙ bytes.6) timed.1) knows.1) parts.tables;
       said = parts;
     }
 
 pub kept-cores : (plan : Plan) → IsTrue (limits.is_within_limits plan) → IsTrue (said.is_expressible plan) → list_all (is_kept_core plan) plan.cores ≡ true
 kept-cores plan inside sayable =
     let within = limit-parts plan inside in
-    all-both _ _ plan.cores (all-both _ _ plan.cores within.cores within.known) (text-parts plan sayable).cores
+    all-both _ _ plan.cores (all-both _ _ plan.cores (all-both _ _ plan.cores within.cores within.known) within.timed) (text-parts plan sayable).cores
 
 -- ---- reading back
 
@@ -248,11 +313,14 @@ module _ (plan : Plan) (inside : IsTrue (limits.is_within_limits plan)) (sayable
   pub counter-ref-back : (id : CoreId) (counter : CounterRef) → limits.is_object plan (counter_object counter) ≡ true → counter_ref objects id (counter_name plan counter) ≡ counter
   counter-ref-back id counter known = rw (counter-placed counter known) refl
 
+  -- No name stands twice.
+  pub apart : said.are_distinct (names_of objects) ≡ true
+  apart = ap (λ rest. said.are_distinct (said.mode_name ∷ rest)) (names-said plan plan.cores) ∙ ap (λ modes. said.are_distinct (modes ++ flat_map said.object_names plan.cores)) (sym (modes-are plan.modes parts.modes)) ∙ parts.names
+
   -- and its numbers are the counter's.
   pub counter-named : (id : CoreId) (counter : CounterRef) → limits.is_object plan (counter_object counter) ≡ true → NamedCounter plan objects id (counter_name plan counter)
   counter-named id counter known =
       let bounds = limit-parts plan inside in
-      let apart : said.are_distinct (names_of objects) ≡ true = ap (λ rest. said.are_distinct (said.mode_name ∷ rest)) (names-said plan plan.cores) ∙ ap (λ modes. said.are_distinct (modes ++ flat_map said.object_names plan.cores)) (sym (modes-are plan.modes parts.modes)) ∙ parts.names in
       named-counter plan (map (core_said plan) plan.cores) id (counter_name plan counter) apart (cores-have plan.cores (kept-cores plan inside sayable) (each-found plan.cores bounds.distinct)) (ap is_some (counter-placed counter known))
 
   auto-back : (id : CoreId) (counter : CounterRef) (auto : Option AlarmStart) → limits.is_object plan (counter_object counter) ≡ true → is_alarm_within (option_map (start_sizes (option_map limits.counter_sizes (counter_in plan counter))) auto) ≡ true
@@ -275,7 +343,36 @@ module _ (plan : Plan) (inside : IsTrue (limits.is_within_limits plan)) (sayable
       let kept = kept-alarm plan alarm h in
       rw (counter-ref-back id alarm.counter kept.counter, action-back alarm.action kept.operation, auto-back id alarm.counter alarm.auto kept.counter kept.within kept.auto) refl
 
-  core-back : (core : Core) → is_kept_core plan core ≡ true → core_plan objects (core_said plan core) ≡ core
+  point-back : (point : ExpiryPoint) → is_kept_point plan point ≡ true → point_plan objects (point_said plan point) ≡ point
+  point-back point h =
+      let parts = and_parts (is_between 0 1000000000 (Some point.offset)) _ h in
+      let offset : word_of (Some point.offset) ≡ point.offset = ap (λ o. unwrap_or o 0) (is-word 0 1000000000 (Some point.offset) parts.0 (omega arith)) in
+      rw (offset, map-back (action_of objects) (action_said plan) (λ (action : TimedAction). is_kept_op plan (said.op_of_action action)) action-back point.actions parts.1) refl
+
+  table-auto-back : (s : TableSizes) (counter : CounterSizes) (auto : Option TableStart) → s.counter ≡ Some counter → limits.is_counter_within counter ≡ true
+      → option_map_or (is_table_start_within s) (option_map (λ (auto : TableStart). Some auto.offset) auto) true ≡ true → list_all said.is_only_mode (option_map_or (λ (auto : TableStart). auto.modes) auto []) ≡ true
+      → option_map table_start_plan (option_map (table_start_said plan) auto) ≡ auto
+  table-auto-back s counter None is within starts modes = refl
+  table-auto-back s counter (Some auto) is within starts modes =
+      let offset : word_of (Some auto.offset) ≡ auto.offset = ap (λ o. unwrap_or o 0) (table-start-word s counter (Some auto.offset) is within starts) in
+      rw (offset, map-back (λ (name : List ℕ). only_mode) (name_of_mode plan) said.is_only_mode (λ m e. sym (mode-is m e)) auto.modes modes) refl
+
+  table-back : (id : CoreId) (table : Table) → is_kept_table plan table ≡ true → table_plan objects id (table_said plan table) ≡ table
+  table-back id table h =
+      let kept = kept-table plan table h in
+      let sizes = table_sizes (counter_in plan) table in
+      let named = counter-named id table.counter kept.counter in
+      let counted : sizes.counter ≡ Some named.sizes = ap (λ r. option_map limits.counter_sizes (counter_in plan r)) (sym (counter-ref-back id table.counter kept.counter)) ∙ named.planned in
+      let start = (and_parts _ (option_map_or (is_table_start_within sizes) sizes.auto true) kept.within).1 in
+      let duration : word_of (Some table.duration) ≡ table.duration = ap (λ o. unwrap_or o 0) (is-word 1 1000000000 (Some table.duration) kept.duration (omega arith)) in
+      rw (
+        counter-ref-back id table.counter kept.counter,
+        duration,
+        map-back (point_plan objects) (point_said plan) (is_kept_point plan) point-back table.points kept.points,
+        table-auto-back sizes named.sizes table.auto counted named.within start kept.auto,
+      ) refl
+
+  pub core-back : (core : Core) → is_kept_core plan core ≡ true → core_plan objects (core_said plan core) ≡ core
   core-back core h =
       let kept = kept-core plan core h in
       let bytes = core-bytes (core_sizes plan core) kept.within in
@@ -288,8 +385,8 @@ module _ (plan : Plan) (inside : IsTrue (limits.is_within_limits plan)) (sayable
         map-back resource_plan resource_said (λ (resource : Resource). limits.is_ceiling (limits.ceiling_of resource)) resource-back core.resources (sym (list_all-map limits.is_ceiling limits.ceiling_of core.resources) ∙ bytes.3),
         map-back counter_plan counter_said (λ (counter : Counter). limits.is_counter_within (limits.counter_sizes counter)) counter-back core.counters (sym (list_all-map limits.is_counter_within limits.counter_sizes core.counters) ∙ counters),
         map-back (alarm_plan objects core.id) (alarm_said plan) (is_kept_alarm plan) (alarm-back core.id) core.alarms kept.alarms,
+        map-back (table_plan objects core.id) (table_said plan) (is_kept_table plan) (table-back core.id) core.tables kept.tables,
         kept.said.isrs,
-        kept.said.tables,
       ) refl
 
   pub plan-back : plan_of (config_said plan) ≡ plan

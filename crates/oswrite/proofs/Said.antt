@@ -9,6 +9,10 @@ use Rattle.osplan.specs.declared.plans.Plan.{Plan}
 use Rattle.osplan.specs.declared.plans.Core.{Core}
 use Rattle.osplan.specs.declared.plans.Counter.{Counter}
 use Rattle.osplan.specs.declared.plans.Resource.{Resource}
+use Rattle.osplan.specs.declared.plans.ExpiryPoint.{ExpiryPoint}
+use Rattle.osplan.specs.declared.plans.Table.{Table}
+use Rattle.osplan.specs.declared.plans.TableStart.{TableStart}
+use Rattle.osplan.specs.declared.plans.TimedAction.{TimedAction}
 use Rattle.osplan.specs.declared.plans.Task.{Task}
 use Rattle.osplan.specs.Expressible.{op_of_action}
 use Rattle.osplan.specs.Limits.{ceiling_of, number_of}
@@ -20,6 +24,9 @@ use Rattle.osdraft.specs.declared.shapes.CoreText.{CoreText}
 use Rattle.osdraft.specs.declared.shapes.CounterText.{CounterText}
 use Rattle.osdraft.specs.declared.shapes.ResourceText.{ResourceText}
 use Rattle.osdraft.specs.declared.shapes.TaskText.{TaskText}
+use Rattle.osdraft.specs.declared.table_shapes.PointText.{PointText}
+use Rattle.osdraft.specs.declared.table_shapes.TableStartText.{TableStartText}
+use Rattle.osdraft.specs.declared.table_shapes.TableText.{TableText}
 use Rattle.oswrite.specs.Writing.{op_text, script_text}
 
 abbrev pub task_said : Plan → Task → TaskText
@@ -37,11 +44,30 @@ start_said plan auto = record { modes = map (name_of_mode plan) auto.modes; star
 abbrev pub counter_name : Plan → CounterRef → List ℕ
 counter_name plan counter = name_of plan ObjectKind.Counter (counter_place counter)
 
+abbrev pub action_said : Plan → TimedAction → List ℕ
+action_said plan action = op_text plan (op_of_action action)
+
 abbrev pub alarm_said : Plan → Alarm → AlarmText
-alarm_said plan alarm = record { name = alarm.name; counter = counter_name plan alarm.counter; action = op_text plan (op_of_action alarm.action); auto = option_map (start_said plan) alarm.auto }
+alarm_said plan alarm = record { name = alarm.name; counter = counter_name plan alarm.counter; action = action_said plan alarm.action; auto = option_map (start_said plan) alarm.auto }
+
+abbrev pub point_said : Plan → ExpiryPoint → PointText
+point_said plan point = record { offset = Some point.offset; actions = map (action_said plan) point.actions }
+
+abbrev pub table_start_said : Plan → TableStart → TableStartText
+table_start_said plan auto = record { modes = map (name_of_mode plan) auto.modes; offset = Some auto.offset }
+
+abbrev pub table_said : Plan → Table → TableText
+table_said plan table = record {
+  name = table.name;
+  counter = counter_name plan table.counter;
+  duration = Some table.duration;
+  points = map (point_said plan) table.points;
+  repeating = table.repeating;
+  auto = option_map (table_start_said plan) table.auto;
+}
 
 abbrev pub core_said : Plan → Core → CoreText
-core_said plan core = record { id = number_of core.id; start = map number_of core.start; tasks = map (task_said plan) core.tasks; resources = map resource_said core.resources; counters = map counter_said core.counters; alarms = map (alarm_said plan) core.alarms }
+core_said plan core = record { id = number_of core.id; start = map number_of core.start; tasks = map (task_said plan) core.tasks; resources = map resource_said core.resources; counters = map counter_said core.counters; alarms = map (alarm_said plan) core.alarms; tables = map (table_said plan) core.tables }
 
 abbrev pub config_said : Plan → ConfigText
 config_said plan = record { version = Some 1; cap = Some plan.cap; master = number_of plan.master; cores = map (core_said plan) plan.cores }

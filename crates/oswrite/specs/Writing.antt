@@ -16,6 +16,10 @@ use Rattle.osplan.specs.declared.plans.Plan.{Plan}
 use Rattle.osplan.specs.declared.plans.Core.{Core}
 use Rattle.osplan.specs.declared.plans.Counter.{Counter}
 use Rattle.osplan.specs.declared.plans.Resource.{Resource}
+use Rattle.osplan.specs.declared.plans.ExpiryPoint.{ExpiryPoint}
+use Rattle.osplan.specs.declared.plans.Table.{Table}
+use Rattle.osplan.specs.declared.plans.TableStart.{TableStart}
+use Rattle.osplan.specs.declared.plans.TimedAction.{TimedAction}
 use Rattle.osplan.specs.declared.plans.Task.{Task}
 use Rattle.osplan.specs.Expressible.{op_of_action}
 use Rattle.osplan.specs.Names.{name_of_mode, name_of}
@@ -89,7 +93,36 @@ alarm_data plan alarm = object
     (member (codes "counter") (string (name_of plan ObjectKind.Counter (counter_place alarm.counter)))
     (member (codes "name") (string alarm.name) no_members))))
 
--- A core: its alarms, its counters, its number, its resources, the cores that it starts, and its tasks.
+abbrev pub action_data : Plan → TimedAction → Data
+action_data plan action = string (op_text plan (op_of_action action))
+
+-- An expiry point of a schedule table: its actions and its offset.
+abbrev pub point_data : Plan → ExpiryPoint → Data
+point_data plan point = object
+    (member (codes "actions") (list_data (action_data plan) point.actions)
+    (member (codes "offset") (whole_data point.offset) no_members))
+
+-- How a schedule table is started by itself: in which modes, and after how many counts; null where it is not.
+abbrev pub table_start_data : Plan → TableStart → Data
+table_start_data plan auto = object
+    (member (codes "modes") (list_data (mode_data plan) auto.modes)
+    (member (codes "offset") (whole_data auto.offset) no_members))
+
+abbrev pub table_auto_data : Plan → Option TableStart → Data
+table_auto_data plan None = null
+table_auto_data plan (Some auto) = table_start_data plan auto
+
+-- A schedule table: how it is started by itself, its counter's name, its duration, its own name, its points, and whether it repeats.
+abbrev pub table_data : Plan → Table → Data
+table_data plan table = object
+    (member (codes "auto") (table_auto_data plan table.auto)
+    (member (codes "counter") (string (name_of plan ObjectKind.Counter (counter_place table.counter)))
+    (member (codes "duration") (whole_data table.duration)
+    (member (codes "name") (string table.name)
+    (member (codes "points") (list_data (point_data plan) table.points)
+    (member (codes "repeating") (boolean table.repeating) no_members))))))
+
+-- A core: its alarms, its counters, its number, its resources, the cores that it starts, its tables and its tasks.
 abbrev pub core_data : Plan → Core → Data
 core_data plan core = object
     (member (codes "alarms") (list_data (alarm_data plan) core.alarms)
@@ -97,7 +130,8 @@ core_data plan core = object
     (member (codes "id") (id_data core.id)
     (member (codes "resources") (list_data resource_data core.resources)
     (member (codes "start") (list_data id_data core.start)
-    (member (codes "tasks") (list_data (task_data plan) core.tasks) no_members))))))
+    (member (codes "tables") (list_data (table_data plan) core.tables)
+    (member (codes "tasks") (list_data (task_data plan) core.tasks) no_members)))))))
 
 -- A configuration: the size of a mailbox, its cores, the master core and the version, 1.
 abbrev pub config_data : Plan → Data

@@ -4,12 +4,15 @@ ghost use Rattle.std.specs.Prelude.{◌≡◌, IfOk, Some, string_bytes};
 ghost use Rattle.serde_json.specs.Data.{Data};
 ghost use Rattle.serde_json.specs.View.{view};
 ghost use Rattle.osdraft.specs.Meaning.{config_of};
-ghost use Rattle.oswrite.specs.Writing.{script_text, id_data, mode_data, list_data, start_data, auto_data, alarm_data, counter_data, resource_data, task_data, core_data, config_data, config_text};
+ghost use Rattle.oswrite.specs.Writing.{script_text, id_data, mode_data, list_data, start_data, auto_data, alarm_data, action_data, point_data, table_start_data, table_auto_data, table_data, counter_data, resource_data, task_data, core_data, config_data, config_text};
 
 use osbase::{CoreId, ModeId, ObjectKind, Place};
 use oscript::Op;
 use osforms::{Names, op_text};
-use osplan::{Alarm, AlarmStart, Config, Core, Counter, Plan, Resource, Task};
+use osplan::{
+    Alarm, AlarmStart, Config, Core, Counter, ExpiryPoint, Plan, Resource, Table, TableStart, Task,
+    TimedAction,
+};
 use serde_json::{Value, json};
 use std::alloc::{AllocError, Global};
 
@@ -163,6 +166,71 @@ impl Writer<Alarm> for PlanWriter<'_> {
     }
 }
 
+impl Writer<TimedAction> for PlanWriter<'_> {
+    ghost written = { λ writer. action_data writer.plan.now };
+
+    fn value(&self, alloc: Global, action: &TimedAction) -> Result<Value, AllocError> {
+        Ok(Value::String(op_text(alloc, self, action.op())?))
+    }
+}
+
+impl Writer<ExpiryPoint> for PlanWriter<'_> {
+    ghost written = { λ writer. point_data writer.plan.now };
+
+    fn value(&self, alloc: Global, point: &ExpiryPoint) -> Result<Value, AllocError> {
+        let actions = list_value(alloc, self, point.actions.as_slice())?;
+        json!(in alloc; {
+            "actions": actions,
+            "offset": u64::from(point.offset)
+        })
+    }
+}
+
+impl Writer<TableStart> for PlanWriter<'_> {
+    ghost written = { λ writer. table_start_data writer.plan.now };
+
+    fn value(&self, alloc: Global, auto: &TableStart) -> Result<Value, AllocError> {
+        let modes = list_value(alloc, self, auto.modes.as_slice())?;
+        json!(in alloc; {
+            "modes": modes,
+            "offset": u64::from(auto.offset)
+        })
+    }
+}
+
+fn table_auto_value(
+    alloc: Global,
+    writer: &PlanWriter,
+    auto: &Option<TableStart>,
+) -> Result<Value, AllocError>
+    ensures { IfOk result (λ value. view value ≡ table_auto_data writer.now.plan.now auto.now) }
+{
+    match auto {
+        Some(auto) => writer.value(alloc, auto),
+        None => Ok(Value::Null),
+    }
+}
+
+impl Writer<Table> for PlanWriter<'_> {
+    ghost written = { λ writer. table_data writer.plan.now };
+
+    fn value(&self, alloc: Global, table: &Table) -> Result<Value, AllocError> {
+        let auto = table_auto_value(alloc, self, &table.auto)?;
+        let counter = self
+            .plan
+            .name_of(ObjectKind::Counter, table.counter.place());
+        let points = list_value(alloc, self, table.points.as_slice())?;
+        json!(in alloc; {
+            "auto": auto,
+            "counter": counter,
+            "duration": u64::from(table.duration),
+            "name": table.name.as_str(),
+            "points": points,
+            "repeating": table.repeating
+        })
+    }
+}
+
 impl Writer<Core> for PlanWriter<'_> {
     ghost written = { λ writer. core_data writer.plan.now };
 
@@ -171,6 +239,7 @@ impl Writer<Core> for PlanWriter<'_> {
         let counters = list_value(alloc, self, core.counters.as_slice())?;
         let resources = list_value(alloc, self, core.resources.as_slice())?;
         let start = list_value(alloc, self, core.start.as_slice())?;
+        let tables = list_value(alloc, self, core.tables.as_slice())?;
         let tasks = list_value(alloc, self, core.tasks.as_slice())?;
         json!(in alloc; {
             "alarms": alarms,
@@ -178,6 +247,7 @@ impl Writer<Core> for PlanWriter<'_> {
             "id": u64::from(core.id.number),
             "resources": resources,
             "start": start,
+            "tables": tables,
             "tasks": tasks
         })
     }

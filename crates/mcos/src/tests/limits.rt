@@ -16,6 +16,12 @@ const OPERATIONS: u32 = 256;
 /// More rounds than the runs below have.
 const ROUNDS: u32 = 300;
 
+/// The tables of a core.
+const TABLES: u8 = 8;
+
+/// What each of them does on another core at one point, so that a core posts as much at once as it may.
+const POSTED: u32 = 7;
+
 // So many times the same text.
 fn repeated(alloc: Global, text: &str, count: u32) -> Result<String, AllocError> {
     let mut all = String::new(alloc);
@@ -166,5 +172,43 @@ fn runs_of_thousands_of_turns_come_to_their_end(rt: HostRuntime) -> Result<(), F
         assert_eq!(rt; printed.out.as_slice(), trace.as_bytes());
         assert_eq!(rt; printed.status, 0);
     }
+    Ok(())
+}
+
+// Two cores; all tables of the first one act on the second at one count, and the last of them does so much more.
+fn posting_config(alloc: Global, more: &str) -> Result<String, AllocError> {
+    let actions = repeated(alloc, r#","ActivateTask B""#, POSTED - 1)?;
+    let mut text = String::from_str(
+        alloc,
+        r#"{"cores":[{"id":0,"start":[1],"counters":[{"name":"C","max":9}],"tables":["#,
+    )?;
+    for table in 0..TABLES {
+        let separator = if table == 0 { "" } else { "," };
+        let name = format!(in alloc; "P{table}")?;
+        let last = if table == TABLES - 1 { more } else { "" };
+        text.push_str(separator)?;
+        text.push_str(r#"{"name":""#)?;
+        text.push_str(name.as_str())?;
+        text.push_str(
+            r#"","counter":"C","duration":1,"auto":{"modes":["M"],"offset":1},"points":[{"offset":0,"actions":["ActivateTask B""#,
+        )?;
+        text.push_str(actions.as_str())?;
+        text.push_str(last)?;
+        text.push_str("]}]}")?;
+    }
+    text.push_str(
+        r#"]},{"id":1,"tasks":[{"name":"B","prio":1,"activations":64,"script":"TerminateTask"}]}]}"#,
+    )?;
+    Ok(text)
+}
+
+#[test]
+fn one_envelope_more_at_once_is_refused(rt: HostRuntime) -> Result<(), Fail> {
+    let alloc = rt.alloc();
+    let config = posting_config(alloc, r#","ActivateTask B""#)?;
+    let texts = [Some(config.as_str())];
+    let printed = print(alloc, &check_of(), texts.as_slice())?;
+    assert_eq!(rt; printed.err.as_slice(), b"fault 3 Limit\n".as_slice());
+    assert_eq!(rt; printed.status, 1);
     Ok(())
 }

@@ -264,7 +264,7 @@ fn counters_and_separate_cores(rt: HostRuntime) -> Result<(), Fail> {
 #[test]
 fn counters_are_written_read_back_and_cut(rt: HostRuntime) -> Result<(), Fail> {
     let written =
-        r#"{"cap":16,"cores":[{"alarms":[],"counters":[{"max":1000000000,"min":1000000000,"name":"L","software":true},{"max":1,"min":1,"name":"K","software":false}],"id":0,"resources":[],"start":[],"tasks":[{"activations":1,"auto":["M"],"extended":false,"name":"A","preemptable":true,"prio":1,"script":"IncrementCounter K;GetCounterValue L v7;IncrementCounter ?;GetCounterValue ? v0;IncrementCounter L"}]}],"master":0,"version":1}"#;
+        r#"{"cap":16,"cores":[{"alarms":[],"counters":[{"max":1000000000,"min":1000000000,"name":"L","software":true},{"max":1,"min":1,"name":"K","software":false}],"id":0,"resources":[],"start":[],"tables":[],"tasks":[{"activations":1,"auto":["M"],"extended":false,"name":"A","preemptable":true,"prio":1,"script":"IncrementCounter K;GetCounterValue L v7;IncrementCounter ?;GetCounterValue ? v0;IncrementCounter L"}]}],"master":0,"version":1}"#;
     let config = read_config(rt.alloc(), written)?;
     assert!(rt; config_text(rt.alloc(), &config)?.as_str() == written);
     assert!(rt; is_separate(&config, CoreId { number: 0 }));

@@ -239,7 +239,7 @@ fn tasks_of_other_cores(rt: HostRuntime) -> Result<(), Fail> {
 #[test]
 fn events_are_written_read_back_and_cut(rt: HostRuntime) -> Result<(), Fail> {
     let written =
-        r#"{"cap":16,"cores":[{"alarms":[],"counters":[],"id":0,"resources":[],"start":[],"tasks":[{"activations":1,"auto":["M"],"extended":true,"name":"A","preemptable":true,"prio":1,"script":"SetEvent A 4294967295;WaitEvent 1;ClearEvent 10;GetEvent A v7;SetEvent ? 2;GetEvent ? v0;ChainTask ?;ChainTask B"},{"activations":2,"auto":[],"extended":false,"name":"B","preemptable":true,"prio":1,"script":"SetEvent A 1;TerminateTask"}]}],"master":0,"version":1}"#;
+        r#"{"cap":16,"cores":[{"alarms":[],"counters":[],"id":0,"resources":[],"start":[],"tables":[],"tasks":[{"activations":1,"auto":["M"],"extended":true,"name":"A","preemptable":true,"prio":1,"script":"SetEvent A 4294967295;WaitEvent 1;ClearEvent 10;GetEvent A v7;SetEvent ? 2;GetEvent ? v0;ChainTask ?;ChainTask B"},{"activations":2,"auto":[],"extended":false,"name":"B","preemptable":true,"prio":1,"script":"SetEvent A 1;TerminateTask"}]}],"master":0,"version":1}"#;
     let config = read_config(rt.alloc(), written)?;
     assert!(rt; config_text(rt.alloc(), &config)?.as_str() == written);
     assert!(rt; is_separate(&config, CoreId { number: 0 }));

@@ -163,7 +163,7 @@ fn a_position_in_the_longest_script(rt: HostRuntime) -> Result<(), Fail> {
 #[test]
 fn such_operations_are_written_as_they_were_read(rt: HostRuntime) -> Result<(), Fail> {
     let written =
-        "{\"cap\":16,\"cores\":[{\"alarms\":[],\"counters\":[],\"id\":0,\"resources\":[],\"start\":[],\"tasks\":[{\"activations\":1,\"auto\":[],\"extended\":false,\"name\":\"A\",\"preemptable\":true,\"prio\":1,\"script\":\"set v0 -9223372036854775808;add v1 9223372036854775807;addv v2 v7;status v3;jz v4 6;jump 0\"}]}],\"master\":0,\"version\":1}";
+        "{\"cap\":16,\"cores\":[{\"alarms\":[],\"counters\":[],\"id\":0,\"resources\":[],\"start\":[],\"tables\":[],\"tasks\":[{\"activations\":1,\"auto\":[],\"extended\":false,\"name\":\"A\",\"preemptable\":true,\"prio\":1,\"script\":\"set v0 -9223372036854775808;add v1 9223372036854775807;addv v2 v7;status v3;jz v4 6;jump 0\"}]}],\"master\":0,\"version\":1}";
     let text = config_text(rt.alloc(), &read_config(rt.alloc(), written)?)?;
     assert!(rt; text.as_str() == written);
     Ok(())

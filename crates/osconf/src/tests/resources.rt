@@ -177,7 +177,7 @@ fn a_resource_has_its_parts(rt: HostRuntime) -> Result<(), Fail> {
 #[test]
 fn resources_are_written_read_back_and_cut(rt: HostRuntime) -> Result<(), Fail> {
     let written =
-        r#"{"cap":16,"cores":[{"alarms":[],"counters":[],"id":0,"resources":[{"ceiling":31,"name":"S"},{"ceiling":0,"name":"R"}],"start":[],"tasks":[{"activations":1,"auto":["M"],"extended":false,"name":"A","preemptable":true,"prio":1,"script":"GetResource R;GetResource S;ReleaseResource S;GetResource ?;ReleaseResource R;TerminateTask"}]}],"master":0,"version":1}"#;
+        r#"{"cap":16,"cores":[{"alarms":[],"counters":[],"id":0,"resources":[{"ceiling":31,"name":"S"},{"ceiling":0,"name":"R"}],"start":[],"tables":[],"tasks":[{"activations":1,"auto":["M"],"extended":false,"name":"A","preemptable":true,"prio":1,"script":"GetResource R;GetResource S;ReleaseResource S;GetResource ?;ReleaseResource R;TerminateTask"}]}],"master":0,"version":1}"#;
     let config = read_config(rt.alloc(), written)?;
     assert!(rt; config_text(rt.alloc(), &config)?.as_str() == written);
     assert!(rt; is_separate(&config, CoreId { number: 0 }));

@@ -69,6 +69,14 @@ fn full_core(alloc: Global) -> Result<Core, AllocError> {
     })?;
     core.tables.push(Table {
         name: Name::new(alloc, "S1")?,
+        counter: CounterRef {
+            core: CoreId { number: 0 },
+            index: 0,
+        },
+        duration: 3,
+        repeating: false,
+        points: List::new(alloc),
+        auto: None,
     })?;
     Ok(core)
 }

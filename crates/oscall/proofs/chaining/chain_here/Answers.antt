@@ -1,5 +1,7 @@
-use Rattle.std.proofs.Common.{◌≡◌, ◌<◌, ◌&&◌, Bool, true, false, not, refl, sym, subst, ◌∙◌, rules, arith, lit≤}
+use Rattle.std.proofs.Common.{◌≡◌, ◌<◌, ◌&&◌, Bool, true, false, not, None, refl, sym, subst, ◌∙◌, rules, arith, lit≤}
 use Rattle.std.proofs.lemmas.Bool.{leb-false}
+use Rattle.osbase.specs.declared.statuses.ServiceId.TheVariants as Service
+use Rattle.osbase.specs.declared.statuses.Status.TheVariants.{EOsLimit}
 use Rattle.osbase.specs.declared.references.Runner.{Runner}
 use Rattle.osbase.specs.declared.references.TaskRef.{TaskRef}
 use Rattle.osbase.specs.History.{job_count, same_runner, without_oldest}
@@ -9,6 +11,7 @@ use Rattle.osstate.specs.Sound.{activation_limit}
 use Rattle.osstate.specs.State.{KernelState}
 use Rattle.osstate.proofs.Effecting.{as_effect, then}
 use Rattle.osstate.proofs.JobLists.{job_count-without_oldest}
+use Rattle.oscall.specs.Returning.{returns as returning}
 use Rattle.oscall.specs.Tasks.{activates, ends}
 use Rattle.oscall.proofs.chaining.chain_here.Goals as goal
 
@@ -32,3 +35,8 @@ pub returns : goal.returns
 returns g c =
     as_effect {f = λ v h. activates c.args.task (ends c.args.runner h)} (λ v h stands. rw (sym (c.exceeds_limit.ensures.reads v h stands) ∙ c.if-exceeds_limit.false) refl)
     (lit≤ tt) (lit≤ tt) (then c.end.ensures.effects c.activate.ensures.effects)
+
+pub returns-then-exceeds_limit : goal.returns-then-exceeds_limit
+returns-then-exceeds_limit g c =
+    as_effect {f = λ v h. returning c.args.runner Service.ChainTask EOsLimit None h} (λ v h stands. rw (sym (c.exceeds_limit.ensures.reads v h stands) ∙ c.if-exceeds_limit.true) refl)
+    (lit≤ tt) (lit≤ tt) c.refuse.ensures

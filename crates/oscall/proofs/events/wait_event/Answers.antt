@@ -1,8 +1,9 @@
-use Rattle.std.proofs.Common.{sym, ◌∙◌, lit≤}
+use Rattle.std.proofs.Common.{None, sym, ◌∙◌, lit≤}
 use Rattle.osbase.specs.declared.statuses.ServiceId.TheVariants as Service
 use Rattle.osstate.proofs.Effecting.{as_effect}
 use Rattle.oscall.specs.Events.{waiting_checks, goes_on_or_waits}
-use Rattle.oscall.proofs.Answering.{granted}
+use Rattle.oscall.specs.Returning.{returns as returning}
+use Rattle.oscall.proofs.Answering.{granted, refused}
 use Rattle.oscall.proofs.events.wait_event.Goals as goal
 
 pub returns-then-is_ok : goal.returns-then-is_ok
@@ -10,3 +11,9 @@ returns-then-is_ok g c =
     as_effect {f = λ v h. goes_on_or_waits v c.args.runner c.args.mask h}
     (λ v h stands. granted c.args.runner Service.WaitEvent (waiting_checks v c.args.runner h) (goes_on_or_waits v c.args.runner c.args.mask) h c.status_of_waiting-status.result (c.status_of_waiting-status.ensures v h stands) (sym c.is_ok.ensures ∙ c.if-is_ok.true))
     (lit≤ tt) (lit≤ tt) c.go_on_or_wait.ensures
+
+pub returns-else-is_ok : goal.returns-else-is_ok
+returns-else-is_ok g c =
+    as_effect {f = λ v h. returning c.args.runner Service.WaitEvent c.status_of_waiting-status.result None h}
+    (λ v h stands. refused c.args.runner Service.WaitEvent (waiting_checks v c.args.runner h) (goes_on_or_waits v c.args.runner c.args.mask) h c.status_of_waiting-status.result (c.status_of_waiting-status.ensures v h stands) (sym c.is_ok.ensures ∙ c.if-is_ok.false))
+    (lit≤ tt) (lit≤ tt) c.refuse.ensures

@@ -49,3 +49,6 @@ returns-in-Jump g c = rw c.in-Jump.is (as_effect (λ v h stands. refl) (lit≤ t
 
 pub returns-in-JumpIfZero : goal.returns-in-JumpIfZero
 returns-in-JumpIfZero g c = rw c.in-JumpIfZero.is (as_effect (λ v h stands. refl) (lit≤ tt) (lit≤ tt) (unprinted c.complete-in-JumpIfZero.ensures.remarks))
+
+pub returns-in-WaitEvent : goal.returns-in-WaitEvent
+returns-in-WaitEvent g c = rw c.in-WaitEvent.is (as_effect (λ v h stands. refl) (lit≤ tt) (lit≤ tt) c.wait_event.ensures)

@@ -3,7 +3,7 @@ use Rattle.osbase.specs.declared.histories.HeldResource.{HeldResource}
 use Rattle.osbase.specs.declared.references.ResourceRef.{ResourceRef}
 use Rattle.osbase.specs.declared.references.Runner.{Runner}
 use Rattle.osbase.specs.declared.statuses.ServiceId.TheVariants.{ReleaseResource}
-use Rattle.osbase.specs.declared.statuses.Status.TheVariants.{EOk}
+use Rattle.osbase.specs.declared.statuses.Status.TheVariants.{EOk, EOsAccess, EOsNofunc}
 use Rattle.osbase.specs.History.{History, Noted, Given}
 use Rattle.osplan.specs.View.{View}
 use Rattle.osjobs.specs.Priorities.{is_newest}
@@ -21,3 +21,21 @@ returns g c =
     as_effect (λ v h stands.
     granted v c.args.runner h c.args.target c.in-Some.resource (sym (c.in-Some.ensures.reads v h stands)) (sym (c.is_below.ensures v h stands) ∙ c.if-is_below.false) (sym (c.is_newest.ensures.reads v h stands) ∙ c.if-not-is_newest.false))
     (lit≤ tt) (lit≤ tt) (then (unprinted c.give_resource.ensures.remarks) c.accept.ensures)
+
+above : (v : View) (r : Runner) (h : History) (target : Option ResourceRef) (x : HeldResource) → resource_of v.own target ≡ Some x → is_below v r x ≡ true → releases_resource v r target h ≡ returning r ReleaseResource EOsAccess None h
+above v r h target x named low = rw (named, low) refl
+
+pub returns-then-is_below : goal.returns-then-is_below
+returns-then-is_below g c =
+    as_effect {f = λ v h. returning c.args.runner ReleaseResource EOsAccess None h} (λ v h stands.
+    above v c.args.runner h c.args.target c.in-Some.resource (sym (c.in-Some.ensures.reads v h stands)) (sym (c.is_below.ensures v h stands) ∙ c.if-is_below.true))
+    (lit≤ tt) (lit≤ tt) c.refuse-then-is_below.ensures
+
+older : (v : View) (r : Runner) (h : History) (target : Option ResourceRef) (x : HeldResource) → resource_of v.own target ≡ Some x → is_below v r x ≡ false → is_newest x.index (resources_of v r h) ≡ false → releases_resource v r target h ≡ returning r ReleaseResource EOsNofunc None h
+older v r h target x named low newest = rw (named, low, newest) refl
+
+pub returns-then-not-is_newest : goal.returns-then-not-is_newest
+returns-then-not-is_newest g c =
+    as_effect {f = λ v h. returning c.args.runner ReleaseResource EOsNofunc None h} (λ v h stands.
+    older v c.args.runner h c.args.target c.in-Some.resource (sym (c.in-Some.ensures.reads v h stands)) (sym (c.is_below.ensures v h stands) ∙ c.if-is_below.false) (sym (c.is_newest.ensures.reads v h stands) ∙ c.if-not-is_newest.true))
+    (lit≤ tt) (lit≤ tt) c.refuse-then-not-is_newest.ensures

@@ -9,4 +9,4 @@ use Rattle.oskernel.proofs.effects.start.Goals as goal
 pub returns : goal.returns
 returns g c =
     as_effect (λ v h stands. ap (λ (a : Option Agreement). starts v a h) (sym (sym c.agreed_mode-mode.ensures ∙ read (λ (s : KernelState). s.progress.agreement) c.agreement.ensures.value stands)))
-    (lit≤ tt) (lit≤ tt) (then c.start_tasks.ensures (unprinted c.start_alarms.ensures))
+    (lit≤ tt) (lit≤ tt) (then (then c.start_tasks.ensures (unprinted c.start_alarms.ensures)) (unprinted c.start_tables.ensures))

@@ -1,4 +1,4 @@
-use Rattle.std.proofs.Common.{◌≡◌, ◌<◌, ◌≤◌, ◌+◌, ◌*◌, ◌^◌, false, IsTrue, filter, length, suc, vec_len, vec_capacity, rules, refl, ap, sym, ◌∙◌, arith}
+use Rattle.std.proofs.Common.{◌≡◌, ◌<◌, ◌≤◌, ◌+◌, ◌*◌, ◌^◌, false, IsTrue, length, suc, vec_len, vec_capacity, rules, refl, ap, sym, ◌∙◌, arith}
 use Rattle.osbase.specs.declared.marks.Mark.{Mark}
 use Rattle.osbase.specs.declared.references.CoreId.{CoreId}
 use Rattle.osbase.specs.declared.references.CounterRef.{CounterRef}
@@ -6,15 +6,17 @@ use Rattle.osclock.specs.Clocks.{attached_to, counter_ref}
 use Rattle.osbase.specs.Objects.{counter_object}
 use Rattle.osbase.specs.Phases.{is_before_live}
 use Rattle.osclock.proofs.Places.{counter-own}
-use Rattle.osplan.specs.Objects.{is_own_object}
+use Rattle.osplan.specs.Objects.{is_own_object, posted_at_once}
 use Rattle.osplan.specs.View.{View}
+use Rattle.ostable.specs.Tables.{timed_by}
 use Rattle.osstate.specs.State.{KernelState}
 use Rattle.osstate.proofs.Effecting.{as_effect, then, unprinted}
 use Rattle.oscall.proofs.Remarking.{unmoved}
-use Rattle.oscall.specs.Expiring.{posted_at_once, posted_by, posts_by}
+use Rattle.oscall.specs.Advancing.{posted_by}
 use Rattle.oscall.specs.Returning.{prints}
 use Rattle.oscall.proofs.Owned.{alarms-few}
-use Rattle.oskernel.proofs.Ticking.{all-counted, clock_at, every-more, every-within, next-counted, portion-more, portion-within}
+use Rattle.oscall.proofs.Postings.{tables-few}
+use Rattle.oskernel.proofs.Ticking.{alarms-within, alarms_at, all-counted, clock_at, next-counted, posted-within, posted_at, tables-within, tables_at, total-more}
 use Rattle.oskernel.proofs.ticks.tick.Goals as goal
 
 pub loop-counter-init : goal.loop-counter-init
@@ -31,15 +33,22 @@ count_by_tick-requires g c =
     let reference : CounterRef = clock_at c.id-core.result c.loop-counter.index in
     let here : reference ≡ counter_ref own place = ap (λ (core : CoreId). clock_at core c.loop-counter.index) c.id-core.ensures.own ∙ ap (clock_at own.id) c.loop-counter.invariant.place in
     let view = c.loop-counter.invariant.effects.stays.view in
-    let attached : length (attached_to c.loop-counter.state.view.own reference) ≡ length (attached_to own (counter_ref own place)) = ap (λ (w : View). length (attached_to w.own reference)) view ∙ ap (λ (r : CounterRef). length (attached_to own r)) here in
-    let posted : posted_by c.loop-counter.state.view.own reference ≡ length (filter (posts_by own) (attached_to own (counter_ref own place))) = ap (λ (w : View). posted_by w.own reference) view ∙ ap (posted_by own) here in
+    let attached : length (attached_to c.loop-counter.state.view.own reference) ≡ alarms_at own place = ap (λ (w : View). length (attached_to w.own reference)) view ∙ ap (λ (r : CounterRef). length (attached_to own r)) here in
+    let timed : length (timed_by c.loop-counter.state.view.own reference) ≡ tables_at own place = ap (λ (w : View). length (timed_by w.own reference)) view ∙ ap (λ (r : CounterRef). length (timed_by own r)) here in
+    let posted : posted_by c.loop-counter.state.view.own reference ≡ posted_at own place = ap (λ (w : View). posted_by w.own reference) view ∙ ap (posted_by own) here in
     let places : posted_at_once own ≡ posted_at_once c.args.state.now.view.own = ap (λ (w : View). posted_at_once w.own) c.print.ensures.effects.stays.view in
     let few = alarms-few own c.counters-counters.ensures.within in
-    let outbox : length c.loop-counter.state.border.outbox + posted_by c.loop-counter.state.view.own reference ≤ g.row.OUT = omega (arith, c.loop-counter.invariant.outbox, posted, portion-within own (posts_by own) place, places, c.requires.places) in
-    let count : c.loop-counter.state.progress.entries + suc (3 * length (attached_to c.loop-counter.state.view.own reference)) ≤ 2 ^ 63 =
-    omega (arith, attached, every-within own place, few, c.loop-counter.invariant.effects.stays.entries, c.print.ensures.effects.stays.entries, c.requires.room.count, c.loop-counter-test.true, c.counters-counters.ensures.few) in
-    let marks : vec_len c.loop-counter.marks + 3 * length (attached_to c.loop-counter.state.view.own reference) ≤ vec_capacity c.loop-counter.marks =
-    omega (arith, attached, every-within own place, few, c.loop-counter.invariant.effects.len, c.loop-counter.invariant.effects.capacity, c.print.ensures.effects.len, c.print.ensures.effects.capacity, c.requires.room.place) in
+    let short = tables-few own c.counters-counters.ensures.within in
+    let more_alarms = total-more (alarms_at own) place in
+    let more_tables = total-more (tables_at own) place in
+    let all_alarms = alarms-within own (place + 1) in
+    let all_tables = tables-within own (place + 1) in
+    let outbox : length c.loop-counter.state.border.outbox + posted_by c.loop-counter.state.view.own reference ≤ g.row.OUT =
+    omega (arith, c.loop-counter.invariant.outbox, posted, total-more (posted_at own) place, posted-within own (place + 1), places, c.requires.places) in
+    let count : c.loop-counter.state.progress.entries + suc (3 * length (attached_to c.loop-counter.state.view.own reference) + 38 * length (timed_by c.loop-counter.state.view.own reference)) ≤ 2 ^ 63 =
+    omega (arith, attached, timed, more_alarms, more_tables, all_alarms, all_tables, few, short, c.loop-counter.invariant.effects.stays.entries, c.print.ensures.effects.stays.entries, c.requires.room.count, c.loop-counter-test.true, c.counters-counters.ensures.few) in
+    let marks : vec_len c.loop-counter.marks + (3 * length (attached_to c.loop-counter.state.view.own reference) + 36 * length (timed_by c.loop-counter.state.view.own reference)) ≤ vec_capacity c.loop-counter.marks =
+    omega (arith, attached, timed, more_alarms, more_tables, all_alarms, all_tables, few, short, c.loop-counter.invariant.effects.len, c.loop-counter.invariant.effects.capacity, c.print.ensures.effects.len, c.print.ensures.effects.capacity, c.requires.room.place) in
     let live : is_before_live c.loop-counter.state.progress.phase ≡ false = ap is_before_live (c.loop-counter.invariant.effects.stays.phase ∙ c.print.ensures.effects.stays.phase) ∙ c.requires.live in
     let inside : place < length own.counters = omega (arith, c.loop-counter-test.true, ap length c.counters-counters.ensures.value) in
     let mine : IsTrue (is_own_object c.loop-counter.state.view.own (counter_object reference)) =
@@ -53,19 +62,25 @@ loop-counter-preserved g c =
     let reference : CounterRef = clock_at c.id-core.result c.loop-counter.index in
     let here : reference ≡ counter_ref own place = ap (λ (core : CoreId). clock_at core c.loop-counter.index) c.id-core.ensures.own ∙ ap (clock_at own.id) c.loop-counter.invariant.place in
     let view = c.loop-counter.invariant.effects.stays.view in
-    let attached : length (attached_to c.loop-counter.state.view.own reference) ≡ length (attached_to own (counter_ref own place)) = ap (λ (w : View). length (attached_to w.own reference)) view ∙ ap (λ (r : CounterRef). length (attached_to own r)) here in
-    let posted : posted_by c.loop-counter.state.view.own reference ≡ length (filter (posts_by own) (attached_to own (counter_ref own place))) = ap (λ (w : View). posted_by w.own reference) view ∙ ap (posted_by own) here in
+    let attached : length (attached_to c.loop-counter.state.view.own reference) ≡ alarms_at own place = ap (λ (w : View). length (attached_to w.own reference)) view ∙ ap (λ (r : CounterRef). length (attached_to own r)) here in
+    let timed : length (timed_by c.loop-counter.state.view.own reference) ≡ tables_at own place = ap (λ (w : View). length (timed_by w.own reference)) view ∙ ap (λ (r : CounterRef). length (timed_by own r)) here in
+    let posted : posted_by c.loop-counter.state.view.own reference ≡ posted_at own place = ap (λ (w : View). posted_by w.own reference) view ∙ ap (posted_by own) here in
+    let more_alarms = total-more (alarms_at own) place in
+    let more_tables = total-more (tables_at own) place in
     record {
       place = omega arith;
-      outbox = omega (arith, c.count_by_tick.ensures.outbox, c.loop-counter.invariant.outbox, posted, portion-more own (posts_by own) place);
+      outbox = omega (arith, c.count_by_tick.ensures.outbox, c.loop-counter.invariant.outbox, posted, total-more (posted_at own) place);
       effects =
           as_effect (λ v h stands. next-counted v c.print.new.self.view (ap (λ (s : KernelState). s.view) stands.is) h c.counters-counters.result.now c.counters-counters.ensures.value c.id-core.result c.loop-counter.index place c.counter-item.result c.id-core.ensures.own c.loop-counter.invariant.place c.loop-counter-test.true c.counter-item.is)
-          (omega (arith, attached, every-more own place)) (omega (arith, attached, every-more own place)) (then c.loop-counter.invariant.effects c.count_by_tick.ensures.effects);
+          (omega (arith, attached, timed, more_alarms, more_tables)) (omega (arith, attached, timed, more_alarms, more_tables)) (then c.loop-counter.invariant.effects c.count_by_tick.ensures.effects);
     }
 
 pub returns : goal.returns
 returns g c =
     let own = c.print.new.self.view.own in
     let few = alarms-few own c.counters-counters.ensures.within in
+    let short = tables-few own c.counters-counters.ensures.within in
+    let all_alarms = alarms-within own c.loop-counter.counter-index in
+    let all_tables = tables-within own c.loop-counter.counter-index in
     as_effect (λ v h stands. sym (all-counted v c.print.new.self.view (c.print.ensures.effects.stays.view ∙ ap (λ (s : KernelState). s.view) stands.is) (prints Mark.Tick h) c.counters-counters.result.now c.counters-counters.ensures.value c.loop-counter.counter-index c.loop-counter-test.false))
-    (omega (arith, c.counters-counters.ensures.few, few, every-within own c.loop-counter.counter-index)) (omega (arith, few, every-within own c.loop-counter.counter-index)) (then c.print.ensures.effects c.loop-counter.invariant.effects)
+    (omega (arith, c.counters-counters.ensures.few, few, short, all_alarms, all_tables)) (omega (arith, few, short, all_alarms, all_tables)) (then c.print.ensures.effects c.loop-counter.invariant.effects)

@@ -1,5 +1,10 @@
-use Rattle.std.proofs.Common.{◌≡◌, true, rules, subst}
+use Rattle.std.proofs.Common.{◌≡◌, true, None, Option, is_some, rules, ap, sym, subst, ◌∙◌}
+use Rattle.std.proofs.lemmas.Bool.{false≢true}
+use Rattle.osplan.specs.declared.plans.Alarm.{Alarm}
+use Rattle.osplan.specs.View.{own_alarm}
+use Rattle.osclock.proofs.Places.{alarm-some}
 use Rattle.std.specs.List.{list_all}
+use Rattle.osplan.specs.Objects.{core_actions}
 use Rattle.osstate.specs.Sound.{has_object_of}
 use Rattle.osstate.specs.State.{KernelState}
 use Rattle.osstate.proofs.ReadLemmas.{known_timed}
@@ -8,4 +13,9 @@ use Rattle.osstate.proofs.state.CoreState.alarm_action.Goals as goal
 pub returns-clause-known : goal.returns-clause-known
 returns-clause-known g c =
     known_timed c.args.self.now.view.own c.args.alarm c.in-Some.own.now
-    (subst (λ (s : KernelState). list_all (has_object_of s.view.own) s.view.own.alarms ≡ true) c.self.view_is c.self.invariant.actions) (search rules)
+    (subst (λ (s : KernelState). list_all (has_object_of s.view.own) (core_actions s.view.own) ≡ true) c.self.view_is c.self.invariant.actions) (search rules)
+
+pub unreachable-requires : goal.unreachable-requires
+unreachable-requires g c =
+    let none : own_alarm c.args.self.now.view.own c.args.alarm ≡ None = search rules in
+    false≢true (ap (λ (o : Option Alarm). is_some o) (sym none) ∙ alarm-some c.args.self.now.view.own c.args.alarm c.requires.own)

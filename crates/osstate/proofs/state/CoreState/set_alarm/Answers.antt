@@ -11,7 +11,7 @@ use Rattle.osstate.proofs.state.CoreState.set_alarm.Goals as goal
 
 pub invariant_of-self : goal.invariant_of-self
 invariant_of-self g c =
-    clocked g.row.P g.row.J _ _ c.self.invariant (subst (AreClocks c.self.inside.core.now) (sym c.set_alarm.ensures) (kept c.self.inside.core.now (Noted (AlarmSet c.args.alarm c.args.first c.args.cycle)) _ c.self.invariant.clocks))
+    clocked g.row.P g.row.J _ _ _ c.self.invariant (subst (AreClocks c.self.inside.core.now) (sym c.set_alarm.ensures) (kept c.self.inside.core.now (Noted (AlarmSet c.args.alarm c.args.first c.args.cycle)) _ c.self.invariant.clocks)) c.self.invariant.tables c.self.invariant.waiting
 
 pub returns-clause-remarks : goal.returns-clause-remarks
 returns-clause-remarks g c =

@@ -1,0 +1,16 @@
+pub mod Points
+pub mod Runs
+pub mod Places
+pub mod Timed
+pub mod Law
+pub mod Listed
+pub mod Bounds
+pub mod Moved
+pub mod Begun
+pub mod Asked
+pub mod Sums
+pub mod Posted
+pub mod Waiting
+pub mod Portions
+pub mod Formulas
+pub mod Finals

@@ -1,0 +1,122 @@
+-- At one count no table is done twice: neither one that is due, nor one that begins where another one's period ends.
+use Rattle.std.proofs.Common.{◌≡◌, ℕ, zero, suc, ◌+◌, ◌≤◌, Bool, true, false, cond, Option, Some, None, is_some, option_map, length, List, map, sum_by, refl, ap, sym, subst, ◌∙◌, arith}
+use Rattle.std.specs.Option.{option_map_or}
+use Rattle.std.proofs.lemmas.Bool.{false_from_ne_true, false≢true}
+use Rattle.std.proofs.lemmas.List.Sums.{sum_by-cons, sum_by-le-sum_by}
+use Rattle.osbase.specs.declared.references.CounterRef.{CounterRef}
+use Rattle.osbase.specs.declared.references.TableRef.{TableRef}
+use Rattle.osbase.specs.Counting.{same_counter, same_table}
+use Rattle.osbase.specs.History.{History}
+use Rattle.osbase.specs.Sets.{numbers_from}
+use Rattle.osplan.specs.declared.plans.Core.{Core}
+use Rattle.osplan.specs.declared.plans.Table.{Table as TablePlan}
+use Rattle.osplan.specs.Clocked.{are_clocks_within}
+use Rattle.osplan.specs.View.{own_table}
+use Rattle.osclock.proofs.Places.{same_counter-true}
+use Rattle.ostable.specs.declared.table.Due.{Due}
+use Rattle.ostable.specs.declared.table.Table.{Table}
+use Rattle.ostable.specs.declared.tables.DueTable.{DueTable}
+use Rattle.ostable.specs.Ahead.{due_next}
+use Rattle.ostable.specs.Tables.{TableStates, due_in, due_table, due_tables_by, due_tables_in, is_next_in, is_timed_by, next_in, table_in, table_ref, table_refs, tables_of, timed_by}
+use Rattle.ostable.specs.Waiting.{all_wait_by_counter, are_of_one_counter, waits_by_counter, with_next}
+use Rattle.ostable.proofs.Asked.{dues-read}
+use Rattle.ostable.proofs.Places.{same_table-true}
+use Rattle.ostable.proofs.Sums.{found-le, sum-across, sum-both, sum-kept, sum-made, sum-none}
+
+-- ---- one table of a core is at one place
+
+sum-past : (core : Core) (s : TableRef) (k first count : ℕ) → ((n : ℕ) → first ≤ n → same_table s (table_ref core n) ≡ false) → sum_by (λ (u : TableRef). cond (same_table s u) k 0) (map (table_ref core) (numbers_from first count)) ≡ 0
+sum-past core s k first zero none = refl
+sum-past core s k first (suc count) none =
+    sum_by-cons (λ (u : TableRef). cond (same_table s u) k 0) (table_ref core first) (map (table_ref core) (numbers_from (first + 1) count))
+    ∙ ap (λ (b : Bool). cond b k 0 + sum_by (λ (u : TableRef). cond (same_table s u) k 0) (map (table_ref core) (numbers_from (first + 1) count))) (none first (omega arith))
+    ∙ omega (arith, sum-past core s k (first + 1) count (λ n h. none n (omega (arith, h))))
+
+sum-once : (core : Core) (s : TableRef) (k first count : ℕ) → sum_by (λ (u : TableRef). cond (same_table s u) k 0) (map (table_ref core) (numbers_from first count)) ≤ k
+sum-once core s k first zero = omega arith
+sum-once core s k first (suc count) =
+    subst (λ (n : ℕ). n ≤ k) (sym (sum_by-cons (λ (u : TableRef). cond (same_table s u) k 0) (table_ref core first) (map (table_ref core) (numbers_from (first + 1) count))))
+    (by (same_table s (table_ref core first)) refl (sum-once core s k (first + 1) count))
+  where
+    by : (b : Bool) → same_table s (table_ref core first) ≡ b → sum_by (λ (u : TableRef). cond (same_table s u) k 0) (map (table_ref core) (numbers_from (first + 1) count)) ≤ k → cond b k 0 + sum_by (λ (u : TableRef). cond (same_table s u) k 0) (map (table_ref core) (numbers_from (first + 1) count)) ≤ k
+    by false e rest = omega (arith, rest)
+    by true e rest =
+        let at : s.index ≡ first = ap (λ (u : TableRef). u.index) (same_table-true s (table_ref core first) e) in
+        let others : (n : ℕ) → first + 1 ≤ n → same_table s (table_ref core n) ≡ false = λ n h. false_from_ne_true (same_table s (table_ref core n)) (λ d. omega (arith, h, at, ap (λ (u : TableRef). u.index) (same_table-true s (table_ref core n) d))) in
+        omega (arith, sum-past core s k (first + 1) count others)
+
+-- ---- a table that waits goes by the counter of the one that it waits for
+
+next-on : (core : Core) (c : CounterRef) (s u : TableRef) → is_timed_by core c s ≡ true → (table : Table) → waits_by_counter core u table ≡ true → is_next_in s table ≡ true → is_timed_by core c u ≡ true
+next-on core c s u on Table.Stopped near is = absurd (false≢true is)
+next-on core c s u on (Table.Running ahead) near is = absurd (false≢true is)
+next-on core c s u on (Table.NextOf t) near is = by (own_table core s) (own_table core u) on (ap (λ (x : TableRef). are_of_one_counter core x u) (sym (same_table-true t s is)) ∙ near)
+  where
+    by : (o r : Option TablePlan) → option_map_or (λ (x : TablePlan). same_counter c x.counter) o false ≡ true
+        → option_map_or (λ (x : TablePlan). option_map_or (λ (y : TablePlan). same_counter x.counter y.counter) r false) o false ≡ true
+        → option_map_or (λ (y : TablePlan). same_counter c y.counter) r false ≡ true
+    by None r one both = absurd (false≢true one)
+    by (Some x) None one both = absurd (false≢true both)
+    by (Some x) (Some y) one both = ap (λ (d : CounterRef). same_counter d y.counter) (same_counter-true c x.counter one) ∙ both
+
+-- ---- the bound
+
+module _ (core : Core) (c : CounterRef) (x : TableStates) (f : TableRef → ℕ) where
+  -- what a table adds that is due, and what one adds that begins in the place of another one
+  abbrev amount : TableRef → ℕ
+  amount u = cond (is_timed_by core c u) (f u) 0
+
+  abbrev itself : TableRef → ℕ
+  itself u = cond (is_some (due_in core u x)) (amount u) 0
+
+  abbrev in_place : TableRef → TableRef → ℕ
+  in_place s u = cond (is_next_in s (table_in u x)) (amount u) 0
+
+  abbrev whole : TableRef → ℕ
+  whole s = cond (is_timed_by core c s) (option_map_or (with_next f) (option_map (due_table s (next_in core s x)) (due_in core s x)) 0) 0
+
+  whole-le : all_wait_by_counter core x ≡ true → (s : TableRef) → whole s ≤ itself s + sum_by (in_place s) (table_refs core)
+  whole-le near s = by (is_timed_by core c s) refl (due_in core s x)
+    where
+      by : (b : Bool) → is_timed_by core c s ≡ b → (o : Option Due)
+          → cond b (option_map_or (with_next f) (option_map (due_table s (next_in core s x)) o) 0) 0 ≤ cond (is_some o) (cond b (f s) 0) 0 + sum_by (in_place s) (table_refs core)
+      by false e o = omega arith
+      by true e None = omega arith
+      by true e (Some due) = ends due.ends (found-le (λ (u : TableRef). waits_by_counter core u (table_in u x)) (λ (u : TableRef). is_next_in s (table_in u x)) (is_timed_by core c) f (λ u. next-on core c s u e (table_in u x)) (table_refs core) near)
+        where
+          ends : (b : Bool) → option_map_or f (next_in core s x) 0 ≤ sum_by (in_place s) (table_refs core) → f s + option_map_or f (cond b (next_in core s x) None) 0 ≤ f s + sum_by (in_place s) (table_refs core)
+          ends true le = omega (arith, le)
+          ends false le = omega arith
+
+  -- a table that waits is not due, and waits for one table only
+  once : (u : TableRef) → itself u + sum_by (λ (s : TableRef). in_place s u) (table_refs core) ≤ amount u
+  once u = by (own_table core u) (table_in u x)
+    where
+      least : (b : Bool) → cond b (amount u) 0 ≤ amount u
+      least true = omega arith
+      least false = omega arith
+
+      by : (o : Option TablePlan) (table : Table) → cond (is_some (option_map_or (λ (t : TablePlan). due_next t table) o None)) (amount u) 0 + sum_by (λ (s : TableRef). cond (is_next_in s table) (amount u) 0) (table_refs core) ≤ amount u
+      by o Table.Stopped = omega (arith, least (is_some (option_map_or (λ (t : TablePlan). due_next t Table.Stopped) o None)), sum-none (table_refs core))
+      by o (Table.Running ahead) = omega (arith, least (is_some (option_map_or (λ (t : TablePlan). due_next t (Table.Running ahead)) o None)), sum-none (table_refs core))
+      by None (Table.NextOf t) = omega (arith, sum-once core t (amount u) 0 (length core.tables))
+      by (Some plan) (Table.NextOf t) = omega (arith, sum-once core t (amount u) 0 (length core.tables))
+
+  pub posted-in : all_wait_by_counter core x ≡ true → sum_by (with_next f) (due_tables_in core c x) ≤ sum_by f (timed_by core c)
+  posted-in near =
+      omega (
+        arith,
+        sum-made (λ (s : TableRef). option_map (due_table s (next_in core s x)) (due_in core s x)) (with_next f) (timed_by core c),
+        sum-kept (is_timed_by core c) (λ (s : TableRef). option_map_or (with_next f) (option_map (due_table s (next_in core s x)) (due_in core s x)) 0) (table_refs core),
+        sum_by-le-sum_by whole (λ (s : TableRef). itself s + sum_by (in_place s) (table_refs core)) (table_refs core) (whole-le near),
+        sum-both itself (λ (s : TableRef). sum_by (in_place s) (table_refs core)) (table_refs core),
+        sum-across in_place (table_refs core) (table_refs core),
+        sum-both itself (λ (u : TableRef). sum_by (λ (s : TableRef). in_place s u) (table_refs core)) (table_refs core),
+        sum_by-le-sum_by (λ (u : TableRef). itself u + sum_by (λ (s : TableRef). in_place s u) (table_refs core)) amount (table_refs core) once,
+        sum-kept (is_timed_by core c) f (table_refs core),
+      )
+
+-- the same, read off a history
+pub posted-by : (core : Core) (c : CounterRef) (h : History) (f : TableRef → ℕ) → are_clocks_within core ≡ true → all_wait_by_counter core (tables_of core h) ≡ true
+    → sum_by (with_next f) (due_tables_by core c h) ≤ sum_by f (timed_by core c)
+posted-by core c h f within near = subst (λ (due : List DueTable). sum_by (with_next f) due ≤ sum_by f (timed_by core c)) (dues-read core c h within) (posted-in core c (tables_of core h) f near)

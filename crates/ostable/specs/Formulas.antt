@@ -1,0 +1,40 @@
+-- What the standard says of a schedule table at a count of its counter: its point that is due, and whether a period ends.
+use Rattle.std.specs.Prelude.{◌≡◌, ◌↔◌, ◌≤◌, ℕ, ◌+◌, ◌*◌, Bool, false, Option, Some, IsTrue, option_and_then, slice_get}
+use Rattle.std.specs.Option.{option_map_or}
+use Rattle.osbase.specs.declared.references.TableRef.{TableRef}
+use Rattle.osbase.specs.Counting.{TableState, Running, same_table}
+use Rattle.osbase.specs.History.{Entry, Noted, TableStarted, TableQuit, TableNext}
+use Rattle.osplan.specs.declared.plans.ExpiryPoint.{ExpiryPoint}
+use Rattle.osplan.specs.declared.plans.Table.{Table as TablePlan}
+use Rattle.ostable.specs.declared.table.Due.{Due}
+use Rattle.ostable.specs.Ahead.{due_at}
+
+-- A table that was started to begin after so many counts, so many counts ago.
+abbrev pub running_for : ℕ → ℕ → TableState
+running_for wait counts = Running (record { wait = wait; counts = counts })
+
+-- The point that is due, by its number. [AUTOSAR SWS OS 4.x, section 7.3.3]
+abbrev pub due_point : TablePlan → TableState → Option ℕ
+due_point t state = option_and_then (λ (due : Due). due.point) (due_at t state)
+
+-- A period ends. [AUTOSAR SWS OS 4.x, section 7.3.3]
+abbrev pub is_end : TablePlan → TableState → Bool
+is_end t state = option_map_or (λ (due : Due). due.ends) (due_at t state) false
+
+-- What is due at each count of a table that was started so, for as long as it runs: one that does not repeat is stopped where its first
+-- period ends. [AUTOSAR SWS OS 4.x, section 7.3.3]
+pub record IsPeriodic (t : TablePlan) (wait counts : ℕ) : Type 0 where
+  -- a point of an offset from 1 to the duration, so many counts into each period;
+  pub points : (n : ℕ) (point : ExpiryPoint) → slice_get t.points n ≡ Some point → 1 ≤ point.offset
+      → (due_point t (running_for wait counts) ≡ Some n) ↔ ((p : ℕ) × (counts ≡ wait + p * t.duration + point.offset))
+  -- one of offset 0, where the first period begins: with a later period it is done where the one before ends;
+  pub first : (n : ℕ) (point : ExpiryPoint) → slice_get t.points n ≡ Some point → point.offset ≡ 0 → (due_point t (running_for wait counts) ≡ Some n) ↔ (counts ≡ wait)
+  -- and the end of a period, a duration after it began
+  pub ends : IsTrue (is_end t (running_for wait counts)) ↔ ((p : ℕ) × (counts ≡ wait + (p + 1) * t.duration))
+
+-- An entry that starts the table, stops it or lets it wait.
+abbrev pub concerns : TableRef → Entry → Bool
+concerns s (Noted (TableStarted t wait)) = same_table t s
+concerns s (Noted (TableQuit t)) = same_table t s
+concerns s (Noted (TableNext t u)) = same_table u s
+concerns s e = false

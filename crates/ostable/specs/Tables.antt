@@ -1,0 +1,136 @@
+-- The schedule tables of a core: what is read off its history, and what each entry does to them.
+use Rattle.std.specs.Prelude.{◌≡◌, ℕ, Bool, false, if◌then◌else◌, IsTrue, Option, None, List, [], ◌∷◌, filter, filter_map, find, length, map, option_map, slice_index_or}
+use Rattle.std.specs.List.{slice_set}
+use Rattle.std.specs.Option.{option_map_or}
+use Rattle.osbase.specs.declared.references.CounterRef.{CounterRef}
+use Rattle.osbase.specs.declared.references.TableRef.{TableRef}
+use Rattle.osbase.specs.History.{History, Entry, Noted, Counted, TableStarted, TableQuit, TableNext}
+use Rattle.osbase.specs.Counting.{TableState, Stopped, NextOf, counted_once, same_counter, same_table, started_after, table_state}
+use Rattle.osbase.specs.Objects.{counter_object, table_object}
+use Rattle.osbase.specs.Sets.{numbers_from}
+use Rattle.osplan.specs.declared.plans.Core.{Core}
+use Rattle.osplan.specs.declared.plans.Table.{Table as TablePlan}
+use Rattle.osplan.specs.Clocked.{are_clocks_within}
+use Rattle.osplan.specs.Objects.{is_own_object}
+use Rattle.osplan.specs.View.{own_table}
+use Rattle.osclock.specs.Clocks.{counter_ref}
+use Rattle.ostable.specs.declared.tables.DueTable.{DueTable}
+use Rattle.ostable.specs.declared.table.Due.{Due}
+use Rattle.ostable.specs.declared.table.Table.{Table}
+use Rattle.ostable.specs.declared.table.TableStatus.{TableStatus}
+use Rattle.ostable.specs.Ahead.{due_at, due_next, table_at, table_beyond}
+
+-- What comes next of each table, and the tables of each counter, in index order.
+pub record TableStates : Type 0 where
+  pub tables : List Table
+  pub timed : List (List TableRef)
+
+-- The core's tables in index order, and those of them that go by a counter. [AUTOSAR SWS OS 4.x, OsScheduleTableCounterRef]
+abbrev pub table_ref : Core → ℕ → TableRef
+table_ref core index = record { core = core.id; index = index }
+
+abbrev pub table_refs : Core → List TableRef
+table_refs core = map (table_ref core) (numbers_from 0 (length core.tables))
+
+abbrev pub is_timed_by : Core → CounterRef → TableRef → Bool
+is_timed_by core c s = option_map_or (λ (t : TablePlan). same_counter c t.counter) (own_table core s) false
+
+abbrev pub timed_by : Core → CounterRef → List TableRef
+timed_by core c = filter (is_timed_by core c) (table_refs core)
+
+-- ---- what is read off a history
+
+-- The state of a table; one that is not the core's own is stopped.
+abbrev pub state_by : Core → TableRef → History → TableState
+state_by core s h = option_map_or (λ (t : TablePlan). table_state t.counter s h) (own_table core s) Stopped
+
+abbrev pub table_by : Core → TableRef → History → Table
+table_by core s h = option_map_or (λ (t : TablePlan). table_at t (table_state t.counter s h)) (own_table core s) Table.Stopped
+
+abbrev pub tables_of : Core → History → TableStates
+tables_of core h = record {
+  tables = map (λ (n : ℕ). table_by core (table_ref core n) h) (numbers_from 0 (length core.tables));
+  timed = map (λ (n : ℕ). timed_by core (counter_ref core n)) (numbers_from 0 (length core.counters));
+}
+
+-- The table that waits for the end of a period of this one. [AUTOSAR SWS OS 4.x, SWS_Os_00284]
+abbrev pub waits_for : TableRef → TableState → Bool
+waits_for s (NextOf t) = same_table t s
+waits_for s state = false
+
+abbrev pub next_by : Core → TableRef → History → Option TableRef
+next_by core s h = find (λ (u : TableRef). waits_for s (state_by core u h)) (table_refs core)
+
+-- What a table does at the next count of its counter, and which table begins in its place where its period ends.
+abbrev pub due_by : Core → TableRef → History → Option Due
+due_by core s h = option_map_or (λ (t : TablePlan). due_at t (counted_once (table_state t.counter s h))) (own_table core s) None
+
+abbrev pub due_table : TableRef → Option TableRef → Due → DueTable
+due_table s next due = record { table = s; due = due; next = (if due.ends then next else None) }
+
+abbrev pub due_table_by : Core → History → TableRef → Option DueTable
+due_table_by core h s = option_map (due_table s (next_by core s h)) (due_by core s h)
+
+-- The tables of a counter that do something at its next count, in index order: those that run before it. [own]
+abbrev pub due_tables_by : Core → CounterRef → History → List DueTable
+due_tables_by core c h = filter_map (due_table_by core h) (timed_by core c)
+
+-- ---- what an entry does to the state
+
+abbrev pub table_in : TableRef → TableStates → Table
+table_in s x = slice_index_or x.tables s.index Table.Stopped
+
+-- A count of this counter takes each table of it one count on, and no other table.
+abbrev pub moved : Core → TableRef → Table → Table
+moved core s table = option_map_or (λ (t : TablePlan). table_beyond t table) (own_table core s) table
+
+abbrev pub moved_by : Core → CounterRef → ℕ → Table → Table
+moved_by core c index table = if is_timed_by core c (table_ref core index) then moved core (table_ref core index) table else table
+
+abbrev pub all_moved : Core → CounterRef → List Table → List Table
+all_moved core c tables = map (λ (n : ℕ). moved_by core c n (slice_index_or tables n Table.Stopped)) (numbers_from 0 (length core.tables))
+
+-- The same, table by table of the counter's own, as the code goes over them.
+abbrev pub each_moved : Core → List TableRef → List Table → List Table
+each_moved core [] tables = tables
+each_moved core (s ∷ others) tables = each_moved core others (slice_set tables s.index (moved core s (slice_index_or tables s.index Table.Stopped)))
+
+abbrev pub started : Core → TableRef → ℕ → Table
+started core s wait = option_map_or (λ (t : TablePlan). table_at t (started_after wait)) (own_table core s) Table.Stopped
+
+abbrev pub with_table : TableRef → Table → TableStates → TableStates
+with_table s table x = record x { tables = slice_set x.tables s.index table }
+
+-- What is not the core's own changes nothing.
+abbrev pub tables_by : Core → Entry → TableStates → TableStates
+tables_by core (Noted (Counted c)) x = if is_own_object core (counter_object c) then record x { tables = all_moved core c x.tables } else x
+tables_by core (Noted (TableStarted s wait)) x = if is_own_object core (table_object s) then with_table s (started core s wait) x else x
+tables_by core (Noted (TableQuit s)) x = if is_own_object core (table_object s) then with_table s Table.Stopped x else x
+tables_by core (Noted (TableNext s next)) x = if is_own_object core (table_object next) then with_table next (Table.NextOf s) x else x
+tables_by core e x = x
+
+-- ---- what is asked of the state
+
+abbrev pub status_in : Table → TableStatus
+status_in Table.Stopped = TableStatus.Stopped
+status_in (Table.NextOf s) = TableStatus.Next
+status_in (Table.Running ahead) = TableStatus.Running
+
+abbrev pub is_next_in : TableRef → Table → Bool
+is_next_in s (Table.NextOf t) = same_table t s
+is_next_in s table = false
+
+abbrev pub next_in : Core → TableRef → TableStates → Option TableRef
+next_in core s x = find (λ (u : TableRef). is_next_in s (table_in u x)) (table_refs core)
+
+abbrev pub due_in : Core → TableRef → TableStates → Option Due
+due_in core s x = option_map_or (λ (t : TablePlan). due_next t (table_in s x)) (own_table core s) None
+
+abbrev pub due_tables_in : Core → CounterRef → TableStates → List DueTable
+due_tables_in core c x = filter_map (λ (s : TableRef). option_map (due_table s (next_in core s x)) (due_in core s x)) (timed_by core c)
+
+-- The tables of a core within its limits, for what was counted. [own]
+pub record AreTables (core : Core) (x : TableStates) : Type 0 where
+  pub within : IsTrue (are_clocks_within core)
+  pub history : History
+  pub is : x ≡ tables_of core history

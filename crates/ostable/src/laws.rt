@@ -1,0 +1,38 @@
+//! What holds of each schedule table, and of all tables of a core.
+
+ghost use Rattle.std.specs.Prelude.{ℕ, ◌≡◌, ◌≤◌, ◌++◌, ◌∷◌, IsTrue, not, sum_by};
+ghost use Rattle.std.specs.List.{list_all};
+ghost use Rattle.osbase.specs.declared.references.CounterRef.{CounterRef};
+ghost use Rattle.osbase.specs.declared.references.TableRef.{TableRef};
+ghost use Rattle.osbase.specs.Counting.{counts_of, table_state};
+ghost use Rattle.osbase.specs.History.{History, Entry, Noted, TableStarted};
+ghost use Rattle.osplan.specs.declared.plans.Core.{Core};
+ghost use Rattle.osplan.specs.declared.plans.Table.{Table as TablePlan};
+ghost use Rattle.ostable.specs.Ahead.{IsTimed};
+ghost use Rattle.ostable.specs.Formulas.{IsPeriodic, concerns, running_for};
+ghost use Rattle.ostable.specs.Tables.{AreTables, TableStates, due_tables_in, timed_by};
+ghost use Rattle.ostable.specs.Waiting.{all_wait_by_counter, ends_alone, with_next};
+
+/// A table that was started, and since then neither stopped nor started again, runs for as many counts as its counter had
+/// since (AUTOSAR SWS OS 4.x, section 7.3).
+pub fn a_table_runs_with_its_counter()
+    ensures { (c : CounterRef) (s : TableRef) (wait : ℕ) (later h : History) → IsTrue (list_all (λ (e : Entry). not (concerns s e)) later) → table_state c s (later ++ Noted (TableStarted s wait) ∷ h) ≡ running_for wait (counts_of c later) }
+{}
+
+/// A point is due at its offset of each period, and a period ends a duration after it began (AUTOSAR SWS OS 4.x, section
+/// 7.3.3).
+pub fn points_are_due_at_their_offsets()
+    ensures { (t : TablePlan) (wait counts : ℕ) → IsTimed t → IsPeriodic t wait counts }
+{}
+
+/// At one count no table is done twice, where each waits for one of its own counter: neither one that is due, nor one that
+/// begins where another one's period ends. So whatever the tables add, those of the counter add it once.
+pub fn no_table_is_done_twice_at_a_count()
+    ensures { (core : Core) (c : CounterRef) (x : TableStates) (amount : TableRef → ℕ) → IsTrue (all_wait_by_counter core x) → sum_by (with_next amount) (due_tables_in core c x) ≤ sum_by amount (timed_by core c) }
+{}
+
+/// Where a period of a table ends that repeats, no point of it is due, so that at one count it does one of its points at most
+/// (AUTOSAR SWS OS 4.x, SWS_Os_00444).
+pub fn a_table_does_one_point_at_a_count()
+    ensures { (core : Core) (c : CounterRef) (x : TableStates) → AreTables core x → IsTrue (list_all (ends_alone core) (due_tables_in core c x)) }
+{}
