@@ -19,13 +19,13 @@ use Rattle.osplan.specs.declared.plans.TimedAction.{TimedAction}
 use Rattle.osplan.specs.Expressible.{op_of_action}
 use Rattle.osplan.specs.Objects.{action_object}
 use Rattle.osread.specs.Reading.{value_if}
-use Rattle.osdraft.specs.declared.shapes.AlarmText.{AlarmText}
-use Rattle.osdraft.specs.declared.declarations.Declaration.{Declaration}
-use Rattle.osdraft.specs.Action.{action_of, action_of_op, is_action_known, known_action}
-use Rattle.osdraft.specs.Check.{alarm_modes, is_mode_name}
-use Rattle.osdraft.specs.Declarations.{place_of}
+use Rattle.osshape.specs.declared.shapes.AlarmText.{AlarmText}
+use Rattle.osshape.specs.declared.declarations.Declaration.{Declaration}
+use Rattle.oscheck.specs.Action.{action_of, action_of_op, is_action_known, known_action}
+use Rattle.oscheck.specs.Check.{alarm_modes, is_mode_name}
+use Rattle.osshape.specs.Declarations.{place_of}
 use Rattle.osdraft.specs.Meaning.{known_alarm, start_plan}
-use Rattle.osdraft.specs.Operation.{is_operation_known}
+use Rattle.oscheck.specs.Operation.{is_operation_known}
 
 -- ---- operations that are actions
 

@@ -15,7 +15,7 @@ use Rattle.osplan.specs.declared.plans.TableStart.{TableStart}
 use Rattle.osplan.specs.Limits as limits
 use Rattle.osplan.specs.Limits.{is_between, is_within, same_number, has_number, are_numbers_distinct}
 use Rattle.osplan.specs.Objects.{action_object}
-use Rattle.osplan.proofs.Tests.{all-both, all-flat, any-find}
+use Rattle.osplan.proofs.Tests.{all-both, all-flat, any-find, any-mapped}
 use Rattle.oscript.specs.declared.Op.{Op}
 use Rattle.oscript.specs.declared.Op.TheVariants.{Work}
 use Rattle.osforms.specs.Action.{is_action}
@@ -24,23 +24,24 @@ use Rattle.osforms.proofs.Operations.{meant-passes}
 use Rattle.osplan.specs.declared.faults.ConfFault.{ConfFault}
 use Rattle.osplan.specs.declared.faults.ConfFault.TheVariants.{Limit, DuplicateName, UnknownName, WrongCore, BadMask, BadTable, BadScript}
 use Rattle.osread.specs.Faults.{failing}
-use Rattle.osdraft.specs.declared.shapes.AlarmStartText.{AlarmStartText}
-use Rattle.osdraft.specs.declared.shapes.AlarmText.{AlarmText}
-use Rattle.osdraft.specs.declared.shapes.ConfigText.{ConfigText}
-use Rattle.osdraft.specs.declared.shapes.CoreText.{CoreText}
-use Rattle.osdraft.specs.declared.shapes.TaskText.{TaskText}
-use Rattle.osdraft.specs.declared.table_shapes.PointText.{PointText}
-use Rattle.osdraft.specs.declared.table_shapes.TableStartText.{TableStartText}
-use Rattle.osdraft.specs.declared.table_shapes.TableText.{TableText}
-use Rattle.osdraft.specs.declared.declarations.Declaration.{Declaration}
-use Rattle.osdraft.specs.Action.{action_of, is_action_known}
-use Rattle.osdraft.specs.Check.{sizes_of, numbers_of, is_text_within, is_each_once, is_alarm_acting, is_alarm_known, is_point_acting, is_point_known, is_table_acting, is_table_known, is_core_known, is_core_script, is_mode_name, alarm_modes, table_modes, are_known, are_near, are_masks, are_operations, are_timed, tests_of}
-use Rattle.osdraft.specs.Declarations.{counter_ref, number_id, id_of, declarations, place_of}
-use Rattle.osdraft.specs.Operation.{operations_of, op_of}
+use Rattle.osshape.specs.declared.shapes.AlarmStartText.{AlarmStartText}
+use Rattle.osshape.specs.declared.shapes.AlarmText.{AlarmText}
+use Rattle.osshape.specs.declared.shapes.ConfigText.{ConfigText}
+use Rattle.osshape.specs.declared.shapes.CoreText.{CoreText}
+use Rattle.osshape.specs.declared.shapes.TaskText.{TaskText}
+use Rattle.osshape.specs.declared.table_shapes.PointText.{PointText}
+use Rattle.osshape.specs.declared.table_shapes.TableStartText.{TableStartText}
+use Rattle.osshape.specs.declared.table_shapes.TableText.{TableText}
+use Rattle.osshape.specs.declared.declarations.Declaration.{Declaration}
+use Rattle.oscheck.specs.Action.{action_of, is_action_known}
+use Rattle.oscheck.specs.Check.{sizes_of, numbers_of, is_text_within, is_each_once, is_alarm_acting, is_alarm_known, is_point_acting, is_point_known, is_table_acting, is_table_known, is_core_known, is_core_script, is_mode_name, alarm_modes, table_modes, are_known, are_near, are_masks, are_operations, are_timed, tests_of}
+use Rattle.osshape.specs.Declarations.{counter_ref, number_id, id_of, declarations, place_of}
+use Rattle.oscheck.specs.Operation.{operations_of, op_of}
 use Rattle.osdraft.specs.Meaning.{only_mode, task_plan, start_plan, alarm_plan, point_plan, table_start_plan, table_plan, core_plan, plan_of}
 use Rattle.osdraft.proofs.Alarms.{action-meant, action-passes}
 use Rattle.osdraft.proofs.Planned.{Tested, plan-numbers, plan-timed}
-use Rattle.osdraft.proofs.Numbers.{numbers-kept, bytes-equal, any-map, list_all-by, list_all-total, list_any-by}
+use Rattle.osshape.proofs.Lists.{list_all-by, list_all-total, list_any-by}
+use Rattle.osdraft.proofs.Numbers.{numbers-kept, bytes-equal}
 use Rattle.osdraft.proofs.Standing.{place-known}
 use Rattle.osdraft.proofs.Known.{near_kept}
 
@@ -122,7 +123,7 @@ master-found : (objects : List Declaration) (cores : List CoreText) (number : Op
     → is_some (find (λ (c : Core). same_core c.id (number_id number)) (map (core_plan objects) cores)) ≡ true
 master-found objects cores number h =
     sym (any-find (λ (c : Core). same_core c.id (number_id number)) (map (core_plan objects) cores))
-    ∙ list_any-by (λ (core : CoreText). same_number core.id number) _ (core_plan objects) (λ core same. bytes-equal core.id number same) cores (sym (any-map (λ id. same_number id number) (λ (core : CoreText). core.id) cores) ∙ h)
+    ∙ list_any-by (λ (core : CoreText). same_number core.id number) _ (core_plan objects) (λ core same. bytes-equal core.id number same) cores (sym (any-mapped (λ id. same_number id number) (λ (core : CoreText). core.id) cores) ∙ h)
 
 -- ---- the whole
 

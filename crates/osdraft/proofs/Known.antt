@@ -11,13 +11,13 @@ use Rattle.osforms.proofs.Known.{formed-known}
 use Rattle.osforms.proofs.Operations.{meant-known, meant_masks}
 use Rattle.osplan.specs.declared.plans.Task.{Task}
 use Rattle.osplan.specs.Limits as limits
-use Rattle.osdraft.specs.declared.shapes.CoreText.{CoreText}
-use Rattle.osdraft.specs.declared.shapes.TaskText.{TaskText}
-use Rattle.osdraft.specs.declared.declarations.Declaration.{Declaration}
+use Rattle.osshape.specs.declared.shapes.CoreText.{CoreText}
+use Rattle.osshape.specs.declared.shapes.TaskText.{TaskText}
+use Rattle.osshape.specs.declared.declarations.Declaration.{Declaration}
 use Rattle.osread.specs.Reading.{value_if, each}
-use Rattle.osdraft.specs.Declarations.{id_of, place_of}
-use Rattle.osdraft.specs.Operation.{known_op, op_of, operations_of}
-use Rattle.osdraft.specs.Check.{is_core_near, is_script_near}
+use Rattle.osshape.specs.Declarations.{id_of, place_of}
+use Rattle.oscheck.specs.Operation.{known_op, op_of, operations_of}
+use Rattle.oscheck.specs.Check.{is_core_near, is_script_near}
 use Rattle.osdraft.specs.Meaning.{alarm_plan, core_plan, table_plan, task_plan}
 
 -- ---- operations

@@ -15,13 +15,13 @@ use Rattle.osplan.specs.Expressible.{are_distinct}
 use Rattle.osplan.specs.Limits as limits
 use Rattle.osplan.specs.Limits.{CounterSizes, are_counters_within, is_counter_within}
 use Rattle.osplan.specs.View.{core_of, counter_in}
-use Rattle.osdraft.specs.declared.shapes.CoreText.{CoreText}
-use Rattle.osdraft.specs.declared.shapes.CounterText.{CounterText}
-use Rattle.osdraft.specs.declared.declarations.Declaration.{Declaration}
-use Rattle.osdraft.specs.Check.{counter_sizes, names_of}
-use Rattle.osdraft.specs.Declarations.{byte_of, id_of, task_declaration, resource_declaration, counter_declaration, alarm_declaration, table_declaration, declared_tasks, declared_resources, declared_counters, declared_alarms, declared_tables, declared_by, declarations, has_name, is_alone, place_of, counter_ref, counter_declared, declared_sizes}
+use Rattle.osshape.specs.declared.shapes.CoreText.{CoreText}
+use Rattle.osshape.specs.declared.shapes.CounterText.{CounterText}
+use Rattle.osshape.specs.declared.declarations.Declaration.{Declaration}
+use Rattle.oscheck.specs.Check.{counter_sizes}
+use Rattle.osshape.specs.Declarations.{byte_of, id_of, task_declaration, resource_declaration, counter_declaration, alarm_declaration, table_declaration, declared_tasks, declared_resources, declared_counters, declared_alarms, declared_tables, declared_by, declarations, has_name, is_alone, place_of, counter_ref, counter_declared, declared_sizes, names_of}
 use Rattle.osdraft.proofs.Numbers.{byte-small}
-use Rattle.osdraft.proofs.Alone.{alone}
+use Rattle.osshape.proofs.Alone.{alone}
 
 -- The text's core is one of the configuration, and has the same counters.
 pub record HasCounters (plan : Plan) (text : CoreText) : Type 0 where

@@ -1,22 +1,20 @@
 -- The plan of a text has the text's numbers, which are within their limits.
-use Rattle.std.proofs.Common.{inl, inr, ◌≡◌, ℕ, ◌-◌, ◌*◌, ◌||◌, ◌≤◌, Bool, true, false, cond, eqb, leb, nat_le, sum_by, List, [], ◌∷◌, length, map, unwrap_or, Option, Some, None, refl, sym, ap, ◌∙◌, arith}
-use Rattle.std.specs.List.{list_all, list_any}
+use Rattle.std.proofs.Common.{inl, inr, ◌≡◌, ℕ, ◌-◌, ◌≤◌, Bool, true, false, cond, eqb, leb, nat_le, sum_by, List, length, map, unwrap_or, Option, Some, None, refl, sym, ap, ◌∙◌, arith}
+use Rattle.std.specs.List.{list_all}
 use Rattle.std.specs.Option.{option_map_or}
-use Rattle.std.proofs.lemmas.Bool.{and_parts, and_from, le-leb, true≢false, eq-eqb, eqb-true, or_cases, or_left, or_right}
-use Rattle.std.proofs.lemmas.List.{length-map}
-use Rattle.std.proofs.lemmas.List.Folds.{fold-map, list_all-map}
-use Rattle.std.proofs.lemmas.List.Sums.{sum_by-cons}
+use Rattle.std.proofs.lemmas.Bool.{and_parts, le-leb, true≢false, eq-eqb, eqb-true, or_cases}
+use Rattle.std.proofs.lemmas.List.Folds.{list_all-map}
 use Rattle.osplan.specs.declared.plans.Core.{Core}
 use Rattle.osplan.specs.Limits as limits
-use Rattle.osplan.specs.Limits.{TaskSizes, CounterSizes, StartSizes, TableSizes, CoreSizes, Sizes, are_alarms_within, are_counters_within, are_tables_within, is_alarm_within, is_between, is_ceiling, is_counter_within, is_cycle, is_start, is_start_by, is_start_within, is_table_start, is_table_start_within, is_table_within, first_offset, is_task_numbered, is_task_within, is_core_within, is_within, jobs_of, most_activations, most_posted, number_of, same_number}
-use Rattle.osplan.proofs.Tests.{all-weaker}
+use Rattle.osplan.specs.Limits.{TaskSizes, CounterSizes, StartSizes, TableSizes, CoreSizes, Sizes, are_alarms_within, are_counters_within, are_tables_within, is_alarm_within, is_between, is_ceiling, is_counter_within, is_cycle, is_start, is_start_by, is_start_within, is_table_start, is_table_start_within, is_table_within, first_offset, is_task_within, is_core_within, is_within, jobs_of, most_activations, most_posted, number_of, same_number}
 use Rattle.osplan.proofs.Within.{between}
-use Rattle.osdraft.specs.declared.shapes.ConfigText.{ConfigText}
-use Rattle.osdraft.specs.declared.shapes.CoreText.{CoreText}
-use Rattle.osdraft.specs.declared.shapes.TaskText.{TaskText}
-use Rattle.osdraft.specs.declared.declarations.Declaration.{Declaration}
-use Rattle.osdraft.specs.Check.{task_sizes, core_sizes, sizes_of, numbers_of}
-use Rattle.osdraft.specs.Declarations.{byte_of, word_of, declarations}
+use Rattle.osshape.specs.declared.shapes.ConfigText.{ConfigText}
+use Rattle.osshape.specs.declared.shapes.CoreText.{CoreText}
+use Rattle.osshape.specs.declared.declarations.Declaration.{Declaration}
+use Rattle.osshape.specs.Declarations.{byte_of, word_of, declarations}
+use Rattle.osshape.proofs.Lists.{map-same}
+use Rattle.oscheck.specs.Check.{core_sizes, sizes_of, numbers_of}
+use Rattle.oscheck.proofs.Numbers.{most}
 use Rattle.osdraft.specs.Meaning.{core_plan, plan_of}
 
 -- ---- numbers within their limits are bytes
@@ -60,10 +58,6 @@ task-bytes s h =
     let few : most_activations s.extended ≤ 64 = few-activations s.extended in
     (is-byte _ _ s.priority numbers.0 (omega arith), is-byte _ _ s.activations numbers.1 (omega arith))
 
-pub most : (low high : ℕ) (number : Option ℕ) → is_between low high number ≡ true → unwrap_or number 0 ≤ high
-most low high None h = absurd (true≢false (sym h))
-most low high (Some n) h = (between low high n h).1
-
 pub counter-words : (s : CounterSizes) → is_counter_within s ≡ true → IsWord s.max × IsWord s.min
 counter-words s h =
     let parts = and_parts (is_between 1 1000000000 s.max) _ h in
@@ -106,58 +100,6 @@ core-bytes s h =
 
 pub cap-byte : (s : Sizes) → is_within s ≡ true → IsByte s.cap
 cap-byte s h = is-byte _ _ s.cap (and_parts _ (is_between _ _ s.cap) (and_parts _ _ (and_parts _ _ h).0).0).1 (omega arith)
-
--- ---- jobs within their limits are few
-
-most-activated : (extended : Bool) (number : Option ℕ) → is_between 1 (most_activations extended) number ≡ true → unwrap_or number 0 ≤ 64
-most-activated true number h = let one : unwrap_or number 0 ≤ 1 = most 1 1 number h in omega arith
-most-activated false number h = most 1 64 number h
-
-most-jobs : (s : TaskSizes) → is_task_numbered s ≡ true → jobs_of s ≤ 64
-most-jobs s h = most-activated s.extended s.activations (and_parts _ _ h).1
-
-pub few_jobs : (tasks : List TaskText) → list_all (λ (task : TaskText). is_task_numbered (task_sizes task)) tasks ≡ true → sum_by (λ (task : TaskText). jobs_of (task_sizes task)) tasks ≤ 64 * length tasks
-few_jobs [] h = omega arith
-few_jobs (task ∷ tasks) h =
-    let parts = and_parts (is_task_numbered (task_sizes task)) _ h in
-    let first = most-jobs (task_sizes task) parts.0 in
-    let sum = sum_by-cons (λ (task : TaskText). jobs_of (task_sizes task)) task tasks in
-    let rest = few_jobs tasks parts.1 in
-    omega arith
-
--- ---- lists of tests
-
--- what is asked of each element's numbers, and how many there are
-pub ruleset mapped = (list_all-map, length-map, fold-map)
-
-pub any-map : {X Y : Type 0} (p : Y → Bool) (f : X → Y) (xs : List X) → list_any p (map f xs) ≡ list_any (λ x. p (f x)) xs
-any-map p f [] = refl
-any-map p f (x ∷ xs) = ap (λ b. p (f x) || b) (any-map p f xs)
-
-pub list_all-by : {X Y : Type 0} (p : X → Bool) (q : Y → Bool) (f : X → Y) → ((x : X) → p x ≡ true → q (f x) ≡ true) → (xs : List X) → list_all p xs ≡ true → list_all q (map f xs) ≡ true
-list_all-by p q f each xs h = list_all-map q f xs ∙ all-weaker p (λ x. q (f x)) each xs h
-
-pub list_all-total : {X Y : Type 0} (q : Y → Bool) (f : X → Y) → ((x : X) → q (f x) ≡ true) → (xs : List X) → list_all q (map f xs) ≡ true
-list_all-total q f each [] = refl
-list_all-total q f each (x ∷ xs) = and_from _ _ (each x) (list_all-total q f each xs)
-
-pub list_any-by : {X Y : Type 0} (p : X → Bool) (q : Y → Bool) (f : X → Y) → ((x : X) → p x ≡ true → q (f x) ≡ true) → (xs : List X) → list_any p xs ≡ true → list_any q (map f xs) ≡ true
-list_any-by p q f each [] h = absurd (true≢false (sym h))
-list_any-by p q f each (x ∷ xs) h =
-    elim (or_cases (p x) (list_any p xs) h) as (λ _. list_any q (map f (x ∷ xs)) ≡ true) [
-      | inl here ↦ or_left _ _ (each x here)
-      | inr later ↦ or_right (q (f x)) _ (list_any-by p q f each xs later)
-    ]
-
--- ---- lists that are made there and back
-
-pub map-back : {X Y : Type 0} (f : Y → X) (g : X → Y) (p : X → Bool) → ((x : X) → p x ≡ true → f (g x) ≡ x) → (xs : List X) → list_all p xs ≡ true → map f (map g xs) ≡ xs
-map-back f g p back [] a = refl
-map-back f g p back (x ∷ xs) a = let parts = and_parts (p x) (list_all p xs) a in rw (back x parts.0, map-back f g p back xs parts.1) refl
-
-pub map-same : {X Y Z : Type 0} (f : Y → Z) (g : X → Y) (h : X → Z) (p : X → Bool) → ((x : X) → p x ≡ true → f (g x) ≡ h x) → (xs : List X) → list_all p xs ≡ true → map f (map g xs) ≡ map h xs
-map-same f g h p same [] a = refl
-map-same f g h p same (x ∷ xs) a = let parts = and_parts (p x) (list_all p xs) a in rw (same x parts.0, map-same f g h p same xs parts.1) refl
 
 -- ---- the cores of the plan have the text's numbers
 

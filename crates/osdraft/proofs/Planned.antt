@@ -15,26 +15,28 @@ use Rattle.osplan.specs.Limits as limits
 use Rattle.osplan.specs.Limits.{CounterSizes, PointSizes, TableSizes, are_ascending, are_numbers_distinct, first_offset, is_alarm_within, is_between, is_ceiling, is_counter_within, is_point_within, is_start, is_table_start, is_table_start_within, is_table_timed, is_table_within, is_task_within, is_timed_by, is_within, last_offset, number_of}
 use Rattle.osplan.specs.View.{counter_in}
 use Rattle.osplan.proofs.Tests.{all-both}
-use Rattle.osdraft.specs.declared.shapes.AlarmStartText.{AlarmStartText}
-use Rattle.osdraft.specs.declared.shapes.AlarmText.{AlarmText}
-use Rattle.osdraft.specs.declared.shapes.ConfigText.{ConfigText}
-use Rattle.osdraft.specs.declared.shapes.CoreText.{CoreText}
-use Rattle.osdraft.specs.declared.shapes.CounterText.{CounterText}
-use Rattle.osdraft.specs.declared.shapes.ResourceText.{ResourceText}
-use Rattle.osdraft.specs.declared.shapes.TaskText.{TaskText}
-use Rattle.osdraft.specs.declared.table_shapes.PointText.{PointText}
-use Rattle.osdraft.specs.declared.table_shapes.TableStartText.{TableStartText}
-use Rattle.osdraft.specs.declared.table_shapes.TableText.{TableText}
-use Rattle.osdraft.specs.declared.declarations.Declaration.{Declaration}
-use Rattle.osdraft.specs.Action.{action_of}
-use Rattle.osdraft.specs.Check.{task_sizes, counter_sizes, start_sizes, alarm_sizes, point_sizes, table_sizes, core_sizes, sizes_of, numbers_of, names_of, is_alarm_known, is_table_known, is_core_known, is_core_script, is_core_timed, is_mode_name, alarm_modes, table_modes, is_each_once, are_known, are_operations, are_timed}
-use Rattle.osdraft.specs.Declarations.{byte_of, number_id, id_of, word_of, declarations, place_of, counter_ref}
-use Rattle.osdraft.specs.Operation.{operations_of, op_of}
+use Rattle.osshape.specs.declared.shapes.AlarmStartText.{AlarmStartText}
+use Rattle.osshape.specs.declared.shapes.AlarmText.{AlarmText}
+use Rattle.osshape.specs.declared.shapes.ConfigText.{ConfigText}
+use Rattle.osshape.specs.declared.shapes.CoreText.{CoreText}
+use Rattle.osshape.specs.declared.shapes.CounterText.{CounterText}
+use Rattle.osshape.specs.declared.shapes.ResourceText.{ResourceText}
+use Rattle.osshape.specs.declared.shapes.TaskText.{TaskText}
+use Rattle.osshape.specs.declared.table_shapes.PointText.{PointText}
+use Rattle.osshape.specs.declared.table_shapes.TableStartText.{TableStartText}
+use Rattle.osshape.specs.declared.table_shapes.TableText.{TableText}
+use Rattle.osshape.specs.declared.declarations.Declaration.{Declaration}
+use Rattle.oscheck.specs.Action.{action_of}
+use Rattle.oscheck.specs.Check.{task_sizes, counter_sizes, start_sizes, alarm_sizes, point_sizes, table_sizes, core_sizes, sizes_of, numbers_of, is_alarm_known, is_table_known, is_core_known, is_core_script, is_core_timed, is_mode_name, alarm_modes, table_modes, is_each_once, are_known, are_operations, are_timed}
+use Rattle.osshape.specs.Declarations.{byte_of, number_id, id_of, word_of, declarations, place_of, counter_ref, names_of}
+use Rattle.oscheck.specs.Operation.{operations_of, op_of}
 use Rattle.osdraft.specs.Meaning.{task_plan, resource_plan, counter_plan, start_plan, alarm_plan, point_plan, table_start_plan, table_plan, core_plan, plan_of}
-use Rattle.osdraft.proofs.Numbers.{is-byte, is-word, is_inside, most, task-bytes, counter-words, start-words, table-start-word, core-bytes, cap-byte, cores-inside, list_all-by, map-back, map-same, numbers-kept}
+use Rattle.osshape.proofs.Lists.{list_all-by, map-back, map-same}
+use Rattle.oscheck.proofs.Numbers.{most}
+use Rattle.osdraft.proofs.Numbers.{is-byte, is-word, is_inside, task-bytes, counter-words, start-words, table-start-word, core-bytes, cap-byte, cores-inside, numbers-kept}
 use Rattle.osdraft.proofs.Standing.{IsFound, each-found}
 use Rattle.osdraft.proofs.Named.{HasCounters, NamedCounter, named-counter}
-use Rattle.osdraft.proofs.Points.{offsets-low}
+use Rattle.oscheck.proofs.Points.{offsets-low}
 use Rattle.osdraft.proofs.Sending.{posted-same}
 
 start-numbers : (plan : Plan) (objects : List Declaration) (id : CoreId) (name : List ℕ) (auto : Option AlarmStartText) → NamedCounter plan objects id name → is_alarm_within (option_map (start_sizes objects name) auto) ≡ true

@@ -24,26 +24,27 @@ use Rattle.osplan.specs.Expressible as said
 use Rattle.osplan.specs.Limits.{are_numbers_distinct}
 use Rattle.osbase.specs.Names.{is_name}
 use Rattle.osplan.specs.Expressible.{mode_name, is_only_mode}
-use Rattle.osdraft.specs.declared.shapes.AlarmStartText.{AlarmStartText}
-use Rattle.osdraft.specs.declared.shapes.AlarmText.{AlarmText}
-use Rattle.osdraft.specs.declared.shapes.ConfigText.{ConfigText}
-use Rattle.osdraft.specs.declared.shapes.CoreText.{CoreText}
-use Rattle.osdraft.specs.declared.shapes.CounterText.{CounterText}
-use Rattle.osdraft.specs.declared.shapes.ResourceText.{ResourceText}
-use Rattle.osdraft.specs.declared.shapes.TaskText.{TaskText}
+use Rattle.osshape.specs.declared.shapes.AlarmStartText.{AlarmStartText}
+use Rattle.osshape.specs.declared.shapes.AlarmText.{AlarmText}
+use Rattle.osshape.specs.declared.shapes.ConfigText.{ConfigText}
+use Rattle.osshape.specs.declared.shapes.CoreText.{CoreText}
+use Rattle.osshape.specs.declared.shapes.CounterText.{CounterText}
+use Rattle.osshape.specs.declared.shapes.ResourceText.{ResourceText}
+use Rattle.osshape.specs.declared.shapes.TaskText.{TaskText}
 use Rattle.osread.specs.Faults.{failing}
-use Rattle.osdraft.specs.declared.table_shapes.PointText.{PointText}
-use Rattle.osdraft.specs.declared.table_shapes.TableStartText.{TableStartText}
-use Rattle.osdraft.specs.declared.table_shapes.TableText.{TableText}
-use Rattle.osdraft.specs.declared.declarations.Declaration.{Declaration}
-use Rattle.osdraft.specs.Action.{action_of, is_action_masked}
-use Rattle.osdraft.specs.Check.{numbers_of, has_named_tasks, has_named_resources, has_named_counters, has_named_alarms, has_named_tables, has_named_objects, is_task_masked, is_alarm_masked, is_point_masked, is_table_masked, is_core_masked, is_task_script, is_alarm_acting, is_point_acting, is_table_acting, is_core_script, tests_of}
-use Rattle.osdraft.specs.Declarations.{id_of, task_declaration, resource_declaration, counter_declaration, alarm_declaration, table_declaration, declared_tasks, declared_resources, declared_counters, declared_alarms, declared_tables, declared_by, declarations, place_of}
-use Rattle.osdraft.specs.Operation.{is_operation, op_of, operations_of}
+use Rattle.osshape.specs.declared.table_shapes.PointText.{PointText}
+use Rattle.osshape.specs.declared.table_shapes.TableStartText.{TableStartText}
+use Rattle.osshape.specs.declared.table_shapes.TableText.{TableText}
+use Rattle.osshape.specs.declared.declarations.Declaration.{Declaration}
+use Rattle.oscheck.specs.Action.{action_of, is_action_masked}
+use Rattle.oscheck.specs.Check.{numbers_of, is_task_masked, is_alarm_masked, is_point_masked, is_table_masked, is_core_masked, is_task_script, is_alarm_acting, is_point_acting, is_table_acting, is_core_script, tests_of}
+use Rattle.osshape.specs.Declarations.{id_of, task_declaration, resource_declaration, counter_declaration, alarm_declaration, table_declaration, declared_tasks, declared_resources, declared_counters, declared_alarms, declared_tables, declared_by, declarations, place_of}
+use Rattle.oscheck.specs.Operation.{is_operation, op_of, operations_of}
 use Rattle.osdraft.specs.Meaning.{only_mode, task_plan, resource_plan, counter_plan, start_plan, alarm_plan, point_plan, table_start_plan, table_plan, core_plan, plan_of}
 use Rattle.osplan.proofs.Tests.{all-both, all-flat}
 use Rattle.osdraft.proofs.Alarms.{action-in-form, action-masks}
-use Rattle.osdraft.proofs.Numbers.{list_all-by, list_all-total}
+use Rattle.osshape.proofs.Lists.{list_all-by, list_all-total}
+use Rattle.osshape.specs.Shape.{has_named_tasks, has_named_resources, has_named_counters, has_named_alarms, has_named_tables, has_named_objects}
 use Rattle.osdraft.proofs.Bounds.{faultless}
 
 -- ---- the names of a text are those of its plan

@@ -19,19 +19,19 @@ use Rattle.osplan.specs.Expressible.{are_distinct}
 use Rattle.osplan.specs.Objects as plans
 use Rattle.osplan.specs.Objects.{greatest_of}
 use Rattle.osplan.proofs.Tests.{all-both}
-use Rattle.osdraft.specs.declared.declarations.Declaration.{Declaration}
-use Rattle.osdraft.specs.declared.shapes.AlarmText.{AlarmText}
-use Rattle.osdraft.specs.declared.shapes.CoreText.{CoreText}
-use Rattle.osdraft.specs.declared.table_shapes.PointText.{PointText}
-use Rattle.osdraft.specs.declared.table_shapes.TableText.{TableText}
-use Rattle.osdraft.specs.Action.{action_of, action_of_op, is_action_known}
-use Rattle.osdraft.specs.Check.{alarm_modes, is_alarm_acting, is_alarm_known, is_core_known, is_core_script, is_mode_name, is_point_acting, is_point_known, is_table_acting, is_table_known, is_task_known, is_task_script, names_of, table_modes}
-use Rattle.osdraft.specs.Declarations.{has_name, id_of, is_alone, place_alone, place_of}
+use Rattle.osshape.specs.declared.declarations.Declaration.{Declaration}
+use Rattle.osshape.specs.declared.shapes.AlarmText.{AlarmText}
+use Rattle.osshape.specs.declared.shapes.CoreText.{CoreText}
+use Rattle.osshape.specs.declared.table_shapes.PointText.{PointText}
+use Rattle.osshape.specs.declared.table_shapes.TableText.{TableText}
+use Rattle.oscheck.specs.Action.{action_of, action_of_op, is_action_known}
+use Rattle.oscheck.specs.Check.{alarm_modes, is_alarm_acting, is_alarm_known, is_core_known, is_core_script, is_mode_name, is_point_acting, is_point_known, is_table_acting, is_table_known, is_task_known, is_task_script, table_modes}
+use Rattle.osshape.specs.Declarations.{has_name, id_of, is_alone, place_alone, place_of, names_of}
 use Rattle.osdraft.specs.Meaning.{alarm_plan, core_plan, point_plan, table_plan}
-use Rattle.osdraft.specs.Posted.{greatest_posted, is_posting, posted_at, posted_at_once}
+use Rattle.oscheck.specs.Posted.{greatest_posted, is_posting, posted_at, posted_at_once}
 use Rattle.osdraft.proofs.Alarms.{action-meant, any_action}
-use Rattle.osdraft.proofs.Alone.{alone}
-use Rattle.osdraft.proofs.Numbers.{map-same}
+use Rattle.osshape.proofs.Alone.{alone}
+use Rattle.osshape.proofs.Lists.{map-same}
 
 -- ---- where no name stands twice, each name with an object is that object's alone
 

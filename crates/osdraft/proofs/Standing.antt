@@ -14,15 +14,15 @@ use Rattle.osbase.proofs.Same.{same_core-comm, same_core-refl}
 use Rattle.osplan.specs.declared.plans.Core.{Core}
 use Rattle.osplan.specs.Limits.{number_of, numbers_of, has_number, are_numbers_distinct, is_object}
 use Rattle.osplan.proofs.Tests.{find-passes}
-use Rattle.osdraft.specs.declared.shapes.AlarmText.{AlarmText}
-use Rattle.osdraft.specs.declared.shapes.ConfigText.{ConfigText}
-use Rattle.osdraft.specs.declared.shapes.CoreText.{CoreText}
-use Rattle.osdraft.specs.declared.shapes.CounterText.{CounterText}
-use Rattle.osdraft.specs.declared.shapes.ResourceText.{ResourceText}
-use Rattle.osdraft.specs.declared.shapes.TaskText.{TaskText}
-use Rattle.osdraft.specs.declared.table_shapes.TableText.{TableText}
-use Rattle.osdraft.specs.declared.declarations.Declaration.{Declaration}
-use Rattle.osdraft.specs.Declarations.{byte_of, task_declaration, resource_declaration, counter_declaration, alarm_declaration, table_declaration, declared_tasks, declared_resources, declared_counters, declared_alarms, declared_tables, declared_by, declarations, has_name, place_in, place_of}
+use Rattle.osshape.specs.declared.shapes.AlarmText.{AlarmText}
+use Rattle.osshape.specs.declared.shapes.ConfigText.{ConfigText}
+use Rattle.osshape.specs.declared.shapes.CoreText.{CoreText}
+use Rattle.osshape.specs.declared.shapes.CounterText.{CounterText}
+use Rattle.osshape.specs.declared.shapes.ResourceText.{ResourceText}
+use Rattle.osshape.specs.declared.shapes.TaskText.{TaskText}
+use Rattle.osshape.specs.declared.table_shapes.TableText.{TableText}
+use Rattle.osshape.specs.declared.declarations.Declaration.{Declaration}
+use Rattle.osshape.specs.Declarations.{byte_of, task_declaration, resource_declaration, counter_declaration, alarm_declaration, table_declaration, declared_tasks, declared_resources, declared_counters, declared_alarms, declared_tables, declared_by, declarations, has_name, place_in, place_of}
 use Rattle.osdraft.specs.Meaning.{core_plan, plan_of}
 use Rattle.osdraft.proofs.Numbers.{byte-at_most}
 

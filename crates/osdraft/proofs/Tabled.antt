@@ -7,10 +7,10 @@ use Rattle.osbase.specs.declared.objects.ObjectKind.{ObjectKind}
 use Rattle.osbase.specs.declared.objects.Place.{Place}
 use Rattle.osplan.specs.declared.plans.ExpiryPoint.{ExpiryPoint}
 use Rattle.osread.specs.Reading.{value_if}
-use Rattle.osdraft.specs.declared.declarations.Declaration.{Declaration}
-use Rattle.osdraft.specs.declared.table_shapes.TableText.{TableText}
-use Rattle.osdraft.specs.Check.{is_mode_name, is_point_acting, is_point_known, is_point_masked, table_modes}
-use Rattle.osdraft.specs.Declarations.{place_of, word_of}
+use Rattle.osshape.specs.declared.declarations.Declaration.{Declaration}
+use Rattle.osshape.specs.declared.table_shapes.TableText.{TableText}
+use Rattle.oscheck.specs.Check.{is_mode_name, is_point_acting, is_point_known, is_point_masked, table_modes}
+use Rattle.osshape.specs.Declarations.{place_of, word_of}
 use Rattle.osdraft.specs.Meaning.{known_table, point_plan, table_start_plan}
 use Rattle.osdraft.proofs.Alarms.{last-fails, made, not-made}
 

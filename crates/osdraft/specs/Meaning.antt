@@ -18,24 +18,24 @@ use Rattle.serde_json.specs.Data.{Data}
 use Rattle.serde_json.specs.Read.{read}
 use Rattle.osplan.specs.declared.faults.ConfFault.{ConfFault}
 use Rattle.osplan.specs.declared.faults.ConfFault.TheVariants.{NotJson, Shape}
-use Rattle.osdraft.specs.declared.shapes.AlarmStartText.{AlarmStartText}
-use Rattle.osdraft.specs.declared.shapes.AlarmText.{AlarmText}
-use Rattle.osdraft.specs.declared.shapes.ConfigText.{ConfigText}
-use Rattle.osdraft.specs.declared.shapes.CoreText.{CoreText}
-use Rattle.osdraft.specs.declared.shapes.CounterText.{CounterText}
-use Rattle.osdraft.specs.declared.shapes.ResourceText.{ResourceText}
-use Rattle.osdraft.specs.declared.shapes.TaskText.{TaskText}
-use Rattle.osdraft.specs.declared.table_shapes.PointText.{PointText}
-use Rattle.osdraft.specs.declared.table_shapes.TableStartText.{TableStartText}
-use Rattle.osdraft.specs.declared.table_shapes.TableText.{TableText}
+use Rattle.osshape.specs.declared.shapes.AlarmStartText.{AlarmStartText}
+use Rattle.osshape.specs.declared.shapes.AlarmText.{AlarmText}
+use Rattle.osshape.specs.declared.shapes.ConfigText.{ConfigText}
+use Rattle.osshape.specs.declared.shapes.CoreText.{CoreText}
+use Rattle.osshape.specs.declared.shapes.CounterText.{CounterText}
+use Rattle.osshape.specs.declared.shapes.ResourceText.{ResourceText}
+use Rattle.osshape.specs.declared.shapes.TaskText.{TaskText}
+use Rattle.osshape.specs.declared.table_shapes.PointText.{PointText}
+use Rattle.osshape.specs.declared.table_shapes.TableStartText.{TableStartText}
+use Rattle.osshape.specs.declared.table_shapes.TableText.{TableText}
 use Rattle.osplan.specs.Expressible.{mode_name}
 use Rattle.osread.specs.Faults.{IsLeast, failing, if_faultless}
-use Rattle.osdraft.specs.Shape.{config_shape}
-use Rattle.osdraft.specs.declared.declarations.Declaration.{Declaration}
-use Rattle.osdraft.specs.Action.{action_of}
-use Rattle.osdraft.specs.Declarations.{byte_of, counter_ref, declarations, number_id, id_of, word_of}
-use Rattle.osdraft.specs.Operation.{operations_of, op_of}
-use Rattle.osdraft.specs.Check.{is_task_readable, is_core_readable, is_alarm_known, is_point_known, is_table_known, is_point_masked, is_table_masked, is_point_acting, is_table_acting, is_task_masked, is_alarm_masked, is_core_masked, is_task_script, is_alarm_acting, is_core_script, tests_of}
+use Rattle.osshape.specs.Shape.{config_shape}
+use Rattle.osshape.specs.declared.declarations.Declaration.{Declaration}
+use Rattle.oscheck.specs.Action.{action_of}
+use Rattle.osshape.specs.Declarations.{byte_of, counter_ref, declarations, number_id, id_of, word_of}
+use Rattle.oscheck.specs.Operation.{operations_of, op_of}
+use Rattle.oscheck.specs.Check.{is_task_readable, is_core_readable, is_alarm_known, is_point_known, is_table_known, is_point_masked, is_table_masked, is_point_acting, is_table_acting, is_task_masked, is_alarm_masked, is_core_masked, is_task_script, is_alarm_acting, is_core_script, tests_of}
 use Rattle.osread.specs.Reading.{value_if}
 
 -- There is one mode, of number 0.

@@ -3,17 +3,16 @@
 ghost use Rattle.std.specs.Prelude.{◌≡◌, ◌≢◌, IfOk, IfErr, IsTrue, Some, []};
 ghost use Rattle.std.specs.List.{list_all};
 ghost use Rattle.serde_json.specs.View.{view};
-ghost use Rattle.osdraft.specs.Shape.{config_shape};
+ghost use Rattle.osshape.specs.Shape.{config_shape, has_named_objects};
 ghost use Rattle.osread.specs.Faults.{failing, first_fault, GivesOr};
-ghost use Rattle.osdraft.specs.Check.{has_named_objects, tests_of};
+ghost use Rattle.oscheck.specs.Check.{tests_of};
 ghost use Rattle.osdraft.specs.Meaning.{plan_of, config_of, IsLeastFault};
 
-use crate::checks::{are_objects_few, fault_of, is_each_once, is_numbered};
-use crate::places::Objects;
 use crate::plans::plan_of;
-use crate::shapes::{ConfigReader, ConfigText};
+use oscheck::{are_objects_few, fault_of, is_each_once, is_numbered};
 use osplan::{ConfFault, Config, Plan};
 use osread::{JsonReader, Refusal, value_of};
+use osshape::{ConfigReader, ConfigText, Objects};
 use serde_json::Value;
 use std::alloc::Global;
 
@@ -29,7 +28,7 @@ fn shape_of(alloc: Global, value: &Value) -> Result<ConfigText<'_>, ConfFault>
 }
 
 // Scripts are counted and judged while the plan is made, and again where it cannot be.
-#[tactic(auto, using(crate::proofs::Counting::within_split, crate::proofs::Counting::readable_split, crate::proofs::Few::too_many))]
+#[tactic(auto, using(oscheck::proofs::Counting::within_split, oscheck::proofs::Counting::readable_split, oscheck::proofs::Few::too_many))]
 fn plan_if_faultless(alloc: Global, text: &ConfigText) -> Result<Plan, ConfFault>
     requires named { IsTrue (list_all has_named_objects text.now.cores) }
     ensures ok { IfOk result (λ plan. (failing (tests_of text.now) ≡ []) × (plan ≡ plan_of text.now)) }

@@ -6,34 +6,39 @@ ghost use Rattle.osforms.specs.Operation.{has_masks};
 ghost use Rattle.osplan.specs.Expressible.{goes_within, is_jumping_within};
 ghost use Rattle.osplan.specs.Limits as limits;
 ghost use Rattle.osread.specs.Reading.{Gives, value_if};
-ghost use Rattle.osdraft.specs.Action.{action_of_op, known_action};
-ghost use Rattle.osdraft.specs.Declarations.{declarations, number_id};
-ghost use Rattle.osdraft.specs.Operation.{is_operation, known_op, op_of, operations_of};
-ghost use Rattle.osdraft.specs.Check.{are_operations_readable, is_task_readable, is_alarm_known, is_core_readable, is_core_near, is_task_masked, is_alarm_masked, is_core_masked, are_readable, are_near, are_masks, are_timed, is_script, is_task_script, is_alarm_acting, is_core_script, are_operations};
+ghost use Rattle.oscheck.specs.Action.{known_action};
+ghost use Rattle.osshape.specs.Declarations.{declarations, number_id};
+ghost use Rattle.oscheck.specs.Operation.{is_operation, known_op, op_of, operations_of};
+ghost use Rattle.oscheck.specs.Check.{are_operations_readable, is_task_readable, is_alarm_known, is_core_readable, is_core_near, is_task_masked, is_alarm_masked, is_core_masked, are_readable, are_near, are_masks, are_timed, is_script, is_task_script, is_alarm_acting, is_core_script, are_operations};
 ghost use Rattle.osdraft.specs.Meaning.{only_mode, task_plan, resource_plan, counter_plan, start_plan, alarm_plan, core_plan, known_task, known_alarm, known_core, plan_of};
 
-use crate::checks::{OPERATIONS, are_alarm_modes, are_mode_names, are_timed, has_core};
-use crate::declarations::{byte_of, number_id, word_of};
-use crate::places::{MODE, Objects};
-use crate::shapes::{
-    AlarmStartText, AlarmText, ConfigText, CoreText, CounterText, ResourceText, TaskText,
-};
 use crate::table_plans::tables_of;
 use osbase::{CoreId, CounterRef, List, ModeId, Name, ObjectKind};
+use oscheck::{OPERATIONS, action_of_op, are_alarm_modes, are_mode_names, are_timed, has_core};
 use oscript::{Op, Script};
 use osforms::{Places, op_meant};
 use osplan::{Alarm, AlarmStart, Core, CoreMode, Counter, Plan, Resource, Task, TimedAction};
 use osread::{PartReader, Reader, Refusal, Text, Whole, read_each, read_parts};
+use osshape::{
+    AlarmStartText, AlarmText, ConfigText, CoreText, CounterText, MODE, Objects, ResourceText,
+    TaskText, byte_of, number_id, word_of,
+};
 use std::alloc::{AllocError, Global};
 
 /// The only mode.
 const ONLY_MODE: ModeId = ModeId { index: 0 };
 
-impl PartReader<Op> for Objects<'_> {
-    ghost shape = { λ objects. known_op objects.declared };
+// Makes the plans of a text's operations, tasks, resources, counters and cores.
+#[derive(Clone, Copy)]
+struct Planner<'o, 'e> {
+    objects: &'o Objects<'e>,
+}
+
+impl PartReader<Op> for Planner<'_, '_> {
+    ghost shape = { λ planner. known_op planner.objects.now.declared };
 
     fn read(&self, part: &str) -> Option<Op> {
-        match op_meant(self, part) {
+        match op_meant(self.objects, part) {
             Some(op) => { if op.has_masks() { Some(op) } else { None } }
             None => None,
         }
@@ -43,7 +48,7 @@ impl PartReader<Op> for Objects<'_> {
 fn operations_of(alloc: Global, objects: &Objects, script: &str) -> Result<Script, Refusal>
     ensures { Gives (λ x. x) result (value_if (are_operations_readable objects.now.declared script.now && list_all has_masks (operations_of script.now) && list_all is_operation (operations_of script.now)) (map (op_of objects.now.declared) (operations_of script.now))) }
 {
-    read_parts(alloc, objects, script, ';', OPERATIONS)
+    read_parts(alloc, &Planner { objects }, script, ';', OPERATIONS)
 }
 
 // Whether the operation lets its job go on within a script of so many operations, or past the last.
@@ -80,9 +85,8 @@ pub fn modes_of(alloc: Global, names: &[Text]) -> Result<Vec<ModeId>, AllocError
     names.iter().map(|_| ONLY_MODE).collect(alloc)
 }
 
-// Makes the plan of a task.
-impl<'e> Reader<'e, TaskText<'e>, Task> for Objects<'e> {
-    ghost shape = { λ objects. known_task objects.declared };
+impl<'e> Reader<'e, TaskText<'e>, Task> for Planner<'_, 'e> {
+    ghost shape = { λ planner. known_task planner.objects.now.declared };
 
     ghost passes = { λ _ _. true };
 
@@ -97,7 +101,7 @@ impl<'e> Reader<'e, TaskText<'e>, Task> for Objects<'e> {
             activations: byte_of(task.activations),
             extended: task.extended,
             preemptable: task.preemptable,
-            script: script_of(alloc, self, task.script.as_str())?,
+            script: script_of(alloc, self.objects, task.script.as_str())?,
         })
     }
 }
@@ -109,11 +113,10 @@ fn tasks_of<'e>(
 ) -> Result<List<Task>, Refusal>
     ensures { Gives (λ x. x) result (value_if (list_all (is_task_readable objects.now.declared) tasks.now && list_all is_task_masked tasks.now && list_all (is_task_script objects.now.declared) tasks.now) (map (task_plan objects.now.declared) tasks.now)) }
 {
-    read_each(alloc, objects, tasks)
+    read_each(alloc, &Planner { objects }, tasks)
 }
 
-// Makes the plan of a resource.
-impl<'e> Reader<'e, ResourceText<'e>, Resource> for Objects<'e> {
+impl<'e> Reader<'e, ResourceText<'e>, Resource> for Planner<'_, 'e> {
     ghost shape = { λ _ resource. Some (resource_plan resource) };
 
     ghost passes = { λ _ _. true };
@@ -133,11 +136,10 @@ fn resources_of<'e>(
 ) -> Result<List<Resource>, Refusal>
     ensures { Gives (λ x. x) result (Some (map resource_plan resources.now)) }
 {
-    read_each(alloc, objects, resources)
+    read_each(alloc, &Planner { objects }, resources)
 }
 
-// Makes the plan of a counter.
-impl<'e> Reader<'e, CounterText<'e>, Counter> for Objects<'e> {
+impl<'e> Reader<'e, CounterText<'e>, Counter> for Planner<'_, 'e> {
     ghost shape = { λ _ counter. Some (counter_plan counter) };
 
     ghost passes = { λ _ _. true };
@@ -159,18 +161,7 @@ fn counters_of<'e>(
 ) -> Result<List<Counter>, Refusal>
     ensures { Gives (λ x. x) result (Some (map counter_plan counters.now)) }
 {
-    read_each(alloc, objects, counters)
-}
-
-/// The action that an operation is, if it is one.
-pub fn action_of_op(op: Op) -> Option<TimedAction>
-    ensures { result ≡ action_of_op op }
-{
-    match op {
-        Op::ActivateTask(Some(task)) => Some(TimedAction::ActivateTask(task)),
-        Op::SetEvent(Some(task), mask) => Some(TimedAction::SetEvent(task, mask)),
-        _ => None,
-    }
+    read_each(alloc, &Planner { objects }, counters)
 }
 
 /// The action that a text means; None where it is not in good form, or its name or its mask not what it has to be.
@@ -263,9 +254,8 @@ fn ids_of(alloc: Global, numbers: &[Whole]) -> Result<Vec<CoreId>, AllocError>
         .collect(alloc)
 }
 
-// Makes the plan of a core.
-impl<'e> Reader<'e, CoreText<'e>, Core> for Objects<'e> {
-    ghost shape = { λ objects. known_core objects.declared };
+impl<'e> Reader<'e, CoreText<'e>, Core> for Planner<'_, 'e> {
+    ghost shape = { λ planner. known_core planner.objects.now.declared };
 
     ghost passes = { λ _ _. true };
 
@@ -274,12 +264,22 @@ impl<'e> Reader<'e, CoreText<'e>, Core> for Objects<'e> {
             id: number_id(core.id),
             mode: CoreMode::Named(ONLY_MODE),
             start: List::from_vec(ids_of(alloc, core.start.as_slice())?),
-            tasks: tasks_of(alloc, self, core.tasks.as_slice())?,
-            resources: resources_of(alloc, self, core.resources.as_slice())?,
+            tasks: tasks_of(alloc, self.objects, core.tasks.as_slice())?,
+            resources: resources_of(alloc, self.objects, core.resources.as_slice())?,
             isrs: List::new(alloc),
-            counters: counters_of(alloc, self, core.counters.as_slice())?,
-            alarms: alarms_of(alloc, self, number_id(core.id), core.alarms.as_slice())?,
-            tables: tables_of(alloc, self, number_id(core.id), core.tables.as_slice())?,
+            counters: counters_of(alloc, self.objects, core.counters.as_slice())?,
+            alarms: alarms_of(
+                alloc,
+                self.objects,
+                number_id(core.id),
+                core.alarms.as_slice(),
+            )?,
+            tables: tables_of(
+                alloc,
+                self.objects,
+                number_id(core.id),
+                core.tables.as_slice(),
+            )?,
         })
     }
 }
@@ -291,7 +291,7 @@ fn cores_of<'e>(
 ) -> Result<List<Core>, Refusal>
     ensures { Gives (λ x. x) result (value_if (list_all (is_core_readable objects.now.declared) cores.now && list_all is_core_masked cores.now && list_all (is_core_script objects.now.declared) cores.now) (map (core_plan objects.now.declared) cores.now)) }
 {
-    read_each(alloc, objects, cores)
+    read_each(alloc, &Planner { objects }, cores)
 }
 
 fn are_near(cores: &[Core]) -> bool

@@ -4,19 +4,17 @@ ghost use Rattle.std.specs.Prelude.{◌≡◌, ◌&&◌, IfOk, map, option_map, 
 ghost use Rattle.std.specs.List.{list_all};
 ghost use Rattle.osforms.specs.Action.{is_action};
 ghost use Rattle.osread.specs.Reading.{Gives, value_if};
-ghost use Rattle.osdraft.specs.Check.{is_point_acting, is_point_known, is_point_masked, is_table_acting, is_table_known, is_table_masked};
+ghost use Rattle.oscheck.specs.Check.{is_point_acting, is_point_known, is_point_masked, is_table_acting, is_table_known, is_table_masked};
 ghost use Rattle.osdraft.specs.Meaning.{known_point, known_table, point_plan, table_plan, table_start_plan};
-ghost use Rattle.osdraft.specs.Action.{action_of, is_action_known, is_action_masked, known_action};
+ghost use Rattle.oscheck.specs.Action.{action_of, is_action_known, is_action_masked, known_action};
 
-use crate::declarations::word_of;
-use crate::places::Objects;
 use crate::plans::{action_meant, modes_of};
-use crate::table_checks::are_table_modes;
-use crate::table_shapes::{PointText, TableStartText, TableText};
 use osbase::{CoreId, CounterRef, List, Name, ObjectKind};
+use oscheck::are_table_modes;
 use osforms::Places;
 use osplan::{ExpiryPoint, Table, TableStart, TimedAction};
 use osread::{Reader, Refusal, Text, read_each};
+use osshape::{Objects, PointText, TableStartText, TableText, word_of};
 use std::alloc::{AllocError, Global};
 
 // Makes the plans of the tables of a core.

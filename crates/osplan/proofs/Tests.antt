@@ -1,11 +1,12 @@
 -- Tests over lists.
-use Rattle.std.proofs.Common.{◌≡◌, ℕ, zero, suc, ◌<◌, ◌≤◌, Bool, true, false, not, ◌&&◌, ◌||◌, nat_eq, cond, List, [], ◌∷◌, ◌++◌, flat_map, length, filter, map, Option, Some, None, is_some, refl, sym, ap, ◌∙◌, subst, arith}
+use Rattle.std.proofs.Common.{◌≡◌, ℕ, zero, suc, ◌<◌, ◌≤◌, Bool, true, false, not, ◌&&◌, ◌||◌, nat_eq, nat_lt, cond, List, [], ◌∷◌, ◌++◌, flat_map, length, filter, map, Option, Some, None, is_some, refl, sym, ap, ◌∙◌, subst, arith}
 use Rattle.std.specs.List.{list_all, list_any, find, slice_get}
 use Rattle.std.specs.Option.{option_copied}
 use Rattle.std.specs.Borrow.{Bor}
-use Rattle.std.proofs.lemmas.Bool.{and_parts, and_from, eqb-true, not-true, not_from_false, or_left, or_parts, or_right}
+use Rattle.std.proofs.lemmas.Bool.{and_parts, and_from, eqb-true, lt-ltb, not-true, not_from_false, or_left, or_parts, or_right}
 use Rattle.std.proofs.lemmas.List.{nil_from_length}
-use Rattle.std.proofs.lemmas.List.Folds.{list_any-append}
+use Rattle.std.proofs.lemmas.Option.{slice_get_within}
+use Rattle.std.proofs.lemmas.List.Folds.{list_all-append, list_any-append}
 
 pub all-weaker : {X : Type 0} (p q : X → Bool) → ((x : X) → p x ≡ true → q x ≡ true) → (xs : List X) → list_all p xs ≡ true → list_all q xs ≡ true
 all-weaker p q imply [] a = refl
@@ -104,6 +105,15 @@ length-filter-le {X} p (x ∷ xs) = by (p x) (length-filter-le p xs)
     by true rest = omega arith
     by false rest = omega arith
 
+-- What all pass, those pass that a test keeps.
+pub all-filter : {X : Type 0} (p q : X → Bool) (xs : List X) → list_all p xs ≡ true → list_all p (filter q xs) ≡ true
+all-filter p q [] a = refl
+all-filter {X} p q (x ∷ xs) a = let parts = and_parts (p x) (list_all p xs) a in by (q x) parts.0 (all-filter p q xs parts.1)
+  where
+    by : (b : Bool) → p x ≡ true → list_all p (filter q xs) ≡ true → list_all p (cond b (x ∷ filter q xs) (filter q xs)) ≡ true
+    by true first rest = and_from _ _ first rest
+    by false first rest = rest
+
 -- A list of length 0 is empty.
 pub none-from : {X : Type 0} (xs : List X) → nat_eq (length xs) 0 ≡ true → xs ≡ []
 none-from xs e = nil_from_length xs (eqb-true (length xs) 0 e)
@@ -115,6 +125,13 @@ all-append p (x ∷ xs) ys a b = let parts = and_parts (p x) (list_all p xs) a i
 pub all-flat : {X Y : Type 0} (p : Y → Bool) (f : X → List Y) (xs : List X) → list_all (λ x. list_all p (f x)) xs ≡ true → list_all p (flat_map f xs) ≡ true
 all-flat p f [] a = refl
 all-flat p f (x ∷ xs) a = let parts = and_parts (list_all p (f x)) (list_all (λ y. list_all p (f y)) xs) a in all-append p (f x) (flat_map f xs) parts.0 (all-flat p f xs parts.1)
+
+-- and back: what all parts pass together, the parts of each pass
+pub each-flat : {X Y : Type 0} (p : Y → Bool) (f : X → List Y) (xs : List X) → list_all p (flat_map f xs) ≡ true → list_all (λ x. list_all p (f x)) xs ≡ true
+each-flat p f [] a = refl
+each-flat p f (x ∷ xs) a =
+    let parts = and_parts (list_all p (f x)) (list_all p (flat_map f xs)) (sym (list_all-append p (f x) (flat_map f xs)) ∙ a) in
+    and_from _ _ parts.0 (each-flat p f xs parts.1)
 
 pub any-flat : {X Y : Type 0} (p : Y → Bool) (f : X → List Y) (xs : List X) → list_any p (flat_map f xs) ≡ list_any (λ x. list_any p (f x)) xs
 any-flat p f [] = refl
@@ -133,3 +150,8 @@ pub some-at : {X : Type 0} (xs : List X) (i : ℕ) → i < length xs → is_some
 some-at [] i inside = absurd (omega (arith, inside))
 some-at (x ∷ xs) zero inside = refl
 some-at (x ∷ xs) (suc i) inside = some-at xs i (omega (arith, inside))
+
+-- What is found at a place, if a test holds, is at a place of the list.
+pub found-inside : {X : Type 0} (b : Bool) (xs : List X) (i : ℕ) (x : X) → cond b (slice_get xs i) None ≡ Some x → (b && nat_lt i (length xs)) ≡ true
+found-inside true xs i x e = lt-ltb i (length xs) (slice_get_within xs i x e)
+found-inside false xs i x e = cc

@@ -31,23 +31,23 @@ use Rattle.serde_json.specs.Data.{Data}
 use Rattle.serde_json.specs.Read.{read}
 use Rattle.osread.specs.Faults.{if_faultless}
 use Rattle.osdraft.specs.Meaning.{config_of, config_of_shape, plan_of}
-use Rattle.osdraft.specs.Shape.{config_shape}
+use Rattle.osshape.specs.Shape.{config_shape}
 use Rattle.osread.specs.Faults.{failing}
-use Rattle.osdraft.specs.declared.declarations.Declaration.{Declaration}
-use Rattle.osdraft.specs.declared.shapes.AlarmStartText.{AlarmStartText}
-use Rattle.osdraft.specs.declared.shapes.ResourceText.{ResourceText}
-use Rattle.osdraft.specs.declared.table_shapes.TableStartText.{TableStartText}
-use Rattle.osdraft.specs.declared.table_shapes.TableText.{TableText}
-use Rattle.osdraft.specs.Action.{is_action_known, is_action_masked}
-use Rattle.osdraft.specs.Declarations.{counter_declared, declared_sizes, declarations, place_of}
-use Rattle.osdraft.specs.Posted as Posted
-use Rattle.osdraft.specs.Operation.{operations_of, is_operation_known, is_operation}
-use Rattle.osdraft.specs.Check.{task_sizes, counter_sizes, start_sizes, alarm_sizes, point_sizes, table_sizes, core_sizes, sizes_of, numbers_of, is_text_within, is_each_once, is_mode_name, is_task_known, is_alarm_known, is_point_known, is_table_known, is_core_known, are_known, are_near, is_task_masked, is_alarm_masked, is_point_masked, is_table_masked, is_core_masked, is_core_timed, are_timed, are_masks, is_task_script, is_alarm_acting, is_point_acting, is_table_acting, is_core_script, are_operations, tests_of}
+use Rattle.osshape.specs.declared.declarations.Declaration.{Declaration}
+use Rattle.osshape.specs.declared.shapes.AlarmStartText.{AlarmStartText}
+use Rattle.osshape.specs.declared.shapes.ResourceText.{ResourceText}
+use Rattle.osshape.specs.declared.table_shapes.TableStartText.{TableStartText}
+use Rattle.osshape.specs.declared.table_shapes.TableText.{TableText}
+use Rattle.oscheck.specs.Action.{is_action_known, is_action_masked}
+use Rattle.osshape.specs.Declarations.{counter_declared, declared_sizes, declarations, place_of}
+use Rattle.oscheck.specs.Posted as Posted
+use Rattle.oscheck.specs.Operation.{operations_of, is_operation_known, is_operation}
+use Rattle.oscheck.specs.Check.{task_sizes, counter_sizes, start_sizes, alarm_sizes, point_sizes, table_sizes, core_sizes, sizes_of, numbers_of, is_text_within, is_each_once, is_mode_name, is_task_known, is_alarm_known, is_point_known, is_table_known, is_core_known, are_known, are_near, is_task_masked, is_alarm_masked, is_point_masked, is_table_masked, is_core_masked, is_core_timed, are_timed, are_masks, is_task_script, is_alarm_acting, is_point_acting, is_table_acting, is_core_script, are_operations, tests_of}
 use Rattle.osplan.specs.Names.{name_of_mode}
 use Rattle.oswrite.specs.Writing.{config_data, op_text, script_text}
-use Rattle.osplan.proofs.Tests.{any-find}
+use Rattle.osplan.proofs.Tests.{any-find, any-mapped}
 use Rattle.osplan.proofs.Within.{LimitParts, TextParts, limit-parts, text-parts}
-use Rattle.osdraft.proofs.Numbers.{any-map, list_all-by, map-same}
+use Rattle.osshape.proofs.Lists.{list_all-by, map-same}
 use Rattle.osdraft.proofs.Known.{near_kept}
 use Rattle.osdraft.proofs.Sending.{posted-same}
 use Rattle.oswrite.proofs.Said.{task_said, resource_said, counter_said, start_said, counter_name, action_said, alarm_said, point_said, table_start_said, table_said, core_said, config_said}
@@ -127,7 +127,7 @@ module _ (plan : Plan) (inside : IsTrue (limits.is_within_limits plan)) (sayable
 
   known : are_known (config_said plan) ≡ true
   known =
-      and_from _ _ (ap (λ numbers. has_number numbers (number_of plan.master)) (numbers-kept plan.cores) ∙ any-map (λ id. same_number id (number_of plan.master)) (λ (c : Core). number_of c.id) plan.cores ∙ (any-find (λ (c : Core). same_core c.id plan.master) plan.cores ∙ bounds.master))
+      and_from _ _ (ap (λ numbers. has_number numbers (number_of plan.master)) (numbers-kept plan.cores) ∙ any-mapped (λ id. same_number id (number_of plan.master)) (λ (c : Core). number_of c.id) plan.cores ∙ (any-find (λ (c : Core). same_core c.id plan.master) plan.cores ∙ bounds.master))
       (list_all-by (is_kept_core plan) (is_core_known objects) (core_said plan) core-known plan.cores cores)
 
   -- ---- scripts that stay on their cores: what the text means is the configuration

@@ -21,7 +21,7 @@ use Rattle.osplan.specs.Expressible.{is_script_expressible, is_task_expressible,
 use Rattle.osplan.proofs.Tests.{find-passes, passes-at}
 use Rattle.osplan.proofs.Within.{CoreTextParts, FitsKernel, core-fits, core-text-parts, text-parts}
 use Rattle.osplan.specs.Names.{name_in, name_of}
-use Rattle.osdraft.specs.Declarations.{declared_by}
+use Rattle.osshape.specs.Declarations.{declared_by}
 use Rattle.oswrite.proofs.Said.{core_said}
 use Rattle.oswrite.proofs.Placed.{Stands, declared_at, task-stands, resource-stands, counter-stands, alarm-stands, table-stands}
 

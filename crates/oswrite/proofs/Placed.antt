@@ -17,11 +17,11 @@ use Rattle.osplan.specs.declared.plans.Resource.{Resource}
 use Rattle.osplan.specs.declared.plans.Table.{Table}
 use Rattle.osplan.specs.declared.plans.Task.{Task}
 use Rattle.osplan.specs.Expressible.{are_distinct, object_names}
-use Rattle.osplan.proofs.Tests.{find-holds}
-use Rattle.osdraft.specs.declared.shapes.CoreText.{CoreText}
-use Rattle.osdraft.specs.declared.declarations.Declaration.{Declaration}
-use Rattle.osdraft.specs.Declarations.{byte_of, id_of, task_declaration, resource_declaration, counter_declaration, alarm_declaration, table_declaration, declared_tasks, declared_resources, declared_counters, declared_alarms, declared_tables, declared_by, declarations, has_name, place_in, place_of}
-use Rattle.osdraft.proofs.Numbers.{any-map, byte-small}
+use Rattle.osplan.proofs.Tests.{any-mapped, find-holds}
+use Rattle.osshape.specs.declared.shapes.CoreText.{CoreText}
+use Rattle.osshape.specs.declared.declarations.Declaration.{Declaration}
+use Rattle.osshape.specs.Declarations.{byte_of, id_of, task_declaration, resource_declaration, counter_declaration, alarm_declaration, table_declaration, declared_tasks, declared_resources, declared_counters, declared_alarms, declared_tables, declared_by, declarations, has_name, place_in, place_of}
+use Rattle.osdraft.proofs.Numbers.{byte-small}
 use Rattle.oswrite.proofs.Said.{task_said, resource_said, counter_said, alarm_said, table_said, core_said}
 
 abbrev pub names : List Declaration → List (List ℕ)
@@ -48,7 +48,7 @@ stands-found (x ∷ xs) d distinct (inr later) =
     elim (cases_Bool (has_name d.name x)) as (λ _. find (has_name d.name) (x ∷ xs) ≡ Some d) [
       | inl same ↦
           let is : x.name ≡ d.name = (bytes_eq-Decides x.name d.name).0 same in
-          let again : list_any (λ later. bytes_eq later x.name) (names xs) ≡ true = any-map (λ later. bytes_eq later x.name) (λ (d : Declaration). d.name) xs ∙ ap (λ n. list_any (has_name n) xs) is ∙ stands-any xs d later in
+          let again : list_any (λ later. bytes_eq later x.name) (names xs) ≡ true = any-mapped (λ later. bytes_eq later x.name) (λ (d : Declaration). d.name) xs ∙ ap (λ n. list_any (has_name n) xs) is ∙ stands-any xs d later in
           absurd (true≢false (sym again ∙ not-true _ parts.0))
       | inr other ↦ rw other rest
     ]

@@ -28,7 +28,7 @@ use Rattle.osplan.specs.Expressible.{mode_name, are_mode_name, is_only_mode, is_
 use Rattle.osread.specs.Reading.{each}
 use Rattle.osread.specs.Json.{elements, whole_of, name_of, or_null}
 use Rattle.serde_json.specs.Find.{as_str}
-use Rattle.osdraft.specs.Shape.{task_shape, resource_shape, counter_shape, alarm_start_shape, alarm_shape, point_shape, table_start_shape, table_shape, core_shape, config_shape}
+use Rattle.osshape.specs.Shape.{task_shape, resource_shape, counter_shape, alarm_start_shape, alarm_shape, point_shape, table_start_shape, table_shape, core_shape, config_shape}
 use Rattle.osplan.specs.Names.{name_of_mode}
 use Rattle.osplan.proofs.Tests.{all-both}
 use Rattle.osplan.proofs.Within.{limit-parts, text-parts, core-text-parts}

@@ -3,7 +3,7 @@ use Rattle.std.proofs.Common.{◌≡◌, ℕ, ◌<◌, ◌≤◌, Bool, true, �
 use Rattle.std.specs.List.{list_all, flat_map, AllByRecursion}
 use Rattle.std.specs.Option.{option_map_or}
 use Rattle.std.proofs.lemmas.Bool.{and_parts, and_from, leb-true, ltb-true, true≢false, eqb-true}
-use Rattle.std.proofs.lemmas.List.Folds.{list_all-append, list_all-map}
+use Rattle.std.proofs.lemmas.List.Folds.{list_all-map}
 use Rattle.std.proofs.lemmas.Simd.{map-map}
 use Rattle.osbase.specs.Objects.{counter_object, counter_place}
 use Rattle.osbase.specs.declared.objects.ObjectKind.{ObjectKind}
@@ -36,22 +36,23 @@ use Rattle.osplan.specs.Limits.{CounterSizes, PointSizes, TableSizes, task_sizes
 use Rattle.osplan.specs.Objects.{action_object, alarm_modes, table_actions, table_modes}
 use Rattle.osplan.specs.View.{core_of, counter_in}
 use Rattle.osplan.specs.Expressible as said
-use Rattle.osplan.proofs.Tests.{all-both, all-weaker, find-holds}
+use Rattle.osplan.proofs.Tests.{all-both, all-weaker, each-flat, find-holds}
 use Rattle.osplan.proofs.Distinct.{distinct-back}
 use Rattle.osplan.proofs.Starting.{master-low}
 use Rattle.osplan.proofs.Within.{TextParts, CoreTextParts, between, limit-parts, text-parts, core-text-parts}
-use Rattle.osdraft.specs.declared.declarations.Declaration.{Declaration}
-use Rattle.osdraft.specs.Action.{action_of, action_of_op}
-use Rattle.osdraft.specs.Check.{counter_sizes, names_of}
-use Rattle.osdraft.specs.Declarations.{byte_of, counter_ref, number_id, word_of, declarations, place_of}
-use Rattle.osdraft.specs.Operation.{operations_of, op_of}
+use Rattle.osshape.specs.declared.declarations.Declaration.{Declaration}
+use Rattle.oscheck.specs.Action.{action_of, action_of_op}
+use Rattle.oscheck.specs.Check.{counter_sizes}
+use Rattle.osshape.specs.Declarations.{byte_of, counter_ref, number_id, word_of, declarations, place_of, names_of}
+use Rattle.oscheck.specs.Operation.{operations_of, op_of}
 use Rattle.osdraft.specs.Meaning.{only_mode, task_plan, resource_plan, counter_plan, start_plan, alarm_plan, point_plan, table_start_plan, table_plan, core_plan, plan_of}
 use Rattle.osplan.specs.Names.{name_of, name_of_mode}
 use Rattle.oswrite.specs.Writing.{op_text, script_text}
-use Rattle.osdraft.proofs.Numbers.{IsByte, byte-small, is-byte, is-word, task-bytes, counter-words, start-words, table-start-word, core-bytes, cap-byte, map-back}
+use Rattle.osshape.proofs.Lists.{map-back}
+use Rattle.osdraft.proofs.Numbers.{IsByte, byte-small, is-byte, is-word, task-bytes, counter-words, start-words, table-start-word, core-bytes, cap-byte}
 use Rattle.osdraft.proofs.Alarms.{any_action, op-action}
 use Rattle.osdraft.proofs.Named.{HasCounters, NamedCounter, named-counter}
-use Rattle.osdraft.proofs.Points.{offsets-low}
+use Rattle.oscheck.proofs.Points.{offsets-low}
 use Rattle.osdraft.proofs.Standing.{IsFound, each-found}
 use Rattle.oswrite.proofs.Joining.{parts-pieces}
 use Rattle.oswrite.proofs.Formed.{found}
@@ -146,13 +147,6 @@ kept-alarm plan alarm h =
       operation = and_from _ _ (and_from _ _ (action-op-known plan alarm.action known.1) forms.0) forms.1;
       auto = parts.1;
     }
-
--- what each action of all points passes, each action of each point passes
-each-flat : {X Y : Type 0} (p : Y → Bool) (f : X → List Y) (xs : List X) → list_all p (flat_map f xs) ≡ true → list_all (λ x. list_all p (f x)) xs ≡ true
-each-flat p f [] h = refl
-each-flat p f (x ∷ xs) h =
-    let parts = and_parts (list_all p (f x)) (list_all p (flat_map f xs)) (sym (list_all-append p (f x) (flat_map f xs)) ∙ h) in
-    and_from _ _ parts.0 (each-flat p f xs parts.1)
 
 kept-action : (plan : Plan) (action : TimedAction) → (limits.is_action_known plan action && said.is_action_expressible action) ≡ true → is_kept_op plan (said.op_of_action action) ≡ true
 kept-action plan action h =

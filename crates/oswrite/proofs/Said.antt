@@ -17,16 +17,16 @@ use Rattle.osplan.specs.declared.plans.Task.{Task}
 use Rattle.osplan.specs.Expressible.{op_of_action}
 use Rattle.osplan.specs.Limits.{ceiling_of, number_of}
 use Rattle.osplan.specs.Names.{name_of, name_of_mode}
-use Rattle.osdraft.specs.declared.shapes.AlarmStartText.{AlarmStartText}
-use Rattle.osdraft.specs.declared.shapes.AlarmText.{AlarmText}
-use Rattle.osdraft.specs.declared.shapes.ConfigText.{ConfigText}
-use Rattle.osdraft.specs.declared.shapes.CoreText.{CoreText}
-use Rattle.osdraft.specs.declared.shapes.CounterText.{CounterText}
-use Rattle.osdraft.specs.declared.shapes.ResourceText.{ResourceText}
-use Rattle.osdraft.specs.declared.shapes.TaskText.{TaskText}
-use Rattle.osdraft.specs.declared.table_shapes.PointText.{PointText}
-use Rattle.osdraft.specs.declared.table_shapes.TableStartText.{TableStartText}
-use Rattle.osdraft.specs.declared.table_shapes.TableText.{TableText}
+use Rattle.osshape.specs.declared.shapes.AlarmStartText.{AlarmStartText}
+use Rattle.osshape.specs.declared.shapes.AlarmText.{AlarmText}
+use Rattle.osshape.specs.declared.shapes.ConfigText.{ConfigText}
+use Rattle.osshape.specs.declared.shapes.CoreText.{CoreText}
+use Rattle.osshape.specs.declared.shapes.CounterText.{CounterText}
+use Rattle.osshape.specs.declared.shapes.ResourceText.{ResourceText}
+use Rattle.osshape.specs.declared.shapes.TaskText.{TaskText}
+use Rattle.osshape.specs.declared.table_shapes.PointText.{PointText}
+use Rattle.osshape.specs.declared.table_shapes.TableStartText.{TableStartText}
+use Rattle.osshape.specs.declared.table_shapes.TableText.{TableText}
 use Rattle.oswrite.specs.Writing.{op_text, script_text}
 
 abbrev pub task_said : Plan → Task → TaskText

@@ -1,6 +1,6 @@
 use Rattle.std.proofs.Common.{◌≡◌, true, rules}
-use Rattle.osdraft.specs.Check.{is_each_once, is_text_numbered}
-use Rattle.osdraft.proofs.Counting.{faultless_of}
+use Rattle.oscheck.specs.Check.{is_each_once, is_text_numbered}
+use Rattle.osdraft.proofs.Faultless.{faultless_of}
 use Rattle.osdraft.proofs.configs.plan_if_faultless.Goals as goal
 
 pub returns-in-Ok-clause-ok : goal.returns-in-Ok-clause-ok

@@ -4,10 +4,10 @@ use Rattle.std.specs.Option.{option_map_or}
 use Rattle.osplan.specs.declared.faults.ConfFault.{ConfFault}
 use Rattle.osplan.specs.declared.faults.ConfFault.TheVariants.{NotJson, Shape}
 use Rattle.osread.specs.Faults.{failing}
-use Rattle.osdraft.specs.Check.{tests_of}
+use Rattle.oscheck.specs.Check.{tests_of}
 use Rattle.osread.specs.Faults.{IsLeast}
 use Rattle.osdraft.specs.Meaning.{faults_of, faults_of_data}
-use Rattle.osdraft.proofs.Least.{least-tests_of}
+use Rattle.oscheck.proofs.Least.{least-tests_of}
 use Rattle.osdraft.proofs.Bounds.{bounds-of}
 use Rattle.osdraft.proofs.Sayings.{expressible-of}
 use Rattle.osdraft.proofs.configs.read_config.Goals as goal

@@ -1,4 +1,4 @@
-use Rattle.osdraft.specs.Check.{is_alarm_known, is_alarm_masked, is_alarm_acting}
+use Rattle.oscheck.specs.Check.{is_alarm_known, is_alarm_masked, is_alarm_acting}
 use Rattle.osdraft.specs.Meaning.{alarm_plan}
 use Rattle.osdraft.proofs.Known.{each_if}
 use Rattle.osdraft.proofs.plans.alarms_of.Goals as goal

@@ -1,4 +1,4 @@
-use Rattle.osdraft.specs.Check.{is_core_readable, is_core_masked, is_core_script}
+use Rattle.oscheck.specs.Check.{is_core_readable, is_core_masked, is_core_script}
 use Rattle.osdraft.specs.Meaning.{core_plan}
 use Rattle.osdraft.proofs.Known.{each_if}
 use Rattle.osdraft.proofs.plans.cores_of.Goals as goal

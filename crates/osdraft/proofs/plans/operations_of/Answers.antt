@@ -1,6 +1,6 @@
 use Rattle.std.proofs.Common.{nat_le, length}
 use Rattle.osforms.specs.Operation.{has_masks}
-use Rattle.osdraft.specs.Operation.{operations_of, is_operation_known, is_operation, op_of}
+use Rattle.oscheck.specs.Operation.{operations_of, is_operation_known, is_operation, op_of}
 use Rattle.osdraft.proofs.Known.{each_if, few_if}
 use Rattle.osdraft.proofs.plans.operations_of.Goals as goal
 

@@ -1,4 +1,4 @@
-use Rattle.osdraft.specs.Check.{is_task_readable, is_task_masked, is_task_script}
+use Rattle.oscheck.specs.Check.{is_task_readable, is_task_masked, is_task_script}
 use Rattle.osdraft.specs.Meaning.{task_plan}
 use Rattle.osdraft.proofs.Known.{each_if}
 use Rattle.osdraft.proofs.plans.tasks_of.Goals as goal

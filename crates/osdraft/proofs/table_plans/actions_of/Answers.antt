@@ -1,5 +1,5 @@
 use Rattle.osforms.specs.Action.{is_action}
-use Rattle.osdraft.specs.Action.{action_of, is_action_known, is_action_masked}
+use Rattle.oscheck.specs.Action.{action_of, is_action_known, is_action_masked}
 use Rattle.osdraft.proofs.Known.{each_if}
 use Rattle.osdraft.proofs.table_plans.actions_of.Goals as goal
 

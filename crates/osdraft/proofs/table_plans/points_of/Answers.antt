@@ -1,4 +1,4 @@
-use Rattle.osdraft.specs.Check.{is_point_acting, is_point_known, is_point_masked}
+use Rattle.oscheck.specs.Check.{is_point_acting, is_point_known, is_point_masked}
 use Rattle.osdraft.specs.Meaning.{point_plan}
 use Rattle.osdraft.proofs.Known.{each_if}
 use Rattle.osdraft.proofs.table_plans.points_of.Goals as goal

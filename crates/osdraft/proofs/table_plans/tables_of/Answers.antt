@@ -1,4 +1,4 @@
-use Rattle.osdraft.specs.Check.{is_table_acting, is_table_known, is_table_masked}
+use Rattle.oscheck.specs.Check.{is_table_acting, is_table_known, is_table_masked}
 use Rattle.osdraft.specs.Meaning.{table_plan}
 use Rattle.osdraft.proofs.Known.{each_if}
 use Rattle.osdraft.proofs.table_plans.tables_of.Goals as goal

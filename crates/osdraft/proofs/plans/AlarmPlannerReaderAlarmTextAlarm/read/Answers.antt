@@ -2,9 +2,9 @@ use Rattle.std.proofs.Common.{◌≡◌, true, Some, option_map, rules, sym, ap,
 use Rattle.std.specs.List.{list_all}
 use Rattle.osbase.specs.Objects.{counter_of}
 use Rattle.osbase.specs.declared.objects.ObjectKind.{ObjectKind}
-use Rattle.osdraft.specs.Action.{known_action}
-use Rattle.osdraft.specs.Check.{alarm_modes, is_mode_name}
-use Rattle.osdraft.specs.Declarations.{place_of}
+use Rattle.oscheck.specs.Action.{known_action}
+use Rattle.oscheck.specs.Check.{alarm_modes, is_mode_name}
+use Rattle.osshape.specs.Declarations.{place_of}
 use Rattle.osdraft.specs.Meaning.{start_plan}
 use Rattle.osdraft.proofs.Alarms.{alarm_made}
 use Rattle.osdraft.proofs.plans.AlarmPlannerReaderAlarmTextAlarm.read.Goals as goal

@@ -1,0 +1,6 @@
+pub mod Numbers
+pub mod Counting
+pub mod Few
+pub mod Posting
+pub mod Points
+pub mod Least

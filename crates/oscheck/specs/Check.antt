@@ -1,0 +1,240 @@
+-- The tests of a configuration's text, a row for each fault past its shape that a text can have so far. Each is defined apart from
+-- the others, over the text as it stands. [own]
+use Rattle.std.specs.Prelude.{ℕ, ◌&&◌, nat_le, Bool, Option, None, is_some, option_map, List, [], ◌∷◌, length, map}
+use Rattle.std.specs.List.{list_all}
+use Rattle.std.specs.Option.{option_map_or}
+use Rattle.std.specs.Str.{bytes_eq}
+use Rattle.osbase.specs.declared.references.CoreId.{CoreId}
+use Rattle.osbase.specs.declared.objects.ObjectKind.TheVariants.{Counter}
+use Rattle.osbase.specs.History.{same_core}
+use Rattle.osforms.specs.Action.{is_action}
+use Rattle.osforms.specs.Operation.{has_masks}
+use Rattle.osplan.specs.Expressible.{are_distinct, is_jumping_within, mode_name}
+use Rattle.osplan.specs.Limits.{TaskSizes, CounterSizes, StartSizes, PointSizes, TableSizes, CoreSizes, Sizes, is_between, is_by, is_task_numbered, is_task_short, is_within, is_table_timed, has_number, are_numbers_distinct, stays_on}
+use Rattle.osplan.specs.declared.faults.ConfFault.TheVariants.{Limit, DuplicateName, UnknownName, WrongCore, BadMask, BadTable, BadScript}
+use Rattle.osshape.specs.declared.shapes.AlarmStartText.{AlarmStartText}
+use Rattle.osshape.specs.declared.shapes.AlarmText.{AlarmText}
+use Rattle.osshape.specs.declared.shapes.ConfigText.{ConfigText}
+use Rattle.osshape.specs.declared.shapes.CoreText.{CoreText}
+use Rattle.osshape.specs.declared.shapes.CounterText.{CounterText}
+use Rattle.osshape.specs.declared.shapes.ResourceText.{ResourceText}
+use Rattle.osshape.specs.declared.shapes.TaskText.{TaskText}
+use Rattle.osshape.specs.declared.table_shapes.PointText.{PointText}
+use Rattle.osshape.specs.declared.table_shapes.TableStartText.{TableStartText}
+use Rattle.osshape.specs.declared.table_shapes.TableText.{TableText}
+use Rattle.osread.specs.Faults.{Tests}
+use Rattle.osshape.specs.declared.declarations.Declaration.{Declaration}
+use Rattle.oscheck.specs.Action.{is_action_known, is_action_masked}
+use Rattle.osshape.specs.Declarations.{counter_declared, counter_ref, declarations, declared_sizes, id_of, names_of, place_of}
+use Rattle.oscheck.specs.Posted.{posted_at_once}
+use Rattle.oscheck.specs.Operation.{operations_of, op_of, is_operation_known, is_operation}
+
+-- ---- limits: those of a configuration, over the text's numbers
+
+abbrev pub task_sizes : TaskText → TaskSizes
+task_sizes task = record { priority = task.prio; activations = task.activations; extended = task.extended; operations = length (operations_of task.script) }
+
+abbrev pub counter_sizes : CounterText → CounterSizes
+counter_sizes counter = record { max = counter.max; min = counter.min }
+
+-- How an alarm by the counter of this name is set by itself.
+abbrev pub start_sizes : List Declaration → List ℕ → AlarmStartText → StartSizes
+start_sizes objects counter auto = record { start = auto.start; cycle = auto.cycle; counter = option_map declared_sizes (counter_declared objects counter) }
+
+abbrev pub alarm_sizes : List Declaration → AlarmText → Option StartSizes
+alarm_sizes objects alarm = option_map (start_sizes objects alarm.counter) alarm.auto
+
+abbrev pub point_sizes : PointText → PointSizes
+point_sizes point = record { offset = point.offset; actions = length point.actions }
+
+abbrev pub table_sizes : List Declaration → TableText → TableSizes
+table_sizes objects table = record {
+  duration = table.duration;
+  repeating = table.repeating;
+  points = map point_sizes table.points;
+  auto = option_map (λ (auto : TableStartText). auto.offset) table.auto;
+  counter = option_map declared_sizes (counter_declared objects table.counter);
+}
+
+-- The same, whichever its counter is.
+abbrev pub table_times : TableText → TableSizes
+table_times table = record (table_sizes [] table) { counter = None }
+
+abbrev pub core_sizes : List Declaration → CoreText → CoreSizes
+core_sizes objects core = record {
+  number = core.id;
+  start = core.start;
+  tasks = map task_sizes core.tasks;
+  resources = map (λ (resource : ResourceText). resource.ceiling) core.resources;
+  counters = map counter_sizes core.counters;
+  alarms = map (alarm_sizes objects) core.alarms;
+  tables = map (table_sizes objects) core.tables;
+  posted = posted_at_once objects core;
+}
+
+-- Without its counters, its alarms and its tables.
+abbrev pub bare_sizes : CoreText → CoreSizes
+bare_sizes core = record (core_sizes [] core) { counters = []; alarms = []; tables = []; posted = 0 }
+
+-- There is one mode.
+abbrev pub sizes_of : ConfigText → Sizes
+sizes_of t = record { modes = 1; cap = t.cap; cores = map (core_sizes (declarations t.cores)) t.cores }
+
+-- Of version 1, which a text alone has, and within the limits.
+abbrev pub is_text_within : ConfigText → Bool
+is_text_within t = is_between 1 1 t.version && is_within (sizes_of t)
+
+-- The script has no more operations than it may have; the other limits are those of numbers, and need no look at scripts.
+abbrev pub is_script_short : TaskText → Bool
+is_script_short task = is_task_short (task_sizes task)
+
+abbrev pub is_core_short : CoreText → Bool
+is_core_short core = list_all is_script_short core.tasks
+
+abbrev pub are_scripts_short : ConfigText → Bool
+are_scripts_short t = list_all is_core_short t.cores
+
+abbrev pub is_text_numbered : ConfigText → Bool
+is_text_numbered t = is_between 1 1 t.version && is_by is_task_numbered (sizes_of t)
+
+-- ---- names and numbers that stand twice
+
+-- The numbers of these cores.
+abbrev pub numbers_of : List CoreText → List (Option ℕ)
+numbers_of cores = map (λ (core : CoreText). core.id) cores
+
+-- Every core number stands once, and every name.
+abbrev pub is_each_once : ConfigText → Bool
+is_each_once t = are_numbers_distinct (numbers_of t.cores) && are_distinct (names_of (declarations t.cores))
+
+-- ---- names and numbers that name nothing
+
+abbrev pub are_operations_known : List Declaration → List ℕ → Bool
+are_operations_known objects script = list_all (is_operation_known objects) (operations_of script)
+
+abbrev pub is_mode_name : List ℕ → Bool
+is_mode_name name = bytes_eq name mode_name
+
+abbrev pub is_task_known : List Declaration → TaskText → Bool
+is_task_known objects task = list_all is_mode_name task.auto && are_operations_known objects task.script
+
+abbrev pub alarm_modes : AlarmText → List (List ℕ)
+alarm_modes alarm = option_map_or (λ (auto : AlarmStartText). auto.modes) alarm.auto []
+
+abbrev pub is_alarm_known : List Declaration → AlarmText → Bool
+is_alarm_known objects alarm = is_some (place_of objects Counter alarm.counter) && is_action_known objects alarm.action && list_all is_mode_name (alarm_modes alarm)
+
+abbrev pub is_point_known : List Declaration → PointText → Bool
+is_point_known objects point = list_all (is_action_known objects) point.actions
+
+abbrev pub table_modes : TableText → List (List ℕ)
+table_modes table = option_map_or (λ (auto : TableStartText). auto.modes) table.auto []
+
+abbrev pub is_table_known : List Declaration → TableText → Bool
+is_table_known objects table = is_some (place_of objects Counter table.counter) && list_all (is_point_known objects) table.points && list_all is_mode_name (table_modes table)
+
+abbrev pub is_core_known : List Declaration → CoreText → Bool
+is_core_known objects core = list_all (is_task_known objects) core.tasks && list_all (is_alarm_known objects) core.alarms && list_all (is_table_known objects) core.tables
+
+-- The master is a configured core, and each name in an autostart, an operation, an alarm or a table has its object.
+abbrev pub are_known : ConfigText → Bool
+are_known t = has_number (numbers_of t.cores) t.master && list_all (is_core_known (declarations t.cores)) t.cores
+
+-- A script whose operations are few and whose names are known can be read into a plan.
+abbrev pub are_operations_readable : List Declaration → List ℕ → Bool
+are_operations_readable objects script = nat_le (length (operations_of script)) 256 && are_operations_known objects script
+
+abbrev pub is_task_readable : List Declaration → TaskText → Bool
+is_task_readable objects task = list_all is_mode_name task.auto && are_operations_readable objects task.script
+
+abbrev pub is_core_readable : List Declaration → CoreText → Bool
+is_core_readable objects core = list_all (is_task_readable objects) core.tasks && list_all (is_alarm_known objects) core.alarms && list_all (is_table_known objects) core.tables
+
+abbrev pub are_readable : ConfigText → Bool
+are_readable t = has_number (numbers_of t.cores) t.master && list_all (is_core_readable (declarations t.cores)) t.cores
+
+-- ---- names of other cores' objects
+
+-- The operation that the text means names no object of another core than this one, where it may name the core's own alone.
+abbrev pub is_operation_near : List Declaration → CoreId → List ℕ → Bool
+is_operation_near objects id text = stays_on id (op_of objects text)
+
+abbrev pub is_script_near : List Declaration → CoreId → List ℕ → Bool
+is_script_near objects id script = list_all (is_operation_near objects id) (operations_of script)
+
+-- The alarm's counter, if there is one, stands on this core.
+abbrev pub is_alarm_near : List Declaration → CoreId → AlarmText → Bool
+is_alarm_near objects id alarm = same_core (counter_ref objects id alarm.counter).core id
+
+-- And the table's.
+abbrev pub is_table_near : List Declaration → CoreId → TableText → Bool
+is_table_near objects id table = same_core (counter_ref objects id table.counter).core id
+
+abbrev pub is_core_near : List Declaration → CoreText → Bool
+is_core_near objects core = list_all (λ (task : TaskText). is_script_near objects (id_of core) task.script) core.tasks && list_all (is_alarm_near objects (id_of core)) core.alarms && list_all (is_table_near objects (id_of core)) core.tables
+
+-- So it is with each operation of each core's scripts, and with each alarm and each table.
+abbrev pub are_near : ConfigText → Bool
+are_near t = list_all (is_core_near (declarations t.cores)) t.cores
+
+-- ---- masks
+
+abbrev pub is_task_masked : TaskText → Bool
+is_task_masked task = list_all has_masks (operations_of task.script)
+
+abbrev pub is_alarm_masked : AlarmText → Bool
+is_alarm_masked alarm = is_action_masked alarm.action
+
+abbrev pub is_point_masked : PointText → Bool
+is_point_masked point = list_all is_action_masked point.actions
+
+abbrev pub is_table_masked : TableText → Bool
+is_table_masked table = list_all is_point_masked table.points
+
+abbrev pub is_core_masked : CoreText → Bool
+is_core_masked core = list_all is_task_masked core.tasks && list_all is_alarm_masked core.alarms && list_all is_table_masked core.tables
+
+-- Each mask in an operation or an action in good form is in its range.
+abbrev pub are_masks : ConfigText → Bool
+are_masks t = list_all is_core_masked t.cores
+
+-- ---- tables
+
+abbrev pub is_core_timed : List Declaration → CoreText → Bool
+is_core_timed objects core = list_all (λ (table : TableText). is_table_timed (table_sizes objects table)) core.tables
+
+-- The points of each table come in order, with delays that its counter admits.
+abbrev pub are_timed : ConfigText → Bool
+are_timed t = list_all (is_core_timed (declarations t.cores)) t.cores
+
+-- ---- scripts
+
+-- Each operation of the script is in good form, and lets the job go on within the script.
+abbrev pub is_script : List Declaration → List ℕ → Bool
+is_script objects script = list_all is_operation (operations_of script) && is_jumping_within (map (op_of objects) (operations_of script))
+
+abbrev pub is_task_script : List Declaration → TaskText → Bool
+is_task_script objects task = is_script objects task.script
+
+-- The alarm's action is in good form.
+abbrev pub is_alarm_acting : AlarmText → Bool
+is_alarm_acting alarm = is_action alarm.action
+
+-- And each action of the point.
+abbrev pub is_point_acting : PointText → Bool
+is_point_acting point = list_all is_action point.actions
+
+abbrev pub is_table_acting : TableText → Bool
+is_table_acting table = list_all is_point_acting table.points
+
+abbrev pub is_core_script : List Declaration → CoreText → Bool
+is_core_script objects core = list_all (is_task_script objects) core.tasks && list_all is_alarm_acting core.alarms && list_all is_table_acting core.tables
+
+-- So it is with each script, each alarm and each table.
+abbrev pub are_operations : ConfigText → Bool
+are_operations t = list_all (is_core_script (declarations t.cores)) t.cores
+
+-- ---- the table, in ascending order of faults
+
+abbrev pub tests_of : ConfigText → Tests
+tests_of t = (Limit, is_text_within t) ∷ (DuplicateName, is_each_once t) ∷ (UnknownName, are_known t) ∷ (WrongCore, are_near t) ∷ (BadMask, are_masks t) ∷ (BadTable, are_timed t) ∷ (BadScript, are_operations t) ∷ []

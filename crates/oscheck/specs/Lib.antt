@@ -1,0 +1,5 @@
+pub mod Operation
+pub mod Action
+pub mod Few
+pub mod Posted
+pub mod Check

@@ -1,0 +1,29 @@
+-- The operations of a script, and what the names in them stand for. [own]
+use Rattle.std.specs.Prelude.{ℕ, ◌&&◌, Bool, Option, unwrap_or, List}
+use Rattle.oscript.specs.declared.Op.{Op}
+use Rattle.oscript.specs.declared.Op.TheVariants.{Work}
+use Rattle.osforms.specs.Operation.{op_meant, has_masks, is_formed, is_known}
+use Rattle.osread.specs.Reading.{value_if, parts_of}
+use Rattle.osshape.specs.declared.declarations.Declaration.{Declaration}
+use Rattle.osshape.specs.Declarations.{place_of}
+
+-- A script's operations are divided by `;`.
+abbrev pub operations_of : List ℕ → List (List ℕ)
+operations_of script = parts_of 59 script
+
+-- ---- operations
+
+-- Each name of an operation in good form is that of an object of its kind.
+abbrev pub is_operation_known : List Declaration → List ℕ → Bool
+is_operation_known objects text = is_known (place_of objects) text
+
+abbrev pub is_operation : List ℕ → Bool
+is_operation text = is_formed text
+
+-- The operation that a text means. One that is not in good form, or whose names have no objects, stands for none that is used.
+abbrev pub op_of : List Declaration → List ℕ → Op
+op_of objects text = unwrap_or (op_meant (place_of objects) text) Work
+
+-- The operation of a text that has none of these faults.
+abbrev pub known_op : List Declaration → List ℕ → Option Op
+known_op objects text = value_if (is_operation_known objects text && has_masks text && is_operation text) (op_of objects text)

@@ -1,0 +1,35 @@
+-- How many envelopes a core's alarms and tables may add to its outbox at once, by their texts. [own]
+use Rattle.std.specs.Prelude.{ℕ, ◌+◌, Bool, false, not, option_and_then, List, map, count_by, sum_by}
+use Rattle.std.specs.Option.{option_map_or}
+use Rattle.osbase.specs.declared.references.CoreId.{CoreId}
+use Rattle.osbase.specs.History.{same_core}
+use Rattle.osforms.specs.Operation.{op_meant}
+use Rattle.osplan.specs.Objects.{action_object, greatest_of}
+use Rattle.osplan.specs.declared.plans.TimedAction.{TimedAction}
+use Rattle.osshape.specs.declared.declarations.Declaration.{Declaration}
+use Rattle.osshape.specs.declared.shapes.AlarmText.{AlarmText}
+use Rattle.osshape.specs.declared.shapes.CoreText.{CoreText}
+use Rattle.osshape.specs.declared.table_shapes.PointText.{PointText}
+use Rattle.osshape.specs.declared.table_shapes.TableText.{TableText}
+use Rattle.oscheck.specs.Action.{action_of_op}
+use Rattle.osshape.specs.Declarations.{id_of, place_alone}
+
+-- The text is an action whose name is one object's alone, a task of another core than this one.
+abbrev pub is_posting : List Declaration → CoreId → List ℕ → Bool
+is_posting objects id text =
+    option_map_or (λ (action : TimedAction). not (same_core (action_object action).place.core id)) (option_and_then action_of_op (op_meant (place_alone objects) text)) false
+
+abbrev pub posted_at : List Declaration → CoreId → PointText → ℕ
+posted_at objects id point = count_by (is_posting objects id) point.actions
+
+abbrev pub greatest_posted : List Declaration → CoreId → TableText → ℕ
+greatest_posted objects id table = greatest_of (map (posted_at objects id) table.points)
+
+abbrev pub posted_by_alarms : List Declaration → CoreId → List AlarmText → ℕ
+posted_by_alarms objects id alarms = count_by (λ (alarm : AlarmText). is_posting objects id alarm.action) alarms
+
+abbrev pub posted_by_tables : List Declaration → CoreId → List TableText → ℕ
+posted_by_tables objects id tables = sum_by (greatest_posted objects id) tables
+
+abbrev pub posted_at_once : List Declaration → CoreText → ℕ
+posted_at_once objects core = posted_by_alarms objects (id_of core) core.alarms + posted_by_tables objects (id_of core) core.tables

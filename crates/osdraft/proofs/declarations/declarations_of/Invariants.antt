@@ -1,6 +1,0 @@
-use Rattle.std.proofs.Common.{◌≡◌, take}
-use Rattle.osdraft.specs.Declarations.{declarations}
-use Rattle.osdraft.proofs.declarations.declarations_of.Given as goal
-
-abbrev pub invariant-loop-core : goal.invariant-loop-core
-invariant-loop-core l = l.declared ≡ declarations (take l.core-index l.cores)

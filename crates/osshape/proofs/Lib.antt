@@ -1,0 +1,4 @@
+pub mod Lists
+pub mod Naming
+pub mod Alone
+pub mod Indexing

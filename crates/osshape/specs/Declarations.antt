@@ -1,0 +1,121 @@
+-- The objects that a configuration's text declares, in one list, and what a name stands for by it. [own]
+use Rattle.std.specs.Prelude.{ℕ, ◌==◌, ◌&&◌, nat_le, Bool, not, Option, Some, None, option_and_then, option_map, unwrap_or, if◌then◌else◌, List, ◌∷◌, ◌++◌, map, find, count_by}
+use Rattle.std.specs.List.{enumerate_from, flat_map}
+use Rattle.std.specs.Str.{bytes_eq}
+use Rattle.osbase.specs.Objects.{counter_of, same_kind}
+use Rattle.osbase.specs.declared.references.CoreId.{CoreId}
+use Rattle.osbase.specs.declared.references.CounterRef.{CounterRef}
+use Rattle.osbase.specs.declared.objects.ObjectKind.{ObjectKind}
+use Rattle.osbase.specs.declared.objects.ObjectKind.TheVariants.{Task, Resource, Counter, Alarm, Table}
+use Rattle.osbase.specs.declared.objects.Place.{Place}
+use Rattle.osplan.specs.Expressible.{mode_name}
+use Rattle.osplan.specs.Limits.{CounterSizes}
+use Rattle.osshape.specs.declared.shapes.AlarmText.{AlarmText}
+use Rattle.osshape.specs.declared.shapes.CoreText.{CoreText}
+use Rattle.osshape.specs.declared.shapes.CounterText.{CounterText}
+use Rattle.osshape.specs.declared.shapes.ResourceText.{ResourceText}
+use Rattle.osshape.specs.declared.shapes.TaskText.{TaskText}
+use Rattle.osshape.specs.declared.table_shapes.TableText.{TableText}
+use Rattle.osshape.specs.declared.declarations.Declaration.{Declaration}
+
+-- A number as a byte: 0 where it is no byte, which no text without a fault has.
+abbrev pub byte_of : Option ℕ → ℕ
+byte_of None = 0
+byte_of (Some n) = if nat_le n 255 then n else 0
+
+-- A number as one of 32 bits: 0 where it is none, which no text without a fault has.
+abbrev pub word_of : Option ℕ → ℕ
+word_of None = 0
+word_of (Some n) = if nat_le n 4294967295 then n else 0
+
+abbrev pub number_id : Option ℕ → CoreId
+number_id number = record { number = byte_of number }
+
+abbrev pub id_of : CoreText → CoreId
+id_of core = number_id core.id
+
+-- ---- the list
+
+-- The task of a core at an index.
+abbrev pub task_declaration : CoreText → ℕ × TaskText → Declaration
+task_declaration core p = record { name = p.1.name; kind = Task; core = id_of core; index = p.0; max = None; min = None }
+
+abbrev pub declared_tasks : CoreText → List Declaration
+declared_tasks core = map (task_declaration core) (enumerate_from 0 core.tasks)
+
+-- The resource of a core at an index.
+abbrev pub resource_declaration : CoreText → ℕ × ResourceText → Declaration
+resource_declaration core p = record { name = p.1.name; kind = Resource; core = id_of core; index = p.0; max = None; min = None }
+
+abbrev pub declared_resources : CoreText → List Declaration
+declared_resources core = map (resource_declaration core) (enumerate_from 0 core.resources)
+
+-- The counter of a core at an index, with its numbers.
+abbrev pub counter_declaration : CoreText → ℕ × CounterText → Declaration
+counter_declaration core p = record { name = p.1.name; kind = Counter; core = id_of core; index = p.0; max = p.1.max; min = p.1.min }
+
+abbrev pub declared_counters : CoreText → List Declaration
+declared_counters core = map (counter_declaration core) (enumerate_from 0 core.counters)
+
+-- The alarm of a core at an index.
+abbrev pub alarm_declaration : CoreText → ℕ × AlarmText → Declaration
+alarm_declaration core p = record { name = p.1.name; kind = Alarm; core = id_of core; index = p.0; max = None; min = None }
+
+abbrev pub declared_alarms : CoreText → List Declaration
+declared_alarms core = map (alarm_declaration core) (enumerate_from 0 core.alarms)
+
+-- The schedule table of a core at an index.
+abbrev pub table_declaration : CoreText → ℕ × TableText → Declaration
+table_declaration core p = record { name = p.1.name; kind = Table; core = id_of core; index = p.0; max = None; min = None }
+
+abbrev pub declared_tables : CoreText → List Declaration
+declared_tables core = map (table_declaration core) (enumerate_from 0 core.tables)
+
+-- A core declares its tasks, then its resources, its counters, its alarms and its tables, in their order. No other kind can be configured yet.
+abbrev pub declared_by : CoreText → List Declaration
+declared_by core = declared_tasks core ++ declared_resources core ++ declared_counters core ++ declared_alarms core ++ declared_tables core
+
+-- All objects, core by core.
+abbrev pub declarations : List CoreText → List Declaration
+declarations cores = flat_map declared_by cores
+
+-- The only mode's name, and those of all objects.
+abbrev pub names_of : List Declaration → List (List ℕ)
+names_of objects = mode_name ∷ map (λ (declaration : Declaration). declaration.name) objects
+
+-- ---- what a name stands for
+
+abbrev pub has_name : List ℕ → Declaration → Bool
+has_name name declaration = bytes_eq declaration.name name
+
+-- Where the object stands, if it is of this kind.
+abbrev pub place_in : ObjectKind → Declaration → Option Place
+place_in kind declaration = if same_kind declaration.kind kind then Some (record { core = declaration.core; index = byte_of (Some declaration.index) }) else None
+
+-- Where the object of a kind and a name stands.
+abbrev pub place_of : List Declaration → ObjectKind → List ℕ → Option Place
+place_of objects kind name = option_and_then (place_in kind) (find (has_name name) objects)
+
+-- ---- counters by their names
+
+-- The counter of a name; where there is none, the first that the core of this number might have.
+abbrev pub counter_ref : List Declaration → CoreId → List ℕ → CounterRef
+counter_ref objects id name = unwrap_or (option_map counter_of (place_of objects Counter name)) (record { core = id; index = 0 })
+
+-- The name is that of one object alone, and of no mode. A name that stands twice is that of none.
+abbrev pub is_alone : List Declaration → List ℕ → Bool
+is_alone objects name = not (bytes_eq name mode_name) && (count_by (has_name name) objects == 1)
+
+abbrev pub if_counter : Declaration → Option Declaration
+if_counter declaration = if same_kind declaration.kind Counter then Some declaration else None
+
+-- The counter of a name that is one object's alone.
+abbrev pub counter_declared : List Declaration → List ℕ → Option Declaration
+counter_declared objects name = if is_alone objects name then option_and_then if_counter (find (has_name name) objects) else None
+
+abbrev pub declared_sizes : Declaration → CounterSizes
+declared_sizes declaration = record { max = declaration.max; min = declaration.min }
+
+-- Where the object of a kind and a name stands, where the name is that object's alone.
+abbrev pub place_alone : List Declaration → ObjectKind → List ℕ → Option Place
+place_alone objects kind name = if is_alone objects name then place_of objects kind name else None

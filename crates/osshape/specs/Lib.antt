@@ -1,0 +1,3 @@
+pub mod Shape
+pub mod Declarations
+pub mod Index

@@ -1,0 +1,142 @@
+-- The shape of a configuration: the members and their types, before any limit or name is judged. [own]
+use Rattle.std.specs.Prelude.{◌&&◌, Bool, true, false, Option, Some, None, [], ◌∷◌, codes}
+use Rattle.std.specs.List.{list_all}
+use Rattle.osbase.specs.Names.{is_name}
+use Rattle.serde_json.specs.Data.{Data}
+use Rattle.serde_json.specs.Find.{as_bool, as_str}
+use Rattle.osshape.specs.declared.shapes.AlarmStartText.{AlarmStartText}
+use Rattle.osshape.specs.declared.shapes.AlarmText.{AlarmText}
+use Rattle.osshape.specs.declared.shapes.ConfigText.{ConfigText}
+use Rattle.osshape.specs.declared.shapes.CoreText.{CoreText}
+use Rattle.osshape.specs.declared.shapes.CounterText.{CounterText}
+use Rattle.osshape.specs.declared.shapes.ResourceText.{ResourceText}
+use Rattle.osshape.specs.declared.shapes.TaskText.{TaskText}
+use Rattle.osshape.specs.declared.table_shapes.PointText.{PointText}
+use Rattle.osshape.specs.declared.table_shapes.TableStartText.{TableStartText}
+use Rattle.osshape.specs.declared.table_shapes.TableText.{TableText}
+use Rattle.osread.specs.Reading.{◌>>=◌}
+use Rattle.osread.specs.Json.{whole_of, name_of, each_of, or_null, member_of, member_or, only_members}
+
+-- A task: its name, priority and script; the modes of its autostart, none by default; its activation limit, 1 by default; whether it
+-- is extended, which is not so by default, and whether it can be preempted, which is so.
+unfoldable pub task_shape : Data → Option TaskText
+task_shape d = do
+  _ ← only_members (codes "name" ∷ codes "prio" ∷ codes "auto" ∷ codes "activations" ∷ codes "extended" ∷ codes "preemptable" ∷ codes "script" ∷ []) d
+  name ← member_of name_of (codes "name") d
+  prio ← member_of whole_of (codes "prio") d
+  auto ← member_or (each_of name_of) [] (codes "auto") d
+  activations ← member_or whole_of (Some 1) (codes "activations") d
+  extended ← member_or as_bool false (codes "extended") d
+  preemptable ← member_or as_bool true (codes "preemptable") d
+  script ← member_of as_str (codes "script") d
+  Some (record { name = name; prio = prio; auto = auto; activations = activations; extended = extended; preemptable = preemptable; script = script })
+
+-- A resource: its name and ceiling.
+unfoldable pub resource_shape : Data → Option ResourceText
+resource_shape d = do
+  _ ← only_members (codes "name" ∷ codes "ceiling" ∷ []) d
+  name ← member_of name_of (codes "name") d
+  ceiling ← member_of whole_of (codes "ceiling") d
+  Some (record { name = name; ceiling = ceiling })
+
+-- A counter: its name and greatest value; its least cycle, 1 by default; whether software alone advances it, which is not so by default.
+unfoldable pub counter_shape : Data → Option CounterText
+counter_shape d = do
+  _ ← only_members (codes "name" ∷ codes "max" ∷ codes "min" ∷ codes "software" ∷ []) d
+  name ← member_of name_of (codes "name") d
+  max ← member_of whole_of (codes "max") d
+  min ← member_or whole_of (Some 1) (codes "min") d
+  software ← member_or as_bool false (codes "software") d
+  Some (record { name = name; max = max; min = min; software = software })
+
+-- How an alarm is set by itself: in which modes, when it is first due, and its cycle.
+unfoldable pub alarm_start_shape : Data → Option AlarmStartText
+alarm_start_shape d = do
+  _ ← only_members (codes "modes" ∷ codes "start" ∷ codes "cycle" ∷ []) d
+  modes ← member_of (each_of name_of) (codes "modes") d
+  start ← member_of whole_of (codes "start") d
+  cycle ← member_of whole_of (codes "cycle") d
+  Some (record { modes = modes; start = start; cycle = cycle })
+
+-- An alarm: its name, its counter's and its action; how it is set by itself, or null, by default, where it is not.
+unfoldable pub alarm_shape : Data → Option AlarmText
+alarm_shape d = do
+  _ ← only_members (codes "name" ∷ codes "counter" ∷ codes "action" ∷ codes "auto" ∷ []) d
+  name ← member_of name_of (codes "name") d
+  counter ← member_of name_of (codes "counter") d
+  action ← member_of as_str (codes "action") d
+  auto ← member_or (or_null alarm_start_shape) None (codes "auto") d
+  Some (record { name = name; counter = counter; action = action; auto = auto })
+
+-- An expiry point of a schedule table: its offset and its actions.
+unfoldable pub point_shape : Data → Option PointText
+point_shape d = do
+  _ ← only_members (codes "offset" ∷ codes "actions" ∷ []) d
+  offset ← member_of whole_of (codes "offset") d
+  actions ← member_of (each_of as_str) (codes "actions") d
+  Some (record { offset = offset; actions = actions })
+
+-- How a schedule table is started by itself: in which modes, and after how many counts.
+unfoldable pub table_start_shape : Data → Option TableStartText
+table_start_shape d = do
+  _ ← only_members (codes "modes" ∷ codes "offset" ∷ []) d
+  modes ← member_of (each_of name_of) (codes "modes") d
+  offset ← member_of whole_of (codes "offset") d
+  Some (record { modes = modes; offset = offset })
+
+-- A schedule table: its name, its counter's, its duration and its points; whether it repeats, which is not so by default; how it is
+-- started by itself, or null, by default, where it is not.
+unfoldable pub table_shape : Data → Option TableText
+table_shape d = do
+  _ ← only_members (codes "name" ∷ codes "counter" ∷ codes "duration" ∷ codes "points" ∷ codes "repeating" ∷ codes "auto" ∷ []) d
+  name ← member_of name_of (codes "name") d
+  counter ← member_of name_of (codes "counter") d
+  duration ← member_of whole_of (codes "duration") d
+  points ← member_of (each_of point_shape) (codes "points") d
+  repeating ← member_or as_bool false (codes "repeating") d
+  auto ← member_or (or_null table_start_shape) None (codes "auto") d
+  Some (record { name = name; counter = counter; duration = duration; points = points; repeating = repeating; auto = auto })
+
+-- A core: its number; the cores that it starts, its tasks, its resources, its counters, its alarms and its tables, none by default.
+unfoldable pub core_shape : Data → Option CoreText
+core_shape d = do
+  _ ← only_members (codes "id" ∷ codes "start" ∷ codes "tasks" ∷ codes "resources" ∷ codes "counters" ∷ codes "alarms" ∷ codes "tables" ∷ []) d
+  id ← member_of whole_of (codes "id") d
+  start ← member_or (each_of whole_of) [] (codes "start") d
+  tasks ← member_or (each_of task_shape) [] (codes "tasks") d
+  resources ← member_or (each_of resource_shape) [] (codes "resources") d
+  counters ← member_or (each_of counter_shape) [] (codes "counters") d
+  alarms ← member_or (each_of alarm_shape) [] (codes "alarms") d
+  tables ← member_or (each_of table_shape) [] (codes "tables") d
+  Some (record { id = id; start = start; tasks = tasks; resources = resources; counters = counters; alarms = alarms; tables = tables })
+
+-- A configuration: its version, 1 by default; the size of a mailbox, 16 by default; the master core, 0 by default; its cores.
+unfoldable pub config_shape : Data → Option ConfigText
+config_shape d = do
+  _ ← only_members (codes "version" ∷ codes "cap" ∷ codes "master" ∷ codes "cores" ∷ []) d
+  version ← member_or whole_of (Some 1) (codes "version") d
+  cap ← member_or whole_of (Some 16) (codes "cap") d
+  master ← member_or whole_of (Some 0) (codes "master") d
+  cores ← member_of (each_of core_shape) (codes "cores") d
+  Some (record { version = version; cap = cap; master = master; cores = cores })
+
+-- ---- names in form
+
+abbrev pub has_named_tasks : CoreText → Bool
+has_named_tasks core = list_all (λ (task : TaskText). is_name task.name) core.tasks
+
+abbrev pub has_named_resources : CoreText → Bool
+has_named_resources core = list_all (λ (resource : ResourceText). is_name resource.name) core.resources
+
+abbrev pub has_named_counters : CoreText → Bool
+has_named_counters core = list_all (λ (counter : CounterText). is_name counter.name) core.counters
+
+abbrev pub has_named_alarms : CoreText → Bool
+has_named_alarms core = list_all (λ (alarm : AlarmText). is_name alarm.name) core.alarms
+
+abbrev pub has_named_tables : CoreText → Bool
+has_named_tables core = list_all (λ (table : TableText). is_name table.name) core.tables
+
+-- Each object of the core has a name in form, as in every shape.
+abbrev pub has_named_objects : CoreText → Bool
+has_named_objects core = has_named_tasks core && has_named_resources core && has_named_counters core && has_named_alarms core && has_named_tables core

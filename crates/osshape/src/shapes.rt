@@ -1,0 +1,304 @@
+//! The shape of a configuration: its members and their types. Limits and names are judged later. Texts are
+//! borrowed from the value that is read.
+
+ghost use Rattle.std.specs.Prelude.{true};
+ghost use Rattle.std.specs.List.{list_all};
+ghost use Rattle.osbase.specs.Names.{is_name};
+ghost use Rattle.osshape.specs.Shape.{task_shape, resource_shape, counter_shape, alarm_start_shape, alarm_shape, core_shape, config_shape, has_named_objects};
+
+use crate::table_shapes::{TableReader, TableText};
+use osbase::List;
+use osread::{
+    BoolReader, JsonReader, ListOf, NameReader, OrNull, Refusal, Text, TextReader, Whole,
+    WholeReader, at, at_or, only_members,
+};
+use serde_json::Value;
+use std::alloc::Global;
+
+/// A task as a text has it.
+#[derive(Debug, Drop)]
+pub struct TaskText<'v> {
+    pub name: Text<'v>,
+    pub prio: Whole,
+    pub auto: List<Text<'v>>,
+    pub activations: Whole,
+    pub extended: bool,
+    pub preemptable: bool,
+    pub script: Text<'v>,
+}
+
+/// A resource as a text has it.
+#[derive(Debug, Drop)]
+pub struct ResourceText<'v> {
+    pub name: Text<'v>,
+    pub ceiling: Whole,
+}
+
+/// A counter as a text has it.
+#[derive(Debug, Drop)]
+pub struct CounterText<'v> {
+    pub name: Text<'v>,
+    pub max: Whole,
+    pub min: Whole,
+    pub software: bool,
+}
+
+/// How an alarm is set by itself, as a text has it.
+#[derive(Debug, Drop)]
+pub struct AlarmStartText<'v> {
+    pub modes: List<Text<'v>>,
+    pub start: Whole,
+    pub cycle: Whole,
+}
+
+/// An alarm as a text has it.
+#[derive(Debug, Drop)]
+pub struct AlarmText<'v> {
+    pub name: Text<'v>,
+    pub counter: Text<'v>,
+    pub action: Text<'v>,
+    pub auto: Option<AlarmStartText<'v>>,
+}
+
+/// A core as a text has it.
+#[derive(Debug, Drop)]
+pub struct CoreText<'v> {
+    pub id: Whole,
+    pub start: List<Whole>,
+    pub tasks: List<TaskText<'v>>,
+    pub resources: List<ResourceText<'v>>,
+    pub counters: List<CounterText<'v>>,
+    pub alarms: List<AlarmText<'v>>,
+    pub tables: List<TableText<'v>>,
+}
+
+/// A configuration as a text has it.
+#[derive(Debug, Drop)]
+pub struct ConfigText<'v> {
+    pub version: Whole,
+    pub cap: Whole,
+    pub master: Whole,
+    pub cores: List<CoreText<'v>>,
+}
+
+// Reads a task.
+#[derive(Clone, Copy, Debug)]
+struct TaskReader;
+
+impl<'v> JsonReader<'v, TaskText<'v>> for TaskReader {
+    ghost shape = { λ _ d. task_shape d };
+
+    ghost passes = { λ _ task. is_name task.name };
+
+    #[tactic(auto, unfolding(crate::specs::Shape::task_shape))]
+    fn read(&self, alloc: Global, value: &'v Value) -> Result<TaskText<'v>, Refusal> {
+        only_members(
+            value,
+            &[
+                "name",
+                "prio",
+                "auto",
+                "activations",
+                "extended",
+                "preemptable",
+                "script",
+            ],
+        )?;
+        Ok(TaskText {
+            name: at(alloc, value, "name", &NameReader)?,
+            prio: at(alloc, value, "prio", &WholeReader)?,
+            auto: at_or(
+                alloc,
+                value,
+                "auto",
+                &ListOf { of: NameReader },
+                List::new(alloc),
+            )?,
+            activations: at_or(alloc, value, "activations", &WholeReader, Some(1))?,
+            extended: at_or(alloc, value, "extended", &BoolReader, false)?,
+            preemptable: at_or(alloc, value, "preemptable", &BoolReader, true)?,
+            script: at(alloc, value, "script", &TextReader)?,
+        })
+    }
+}
+
+// Reads a resource.
+#[derive(Clone, Copy, Debug)]
+struct ResourceReader;
+
+impl<'v> JsonReader<'v, ResourceText<'v>> for ResourceReader {
+    ghost shape = { λ _ d. resource_shape d };
+
+    ghost passes = { λ _ resource. is_name resource.name };
+
+    #[tactic(auto, unfolding(crate::specs::Shape::resource_shape))]
+    fn read(&self, alloc: Global, value: &'v Value) -> Result<ResourceText<'v>, Refusal> {
+        only_members(value, &["name", "ceiling"])?;
+        Ok(ResourceText {
+            name: at(alloc, value, "name", &NameReader)?,
+            ceiling: at(alloc, value, "ceiling", &WholeReader)?,
+        })
+    }
+}
+
+// Reads a counter.
+#[derive(Clone, Copy, Debug)]
+struct CounterReader;
+
+impl<'v> JsonReader<'v, CounterText<'v>> for CounterReader {
+    ghost shape = { λ _ d. counter_shape d };
+
+    ghost passes = { λ _ counter. is_name counter.name };
+
+    #[tactic(auto, unfolding(crate::specs::Shape::counter_shape))]
+    fn read(&self, alloc: Global, value: &'v Value) -> Result<CounterText<'v>, Refusal> {
+        only_members(value, &["name", "max", "min", "software"])?;
+        Ok(CounterText {
+            name: at(alloc, value, "name", &NameReader)?,
+            max: at(alloc, value, "max", &WholeReader)?,
+            min: at_or(alloc, value, "min", &WholeReader, Some(1))?,
+            software: at_or(alloc, value, "software", &BoolReader, false)?,
+        })
+    }
+}
+
+// Reads how an alarm is set by itself.
+#[derive(Clone, Copy, Debug)]
+struct AlarmStartReader;
+
+impl<'v> JsonReader<'v, AlarmStartText<'v>> for AlarmStartReader {
+    ghost shape = { λ _ d. alarm_start_shape d };
+
+    ghost passes = { λ _ _. true };
+
+    #[tactic(auto, unfolding(crate::specs::Shape::alarm_start_shape))]
+    fn read(&self, alloc: Global, value: &'v Value) -> Result<AlarmStartText<'v>, Refusal> {
+        only_members(value, &["modes", "start", "cycle"])?;
+        Ok(AlarmStartText {
+            modes: at(alloc, value, "modes", &ListOf { of: NameReader })?,
+            start: at(alloc, value, "start", &WholeReader)?,
+            cycle: at(alloc, value, "cycle", &WholeReader)?,
+        })
+    }
+}
+
+// Reads an alarm.
+#[derive(Clone, Copy, Debug)]
+struct AlarmReader;
+
+impl<'v> JsonReader<'v, AlarmText<'v>> for AlarmReader {
+    ghost shape = { λ _ d. alarm_shape d };
+
+    ghost passes = { λ _ alarm. is_name alarm.name };
+
+    #[tactic(auto, unfolding(crate::specs::Shape::alarm_shape))]
+    fn read(&self, alloc: Global, value: &'v Value) -> Result<AlarmText<'v>, Refusal> {
+        only_members(value, &["name", "counter", "action", "auto"])?;
+        Ok(AlarmText {
+            name: at(alloc, value, "name", &NameReader)?,
+            counter: at(alloc, value, "counter", &NameReader)?,
+            action: at(alloc, value, "action", &TextReader)?,
+            auto: at_or(
+                alloc,
+                value,
+                "auto",
+                &OrNull {
+                    of: AlarmStartReader,
+                },
+                None,
+            )?,
+        })
+    }
+}
+
+// Reads a core.
+#[derive(Clone, Copy, Debug)]
+struct CoreReader;
+
+impl<'v> JsonReader<'v, CoreText<'v>> for CoreReader {
+    ghost shape = { λ _ d. core_shape d };
+
+    ghost passes = { λ _ core. has_named_objects core };
+
+    #[tactic(auto, unfolding(crate::specs::Shape::core_shape))]
+    fn read(&self, alloc: Global, value: &'v Value) -> Result<CoreText<'v>, Refusal> {
+        only_members(
+            value,
+            &[
+                "id",
+                "start",
+                "tasks",
+                "resources",
+                "counters",
+                "alarms",
+                "tables",
+            ],
+        )?;
+        Ok(CoreText {
+            id: at(alloc, value, "id", &WholeReader)?,
+            start: at_or(
+                alloc,
+                value,
+                "start",
+                &ListOf { of: WholeReader },
+                List::new(alloc),
+            )?,
+            tasks: at_or(
+                alloc,
+                value,
+                "tasks",
+                &ListOf { of: TaskReader },
+                List::new(alloc),
+            )?,
+            resources: at_or(
+                alloc,
+                value,
+                "resources",
+                &ListOf { of: ResourceReader },
+                List::new(alloc),
+            )?,
+            counters: at_or(
+                alloc,
+                value,
+                "counters",
+                &ListOf { of: CounterReader },
+                List::new(alloc),
+            )?,
+            alarms: at_or(
+                alloc,
+                value,
+                "alarms",
+                &ListOf { of: AlarmReader },
+                List::new(alloc),
+            )?,
+            tables: at_or(
+                alloc,
+                value,
+                "tables",
+                &ListOf { of: TableReader },
+                List::new(alloc),
+            )?,
+        })
+    }
+}
+
+/// Reads a configuration. `Unfit` where a member is missing, unknown or of another type.
+#[derive(Clone, Copy, Debug)]
+pub struct ConfigReader;
+
+impl<'v> JsonReader<'v, ConfigText<'v>> for ConfigReader {
+    ghost shape = { λ _ d. config_shape d };
+
+    ghost passes = { λ _ config. list_all has_named_objects config.cores };
+
+    #[tactic(auto, unfolding(crate::specs::Shape::config_shape))]
+    fn read(&self, alloc: Global, value: &'v Value) -> Result<ConfigText<'v>, Refusal> {
+        only_members(value, &["version", "cap", "master", "cores"])?;
+        Ok(ConfigText {
+            version: at_or(alloc, value, "version", &WholeReader, Some(1))?,
+            cap: at_or(alloc, value, "cap", &WholeReader, Some(16))?,
+            master: at_or(alloc, value, "master", &WholeReader, Some(0))?,
+            cores: at(alloc, value, "cores", &ListOf { of: CoreReader })?,
+        })
+    }
+}
