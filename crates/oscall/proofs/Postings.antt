@@ -35,7 +35,7 @@ use Rattle.oscall.proofs.Actions.{posted-within}
 pub filtered-le : {X : Type 0} (p : X → Bool) (f : X → ℕ) (xs : List X) → sum_by f (filter p xs) ≤ sum_by f xs
 filtered-le p f xs = let both = sum_by-filter_both p (λ x. not (p x)) (λ x. refl) f xs in omega (arith, both)
 
-pub sum-le-all : {X : Type 0} (p : X → Bool) (f g : X → ℕ) → ((x : X) → p x ≡ true → f x ≤ g x) → (xs : List X) → list_all p xs ≡ true → sum_by f xs ≤ sum_by g xs
+sum-le-all : {X : Type 0} (p : X → Bool) (f g : X → ℕ) → ((x : X) → p x ≡ true → f x ≤ g x) → (xs : List X) → list_all p xs ≡ true → sum_by f xs ≤ sum_by g xs
 sum-le-all p f g each [] all = omega arith
 sum-le-all p f g each (x ∷ xs) all =
     let parts = and_parts (p x) (list_all p xs) all in
@@ -85,7 +85,7 @@ first-le core s = by (own_table core s)
     by (Some table) = there table (slice_get table.points 0) refl
 
 -- At one count a table posts one of its points, and the one that begins in its place one of its own.
-pub table-posted : (core : Core) (d : DueTable) → ends_alone core d ≡ true → posted_by_table core d ≤ with_next (posted_at_point core) d
+table-posted : (core : Core) (d : DueTable) → ends_alone core d ≡ true → posted_by_table core d ≤ with_next (posted_at_point core) d
 table-posted core d alone = by d.due.ends refl d.next refl (repeats core d.table) refl
   where
     due : posted_by_point core (due_point core d) ≤ posted_at_point core d.table
@@ -99,6 +99,12 @@ table-posted core d alone = by d.due.ends refl d.next refl (repeats core d.table
     by true ends None next true again =
         let none : is_none d.due.point ≡ true = sym (ap (λ (b : Bool). not (b && repeats core d.table) || is_none d.due.point) ends ∙ ap (λ (b : Bool). not b || is_none d.due.point) again) ∙ alone in
         rw (again) (omega (arith, none-posted core d none, first-le core d.table))
+
+-- What a count's due alarms and then its due tables post together.
+pub both-posted : (core : Core) (c : CounterRef) (s : ClockState) (alarms : List AlarmRef) (tables : List DueTable) → alarms ≡ due_in core c s → list_all (ends_alone core) tables ≡ true
+    → sum_by (with_next (posted_at_point core)) tables ≤ sum_by (posted_at_point core) (timed_by core c) → sum_by (posted_for core) alarms + sum_by (posted_by_table core) tables ≤ posted_by core c
+both-posted core c s alarms tables is alone once =
+    omega (arith, due-posted core c s alarms is, sum-le-all (ends_alone core) (posted_by_table core) (with_next (posted_at_point core)) (table-posted core) tables alone, once)
 
 -- ---- of all alarms and tables
 

@@ -37,10 +37,12 @@ pub fn advance<const P: usize, const J: usize, const OUT: usize>(
     ensures outbox { length state.new.border.outbox ≤ length state.old.border.outbox + posted_by state.old.view.own counter }
 {
     let alarms = state.due_next(counter);
+    let due_alarms = alarms.as_slice();
     let tables = state.due_tables(counter);
+    let due_tables = tables.as_slice();
     state.count(counter);
-    expire_each(state, alarms.as_slice(), marks);
-    pass_each(state, tables.as_slice(), marks);
+    expire_each(state, due_alarms, marks);
+    pass_each(state, due_tables, marks);
 }
 
 fn expire_each<const P: usize, const J: usize, const OUT: usize>(
