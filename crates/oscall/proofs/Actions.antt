@@ -12,10 +12,9 @@ use Rattle.osplan.specs.declared.plans.TimedAction.{TimedAction}
 use Rattle.osplan.specs.Clocked.{are_clocks_within}
 use Rattle.osplan.specs.Objects.{call_of_action, greatest_of, is_posting, posted_at, table_actions}
 use Rattle.osplan.specs.View.{own_table}
-use Rattle.osplan.proofs.Tests.{passes-at}
+use Rattle.osplan.proofs.Tests.{each-flat, passes-at}
 use Rattle.osplan.proofs.Timing.{own-table-timed, own-table-within, table-parts}
 use Rattle.osstate.specs.Sound.{has_object_of}
-use Rattle.osstate.proofs.ReadLemmas.{each-flat}
 use Rattle.oscall.specs.Border.{core_of_call, is_known_call}
 use Rattle.oscall.specs.Passing.{is_known_point}
 use Rattle.oscall.proofs.InTurn.{kept-sum, kept-sum-le, passes-there}

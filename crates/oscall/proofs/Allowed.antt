@@ -1,8 +1,8 @@
 -- What the alarms and schedule tables of a core may act on.
-use Rattle.std.proofs.Common.{◌≡◌, ◌||◌, ◌==◌, ℕ, Bool, true, false, cond, Option, Some, None, List, [], ◌∷◌, filter, flat_map, map, option_and_then, slice_get, refl, sym, ◌∙◌}
+use Rattle.std.proofs.Common.{◌≡◌, ◌||◌, ◌==◌, ℕ, Bool, true, false, cond, Option, Some, None, List, [], flat_map, map, option_and_then, slice_get, refl, sym, ◌∙◌}
 use Rattle.std.specs.List.{list_all}
 use Rattle.std.specs.Option.{option_map_or}
-use Rattle.std.proofs.lemmas.Bool.{and_from, and_parts}
+use Rattle.std.proofs.lemmas.Bool.{and_parts}
 use Rattle.std.proofs.lemmas.List.Folds.{list_all-append, list_all-map}
 use Rattle.osbase.specs.declared.references.AlarmRef.{AlarmRef}
 use Rattle.osbase.specs.declared.references.CoreId.{CoreId}
@@ -14,7 +14,7 @@ use Rattle.osplan.specs.declared.plans.Table.{Table}
 use Rattle.osplan.specs.declared.plans.TimedAction.{TimedAction}
 use Rattle.osplan.specs.Objects.{action_object, core_actions, table_actions}
 use Rattle.osplan.specs.View.{View, own_alarm, own_table}
-use Rattle.osplan.proofs.Tests.{passes-at}
+use Rattle.osplan.proofs.Tests.{each-flat, passes-at}
 use Rattle.ostable.specs.declared.tables.DueTable.{DueTable}
 use Rattle.osstate.specs.Readings.{is_own}
 use Rattle.oscall.specs.Passing.{due_point, first_point, if_at_once}
@@ -34,21 +34,6 @@ all_within v may point = list_all (acts_within v may) point.actions
 
 abbrev pub IsAllowedPoint : View → (CoreId → Bool) → Option ExpiryPoint → Type 0
 IsAllowedPoint v may o = option_map_or (all_within v may) o true ≡ true
-
--- What all pass, those pass that a test keeps, and the parts of each.
-pub all-filter : {X : Type 0} (p q : X → Bool) (xs : List X) → list_all p xs ≡ true → list_all p (filter q xs) ≡ true
-all-filter p q [] a = refl
-all-filter {X} p q (x ∷ xs) a = let parts = and_parts (p x) (list_all p xs) a in by (q x) parts.0 (all-filter p q xs parts.1)
-  where
-    by : (b : Bool) → p x ≡ true → list_all p (filter q xs) ≡ true → list_all p (cond b (x ∷ filter q xs) (filter q xs)) ≡ true
-    by true first rest = and_from _ _ first rest
-    by false first rest = rest
-
-all-parts : {X Y : Type 0} (p : Y → Bool) (f : X → List Y) (xs : List X) → list_all p (flat_map f xs) ≡ true → list_all (λ x. list_all p (f x)) xs ≡ true
-all-parts p f [] a = refl
-all-parts p f (x ∷ xs) a =
-    let parts = and_parts (list_all p (f x)) (list_all p (flat_map f xs)) (sym (list_all-append p (f x) (flat_map f xs)) ∙ a) in
-    and_from _ _ parts.0 (all-parts p f xs parts.1)
 
 point-allowed : (v : View) (may : CoreId → Bool) (points : List ExpiryPoint) (number : ℕ) → list_all (all_within v may) points ≡ true → IsAllowedPoint v may (slice_get points number)
 point-allowed v may points number all = by (slice_get points number) refl
@@ -71,8 +56,8 @@ module _ (v : View) (may : CoreId → Bool) (actions : ActionsAllow v may) where
     where
       by : (b : Bool) → cond b (slice_get v.own.tables s.index) None ≡ Some table → list_all (all_within v may) table.points ≡ true
       by true there =
-          all-parts (acts_within v may) (λ (point : ExpiryPoint). point.actions) table.points
-          (passes-at (λ (x : Table). list_all (acts_within v may) (table_actions x)) v.own.tables s.index table (all-parts (acts_within v may) table_actions v.own.tables both.1) there)
+          each-flat (acts_within v may) (λ (point : ExpiryPoint). point.actions) table.points
+          (passes-at (λ (x : Table). list_all (acts_within v may) (table_actions x)) v.own.tables s.index table (each-flat (acts_within v may) table_actions v.own.tables both.1) there)
       by false there = cc
 
   -- The point that is due of a table, and the one with which its period begins.

@@ -41,6 +41,7 @@ use Rattle.osplan.specs.declared.plans.Table.{Table}
 use Rattle.osplan.specs.declared.plans.TimedAction.{TimedAction}
 use Rattle.osplan.specs.Objects.{call_of_action, has_index, is_own_object}
 use Rattle.osplan.specs.View.{View, own_alarm, own_table}
+use Rattle.osplan.proofs.Tests.{all-filter}
 use Rattle.osjobs.specs.Priorities.{events_in, held_in, holds_any, is_newest}
 use Rattle.osstate.specs.Queries.{is_at_limit, is_suspended}
 use Rattle.osstate.specs.Readings.{events_at, frame_at, held_resources, is_own, knows_started, resource_of, task_events}
@@ -73,7 +74,7 @@ use Rattle.oscall.specs.Tasks.{activates, ends, ends_unasked}
 use Rattle.oscall.specs.Resources.{gives, is_below, takes}
 use Rattle.oscall.specs.Service.{Service, effect_by, status_by}
 use Rattle.oscall.specs.Tables.{absolute_start, counts_to_start, does_service, is_offset, is_value, own_pair, own_schedule, quits_next, relative_start, status_inquiry, stop, suits, switch}
-use Rattle.oscall.proofs.Allowed.{ActionsAllow, IsAllowedPoint, acts_within, alarm-allowed, all-filter, due-allowed, first-allowed}
+use Rattle.oscall.proofs.Allowed.{ActionsAllow, IsAllowedPoint, acts_within, alarm-allowed, due-allowed, first-allowed}
 use Rattle.oscall.proofs.Owned.{own-alarm}
 
 -- Which cores one asks, or answers: every one, and none.

@@ -1,11 +1,10 @@
 -- What holds of the alarms of a counter.
-use Rattle.std.proofs.Common.{◌≡◌, ℕ, ◌<◌, Bool, true, false, cond, nat_lt, All, Option, Some, None, filter, List, [], ◌∷◌, length, map, take, ◌++◌, ◌+◌, refl, ap, sym, ◌∙◌, arith}
-use Rattle.std.specs.List.{list_all, slice_get}
+use Rattle.std.proofs.Common.{◌≡◌, ℕ, ◌<◌, Bool, true, false, cond, All, Option, Some, None, filter, List, [], ◌∷◌, length, map, take, ◌++◌, ◌+◌, refl, ap, sym, ◌∙◌, arith}
+use Rattle.std.specs.List.{list_all}
 use Rattle.std.specs.Option.{option_map_or}
-use Rattle.std.proofs.lemmas.Bool.{and_from, and_parts, false≢true, lt-ltb}
+use Rattle.std.proofs.lemmas.Bool.{and_from, false≢true}
 use Rattle.std.proofs.lemmas.List.Elements.{All-weaker, filter-append, filter_passes}
 use Rattle.std.proofs.lemmas.List.{length-map, take_more}
-use Rattle.std.proofs.lemmas.Option.{slice_get_within}
 use Rattle.osbase.specs.declared.references.AlarmRef.{AlarmRef}
 use Rattle.osbase.specs.declared.references.CounterRef.{CounterRef}
 use Rattle.osbase.specs.Counting.{same_counter}
@@ -17,6 +16,7 @@ use Rattle.osplan.specs.declared.plans.Alarm.{Alarm as AlarmValue}
 use Rattle.osplan.specs.declared.plans.Core.{Core}
 use Rattle.osplan.specs.Objects.{is_own_object}
 use Rattle.osplan.specs.View.{own_alarm}
+use Rattle.osplan.proofs.Tests.{all-filter, found-inside}
 use Rattle.osclock.specs.Clocks.{ClockState, alarm_ref, alarm_refs, attached_to, counter_for, counter_in, counter_ref, is_attached, max_for, max_of, no_counter}
 use Rattle.osclock.proofs.Places.{length-numbers, same_counter-true}
 
@@ -36,11 +36,7 @@ stands core c a on = at (own_alarm core a) refl on
     at (Some x) is on = record { value = x; is = is; by = same_counter-true c x.counter on }
 
 pub attached-own : (core : Core) (c : CounterRef) (a : AlarmRef) → is_attached core c a ≡ true → is_own_object core (alarm_object a) ≡ true
-attached-own core c a on = by (same_core a.core core.id) refl (stands core c a on).is
-  where
-    by : (b : Bool) → same_core a.core core.id ≡ b → cond b (slice_get core.alarms a.index) None ≡ Some (stands core c a on).value → is_own_object core (alarm_object a) ≡ true
-    by true here is = and_from (same_core a.core core.id) (nat_lt a.index (length core.alarms)) here (lt-ltb a.index (length core.alarms) (slice_get_within core.alarms a.index _ is))
-    by false here is = cc
+attached-own core c a on = found-inside (same_core a.core core.id) core.alarms a.index _ (stands core c a on).is
 
 -- so its counter is this one
 pub attached-counter : (core : Core) (c : CounterRef) (a : AlarmRef) (s : ClockState) → is_attached core c a ≡ true → counter_for core a s ≡ counter_in c s
@@ -83,18 +79,10 @@ kept-passes q t (x ∷ xs) each = by (q x) refl (kept-passes q t xs each)
     by false e rest = rest
     by true e rest = and_from (t x) (list_all t (filter q xs)) (each x e) rest
 
-still-passes : {A : Type 0} (f t : A → Bool) (xs : List A) → list_all t xs ≡ true → list_all t (filter f xs) ≡ true
-still-passes f t [] all = refl
-still-passes f t (x ∷ xs) all = by (f x) (still-passes f t xs (and_parts (t x) (list_all t xs) all).1)
-  where
-    by : (b : Bool) → list_all t (filter f xs) ≡ true → list_all t (cond b (x ∷ filter f xs) (filter f xs)) ≡ true
-    by false rest = rest
-    by true rest = and_from (t x) (list_all t (filter f xs)) (and_parts (t x) (list_all t xs) all).0 rest
-
 -- each of a counter's alarms that are picked out is the core's own
 pub picked-own : (core : Core) (c : CounterRef) (f : AlarmRef → Bool) → list_all (λ (a : AlarmRef). is_own_object core (alarm_object a)) (filter f (attached_to core c)) ≡ true
 picked-own core c f =
-    still-passes f (λ (a : AlarmRef). is_own_object core (alarm_object a)) (attached_to core c) (kept-passes (is_attached core c) (λ (a : AlarmRef). is_own_object core (alarm_object a)) (alarm_refs core) (λ a on. attached-own core c a on))
+    all-filter (λ (a : AlarmRef). is_own_object core (alarm_object a)) f (attached_to core c) (kept-passes (is_attached core c) (λ (a : AlarmRef). is_own_object core (alarm_object a)) (alarm_refs core) (λ a on. attached-own core c a on))
 
 pub attached-all : (core : Core) (c : CounterRef) (P : AlarmRef → Type 0) → ((a : AlarmRef) → is_attached core c a ≡ true → P a) → All P (attached_to core c)
 attached-all core c P each = kept-all (is_attached core c) P (alarm_refs core) each

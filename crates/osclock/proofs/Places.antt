@@ -1,5 +1,5 @@
 -- A core's own counters and alarms, by place.
-use Rattle.std.proofs.Common.{◌≡◌, ℕ, zero, suc, ◌+◌, ◌<◌, nat_eq, nat_lt, true, false, Option, None, is_some, [], ◌∷◌, List, length, map, refl, ap, sym, ◌∙◌, arith}
+use Rattle.std.proofs.Common.{◌≡◌, ℕ, zero, suc, ◌+◌, ◌<◌, nat_eq, nat_lt, true, false, Option, None, is_some, [], ◌∷◌, length, map, refl, ap, sym, ◌∙◌, arith}
 use Rattle.std.specs.List.{slice_get}
 use Rattle.std.proofs.lemmas.Bool.{and_parts, and_from, cond-true, eqb-true, eq-eqb, false_from_ne_true, false≢true, lt-ltb, ltb-true}
 use Rattle.osbase.specs.declared.references.AlarmRef.{AlarmRef}
@@ -14,6 +14,7 @@ use Rattle.osplan.specs.declared.plans.Alarm.{Alarm}
 use Rattle.osplan.specs.declared.plans.Core.{Core}
 use Rattle.osplan.specs.Objects.{is_own_object}
 use Rattle.osplan.specs.View.{own_alarm, own_counter}
+use Rattle.osplan.proofs.Tests.{some-at}
 use Rattle.osclock.specs.Clocks.{alarm_ref, counter_ref}
 
 counter_parts : (a b : CounterRef) → a.core ≡ b.core → a.index ≡ b.index → a ≡ b
@@ -56,12 +57,6 @@ pub alarm-place : (core : Core) (a : AlarmRef) → is_own_object core (alarm_obj
 alarm-place core a own =
     let both = and_parts (same_core a.core core.id) (nat_lt a.index (length core.alarms)) own in
     record { ref = alarm_parts a (alarm_ref core a.index) (same_core-true a.core core.id both.0) refl; inside = ltb-true a.index (length core.alarms) both.1 }
-
--- something stands there
-pub some-at : {A : Type 0} (xs : List A) (n : ℕ) → n < length xs → is_some (slice_get xs n) ≡ true
-some-at [] n inside = absurd (omega (arith, inside))
-some-at (x ∷ xs) zero inside = refl
-some-at (x ∷ xs) (suc n) inside = some-at xs n (omega (arith, inside))
 
 pub counter-is : (core : Core) (c : CounterRef) → is_own_object core (counter_object c) ≡ true → own_counter core c ≡ slice_get core.counters c.index
 counter-is core c own = cond-true (same_core c.core core.id) (slice_get core.counters c.index) None (and_parts (same_core c.core core.id) (nat_lt c.index (length core.counters)) own).0

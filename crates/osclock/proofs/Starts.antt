@@ -13,10 +13,10 @@ use Rattle.osplan.specs.Clocked.{are_clocks_within}
 use Rattle.osplan.specs.Limits.{alarm_sizes, is_alarm_within}
 use Rattle.osplan.specs.View.{own_alarm, own_counter}
 use Rattle.osplan.proofs.Clocked.{clock-parts, start-bounds}
-use Rattle.osplan.proofs.Tests.{passes-at}
+use Rattle.osplan.proofs.Tests.{passes-at, some-at}
 use Rattle.osclock.specs.Clocks.{max_for, max_of}
 use Rattle.osclock.proofs.Law.{attached}
-use Rattle.osclock.proofs.Places.{counter-is, counter-place, some-at}
+use Rattle.osclock.proofs.Places.{counter-is, counter-place}
 
 -- What setting an alarm asks of its first count and its cycle.
 pub record StartsWithin (max : ℕ) (auto : AlarmStart) : Type 0 where

@@ -2,7 +2,7 @@
 use Rattle.std.proofs.Common.{◌≡◌, ℕ, zero, suc, ◌+◌, ◌-◌, ◌<◌, ◌≤◌, ◌%◌, nat_eq, nat_le, nat_lt, Bool, true, false, true≢false, cond, ◌&&◌, ◌||◌, Option, Some, None, option_map, refl, sym, ap, ◌∙◌, arith}
 use Rattle.std.specs.Option.{option_map_or}
 use Rattle.std.proofs.Math.Nat.{mod-lt}
-use Rattle.std.proofs.lemmas.Bool.{and_parts, eqb-true, leb-true, leb-false, le-leb, lt-ltb, ltb-false, ltb-true}
+use Rattle.std.proofs.lemmas.Bool.{and_parts, eqb-true, leb-true, leb-false, le-leb, lt-ltb, ltb-false, ltb-true, or_right}
 use Rattle.osbase.specs.Counting.{AlarmSetting, counts_left, counts_to, is_due, is_due_count, is_in_turn, left_of, one_count_more, will_be_due}
 use Rattle.oscount.specs.declared.counters.Counter.{Counter}
 use Rattle.oscount.specs.declared.alarms.Expiry.{Expiry}
@@ -143,12 +143,8 @@ as-set max count first cycle later most within =
     turn : is_in_turn max (setting_of first cycle) ≡ true
     turn = ap (λ b. b && nat_le first (suc max) && nat_le cycle max) less ∙ (ap (λ b. b && nat_le cycle max) (le-leb first (suc max) most) ∙ le-leb cycle max within)
 
-    or-yes : (a b : Bool) → b ≡ true → (a || b) ≡ true
-    or-yes true b e = refl
-    or-yes false b e = e
-
     due : will_be_due (setting_of first cycle) ≡ true
-    due = or-yes (nat_lt 0 cycle) (nat_lt 0 first) less
+    due = or_right (nat_lt 0 cycle) (nat_lt 0 first) less
 
     whole : first - 0 ≡ first
     whole = omega arith

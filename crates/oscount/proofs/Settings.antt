@@ -1,7 +1,7 @@
 -- An alarm as it was set, one count later.
 use Rattle.std.proofs.Common.{◌≡◌, ℕ, suc, ◌+◌, ◌-◌, ◌<◌, ◌≤◌, ◌%◌, nat_eq, nat_lt, Bool, true, false, true≢false, cond, ◌&&◌, ◌||◌, refl, sym, ap, ◌∙◌, arith}
 use Rattle.std.proofs.Math.Nat.{mod-add-mod, mod-eq_of_lt, mod-lt, mod_self, suc-mod, zero-mod}
-use Rattle.std.proofs.lemmas.Bool.{eq-eqb, eqb-true, lt-ltb, ltb-false, ltb-true}
+use Rattle.std.proofs.lemmas.Bool.{eq-eqb, eqb-true, lt-ltb, ltb-false, ltb-true, or_left, or_right}
 use Rattle.osbase.specs.Counting.{AlarmSetting, counts_left, is_due_count, one_count_more, will_be_due}
 use Rattle.oscount.specs.Laws.{counts_later}
 use Rattle.oscount.proofs.Turns.{same-test}
@@ -101,19 +101,12 @@ due-then x due = by (nat_lt x.counts x.first) refl
 pub left-then : (x : AlarmSetting) → will_be_due x ≡ true → nat_eq (counts_left x) 1 ≡ false → (will_be_due (one_count_more x) ≡ true) × (counts_left x ≡ suc (counts_left (one_count_more x)))
 left-then x due more = by (nat_lt x.counts x.first) refl more
   where
-    or-yes : (a b : Bool) → b ≡ true → (a || b) ≡ true
-    or-yes true b e = refl
-    or-yes false b e = e
-
-    or-first : (a b : Bool) → a ≡ true → (a || b) ≡ true
-    or-first a b e = ap (λ c. c || b) e
-
     by : (b : Bool) → nat_lt x.counts x.first ≡ b → nat_eq (cond b (x.first - x.counts) (x.cycle - (x.counts - x.first) % x.cycle)) 1 ≡ false
         → (will_be_due (one_count_more x) ≡ true) × (cond b (x.first - x.counts) (x.cycle - (x.counts - x.first) % x.cycle) ≡ suc (counts_left (one_count_more x)))
     by true e f =
         let ahead : x.counts < x.first = ltb-true x.counts x.first e in
         let still : suc x.counts < x.first = at (nat_lt (suc x.counts) x.first) refl in (
-          or-yes (nat_lt 0 x.cycle) (nat_lt (suc x.counts) x.first) (lt-ltb (suc x.counts) x.first still),
+          or_right (nat_lt 0 x.cycle) (nat_lt (suc x.counts) x.first) (lt-ltb (suc x.counts) x.first still),
           (let less : x.first - x.counts ≡ suc (x.first - suc x.counts) = omega (arith, still) in less)
               ∙ ap (λ b. suc (cond b (x.first - suc x.counts) (x.cycle - (suc x.counts - x.first) % x.cycle))) (sym (lt-ltb (suc x.counts) x.first still)),
         )
@@ -129,7 +122,7 @@ left-then x due more = by (nat_lt x.counts x.first) refl more
         let some : 0 < x.cycle = has-cycle x due e in
         let below : (x.counts - x.first) % x.cycle < x.cycle = mod-lt (x.counts - x.first) some in
         let whole : suc x.counts - x.first ≡ suc (x.counts - x.first) = omega (arith, beyond) in (
-          or-first (nat_lt 0 x.cycle) (nat_lt (suc x.counts) x.first) (lt-ltb 0 x.cycle some),
+          or_left (nat_lt 0 x.cycle) (nat_lt (suc x.counts) x.first) (lt-ltb 0 x.cycle some),
           (let less : x.cycle - (x.counts - x.first) % x.cycle ≡ suc (x.cycle - suc ((x.counts - x.first) % x.cycle)) = omega (arith, below) in less)
               ∙ (ap (λ n. suc (x.cycle - n)) (sym (ap (λ n. n % x.cycle) whole ∙ rest-on (x.counts - x.first) x.cycle some f))
               ∙ ap (λ b. suc (cond b (x.first - suc x.counts) (x.cycle - (suc x.counts - x.first) % x.cycle))) (sym (not-less (suc x.counts) x.first (omega (arith, beyond))))),

@@ -1,8 +1,7 @@
 -- Autostart, task by task.
-use Rattle.std.proofs.Common.{◌≡◌, ℕ, zero, suc, ◌+◌, ◌≤◌, ◌<◌, Bool, true, false, cond, Option, Some, List, [], ◌∷◌, ◌++◌, length, take, refl, ap, sym, subst, ◌∙◌, arith, nat_le, get_or, add-one}
+use Rattle.std.proofs.Common.{◌≡◌, ℕ, zero, suc, ◌+◌, ◌≤◌, ◌<◌, Bool, true, false, cond, Option, Some, List, [], ◌∷◌, ◌++◌, length, refl, ap, sym, subst, ◌∙◌, arith, nat_le, get_or}
 use Rattle.std.specs.List.{slice_get, list_all}
 use Rattle.std.proofs.lemmas.Bool.{false_from_ne_true, leb-true, and_parts}
-use Rattle.std.proofs.lemmas.Option.{slice_get-get_or}
 use Rattle.osbase.specs.declared.references.CoreId.{CoreId}
 use Rattle.osbase.specs.declared.references.TaskRef.{TaskRef}
 use Rattle.osbase.specs.declared.references.Runner.{Runner}
@@ -12,25 +11,19 @@ use Rattle.osbase.specs.History.{History, same_runner, same_core, job_count}
 use Rattle.osplan.specs.declared.plans.Core.{Core}
 use Rattle.osplan.specs.declared.plans.Task.{Task}
 use Rattle.osplan.specs.View.{View}
-use Rattle.osstate.specs.Readings.{task_refs}
-use Rattle.osstate.specs.State.{KernelState, Stands}
+use Rattle.osstate.specs.State.{KernelState}
 use Rattle.osstate.specs.Sound.{activation_limit}
 use Rattle.osbase.proofs.Same.{same_runner-true, same_core-refl}
 use Rattle.osstate.proofs.JobLists.{job_count-append}
 use Rattle.oscall.specs.Tasks.{activates}
-use Rattle.oskernel.specs.Step.{autostarts, starts_in}
-use Rattle.oskernel.proofs.Numbered.{each-more, pairs-at, pairs-length, take-whole}
+use Rattle.oskernel.specs.Step.{starts_in}
+use Rattle.oskernel.proofs.Numbered.{stands-at}
 
 abbrev pub ref_at : CoreId → ℕ → TaskRef
 ref_at core n = record { core = core; index = n }
 
--- one task more
-pub autostarts-more : (agreement : Option Agreement) (ps : List (TaskRef × Task)) (i : ℕ) (p : TaskRef × Task) (h : History) → slice_get ps i ≡ Some p → autostarts agreement (take (suc i) ps) h ≡ cond (starts_in agreement p.1.auto) (activates p.0 (autostarts agreement (take i ps) h)) (autostarts agreement (take i ps) h)
-autostarts-more agreement = each-more (λ (p : TaskRef × Task) h. cond (starts_in agreement p.1.auto) (activates p.0 h) h) (autostarts agreement) (λ h. refl) (λ p ps h. refl)
-
--- the task at a place, with its reference
-pub task_refs-at : (own : Core) (i : ℕ) (t : Task) → slice_get own.tasks i ≡ Some t → slice_get (task_refs own) i ≡ Some (ref_at own.id i, t)
-task_refs-at own i t e = pairs-at (ref_at own.id) 0 i t own.tasks e ∙ ap (λ (m : ℕ). Some (ref_at own.id m, t)) (let same : 0 + i ≡ i = omega arith in same)
+abbrev pub activate_if_auto : Option Agreement → TaskRef × Task → History → History
+activate_if_auto agreement p h = cond (starts_in agreement p.1.auto) (activates p.0 h) h
 
 -- a task that has no job yet may have one
 pub place-for-first : (own : Core) (js : List Job) (i : ℕ) (t : Task) → list_all (λ (u : Task). nat_le 1 u.activations) own.tasks ≡ true → slice_get own.tasks i ≡ Some t → job_count (Runner.Task (ref_at own.id i)) js ≡ 0 → job_count (Runner.Task (ref_at own.id i)) js < activation_limit own (Runner.Task (ref_at own.id i))
@@ -69,32 +62,11 @@ still-none core old_jobs new_jobs i index k true stamp same is later none =
 still-none core old_jobs new_jobs i index k false stamp same is later none =
     ap (job_count (Runner.Task (ref_at core k))) is ∙ none k (omega (arith, later))
 
-task-at : (tasks tasks' : List Task) (place : ℕ) (t : Task) → tasks ≡ tasks' → place < length tasks → t ≡ get_or tasks place t → slice_get tasks' place ≡ Some t
-task-at tasks tasks' place t same within is =
-    subst (λ (xs : List Task). slice_get xs place ≡ Some t) same (slice_get-get_or tasks place t within ∙ ap (λ (u : Task). Some u) (sym is))
-
 -- in the loop over the tasks: the next one has a place for its first job
 pub next-place : (old now : KernelState) (tasks : List Task) (core : CoreId) (index place : ℕ) (t : Task) → now.view ≡ old.view → tasks ≡ old.view.own.tasks → core ≡ old.view.own.id → list_all (λ (u : Task). nat_le 1 u.activations) old.view.own.tasks ≡ true → index ≡ place → place < length tasks → t ≡ get_or tasks place t → ((k : ℕ) → place ≤ k → job_count (Runner.Task (ref_at core k)) now.tasks.jobs ≡ 0) → job_count (Runner.Task (ref_at core index)) now.tasks.jobs < activation_limit now.view.own (Runner.Task (ref_at core index))
 next-place old now tasks core index place t same_view same_tasks same_core some same_index within is none =
     let own : Runner.Task (ref_at core index) ≡ Runner.Task (ref_at old.view.own.id place) = ap (λ (c : CoreId). Runner.Task (ref_at c index)) same_core ∙ ap (λ (n : ℕ). Runner.Task (ref_at old.view.own.id n)) same_index in
     let none_here : job_count (Runner.Task (ref_at old.view.own.id place)) now.tasks.jobs ≡ 0 = subst (λ (c : CoreId). job_count (Runner.Task (ref_at c place)) now.tasks.jobs ≡ 0) same_core (none place (omega arith)) in
-    let base = place-for-first old.view.own now.tasks.jobs place t some (task-at tasks old.view.own.tasks place t same_tasks within is) none_here in
+    let base = place-for-first old.view.own now.tasks.jobs place t some (stands-at tasks old.view.own.tasks place t same_tasks within is) none_here in
     subst (λ (v : View). job_count (Runner.Task (ref_at core index)) now.tasks.jobs < activation_limit v.own (Runner.Task (ref_at core index))) (sym same_view)
     (subst (λ (r : Runner). job_count r now.tasks.jobs < activation_limit old.view.own r) (sym own) base)
-
--- and it is the next one of autostart
-pub next-start : (v : View) (old : KernelState) (h : History) (tasks : List Task) (core : CoreId) (index place : ℕ) (t : Task) (agreement : Option Agreement) → Stands v h old → tasks ≡ old.view.own.tasks → core ≡ old.view.own.id → index ≡ place → place < length tasks → t ≡ get_or tasks place t → autostarts agreement (take (place + 1) (task_refs v.own)) h ≡ cond (starts_in agreement t.auto) (activates (ref_at core index) (autostarts agreement (take place (task_refs v.own)) h)) (autostarts agreement (take place (task_refs v.own)) h)
-next-start v old h tasks core index place t agreement stands same_tasks same_core same_index within is =
-    let view_is : old.view ≡ v = ap (λ (s : KernelState). s.view) stands.is in
-    let at : slice_get v.own.tasks place ≡ Some t = task-at tasks v.own.tasks place t (same_tasks ∙ ap (λ (w : View). w.own.tasks) view_is) within is in
-    let own : ref_at v.own.id place ≡ ref_at core index = ap (λ (c : CoreId). ref_at c place) (sym (same_core ∙ ap (λ (w : View). w.own.id) view_is)) ∙ ap (ref_at core) (sym same_index) in
-    ap (λ (n : ℕ). autostarts agreement (take n (task_refs v.own)) h) (add-one place)
-    ∙ autostarts-more agreement (task_refs v.own) place (ref_at v.own.id place, t) h (task_refs-at v.own place t at)
-    ∙ ap (λ (r : TaskRef). cond (starts_in agreement t.auto) (activates r (autostarts agreement (take place (task_refs v.own)) h)) (autostarts agreement (take place (task_refs v.own)) h)) own
-
--- past the last task autostart is done
-pub all-started : (v : View) (old : KernelState) (h : History) (tasks : List Task) (place : ℕ) (agreement : Option Agreement) → Stands v h old → tasks ≡ old.view.own.tasks → length tasks ≤ place → autostarts agreement (take place (task_refs v.own)) h ≡ autostarts agreement (task_refs v.own) h
-all-started v old h tasks place agreement stands same_tasks past =
-    let same : tasks ≡ v.own.tasks = same_tasks ∙ ap (λ (s : KernelState). s.view.own.tasks) stands.is in
-    let count : length (task_refs v.own) ≡ length tasks = pairs-length (ref_at v.own.id) 0 v.own.tasks ∙ ap length (sym same) in
-    ap (λ (ps : List (TaskRef × Task)). autostarts agreement ps h) (take-whole (task_refs v.own) place (omega (arith, past, count)))

@@ -3,7 +3,6 @@ pub mod Taken
 pub mod Numbered
 pub mod Autostart
 pub mod Ticking
-pub mod Setting
 pub mod Carried
 pub mod Holding
 pub mod Stages

@@ -1,15 +1,20 @@
 -- What is done for each object of a core in index order, when it is done for those before a place.
-use Rattle.std.proofs.Common.{◌≡◌, ℕ, zero, suc, ◌+◌, ◌≤◌, Some, List, [], ◌∷◌, length, take, refl, ap, sym, ◌∙◌, arith, map, add-one}
+use Rattle.std.proofs.Common.{◌≡◌, ℕ, zero, suc, ◌+◌, ◌<◌, ◌≤◌, Option, Some, List, [], ◌∷◌, length, take, refl, ap, sym, subst, ◌∙◌, arith, map, get_or}
 use Rattle.std.specs.List.{slice_get, enumerate_from}
+use Rattle.std.proofs.lemmas.Option.{get_or_from_slice_get, slice_get-get_or, slice_get_within}
+use Rattle.osbase.specs.declared.references.CoreId.{CoreId}
 use Rattle.osbase.specs.History.{History}
+use Rattle.osplan.specs.declared.plans.Core.{Core}
+use Rattle.osplan.specs.View.{View}
 use Rattle.osstate.specs.Readings.{numbered}
+use Rattle.oscall.proofs.InTurn.{all-done, next-done}
 
 -- the objects with their references, and the one at a place
 module _ {R A : Type 0} (ref : ℕ → R) where
-  abbrev pub pairs : ℕ → List A → List (R × A)
+  abbrev pairs : ℕ → List A → List (R × A)
   pairs n xs = map (λ (p : ℕ × A). let q : R × A = (ref p.0, p.1) in q) (enumerate_from n xs)
 
-  pub pairs-at : (n i : ℕ) (x : A) (xs : List A) → slice_get xs i ≡ Some x → slice_get (pairs n xs) i ≡ Some (ref (n + i), x)
+  pairs-at : (n i : ℕ) (x : A) (xs : List A) → slice_get xs i ≡ Some x → slice_get (pairs n xs) i ≡ Some (ref (n + i), x)
   pairs-at n i x [] e = cc
   pairs-at n zero x (y ∷ ys) e =
       let same : y ≡ x = cc in
@@ -17,35 +22,41 @@ module _ {R A : Type 0} (ref : ℕ → R) where
   pairs-at n (suc i) x (y ∷ ys) e =
       pairs-at (n + 1) i x ys e ∙ ap (λ (m : ℕ). Some (ref m, x)) (let next : (n + 1) + i ≡ n + suc i = omega arith in next)
 
-  pub pairs-length : (n : ℕ) (xs : List A) → length (pairs n xs) ≡ length xs
+  pairs-length : (n : ℕ) (xs : List A) → length (pairs n xs) ≡ length xs
   pairs-length n [] = refl
   pairs-length n (x ∷ xs) = ap suc (pairs-length (n + 1) xs)
 
--- all of them
-pub take-whole : {A : Type 0} (xs : List A) (i : ℕ) → length xs ≤ i → take i xs ≡ xs
-take-whole [] zero h = refl
-take-whole [] (suc i) h = refl
-take-whole (x ∷ xs) zero h = absurd (omega (arith, h))
-take-whole {A = A} (x ∷ xs) (suc i) h = ap (λ (ys : List A). x ∷ ys) (take-whole xs i (omega (arith, h)))
+-- The element that a loop is at stands at its place of an equal list.
+pub stands-at : {A : Type 0} (xs ys : List A) (place : ℕ) (x : A) → xs ≡ ys → place < length xs → x ≡ get_or xs place x → slice_get ys place ≡ Some x
+stands-at {A = A} xs ys place x same within is = subst (λ (zs : List A). slice_get zs place ≡ Some x) same (slice_get-get_or xs place x within ∙ ap (λ (y : A). Some y) (sym is))
 
--- one more
-pub each-more : {A : Type 0} (step : A → History → History) (each : List A → History → History) → ((h : History) → each [] h ≡ h) → ((x : A) (xs : List A) (h : History) → each (x ∷ xs) h ≡ each xs (step x h)) → (xs : List A) (i : ℕ) (x : A) (h : History) → slice_get xs i ≡ Some x → each (take (suc i) xs) h ≡ step x (each (take i xs) h)
-each-more step each none one [] i x h e = cc
-each-more {A = A} step each none one (y ∷ ys) zero x h e =
-    let same : y ≡ x = cc in
-    one y [] h ∙ none (step y h) ∙ ap (λ (z : A). step z h) same ∙ ap (step x) (sym (none h))
-each-more step each none one (y ∷ ys) (suc i) x h e =
-    one y (take (suc i) ys) h ∙ each-more step each none one ys i x (step y h) e ∙ ap (step x) (sym (one y (take i ys) h))
+-- In a loop over a core's objects of one kind.
+module _ {R A : Type 0} (at : CoreId → ℕ → R) (objects : Core → List A) where
+  -- The next one is the core's.
+  pub next-own : (find : Core → R → Option A) (own : Core) → ((place : ℕ) → place < length (objects own) → find own (at own.id place) ≡ slice_get (objects own) place) → (xs : List A) (core : CoreId) (index place : ℕ) (x : A) → xs ≡ objects own → core ≡ own.id → index ≡ place → place < length xs → x ≡ get_or xs place x → find own (at core index) ≡ Some x
+  next-own find own found xs core index place x same_list same_core same_index within is =
+      ap (find own) (ap (λ (c : CoreId). at c index) same_core ∙ ap (at own.id) same_index)
+      ∙ found place (subst (λ (ys : List A). place < length ys) same_list within)
+      ∙ stands-at xs (objects own) place x same_list within is
 
--- in a loop over numbered objects: the next one, and past the last one all of them
-module _ {R A : Type 0} (ref : ℕ → R) (step : R × A → History → History) (each : List (R × A) → History → History) (none : (h : History) → each [] h ≡ h) (one : (p : R × A) (ps : List (R × A)) (h : History) → each (p ∷ ps) h ≡ each ps (step p h)) (xs : List A) where
-  pub next-numbered : (place : ℕ) (x : A) (h : History) → slice_get xs place ≡ Some x → each (take (place + 1) (numbered ref xs)) h ≡ step (ref place, x) (each (take place (numbered ref xs)) h)
-  next-numbered place x h there =
-      let zero : 0 + place ≡ place = omega arith in
-      ap (λ (n : ℕ). each (take n (numbered ref xs)) h) (add-one place)
-      ∙ each-more step each none one (numbered ref xs) place (ref place, x) h (pairs-at ref 0 place x xs there ∙ ap (λ (m : ℕ). Some (ref m, x)) zero)
+  module _ (step : R × A → History → History) (each : List (R × A) → History → History) (none : (h : History) → each [] h ≡ h) (one : (p : R × A) (ps : List (R × A)) (h : History) → each (p ∷ ps) h ≡ each ps (step p h)) (v old : View) (view_is : old ≡ v) (h : History) (xs : List A) (same_list : xs ≡ objects old.own) where
+    abbrev pub refs : List (R × A)
+    refs = numbered (at v.own.id) (objects v.own)
 
-  pub all-numbered : (place : ℕ) (h : History) → length xs ≤ place → each (take place (numbered ref xs)) h ≡ each (numbered ref xs) h
-  all-numbered place h past =
-      let count : length (numbered ref xs) ≡ length xs = pairs-length ref 0 xs in
-      ap (λ (ps : List (R × A)). each ps h) (take-whole (numbered ref xs) place (omega (arith, past, count)))
+    here : xs ≡ objects v.own
+    here = same_list ∙ ap (λ (w : View). objects w.own) view_is
+
+    -- It is done for one more.
+    pub next-object : (core : CoreId) (index place : ℕ) (x : A) → core ≡ old.own.id → index ≡ place → place < length xs → x ≡ get_or xs place x → each (take (place + 1) refs) h ≡ step (at core index, x) (each (take place refs) h)
+    next-object core index place x same_core same_index within is =
+        let zero : 0 + place ≡ place = omega arith in
+        let there : slice_get refs place ≡ Some (at v.own.id place, x) = pairs-at (at v.own.id) 0 place x (objects v.own) (stands-at xs (objects v.own) place x here within is) ∙ ap (λ (m : ℕ). Some (at v.own.id m, x)) zero in
+        let own : at v.own.id place ≡ at core index = ap (λ (c : CoreId). at c place) (sym (same_core ∙ ap (λ (w : View). w.own.id) view_is)) ∙ ap (at core) (sym same_index) in
+        next-done step each none one refs place (at v.own.id place, x) (at v.own.id place, x) h (slice_get_within refs place (at v.own.id place, x) there) (sym (get_or_from_slice_get refs place (at v.own.id place, x) (at v.own.id place, x) there))
+        ∙ ap (λ (r : R). step (r, x) (each (take place refs) h)) own
+
+    -- Past the last one it is done for all.
+    pub all-objects : (place : ℕ) → length xs ≤ place → each (take place refs) h ≡ each refs h
+    all-objects place past =
+        let count : length refs ≡ length (objects v.own) = pairs-length (at v.own.id) 0 (objects v.own) in
+        all-done step each none one refs place h (omega (arith, past, count, ap length here))

@@ -1,8 +1,6 @@
 -- A tick, counter by counter.
-use Rattle.std.proofs.Common.{◌≡◌, ℕ, zero, suc, ◌+◌, ◌<◌, ◌≤◌, true, cond, Some, List, [], ◌∷◌, ◌++◌, length, filter, take, refl, ap, sym, subst, ◌∙◌, arith, get_or, sum_by, add-one}
-use Rattle.std.specs.List.{slice_get}
+use Rattle.std.proofs.Common.{◌≡◌, ℕ, zero, suc, ◌+◌, ◌≤◌, true, cond, List, [], ◌∷◌, ◌++◌, length, filter, take, refl, ap, ◌∙◌, arith, sum_by, add-one}
 use Rattle.std.proofs.lemmas.List.Sums.{length-filter, sum_by-cons, sum_by-le-sum_by, sum_by_push}
-use Rattle.std.proofs.lemmas.Option.{slice_get-get_or}
 use Rattle.osbase.specs.declared.references.AlarmRef.{AlarmRef}
 use Rattle.osbase.specs.declared.references.CoreId.{CoreId}
 use Rattle.osbase.specs.declared.references.CounterRef.{CounterRef}
@@ -22,7 +20,6 @@ use Rattle.ostable.proofs.Sums.{sum-both}
 use Rattle.oscall.specs.Advancing.{counts, posted_at_point, posted_by, posted_for, posts_by}
 use Rattle.oscall.proofs.Postings.{sum-of-alarms}
 use Rattle.oskernel.specs.Step.{counts_each}
-use Rattle.oskernel.proofs.Numbered.{all-numbered, next-numbered}
 
 abbrev pub clock_at : CoreId → ℕ → CounterRef
 clock_at core n = record { core = core; index = n }
@@ -31,25 +28,8 @@ clock_at core n = record { core = core; index = n }
 abbrev pub counts_to : ℕ → View → History → History
 counts_to n v h = counts_each v (take n (numbered_counters v.own)) h
 
-module _ (v old : View) (view_is : old ≡ v) (h : History) (counters : List Counter) (same_counters : counters ≡ old.own.counters) where
-  here : counters ≡ v.own.counters
-  here = same_counters ∙ ap (λ (w : View). w.own.counters) view_is
-
-  abbrev step : CounterRef × Counter → History → History
-  step p k = cond p.1.software k (counts v p.0 k)
-
-  -- one counter more
-  pub next-counted : (core : CoreId) (index place : ℕ) (x : Counter) → core ≡ old.own.id → index ≡ place → place < length counters → x ≡ get_or counters place x → counts_to (place + 1) v h ≡ cond x.software (counts_to place v h) (counts v (clock_at core index) (counts_to place v h))
-  next-counted core index place x same_core same_index within is =
-      let there : slice_get v.own.counters place ≡ Some x = subst (λ (xs : List Counter). slice_get xs place ≡ Some x) here (slice_get-get_or counters place x within ∙ ap (λ (y : Counter). Some y) (sym is)) in
-      let own : clock_at v.own.id place ≡ clock_at core index = ap (λ (c : CoreId). clock_at c place) (sym (same_core ∙ ap (λ (w : View). w.own.id) view_is)) ∙ ap (clock_at core) (sym same_index) in
-      next-numbered (counter_ref v.own) step (counts_each v) (λ k. refl) (λ p ps k. refl) v.own.counters place x h there
-      ∙ ap (λ (r : CounterRef). cond x.software (counts_to place v h) (counts v r (counts_to place v h))) own
-
-  -- past the last one all are counted
-  pub all-counted : (place : ℕ) → length counters ≤ place → counts_to place v h ≡ counts_each v (numbered_counters v.own) h
-  all-counted place past =
-      all-numbered (counter_ref v.own) step (counts_each v) (λ k. refl) (λ p ps k. refl) v.own.counters place h (subst (λ (xs : List Counter). length xs ≤ place) here past)
+abbrev pub count_if_hardware : View → CounterRef × Counter → History → History
+count_if_hardware v p h = cond p.1.software h (counts v p.0 h)
 
 -- ---- how much the counters before a place come to
 

@@ -1,7 +1,7 @@
 -- What is read off the state is what is read off the history.
-use Rattle.std.proofs.Common.{◌≡◌, ℕ, Bool, true, false, cond, List, [], ◌∷◌, flat_map, map, Option, Some, None, IfSome, IsTrue, refl, ap, sym, subst, ◌∙◌}
+use Rattle.std.proofs.Common.{◌≡◌, ℕ, Bool, true, false, cond, List, [], flat_map, map, Option, Some, None, IfSome, IsTrue, refl, ap, sym, subst, ◌∙◌}
 use Rattle.std.specs.List.{list_all, slice_get}
-use Rattle.std.proofs.lemmas.Bool.{and_from, and_parts, true≢false}
+use Rattle.std.proofs.lemmas.Bool.{and_parts, true≢false}
 use Rattle.std.proofs.lemmas.List.Folds.{list_all-append, list_all-map}
 use Rattle.std.specs.Option.{option_map_or}
 use Rattle.osbase.specs.declared.references.AlarmRef.{AlarmRef}
@@ -23,7 +23,7 @@ use Rattle.osplan.specs.declared.plans.Task.{Task}
 use Rattle.osplan.specs.Clocked.{are_clocks_within}
 use Rattle.osplan.specs.Objects.{action_object, core_actions, is_own_object, may_name, table_actions}
 use Rattle.osplan.specs.View.{View, own_alarm, own_table, own_task}
-use Rattle.osplan.proofs.Tests.{passes-at}
+use Rattle.osplan.proofs.Tests.{each-flat, passes-at}
 use Rattle.osclock.specs.Clocks.{alarm_in, counter_in, counts_to_by, counts_to_in, counts_to_value_by, counts_to_value_in, due_by, due_in, is_in_use_by, is_used, left_by, left_in, value_by}
 use Rattle.osclock.proofs.Asked.{counts_to-read, counts_to_value-read, dues-read, left-read, used-read, value-read}
 use Rattle.ostable.specs.declared.table.TableStatus.{TableStatus}
@@ -85,12 +85,6 @@ known_timed core a alarm all own = by (same_core a.core core.id) own
     by : (b : Bool) → cond b (slice_get core.alarms a.index) None ≡ Some alarm → may_name core (action_object alarm.action) ≡ true
     by true e = passes-at (λ (x : Alarm). has_object_of core x.action) core.alarms a.index alarm each e
     by false e = cc
-
-pub each-flat : {X Y : Type 0} (p : Y → Bool) (f : X → List Y) (xs : List X) → list_all p (flat_map f xs) ≡ true → list_all (λ x. list_all p (f x)) xs ≡ true
-each-flat p f [] all = refl
-each-flat p f (x ∷ xs) all =
-    let parts = and_parts (list_all p (f x)) (list_all p (flat_map f xs)) (sym (list_all-append p (f x) (flat_map f xs)) ∙ all) in
-    and_from _ _ parts.0 (each-flat p f xs parts.1)
 
 -- Nor do the points of one of its tables.
 known_table : (core : Core) (s : TableRef) (table : Table) → list_all (has_object_of core) (core_actions core) ≡ true → own_table core s ≡ Some table → list_all (has_object_of core) (table_actions table) ≡ true

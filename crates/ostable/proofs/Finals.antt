@@ -13,14 +13,14 @@ use Rattle.osplan.specs.declared.plans.Counter.{Counter}
 use Rattle.osplan.specs.declared.plans.ExpiryPoint.{ExpiryPoint}
 use Rattle.osplan.specs.declared.plans.Table.{Table as TablePlan}
 use Rattle.osplan.specs.Clocked.{are_clocks_within, own_table_sizes}
-use Rattle.osplan.specs.Limits.{CounterSizes, TableSizes, counter_sizes, delays, final_delay, first_offset, is_between, is_counter_within, is_delay, is_final, is_initial, is_table_timed, last_offset, point_sizes}
+use Rattle.osplan.specs.Limits.{counter_sizes, final_delay, is_between, is_counter_within, is_delay, is_final, is_table_timed, last_offset, point_sizes}
 use Rattle.osplan.specs.Limits as limits
 use Rattle.osplan.specs.Objects.{is_own_object}
 use Rattle.osplan.specs.View.{own_counter, own_table}
 use Rattle.osplan.proofs.Clocked.{clock-parts}
-use Rattle.osplan.proofs.Tests.{passes-at}
+use Rattle.osplan.proofs.Tests.{passes-at, some-at}
 use Rattle.osplan.proofs.Within.{between}
-use Rattle.osclock.proofs.Places.{counter-is, counter-place, some-at}
+use Rattle.osclock.proofs.Places.{counter-is, counter-place}
 use Rattle.ostable.specs.declared.table.Due.{Due}
 use Rattle.ostable.specs.Periods.{count_in_period, counts_run, number_of_point}
 use Rattle.ostable.specs.Ahead.{due_at, due_in, if_any}

@@ -1,11 +1,11 @@
 -- The tables of a counter, in a list.
-use Rattle.std.proofs.Common.{◌≡◌, ℕ, zero, suc, ◌+◌, ◌<◌, ◌≤◌, Bool, true, false, cond, nat_lt, All, Option, Some, None, filter, filter_map, get_or, List, [], ◌∷◌, drop, length, take, ◌++◌, refl, ap, sym, ◌∙◌, arith, add-one}
+use Rattle.std.proofs.Common.{◌≡◌, ℕ, zero, suc, ◌+◌, ◌<◌, ◌≤◌, Bool, true, false, cond, All, Option, Some, None, filter, filter_map, get_or, List, [], ◌∷◌, drop, length, take, ◌++◌, refl, ap, sym, ◌∙◌, arith, add-one}
 use Rattle.std.specs.List.{slice_get}
 use Rattle.std.specs.Option.{option_map_or}
-use Rattle.std.proofs.lemmas.Bool.{and_from, false≢true, lt-ltb}
+use Rattle.std.proofs.lemmas.Bool.{false≢true}
 use Rattle.std.proofs.lemmas.List.Elements.{filter-append, filter_map-append}
 use Rattle.std.proofs.lemmas.List.{length-map, take_more}
-use Rattle.std.proofs.lemmas.Option.{slice_get-get_or, slice_get_within}
+use Rattle.std.proofs.lemmas.Option.{slice_get-get_or}
 use Rattle.osbase.specs.declared.references.CounterRef.{CounterRef}
 use Rattle.osbase.specs.declared.references.TableRef.{TableRef}
 use Rattle.osbase.specs.Counting.{same_counter}
@@ -17,6 +17,7 @@ use Rattle.osplan.specs.declared.plans.Core.{Core}
 use Rattle.osplan.specs.declared.plans.Table.{Table as TablePlan}
 use Rattle.osplan.specs.Objects.{is_own_object}
 use Rattle.osplan.specs.View.{own_table}
+use Rattle.osplan.proofs.Tests.{found-inside}
 use Rattle.osclock.proofs.Attached.{kept-all, table-more}
 use Rattle.osclock.proofs.Places.{length-numbers}
 use Rattle.ostable.specs.Tables.{is_timed_by, table_ref, table_refs, timed_by}
@@ -35,13 +36,9 @@ timed-more core c n b inside is =
 pub timed-own : (core : Core) (c : CounterRef) (s : TableRef) → is_timed_by core c s ≡ true → is_own_object core (table_object s) ≡ true
 timed-own core c s on = at (own_table core s) refl on
   where
-    there : (b : Bool) (t : TablePlan) → same_core s.core core.id ≡ b → cond b (slice_get core.tables s.index) None ≡ Some t → is_own_object core (table_object s) ≡ true
-    there true t here is = and_from (same_core s.core core.id) (nat_lt s.index (length core.tables)) here (lt-ltb s.index (length core.tables) (slice_get_within core.tables s.index t is))
-    there false t here is = cc
-
     at : (o : Option TablePlan) → own_table core s ≡ o → option_map_or (λ (t : TablePlan). same_counter c t.counter) o false ≡ true → is_own_object core (table_object s) ≡ true
     at None is on = absurd (false≢true on)
-    at (Some t) is on = there (same_core s.core core.id) t refl is
+    at (Some t) is on = found-inside (same_core s.core core.id) core.tables s.index t is
 
 pub timed-all : (core : Core) (c : CounterRef) (P : TableRef → Type 0) → ((s : TableRef) → is_timed_by core c s ≡ true → P s) → All P (timed_by core c)
 timed-all core c P each = kept-all (is_timed_by core c) P (table_refs core) each

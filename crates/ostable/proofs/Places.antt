@@ -12,7 +12,7 @@ use Rattle.osplan.specs.declared.plans.Core.{Core}
 use Rattle.osplan.specs.declared.plans.Table.{Table as TablePlan}
 use Rattle.osplan.specs.Objects.{is_own_object}
 use Rattle.osplan.specs.View.{own_table}
-use Rattle.osclock.proofs.Places.{some-at}
+use Rattle.osplan.proofs.Tests.{some-at}
 use Rattle.ostable.specs.Tables.{table_ref}
 
 table_parts : (a b : TableRef) → a.core ≡ b.core → a.index ≡ b.index → a ≡ b

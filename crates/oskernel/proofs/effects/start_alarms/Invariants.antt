@@ -1,7 +1,7 @@
 use Rattle.std.proofs.Common.{◌≡◌, Some}
 use Rattle.osstate.specs.Does.{Remarks}
 use Rattle.oskernel.specs.Taking.{agreement_on}
-use Rattle.oskernel.proofs.Setting.{sets_to}
+use Rattle.oskernel.proofs.Starting.{sets_to}
 use Rattle.oskernel.proofs.effects.start_alarms.Given as goal
 
 abbrev pub invariant-loop-alarm : goal.invariant-loop-alarm
