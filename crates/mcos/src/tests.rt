@@ -524,8 +524,17 @@ fn faults_of_check_and_cut(rt: HostRuntime) -> Result<(), Fail> {
         (cut_of(0), Some("{}"), "fault 2 Shape\n"),
         (cut_of(0), None, "fault 21 Unreadable\n"),
     ];
-    for (job, config, err) in examples.as_slice() {
-        let printed = print(rt.alloc(), job, &[*config])?;
+    refuse(&rt, rt.alloc(), examples.as_slice())
+}
+
+// Does each job with this file, and compares the fault that it tells; it prints nothing else.
+fn refuse(
+    rt: &impl Abort,
+    alloc: Global,
+    examples: &[(Job, Option<&str>, &str)],
+) -> Result<(), Fail> {
+    for (job, config, err) in examples {
+        let printed = print(alloc, job, &[*config])?;
         assert!(rt; printed.out.is_empty());
         assert_eq!(rt; printed.err.as_slice(), err.as_bytes());
         assert_eq!(rt; printed.status, 1);

@@ -154,6 +154,22 @@ fn the_largest_configuration_is_read(rt: HostRuntime) -> Result<(), Fail> {
     Ok(())
 }
 
+// Runs these texts by the default schedule and by that of the last one: both print this.
+fn play_both(
+    rt: &impl Abort,
+    alloc: Global,
+    texts: &[Option<&str>],
+    trace: &str,
+) -> Result<(), Fail> {
+    for schedule in [None, Some("turns.json")] {
+        let printed = print(alloc, &run_of(schedule), texts)?;
+        assert_eq!(rt; printed.err.as_slice(), b"".as_slice());
+        assert_eq!(rt; printed.out.as_slice(), trace.as_bytes());
+        assert_eq!(rt; printed.status, 0);
+    }
+    Ok(())
+}
+
 #[test]
 fn runs_of_thousands_of_turns_come_to_their_end(rt: HostRuntime) -> Result<(), Fail> {
     let alloc = rt.alloc();
@@ -161,18 +177,12 @@ fn runs_of_thousands_of_turns_come_to_their_end(rt: HostRuntime) -> Result<(), F
     let stimuli = stimuli(alloc)?;
     let turns = turns(alloc)?;
     let trace = trace(alloc)?;
-    for schedule in [None, Some("turns.json")] {
-        let texts = [
-            Some(config.as_str()),
-            Some(stimuli.as_str()),
-            Some(turns.as_str()),
-        ];
-        let printed = print(alloc, &run_of(schedule), texts.as_slice())?;
-        assert_eq!(rt; printed.err.as_slice(), b"".as_slice());
-        assert_eq!(rt; printed.out.as_slice(), trace.as_bytes());
-        assert_eq!(rt; printed.status, 0);
-    }
-    Ok(())
+    let texts = [
+        Some(config.as_str()),
+        Some(stimuli.as_str()),
+        Some(turns.as_str()),
+    ];
+    play_both(&rt, alloc, texts.as_slice(), trace.as_str())
 }
 
 // Two cores; all tables of the first one act on the second at one count, and the last of them does so much more.
@@ -200,6 +210,46 @@ fn posting_config(alloc: Global, more: &str) -> Result<String, AllocError> {
         r#"]},{"id":1,"tasks":[{"name":"B","prio":1,"activations":64,"script":"TerminateTask"}]}]}"#,
     )?;
     Ok(text)
+}
+
+// What both print of it when the tables post at one tick: the second core is asked for as many jobs as a core may have.
+fn posting_trace(alloc: Global) -> Result<String, AllocError> {
+    let posted = repeated(alloc, "out 1 ActivateTask B\n", POSTED)?;
+    let received = repeated(
+        alloc,
+        "act B\nin 0 ActivateTask B E_OK\n",
+        u32::from(TABLES) * POSTED - 1,
+    )?;
+    let mut text = String::from_str(alloc, "core 0\nstart 1 E_OK\nhook Startup\ntick\n")?;
+    for table in 0..TABLES {
+        let point = format!(in alloc; "point P{table} 0\n{posted}")?;
+        text.push_str(point.as_str())?;
+    }
+    text.push_str("core 1\nhook Startup\nact B\nin 0 ActivateTask B E_OK\npre B\n")?;
+    text.push_str(received.as_str())?;
+    text.push_str("ended\n")?;
+    Ok(text)
+}
+
+// The turns of so many rounds, in each of which the first core goes on and the second serves it.
+fn posting_turns(alloc: Global) -> Result<String, AllocError> {
+    let rounds = repeated(alloc, " 0l 1s0 1o 1l 0o", ROUNDS)?;
+    format!(in alloc; "\"0o{rounds}\"")
+}
+
+#[test]
+fn as_much_as_tables_may_post_at_once_finds_a_place(rt: HostRuntime) -> Result<(), Fail> {
+    let alloc = rt.alloc();
+    let config = posting_config(alloc, "")?;
+    let stimuli = String::from_str(alloc, r#"{"0":"tick"}"#)?;
+    let turns = posting_turns(alloc)?;
+    let trace = posting_trace(alloc)?;
+    let texts = [
+        Some(config.as_str()),
+        Some(stimuli.as_str()),
+        Some(turns.as_str()),
+    ];
+    play_both(&rt, alloc, texts.as_slice(), trace.as_str())
 }
 
 #[test]

@@ -1,7 +1,6 @@
 //! Worked examples of schedule tables.
 
-use super::{Example, check_of, play, print};
-use std::process::Abort;
+use super::{Example, check_of, play, refuse};
 use std::test::Fail;
 
 /// A table activates a task and releases one that waits, at one of its points: first the activation. At its end the
@@ -207,23 +206,26 @@ fn tables_come_to_their_texts(rt: HostRuntime) -> Result<(), Fail> {
 fn faults_of_tables_are_told(rt: HostRuntime) -> Result<(), Fail> {
     let examples = [
         (
-            r#"{"cores":[{"id":0,"tasks":[{"name":"A","prio":1,"script":"TerminateTask"}],"counters":[{"name":"C","max":9}],"tables":[{"name":"S","counter":"C","duration":3,"repeating":true,"points":[{"offset":3,"actions":["ActivateTask A"]}]}]},{"id":1,"counters":[{"name":"F","max":9}],"tables":[{"name":"G","counter":"F","duration":1,"points":[{"offset":0,"actions":["ActivateTask A"]}]}]}]}"#,
+            check_of(),
+            Some(
+                r#"{"cores":[{"id":0,"tasks":[{"name":"A","prio":1,"script":"TerminateTask"}],"counters":[{"name":"C","max":9}],"tables":[{"name":"S","counter":"C","duration":3,"repeating":true,"points":[{"offset":3,"actions":["ActivateTask A"]}]}]},{"id":1,"counters":[{"name":"F","max":9}],"tables":[{"name":"G","counter":"F","duration":1,"points":[{"offset":0,"actions":["ActivateTask A"]}]}]}]}"#,
+            ),
             "fault 9 BadTable\n",
         ),
         (
-            r#"{"cores":[{"id":0,"tasks":[{"name":"A","prio":1,"script":"NextScheduleTable S G"}],"counters":[{"name":"C","max":9}],"tables":[{"name":"S","counter":"C","duration":3,"repeating":true,"points":[{"offset":2,"actions":["ActivateTask A"]}]}]},{"id":1,"counters":[{"name":"F","max":9}],"tables":[{"name":"G","counter":"F","duration":1,"points":[{"offset":0,"actions":["ActivateTask A"]}]}]}]}"#,
+            check_of(),
+            Some(
+                r#"{"cores":[{"id":0,"tasks":[{"name":"A","prio":1,"script":"NextScheduleTable S G"}],"counters":[{"name":"C","max":9}],"tables":[{"name":"S","counter":"C","duration":3,"repeating":true,"points":[{"offset":2,"actions":["ActivateTask A"]}]}]},{"id":1,"counters":[{"name":"F","max":9}],"tables":[{"name":"G","counter":"F","duration":1,"points":[{"offset":0,"actions":["ActivateTask A"]}]}]}]}"#,
+            ),
             "fault 6 WrongCore\n",
         ),
         (
-            r#"{"cores":[{"id":0,"tasks":[{"name":"A","prio":1,"script":"StopScheduleTable S 0"}],"counters":[{"name":"C","max":9}],"tables":[{"name":"S","counter":"C","duration":3,"repeating":true,"points":[{"offset":2,"actions":["ActivateTask A"]}]}]},{"id":1,"counters":[{"name":"F","max":9}],"tables":[{"name":"G","counter":"F","duration":1,"points":[{"offset":0,"actions":["ActivateTask A"]}]}]}]}"#,
+            check_of(),
+            Some(
+                r#"{"cores":[{"id":0,"tasks":[{"name":"A","prio":1,"script":"StopScheduleTable S 0"}],"counters":[{"name":"C","max":9}],"tables":[{"name":"S","counter":"C","duration":3,"repeating":true,"points":[{"offset":2,"actions":["ActivateTask A"]}]}]},{"id":1,"counters":[{"name":"F","max":9}],"tables":[{"name":"G","counter":"F","duration":1,"points":[{"offset":0,"actions":["ActivateTask A"]}]}]}]}"#,
+            ),
             "fault 10 BadScript\n",
         ),
     ];
-    for (config, err) in examples.as_slice() {
-        let printed = print(rt.alloc(), &check_of(), &[Some(*config)])?;
-        assert!(rt; printed.out.is_empty());
-        assert_eq!(rt; printed.err.as_slice(), err.as_bytes());
-        assert_eq!(rt; printed.status, 1);
-    }
-    Ok(())
+    refuse(&rt, rt.alloc(), examples.as_slice())
 }
