@@ -155,6 +155,91 @@ const JUDGED: &[Judged] = &[
             (Some(ConfFault::DuplicateName), &["V", "M"]),
         ],
     },
+    // Of several faults the one with the least number is told, in whichever alarm it is.
+    Judged {
+        texts: &[
+            r#"{"cores":[{"id":0,"tasks":[{"name":"A","prio":1,"script":"walk"}],"counters":[{"name":"K","max":9}],"alarms":[{"name":"V","counter":"K","action":""},@]},{"id":1,"counters":[{"name":"Q","max":9}]}]}"#,
+        ],
+        values: &[
+            (
+                Some(ConfFault::BadScript),
+                &[r#"{"name":"W","counter":"K","action":"ActivateTask A"}"#],
+            ),
+            (
+                Some(ConfFault::BadMask),
+                &[r#"{"name":"W","counter":"K","action":"SetEvent A 0"}"#],
+            ),
+            (
+                Some(ConfFault::WrongCore),
+                &[r#"{"name":"W","counter":"Q","action":"SetEvent A 0"}"#],
+            ),
+            (
+                Some(ConfFault::UnknownName),
+                &[
+                    r#"{"name":"W","counter":"Q","action":"SetEvent B 0"}"#,
+                    r#"{"name":"W","counter":"Q","action":"","auto":{"modes":["N"],"start":1,"cycle":0}}"#,
+                ],
+            ),
+            (
+                Some(ConfFault::DuplicateName),
+                &[r#"{"name":"V","counter":"Z","action":"SetEvent B 0"}"#],
+            ),
+            (
+                Some(ConfFault::Limit),
+                &[
+                    r#"{"name":"V","counter":"Q","action":"","auto":{"modes":["N"],"start":0,"cycle":0}}"#,
+                ],
+            ),
+            (
+                Some(ConfFault::Shape),
+                &[
+                    r#"{"name":"V","counter":"Z","action":"","auto":{"modes":["?"],"start":0,"cycle":0}}"#,
+                ],
+            ),
+        ],
+    },
+    // An alarm of another shape.
+    Judged {
+        texts: &[
+            r#"{"cores":[{"id":0,"tasks":[{"name":"A","prio":1,"script":""}],"counters":[{"name":"K","max":1}],"alarms":[@]}]}"#,
+        ],
+        values: &[
+            (
+                Some(ConfFault::Shape),
+                &[
+                    r#"{}"#,
+                    r#"[]"#,
+                    r#""W""#,
+                    r#"1"#,
+                    r#"{"counter":"K","action":"ActivateTask A"}"#,
+                    r#"{"name":"W","action":"ActivateTask A"}"#,
+                    r#"{"name":"W","counter":"K"}"#,
+                    r#"{"name":"W","counter":"K","action":"ActivateTask A","cycle":1}"#,
+                    r#"{"name":"W","counter":"K","action":"ActivateTask A"},null"#,
+                    r#"{"name":"W","counter":"K","action":"ActivateTask A","auto":{}}"#,
+                    r#"{"name":"W","counter":"K","action":"ActivateTask A","auto":[]}"#,
+                    r#"{"name":"W","counter":"K","action":"ActivateTask A","auto":false}"#,
+                    r#"{"name":"W","counter":"K","action":"ActivateTask A","auto":["M"]}"#,
+                    r#"{"name":"W","counter":"K","action":"ActivateTask A","auto":{"start":1,"cycle":0}}"#,
+                    r#"{"name":"W","counter":"K","action":"ActivateTask A","auto":{"modes":[],"cycle":0}}"#,
+                    r#"{"name":"W","counter":"K","action":"ActivateTask A","auto":{"modes":[],"start":1}}"#,
+                    r#"{"name":"W","counter":"K","action":"ActivateTask A","auto":{"modes":[],"start":1,"cycle":0,"offset":0}}"#,
+                ],
+            ),
+            (
+                None,
+                &[
+                    r#"{"name":"W","counter":"K","action":"ActivateTask A"}"#,
+                    r#"{"name":"W","counter":"K","action":"ActivateTask A","auto":null}"#,
+                    r#"{"auto":{"cycle":1,"start":1,"modes":[]},"action":"ActivateTask A","counter":"K","name":"W"}"#,
+                    r#"{"name":"W","counter":"K","action":"ActivateTask A","auto":7,"auto":null}"#,
+                ],
+            ),
+        ],
+    },
+];
+
+const ACTING: &[Judged] = &[
     // Actions.
     Judged {
         texts: &[ACTION],
@@ -335,88 +420,6 @@ const JUDGED: &[Judged] = &[
             ),
         ],
     },
-    // Of several faults the one with the least number is told, in whichever alarm it is.
-    Judged {
-        texts: &[
-            r#"{"cores":[{"id":0,"tasks":[{"name":"A","prio":1,"script":"walk"}],"counters":[{"name":"K","max":9}],"alarms":[{"name":"V","counter":"K","action":""},@]},{"id":1,"counters":[{"name":"Q","max":9}]}]}"#,
-        ],
-        values: &[
-            (
-                Some(ConfFault::BadScript),
-                &[r#"{"name":"W","counter":"K","action":"ActivateTask A"}"#],
-            ),
-            (
-                Some(ConfFault::BadMask),
-                &[r#"{"name":"W","counter":"K","action":"SetEvent A 0"}"#],
-            ),
-            (
-                Some(ConfFault::WrongCore),
-                &[r#"{"name":"W","counter":"Q","action":"SetEvent A 0"}"#],
-            ),
-            (
-                Some(ConfFault::UnknownName),
-                &[
-                    r#"{"name":"W","counter":"Q","action":"SetEvent B 0"}"#,
-                    r#"{"name":"W","counter":"Q","action":"","auto":{"modes":["N"],"start":1,"cycle":0}}"#,
-                ],
-            ),
-            (
-                Some(ConfFault::DuplicateName),
-                &[r#"{"name":"V","counter":"Z","action":"SetEvent B 0"}"#],
-            ),
-            (
-                Some(ConfFault::Limit),
-                &[
-                    r#"{"name":"V","counter":"Q","action":"","auto":{"modes":["N"],"start":0,"cycle":0}}"#,
-                ],
-            ),
-            (
-                Some(ConfFault::Shape),
-                &[
-                    r#"{"name":"V","counter":"Z","action":"","auto":{"modes":["?"],"start":0,"cycle":0}}"#,
-                ],
-            ),
-        ],
-    },
-    // An alarm of another shape.
-    Judged {
-        texts: &[
-            r#"{"cores":[{"id":0,"tasks":[{"name":"A","prio":1,"script":""}],"counters":[{"name":"K","max":1}],"alarms":[@]}]}"#,
-        ],
-        values: &[
-            (
-                Some(ConfFault::Shape),
-                &[
-                    r#"{}"#,
-                    r#"[]"#,
-                    r#""W""#,
-                    r#"1"#,
-                    r#"{"counter":"K","action":"ActivateTask A"}"#,
-                    r#"{"name":"W","action":"ActivateTask A"}"#,
-                    r#"{"name":"W","counter":"K"}"#,
-                    r#"{"name":"W","counter":"K","action":"ActivateTask A","cycle":1}"#,
-                    r#"{"name":"W","counter":"K","action":"ActivateTask A"},null"#,
-                    r#"{"name":"W","counter":"K","action":"ActivateTask A","auto":{}}"#,
-                    r#"{"name":"W","counter":"K","action":"ActivateTask A","auto":[]}"#,
-                    r#"{"name":"W","counter":"K","action":"ActivateTask A","auto":false}"#,
-                    r#"{"name":"W","counter":"K","action":"ActivateTask A","auto":["M"]}"#,
-                    r#"{"name":"W","counter":"K","action":"ActivateTask A","auto":{"start":1,"cycle":0}}"#,
-                    r#"{"name":"W","counter":"K","action":"ActivateTask A","auto":{"modes":[],"cycle":0}}"#,
-                    r#"{"name":"W","counter":"K","action":"ActivateTask A","auto":{"modes":[],"start":1}}"#,
-                    r#"{"name":"W","counter":"K","action":"ActivateTask A","auto":{"modes":[],"start":1,"cycle":0,"offset":0}}"#,
-                ],
-            ),
-            (
-                None,
-                &[
-                    r#"{"name":"W","counter":"K","action":"ActivateTask A"}"#,
-                    r#"{"name":"W","counter":"K","action":"ActivateTask A","auto":null}"#,
-                    r#"{"auto":{"cycle":1,"start":1,"modes":[]},"action":"ActivateTask A","counter":"K","name":"W"}"#,
-                    r#"{"name":"W","counter":"K","action":"ActivateTask A","auto":7,"auto":null}"#,
-                ],
-            ),
-        ],
-    },
 ];
 
 const LONG: &[Long] = &[
@@ -441,4 +444,9 @@ const LONG: &[Long] = &[
 fn texts_with_alarms(rt: HostRuntime) -> Result<(), Fail> {
     judge(&rt, rt.alloc(), Reader::Configuration, JUDGED)?;
     judge_long(&rt, rt.alloc(), Reader::Configuration, LONG)
+}
+
+#[test]
+fn texts_with_actions_and_operations_on_alarms(rt: HostRuntime) -> Result<(), Fail> {
+    judge(&rt, rt.alloc(), Reader::Configuration, ACTING)
 }
