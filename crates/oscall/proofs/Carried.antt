@@ -1,10 +1,7 @@
 -- One fact for each service: what it does to one history it does to every history that reads the same to it.
-use Rattle.std.proofs.Common.{◌≡◌, ◌==◌, ◌&&◌, ◌||◌, ℕ, nat_le, Bool, true, false, not, cond, Option, Some, None, is_none, option_map, List, [], ◌∷◌, filter_map, find, refl, ap, sym, subst, ◌∙◌, ℤ, pos}
-use Rattle.std.specs.List.{list_all}
+use Rattle.std.proofs.Common.{◌≡◌, ◌==◌, ◌&&◌, ◌||◌, ℕ, nat_le, Bool, true, false, not, cond, Option, Some, None, is_none, option_map, List, [], ◌∷◌, find, refl, ap, subst, ◌∙◌, ℤ, pos}
 use Rattle.std.specs.Option.{option_map_or}
 use Rattle.osres.specs.Resources.{is_occupied}
-use Rattle.std.proofs.lemmas.Bool.{and_parts}
-use Rattle.std.proofs.lemmas.List.Elements.{filter_agree}
 use Rattle.osbase.specs.declared.statuses.Status.{Status}
 use Rattle.osbase.specs.declared.statuses.ServiceId.{ServiceId}
 use Rattle.osbase.specs.declared.references.CoreId.{CoreId}
@@ -15,7 +12,6 @@ use Rattle.osbase.specs.declared.references.TableRef.{TableRef}
 use Rattle.osbase.specs.declared.references.TaskRef.{TaskRef}
 use Rattle.osbase.specs.declared.references.Runner.{Runner}
 use Rattle.osbase.specs.declared.references.Variable.{Variable}
-use Rattle.osbase.specs.declared.objects.Object.{Object}
 use Rattle.osbase.specs.declared.messages.RemoteCall.{RemoteCall}
 use Rattle.osbase.specs.declared.messages.RemoteCall.TheVariants as Remote
 use Rattle.osbase.specs.declared.messages.Message.{Message}
@@ -23,59 +19,37 @@ use Rattle.osbase.specs.declared.marks.Mark.{Mark}
 use Rattle.osbase.specs.declared.histories.OpenCall.{OpenCall}
 use Rattle.osbase.specs.declared.histories.HeldResource.{HeldResource}
 use Rattle.osbase.specs.declared.histories.TaskEvents.{TaskEvents}
-use Rattle.osbase.specs.Counting.{AlarmSetting, TableState, Stopped, alarm_of, counted_once, counts_of, counts_to, is_due, is_in_use, left_of, one_count_more, table_state, value_after}
-use Rattle.osbase.specs.History.{Entry, History, Took, Printed, Noted, AlarmCancelled, AlarmSet, Counted, Opened, Queued, TableNext, TableQuit, TableStarted, Taken, Given, Done, awaits_one_of, have_common, job_count, live_jobs, same_core, same_runner}
+use Rattle.osbase.specs.Counting.{AlarmSetting, TableState, Stopped, alarm_of, counts_of, counts_to, is_in_use, left_of, table_state, value_after}
+use Rattle.osbase.specs.History.{Entry, History, Took, Printed, Noted, AlarmCancelled, AlarmSet, Opened, Queued, TableNext, TableQuit, TableStarted, Taken, Given, Done, awaits_one_of, have_common, job_count, live_jobs, same_runner}
 use Rattle.osbase.specs.Marks.{core_of_runner, names_only}
-use Rattle.osbase.specs.Objects.{table_object}
-use Rattle.osbase.specs.Words.{status_number}
-use Rattle.osbase.proofs.Same.{same_core-true}
 use Rattle.oscript.specs.declared.Frame.{Frame}
-use Rattle.oscript.specs.declared.Op.{Op}
-use Rattle.oscript.specs.Frames.{value_of}
-use Rattle.oscript.specs.Rows.{objects_of}
 use Rattle.osplan.specs.declared.plans.Alarm.{Alarm}
 use Rattle.osplan.specs.declared.plans.Core.{Core}
 use Rattle.osplan.specs.declared.plans.Counter.{Counter}
-use Rattle.osplan.specs.declared.plans.ExpiryPoint.{ExpiryPoint}
 use Rattle.osplan.specs.declared.plans.Table.{Table}
-use Rattle.osplan.specs.declared.plans.TimedAction.{TimedAction}
-use Rattle.osplan.specs.Objects.{call_of_action, has_index, is_own_object}
 use Rattle.osplan.specs.View.{View, own_alarm, own_table}
-use Rattle.osplan.proofs.Tests.{all-filter}
 use Rattle.osjobs.specs.Priorities.{events_in, held_in, holds_any, is_newest}
 use Rattle.osstate.specs.Queries.{is_at_limit, is_suspended}
 use Rattle.osstate.specs.Readings.{events_at, frame_at, held_resources, is_own, knows_started, resource_of, task_events}
 use Rattle.osstate.specs.Sound.{activation_limit}
 use Rattle.oscall.specs.declared.returning.Answer.{Answer}
 use Rattle.oscall.specs.Border.{answer_to, border_checks, calls, core_of_call, crosses, effect_of, replies, reports_served, returns_with, serves_action, serves_request}
-use Rattle.oscall.specs.Chaining.{chaining_checks, chains_here, chains_to, ends_caller, exceeds_limit, resumes}
+use Rattle.oscall.specs.Chaining.{chaining_checks, chains, chains_here, chains_to, ends_caller, exceeds_limit, resumes}
 use Rattle.oscall.specs.Callers.{by_task, holding_none}
 use Rattle.oscall.specs.Checks.{Check, first_failing, is_ok_status}
-use Rattle.osclock.specs.Clocks.{attached_to, counts_to_by, counts_to_value_by, due_by, is_in_use_by, max_for, max_of, setting_by, value_by}
-use Rattle.ostable.specs.declared.table.Due.{Due}
-use Rattle.ostable.specs.declared.tables.DueTable.{DueTable}
-use Rattle.ostable.specs.Ahead.{due_at, status_of}
+use Rattle.osclock.specs.Clocks.{counts_to_by, counts_to_value_by, is_in_use_by, max_for, max_of, setting_by, value_by}
+use Rattle.ostable.specs.Ahead.{status_of}
 use Rattle.ostable.specs.Status.{is_running, is_stopped, number_of}
-use Rattle.ostable.specs.Tables.{due_table, due_table_by, due_tables_by, next_by, state_by, table_refs, timed_by, waits_for}
-use Rattle.ostable.specs.Tables.{due_by as table_due_by}
-use Rattle.ostable.specs.Waiting.{are_own, repeats}
-use Rattle.ostable.proofs.Asked.{dues-own}
-use Rattle.oscall.specs.Counters.{counts_and_returns, incrementing_checks, own_clock, tells_value}
-use Rattle.oscall.specs.Events.{begins_to_wait, by_extended, clearing_checks, clears, clears_and_returns, goes_on_or_waits, own_target, reading_checks, releases, sets_events, tells_events, waiting_checks}
+use Rattle.ostable.specs.Tables.{next_by, state_by, table_refs, waits_for}
+use Rattle.oscall.specs.Counters.{gets_value, own_clock, tells_value}
+use Rattle.oscall.specs.Events.{begins_to_wait, by_extended, clearing_checks, clears, clears_and_returns, clears_event, gets_event, goes_on_or_waits, own_target, reading_checks, releases, sets_events, tells_events, waiting_checks, waits_event}
 use Rattle.oscall.specs.Alarms.{is_increment, is_setting, is_start, sets_alarm}
-use Rattle.oscall.specs.Advancing.{counts}
-use Rattle.oscall.specs.Expiring.{acts, acts_here, expire_each, expires, posts}
-use Rattle.oscall.specs.Operations.{absolute_call, inquiry_call, operates, relative_call}
-use Rattle.oscall.specs.Passing.{activations_of, acts_each, begins, due_point, first_point, is_activation, pass_each, passes, reaches, settings_of, stops}
-use Rattle.oscall.specs.Passing.{ends as ends_period}
 use Rattle.oscall.specs.Returning.{answers, asks, queues, reports, returns}
-use Rattle.oscall.specs.Variables.{sets, sum_of}
-use Rattle.oscall.specs.Tasks.{activates, ends, ends_unasked}
-use Rattle.oscall.specs.Resources.{gives, is_below, takes}
+use Rattle.oscall.specs.Variables.{sets}
+use Rattle.oscall.specs.Tasks.{activates, ends, ends_unasked, schedules, terminates}
+use Rattle.oscall.specs.Resources.{gets_resource, gives, is_below, releases_resource, takes}
 use Rattle.oscall.specs.Service.{Service, effect_by, status_by}
 use Rattle.oscall.specs.Tables.{absolute_start, counts_to_start, does_service, is_offset, is_value, own_pair, own_schedule, quits_next, relative_start, status_inquiry, stop, suits, switch}
-use Rattle.oscall.proofs.Allowed.{ActionsAllow, IsAllowedPoint, acts_within, alarm-allowed, due-allowed, first-allowed}
-use Rattle.oscall.proofs.Owned.{own-alarm}
 
 -- Which cores one asks, or answers: every one, and none.
 abbrev pub anybody : CoreId → Bool
@@ -83,10 +57,6 @@ anybody core = true
 
 abbrev pub nobody : CoreId → Bool
 nobody core = false
-
--- The core of each object that an operation names is the own core, or one that may be asked.
-abbrev pub IsAllowed : View → (CoreId → Bool) → Op → Type 0
-IsAllowed v may op = list_all (λ (object : Object). is_own v object.place.core || may object.place.core) (objects_of op) ≡ true
 
 -- What a core sees that differs only in who is the master and which cores there are.
 abbrev pub seen_as : View → Bool → List CoreId → View
@@ -126,14 +96,15 @@ pub record IsKept (v : View) (may answered names : CoreId → Bool) (R : History
 
 -- ---- lists
 
--- Two tests that agree at each element find the same, and two functions keep the same.
+-- Two tests that agree at each element find the same.
 find-agree : {X : Type 0} (p q : X → Bool) → ((x : X) → p x ≡ q x) → (xs : List X) → find p xs ≡ find q xs
 find-agree p q same [] = refl
 find-agree p q same (x ∷ xs) = rw (same x, find-agree p q same xs) refl
 
-kept-agree : {X Y : Type 0} (f g : X → Option Y) → ((x : X) → f x ≡ g x) → (xs : List X) → filter_map f xs ≡ filter_map g xs
-kept-agree f g same [] = refl
-kept-agree f g same (x ∷ xs) = rw (same x, kept-agree f g same xs) refl
+-- The core of a call's object is the own core, or one that may be asked.
+abbrev pub MayCall : View → (CoreId → Bool) → Option RemoteCall → Type 0
+MayCall v may None = Unit {0}
+MayCall v may (Some call) = (is_own v (core_of_call call) || may (core_of_call call)) ≡ true
 
 -- Each function of a service carries such a relation: related before, related after. The second history is that of a
 -- core that sees another master and other cores.
@@ -154,7 +125,7 @@ module _ (v : View) (master : Bool) (ids : List CoreId) (may answered names : Co
   pub printed-carried : (m : Mark) (h k : History) → names_only names m ≡ true → R h k → R (Printed m ∷ h) (Printed m ∷ k)
   printed-carried m h k n p = kept.local (Printed m) h k n p
 
-  reports-carried : (s : Status) (h k : History) → R h k → R (reports s h) (reports s k)
+  pub reports-carried : (s : Status) (h k : History) → R h k → R (reports s h) (reports s k)
   reports-carried s h k p = either-carried (is_ok_status s) h _ k _ p (printed-carried (Mark.ErrorHook s) h k refl p)
 
   pub returns-carried : (r : Runner) (service : ServiceId) (s : Status) (value : Option ℤ) (h k : History) → IsNamed r → R h k → R (returns r service s value h) (returns r service s value k)
@@ -174,7 +145,7 @@ module _ (v : View) (master : Bool) (ids : List CoreId) (may answered names : Co
   ends_unasked-carried (Runner.Isr i) h k n p = ends-carried (Runner.Isr i) h k n p
 
   -- A service whose checks come to the same status, and whose effect carries the relation.
-  answers-carried : (r : Runner) (service : ServiceId) (checks checks' : List Check) → first_failing checks ≡ first_failing checks' → (does does' : History → History) (h k : History) → IsNamed r → R h k → R (does h) (does' k) → R (answers r service checks does h) (answers r service checks' does' k)
+  pub answers-carried : (r : Runner) (service : ServiceId) (checks checks' : List Check) → first_failing checks ≡ first_failing checks' → (does does' : History → History) (h k : History) → IsNamed r → R h k → R (does h) (does' k) → R (answers r service checks does h) (answers r service checks' does' k)
   answers-carried r service checks checks' same does does' h k n p q =
       subst (λ (s : Status). R (answers r service checks does h) (cond (is_ok_status s) (does' k) (returns r service s None k))) same
       (either-carried (is_ok_status (first_failing checks)) (does h) _ (does' k) _ q (returns-carried r service (first_failing checks) None h k n p))
@@ -216,7 +187,7 @@ module _ (v : View) (master : Bool) (ids : List CoreId) (may answered names : Co
   abbrev unused_checks : Bool → List Check
   unused_checks in_use = (not in_use, Status.EOsNofunc) ∷ []
 
-  setting-same : (a : AlarmRef) (h k : History) → R h k → setting_by v.own a h ≡ setting_by v.own a k
+  pub setting-same : (a : AlarmRef) (h k : History) → R h k → setting_by v.own a h ≡ setting_by v.own a k
   setting-same a h k p = by (own_alarm v.own a)
     where
       by : (o : Option Alarm) → option_map_or (λ (x : Alarm). alarm_of x.counter a h) o None ≡ option_map_or (λ (x : Alarm). alarm_of x.counter a k) o None
@@ -273,7 +244,7 @@ module _ (v : View) (master : Bool) (ids : List CoreId) (may answered names : Co
   -- ---- calls across cores
 
   -- A function of the answer and of the history with the effect, which carries the relation for each answer.
-  answered-carried : (f f' : Answer → History → History) → ((answer : Answer) (h k : History) → R h k → R (f answer h) (f' answer k)) → (call : RemoteCall) (h k : History) → names (core_of_call call) ≡ true → R h k → R (f (answer_to call v h) (effect_of call v h)) (f' (answer_to call other k) (effect_of call other k))
+  pub answered-carried : (f f' : Answer → History → History) → ((answer : Answer) (h k : History) → R h k → R (f answer h) (f' answer k)) → (call : RemoteCall) (h k : History) → names (core_of_call call) ≡ true → R h k → R (f (answer_to call v h) (effect_of call v h)) (f' (answer_to call other k) (effect_of call other k))
   answered-carried f f' carries call h k n p =
       subst (λ (answer : Answer). R (f (answer_to call v h) (effect_of call v h)) (f' answer (effect_of call other k))) (answer-same call h k p)
       (carries (answer_to call v h) _ _ (effect-carried call h k n p))
@@ -292,12 +263,7 @@ module _ (v : View) (master : Bool) (ids : List CoreId) (may answered names : Co
       by true m = answered-carried (returns_with r service) (returns_with r service) (λ answer. returns_with-carried r service answer n) call h k object p
       by false m = asks-carried r service call h k object m p
 
-  -- The core of a call's object is the own core, or one that may be asked.
-  abbrev MayCall : Option RemoteCall → Type 0
-  MayCall None = Unit {0}
-  MayCall (Some call) = (is_own v (core_of_call call) || may (core_of_call call)) ≡ true
-
-  calls-carried : (r : Runner) (service : ServiceId) (target : Option RemoteCall) (h k : History) → IsNamed r → MayCall target → R h k → R (calls v r service target h) (calls other r service target k)
+  pub calls-carried : (r : Runner) (service : ServiceId) (target : Option RemoteCall) (h k : History) → IsNamed r → MayCall v may target → R h k → R (calls v r service target h) (calls other r service target k)
   calls-carried r service None h k n allowed p = returns-carried r service Status.EOsId None h k n p
   calls-carried r service (Some call) h k n allowed p =
       answers-carried r service (border_checks (Some call) h) (border_checks (Some call) k) (ap (λ (b : Bool). first_failing ((false, Status.EOsId) ∷ (not b, Status.EOsCore) ∷ [])) ((kept.reads h k p).started (core_of_call call) allowed))
@@ -315,33 +281,27 @@ module _ (v : View) (master : Bool) (ids : List CoreId) (may answered names : Co
   pub action-carried : (from : CoreId) (call : RemoteCall) (h k : History) → names (core_of_call call) ≡ true → R h k → R (serves_action v from call h) (serves_action other from call k)
   action-carried from call h k n p = answered-carried (reports_served from call) (reports_served from call) (reports_served-carried from call n) call h k n p
 
-  -- ---- one fact for each operation
+  -- ---- one fact for each service
 
-  abbrev Carried : Op → Type 0
-  Carried op = (r : Runner) (h k : History) → IsNamed r → IsAllowed v may op → R h k → R (operates v r op h) (operates other r op k)
+  -- What a running job does to one history, it does to the other.
+  abbrev Carried : (Runner → History → History) → (Runner → History → History) → Type 0
+  Carried does does' = (r : Runner) (h k : History) → IsNamed r → R h k → R (does r h) (does' r k)
 
-  done-carried : (r : Runner) (h k : History) → R h k → R (Noted (Done r Status.EOk None) ∷ h) (Noted (Done r Status.EOk None) ∷ k)
+  pub done-carried : (r : Runner) (h k : History) → R h k → R (Noted (Done r Status.EOk None) ∷ h) (Noted (Done r Status.EOk None) ∷ k)
   done-carried r h k p = kept.local (Noted (Done r Status.EOk None)) h k refl p
 
   -- A number that is read off the runner's frame, which is the same in both.
-  sets-carried : (f : Frame → ℤ) (x : Variable) (r : Runner) (h k : History) → IsNamed r → R h k → R (sets r x (f (frame_at v r h)) h) (sets r x (f (frame_at v r k)) k)
+  pub sets-carried : (f : Frame → ℤ) (x : Variable) (r : Runner) (h k : History) → IsNamed r → R h k → R (sets r x (f (frame_at v r h)) h) (sets r x (f (frame_at v r k)) k)
   sets-carried f x r h k n p =
       subst (λ (frame : Frame). R (sets r x (f (frame_at v r h)) h) (sets r x (f frame) k)) ((kept.reads h k p).frame r)
       (kept.local (Noted (Done r Status.EOk (Some (f (frame_at v r h))))) _ _ refl (printed-carried (Mark.VariableSet r x (f (frame_at v r h))) h k n p))
 
-  may_activate : (target : Option TaskRef) → IsAllowed v may (Op.ActivateTask target) → MayCall (option_map Remote.ActivateTask target)
-  may_activate None allowed = tt
-  may_activate (Some t) allowed = (and_parts _ true allowed).0
-
-  activate-carried : (target : Option TaskRef) → Carried (Op.ActivateTask target)
-  activate-carried target r h k n allowed p = calls-carried r ServiceId.ActivateTask (option_map Remote.ActivateTask target) h k n (may_activate target allowed) p
-
-  terminate-carried : Carried Op.TerminateTask
-  terminate-carried r h k n allowed p =
+  pub terminate-carried : Carried (terminates v) (terminates other)
+  terminate-carried r h k n p =
       held-carried (λ held. by_task r ∷ (holds_any (held_in r held), Status.EOsResource) ∷ []) r ServiceId.TerminateTask (ends r) h k n p (ends-carried r h k n p)
 
   -- ChainTask: what its caller's core checks, and what it does where nothing is refused.
-  chaining-same : (r : Runner) (target : Option TaskRef) (h k : History) → MayCall (option_map Remote.ActivateTask target) → R h k → first_failing (chaining_checks v r target h) ≡ first_failing (chaining_checks other r target k)
+  chaining-same : (r : Runner) (target : Option TaskRef) (h k : History) → MayCall v may (option_map Remote.ActivateTask target) → R h k → first_failing (chaining_checks v r target h) ≡ first_failing (chaining_checks other r target k)
   chaining-same r None h k allowed p = refl
   chaining-same r (Some t) h k allowed p =
       ap (λ (b : Bool). first_failing (by_task r ∷ (false, Status.EOsId) ∷ (not b, Status.EOsCore) ∷ holding_none v r h ∷ [])) ((kept.reads h k p).started t.core allowed)
@@ -353,7 +313,7 @@ module _ (v : View) (master : Bool) (ids : List CoreId) (may answered names : Co
       (ap (λ (b : Bool). first_failing ((not (same_runner r (Runner.Task t)) && b, Status.EOsLimit) ∷ [])) (limit-same t h k p))
       (λ h. activates t (ends r h)) (λ k. activates t (ends r k)) h k n p (printed-carried _ _ _ object (ends-carried r h k n p))
 
-  chains_to-carried : (r : Runner) (target : Option TaskRef) (h k : History) → IsNamed r → MayCall (option_map Remote.ActivateTask target) → R h k → R (chains_to v r target h) (chains_to other r target k)
+  chains_to-carried : (r : Runner) (target : Option TaskRef) (h k : History) → IsNamed r → MayCall v may (option_map Remote.ActivateTask target) → R h k → R (chains_to v r target h) (chains_to other r target k)
   chains_to-carried r None h k n allowed p = p
   chains_to-carried r (Some t) h k n allowed p = by (is_own v t.core) allowed
     where
@@ -362,18 +322,17 @@ module _ (v : View) (master : Bool) (ids : List CoreId) (may answered names : Co
       by true m = chains_here-carried r t h k n (kept.named t.core allowed) p
       by false m = asks-carried r ServiceId.ChainTask (Remote.ActivateTask t) h k (kept.named t.core allowed) m p
 
-  chain-carried : (target : Option TaskRef) → Carried (Op.ChainTask target)
-  chain-carried target r h k n allowed p =
-      let object = may_activate target allowed in
-      answers-carried r ServiceId.ChainTask (chaining_checks v r target h) (chaining_checks other r target k) (chaining-same r target h k object p)
-      (chains_to v r target) (chains_to other r target) h k n p (chains_to-carried r target h k n object p)
+  pub chain-carried : (target : Option TaskRef) → MayCall v may (option_map Remote.ActivateTask target) → Carried (λ r. chains v r target) (λ r. chains other r target)
+  chain-carried target allowed r h k n p =
+      answers-carried r ServiceId.ChainTask (chaining_checks v r target h) (chaining_checks other r target k) (chaining-same r target h k allowed p)
+      (chains_to v r target) (chains_to other r target) h k n p (chains_to-carried r target h k n allowed p)
 
   pub resumes-carried : (r : Runner) (service : ServiceId) (s : Status) (value : Option ℤ) (h k : History) → IsNamed r → R h k → R (resumes r service s value h) (resumes r service s value k)
   resumes-carried r service s value h k n p =
       either-carried (ends_caller service s) (ends r h) _ (ends r k) _ (ends-carried r h k n p) (returns-carried r service s value h k n p)
 
-  schedule-carried : Carried Op.Schedule
-  schedule-carried r h k n allowed p =
+  pub schedule-carried : Carried (schedules v) (schedules other)
+  schedule-carried r h k n p =
       let granted = returns-carried r ServiceId.Schedule Status.EOk None h k n p in
       held-carried (λ held. by_task r ∷ (holds_any (held_in r held), Status.EOsResource) ∷ []) r ServiceId.Schedule (returns r ServiceId.Schedule Status.EOk None) h k n p granted
 
@@ -381,8 +340,8 @@ module _ (v : View) (master : Bool) (ids : List CoreId) (may answered names : Co
   takes-carried r None h k p = p
   takes-carried r (Some x) h k p = kept.local (Noted (Taken r x)) h k refl p
 
-  get-carried : (target : Option ResourceRef) → Carried (Op.GetResource target)
-  get-carried target r h k n allowed p =
+  pub get-carried : (target : Option ResourceRef) → Carried (λ r. gets_resource v r target) (λ r. gets_resource other r target)
+  get-carried target r h k n p =
       let x = resource_of v.own target in
       held-carried (λ held. (is_none x, Status.EOsId) ∷ (option_map_or (λ (y : HeldResource). is_occupied y.index held || is_below v r y) x false, Status.EOsAccess) ∷ []) r ServiceId.GetResource
       (λ h. returns r ServiceId.GetResource Status.EOk None (takes r x h)) h k n p
@@ -392,23 +351,19 @@ module _ (v : View) (master : Bool) (ids : List CoreId) (may answered names : Co
   gives-carried r None h k p = p
   gives-carried r (Some x) h k p = kept.local (Noted (Given r x.index)) h k refl p
 
-  release-carried : (target : Option ResourceRef) → Carried (Op.ReleaseResource target)
-  release-carried target r h k n allowed p =
+  pub release-carried : (target : Option ResourceRef) → Carried (λ r. releases_resource v r target) (λ r. releases_resource other r target)
+  release-carried target r h k n p =
       let x = resource_of v.own target in
       held-carried (λ held. (is_none x, Status.EOsId) ∷ (option_map_or (is_below v r) x false, Status.EOsAccess) ∷ (option_map_or (λ (y : HeldResource). not (is_newest y.index (held_in r held))) x false, Status.EOsNofunc) ∷ []) r ServiceId.ReleaseResource
       (λ h. returns r ServiceId.ReleaseResource Status.EOk None (gives r x h)) h k n p
       (returns-carried r ServiceId.ReleaseResource Status.EOk None _ _ n (gives-carried r x h k p))
 
-  set_event-carried : (target : Option TaskRef) (mask : ℕ) → Carried (Op.SetEvent target mask)
-  set_event-carried None mask r h k n allowed p = calls-carried r ServiceId.SetEvent None h k n tt p
-  set_event-carried (Some t) mask r h k n allowed p = calls-carried r ServiceId.SetEvent (Some (Remote.SetEvent t mask)) h k n (and_parts _ true allowed).0 p
-
   clears-carried : (r : Runner) (mask : ℕ) (h k : History) → IsNamed r → R h k → R (clears r mask h) (clears r mask k)
   clears-carried (Runner.Task t) mask h k n p = printed-carried _ h k n p
   clears-carried (Runner.Isr i) mask h k n p = p
 
-  clear_event-carried : (mask : ℕ) → Carried (Op.ClearEvent mask)
-  clear_event-carried mask r h k n allowed p =
+  pub clear_event-carried : (mask : ℕ) → Carried (λ r. clears_event v r mask) (λ r. clears_event other r mask)
+  clear_event-carried mask r h k n p =
       answers-carried r ServiceId.ClearEvent (clearing_checks v r) (clearing_checks v r) refl
       (clears_and_returns r mask) (clears_and_returns r mask) h k n p
       (returns-carried r ServiceId.ClearEvent Status.EOk None _ _ n (clears-carried r mask h k n p))
@@ -423,6 +378,9 @@ module _ (v : View) (master : Bool) (ids : List CoreId) (may answered names : Co
       (subst (λ (all : List TaskEvents). R (tells_events v r (Some t) h) (returns r ServiceId.GetEvent Status.EOk (Some (pos (events_in (Runner.Task t) all).set)) k)) (kept.reads h k p).events
       (returns-carried r ServiceId.GetEvent Status.EOk (Some (pos (events_at v (Runner.Task t) h).set)) h k n p))
 
+  pub get_event-carried : (target : Option TaskRef) → Carried (λ r. gets_event v r target) (λ r. gets_event other r target)
+  get_event-carried target = reads_event-carried (own_target v.own target)
+
   begins_to_wait-carried : (r : Runner) (mask : ℕ) (h k : History) → IsNamed r → R h k → R (begins_to_wait r mask h) (begins_to_wait r mask k)
   begins_to_wait-carried (Runner.Task t) mask h k n p = done-carried (Runner.Task t) _ _ (printed-carried _ _ _ n (printed-carried _ h k n p))
   begins_to_wait-carried (Runner.Isr i) mask h k n p = p
@@ -433,40 +391,15 @@ module _ (v : View) (master : Bool) (ids : List CoreId) (may answered names : Co
       (either-carried (have_common mask (events_at v r h).set) (returns r ServiceId.WaitEvent Status.EOk None h) (begins_to_wait r mask h) (returns r ServiceId.WaitEvent Status.EOk None k) (begins_to_wait r mask k)
       (returns-carried r ServiceId.WaitEvent Status.EOk None h k n p) (begins_to_wait-carried r mask h k n p))
 
-  wait_event-carried : (mask : ℕ) → Carried (Op.WaitEvent mask)
-  wait_event-carried mask r h k n allowed p =
+  pub wait_event-carried : (mask : ℕ) → Carried (λ r. waits_event v r mask) (λ r. waits_event other r mask)
+  wait_event-carried mask r h k n p =
       answers-carried r ServiceId.WaitEvent (waiting_checks v r h) (waiting_checks other r k)
       (ap (λ (held : List (List HeldResource)). first_failing (by_task r ∷ by_extended v r ∷ (holds_any (held_in r held), Status.EOsResource) ∷ [])) (kept.reads h k p).held)
       (goes_on_or_waits v r mask) (goes_on_or_waits other r mask) h k n p (goes_on_or_waits-carried r mask h k n p)
 
-  -- ---- what is due at a count
+  -- ---- services of tables of the core
 
-  here-carried : (call : RemoteCall) (h k : History) → names (core_of_call call) ≡ true → R h k → R (acts_here call v h) (acts_here call other k)
-  here-carried call h k n p = answered-carried (λ answer. reports answer.status) (λ answer. reports answer.status) (λ answer. reports-carried answer.status) call h k n p
-
-  posts-carried : (call : RemoteCall) (h k : History) → names (core_of_call call) ≡ true → may (core_of_call call) ≡ true → R h k → R (posts call h) (posts call k)
-  posts-carried call h k n m p = kept.asked (core_of_call call) (Message.Action call) _ _ m (printed-carried (Mark.CallQueued (core_of_call call) call) h k n p)
-
-  acts-carried : (call : RemoteCall) (h k : History) → (is_own v (core_of_call call) || may (core_of_call call)) ≡ true → R h k → R (acts v call h) (acts other call k)
-  acts-carried call h k allowed p = by (is_own v (core_of_call call)) allowed
-    where
-      core : CoreId
-      core = core_of_call call
-
-      object : names core ≡ true
-      object = kept.named core allowed
-
-      refused : History → History
-      refused n = Printed (Mark.ErrorHook Status.EOsCore) ∷ n
-
-      by : (b : Bool) → (b || may core) ≡ true
-          → R (cond b (acts_here call v h) (cond (knows_started h core) (posts call h) (refused h))) (cond b (acts_here call other k) (cond (knows_started k core) (posts call k) (refused k)))
-      by true m = here-carried call h k object p
-      by false m =
-          subst (λ (b : Bool). R (cond (knows_started h core) (posts call h) (refused h)) (cond b (posts call k) (refused k))) ((kept.reads h k p).started core allowed)
-          (either-carried (knows_started h core) (posts call h) (refused h) (posts call k) (refused k) (posts-carried call h k object m p) (printed-carried (Mark.ErrorHook Status.EOsCore) h k refl p))
-
-  -- Of the tables of the core: their states, what is due of them at the next count, and which waits for which.
+  -- Their states, and which waits for which.
   state-same : (s : TableRef) (h k : History) → R h k → state_by v.own s h ≡ state_by v.own s k
   state-same s h k p = by (own_table v.own s)
     where
@@ -474,103 +407,8 @@ module _ (v : View) (master : Bool) (ids : List CoreId) (may answered names : Co
       by None = refl
       by (Some x) = (kept.reads h k p).tables x.counter s
 
-  next-same : (s : TableRef) (h k : History) → R h k → next_by v.own s h ≡ next_by v.own s k
+  pub next-same : (s : TableRef) (h k : History) → R h k → next_by v.own s h ≡ next_by v.own s k
   next-same s h k p = find-agree _ _ (λ u. ap (waits_for s) (state-same u h k p)) (table_refs v.own)
-
-  table_due-same : (s : TableRef) (h k : History) → R h k → table_due_by v.own s h ≡ table_due_by v.own s k
-  table_due-same s h k p = by (own_table v.own s)
-    where
-      by : (o : Option Table) → option_map_or (λ (x : Table). due_at x (counted_once (table_state x.counter s h))) o None ≡ option_map_or (λ (x : Table). due_at x (counted_once (table_state x.counter s k))) o None
-      by None = refl
-      by (Some x) = ap (λ (state : TableState). due_at x (counted_once state)) ((kept.reads h k p).tables x.counter s)
-
-  due_tables-same : (c : CounterRef) (h k : History) → R h k → due_tables_by v.own c h ≡ due_tables_by v.own c k
-  due_tables-same c h k p = kept-agree (due_table_by v.own h) (due_table_by v.own k) one (timed_by v.own c)
-    where
-      one : (s : TableRef) → due_table_by v.own h s ≡ due_table_by v.own k s
-      one s =
-          ap (λ (next : Option TableRef). option_map (due_table s next) (table_due_by v.own s h)) (next-same s h k p)
-          ∙ ap (λ (due : Option Due). option_map (due_table s (next_by v.own s k)) due) (table_due-same s h k p)
-
-  -- Where what the core's alarms and tables act on is allowed, and marks may name what is its own.
-  module _ (actions : ActionsAllow v may) (own_named : names v.own.id ≡ true) where
-    expires-carried : (a : AlarmRef) (h k : History) → R h k → R (expires v a h) (expires other a k)
-    expires-carried a h k p = by (own_alarm v.own a) refl
-      where
-        by : (o : Option Alarm) → own_alarm v.own a ≡ o
-            → R (option_map_or (λ (x : Alarm). acts v (call_of_action x.action) (Printed (Mark.AlarmExpired a) ∷ h)) o h) (option_map_or (λ (x : Alarm). acts other (call_of_action x.action) (Printed (Mark.AlarmExpired a) ∷ k)) o k)
-        by None is = p
-        by (Some x) is =
-            let own = own-alarm v.own a x is in
-            acts-carried (call_of_action x.action) _ _ (alarm-allowed v may actions a x is) (printed-carried (Mark.AlarmExpired a) h k (subst (λ (core : CoreId). names core ≡ true) (sym own.0) own_named) p)
-
-    expire_each-carried : (due : List AlarmRef) (h k : History) → R h k → R (expire_each v due h) (expire_each other due k)
-    expire_each-carried [] h k p = p
-    expire_each-carried (a ∷ due) h k p = expire_each-carried due _ _ (expires-carried a h k p)
-
-    due-same : (c : CounterRef) (h k : History) → R h k → due_by v.own c h ≡ due_by v.own c k
-    due-same c h k p = filter_agree _ _ (λ a. ap (λ (s : Option AlarmSetting). is_due (max_for v.own a) (option_map one_count_more s)) (setting-same a h k p)) (attached_to v.own c)
-
-    -- What a table does: its points, and the ends of its periods.
-    acts_each-carried : (all : List TimedAction) (h k : History) → list_all (acts_within v may) all ≡ true → R h k → R (acts_each v all h) (acts_each other all k)
-    acts_each-carried [] h k m p = p
-    acts_each-carried (action ∷ rest) h k m p =
-        let parts = and_parts (acts_within v may action) (list_all (acts_within v may) rest) m in
-        acts_each-carried rest _ _ parts.1 (acts-carried (call_of_action action) h k parts.0 p)
-
-    reaches-carried : (s : TableRef) (o : Option ExpiryPoint) (h k : History) → names s.core ≡ true → IsAllowedPoint v may o → R h k → R (reaches v s o h) (reaches other s o k)
-    reaches-carried s None h k n m p = p
-    reaches-carried s (Some point) h k n m p =
-        acts_each-carried (settings_of point.actions) _ _ (all-filter (acts_within v may) (λ (action : TimedAction). not (is_activation action)) point.actions m)
-        (acts_each-carried (activations_of point.actions) _ _ (all-filter (acts_within v may) is_activation point.actions m) (printed-carried (Mark.ExpiryPoint s point.offset) h k n p))
-
-    stops-carried : (s : TableRef) (h k : History) → names s.core ≡ true → R h k → R (stops s h) (stops s k)
-    stops-carried s h k n p = kept.local (Noted (TableQuit s)) _ _ refl (printed-carried (Mark.TableStopped s) h k n p)
-
-    begins-carried : (s : TableRef) (h k : History) → names s.core ≡ true → R h k → R (begins v s h) (begins other s k)
-    begins-carried s h k n p =
-        reaches-carried s (first_point v.own s) _ _ n (first-allowed v may actions s) (kept.local (Noted (TableStarted s 0)) _ _ refl (printed-carried (Mark.TableBegun s) h k n p))
-
-    -- Marks may name a table of the core.
-    table-named : (s : TableRef) → is_own_object v.own (table_object s) ≡ true → names s.core ≡ true
-    table-named s own =
-        subst (λ (core : CoreId). names core ≡ true) (sym (same_core-true s.core v.own.id (and_parts (same_core s.core v.own.id) (has_index v.own (table_object s)) own).0)) own_named
-
-    end-carried : (s : TableRef) (next : Option TableRef) (h k : History) → is_own_object v.own (table_object s) ≡ true → option_map_or (λ (u : TableRef). is_own_object v.own (table_object u)) next true ≡ true → R h k → R (ends_period v s next h) (ends_period other s next k)
-    end-carried s (Some u) h k own next_own p = begins-carried u _ _ (table-named u next_own) (stops-carried s h k (table-named s own) p)
-    end-carried s None h k own next_own p =
-        either-carried (repeats v.own s) (reaches v s (first_point v.own s) h) (stops s h) (reaches other s (first_point v.own s) k) (stops s k)
-        (reaches-carried s (first_point v.own s) h k (table-named s own) (first-allowed v may actions s) p) (stops-carried s h k (table-named s own) p)
-
-    passes-carried : (d : DueTable) (h k : History) → are_own v.own d ≡ true → R h k → R (passes v d h) (passes other d k)
-    passes-carried d h k own p =
-        let parts = and_parts (is_own_object v.own (table_object d.table)) (option_map_or (λ (u : TableRef). is_own_object v.own (table_object u)) d.next true) own in
-        let there = reaches-carried d.table (due_point v.own d) h k (table-named d.table parts.0) (due-allowed v may actions d) p in
-        either-carried d.due.ends (ends_period v d.table d.next (reaches v d.table (due_point v.own d) h)) (reaches v d.table (due_point v.own d) h) (ends_period other d.table d.next (reaches other d.table (due_point v.own d) k)) (reaches other d.table (due_point v.own d) k)
-        (end-carried d.table d.next _ _ parts.0 parts.1 there) there
-
-    pass_each-carried : (due : List DueTable) (h k : History) → list_all (are_own v.own) due ≡ true → R h k → R (pass_each v due h) (pass_each other due k)
-    pass_each-carried [] h k own p = p
-    pass_each-carried (d ∷ due) h k own p =
-        let parts = and_parts (are_own v.own d) (list_all (are_own v.own) due) own in
-        pass_each-carried due _ _ parts.1 (passes-carried d h k parts.0 p)
-
-    pub counts-carried : (c : CounterRef) (h k : History) → R h k → R (counts v c h) (counts other c k)
-    counts-carried c h k p =
-        subst (λ (tables : List DueTable). R (counts v c h) (pass_each other tables (expire_each other (due_by v.own c k) (Noted (Counted c) ∷ k)))) (due_tables-same c h k p)
-        (subst (λ (due : List AlarmRef). R (counts v c h) (pass_each other (due_tables_by v.own c h) (expire_each other due (Noted (Counted c) ∷ k)))) (due-same c h k p)
-        (pass_each-carried (due_tables_by v.own c h) _ _ (dues-own v.own c h) (expire_each-carried (due_by v.own c h) _ _ (kept.local (Noted (Counted c)) h k refl p))))
-
-    counts_and_returns-carried : (r : Runner) (target : Option CounterRef) (h k : History) → IsNamed r → R h k → R (counts_and_returns v r target h) (counts_and_returns other r target k)
-    counts_and_returns-carried r None h k n p = p
-    counts_and_returns-carried r (Some c) h k n p = returns-carried r ServiceId.IncrementCounter Status.EOk None _ _ n (counts-carried c h k p)
-
-    increment-carried : (target : Option CounterRef) → Carried (Op.IncrementCounter target)
-    increment-carried target r h k n allowed p =
-        answers-carried r ServiceId.IncrementCounter (incrementing_checks v target) (incrementing_checks v target) refl
-        (counts_and_returns v r target) (counts_and_returns other r target) h k n p (counts_and_returns-carried r target h k n p)
-
-  -- ---- services of tables of the core
 
   -- What a service checks, does and tells is the same in both.
   record IsServed (s : Service) (h k : History) : Type 0 where
@@ -646,6 +484,28 @@ module _ (v : View) (master : Bool) (ids : List CoreId) (may answered names : Co
   inquiry-served s h k p =
       record { status = refl; effect = p; value = ap (λ (state : TableState). Some (pos (number_of (status_of state)))) (state-same s h k p) }
 
+  -- A service that a running job asks for.
+  abbrev Serves : ServiceId → Option Service → Type 0
+  Serves service s = Carried (λ r. does_service v r service s) (λ r. does_service other r service s)
+
+  pub start_relative-carried : (offset : ℕ) (target : Option TableRef) → Serves ServiceId.StartScheduleTableRel (option_map (relative_start offset) (own_schedule v.own target))
+  start_relative-carried offset target r h k n p =
+      does-carried (relative_start offset) r ServiceId.StartScheduleTableRel (own_schedule v.own target) h k n p (λ s. relative-served offset s h k p)
+
+  pub start_absolute-carried : (start : ℕ) (target : Option TableRef) → Serves ServiceId.StartScheduleTableAbs (option_map (absolute_start start) (own_schedule v.own target))
+  start_absolute-carried start target r h k n p =
+      does-carried (absolute_start start) r ServiceId.StartScheduleTableAbs (own_schedule v.own target) h k n p (λ s. absolute-served start s h k p)
+
+  pub next_table-carried : (from to : Option TableRef) → Serves ServiceId.NextScheduleTable (option_map switch (own_pair v.own from to))
+  next_table-carried from to r h k n p = does-carried switch r ServiceId.NextScheduleTable (own_pair v.own from to) h k n p (λ q. switch-served q h k p)
+
+  pub stop_table-carried : (target : Option TableRef) → Serves ServiceId.StopScheduleTable (option_map stop (own_schedule v.own target))
+  stop_table-carried target r h k n p = does-carried stop r ServiceId.StopScheduleTable (own_schedule v.own target) h k n p (λ s. stop-served s h k p)
+
+  pub table_status-carried : (target : Option TableRef) → Serves ServiceId.GetScheduleTableStatus (option_map status_inquiry (own_schedule v.own target))
+  table_status-carried target r h k n p =
+      does-carried status_inquiry r ServiceId.GetScheduleTableStatus (own_schedule v.own target) h k n p (λ s. inquiry-served s h k p)
+
   -- GetCounterValue of a counter of the core, or of none.
   value-carried : (target : Option CounterRef) (r : Runner) (h k : History) → IsNamed r → R h k
       → R (answers r ServiceId.GetCounterValue ((is_none target, Status.EOsId) ∷ []) (tells_value v r target) h) (answers r ServiceId.GetCounterValue ((is_none target, Status.EOsId) ∷ []) (tells_value other r target) k)
@@ -654,47 +514,5 @@ module _ (v : View) (master : Bool) (ids : List CoreId) (may answered names : Co
       subst (λ (count : ℕ). R (tells_value v r (Some c) h) (returns r ServiceId.GetCounterValue Status.EOk (Some (pos (value_after (max_of v.own c) count))) k)) ((kept.reads h k p).counts c)
       (returns-carried r ServiceId.GetCounterValue Status.EOk (Some (pos (value_by v.own c h))) h k n p)
 
-  -- A call of an alarm's service.
-  may_call : (call_for : AlarmRef → RemoteCall) (op_for : Option AlarmRef → Op) → ((a : AlarmRef) → IsAllowed v may (op_for (Some a)) → MayCall (Some (call_for a))) → (target : Option AlarmRef) → IsAllowed v may (op_for target) → MayCall (option_map call_for target)
-  may_call call_for op_for some None allowed = tt
-  may_call call_for op_for some (Some a) allowed = some a allowed
-
-  module _ (actions : ActionsAllow v may) (own_named : names v.own.id ≡ true) where
-    pub operates-carried : (op : Op) → Carried op
-    operates-carried Op.Work r h k n allowed p = done-carried r h k p
-    operates-carried (Op.Set x z) r h k n allowed p = sets-carried (λ frame. z) x r h k n p
-    operates-carried (Op.Add x z) r h k n allowed p = sets-carried (λ frame. sum_of (value_of x frame) z) x r h k n p
-    operates-carried (Op.AddVariable x y) r h k n allowed p = sets-carried (λ frame. sum_of (value_of x frame) (value_of y frame)) x r h k n p
-    operates-carried (Op.StoreStatus x) r h k n allowed p = sets-carried (λ frame. pos (status_number frame.status)) x r h k n p
-    operates-carried (Op.Jump place) r h k n allowed p = done-carried r h k p
-    operates-carried (Op.JumpIfZero x place) r h k n allowed p = done-carried r h k p
-    operates-carried (Op.ActivateTask target) r h k n allowed p = activate-carried target r h k n allowed p
-    operates-carried Op.TerminateTask r h k n allowed p = terminate-carried r h k n allowed p
-    operates-carried (Op.ChainTask target) r h k n allowed p = chain-carried target r h k n allowed p
-    operates-carried Op.Schedule r h k n allowed p = schedule-carried r h k n allowed p
-    operates-carried (Op.GetResource target) r h k n allowed p = get-carried target r h k n allowed p
-    operates-carried (Op.ReleaseResource target) r h k n allowed p = release-carried target r h k n allowed p
-    operates-carried (Op.SetEvent target mask) r h k n allowed p = set_event-carried target mask r h k n allowed p
-    operates-carried (Op.ClearEvent mask) r h k n allowed p = clear_event-carried mask r h k n allowed p
-    operates-carried (Op.GetEvent target x) r h k n allowed p = reads_event-carried (own_target v.own target) r h k n p
-    operates-carried (Op.WaitEvent mask) r h k n allowed p = wait_event-carried mask r h k n allowed p
-    operates-carried (Op.IncrementCounter target) r h k n allowed p = increment-carried actions own_named target r h k n allowed p
-    operates-carried (Op.GetCounterValue target x) r h k n allowed p = value-carried (own_clock v.own target) r h k n p
-    operates-carried (Op.SetRelAlarm target increment cycle) r h k n allowed p =
-        calls-carried r ServiceId.SetRelAlarm (relative_call target increment cycle) h k n (may_call (λ a. Remote.SetRelAlarm a increment cycle) (λ o. Op.SetRelAlarm o increment cycle) (λ a m. (and_parts _ true m).0) target allowed) p
-    operates-carried (Op.SetAbsAlarm target start cycle) r h k n allowed p =
-        calls-carried r ServiceId.SetAbsAlarm (absolute_call target start cycle) h k n (may_call (λ a. Remote.SetAbsAlarm a start cycle) (λ o. Op.SetAbsAlarm o start cycle) (λ a m. (and_parts _ true m).0) target allowed) p
-    operates-carried (Op.CancelAlarm target) r h k n allowed p =
-        calls-carried r ServiceId.CancelAlarm (option_map Remote.CancelAlarm target) h k n (may_call Remote.CancelAlarm Op.CancelAlarm (λ a m. (and_parts _ true m).0) target allowed) p
-    operates-carried (Op.GetAlarm target x) r h k n allowed p =
-        calls-carried r ServiceId.GetAlarm (inquiry_call target x) h k n (may_call (λ a. Remote.GetAlarm a x) (λ o. Op.GetAlarm o x) (λ a m. (and_parts _ true m).0) target allowed) p
-    operates-carried (Op.StartScheduleTableRel target offset) r h k n allowed p =
-        does-carried (relative_start offset) r ServiceId.StartScheduleTableRel (own_schedule v.own target) h k n p (λ s. relative-served offset s h k p)
-    operates-carried (Op.StartScheduleTableAbs target start) r h k n allowed p =
-        does-carried (absolute_start start) r ServiceId.StartScheduleTableAbs (own_schedule v.own target) h k n p (λ s. absolute-served start s h k p)
-    operates-carried (Op.NextScheduleTable from to) r h k n allowed p =
-        does-carried switch r ServiceId.NextScheduleTable (own_pair v.own from to) h k n p (λ q. switch-served q h k p)
-    operates-carried (Op.StopScheduleTable target) r h k n allowed p =
-        does-carried stop r ServiceId.StopScheduleTable (own_schedule v.own target) h k n p (λ s. stop-served s h k p)
-    operates-carried (Op.GetScheduleTableStatus target x) r h k n allowed p =
-        does-carried status_inquiry r ServiceId.GetScheduleTableStatus (own_schedule v.own target) h k n p (λ s. inquiry-served s h k p)
+  pub get_value-carried : (target : Option CounterRef) → Carried (λ r. gets_value v r target) (λ r. gets_value other r target)
+  get_value-carried target = value-carried (own_clock v.own target)

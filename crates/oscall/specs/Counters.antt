@@ -1,45 +1,19 @@
--- The services of counters.
-use Rattle.std.specs.Prelude.{pos, true, false, not, Bool, if◌then◌else◌, Option, Some, None, is_none, List, [], ◌∷◌}
-use Rattle.std.specs.Option.{option_map_or}
-use Rattle.osbase.specs.declared.statuses.Status.TheVariants.{EOk, EOsCore, EOsId}
+-- The service that tells a counter's value.
+use Rattle.std.specs.Prelude.{pos, Option, Some, None, is_none, [], ◌∷◌}
+use Rattle.osbase.specs.declared.statuses.Status.TheVariants.{EOk, EOsId}
 use Rattle.osbase.specs.declared.statuses.ServiceId.TheVariants as ServiceId
 use Rattle.osbase.specs.declared.references.CounterRef.{CounterRef}
 use Rattle.osbase.specs.declared.references.Runner.{Runner}
 use Rattle.osbase.specs.History.{History}
 use Rattle.osbase.specs.Objects.{counter_object}
 use Rattle.osplan.specs.declared.plans.Core.{Core}
-use Rattle.osplan.specs.declared.plans.Counter.{Counter}
-use Rattle.osplan.specs.Objects.{is_own_object}
-use Rattle.osplan.specs.View.{View, own_counter}
+use Rattle.osplan.specs.View.{View}
 use Rattle.osclock.specs.Clocks.{value_by}
-use Rattle.osstate.specs.Readings.{is_own}
-use Rattle.oscall.specs.Checks.{Check}
-use Rattle.oscall.specs.Advancing.{counts}
+use Rattle.oscall.specs.Named.{own_of}
 use Rattle.oscall.specs.Returning.{answers, returns}
 
--- A hardware counter of the core, which ticks alone advance. [AUTOSAR SWS OS 4.x, OsCounterType]
-abbrev pub is_hardware : Core → CounterRef → Bool
-is_hardware core c = option_map_or (λ (x : Counter). not x.software) (own_counter core c) false
-
--- IncrementCounter is for a software counter of the own core. [AUTOSAR SWS OS 4.x, SWS_Os_00285; E_OS_CORE: own]
-abbrev pub incrementing_checks : View → Option CounterRef → List Check
-incrementing_checks v target =
-    (option_map_or (is_hardware v.own) target true, EOsId) ∷ (option_map_or (λ (c : CounterRef). not (is_own v c.core)) target false, EOsCore) ∷ []
-
--- The counter goes on by one, and what is due acts, before the service returns.
-abbrev pub counts_and_returns : View → Runner → Option CounterRef → History → History
-counts_and_returns v r None h = h
-counts_and_returns v r (Some c) h = returns r ServiceId.IncrementCounter EOk None (counts v c h)
-
--- [AUTOSAR SWS OS 4.x, SWS_Os_00286]
-abbrev pub increments : View → Runner → Option CounterRef → History → History
-increments v r target h = answers r ServiceId.IncrementCounter (incrementing_checks v target) (counts_and_returns v r target) h
-
--- A counter that a script names, if it is one of the core's own; no script of an accepted configuration names another one where it
--- asks for a value. [own]
 abbrev pub own_clock : Core → Option CounterRef → Option CounterRef
-own_clock core None = None
-own_clock core (Some c) = if is_own_object core (counter_object c) then Some c else None
+own_clock core target = own_of counter_object core target
 
 -- The service returns with the counter's value. [AUTOSAR SWS OS 4.x, SWS_Os_00377]
 abbrev pub tells_value : View → Runner → Option CounterRef → History → History

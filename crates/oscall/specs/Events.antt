@@ -9,13 +9,13 @@ use Rattle.osbase.specs.declared.marks.Mark.TheVariants as Mark
 use Rattle.osbase.specs.History.{History, Noted, Done, awaits_one_of, have_common}
 use Rattle.osbase.specs.Objects.{task_object}
 use Rattle.osplan.specs.declared.plans.Core.{Core}
-use Rattle.osplan.specs.Objects.{is_own_object}
 use Rattle.osplan.specs.View.{View}
 use Rattle.osjobs.specs.Priorities.{is_extended}
 use Rattle.osstate.specs.Queries.{is_suspended}
 use Rattle.osstate.specs.Readings.{events_at}
 use Rattle.oscall.specs.Callers.{by_task, holding_none}
 use Rattle.oscall.specs.Checks.{Check}
+use Rattle.oscall.specs.Named.{own_of}
 use Rattle.oscall.specs.Returning.{answers, prints, returns}
 use Rattle.oscall.specs.Service.{Service, no_value}
 
@@ -41,11 +41,8 @@ sets_events t mask v h = releases t mask v (prints (Mark.EventSet t mask) h)
 abbrev pub setting : TaskRef → ℕ → Service
 setting t mask = record { checks = event_checks t; effect = sets_events t mask; value = no_value }
 
--- A task that a script names, if it is one of the core's own; no script of an accepted configuration names another one where it
--- asks for events. [own]
 abbrev pub own_target : Core → Option TaskRef → Option TaskRef
-own_target core None = None
-own_target core (Some t) = if is_own_object core (task_object t) then Some t else None
+own_target core target = own_of task_object core target
 
 abbrev pub reading_checks : View → Option TaskRef → History → List Check
 reading_checks v target h = (is_none target, EOsId) ∷ option_map_or (λ (t : TaskRef). event_checks t v h) target []

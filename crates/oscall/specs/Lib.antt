@@ -1,5 +1,6 @@
 pub mod Checks
 pub mod Callers
+pub mod Named
 pub mod Returning
 pub mod Service
 pub mod Tasks
@@ -7,11 +8,8 @@ pub mod Resources
 pub mod Events
 pub mod Alarms
 pub mod Border
-pub mod Expiring
-pub mod Passing
-pub mod Advancing
+pub mod Calling
 pub mod Counters
 pub mod Tables
 pub mod Chaining
 pub mod Variables
-pub mod Operations

@@ -12,7 +12,6 @@ use Rattle.osplan.specs.declared.plans.Counter.{Counter}
 use Rattle.osplan.specs.declared.plans.Table.{Table}
 use Rattle.osplan.specs.Clocked.{own_table_sizes}
 use Rattle.osplan.specs.Limits.{counter_sizes, is_table_start}
-use Rattle.osplan.specs.Objects.{is_own_object}
 use Rattle.osplan.specs.View.{View, own_counter, own_table}
 use Rattle.osclock.specs.Clocks.{counts_to_value_by}
 use Rattle.ostable.specs.Ahead.{status_of}
@@ -21,6 +20,7 @@ use Rattle.ostable.specs.Tables.{next_by, state_by}
 use Rattle.ostable.specs.Waiting.{are_of_one_counter}
 use Rattle.oscall.specs.declared.returning.Answer.{Answer}
 use Rattle.oscall.specs.Checks.{Check}
+use Rattle.oscall.specs.Named.{own_of}
 use Rattle.oscall.specs.Border.{returns_with}
 use Rattle.oscall.specs.Service.{Service, answer_by, effect_by, no_value}
 
@@ -90,10 +90,8 @@ status_inquiry s = record { checks = λ v h. []; effect = λ v h. h; value = λ 
 
 -- ---- of what a script names
 
--- A table that a script names, if it is one of the core's own; no script of an accepted configuration names another one. [own]
 abbrev pub own_schedule : Core → Option TableRef → Option TableRef
-own_schedule core None = None
-own_schedule core (Some s) = if is_own_object core (table_object s) then Some s else None
+own_schedule core target = own_of table_object core target
 
 -- Two that go by one counter. [AUTOSAR SWS OS 4.x, SWS_Os_00330]
 abbrev pub pair_of : Core → TableRef → TableRef → Option (TableRef × TableRef)

@@ -88,7 +88,7 @@ fn status_of_setting<const P: usize, const J: usize, const OUT: usize>(
 /// One of the core's alarms is due after so many counts of its counter, and again after each cycle (OSEK/VDX OS 2.2.3,
 /// section 13.6.3.3). An alarm in use answers E_OS_STATE; an increment of 0 or above the counter's greatest value, and a
 /// cycle other than 0 below its least or above its greatest, E_OS_VALUE. Then it stays as it was.
-pub fn set_relative<const P: usize, const J: usize, const OUT: usize>(
+pub(crate) fn set_relative<const P: usize, const J: usize, const OUT: usize>(
     state: &mut CoreState<'_, P, J, OUT>,
     alarm: AlarmRef,
     increment: u32,
@@ -113,7 +113,7 @@ pub fn set_relative<const P: usize, const J: usize, const OUT: usize>(
 /// One of the core's alarms is due when its counter has this value, the present one after a full turn, and again after
 /// each cycle (OSEK/VDX OS 2.2.3, section 13.6.3.4). An alarm in use answers E_OS_STATE; a value above the counter's
 /// greatest, and a cycle as of `set_relative`, E_OS_VALUE. Then it stays as it was.
-pub fn set_absolute<const P: usize, const J: usize, const OUT: usize>(
+pub(crate) fn set_absolute<const P: usize, const J: usize, const OUT: usize>(
     state: &mut CoreState<'_, P, J, OUT>,
     alarm: AlarmRef,
     start: u32,
@@ -153,7 +153,7 @@ fn status_of_use<const P: usize, const J: usize, const OUT: usize>(
 
 /// One of the core's alarms is not in use any longer (OSEK/VDX OS 2.2.3, section 13.6.3.5). One that was not in use
 /// answers E_OS_NOFUNC.
-pub fn cancel<const P: usize, const J: usize, const OUT: usize>(
+pub(crate) fn cancel<const P: usize, const J: usize, const OUT: usize>(
     state: &mut CoreState<'_, P, J, OUT>,
     alarm: AlarmRef,
 ) -> Answer
@@ -174,7 +174,7 @@ pub fn cancel<const P: usize, const J: usize, const OUT: usize>(
 
 /// How many counts are left until one of the core's alarms is due (OSEK/VDX OS 2.2.3, section 13.6.3.2). One that is not
 /// in use answers E_OS_NOFUNC.
-pub fn ask_left<const P: usize, const J: usize, const OUT: usize>(
+pub(crate) fn ask_left<const P: usize, const J: usize, const OUT: usize>(
     state: &CoreState<'_, P, J, OUT>,
     alarm: AlarmRef,
 ) -> Answer

@@ -9,7 +9,7 @@ ghost use Rattle.oscall.specs.Checks.{is_ok_status};
 ghost use Rattle.oscall.specs.Border.{answer_to, calls, core_of_call, crosses, effect_of, is_action, is_known_call, is_served, prints_served, serves_action, serves_request};
 
 use crate::alarms::{ask_left, cancel, set_absolute, set_relative};
-use crate::events::set_event;
+use crate::events;
 use crate::returning::{Answer, ask, finish, refuse, report};
 use crate::tasks::activate;
 use osbase::{CoreId, Mark, Message, RemoteCall, Runner, ServiceId, Status};
@@ -27,7 +27,7 @@ pub fn is_action(call: RemoteCall) -> bool
 
 /// The half of a service that the object's core does, for a job of its own and for another core alike: the
 /// remaining checks, and the effect. A service that is refused has none.
-pub(crate) fn serve<const P: usize, const J: usize, const OUT: usize>(
+pub fn serve<const P: usize, const J: usize, const OUT: usize>(
     state: &mut CoreState<'_, P, J, OUT>,
     call: RemoteCall,
     marks: &mut Vec<Mark>,
@@ -42,7 +42,7 @@ pub(crate) fn serve<const P: usize, const J: usize, const OUT: usize>(
 {
     match call {
         RemoteCall::ActivateTask(task) => activate(state, task, marks),
-        RemoteCall::SetEvent { task, mask } => set_event(state, task, mask, marks),
+        RemoteCall::SetEvent { task, mask } => events::set(state, task, mask, marks),
         RemoteCall::SetRelAlarm {
             alarm,
             increment,
@@ -61,7 +61,7 @@ pub(crate) fn serve<const P: usize, const J: usize, const OUT: usize>(
 /// A service by a running job of one of the core's tasks, on an object that may stand on another core. The
 /// invalid identifier answers E_OS_ID, an object of a core that was never started E_OS_CORE; neither has
 /// another effect. The service of an own object is done here; another core is asked.
-pub fn call<const P: usize, const J: usize, const OUT: usize>(
+pub(crate) fn call<const P: usize, const J: usize, const OUT: usize>(
     state: &mut CoreState<'_, P, J, OUT>,
     runner: Runner,
     service: ServiceId,

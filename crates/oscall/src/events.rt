@@ -31,7 +31,7 @@ fn status_of_events<const P: usize, const J: usize, const OUT: usize>(
 /// Events of a task are set where it stands, which is where its state is known; if it waits for one of them, it
 /// waits no longer (OSEK/VDX OS 2.2.3, section 13.5.3.1). A task that is not extended answers E_OS_ACCESS, one that
 /// is suspended E_OS_STATE; then no event is set.
-pub fn set_event<const P: usize, const J: usize, const OUT: usize>(
+pub(crate) fn set<const P: usize, const J: usize, const OUT: usize>(
     state: &mut CoreState<'_, P, J, OUT>,
     task: TaskRef,
     mask: u32,

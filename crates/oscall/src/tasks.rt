@@ -17,7 +17,7 @@ use osstate::CoreState;
 /// A task is activated where it stands, which is where the number of its live jobs is known
 /// (OSEK/VDX OS 2.2.3, section 13.2.3.1). A task with as many jobs as it may have answers E_OS_LIMIT, and
 /// nothing is activated.
-pub fn activate<const P: usize, const J: usize, const OUT: usize>(
+pub(crate) fn activate<const P: usize, const J: usize, const OUT: usize>(
     state: &mut CoreState<'_, P, J, OUT>,
     task: TaskRef,
     marks: &mut Vec<Mark>,

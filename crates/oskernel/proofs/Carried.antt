@@ -39,8 +39,10 @@ use Rattle.osplan.specs.View.{View}
 use Rattle.osstate.specs.Readings.{best_job, frame_at, is_own, numbered_alarms, numbered_counters, numbered_tables, phase_at, running, script_of, task_ref, task_refs}
 use Rattle.oscall.specs.Border.{core_of_call}
 use Rattle.oscall.specs.Tasks.{activates}
-use Rattle.oscall.proofs.Allowed.{ActionsAllow}
-use Rattle.oscall.proofs.Carried.{IsAllowed, IsKept, counts-carried, seen_as, anybody, either-carried, printed-carried, operates-carried, request-carried, action-carried, resumes-carried, ends_unasked-carried}
+use Rattle.osdue.proofs.Allowed.{ActionsAllow}
+use Rattle.oscall.proofs.Carried.{IsKept, seen_as, anybody, either-carried, printed-carried, request-carried, action-carried, resumes-carried, ends_unasked-carried}
+use Rattle.osdue.proofs.Carried.{counts-carried}
+use Rattle.oskernel.proofs.Operated.{IsAllowed, operates-carried}
 use Rattle.oskernel.specs.Step.{after, autostarts, closes, counts_each, dispatches, effect, enters, gate_mark, goes_on, goes_to, leaves, starts, starts_by_itself, starts_each, starts_in, sets_by_itself, sets_each, performs}
 
 -- A request comes from a core that may be answered, and the call that it brings, or an action, is for an object that marks

@@ -3,6 +3,7 @@ pub mod Taken
 pub mod Numbered
 pub mod Autostart
 pub mod Ticking
+pub mod Operated
 pub mod Carried
 pub mod Holding
 pub mod Stages

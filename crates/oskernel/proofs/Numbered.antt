@@ -7,7 +7,7 @@ use Rattle.osbase.specs.History.{History}
 use Rattle.osplan.specs.declared.plans.Core.{Core}
 use Rattle.osplan.specs.View.{View}
 use Rattle.osstate.specs.Readings.{numbered}
-use Rattle.oscall.proofs.InTurn.{all-done, next-done}
+use Rattle.osdue.proofs.InTurn.{all-done, next-done}
 
 -- the objects with their references, and the one at a place
 module _ {R A : Type 0} (ref : ℕ → R) where

@@ -17,8 +17,8 @@ use Rattle.osstate.specs.Readings.{numbered_counters}
 use Rattle.ostable.specs.Tables.{table_refs, timed_by}
 use Rattle.ostable.proofs.Portions.{sum-of-plans, timed-portions}
 use Rattle.ostable.proofs.Sums.{sum-both}
-use Rattle.oscall.specs.Advancing.{counts, posted_at_point, posted_by, posted_for, posts_by}
-use Rattle.oscall.proofs.Postings.{sum-of-alarms}
+use Rattle.osdue.specs.Advancing.{counts, posted_at_point, posted_by, posted_for, posts_by}
+use Rattle.osdue.proofs.Postings.{sum-of-alarms}
 use Rattle.oskernel.specs.Step.{counts_each}
 
 abbrev pub clock_at : CoreId → ℕ → CounterRef

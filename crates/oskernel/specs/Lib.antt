@@ -1,4 +1,5 @@
 pub mod Admission
+pub mod Operations
 pub mod Step
 pub mod Wants
 pub mod Bounded

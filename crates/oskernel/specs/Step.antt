@@ -32,12 +32,12 @@ use Rattle.osplan.specs.View.{View}
 use Rattle.osstate.specs.Readings.{script_of, frame_at, best_job, numbered_alarms, numbered_counters, numbered_tables, phase_at, running, task_refs}
 use Rattle.osstate.specs.State.{state_of}
 use Rattle.oscall.specs.Alarms.{sets_alarm}
-use Rattle.oscall.specs.Advancing.{counts}
+use Rattle.osdue.specs.Advancing.{counts}
 use Rattle.oscall.specs.Returning.{prints}
 use Rattle.oscall.specs.Tasks.{activates, ends_unasked}
 use Rattle.oscall.specs.Border.{serves_request, serves_action}
 use Rattle.oscall.specs.Chaining.{resumes}
-use Rattle.oscall.specs.Operations.{operates}
+use Rattle.oskernel.specs.Operations.{operates}
 use Rattle.oskernel.specs.Admission.{takes_in}
 
 -- An item may be taken where the state may take it to which the history leads. `places` is how many envelopes the outbox

@@ -335,7 +335,7 @@ fn perform<const P: usize, const J: usize, const OUT: usize>(
     ensures { Effects service_entries service_marks (λ v h. performs v runner (action_at (script_of v.own runner) (frame_at v runner h)) h) state.old state.new marks.old marks.new }
 {
     match state.next_action(runner) {
-        Action::Perform(op) => oscall::operate(state, runner, op, marks),
+        Action::Perform(op) => crate::operations::operate(state, runner, op, marks),
         Action::End => oscall::end_unasked(state, runner, marks),
     }
 }

@@ -4,6 +4,7 @@
 mod admission;
 mod effects;
 pub mod kernel;
+mod operations;
 mod ticks;
 pub mod wants;
 

@@ -7,7 +7,7 @@ ghost use Rattle.osclock.specs.Clocks.{attached_to};
 ghost use Rattle.ostable.specs.Tables.{timed_by};
 ghost use Rattle.osplan.specs.Objects.{is_own_object, posted_at_once};
 ghost use Rattle.osstate.specs.Does.{Effects, HasRoom, service_entries, service_marks};
-ghost use Rattle.oscall.specs.Advancing.{counts, posted_by};
+ghost use Rattle.osdue.specs.Advancing.{counts, posted_by};
 ghost use Rattle.oskernel.specs.Step.{ticks};
 
 use osbase::{CounterRef, Mark};
@@ -52,6 +52,6 @@ fn count_by_tick<const P: usize, const J: usize, const OUT: usize>(
     ensures outbox { length state.new.border.outbox ≤ length state.old.border.outbox + posted_by state.old.view.own reference }
 {
     if !counter.software {
-        oscall::advance(state, reference, marks);
+        osdue::advance(state, reference, marks);
     }
 }

@@ -2,7 +2,7 @@ use Rattle.std.proofs.Common.{SFits, w64, ℤ, Some, rules, ap, ◌∙◌}
 use Rattle.std.proofs.lemmas.Int.{to_z-of_z}
 use Rattle.osbase.specs.declared.statuses.Status.TheVariants.{EOk}
 use Rattle.oscall.specs.declared.returning.Answer.{Answer}
-use Rattle.oscall.proofs.Owned.{inquired, left_answer}
+use Rattle.oscall.proofs.Inquired.{inquired, left_answer}
 use Rattle.oscall.proofs.alarms.ask_left.Goals as goal
 
 pub returns-in-Some : goal.returns-in-Some

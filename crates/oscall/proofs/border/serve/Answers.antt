@@ -12,10 +12,10 @@ pub returns-in-ActivateTask-clause-refused : goal.returns-in-ActivateTask-clause
 returns-in-ActivateTask-clause-refused g c = rw c.in-ActivateTask.is c.activate.ensures.refused
 
 pub returns-in-SetEvent-clause-effects : goal.returns-in-SetEvent-clause-effects
-returns-in-SetEvent-clause-effects g c = rw c.in-SetEvent.is c.set_event.ensures.effects
+returns-in-SetEvent-clause-effects g c = rw c.in-SetEvent.is c.set.ensures.effects
 
 pub returns-in-SetEvent-clause-refused : goal.returns-in-SetEvent-clause-refused
-returns-in-SetEvent-clause-refused g c = rw c.in-SetEvent.is c.set_event.ensures.refused
+returns-in-SetEvent-clause-refused g c = rw c.in-SetEvent.is c.set.ensures.refused
 
 pub returns-in-SetRelAlarm-clause-effects : goal.returns-in-SetRelAlarm-clause-effects
 returns-in-SetRelAlarm-clause-effects g c = rw c.in-SetRelAlarm.is (as_effect (λ v h stands. refl) (lit≤ tt) (lit≤ tt) (unprinted c.set_relative.ensures.effects))

@@ -13,10 +13,10 @@ use Rattle.ostable.specs.Tables.{timed_by}
 use Rattle.osstate.specs.State.{KernelState}
 use Rattle.osstate.proofs.Effecting.{as_effect, then, unprinted}
 use Rattle.oscall.proofs.Remarking.{unmoved}
-use Rattle.oscall.specs.Advancing.{posted_by}
+use Rattle.osdue.specs.Advancing.{posted_by}
 use Rattle.oscall.specs.Returning.{prints}
-use Rattle.oscall.proofs.Owned.{alarms-few}
-use Rattle.oscall.proofs.Postings.{tables-few}
+use Rattle.osdue.proofs.Owned.{alarms-few}
+use Rattle.osdue.proofs.Postings.{tables-few}
 use Rattle.oskernel.specs.Step.{counts_each}
 use Rattle.oskernel.proofs.Numbered.{all-objects, next-object}
 use Rattle.oskernel.proofs.Ticking.{alarms-within, alarms_at, clock_at, count_if_hardware, posted-within, posted_at, tables-within, tables_at, total-more}

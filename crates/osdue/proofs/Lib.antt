@@ -1,0 +1,6 @@
+pub mod Owned
+pub mod InTurn
+pub mod Allowed
+pub mod Actions
+pub mod Postings
+pub mod Carried

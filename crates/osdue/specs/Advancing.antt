@@ -1,0 +1,37 @@
+-- What a count of a counter leads to, and how many envelopes join the outbox by it at most.
+use Rattle.std.specs.Prelude.{ℕ, ◌+◌, if◌then◌else◌, Bool, false, ◌∷◌, sum_by}
+use Rattle.std.specs.Option.{option_map_or}
+use Rattle.osbase.specs.declared.references.AlarmRef.{AlarmRef}
+use Rattle.osbase.specs.declared.references.CounterRef.{CounterRef}
+use Rattle.osbase.specs.declared.references.TableRef.{TableRef}
+use Rattle.osbase.specs.History.{History, Noted, Counted}
+use Rattle.osplan.specs.declared.plans.Alarm.{Alarm}
+use Rattle.osplan.specs.declared.plans.Core.{Core}
+use Rattle.osplan.specs.Objects.{greatest_posted, is_posting}
+use Rattle.osplan.specs.View.{View, own_alarm, own_table}
+use Rattle.osclock.specs.Clocks.{attached_to, due_by}
+use Rattle.ostable.specs.Tables.{due_tables_by, timed_by}
+use Rattle.osdue.specs.Expiring.{expire_each}
+use Rattle.osdue.specs.Passing.{pass_each}
+
+-- The counter goes on by one; then each of its alarms acts that is due at this count, in index order, and then each of its schedule
+-- tables that was running before it. [OSEK/VDX OS 2.2.3, section 9.1 and 9.2; AUTOSAR SWS OS 4.x, section 7.3; the order: own]
+abbrev pub counts : View → CounterRef → History → History
+counts v c h = pass_each v (due_tables_by v.own c h) (expire_each v (due_by v.own c h) (Noted (Counted c) ∷ h))
+
+-- ---- how many envelopes join the outbox, at most
+
+-- The core's alarm acts on another core's task.
+abbrev pub posts_by : Core → AlarmRef → Bool
+posts_by core a = option_map_or (λ (alarm : Alarm). is_posting core alarm.action) (own_alarm core a) false
+
+abbrev pub posted_for : Core → AlarmRef → ℕ
+posted_for core a = if posts_by core a then 1 else 0
+
+-- A schedule table, at that of its points that has most.
+abbrev pub posted_at_point : Core → TableRef → ℕ
+posted_at_point core s = option_map_or (greatest_posted core) (own_table core s) 0
+
+-- At one count.
+abbrev pub posted_by : Core → CounterRef → ℕ
+posted_by core c = sum_by (posted_for core) (attached_to core c) + sum_by (posted_at_point core) (timed_by core c)

@@ -1,0 +1,4 @@
+pub mod Expiring
+pub mod Passing
+pub mod Advancing
+pub mod Incrementing

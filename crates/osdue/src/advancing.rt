@@ -1,0 +1,80 @@
+//! What is due when a counter goes on.
+
+ghost use Rattle.std.specs.Prelude.{◌≡◌, ◌≤◌, ◌+◌, ◌*◌, IsTrue, false, length, suc, sum_by};
+ghost use Rattle.std.specs.List.{list_all};
+ghost use Rattle.osbase.specs.declared.references.AlarmRef.{AlarmRef};
+ghost use Rattle.osbase.specs.Objects.{alarm_object, counter_object};
+ghost use Rattle.osbase.specs.Phases.{is_before_live};
+ghost use Rattle.osplan.specs.Objects.{is_own_object};
+ghost use Rattle.osclock.specs.Clocks.{attached_to};
+ghost use Rattle.ostable.specs.Tables.{timed_by};
+ghost use Rattle.ostable.specs.Waiting.{are_own};
+ghost use Rattle.osstate.specs.Does.{Effects, HasRoom};
+ghost use Rattle.osdue.specs.Advancing.{counts, posted_by, posted_for};
+ghost use Rattle.osdue.specs.Expiring.{expire_each};
+ghost use Rattle.osdue.specs.Passing.{pass_each, posted_by_table};
+
+use crate::expiring::expire;
+use crate::passing::pass;
+use osbase::{CounterRef, Mark};
+use osclock::AlarmSlot;
+use osstate::CoreState;
+use ostable::DueTable;
+
+/// One of the core's counters goes on by one; then each of its alarms acts that is due at this count, in index order, and
+/// then each of its schedule tables that was running before it (OSEK/VDX OS 2.2.3, section 9.1 and 9.2; AUTOSAR SWS OS
+/// 4.x, section 7.3).
+pub fn advance<const P: usize, const J: usize, const OUT: usize>(
+    state: &mut CoreState<'_, P, J, OUT>,
+    counter: CounterRef,
+    marks: &mut Vec<Mark>,
+)
+    requires own { IsTrue (is_own_object state.old.view.own (counter_object counter)) }
+    requires live { is_before_live state.old.progress.phase ≡ false }
+    requires outbox { length state.old.border.outbox + posted_by state.old.view.own counter ≤ OUT }
+    requires room { HasRoom (suc (3 * length (attached_to state.old.view.own counter) + 38 * length (timed_by state.old.view.own counter))) (3 * length (attached_to state.old.view.own counter) + 36 * length (timed_by state.old.view.own counter)) state.old marks.old }
+    ensures effects { Effects (suc (3 * length (attached_to state.old.view.own counter) + 38 * length (timed_by state.old.view.own counter))) (3 * length (attached_to state.old.view.own counter) + 36 * length (timed_by state.old.view.own counter)) (λ v h. counts v counter h) state.old state.new marks.old marks.new }
+    ensures outbox { length state.new.border.outbox ≤ length state.old.border.outbox + posted_by state.old.view.own counter }
+{
+    let alarms = state.due_next(counter);
+    let due_alarms = alarms.as_slice();
+    let tables = state.due_tables(counter);
+    let due_tables = tables.as_slice();
+    state.count(counter);
+    expire_each(state, due_alarms, marks);
+    pass_each(state, due_tables, marks);
+}
+
+fn expire_each<const P: usize, const J: usize, const OUT: usize>(
+    state: &mut CoreState<'_, P, J, OUT>,
+    due: &[AlarmSlot],
+    marks: &mut Vec<Mark>,
+)
+    requires own { IsTrue (list_all (λ (a : AlarmRef). is_own_object state.old.view.own (alarm_object a)) due.now) }
+    requires live { is_before_live state.old.progress.phase ≡ false }
+    requires outbox { length state.old.border.outbox + sum_by (posted_for state.old.view.own) due.now ≤ OUT }
+    requires room { HasRoom (3 * length due.now) (3 * length due.now) state.old marks.old }
+    ensures effects { Effects (3 * length due.now) (3 * length due.now) (λ v h. expire_each v due.now h) state.old state.new marks.old marks.new }
+    ensures outbox { length state.new.border.outbox ≤ length state.old.border.outbox + sum_by (posted_for state.old.view.own) due.now }
+{
+    for slot in due {
+        expire(state, slot.alarm, marks);
+    }
+}
+
+fn pass_each<const P: usize, const J: usize, const OUT: usize>(
+    state: &mut CoreState<'_, P, J, OUT>,
+    due: &[DueTable],
+    marks: &mut Vec<Mark>,
+)
+    requires own { IsTrue (list_all (are_own state.old.view.own) due.now) }
+    requires live { is_before_live state.old.progress.phase ≡ false }
+    requires outbox { length state.old.border.outbox + sum_by (posted_by_table state.old.view.own) due.now ≤ OUT }
+    requires room { HasRoom (38 * length due.now) (36 * length due.now) state.old marks.old }
+    ensures effects { Effects (38 * length due.now) (36 * length due.now) (λ v h. pass_each v due.now h) state.old state.new marks.old marks.new }
+    ensures outbox { length state.new.border.outbox ≤ length state.old.border.outbox + sum_by (posted_by_table state.old.view.own) due.now }
+{
+    for table in due {
+        pass(state, *table, marks);
+    }
+}

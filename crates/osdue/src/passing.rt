@@ -1,0 +1,227 @@
+//! What a schedule table does at a count.
+
+ghost use Rattle.std.specs.Prelude.{◌≡◌, ◌≤◌, ◌+◌, ◌*◌, IfSome, IsTrue, count_by, false, length, option_copied, slice_get};
+ghost use Rattle.std.specs.List.{list_all};
+ghost use Rattle.osbase.specs.Objects.{table_object};
+ghost use Rattle.osbase.specs.Phases.{is_before_live};
+ghost use Rattle.osplan.specs.Objects.{is_own_object, is_posting, posted_at};
+ghost use Rattle.ostable.specs.Waiting.{are_own, repeats};
+ghost use Rattle.osstate.specs.Does.{Effects, HasRoom};
+ghost use Rattle.osstate.specs.Sound.{has_object_of};
+ghost use Rattle.osdue.specs.Passing.{acts_each, activations_of, begins, does_point, due_point, ends, first_point, is_activation, is_known_point, passes, posted_by_end, posted_by_point, posted_by_table, reaches, settings_of, stops};
+
+use crate::expiring::act;
+use osbase::{Mark, TableRef};
+use osplan::{ExpiryPoint, Table, TimedAction};
+use osstate::CoreState;
+use ostable::DueTable;
+
+// The point that is due, and then the end of the period.
+pub(crate) fn pass<const P: usize, const J: usize, const OUT: usize>(
+    state: &mut CoreState<'_, P, J, OUT>,
+    due: DueTable,
+    marks: &mut Vec<Mark>,
+)
+    requires own { IsTrue (are_own state.old.view.own due) }
+    requires live { is_before_live state.old.progress.phase ≡ false }
+    requires outbox { length state.old.border.outbox + posted_by_table state.old.view.own due ≤ OUT }
+    requires room { HasRoom 38 36 state.old marks.old }
+    ensures effects { Effects 38 36 (λ v h. passes v due h) state.old state.new marks.old marks.new }
+    ensures outbox { length state.new.border.outbox ≤ length state.old.border.outbox + posted_by_table state.old.view.own due }
+{
+    let point = due_point(state, due);
+    reach(state, due.table, point, marks);
+    if due.due.ends {
+        end(state, due.table, due.next, marks);
+    }
+}
+
+// The table that waits begins in the place of this one; or this one goes on, or stops.
+fn end<const P: usize, const J: usize, const OUT: usize>(
+    state: &mut CoreState<'_, P, J, OUT>,
+    table: TableRef,
+    next: Option<TableRef>,
+    marks: &mut Vec<Mark>,
+)
+    requires own { IsTrue (is_own_object state.old.view.own (table_object table)) }
+    requires next { IfSome next (λ u. IsTrue (is_own_object state.old.view.own (table_object u))) }
+    requires live { is_before_live state.old.progress.phase ≡ false }
+    requires outbox { length state.old.border.outbox + posted_by_end state.old.view.own table next ≤ OUT }
+    requires room { HasRoom 21 19 state.old marks.old }
+    ensures effects { Effects 21 19 (λ v h. ends v table next h) state.old state.new marks.old marks.new }
+    ensures outbox { length state.new.border.outbox ≤ length state.old.border.outbox + posted_by_end state.old.view.own table next }
+{
+    if let Some(next) = next {
+        stop(state, table, marks);
+        begin(state, next, marks);
+    } else if repeats(state, table) {
+        let point = first_point(state, table);
+        reach(state, table, point, marks);
+    } else {
+        stop(state, table, marks);
+    }
+}
+
+fn repeats<const P: usize, const J: usize, const OUT: usize>(
+    state: &CoreState<'_, P, J, OUT>,
+    table: TableRef,
+) -> bool
+    ensures { result ≡ repeats state.now.view.own table }
+{
+    match state.table(Some(table)) {
+        Some(table) => table.repeating,
+        None => false,
+    }
+}
+
+fn stop<const P: usize, const J: usize, const OUT: usize>(
+    state: &mut CoreState<'_, P, J, OUT>,
+    table: TableRef,
+    marks: &mut Vec<Mark>,
+)
+    requires own { IsTrue (is_own_object state.old.view.own (table_object table)) }
+    requires room { HasRoom 2 1 state.old marks.old }
+    ensures effects { Effects 2 1 (λ v h. stops table h) state.old state.new marks.old marks.new }
+    ensures border { state.new.border ≡ state.old.border }
+{
+    state.print(Mark::TableStopped(table), marks);
+    state.quit_table(table);
+}
+
+fn begin<const P: usize, const J: usize, const OUT: usize>(
+    state: &mut CoreState<'_, P, J, OUT>,
+    table: TableRef,
+    marks: &mut Vec<Mark>,
+)
+    requires own { IsTrue (is_own_object state.old.view.own (table_object table)) }
+    requires live { is_before_live state.old.progress.phase ≡ false }
+    requires outbox { length state.old.border.outbox + posted_by_point state.old.view.own (first_point state.old.view.own table) ≤ OUT }
+    requires room { HasRoom 19 18 state.old marks.old }
+    ensures effects { Effects 19 18 (λ v h. begins v table h) state.old state.new marks.old marks.new }
+    ensures outbox { length state.new.border.outbox ≤ length state.old.border.outbox + posted_by_point state.old.view.own (first_point state.old.view.own table) }
+{
+    state.print(Mark::TableBegun(table), marks);
+    state.start_table(table, 0);
+    let point = first_point(state, table);
+    reach(state, table, point, marks);
+}
+
+// The point that is due.
+fn due_point<'a, const P: usize, const J: usize, const OUT: usize>(
+    state: &CoreState<'a, P, J, OUT>,
+    due: DueTable,
+) -> Option<&'a ExpiryPoint>
+    ensures value { option_copied result ≡ due_point state.now.view.own due }
+    ensures known { IfSome (option_copied result) (λ point. IsTrue (is_known_point state.now.view.own point)) }
+{
+    let number = due.due.point?;
+    let table = state.table(Some(due.table))?;
+    point_at(table, number)
+}
+
+// The table's point of this number.
+fn point_at(table: &Table, number: u8) -> Option<&ExpiryPoint>
+    ensures { option_copied result ≡ slice_get table.now.points number }
+{
+    table.points.as_slice().get(usize::from(number))
+}
+
+// The point with which a period begins, where it has offset 0.
+fn first_point<'a, const P: usize, const J: usize, const OUT: usize>(
+    state: &CoreState<'a, P, J, OUT>,
+    table: TableRef,
+) -> Option<&'a ExpiryPoint>
+    ensures value { option_copied result ≡ first_point state.now.view.own table }
+    ensures known { IfSome (option_copied result) (λ point. IsTrue (is_known_point state.now.view.own point)) }
+{
+    let table = state.table(Some(table))?;
+    let point = table.points.as_slice().first()?;
+    if point.offset == 0 {
+        return Some(point);
+    }
+    None
+}
+
+fn reach<const P: usize, const J: usize, const OUT: usize>(
+    state: &mut CoreState<'_, P, J, OUT>,
+    table: TableRef,
+    point: Option<&ExpiryPoint>,
+    marks: &mut Vec<Mark>,
+)
+    requires known { IfSome (option_copied point) (λ x. IsTrue (is_known_point state.old.view.own x)) }
+    requires live { is_before_live state.old.progress.phase ≡ false }
+    requires outbox { length state.old.border.outbox + posted_by_point state.old.view.own (option_copied point) ≤ OUT }
+    requires room { HasRoom 17 17 state.old marks.old }
+    ensures effects { Effects 17 17 (λ v h. reaches v table (option_copied point.entry) h) state.old state.new marks.old marks.new }
+    ensures outbox { length state.new.border.outbox ≤ length state.old.border.outbox + posted_by_point state.old.view.own (option_copied point.entry) }
+{
+    if let Some(point) = point {
+        do_point(state, table, point, marks);
+    }
+}
+
+// The point's line, and then its actions: all activations come before all settings of events.
+fn do_point<const P: usize, const J: usize, const OUT: usize>(
+    state: &mut CoreState<'_, P, J, OUT>,
+    table: TableRef,
+    point: &ExpiryPoint,
+    marks: &mut Vec<Mark>,
+)
+    requires known { IsTrue (is_known_point state.old.view.own point.now) }
+    requires live { is_before_live state.old.progress.phase ≡ false }
+    requires outbox { length state.old.border.outbox + posted_at state.old.view.own point.now ≤ OUT }
+    requires room { HasRoom 17 17 state.old marks.old }
+    ensures effects { Effects 17 17 (λ v h. does_point v table point.now h) state.old state.new marks.old marks.new }
+    ensures outbox { length state.new.border.outbox ≤ length state.old.border.outbox + posted_at state.old.view.own point.now }
+{
+    let offset = point.offset;
+    state.print(Mark::ExpiryPoint { table, offset }, marks);
+    activate_each(state, point.actions.as_slice(), marks);
+    set_each(state, point.actions.as_slice(), marks);
+}
+
+fn is_activation(action: &TimedAction) -> bool
+    ensures { result ≡ is_activation action.now }
+{
+    matches!(action, TimedAction::ActivateTask(_))
+}
+
+// Those of the actions that activate a task.
+fn activate_each<const P: usize, const J: usize, const OUT: usize>(
+    state: &mut CoreState<'_, P, J, OUT>,
+    actions: &[TimedAction],
+    marks: &mut Vec<Mark>,
+)
+    requires known { IsTrue (list_all (has_object_of state.old.view.own) actions.now) }
+    requires live { is_before_live state.old.progress.phase ≡ false }
+    requires outbox { length state.old.border.outbox + count_by (is_posting state.old.view.own) (activations_of actions.now) ≤ OUT }
+    requires room { HasRoom (2 * length (activations_of actions.now)) (2 * length (activations_of actions.now)) state.old marks.old }
+    ensures effects { Effects (2 * length (activations_of actions.now)) (2 * length (activations_of actions.now)) (λ v h. acts_each v (activations_of actions.now) h) state.old state.new marks.old marks.new }
+    ensures outbox { length state.new.border.outbox ≤ length state.old.border.outbox + count_by (is_posting state.old.view.own) (activations_of actions.now) }
+{
+    for action in actions {
+        if is_activation(action) {
+            act(state, action.call(), marks);
+        }
+    }
+}
+
+// Those that set events.
+fn set_each<const P: usize, const J: usize, const OUT: usize>(
+    state: &mut CoreState<'_, P, J, OUT>,
+    actions: &[TimedAction],
+    marks: &mut Vec<Mark>,
+)
+    requires known { IsTrue (list_all (has_object_of state.old.view.own) actions.now) }
+    requires live { is_before_live state.old.progress.phase ≡ false }
+    requires outbox { length state.old.border.outbox + count_by (is_posting state.old.view.own) (settings_of actions.now) ≤ OUT }
+    requires room { HasRoom (2 * length (settings_of actions.now)) (2 * length (settings_of actions.now)) state.old marks.old }
+    ensures effects { Effects (2 * length (settings_of actions.now)) (2 * length (settings_of actions.now)) (λ v h. acts_each v (settings_of actions.now) h) state.old state.new marks.old marks.new }
+    ensures outbox { length state.new.border.outbox ≤ length state.old.border.outbox + count_by (is_posting state.old.view.own) (settings_of actions.now) }
+{
+    for action in actions {
+        if !is_activation(action) {
+            act(state, action.call(), marks);
+        }
+    }
+}
