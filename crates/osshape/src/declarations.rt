@@ -1,9 +1,13 @@
 //! The objects that a configuration's text declares, in one list.
 
-ghost use Rattle.std.specs.Prelude.{◌≡◌, ◌++◌, IfOk, OnOk};
-ghost use Rattle.osshape.specs.Declarations.{byte_of, declarations, declared_alarms, declared_by, declared_counters, declared_resources, declared_tables, declared_tasks, number_id, word_of};
+ghost use Rattle.std.specs.Prelude.{◌≡◌, ◌++◌, ℕ, None, IfOk, OnOk, map};
+ghost use Rattle.std.specs.List.{enumerate_from};
+ghost use Rattle.osshape.specs.declared.declarations.Declaration.{Declaration};
+ghost use Rattle.osshape.specs.declared.shapes.CoreText.{CoreText};
+ghost use Rattle.osshape.specs.Declarations.{alarm_declaration, byte_of, counter_declaration, declarations, declared_by, id_of, number_id, resource_declaration, table_declaration, task_declaration, word_of};
 
-use crate::shapes::CoreText;
+use crate::shapes::{AlarmText, CoreText, CounterText, ResourceText, TaskText};
+use crate::table_shapes::TableText;
 use osbase::{CoreId, List, ObjectKind};
 use osread::{Text, Whole};
 use std::alloc::{AllocError, Global};
@@ -56,97 +60,89 @@ pub fn number_id(number: Whole) -> CoreId
     }
 }
 
-fn declare_tasks<'t>(
-    declared: &mut List<Declaration<'t>>,
-    core: &'t CoreText<'t>,
-) -> Result<(), AllocError>
-    ensures { OnOk result (declared.new ≡ declared.old ++ declared_tasks core.now) }
-{
-    for (index, task) in core.tasks.as_slice().iter().enumerate() {
-        declared.push(Declaration {
-            name: Text::of(task.name.as_str()),
-            kind: ObjectKind::Task,
-            core: number_id(core.id),
-            index,
-            max: None,
-            min: None,
-        })?;
-    }
-    Ok(())
+/// What a core's text has under a name.
+trait Declared<'t> {
+    /// The object of a core at an index.
+    ghost declaration: { CoreText → ℕ × Self → Declaration };
+
+    /// The object of a core at an index.
+    fn declaration(&self, core: &CoreText<'t>, index: usize) -> Declaration<'t>
+        ensures { result ≡ declaration core.now (index, self.now) };
 }
 
-fn declare_resources<'t>(
-    declared: &mut List<Declaration<'t>>,
-    core: &'t CoreText<'t>,
-) -> Result<(), AllocError>
-    ensures { OnOk result (declared.new ≡ declared.old ++ declared_resources core.now) }
+// An object without numbers.
+fn unnumbered<'t>(
+    name: &Text<'t>,
+    kind: ObjectKind,
+    core: &CoreText<'t>,
+    index: usize,
+) -> Declaration<'t>
+    ensures { result ≡ record { name = name.now; kind = kind; core = id_of core.now; index = index; max = None; min = None } }
 {
-    for (index, resource) in core.resources.as_slice().iter().enumerate() {
-        declared.push(Declaration {
-            name: Text::of(resource.name.as_str()),
-            kind: ObjectKind::Resource,
-            core: number_id(core.id),
-            index,
-            max: None,
-            min: None,
-        })?;
+    Declaration {
+        name: Text::of(name.as_str()),
+        kind,
+        core: number_id(core.id),
+        index,
+        max: None,
+        min: None,
     }
-    Ok(())
 }
 
-fn declare_counters<'t>(
-    declared: &mut List<Declaration<'t>>,
-    core: &'t CoreText<'t>,
-) -> Result<(), AllocError>
-    ensures { OnOk result (declared.new ≡ declared.old ++ declared_counters core.now) }
-{
-    for (index, counter) in core.counters.as_slice().iter().enumerate() {
-        declared.push(Declaration {
-            name: Text::of(counter.name.as_str()),
-            kind: ObjectKind::Counter,
-            core: number_id(core.id),
-            index,
-            max: counter.max,
-            min: counter.min,
-        })?;
+impl<'t> Declared<'t> for TaskText<'t> {
+    ghost declaration = { task_declaration };
+
+    fn declaration(&self, core: &CoreText<'t>, index: usize) -> Declaration<'t> {
+        unnumbered(&self.name, ObjectKind::Task, core, index)
     }
-    Ok(())
 }
 
-fn declare_alarms<'t>(
-    declared: &mut List<Declaration<'t>>,
-    core: &'t CoreText<'t>,
-) -> Result<(), AllocError>
-    ensures { OnOk result (declared.new ≡ declared.old ++ declared_alarms core.now) }
-{
-    for (index, alarm) in core.alarms.as_slice().iter().enumerate() {
-        declared.push(Declaration {
-            name: Text::of(alarm.name.as_str()),
-            kind: ObjectKind::Alarm,
-            core: number_id(core.id),
-            index,
-            max: None,
-            min: None,
-        })?;
+impl<'t> Declared<'t> for ResourceText<'t> {
+    ghost declaration = { resource_declaration };
+
+    fn declaration(&self, core: &CoreText<'t>, index: usize) -> Declaration<'t> {
+        unnumbered(&self.name, ObjectKind::Resource, core, index)
     }
-    Ok(())
 }
 
-fn declare_tables<'t>(
+impl<'t> Declared<'t> for AlarmText<'t> {
+    ghost declaration = { alarm_declaration };
+
+    fn declaration(&self, core: &CoreText<'t>, index: usize) -> Declaration<'t> {
+        unnumbered(&self.name, ObjectKind::Alarm, core, index)
+    }
+}
+
+impl<'t> Declared<'t> for TableText<'t> {
+    ghost declaration = { table_declaration };
+
+    fn declaration(&self, core: &CoreText<'t>, index: usize) -> Declaration<'t> {
+        unnumbered(&self.name, ObjectKind::Table, core, index)
+    }
+}
+
+impl<'t> Declared<'t> for CounterText<'t> {
+    ghost declaration = { counter_declaration };
+
+    fn declaration(&self, core: &CoreText<'t>, index: usize) -> Declaration<'t> {
+        Declaration {
+            max: self.max,
+            min: self.min,
+            ..unnumbered(&self.name, ObjectKind::Counter, core, index)
+        }
+    }
+}
+
+// The objects of one kind, in their order.
+fn declare_each<'t, T: Declared<'t>>(
     declared: &mut List<Declaration<'t>>,
-    core: &'t CoreText<'t>,
+    core: &CoreText<'t>,
+    objects: &[T],
 ) -> Result<(), AllocError>
-    ensures { OnOk result (declared.new ≡ declared.old ++ declared_tables core.now) }
+    ensures { OnOk result (declared.new ≡ declared.old ++ map (T.declaration core.now) (enumerate_from 0 objects.now)) }
 {
-    for (index, table) in core.tables.as_slice().iter().enumerate() {
-        declared.push(Declaration {
-            name: Text::of(table.name.as_str()),
-            kind: ObjectKind::Table,
-            core: number_id(core.id),
-            index,
-            max: None,
-            min: None,
-        })?;
+    for (index, object) in objects.iter().enumerate() {
+        declared.push(object.declaration(core, index))?;
     }
     Ok(())
 }
@@ -157,11 +153,11 @@ fn declare<'t>(
 ) -> Result<(), AllocError>
     ensures { OnOk result (declared.new ≡ declared.old ++ declared_by core.now) }
 {
-    declare_tasks(declared, core)?;
-    declare_resources(declared, core)?;
-    declare_counters(declared, core)?;
-    declare_alarms(declared, core)?;
-    declare_tables(declared, core)
+    declare_each(declared, core, core.tasks.as_slice())?;
+    declare_each(declared, core, core.resources.as_slice())?;
+    declare_each(declared, core, core.counters.as_slice())?;
+    declare_each(declared, core, core.alarms.as_slice())?;
+    declare_each(declared, core, core.tables.as_slice())
 }
 
 /// The objects of these cores.
