@@ -3,6 +3,7 @@
 mod alarms;
 mod counters;
 mod events;
+mod kernel;
 mod limits;
 mod program;
 mod tables;

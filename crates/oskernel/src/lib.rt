@@ -10,6 +10,3 @@ pub mod wants;
 
 pub use kernel::{Kernel, STEP_MARKS};
 pub use wants::Want;
-
-#[cfg(test)]
-mod tests;

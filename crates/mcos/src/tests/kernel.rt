@@ -9,12 +9,12 @@ ghost use Rattle.osplan.specs.Expressible.{is_expressible};
 ghost use Rattle.osplan.specs.View.{core_of, view_of};
 ghost use Rattle.osplan.specs.Objects.{posted_at_once};
 
-use super::*;
 use osbase::{
     Agreement, CORES, CoreId, CoreSet, Item, List, Mark, Message, ModeId, Name, RemoteCall, Runner,
     ServiceId, Status, Stimulus, TaskRef,
 };
 use oscript::Op;
+use oskernel::{Kernel, Want};
 use osplan::{Config, Core, CoreMode, Plan, Task};
 use std::alloc::{AllocError, Global};
 use std::test::Fail;

@@ -1,5 +1,5 @@
 use Rattle.std.proofs.Common.{rules}
-use Rattle.oskernel.proofs.tests.a_second_reply_is_refused.Goals as goal
+use Rattle.mcos.proofs.tests.kernel.a_core_takes_its_items.Goals as goal
 
 pub new-kernel-requires : goal.new-kernel-requires
 new-kernel-requires g c =
