@@ -1,9 +1,12 @@
 //! The shape of a configuration: its members and their types. Limits and names are judged later. Texts are
 //! borrowed from the value that is read.
 
-ghost use Rattle.std.specs.Prelude.{true};
+ghost use Rattle.std.specs.Prelude.{[], IfOk, IsTrue, true};
 ghost use Rattle.std.specs.List.{list_all};
 ghost use Rattle.osbase.specs.Names.{is_name};
+ghost use Rattle.osread.specs.Json.{each_of, member_or};
+ghost use Rattle.osread.specs.Reading.{Gives};
+ghost use Rattle.serde_json.specs.View.{view};
 ghost use Rattle.osshape.specs.Shape.{task_shape, resource_shape, counter_shape, alarm_start_shape, alarm_shape, core_shape, config_shape, has_named_objects};
 
 use crate::table_shapes::{TableReader, TableText};
@@ -81,6 +84,19 @@ pub struct ConfigText<'v> {
     pub cores: List<CoreText<'v>>,
 }
 
+// The list of a member that may be left out, then empty.
+fn list_at<'v, U: Drop, R: JsonReader<'v, U> + Copy>(
+    alloc: Global,
+    value: &'v Value,
+    key: &str,
+    reader: R,
+) -> Result<List<U>, Refusal>
+    ensures shape { Gives (λ x. x) result (member_or (each_of (R.shape reader)) [] key.now (view value.now)) }
+    ensures passes { IfOk result (λ xs. IsTrue (list_all (R.passes reader) xs)) }
+{
+    at_or(alloc, value, key, &ListOf { of: reader }, List::new(alloc))
+}
+
 // Reads a task.
 #[derive(Clone, Copy, Debug)]
 struct TaskReader;
@@ -107,13 +123,7 @@ impl<'v> JsonReader<'v, TaskText<'v>> for TaskReader {
         Ok(TaskText {
             name: at(alloc, value, "name", &NameReader)?,
             prio: at(alloc, value, "prio", &WholeReader)?,
-            auto: at_or(
-                alloc,
-                value,
-                "auto",
-                &ListOf { of: NameReader },
-                List::new(alloc),
-            )?,
+            auto: list_at(alloc, value, "auto", NameReader)?,
             activations: at_or(alloc, value, "activations", &WholeReader, Some(1))?,
             extended: at_or(alloc, value, "extended", &BoolReader, false)?,
             preemptable: at_or(alloc, value, "preemptable", &BoolReader, true)?,
@@ -236,48 +246,12 @@ impl<'v> JsonReader<'v, CoreText<'v>> for CoreReader {
         )?;
         Ok(CoreText {
             id: at(alloc, value, "id", &WholeReader)?,
-            start: at_or(
-                alloc,
-                value,
-                "start",
-                &ListOf { of: WholeReader },
-                List::new(alloc),
-            )?,
-            tasks: at_or(
-                alloc,
-                value,
-                "tasks",
-                &ListOf { of: TaskReader },
-                List::new(alloc),
-            )?,
-            resources: at_or(
-                alloc,
-                value,
-                "resources",
-                &ListOf { of: ResourceReader },
-                List::new(alloc),
-            )?,
-            counters: at_or(
-                alloc,
-                value,
-                "counters",
-                &ListOf { of: CounterReader },
-                List::new(alloc),
-            )?,
-            alarms: at_or(
-                alloc,
-                value,
-                "alarms",
-                &ListOf { of: AlarmReader },
-                List::new(alloc),
-            )?,
-            tables: at_or(
-                alloc,
-                value,
-                "tables",
-                &ListOf { of: TableReader },
-                List::new(alloc),
-            )?,
+            start: list_at(alloc, value, "start", WholeReader)?,
+            tasks: list_at(alloc, value, "tasks", TaskReader)?,
+            resources: list_at(alloc, value, "resources", ResourceReader)?,
+            counters: list_at(alloc, value, "counters", CounterReader)?,
+            alarms: list_at(alloc, value, "alarms", AlarmReader)?,
+            tables: list_at(alloc, value, "tables", TableReader)?,
         })
     }
 }
