@@ -6,8 +6,13 @@ use Rattle.osbase.specs.declared.objects.ObjectKind.TheVariants.{Task, Resource,
 use Rattle.osbase.specs.declared.references.CoreId.{CoreId}
 use Rattle.osbase.specs.declared.references.TaskRef.{TaskRef}
 use Rattle.osbase.specs.declared.references.IsrRef.{IsrRef}
+use Rattle.osbase.specs.declared.references.AlarmRef.{AlarmRef}
+use Rattle.osbase.specs.declared.references.CounterRef.{CounterRef}
+use Rattle.osbase.specs.declared.references.TableRef.{TableRef}
+use Rattle.osbase.specs.declared.objects.Place.{Place}
+use Rattle.osbase.specs.Counting.{same_alarm, same_counter, same_table}
 use Rattle.osbase.specs.declared.references.Runner.{Runner}
-use Rattle.osbase.specs.Objects.{same_kind}
+use Rattle.osbase.specs.Objects.{alarm_of, alarm_place, counter_of, counter_place, place_on, same_kind, same_place, table_of, table_place, task_of, task_place}
 use Rattle.osbase.specs.History.{same_core, same_task, same_isr, same_runner}
 
 pub same_core-true : (a b : CoreId) → same_core a b ≡ true → a ≡ b
@@ -26,24 +31,41 @@ same_core-comm a b = cases (same_core a b) (same_core b a) refl refl
     cases true false e f = absurd (false≢true (sym f ∙ eq-eqb b.number a.number (sym (eqb-true a.number b.number e))))
     cases false true e f = absurd (false≢true (sym e ∙ eq-eqb a.number b.number (sym (eqb-true b.number a.number f))))
 
-task_parts : (a b : TaskRef) → a.core ≡ b.core → a.index ≡ b.index → a ≡ b
-task_parts a b p q = ap (λ (c : CoreId). let t : TaskRef = record { core = c; index = a.index } in t) p ∙ ap (λ (n : ℕ). let t : TaskRef = record { core = b.core; index = n } in t) q
+pub same_place-true : (p q : Place) → same_place p q ≡ true → p ≡ q
+same_place-true p q e =
+    let both = and_parts (same_core p.core q.core) (nat_eq p.index q.index) e in
+    ap (λ (c : CoreId). place_on c p.index) (same_core-true p.core q.core both.0) ∙ ap (place_on q.core) (eqb-true p.index q.index both.1)
 
-isr_parts : (a b : IsrRef) → a.core ≡ b.core → a.index ≡ b.index → a ≡ b
-isr_parts a b p q = ap (λ (c : CoreId). let t : IsrRef = record { core = c; index = a.index } in t) p ∙ ap (λ (n : ℕ). let t : IsrRef = record { core = b.core; index = n } in t) q
+pub same_place-refl : (p : Place) → same_place p p ≡ true
+same_place-refl p = and_from (same_core p.core p.core) (nat_eq p.index p.index) (same_core-refl p.core) (eq-eqb p.index p.index refl)
 
+-- So of references of each kind, by where they stand.
 pub same_task-true : (a b : TaskRef) → same_task a b ≡ true → a ≡ b
-same_task-true a b e =
-    let both = and_parts (same_core a.core b.core) (nat_eq a.index b.index) e in
-    task_parts a b (same_core-true a.core b.core both.0) (eqb-true a.index b.index both.1)
+same_task-true a b e = ap task_of (same_place-true (task_place a) (task_place b) e)
 
 pub same_task-refl : (a : TaskRef) → same_task a a ≡ true
-same_task-refl a = and_from (same_core a.core a.core) (nat_eq a.index a.index) (same_core-refl a.core) (eq-eqb a.index a.index refl)
+same_task-refl a = same_place-refl (task_place a)
 
-same_isr-true : (a b : IsrRef) → same_isr a b ≡ true → a ≡ b
-same_isr-true a b e =
-    let both = and_parts (same_core a.core b.core) (nat_eq a.index b.index) e in
-    isr_parts a b (same_core-true a.core b.core both.0) (eqb-true a.index b.index both.1)
+pub same_isr-true : (a b : IsrRef) → same_isr a b ≡ true → a ≡ b
+same_isr-true a b e = ap (λ (p : Place). let i : IsrRef = record { core = p.core; index = p.index } in i) (same_place-true (place_on a.core a.index) (place_on b.core b.index) e)
+
+pub same_counter-true : (a b : CounterRef) → same_counter a b ≡ true → a ≡ b
+same_counter-true a b e = ap counter_of (same_place-true (counter_place a) (counter_place b) e)
+
+pub same_counter-refl : (a : CounterRef) → same_counter a a ≡ true
+same_counter-refl a = same_place-refl (counter_place a)
+
+pub same_alarm-true : (a b : AlarmRef) → same_alarm a b ≡ true → a ≡ b
+same_alarm-true a b e = ap alarm_of (same_place-true (alarm_place a) (alarm_place b) e)
+
+pub same_alarm-refl : (a : AlarmRef) → same_alarm a a ≡ true
+same_alarm-refl a = same_place-refl (alarm_place a)
+
+pub same_table-true : (a b : TableRef) → same_table a b ≡ true → a ≡ b
+same_table-true a b e = ap table_of (same_place-true (table_place a) (table_place b) e)
+
+pub same_table-refl : (a : TableRef) → same_table a a ≡ true
+same_table-refl a = same_place-refl (table_place a)
 
 pub same_runner-true : (a b : Runner) → same_runner a b ≡ true → a ≡ b
 same_runner-true (Runner.Task a) (Runner.Task b) e = ap Runner.Task (same_task-true a b e)
@@ -53,7 +75,7 @@ same_runner-true (Runner.Isr a) (Runner.Task b) e = cc
 
 pub same_runner-refl : (r : Runner) → same_runner r r ≡ true
 same_runner-refl (Runner.Task t) = same_task-refl t
-same_runner-refl (Runner.Isr i) = same_task-refl (record { core = i.core; index = i.index })
+same_runner-refl (Runner.Isr i) = same_place-refl (place_on i.core i.index)
 
 pub same_kind-true : (k j : ObjectKind) → same_kind k j ≡ true → k ≡ j
 same_kind-true Task Task e = refl

@@ -33,7 +33,7 @@ use Rattle.osbase.specs.declared.histories.Phase.{Phase}
 
 -- What happens without a printed line. [own]
 pub data Note : Type 0 where
-  -- a service of a job awaits another core's reply
+  -- a call of a job stays open until what it awaits comes
   Opened : OpenCall → Note
   -- an envelope for the core that is named joins the outbox
   Queued : CoreId → Envelope → Note
@@ -177,22 +177,10 @@ abbrev pub giving_way : History → Option Runner
 giving_way [] = None
 giving_way (e ∷ h) = giving_way_after e (giving_way h)
 
--- The resources that the runner's oldest live job holds, the newest first: it took them and did not give them back. With its
--- end they are given back. [OSEK/VDX OS 2.2.3, section 8.2; at a job's end: AUTOSAR SWS OS 4.x, SWS_Os_00070]
+-- Resources, the newest first, without the newest one of this index. [OSEK/VDX OS 2.2.3, section 8.2]
 abbrev pub without_resource : ℕ → List HeldResource → List HeldResource
 without_resource index [] = []
 without_resource index (x ∷ held) = if x.index == index then held else x ∷ without_resource index held
-
-abbrev pub held_after : Runner → Entry → List HeldResource → List HeldResource
-held_after r (Noted (Taken q x)) held = if same_runner q r then x ∷ held else held
-held_after r (Noted (Given q index)) held = if same_runner q r then without_resource index held else held
-held_after r (Printed (Mark.Terminated t)) held = if same_runner (Runner.Task t) r then [] else held
-held_after r (Printed (Mark.IsrLeft i)) held = if same_runner (Runner.Isr i) r then [] else held
-held_after r e held = held
-
-abbrev pub held_by : Runner → History → List HeldResource
-held_by r [] = []
-held_by r (e ∷ h) = held_after r e (held_by r h)
 
 -- The greater of two priorities, and the greatest ceiling of held resources; 0 of none. [OSEK/VDX OS 2.2.3, section 8.5]
 abbrev pub greater : ℕ → ℕ → ℕ
@@ -206,10 +194,8 @@ greatest_ceiling (x ∷ held) = greater x.ceiling (greatest_ceiling held)
 abbrev pub is_held : ℕ → List HeldResource → Bool
 is_held index held = list_any (λ (x : HeldResource). x.index == index) held
 
--- The events of a task, each a bit of its mask: those that are set, and those that it waits for, if it waits. An activation of the
--- task leaves none set, a setting adds events, a clearing takes them away; a task waits from its wait to its release. So an event is
--- set where the last entry that concerns it sets it (IsLastWord, osevent/specs/Laws.antt).
--- [OSEK/VDX OS 2.2.3, section 7 and 13.5.3; that an activation clears them: section 13.2.3.1]
+-- The events of a task, each a bit of its mask: those that are set, and those that it waits for, if it waits. A setting adds
+-- events, a clearing takes them away; a task waits from its wait to its release. [OSEK/VDX OS 2.2.3, section 7 and 13.5.3]
 abbrev pub no_events : TaskEvents
 no_events = record { set = 0; awaited = None }
 
@@ -224,18 +210,6 @@ with_none_set events = record events { set = 0 }
 
 abbrev pub with_awaited : Option ℕ → TaskEvents → TaskEvents
 with_awaited awaited events = record events { awaited = awaited }
-
-abbrev pub events_after : TaskRef → Entry → TaskEvents → TaskEvents
-events_after t (Printed (Mark.Activated u)) events = if same_task u t then with_none_set events else events
-events_after t (Printed (Mark.EventSet u mask)) events = if same_task u t then with_set mask events else events
-events_after t (Printed (Mark.EventCleared u mask)) events = if same_task u t then with_cleared mask events else events
-events_after t (Printed (Mark.EventAwaited u mask)) events = if same_task u t then with_awaited (Some mask) events else events
-events_after t (Printed (Mark.Released u)) events = if same_task u t then with_awaited None events else events
-events_after t e events = events
-
-abbrev pub events_of : TaskRef → History → TaskEvents
-events_of t [] = no_events
-events_of t (e ∷ h) = events_after t e (events_of t h)
 
 -- Two masks have an event in common.
 abbrev pub have_common : ℕ → ℕ → Bool
@@ -257,7 +231,7 @@ abbrev pub first_greatest : (Job → ℕ) → List Job → Option Job
 first_greatest priority [] = None
 first_greatest priority (j ∷ js) = Some (better_of priority j (first_greatest priority js))
 
--- The call that awaits a reply: it stays open until its operation is done, or its caller has ended.
+-- The call that is open: it stays so until its operation is done, its caller has ended, or all cores are halted.
 -- [own: a service on another core's object is a request and its reply]
 abbrev pub closed_by : Runner → Option OpenCall → Option OpenCall
 closed_by r None = None
@@ -268,6 +242,7 @@ open_after (Noted (Opened call)) open_call = Some call
 open_after (Noted (Done r status value)) open_call = closed_by r open_call
 open_after (Printed (Mark.Terminated t)) open_call = closed_by (Runner.Task t) open_call
 open_after (Printed (Mark.IsrLeft i)) open_call = closed_by (Runner.Isr i) open_call
+open_after (Took (Item.Halt core status)) open_call = None
 open_after e open_call = open_call
 
 abbrev pub open_call : History → Option OpenCall

@@ -1,5 +1,5 @@
 -- Objects of every kind, and which of them a call across cores names.
-use Rattle.std.specs.Prelude.{Bool, true, false}
+use Rattle.std.specs.Prelude.{ℕ, ◌==◌, ◌&&◌, Bool, true, false}
 use Rattle.osbase.specs.declared.references.TaskRef.{TaskRef}
 use Rattle.osbase.specs.declared.references.ResourceRef.{ResourceRef}
 use Rattle.osbase.specs.declared.references.CounterRef.{CounterRef}
@@ -11,6 +11,8 @@ use Rattle.osbase.specs.declared.objects.Place.{Place}
 use Rattle.osbase.specs.declared.objects.Object.{Object}
 use Rattle.osbase.specs.declared.messages.RemoteCall.{RemoteCall}
 use Rattle.osbase.specs.declared.messages.RemoteCall.TheVariants.{ActivateTask, SetEvent, SetRelAlarm, SetAbsAlarm, CancelAlarm, GetAlarm}
+use Rattle.osbase.specs.declared.references.CoreId.{CoreId}
+use Rattle.osbase.specs.History.{same_core}
 
 -- Equality of kinds.
 abbrev pub same_kind : ObjectKind → ObjectKind → Bool
@@ -21,51 +23,62 @@ same_kind Alarm Alarm = true
 same_kind Table Table = true
 same_kind kind other = false
 
+-- Equality of places.
+abbrev pub same_place : Place → Place → Bool
+same_place p q = same_core p.core q.core && (p.index == q.index)
+
+-- The place of this index on a core, and the object of a kind that stands at a place.
+abbrev pub place_on : CoreId → ℕ → Place
+place_on core index = record { core = core; index = index }
+
+abbrev pub object_at : ObjectKind → Place → Object
+object_at kind place = record { kind = kind; place = place }
+
 -- Where a reference's object stands, and the reference of a place. [own]
 abbrev pub task_place : TaskRef → Place
-task_place t = record { core = t.core; index = t.index }
+task_place t = place_on t.core t.index
 
 abbrev pub task_of : Place → TaskRef
 task_of p = record { core = p.core; index = p.index }
 
 abbrev pub resource_place : ResourceRef → Place
-resource_place r = record { core = r.core; index = r.index }
+resource_place r = place_on r.core r.index
 
 abbrev pub resource_of : Place → ResourceRef
 resource_of p = record { core = p.core; index = p.index }
 
 abbrev pub counter_place : CounterRef → Place
-counter_place c = record { core = c.core; index = c.index }
+counter_place c = place_on c.core c.index
 
 abbrev pub counter_of : Place → CounterRef
 counter_of p = record { core = p.core; index = p.index }
 
 abbrev pub alarm_place : AlarmRef → Place
-alarm_place a = record { core = a.core; index = a.index }
+alarm_place a = place_on a.core a.index
 
 abbrev pub alarm_of : Place → AlarmRef
 alarm_of p = record { core = p.core; index = p.index }
 
 abbrev pub table_place : TableRef → Place
-table_place s = record { core = s.core; index = s.index }
+table_place s = place_on s.core s.index
 
 abbrev pub table_of : Place → TableRef
 table_of p = record { core = p.core; index = p.index }
 
 abbrev pub task_object : TaskRef → Object
-task_object t = record { kind = Task; place = task_place t }
+task_object t = object_at Task (task_place t)
 
 abbrev pub resource_object : ResourceRef → Object
-resource_object r = record { kind = Resource; place = resource_place r }
+resource_object r = object_at Resource (resource_place r)
 
 abbrev pub counter_object : CounterRef → Object
-counter_object c = record { kind = Counter; place = counter_place c }
+counter_object c = object_at Counter (counter_place c)
 
 abbrev pub alarm_object : AlarmRef → Object
-alarm_object a = record { kind = Alarm; place = alarm_place a }
+alarm_object a = object_at Alarm (alarm_place a)
 
 abbrev pub table_object : TableRef → Object
-table_object s = record { kind = Table; place = table_place s }
+table_object s = object_at Table (table_place s)
 
 -- The object that a call across cores is for. [AUTOSAR SWS OS 4.x, SWS_Os_00596 and SWS_Os_00602]
 abbrev pub object_of_call : RemoteCall → Object

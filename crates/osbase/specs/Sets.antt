@@ -1,9 +1,10 @@
--- Core numbers, and sets of cores.
+-- Core numbers, sets of cores, and the places of a core's tasks and ISRs.
 use Rattle.std.specs.Prelude.{ℕ, zero, suc, ◌+◌, ◌&&◌, nat_lt, Bool, false, List, [], ◌∷◌, map, slice_get}
 use Rattle.std.specs.Option.{option_map_or}
 use Rattle.osbase.specs.declared.references.CoreId.{CoreId}
 use Rattle.osbase.specs.declared.items.CoreSet.{CoreSet}
-use Rattle.osbase.specs.declared.turns.TheConstants.{CORES}
+use Rattle.osbase.specs.declared.references.Runner.{Runner}
+use Rattle.osbase.specs.declared.turns.TheConstants.{CORES, TASKS}
 
 -- So many numbers from this one on.
 abbrev pub numbers_from : ℕ → ℕ → List ℕ
@@ -17,3 +18,8 @@ core_ids = map (λ (n : ℕ). record { number = n }) (numbers_from 0 CORES)
 -- The core is in the set. A set has a flag for each core number, so no other number is in it.
 abbrev pub has_core : CoreSet → CoreId → Bool
 has_core cores id = nat_lt id.number CORES && option_map_or (λ (b : Bool). b) (slice_get cores.members id.number) false
+
+-- The place of a runner among its core's tasks and ISRs: the tasks come first. [own]
+abbrev pub slot_of : Runner → ℕ
+slot_of (Runner.Task t) = t.index
+slot_of (Runner.Isr i) = TASKS + i.index

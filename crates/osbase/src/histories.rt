@@ -4,8 +4,8 @@ ghost use Rattle.std.specs.Prelude.{◌≡◌};
 ghost use Rattle.osbase.specs.Phases.{is_scheduling, stands_in};
 
 use crate::messages::Envelope;
-use crate::references::{CoreId, Runner};
-use crate::statuses::ServiceId;
+use crate::references::{CoreId, Runner, SpinlockId};
+use crate::statuses::{ServiceId, Status};
 
 /// Where a core stands between being started and its end.
 #[derive(Clone, Copy, Debug, PartialEq, Eq)]
@@ -63,12 +63,26 @@ pub struct TaskEvents {
     pub awaited: Option<u32>,
 }
 
-/// A service of a job that awaits the reply of another core.
+/// What a call of a job waits for.
+#[derive(Clone, Copy, Debug, PartialEq, Eq)]
+pub enum Awaited {
+    /// The reply of another core to this service.
+    Reply { service: ServiceId, core: CoreId },
+    /// GetSpinlock: that the spinlock is taken.
+    Get(SpinlockId),
+    /// TryToGetSpinlock: what one try answers.
+    Try(SpinlockId),
+    /// ReleaseSpinlock: that the spinlock is given back.
+    Release(SpinlockId),
+    /// ShutdownAllCores, which was asked for with this status: who asked first.
+    Halt(Status),
+}
+
+/// A call of a job that is not done yet.
 #[derive(Clone, Copy, Debug, PartialEq, Eq)]
 pub struct OpenCall {
     pub runner: Runner,
-    pub service: ServiceId,
-    pub core: CoreId,
+    pub awaits: Awaited,
 }
 
 /// An envelope of the outbox, and the core that it is for.

@@ -6,6 +6,7 @@
 pub mod histories;
 pub mod items;
 pub mod lists;
+pub mod logic;
 pub mod marks;
 pub mod messages;
 pub mod names;
@@ -14,18 +15,20 @@ pub mod references;
 pub mod statuses;
 pub mod turns;
 
-pub use histories::{HeldResource, Job, OpenCall, Phase, Sent, TaskEvents};
+pub use histories::{Awaited, HeldResource, Job, OpenCall, Phase, Sent, TaskEvents};
 pub use items::{Agreement, CoreSet, Item, Stimulus};
 pub use lists::{List, Name};
+pub use logic::both;
 pub use marks::Mark;
 pub use messages::{Envelope, Message, RemoteCall};
 pub use names::is_name;
-pub use objects::{Object, ObjectKind, Place};
+pub use objects::{Object, ObjectKind, Place, Reference};
 pub use references::{
     AlarmRef, CoreId, CounterRef, IsrRef, ModeId, ResourceRef, Runner, SpinlockId, TableRef,
     TaskRef, Variable,
 };
 pub use statuses::{ServiceId, Status};
 pub use turns::{
-    CORE_NUMBERS, CORES, Choice, CoreStimuli, Report, Schedule, Stimuli, TASKS, Turn, stimuli_for,
+    CORE_NUMBERS, CORES, Choice, CoreStimuli, ISRS, RUNNERS, Report, Schedule, Stimuli, TASKS,
+    Turn, stimuli_for,
 };

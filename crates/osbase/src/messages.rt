@@ -3,7 +3,7 @@
 ghost use Rattle.std.specs.Prelude.{◌≡◌};
 ghost use Rattle.osbase.specs.Objects.{object_of_call};
 
-use crate::objects::Object;
+use crate::objects::{Object, Reference};
 use crate::references::{AlarmRef, TaskRef, Variable};
 use crate::statuses::Status;
 

@@ -1,7 +1,10 @@
 //! Objects of every kind, as the operations of scripts and the calls across cores name them.
 
 ghost use Rattle.std.specs.Prelude.{◌≡◌};
-ghost use Rattle.osbase.specs.Objects.{alarm_object, alarm_of, alarm_place, counter_object, counter_of, counter_place, resource_object, resource_of, resource_place, same_kind, table_object, table_of, table_place, task_object, task_of, task_place};
+ghost use Rattle.osbase.specs.Objects.{alarm_of, alarm_place, counter_of, counter_place, object_at, resource_of, resource_place, same_kind, table_of, table_place, task_of, task_place};
+ghost use Rattle.osbase.specs.declared.objects.ObjectKind.{ObjectKind as KindValue};
+ghost use Rattle.osbase.specs.declared.objects.ObjectKind.TheVariants as kinds;
+ghost use Rattle.osbase.specs.declared.objects.Place.{Place as PlaceValue};
 
 use crate::references::{AlarmRef, CoreId, CounterRef, ResourceRef, TableRef, TaskRef};
 
@@ -38,162 +41,132 @@ pub struct Object {
     pub place: Place,
 }
 
-impl TaskRef {
-    /// The task that stands at this place.
-    pub fn at(place: Place) -> Self
-        ensures { result ≡ task_of place }
-    {
-        TaskRef {
-            core: place.core,
-            index: place.index,
-        }
-    }
+/// A reference to an object of one kind on a core (OSEK/VDX OS 2.2.3, section 13, the types of objects).
+pub trait Reference: Copy {
+    /// The kind of its object.
+    const KIND: ObjectKind;
 
-    /// Where the task stands.
-    pub fn place(self) -> Place
-        ensures { result ≡ task_place self }
-    {
-        Place {
-            core: self.core,
-            index: self.index,
-        }
-    }
+    ghost KIND: { KindValue };
 
-    /// The task as an object of its kind.
-    pub fn object(self) -> Object
-        ensures { result ≡ task_object self }
+    ghost place_of: { Self → PlaceValue };
+
+    ghost ref_of: { PlaceValue → Self };
+
+    /// The reference to the object that stands at this place.
+    fn at(place: Place) -> Self
+        ensures { result ≡ ref_of place };
+
+    /// Where its object stands.
+    fn place(self) -> Place
+        ensures { result ≡ place_of self };
+
+    /// Its object, with its kind.
+    fn object(self) -> Object
+        ensures { result ≡ object_at KIND (place_of self) }
     {
         Object {
-            kind: ObjectKind::Task,
+            kind: Self::KIND,
             place: self.place(),
         }
     }
 }
 
-impl ResourceRef {
-    /// The resource that stands at this place.
-    pub fn at(place: Place) -> Self
-        ensures { result ≡ resource_of place }
-    {
-        ResourceRef {
-            core: place.core,
-            index: place.index,
-        }
+impl Reference for TaskRef {
+    const KIND: ObjectKind = ObjectKind::Task;
+
+    ghost KIND = { kinds.Task };
+
+    ghost place_of = { task_place };
+
+    ghost ref_of = { task_of };
+
+    fn at(place: Place) -> Self {
+        let Place { core, index } = place;
+        TaskRef { core, index }
     }
 
-    /// Where the resource stands.
-    pub fn place(self) -> Place
-        ensures { result ≡ resource_place self }
-    {
-        Place {
-            core: self.core,
-            index: self.index,
-        }
-    }
-
-    /// The resource as an object of its kind.
-    pub fn object(self) -> Object
-        ensures { result ≡ resource_object self }
-    {
-        Object {
-            kind: ObjectKind::Resource,
-            place: self.place(),
-        }
+    fn place(self) -> Place {
+        let TaskRef { core, index } = self;
+        Place { core, index }
     }
 }
 
-impl CounterRef {
-    /// The counter that stands at this place.
-    pub fn at(place: Place) -> Self
-        ensures { result ≡ counter_of place }
-    {
-        CounterRef {
-            core: place.core,
-            index: place.index,
-        }
+impl Reference for ResourceRef {
+    const KIND: ObjectKind = ObjectKind::Resource;
+
+    ghost KIND = { kinds.Resource };
+
+    ghost place_of = { resource_place };
+
+    ghost ref_of = { resource_of };
+
+    fn at(place: Place) -> Self {
+        let Place { core, index } = place;
+        ResourceRef { core, index }
     }
 
-    /// Where the counter stands.
-    pub fn place(self) -> Place
-        ensures { result ≡ counter_place self }
-    {
-        Place {
-            core: self.core,
-            index: self.index,
-        }
-    }
-
-    /// The counter as an object of its kind.
-    pub fn object(self) -> Object
-        ensures { result ≡ counter_object self }
-    {
-        Object {
-            kind: ObjectKind::Counter,
-            place: self.place(),
-        }
+    fn place(self) -> Place {
+        let ResourceRef { core, index } = self;
+        Place { core, index }
     }
 }
 
-impl AlarmRef {
-    /// The alarm that stands at this place.
-    pub fn at(place: Place) -> Self
-        ensures { result ≡ alarm_of place }
-    {
-        AlarmRef {
-            core: place.core,
-            index: place.index,
-        }
+impl Reference for CounterRef {
+    const KIND: ObjectKind = ObjectKind::Counter;
+
+    ghost KIND = { kinds.Counter };
+
+    ghost place_of = { counter_place };
+
+    ghost ref_of = { counter_of };
+
+    fn at(place: Place) -> Self {
+        let Place { core, index } = place;
+        CounterRef { core, index }
     }
 
-    /// Where the alarm stands.
-    pub fn place(self) -> Place
-        ensures { result ≡ alarm_place self }
-    {
-        Place {
-            core: self.core,
-            index: self.index,
-        }
-    }
-
-    /// The alarm as an object of its kind.
-    pub fn object(self) -> Object
-        ensures { result ≡ alarm_object self }
-    {
-        Object {
-            kind: ObjectKind::Alarm,
-            place: self.place(),
-        }
+    fn place(self) -> Place {
+        let CounterRef { core, index } = self;
+        Place { core, index }
     }
 }
 
-impl TableRef {
-    /// The schedule table that stands at this place.
-    pub fn at(place: Place) -> Self
-        ensures { result ≡ table_of place }
-    {
-        TableRef {
-            core: place.core,
-            index: place.index,
-        }
+impl Reference for AlarmRef {
+    const KIND: ObjectKind = ObjectKind::Alarm;
+
+    ghost KIND = { kinds.Alarm };
+
+    ghost place_of = { alarm_place };
+
+    ghost ref_of = { alarm_of };
+
+    fn at(place: Place) -> Self {
+        let Place { core, index } = place;
+        AlarmRef { core, index }
     }
 
-    /// Where the schedule table stands.
-    pub fn place(self) -> Place
-        ensures { result ≡ table_place self }
-    {
-        Place {
-            core: self.core,
-            index: self.index,
-        }
+    fn place(self) -> Place {
+        let AlarmRef { core, index } = self;
+        Place { core, index }
+    }
+}
+
+impl Reference for TableRef {
+    const KIND: ObjectKind = ObjectKind::Table;
+
+    ghost KIND = { kinds.Table };
+
+    ghost place_of = { table_place };
+
+    ghost ref_of = { table_of };
+
+    fn at(place: Place) -> Self {
+        let Place { core, index } = place;
+        TableRef { core, index }
     }
 
-    /// The schedule table as an object of its kind.
-    pub fn object(self) -> Object
-        ensures { result ≡ table_object self }
-    {
-        Object {
-            kind: ObjectKind::Table,
-            place: self.place(),
-        }
+    fn place(self) -> Place {
+        let TableRef { core, index } = self;
+        Place { core, index }
     }
 }

@@ -1,8 +1,14 @@
 //! Names of cores and objects as numbers: an object is known by its core and its place among that
 //! core's objects of its kind, in the order of the configuration.
 
+ghost use Rattle.std.specs.Prelude.{◌≡◌};
+ghost use Rattle.osbase.specs.History.{same_runner};
+ghost use Rattle.osbase.specs.Sets.{slot_of};
+
+use crate::turns::TASKS;
+
 /// The number of a core, configured or not (AUTOSAR SWS OS 4.x, CoreIdType).
-#[derive(Clone, Copy, Debug, PartialEq, Eq)]
+#[derive(Clone, Copy, Debug, Default, PartialEq, Eq)]
 pub struct CoreId {
     pub number: u8,
 }
@@ -36,14 +42,14 @@ pub struct CounterRef {
 }
 
 /// An alarm (OSEK/VDX OS 2.2.3, AlarmType).
-#[derive(Clone, Copy, Debug, PartialEq, Eq)]
+#[derive(Clone, Copy, Debug, Default, PartialEq, Eq)]
 pub struct AlarmRef {
     pub core: CoreId,
     pub index: u8,
 }
 
 /// A schedule table (AUTOSAR SWS OS 4.x, ScheduleTableType).
-#[derive(Clone, Copy, Debug, PartialEq, Eq)]
+#[derive(Clone, Copy, Debug, Default, PartialEq, Eq)]
 pub struct TableRef {
     pub core: CoreId,
     pub index: u8,
@@ -72,4 +78,27 @@ pub struct Variable {
 pub enum Runner {
     Task(TaskRef),
     Isr(IsrRef),
+}
+
+impl Runner {
+    /// Its place among a core's tasks and ISRs: the tasks come first.
+    pub fn slot(self) -> usize
+        ensures { result ≡ slot_of self }
+    {
+        match self {
+            Runner::Task(task) => usize::from(task.index),
+            Runner::Isr(isr) => TASKS + usize::from(isr.index),
+        }
+    }
+
+    /// Whether both are one task, or one ISR.
+    pub fn is(self, other: Runner) -> bool
+        ensures { result ≡ same_runner self other }
+    {
+        match (self, other) {
+            (Runner::Task(task), Runner::Task(other)) => task == other,
+            (Runner::Isr(isr), Runner::Isr(other)) => isr == other,
+            _ => false,
+        }
+    }
 }

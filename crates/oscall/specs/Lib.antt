@@ -1,15 +1,3 @@
-pub mod Checks
-pub mod Callers
-pub mod Named
-pub mod Returning
-pub mod Service
-pub mod Tasks
-pub mod Resources
-pub mod Events
-pub mod Alarms
 pub mod Border
-pub mod Calling
-pub mod Counters
-pub mod Tables
 pub mod Chaining
 pub mod Variables

@@ -5,25 +5,17 @@ ghost use Rattle.osbase.specs.declared.turns.TheConstants.{CORES};
 ghost use Rattle.osbase.specs.Phases.{is_before_live};
 ghost use Rattle.osjobs.specs.Priorities.{is_own_runner};
 ghost use Rattle.osstate.specs.Does.{Effects, HasRoom, Reads, service_entries, service_marks};
-ghost use Rattle.oscall.specs.Checks.{is_ok_status};
-ghost use Rattle.oscall.specs.Border.{answer_to, calls, core_of_call, crosses, effect_of, is_action, is_known_call, is_served, prints_served, serves_action, serves_request};
+ghost use Rattle.osact.specs.Acts.{both, does, prints};
+ghost use Rattle.osact.specs.Checks.{is_ok_status};
+ghost use Rattle.osact.specs.Service.{answers_with, carries_out};
+ghost use Rattle.osbase.specs.declared.marks.Mark.{Mark as MarkValue};
+ghost use Rattle.oscall.specs.Border.{calls, core_of_call, crosses, is_known_call, is_served, serves_action, serves_request, service_of};
 
-use crate::alarms::{ask_left, cancel, set_absolute, set_relative};
-use crate::events;
-use crate::returning::{Answer, ask, finish, refuse, report};
-use crate::tasks::activate;
+use osact::{Answer, ask, finish, refuse, report};
+use osalarmcall::{ask_left, cancel, set_absolute, set_relative};
 use osbase::{CoreId, Mark, Message, RemoteCall, Runner, ServiceId, Status};
 use osstate::CoreState;
-
-/// Whether an alarm may make the call (AUTOSAR SWS OS 4.x, OsAlarmAction).
-pub fn is_action(call: RemoteCall) -> bool
-    ensures { result ≡ is_action call }
-{
-    matches!(
-        call,
-        RemoteCall::ActivateTask(_) | RemoteCall::SetEvent { .. }
-    )
-}
+use ostaskcall::{activate, set_events};
 
 /// The half of a service that the object's core does, for a job of its own and for another core alike: the
 /// remaining checks, and the effect. A service that is refused has none.
@@ -35,14 +27,14 @@ pub fn serve<const P: usize, const J: usize, const OUT: usize>(
     requires served { IsTrue (is_served state.old.view call) }
     requires live { is_before_live state.old.progress.phase ≡ false }
     requires room { HasRoom 2 2 state.old marks.old }
-    ensures answer { Reads (λ v h. answer_to call v h) state.old result }
-    ensures effects { Effects 2 2 (λ v h. effect_of call v h) state.old state.new marks.old marks.new }
-    ensures refused { is_ok_status result.status ≡ false → Effects 0 0 (λ v h. effect_of call v h) state.old state.new marks.old marks.new }
+    ensures answer { Reads (answers_with (service_of call)) state.old result }
+    ensures effects { Effects 2 2 (does (carries_out (service_of call))) state.old state.new marks.old marks.new }
+    ensures refused { is_ok_status result.status ≡ false → Effects 0 0 (does (carries_out (service_of call))) state.old state.new marks.old marks.new }
     ensures border { state.new.border ≡ state.old.border }
 {
     match call {
         RemoteCall::ActivateTask(task) => activate(state, task, marks),
-        RemoteCall::SetEvent { task, mask } => events::set(state, task, mask, marks),
+        RemoteCall::SetEvent { task, mask } => set_events(state, task, mask, marks),
         RemoteCall::SetRelAlarm {
             alarm,
             increment,
@@ -61,7 +53,7 @@ pub fn serve<const P: usize, const J: usize, const OUT: usize>(
 /// A service by a running job of one of the core's tasks, on an object that may stand on another core. The
 /// invalid identifier answers E_OS_ID, an object of a core that was never started E_OS_CORE; neither has
 /// another effect. The service of an own object is done here; another core is asked.
-pub(crate) fn call<const P: usize, const J: usize, const OUT: usize>(
+pub fn call<const P: usize, const J: usize, const OUT: usize>(
     state: &mut CoreState<'_, P, J, OUT>,
     runner: Runner,
     service: ServiceId,
@@ -73,7 +65,7 @@ pub(crate) fn call<const P: usize, const J: usize, const OUT: usize>(
     requires live { is_before_live state.old.progress.phase ≡ false }
     requires outbox { length state.old.border.outbox < OUT }
     requires room { HasRoom service_entries service_marks state.old marks.old }
-    ensures { Effects service_entries service_marks (λ v h. calls v runner service target h) state.old state.new marks.old marks.new }
+    ensures { Effects service_entries service_marks (does (calls runner service target)) state.old state.new marks.old marks.new }
 {
     let Some(call) = target else {
         return refuse(state, runner, service, Status::EOsId, marks);
@@ -102,7 +94,7 @@ fn cross<const P: usize, const J: usize, const OUT: usize>(
     requires receiver { core.number < CORES }
     requires outbox { length state.old.border.outbox < OUT }
     requires room { HasRoom service_entries service_marks state.old marks.old }
-    ensures { Effects service_entries service_marks (λ v h. crosses v runner service (Some call) h) state.old state.new marks.old marks.new }
+    ensures { Effects service_entries service_marks (does (crosses runner service call)) state.old state.new marks.old marks.new }
 {
     if !state.is_own(core) {
         return ask(state, runner, service, core, call, marks);
@@ -121,8 +113,8 @@ fn serve_for<const P: usize, const J: usize, const OUT: usize>(
     requires served { IsTrue (is_served state.old.view call) }
     requires live { is_before_live state.old.progress.phase ≡ false }
     requires room { HasRoom 3 3 state.old marks.old }
-    ensures answer { Reads (λ v h. answer_to call v h) state.old result }
-    ensures effects { Effects 3 3 (λ v h. prints_served from call result (effect_of call v h)) state.old state.new marks.old marks.new }
+    ensures answer { Reads (answers_with (service_of call)) state.old result }
+    ensures effects { Effects 3 3 (does (both (carries_out (service_of call)) (prints (MarkValue.CallServed from call result.status result.value)))) state.old state.new marks.old marks.new }
     ensures border { state.new.border ≡ state.old.border }
 {
     let answer = serve(state, call, marks);
@@ -148,7 +140,7 @@ pub fn serve_request<const P: usize, const J: usize, const OUT: usize>(
     requires sender { from.number < CORES }
     requires outbox { length state.old.border.outbox < OUT }
     requires room { HasRoom service_entries service_marks state.old marks.old }
-    ensures { Effects service_entries service_marks (λ v h. serves_request v from call h) state.old state.new marks.old marks.new }
+    ensures { Effects service_entries service_marks (does (serves_request from call)) state.old state.new marks.old marks.new }
 {
     let answer = serve_for(state, from, call, marks);
     state.queue(
@@ -170,7 +162,7 @@ pub fn serve_action<const P: usize, const J: usize, const OUT: usize>(
     requires served { IsTrue (is_served state.old.view call) }
     requires live { is_before_live state.old.progress.phase ≡ false }
     requires room { HasRoom service_entries service_marks state.old marks.old }
-    ensures { Effects service_entries service_marks (λ v h. serves_action v from call h) state.old state.new marks.old marks.new }
+    ensures { Effects service_entries service_marks (does (serves_action from call)) state.old state.new marks.old marks.new }
 {
     let answer = serve_for(state, from, call, marks);
     report(state, answer.status, marks);

@@ -9,14 +9,14 @@ ghost use Rattle.osplan.specs.Objects.{may_name};
 ghost use Rattle.osjobs.specs.Priorities.{is_own_runner};
 ghost use Rattle.osstate.specs.Does.{Effects, HasRoom, Reads};
 ghost use Rattle.osstate.specs.Queries.{is_at_limit_in};
-ghost use Rattle.oscall.specs.Checks.{first_failing, is_ok_status};
-ghost use Rattle.oscall.specs.Chaining.{chaining_checks, chains, chains_here, chains_to, ends_caller, exceeds_limit, resumes};
+ghost use Rattle.osact.specs.Acts.{does};
+ghost use Rattle.osact.specs.Seen.{seen_of};
+ghost use Rattle.oscall.specs.Chaining.{chains, chains_across, chains_here, chains_if, chains_to, ends_caller, exceeds_limit, resumes};
 
-use crate::returning::{Answer, ask, finish, is_ok, refuse};
-use crate::tasks::end;
+use osact::{Answer, ask, finish, is_ok, refuse};
 use osbase::{Mark, RemoteCall, Runner, ServiceId, Status, TaskRef};
-use osjobs::equality::is_same_runner;
 use osstate::CoreState;
+use ostaskcall::{end, end_task, status_of_holding};
 
 /// A running job of one of the core's tasks ends itself, and a job of the task begins (OSEK/VDX OS 2.2.3, section
 /// 13.2.3.3). The invalid identifier answers E_OS_ID, a task of a core that was never started E_OS_CORE, a caller
@@ -34,62 +34,91 @@ pub fn chain<const P: usize, const J: usize, const OUT: usize>(
     requires live { is_before_live state.old.progress.phase ≡ false }
     requires outbox { length state.old.border.outbox < OUT }
     requires room { HasRoom 3 3 state.old marks.old }
-    ensures { Effects 3 3 (λ v h. chains v runner target h) state.old state.new marks.old marks.new }
+    ensures { Effects 3 3 (does (chains runner target)) state.old state.new marks.old marks.new }
 {
-    let status = status_of_chain(state, runner, target);
+    match runner {
+        Runner::Task(caller) => chain_if(state, caller, target, marks),
+        Runner::Isr(_) => refuse(
+            state,
+            runner,
+            ServiceId::ChainTask,
+            Status::EOsCallevel,
+            marks,
+        ),
+    }
+}
+
+// Where the task is named.
+fn chain_if<const P: usize, const J: usize, const OUT: usize>(
+    state: &mut CoreState<'_, P, J, OUT>,
+    caller: TaskRef,
+    target: Option<TaskRef>,
+    marks: &mut Vec<Mark>,
+)
+    requires own { IsTrue (is_own_runner state.old.view.own (Runner.Task caller)) }
+    requires known { IfSome target (λ task. IsTrue (may_name state.old.view.own (task_object task))) }
+    requires live { is_before_live state.old.progress.phase ≡ false }
+    requires outbox { length state.old.border.outbox < OUT }
+    requires room { HasRoom 3 3 state.old marks.old }
+    ensures { Effects 3 3 (does (chains_if (Runner.Task caller) target)) state.old state.new marks.old marks.new }
+{
+    match target {
+        Some(task) => chain_across(state, caller, task, marks),
+        None => refuse(
+            state,
+            Runner::Task(caller),
+            ServiceId::ChainTask,
+            Status::EOsId,
+            marks,
+        ),
+    }
+}
+
+// Where its core was started, and the caller holds nothing.
+fn chain_across<const P: usize, const J: usize, const OUT: usize>(
+    state: &mut CoreState<'_, P, J, OUT>,
+    caller: TaskRef,
+    task: TaskRef,
+    marks: &mut Vec<Mark>,
+)
+    requires own { IsTrue (is_own_runner state.old.view.own (Runner.Task caller)) }
+    requires known { IsTrue (may_name state.old.view.own (task_object task)) }
+    requires live { is_before_live state.old.progress.phase ≡ false }
+    requires outbox { length state.old.border.outbox < OUT }
+    requires room { HasRoom 3 3 state.old marks.old }
+    ensures { Effects 3 3 (does (chains_across (Runner.Task caller) task)) state.old state.new marks.old marks.new }
+{
+    let runner = Runner::Task(caller);
+    if !state.knows_started(task.core) {
+        return refuse(state, runner, ServiceId::ChainTask, Status::EOsCore, marks);
+    }
+    let status = status_of_holding(state, runner);
     if is_ok(status) {
-        chain_to(state, runner, target, marks);
+        chain_to(state, caller, task, marks);
     } else {
         refuse(state, runner, ServiceId::ChainTask, status, marks);
     }
 }
 
-// The first check that fails of those that the caller's core makes.
-fn status_of_chain<const P: usize, const J: usize, const OUT: usize>(
-    state: &CoreState<'_, P, J, OUT>,
-    runner: Runner,
-    target: Option<TaskRef>,
-) -> Status
-    requires own { IsTrue (is_own_runner state.now.view.own runner) }
-    ensures status { Reads (λ v h. first_failing (chaining_checks v runner target h)) state.now result }
-    ensures number { IsTrue (is_ok_status result) → IfSome target (λ task. task.core.number < CORES) }
-{
-    if let Runner::Isr(_) = runner {
-        return Status::EOsCallevel;
-    }
-    let Some(task) = target else {
-        return Status::EOsId;
-    };
-    if !state.knows_started(task.core) {
-        return Status::EOsCore;
-    }
-    if state.holds_resource(runner) {
-        return Status::EOsResource;
-    }
-    Status::EOk
-}
-
 // An own task is activated here, and another core is asked to activate its task.
 fn chain_to<const P: usize, const J: usize, const OUT: usize>(
     state: &mut CoreState<'_, P, J, OUT>,
-    runner: Runner,
-    target: Option<TaskRef>,
+    caller: TaskRef,
+    task: TaskRef,
     marks: &mut Vec<Mark>,
 )
-    requires own { IsTrue (is_own_runner state.old.view.own runner) }
-    requires known { IfSome target (λ task. IsTrue (may_name state.old.view.own (task_object task))) }
+    requires own { IsTrue (is_own_runner state.old.view.own (Runner.Task caller)) }
+    requires known { IsTrue (may_name state.old.view.own (task_object task)) }
     requires live { is_before_live state.old.progress.phase ≡ false }
-    requires receiver { IfSome target (λ task. task.core.number < CORES) }
+    requires receiver { task.core.number < CORES }
     requires outbox { length state.old.border.outbox < OUT }
     requires room { HasRoom 3 3 state.old marks.old }
-    ensures { Effects 3 3 (λ v h. chains_to v runner target h) state.old state.new marks.old marks.new }
+    ensures { Effects 3 3 (does (chains_to (Runner.Task caller) task)) state.old state.new marks.old marks.new }
 {
-    let Some(task) = target else {
-        return;
-    };
     if state.is_own(task.core) {
-        return chain_here(state, runner, task, marks);
+        return chain_here(state, caller, task, marks);
     }
+    let runner = Runner::Task(caller);
     let call = RemoteCall::ActivateTask(task);
     ask(state, runner, ServiceId::ChainTask, task.core, call, marks);
 }
@@ -97,34 +126,35 @@ fn chain_to<const P: usize, const J: usize, const OUT: usize>(
 // An own task is activated once the caller has ended.
 fn chain_here<const P: usize, const J: usize, const OUT: usize>(
     state: &mut CoreState<'_, P, J, OUT>,
-    runner: Runner,
+    caller: TaskRef,
     task: TaskRef,
     marks: &mut Vec<Mark>,
 )
-    requires own { IsTrue (is_own_runner state.old.view.own runner) }
+    requires own { IsTrue (is_own_runner state.old.view.own (Runner.Task caller)) }
     requires target { IsTrue (is_own_runner state.old.view.own (Runner.Task task)) }
     requires live { is_before_live state.old.progress.phase ≡ false }
     requires room { HasRoom 3 3 state.old marks.old }
-    ensures { Effects 3 3 (λ v h. chains_here v runner task h) state.old state.new marks.old marks.new }
+    ensures { Effects 3 3 (does (chains_here (Runner.Task caller) task)) state.old state.new marks.old marks.new }
 {
-    if exceeds_limit(state, runner, task) {
+    if exceeds_limit(state, caller, task) {
+        let runner = Runner::Task(caller);
         return refuse(state, runner, ServiceId::ChainTask, Status::EOsLimit, marks);
     }
-    end(state, runner, marks);
+    end_task(state, caller, marks);
     state.activate(task, marks);
 }
 
 // As many jobs of the task are live as it may have. The caller's own task has one less once the caller has ended.
 fn exceeds_limit<const P: usize, const J: usize, const OUT: usize>(
     state: &CoreState<'_, P, J, OUT>,
-    runner: Runner,
+    caller: TaskRef,
     task: TaskRef,
 ) -> bool
     requires own { IsTrue (is_own_runner state.now.view.own (Runner.Task task)) }
-    ensures value { result ≡ (not (same_runner runner (Runner.Task task)) && is_at_limit_in task state.now) }
-    ensures reads { Reads (λ v h. exceeds_limit v runner task h) state.now result }
+    ensures value { result ≡ (not (same_runner (Runner.Task caller) (Runner.Task task)) && is_at_limit_in task state.now) }
+    ensures reads { Reads (λ v h. exceeds_limit (seen_of v h) (Runner.Task caller) task) state.now result }
 {
-    !is_same_runner(runner, Runner::Task(task)) && state.is_at_limit(task)
+    !Runner::Task(caller).is(Runner::Task(task)) && state.is_at_limit(task)
 }
 
 // ChainTask that was granted does not return: its caller ends.
@@ -145,7 +175,7 @@ pub fn resume<const P: usize, const J: usize, const OUT: usize>(
 )
     requires own { IsTrue (is_own_runner state.old.view.own runner) }
     requires room { HasRoom 3 2 state.old marks.old }
-    ensures { Effects 3 2 (λ v h. resumes runner service answer.status answer.value h) state.old state.new marks.old marks.new }
+    ensures { Effects 3 2 (does (resumes runner service answer.status answer.value)) state.old state.new marks.old marks.new }
 {
     if ends_caller(service, answer.status) {
         return end(state, runner, marks);

@@ -3,6 +3,7 @@
 ghost use Rattle.std.specs.Prelude.{◌≡◌, IsTrue};
 ghost use Rattle.osjobs.specs.Priorities.{is_own_runner};
 ghost use Rattle.osstate.specs.Does.{Effects, HasRoom};
+ghost use Rattle.osact.specs.Acts.{does};
 ghost use Rattle.oscall.specs.Variables.{adds, adds_variable, sets, stores_status, sum_of};
 
 use osbase::{Mark, Runner, Status, Variable};
@@ -18,7 +19,7 @@ pub fn set<const P: usize, const J: usize, const OUT: usize>(
 )
     requires own { IsTrue (is_own_runner state.old.view.own runner) }
     requires room { HasRoom 2 1 state.old marks.old }
-    ensures { Effects 2 1 (λ v h. sets runner variable value h) state.old state.new marks.old marks.new }
+    ensures { Effects 2 1 (does (sets runner variable value)) state.old state.new marks.old marks.new }
 {
     let mark = Mark::VariableSet {
         runner,
@@ -46,7 +47,7 @@ pub fn add<const P: usize, const J: usize, const OUT: usize>(
 )
     requires own { IsTrue (is_own_runner state.old.view.own runner) }
     requires room { HasRoom 2 1 state.old marks.old }
-    ensures { Effects 2 1 (λ v h. adds v runner variable number h) state.old state.new marks.old marks.new }
+    ensures { Effects 2 1 (does (adds runner variable number)) state.old state.new marks.old marks.new }
 {
     let frame = state.frame(runner);
     let value = sum(frame.value(variable), number);
@@ -63,7 +64,7 @@ pub fn add_variable<const P: usize, const J: usize, const OUT: usize>(
 )
     requires own { IsTrue (is_own_runner state.old.view.own runner) }
     requires room { HasRoom 2 1 state.old marks.old }
-    ensures { Effects 2 1 (λ v h. adds_variable v runner variable other h) state.old state.new marks.old marks.new }
+    ensures { Effects 2 1 (does (adds_variable runner variable other)) state.old state.new marks.old marks.new }
 {
     let frame = state.frame(runner);
     let value = sum(frame.value(variable), frame.value(other));
@@ -79,7 +80,7 @@ pub fn store_status<const P: usize, const J: usize, const OUT: usize>(
 )
     requires own { IsTrue (is_own_runner state.old.view.own runner) }
     requires room { HasRoom 2 1 state.old marks.old }
-    ensures { Effects 2 1 (λ v h. stores_status v runner variable h) state.old state.new marks.old marks.new }
+    ensures { Effects 2 1 (does (stores_status runner variable)) state.old state.new marks.old marks.new }
 {
     let frame = state.frame(runner);
     let number = i64::from(frame.status.number());

@@ -2,22 +2,23 @@
 use Rattle.std.specs.Prelude.{ℕ, ◌+◌, Bool, false, not, option_and_then, List, map, count_by, sum_by}
 use Rattle.std.specs.Option.{option_map_or}
 use Rattle.osbase.specs.declared.references.CoreId.{CoreId}
+use Rattle.osbase.specs.declared.messages.RemoteCall.{RemoteCall}
 use Rattle.osbase.specs.History.{same_core}
+use Rattle.osbase.specs.Objects.{object_of_call}
+use Rattle.oscript.specs.Calls.{action_of_op}
 use Rattle.osforms.specs.Operation.{op_meant}
-use Rattle.osplan.specs.Objects.{action_object, greatest_of}
-use Rattle.osplan.specs.declared.plans.TimedAction.{TimedAction}
+use Rattle.osplan.specs.Objects.{greatest_of}
 use Rattle.osshape.specs.declared.declarations.Declaration.{Declaration}
 use Rattle.osshape.specs.declared.shapes.AlarmText.{AlarmText}
 use Rattle.osshape.specs.declared.shapes.CoreText.{CoreText}
 use Rattle.osshape.specs.declared.table_shapes.PointText.{PointText}
 use Rattle.osshape.specs.declared.table_shapes.TableText.{TableText}
-use Rattle.oscheck.specs.Action.{action_of_op}
 use Rattle.osshape.specs.Declarations.{id_of, place_alone}
 
 -- The text is an action whose name is one object's alone, a task of another core than this one.
 abbrev pub is_posting : List Declaration → CoreId → List ℕ → Bool
 is_posting objects id text =
-    option_map_or (λ (action : TimedAction). not (same_core (action_object action).place.core id)) (option_and_then action_of_op (op_meant (place_alone objects) text)) false
+    option_map_or (λ (action : RemoteCall). not (same_core (object_of_call action).place.core id)) (option_and_then action_of_op (op_meant (place_alone objects) text)) false
 
 abbrev pub posted_at : List Declaration → CoreId → PointText → ℕ
 posted_at objects id point = count_by (is_posting objects id) point.actions

@@ -11,4 +11,4 @@ pub use checks::{
     OPERATIONS, are_alarm_modes, are_mode_names, are_objects_few, are_timed, fault_of, has_core,
     is_each_once, is_numbered,
 };
-pub use table_checks::{action_of_op, are_table_modes};
+pub use table_checks::are_table_modes;

@@ -6,16 +6,15 @@ ghost use Rattle.std.specs.Option.{option_map_or};
 ghost use Rattle.osshape.specs.declared.table_shapes.PointText.{PointText as Point};
 ghost use Rattle.osshape.specs.declared.table_shapes.TableText.{TableText as Table};
 ghost use Rattle.osplan.specs.Limits.{are_alarms_within, are_ascending, are_tables_within, delays, first_offset, is_before, is_delay, is_final, is_initial, is_point_within, is_table_start_within, is_table_timed, is_table_within, is_timed_by, last_offset, most_posted};
-ghost use Rattle.oscheck.specs.Action.{action_of_op, is_action_known, is_action_masked};
+ghost use Rattle.oscheck.specs.Action.{is_action_known, is_action_masked};
 ghost use Rattle.osshape.specs.Declarations.{declared_sizes, place_alone};
 ghost use Rattle.oscheck.specs.Posted.{greatest_posted, is_posting, posted_at, posted_by_alarms, posted_by_tables, posted_at_once};
 ghost use Rattle.oscheck.specs.Check.{alarm_sizes, is_mode_name, is_point_known, is_point_masked, is_table_known, is_table_masked, is_table_near, point_sizes, table_modes, table_sizes, table_times};
 
 use crate::checks::{are_mode_names, is_action_known, is_action_masked, is_between, is_counter};
 use osbase::{CoreId, ObjectKind, Place};
-use oscript::Op;
+use oscript::action_of_op;
 use osforms::{Places, op_meant};
-use osplan::TimedAction;
 use osread::{Text, Whole};
 use osshape::{AlarmText, CoreText, Declaration, Objects, PointText, TableText, number_id};
 
@@ -129,17 +128,6 @@ impl Places for Alone<'_, '_> {
 
     fn place(&self, kind: ObjectKind, name: &str) -> Option<Place> {
         self.objects.place_alone(kind, name)
-    }
-}
-
-/// The action that an operation is, if it is one.
-pub fn action_of_op(op: Op) -> Option<TimedAction>
-    ensures { result ≡ action_of_op op }
-{
-    match op {
-        Op::ActivateTask(Some(task)) => Some(TimedAction::ActivateTask(task)),
-        Op::SetEvent(Some(task), mask) => Some(TimedAction::SetEvent(task, mask)),
-        _ => None,
     }
 }
 

@@ -1,32 +1,22 @@
 -- The clocks of a core that counted nothing yet.
-use Rattle.std.proofs.Common.{◌≡◌, ℕ, zero, suc, ◌+◌, Option, Some, None, List, [], ◌∷◌, length, map, replicate, refl, ap, sym, ◌∙◌, arith}
+use Rattle.std.proofs.Common.{◌≡◌, ℕ, ◌+◌, Option, Some, None, List, [], length, map, replicate, refl, ap, sym, ◌∙◌, arith}
 use Rattle.std.specs.List.{slice_get}
 use Rattle.std.specs.Option.{option_map_or}
 use Rattle.std.proofs.lemmas.Bool.{cond-true}
 use Rattle.osbase.specs.declared.references.AlarmRef.{AlarmRef}
 use Rattle.osbase.specs.History.{same_core}
-use Rattle.osbase.specs.Sets.{numbers_from}
 use Rattle.osbase.proofs.Same.{same_core-refl}
 use Rattle.osplan.specs.declared.plans.Alarm.{Alarm as AlarmValue}
 use Rattle.osplan.specs.declared.plans.Core.{Core}
 use Rattle.osplan.specs.declared.plans.Counter.{Counter as CounterValue}
 use Rattle.osplan.specs.View.{own_alarm}
+use Rattle.osattach.specs.Attached.{each_by}
+use Rattle.osattach.proofs.Ranges.{listed, repeated}
 use Rattle.oscount.specs.declared.alarms.Alarm.{Alarm}
 use Rattle.oscount.specs.declared.counters.Counter.{Counter}
 use Rattle.oscount.specs.Clocks.{counter_at}
-use Rattle.osclock.specs.Clocks.{ClockState, alarm_by, alarm_ref, attached_to, clocks_of, counter_by, counter_ref, unset}
+use Rattle.osclock.specs.Clocks.{ClockState, alarm_by, alarm_family, alarm_ref, alarm_refs, clocks_of, counter_by, counter_ref, unset}
 use Rattle.osclock.proofs.Law.{both, read}
-
--- a list by place
-listed : {X Y : Type 0} (f : X → Y) (G : ℕ → Y) (first : ℕ) (xs : List X) → ((k : ℕ) (x : X) → slice_get xs k ≡ Some x → f x ≡ G (first + k)) → map f xs ≡ map G (numbers_from first (length xs))
-listed f G first [] same = refl
-listed f G first (x ∷ xs) same =
-    ap (λ y. y ∷ map f xs) (same 0 x refl ∙ ap G (let here : first + 0 ≡ first = omega arith in here))
-    ∙ ap (λ ys. G first ∷ ys) (listed f G (first + 1) xs (λ k y at. same (suc k) y at ∙ ap G (let on : first + suc k ≡ first + 1 + k = omega arith in on)))
-
-pub repeated : {Y : Type 0} (y : Y) (G : ℕ → Y) (first count : ℕ) → ((n : ℕ) → y ≡ G n) → replicate count y ≡ map G (numbers_from first count)
-repeated y G first zero same = refl
-repeated y G first (suc count) same = ap (λ z. z ∷ replicate count y) (same first) ∙ ap (λ ys. G first ∷ ys) (repeated y G (first + 1) count same)
 
 counter-begun : (core : Core) (k : ℕ) (x : CounterValue) → slice_get core.counters k ≡ Some x → counter_at x.max 0 ≡ counter_by core (counter_ref core (0 + k)) []
 counter-begun core k x at =
@@ -41,7 +31,7 @@ alarm-begun core a = by (own_alarm core a)
     by (Some x) = refl
 
 pub begun : (core : Core) (counters : List Counter) (alarms : List Alarm) (lists : List (List AlarmRef)) (count : ℕ) → counters ≡ map (λ (c : CounterValue). counter_at c.max 0) core.counters → count ≡ length core.alarms → alarms ≡ replicate count unset
-    → lists ≡ map (λ (n : ℕ). attached_to core (counter_ref core n)) (numbers_from 0 (length core.counters)) → (let s : ClockState = record { counters = counters; alarms = alarms; attached = lists } in s) ≡ clocks_of core []
+    → lists ≡ each_by core (alarm_family core) (alarm_refs core) → (let s : ClockState = record { counters = counters; alarms = alarms; attached = lists } in s) ≡ clocks_of core []
 begun core counters alarms lists count is few are attached =
     both
     (is ∙ listed (λ (c : CounterValue). counter_at c.max 0) (λ n. counter_by core (counter_ref core n) []) 0 core.counters (λ k x at. counter-begun core k x at))

@@ -1,18 +1,14 @@
 -- What holds of the clocks of a core within its limits.
-use Rattle.std.proofs.Common.{◌≡◌, ℕ, suc, ◌+◌, ◌-◌, ◌<◌, ◌≤◌, ◌^◌, ◌%◌, Bool, true, false, cond, ◌&&◌, nat_le, All, IfSome, Option, Some, None, List, [], length, map, refl, ap, sym, subst, ◌∙◌, arith, get_or}
+use Rattle.std.proofs.Common.{◌≡◌, ℕ, suc, ◌+◌, ◌-◌, ◌<◌, ◌≤◌, ◌^◌, ◌%◌, Bool, true, false, cond, ◌&&◌, nat_le, All, IfSome, Option, Some, None, List, [], length, refl, ap, sym, subst, ◌∙◌, arith, get_or}
 use Rattle.std.specs.List.{slice_get}
 use Rattle.std.specs.Option.{option_map_or}
 use Rattle.std.proofs.Math.Nat.{mod-eq_of_lt, mod-lt}
 use Rattle.std.proofs.lemmas.Bool.{and_parts, leb-true}
-use Rattle.std.proofs.lemmas.List.{length-map}
 use Rattle.std.proofs.lemmas.List.Elements.{All-same}
-use Rattle.arrayvec.specs.ArrayVec.{ArrayVec as Items}
 use Rattle.osbase.specs.declared.references.AlarmRef.{AlarmRef}
 use Rattle.osbase.specs.declared.references.CounterRef.{CounterRef}
 use Rattle.osbase.specs.Counting.{AlarmSetting, alarm_of, counts_left, counts_of, counts_to, is_in_turn, will_be_due}
 use Rattle.osbase.specs.Objects.{alarm_object, counter_object}
-use Rattle.osbase.specs.Sets.{numbers_from}
-use Rattle.osbase.proofs.Tables.{table-at}
 use Rattle.osplan.specs.declared.plans.Alarm.{Alarm as AlarmValue}
 use Rattle.osplan.specs.declared.plans.Core.{Core}
 use Rattle.osplan.specs.declared.plans.Counter.{Counter as CounterValue}
@@ -21,14 +17,17 @@ use Rattle.osplan.specs.Objects.{is_own_object}
 use Rattle.osplan.specs.View.{own_alarm}
 use Rattle.osplan.proofs.Clocked.{clock-parts}
 use Rattle.osplan.proofs.Tests.{passes-at}
+use Rattle.osattach.proofs.Members.{list-at as own-list}
+use Rattle.osattach.proofs.Places.{counter-is, counter-place}
+use Rattle.osattach.proofs.Ranges.{length-table}
 use Rattle.oscount.specs.declared.alarms.Alarm.{Alarm}
 use Rattle.oscount.specs.declared.alarms.Expiry.{Expiry}
 use Rattle.oscount.specs.declared.counters.Counter.{Counter}
 use Rattle.oscount.specs.Clocks.{counter_at, expiry_at}
-use Rattle.osclock.specs.Clocks.{AreClocks, ClockState, IsBounded, alarm_by, alarm_in, alarm_ref, attached_to, counter_by, counter_for, counter_in, counter_ref, max_for, max_of, no_counter, unset}
+use Rattle.osclock.specs.Clocks.{AreClocks, ClockState, IsBounded, alarm_by, alarm_family, alarm_in, alarm_ref, attached_to, counter_by, counter_for, counter_in, counter_ref, max_for, max_of, no_counter, unset}
 use Rattle.osclock.proofs.Attached.{attached-all, attached-max, attached-own}
 use Rattle.osclock.proofs.Law.{alarm-at, attached, counter-at, read}
-use Rattle.osclock.proofs.Places.{alarm-place, counter-is, counter-place, length-numbers}
+use Rattle.osclock.proofs.Places.{alarm-place}
 
 -- ---- limits
 
@@ -45,12 +44,12 @@ max-few core c within own =
 pub counters-length : (core : Core) (s : ClockState) → AreClocks core s → length s.counters ≡ length core.counters
 counters-length core s clocks =
     ap (λ (t : ClockState). length t.counters) clocks.is
-    ∙ length-map (numbers_from 0 (length core.counters)) (λ (n : ℕ). counter_by core (counter_ref core n) clocks.history) ∙ length-numbers 0 (length core.counters)
+    ∙ length-table (λ (n : ℕ). counter_by core (counter_ref core n) clocks.history) (length core.counters)
 
 pub alarms-length : (core : Core) (s : ClockState) → AreClocks core s → length s.alarms ≡ length core.alarms
 alarms-length core s clocks =
     ap (λ (t : ClockState). length t.alarms) clocks.is
-    ∙ length-map (numbers_from 0 (length core.alarms)) (λ (n : ℕ). alarm_by core (alarm_ref core n) clocks.history) ∙ length-numbers 0 (length core.alarms)
+    ∙ length-table (λ (n : ℕ). alarm_by core (alarm_ref core n) clocks.history) (length core.alarms)
 
 pub counter-inside : (core : Core) (s : ClockState) (c : CounterRef) → AreClocks core s → is_own_object core (counter_object c) ≡ true → c.index < length s.counters
 counter-inside core s c clocks own = omega (arith, counters-length core s clocks, (counter-place core c own).inside)
@@ -59,21 +58,9 @@ pub alarm-inside : (core : Core) (s : ClockState) (a : AlarmRef) → AreClocks c
 alarm-inside core s a clocks own = omega (arith, alarms-length core s clocks, (alarm-place core a own).inside)
 
 -- which of them are the counter's own
-pub lists-length : (core : Core) (s : ClockState) → AreClocks core s → length s.attached ≡ length core.counters
-lists-length core s clocks =
-    ap (λ (t : ClockState). length t.attached) clocks.is
-    ∙ length-map (numbers_from 0 (length core.counters)) (λ (n : ℕ). attached_to core (counter_ref core n)) ∙ length-numbers 0 (length core.counters)
-
-pub list-inside : (core : Core) (s : ClockState) (c : CounterRef) (lists : List (Items AlarmRef)) → map (λ (x : Items AlarmRef). x.items) lists ≡ s.attached → AreClocks core s → is_own_object core (counter_object c) ≡ true → c.index < length lists
-list-inside core s c lists are clocks own =
-    omega (arith, (counter-place core c own).inside, lists-length core s clocks, ap (λ (xs : List (List AlarmRef)). length xs) are, length-map lists (λ (x : Items AlarmRef). x.items))
-
 pub list-at : (core : Core) (s : ClockState) (c : CounterRef) → AreClocks core s → is_own_object core (counter_object c) ≡ true → get_or s.attached c.index [] ≡ attached_to core c
 list-at core s c clocks own =
-    let place = counter-place core c own in
-    ap (λ (t : ClockState). get_or t.attached c.index []) clocks.is
-    ∙ table-at (λ n. attached_to core (counter_ref core n)) 0 (length core.counters) c.index c.index [] (omega arith) place.inside
-    ∙ ap (attached_to core) (sym place.ref)
+    ap (λ (t : ClockState). get_or t.attached c.index []) clocks.is ∙ own-list core (alarm_family core) c (counter-place core c own)
 
 -- ---- values
 

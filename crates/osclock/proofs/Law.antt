@@ -1,6 +1,6 @@
 -- What an entry does to the state is what it does to what is read off the history.
 use Rattle.std.proofs.Common.{◌≡◌, ℕ, suc, ◌+◌, ◌<◌, ◌%◌, Bool, true, false, cond, ◌&&◌, Option, Some, None, is_some, option_map, List, ◌∷◌, length, refl, ap, sym, ◌∙◌, arith, get_or}
-use Rattle.std.specs.List.{slice_get, slice_set}
+use Rattle.std.specs.List.{slice_set}
 use Rattle.std.specs.Option.{option_map_or}
 use Rattle.std.proofs.Math.Nat.{mod-add-mod}
 use Rattle.std.proofs.lemmas.Bool.{cond-false, cond-true, false≢true}
@@ -9,6 +9,7 @@ use Rattle.osbase.specs.declared.references.CounterRef.{CounterRef}
 use Rattle.osbase.specs.History.{History, Entry, Noted, Counted, AlarmSet, AlarmCancelled, same_core}
 use Rattle.osbase.specs.Counting.{AlarmSetting, alarm_of, counts_left, counts_of, is_in_turn, one_count_more, same_alarm, same_counter, will_be_due}
 use Rattle.osbase.specs.Objects.{alarm_object, counter_object}
+use Rattle.osbase.proofs.Same.{same_alarm-refl, same_counter-refl, same_counter-true}
 use Rattle.osbase.proofs.Tables.{table-at, table-set}
 use Rattle.osplan.specs.declared.plans.Alarm.{Alarm as AlarmValue}
 use Rattle.osplan.specs.declared.plans.Core.{Core}
@@ -16,13 +17,15 @@ use Rattle.osplan.specs.Clocked.{are_clocks_within, is_alarm_attached}
 use Rattle.osplan.specs.Objects.{is_own_object}
 use Rattle.osplan.specs.View.{own_alarm}
 use Rattle.osplan.proofs.Clocked.{clock-parts}
-use Rattle.osplan.proofs.Tests.{passes-at}
+use Rattle.osattach.specs.Attached.{changed_by}
+use Rattle.osattach.proofs.Places.{counter-apart, counter-other, counter-place, own-passes}
+use Rattle.osattach.proofs.Ranges.{table-within}
 use Rattle.oscount.specs.declared.counters.Counter.{Counter}
 use Rattle.oscount.specs.declared.alarms.Alarm.{Alarm}
 use Rattle.oscount.specs.Clocks.{advanced, alarm_at, alarm_beyond, counter_at, setting_of}
 use Rattle.oscount.proofs.Expiries.{beyond, counted as next}
-use Rattle.osclock.specs.Clocks.{ClockState, alarm_by, alarm_in, alarm_ref, all_passed, clocks_by, clocks_of, counted, counter_by, counter_for, counter_in, counter_ref, due_after, max_of, no_counter, passed, unset, with_alarm}
-use Rattle.osclock.proofs.Places.{alarm-apart, alarm-other, alarm-own, alarm-place, alarm-some, counter-apart, counter-other, counter-own, counter-place, same_alarm-refl, same_counter-refl, same_counter-true, table-within}
+use Rattle.osclock.specs.Clocks.{ClockState, alarm_by, alarm_family, alarm_in, alarm_ref, all_passed, clocks_by, clocks_of, counted, counter_by, counter_for, counter_in, counter_ref, due_after, max_of, no_counter, unset, with_alarm}
+use Rattle.osclock.proofs.Places.{alarm-apart, alarm-other, alarm-own, alarm-place, alarm-some, counter-own}
 
 -- ---- what stands at an own object's place
 
@@ -38,11 +41,7 @@ alarm-at core a h own =
 
 -- the counter of an own alarm is one of the core's own
 pub attached : (core : Core) (a : AlarmRef) (x : AlarmValue) → are_clocks_within core ≡ true → own_alarm core a ≡ Some x → is_own_object core (counter_object x.counter) ≡ true
-attached core a x within own = by (same_core a.core core.id) own
-  where
-    by : (b : Bool) → cond b (slice_get core.alarms a.index) None ≡ Some x → is_own_object core (counter_object x.counter) ≡ true
-    by true e = passes-at (is_alarm_attached core) core.alarms a.index x (clock-parts core within).attached e
-    by false e = cc
+attached core a x within own = own-passes (is_alarm_attached core) core.alarms (same_core a.core core.id) a.index x (clock-parts core within).attached own
 
 abbrev pub read : Core → AlarmRef → History → AlarmValue → Alarm
 read core a h x = alarm_at (max_of core x.counter) (counts_of x.counter h) (alarm_of x.counter a h)
@@ -77,6 +76,9 @@ alarm-on core c a h (Some x) = by (same_counter c x.counter) refl
     by true e =
         ap (λ (d : CounterRef). alarm_beyond (counter_by core d h) (read core a h x)) (same_counter-true c x.counter e)
         ∙ ap (λ y. let alarm : Alarm = record { expiry = y } in alarm) (beyond (max_of core x.counter) (counts_of x.counter h) (alarm_of x.counter a h))
+
+abbrev passed : Core → CounterRef → Counter → ℕ → Alarm → Alarm
+passed core c counter = changed_by (alarm_family core) c (λ (a : AlarmRef). alarm_beyond counter)
 
 alarms-on : (core : Core) (c : CounterRef) (h : History) → is_own_object core (counter_object c) ≡ true
     → all_passed core c (counter_in c (clocks_of core h)) (clocks_of core h).alarms ≡ (clocks_of core (Noted (Counted c) ∷ h)).alarms

@@ -2,7 +2,6 @@ pub mod Places
 pub mod Law
 pub mod Attached
 pub mod Bounds
-pub mod Filling
 pub mod Beyond
 pub mod Begun
 pub mod Asked

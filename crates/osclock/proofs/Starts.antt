@@ -1,6 +1,5 @@
 -- An alarm that is set by itself is set within its counter's values.
-use Rattle.std.proofs.Common.{◌≡◌, ℕ, suc, ◌<◌, ◌≤◌, Bool, true, false, cond, Option, Some, None, is_some, refl, ap, sym, ◌∙◌, arith}
-use Rattle.std.specs.List.{slice_get}
+use Rattle.std.proofs.Common.{◌≡◌, ℕ, suc, ◌<◌, ◌≤◌, true, Option, Some, None, is_some, refl, ap, sym, ◌∙◌, arith}
 use Rattle.std.specs.Option.{option_map_or}
 use Rattle.std.proofs.lemmas.Bool.{false≢true}
 use Rattle.osbase.specs.declared.references.AlarmRef.{AlarmRef}
@@ -13,10 +12,10 @@ use Rattle.osplan.specs.Clocked.{are_clocks_within}
 use Rattle.osplan.specs.Limits.{alarm_sizes, is_alarm_within}
 use Rattle.osplan.specs.View.{own_alarm, own_counter}
 use Rattle.osplan.proofs.Clocked.{clock-parts, start-bounds}
-use Rattle.osplan.proofs.Tests.{passes-at, some-at}
+use Rattle.osplan.proofs.Tests.{some-at}
 use Rattle.osclock.specs.Clocks.{max_for, max_of}
 use Rattle.osclock.proofs.Law.{attached}
-use Rattle.osclock.proofs.Places.{counter-is, counter-place}
+use Rattle.osattach.proofs.Places.{counter-is, counter-place, own-passes}
 
 -- What setting an alarm asks of its first count and its cycle.
 pub record StartsWithin (max : ℕ) (auto : AlarmStart) : Type 0 where
@@ -25,11 +24,7 @@ pub record StartsWithin (max : ℕ) (auto : AlarmStart) : Type 0 where
   pub cycle : auto.cycle ≤ max
 
 own-start : (core : Core) (a : AlarmRef) (alarm : Alarm) → are_clocks_within core ≡ true → own_alarm core a ≡ Some alarm → is_alarm_within (alarm_sizes (own_counter core) alarm) ≡ true
-own-start core a alarm within is = by (same_core a.core core.id) is
-  where
-    by : (b : Bool) → cond b (slice_get core.alarms a.index) None ≡ Some alarm → is_alarm_within (alarm_sizes (own_counter core) alarm) ≡ true
-    by true e = passes-at (λ (x : Alarm). is_alarm_within (alarm_sizes (own_counter core) x)) core.alarms a.index alarm (clock-parts core within).starts e
-    by false e = cc
+own-start core a alarm within is = own-passes (λ (x : Alarm). is_alarm_within (alarm_sizes (own_counter core) x)) core.alarms (same_core a.core core.id) a.index alarm (clock-parts core within).starts is
 
 pub starts-within : (core : Core) (a : AlarmRef) (alarm : Alarm) (auto : AlarmStart) → are_clocks_within core ≡ true → own_alarm core a ≡ Some alarm → alarm.auto ≡ Some auto → StartsWithin (max_for core a) auto
 starts-within core a alarm auto within is starts = by (own_counter core alarm.counter) refl

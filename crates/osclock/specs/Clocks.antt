@@ -1,11 +1,11 @@
 -- The counters and alarms of a core: what is read off its history, and what each entry does to it.
-use Rattle.std.specs.Prelude.{◌≡◌, ℕ, Bool, false, if◌then◌else◌, IsTrue, IfSome, ◌≤◌, is_some, Option, Some, None, List, [], ◌∷◌, filter, length, map, option_map, slice_index_or}
+use Rattle.std.specs.Prelude.{◌≡◌, ℕ, Bool, if◌then◌else◌, IsTrue, IfSome, ◌≤◌, is_some, Option, Some, None, List, filter, length, map, option_map, slice_index_or}
 use Rattle.std.specs.List.{slice_set}
 use Rattle.std.specs.Option.{option_map_or}
 use Rattle.osbase.specs.declared.references.AlarmRef.{AlarmRef}
 use Rattle.osbase.specs.declared.references.CounterRef.{CounterRef}
 use Rattle.osbase.specs.History.{History, Entry, Noted, Counted, AlarmSet, AlarmCancelled}
-use Rattle.osbase.specs.Counting.{AlarmSetting, alarm_of, counts_of, counts_to, is_due, is_in_use, left_of, one_count_more, same_counter, value_after}
+use Rattle.osbase.specs.Counting.{AlarmSetting, alarm_of, counts_of, counts_to, is_due, is_in_use, left_of, one_count_more, value_after}
 use Rattle.osbase.specs.Objects.{alarm_object, counter_object}
 use Rattle.osbase.specs.Sets.{numbers_from}
 use Rattle.osplan.specs.declared.plans.Alarm.{Alarm as AlarmValue}
@@ -14,6 +14,8 @@ use Rattle.osplan.specs.declared.plans.Counter.{Counter as CounterValue}
 use Rattle.osplan.specs.Clocked.{are_clocks_within}
 use Rattle.osplan.specs.Objects.{is_own_object}
 use Rattle.osplan.specs.View.{own_alarm, own_counter}
+pub use Rattle.osattach.specs.Attached.{counter_ref}
+use Rattle.osattach.specs.Attached.{Family, all_changed, each_by, each_changed, goes_by, refs_of, those_by}
 use Rattle.oscount.specs.declared.counters.Counter.{Counter}
 use Rattle.oscount.specs.declared.alarms.Alarm.{Alarm}
 use Rattle.oscount.specs.Clocks.{advanced, alarm_at, alarm_beyond, counter_at, counts_until, is_due_next, setting_of}
@@ -24,12 +26,12 @@ pub record ClockState : Type 0 where
   pub alarms : List Alarm
   pub attached : List (List AlarmRef)
 
--- A counter and an alarm of the core by its index.
-abbrev pub counter_ref : Core → ℕ → CounterRef
-counter_ref core index = record { core = core.id; index = index }
-
+-- An alarm of the core by its index, and the core's alarms as those that go by its counters.
 abbrev pub alarm_ref : Core → ℕ → AlarmRef
 alarm_ref core index = record { core = core.id; index = index }
+
+abbrev pub alarm_family : Core → Family AlarmRef AlarmValue
+alarm_family core = record { own = own_alarm core; counter = λ (x : AlarmValue). x.counter; ref = alarm_ref core; count = length core.alarms }
 
 -- The greatest value of a counter, and of the counter of an alarm; 0 of what is not the core's own.
 abbrev pub max_of : Core → CounterRef → ℕ
@@ -47,13 +49,13 @@ no_counter = record { max = 0; value = 0 }
 
 -- The core's alarms in index order, and those of them that are attached to a counter. [AUTOSAR SWS OS 4.x, OsAlarmCounterRef]
 abbrev pub alarm_refs : Core → List AlarmRef
-alarm_refs core = map (alarm_ref core) (numbers_from 0 (length core.alarms))
+alarm_refs core = refs_of (alarm_family core)
 
 abbrev pub is_attached : Core → CounterRef → AlarmRef → Bool
-is_attached core c a = option_map_or (λ (x : AlarmValue). same_counter c x.counter) (own_alarm core a) false
+is_attached core c a = goes_by (alarm_family core) c a
 
 abbrev pub attached_to : Core → CounterRef → List AlarmRef
-attached_to core c = filter (is_attached core c) (alarm_refs core)
+attached_to core c = those_by (alarm_family core) c
 
 -- ---- what is read off a history
 
@@ -68,7 +70,7 @@ abbrev pub clocks_of : Core → History → ClockState
 clocks_of core h = record {
   counters = map (λ (n : ℕ). counter_by core (counter_ref core n) h) (numbers_from 0 (length core.counters));
   alarms = map (λ (n : ℕ). alarm_by core (alarm_ref core n) h) (numbers_from 0 (length core.alarms));
-  attached = map (λ (n : ℕ). attached_to core (counter_ref core n)) (numbers_from 0 (length core.counters));
+  attached = each_by core (alarm_family core) (alarm_refs core);
 }
 
 -- What is asked of one alarm: how it was set last, and with that whether it is in use, how many counts are left, and whether it is due at
@@ -113,22 +115,15 @@ abbrev pub counter_for : Core → AlarmRef → ClockState → Counter
 counter_for core a s = option_map_or (λ (x : AlarmValue). counter_in x.counter s) (own_alarm core a) no_counter
 
 -- A count of this counter takes each alarm of it beyond the counter's value, and no other alarm. [OSEK/VDX OS 2.2.3, section 9.2]
-abbrev pub passed : Core → CounterRef → Counter → ℕ → Alarm → Alarm
-passed core c counter index alarm = if is_attached core c (alarm_ref core index) then alarm_beyond counter alarm else alarm
-
 abbrev pub all_passed : Core → CounterRef → Counter → List Alarm → List Alarm
-all_passed core c counter alarms = map (λ (n : ℕ). passed core c counter n (slice_index_or alarms n unset)) (numbers_from 0 (length core.alarms))
+all_passed core c counter alarms = all_changed (alarm_family core) c (λ (a : AlarmRef). alarm_beyond counter) unset alarms
 
 abbrev pub counted : Core → CounterRef → ClockState → ClockState
 counted core c s = record s { counters = slice_set s.counters c.index (advanced (counter_in c s)); alarms = all_passed core c (counter_in c s) s.alarms }
 
 -- The same, alarm by alarm of the counter's own, as the code goes over them.
-abbrev pub one_beyond : Counter → AlarmRef → List Alarm → List Alarm
-one_beyond counter a alarms = slice_set alarms a.index (alarm_beyond counter (slice_index_or alarms a.index unset))
-
 abbrev pub all_beyond : Counter → List AlarmRef → List Alarm → List Alarm
-all_beyond counter [] alarms = alarms
-all_beyond counter (a ∷ others) alarms = all_beyond counter others (one_beyond counter a alarms)
+all_beyond counter attached alarms = each_changed (λ (a : AlarmRef). a.index) (λ (a : AlarmRef). alarm_beyond counter) unset attached alarms
 
 -- An alarm is due after so many counts from its counter's value. [OSEK/VDX OS 2.2.3, section 13.6.3.3]
 abbrev pub due_after : Counter → ℕ → ℕ → Alarm

@@ -1,53 +1,44 @@
 //! The counters and alarms of a core.
 
-ghost use Rattle.std.specs.Prelude.{◌≡◌, ◌<◌, ◌≤◌, ◌^◌, ℕ, suc, [], All, IsTrue, IfSome, filter, length, map, replicate, slice_index_or};
+ghost use Rattle.std.specs.Prelude.{◌≡◌, ◌<◌, ◌≤◌, ◌^◌, suc, [], All, IsTrue, filter, length, map, replicate, slice_index_or};
 ghost use Rattle.std.specs.List.{slice_set};
-ghost use Rattle.arrayvec.specs.ArrayVec.{ArrayVec as Items};
 ghost use Rattle.osbase.specs.declared.references.AlarmRef.{AlarmRef};
 ghost use Rattle.osbase.specs.History.{Noted, Counted, AlarmSet, AlarmCancelled};
 ghost use Rattle.osbase.specs.Objects.{alarm_object, counter_object};
-ghost use Rattle.osbase.specs.Sets.{numbers_from};
 ghost use Rattle.osplan.specs.declared.plans.Counter.{Counter as CounterValue};
 ghost use Rattle.osplan.specs.Clocked.{are_clocks_within};
 ghost use Rattle.osplan.specs.Objects.{is_own_object};
 ghost use Rattle.oscount.specs.Clocks.{counter_at, is_due_next};
-ghost use Rattle.osclock.specs.Clocks.{AreClocks, IsBounded, alarm_in, alarm_ref, all_beyond, attached_to, clocks_by, clocks_of, counter_for, counter_in, counter_ref, counts_to_in, counts_to_value_in, due_after, due_in, is_attached, is_used, left_in, max_for, max_of, unset};
+ghost use Rattle.osattach.specs.Attached.{each_by};
+ghost use Rattle.osclock.specs.Clocks.{AreClocks, IsBounded, alarm_family, alarm_in, alarm_refs, all_beyond, clocks_by, clocks_of, counter_for, counter_in, counts_to_in, counts_to_value_in, due_after, due_in, is_used, left_in, max_for, max_of, unset};
 
-use crate::slots::AlarmSlot;
 use arrayvec::ArrayVec;
+use osattach::{Attached, COUNTERS};
 use osbase::{AlarmRef, CoreId, CounterRef};
 use oscount::{Alarm, Counter};
-use osjobs::equality::{both, is_same_core};
-use osjobs::own;
-use osplan::Core;
+use osplan::{Core, own};
 use std::marker::Model;
 
-/// The most counters of a core, and the most alarms.
-pub const COUNTERS: usize = 8;
-
+/// The most alarms of a core.
 pub const ALARMS: usize = 32;
 
 /// Some of a core's alarms, in index order.
-pub type AlarmList = ArrayVec<AlarmSlot, ALARMS>;
+pub type AlarmList = ArrayVec<AlarmRef, ALARMS>;
 
 /// The value of each counter of a core, and when each alarm is due next, by index.
 #[derive(Drop)]
 pub struct Clocks {
     counters: ArrayVec<Counter, COUNTERS>,
     alarms: ArrayVec<Alarm, ALARMS>,
-    // The alarms of each counter, so that a count goes over no others.
-    attached: ArrayVec<AlarmList, COUNTERS>,
+    attached: Attached<AlarmRef, ALARMS>,
 }
 
 impl Model for Clocks {
-    ghost use Rattle.std.specs.Prelude.{map};
-    ghost use Rattle.osbase.specs.declared.references.AlarmRef.{AlarmRef};
-    ghost use Rattle.arrayvec.specs.ArrayVec.{ArrayVec as Items};
     ghost use Rattle.osclock.specs.Clocks.{ClockState};
 
     ghost Value = { ClockState };
 
-    ghost view = { λ c. record { counters = c.counters.items; alarms = c.alarms.items; attached = map (λ (x : Items AlarmRef). x.items) c.attached.items } };
+    ghost view = { λ c. record { counters = c.counters.items; alarms = c.alarms.items; attached = c.attached } };
 }
 
 impl Clocks {
@@ -71,8 +62,10 @@ impl Clocks {
         ensures { self.new ≡ clocks_by core.now (Noted (Counted counter)) self.old }
     {
         let before = self.counter(counter);
-        pass_alarms(&mut self.alarms, list_at(&self.attached, counter), before);
-        set_counter(&mut self.counters, counter, before.advanced());
+        pass_alarms(&mut self.alarms, self.attached.of(counter), before);
+        let mut after = before;
+        after.advance();
+        set_counter(&mut self.counters, counter, after);
     }
 
     /// An alarm of the core is due after so many counts of its counter, at most a full turn, and again after each cycle
@@ -95,7 +88,7 @@ impl Clocks {
         requires own { IsTrue (is_own_object core.now (alarm_object alarm)) }
         ensures { self.new ≡ clocks_by core.now (Noted (AlarmCancelled alarm)) self.old }
     {
-        set_alarm(&mut self.alarms, alarm, Alarm::new());
+        cancel(&mut self.alarms, alarm);
     }
 
     /// The value of a counter of the core (OSEK/VDX OS 2.2.3, section 9.1).
@@ -111,7 +104,7 @@ impl Clocks {
         requires { alarm.index < length self.now.alarms }
         ensures { result ≡ is_used (alarm_in alarm self.now) }
     {
-        self.alarm(alarm).expiry.is_some()
+        self.alarm(alarm).is_in_use()
     }
 
     /// How many counts are left until an alarm of the core is due; none for one that is not in use
@@ -158,7 +151,7 @@ impl Clocks {
     {
         due_alarms(
             self.alarms.as_slice(),
-            list_at(&self.attached, counter),
+            self.attached.of(counter),
             self.counter(counter),
         )
     }
@@ -215,44 +208,24 @@ fn new_alarms(count: usize) -> ArrayVec<Alarm, ALARMS>
     alarms
 }
 
-// The alarms of each counter.
-fn new_attached(core: &Core) -> ArrayVec<AlarmList, COUNTERS>
-    requires counters { length core.now.counters ≤ COUNTERS }
-    requires alarms { length core.now.alarms ≤ ALARMS }
-    ensures { map (λ (x : Items AlarmRef). x.items) result.items ≡ map (λ (n : ℕ). attached_to core.now (counter_ref core.now n)) (numbers_from 0 (length core.now.counters)) }
+fn new_attached(core: &Core) -> Attached<AlarmRef, ALARMS>
+    requires { IsTrue (are_clocks_within core.now) }
+    ensures { result ≡ each_by core.now (alarm_family core.now) (alarm_refs core.now) }
 {
-    let mut attached = ArrayVec::new();
-    for index in 0..core.counters.len() {
-        let counter = CounterRef {
-            core: core.id,
-            index: index as u8,
-        };
-        attached.push(attached_to(core, counter));
-    }
-    attached
-}
-
-fn attached_to(core: &Core, counter: CounterRef) -> AlarmList
-    requires { length core.now.alarms ≤ ALARMS }
-    ensures { result.items ≡ attached_to core.now counter }
-{
-    let mut attached = ArrayVec::new();
+    let mut attached = Attached::new(core.counters.len());
     for index in 0..core.alarms.len() {
-        if is_attached(core, index, counter) {
-            attached.push(slot(core.id, index));
-        }
+        let counter = core.alarms.as_slice()[index].counter;
+        attached.attach(counter, reference(core.id, index));
     }
     attached
 }
 
-fn slot(core: CoreId, index: usize) -> AlarmSlot
+fn reference(core: CoreId, index: usize) -> AlarmRef
     requires { index < ALARMS }
     ensures { result ≡ record { core = core; index = index } }
 {
     let index = index as u8;
-    AlarmSlot {
-        alarm: AlarmRef { core, index },
-    }
+    AlarmRef { core, index }
 }
 
 fn set_counter(counters: &mut ArrayVec<Counter, COUNTERS>, counter: CounterRef, value: Counter)
@@ -262,32 +235,21 @@ fn set_counter(counters: &mut ArrayVec<Counter, COUNTERS>, counter: CounterRef, 
     counters.as_mut_slice()[usize::from(counter.index)] = value;
 }
 
-// The alarms of this counter.
-fn list_at(attached: &ArrayVec<AlarmList, COUNTERS>, counter: CounterRef) -> &[AlarmSlot]
-    requires { counter.index < length attached.now.items }
-    ensures value { result.now ≡ slice_index_or (map (λ (x : Items AlarmRef). x.items) attached.now.items) counter.index [] }
-    ensures few { length result.now ≤ ALARMS }
-{
-    let list = &attached.as_slice()[usize::from(counter.index)];
-    list.as_slice()
-}
-
 // Takes each of a counter's alarms beyond its value.
-fn pass_alarms(alarms: &mut ArrayVec<Alarm, ALARMS>, attached: &[AlarmSlot], before: Counter)
+fn pass_alarms(alarms: &mut ArrayVec<Alarm, ALARMS>, attached: &[AlarmRef], before: Counter)
     requires max { before.max < 2 ^ 31 }
     requires value { before.value ≤ before.max }
     requires places { All (λ (a : AlarmRef). a.index < length alarms.old.items) attached.now }
     requires bounded { All (λ (a : AlarmRef). IsBounded before.max (slice_index_or alarms.old.items a.index unset)) attached.now }
     ensures { alarms.new.items ≡ all_beyond before attached.now alarms.old.items }
 {
-    for slot in attached {
-        let alarm = &mut alarms.as_mut_slice()[usize::from(slot.alarm.index)];
-        alarm.advance(before);
+    for alarm in attached {
+        alarms.as_mut_slice()[usize::from(alarm.index)].advance(before);
     }
 }
 
 // Those of a counter's alarms that are due at its next count.
-fn due_alarms(alarms: &[Alarm], attached: &[AlarmSlot], counter: Counter) -> AlarmList
+fn due_alarms(alarms: &[Alarm], attached: &[AlarmRef], counter: Counter) -> AlarmList
     requires max { counter.max < 2 ^ 31 }
     requires value { counter.value ≤ counter.max }
     requires places { All (λ (a : AlarmRef). a.index < length alarms.now) attached.now }
@@ -295,24 +257,12 @@ fn due_alarms(alarms: &[Alarm], attached: &[AlarmSlot], counter: Counter) -> Ala
     ensures { result.items ≡ filter (λ (a : AlarmRef). is_due_next counter (slice_index_or alarms.now a.index unset)) attached.now }
 {
     let mut due = ArrayVec::new();
-    for slot in attached {
-        if alarms[usize::from(slot.alarm.index)].is_due_next(counter) {
-            due.push(*slot);
+    for alarm in attached {
+        if alarms[usize::from(alarm.index)].is_due_next(counter) {
+            due.push(*alarm);
         }
     }
     due
-}
-
-// Whether the alarm of this index goes by the counter.
-fn is_attached(core: &Core, index: usize, counter: CounterRef) -> bool
-    requires { index < length core.now.alarms }
-    ensures { result ≡ is_attached core.now counter (alarm_ref core.now index) }
-{
-    let own = core.alarms.as_slice()[index].counter;
-    both(
-        is_same_core(counter.core, own.core),
-        counter.index == own.index,
-    )
 }
 
 // An alarm that is due after so many counts from the counter's value.
@@ -334,4 +284,11 @@ fn set_alarm(alarms: &mut ArrayVec<Alarm, ALARMS>, alarm: AlarmRef, value: Alarm
     ensures { alarms.new.items ≡ slice_set alarms.old.items alarm.index value }
 {
     alarms.as_mut_slice()[usize::from(alarm.index)] = value;
+}
+
+fn cancel(alarms: &mut ArrayVec<Alarm, ALARMS>, alarm: AlarmRef)
+    requires { alarm.index < length alarms.old.items }
+    ensures { alarms.new.items ≡ slice_set alarms.old.items alarm.index unset }
+{
+    alarms.as_mut_slice()[usize::from(alarm.index)].cancel();
 }

@@ -4,7 +4,5 @@
 #![tactic(auto)]
 
 pub mod clocks;
-pub mod slots;
 
-pub use clocks::{AlarmList, COUNTERS, Clocks};
-pub use slots::AlarmSlot;
+pub use clocks::{AlarmList, Clocks};

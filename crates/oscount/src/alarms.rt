@@ -1,8 +1,8 @@
 //! When an alarm is due.
 
-ghost use Rattle.std.specs.Prelude.{◌≡◌, ◌+◌, ◌<◌, ◌≤◌, ◌^◌, ℕ, suc, Some, None, IfSome, Option, option_map};
+ghost use Rattle.std.specs.Prelude.{◌≡◌, ◌+◌, ◌<◌, ◌≤◌, ◌^◌, ℕ, suc, Some, None, IfSome, Option, is_some, option_map};
 ghost use Rattle.osbase.specs.Counting.{AlarmSetting, counts_to, is_due, is_in_use, left_of, one_count_more};
-ghost use Rattle.oscount.specs.Clocks.{alarm_at, alarm_beyond, alarm_due, counter_at, counts_until, due_again, expiry_beyond, is_due_next, setting_of, wrapped};
+ghost use Rattle.oscount.specs.Clocks.{advanced, alarm_at, alarm_beyond, alarm_due, counter_at, counts_until, due_again, expiry_beyond, is_due_next, setting_of, wrapped};
 
 use crate::counters::{self, Counter};
 
@@ -63,14 +63,16 @@ impl Alarm {
 
     /// The alarm is not in use any longer (OSEK/VDX OS 2.2.3, section 13.6.3.5).
     pub fn cancel(&mut self)
-        ensures { (max count : ℕ) → self.new ≡ alarm_at max count None }
+        ensures state { self.new ≡ record { expiry = None } }
+        ensures counts { (max count : ℕ) → self.new ≡ alarm_at max count None }
     {
         self.expiry = None;
     }
 
     /// Whether the alarm is in use (OSEK/VDX OS 2.2.3, section 9.2).
     pub fn is_in_use(self) -> bool
-        ensures { (max count : ℕ) (setting : Option AlarmSetting) → self ≡ alarm_at max count setting → result ≡ is_in_use max setting }
+        ensures state { result ≡ is_some self.expiry }
+        ensures counts { (max count : ℕ) (setting : Option AlarmSetting) → self ≡ alarm_at max count setting → result ≡ is_in_use max setting }
     {
         self.expiry.is_some()
     }
@@ -83,7 +85,7 @@ impl Alarm {
         ensures counts { (count : ℕ) (setting : Option AlarmSetting) → counter ≡ counter_at counter.max count → self ≡ alarm_at counter.max count setting → result ≡ is_due counter.max (option_map one_count_more setting) }
     {
         match self.expiry {
-            Some(expiry) => expiry.value == counter.advanced().value,
+            Some(expiry) => expiry.value == next_value(counter),
             None => false,
         }
     }
@@ -123,6 +125,17 @@ impl Default for Alarm {
     }
 }
 
+// The value that the counter has after one count more.
+fn next_value(counter: Counter) -> u32
+    requires max { counter.max < 2 ^ 31 }
+    requires value { counter.value ≤ counter.max }
+    ensures { result ≡ (advanced counter).value }
+{
+    let mut next = counter;
+    next.advance();
+    next.value
+}
+
 // How many counts lead from the counter's value to the alarm's.
 fn until(counter: Counter, expiry: Expiry) -> u32
     requires max { counter.max < 2 ^ 31 }
@@ -145,7 +158,7 @@ fn beyond(counter: Counter, expiry: Expiry) -> Option<Expiry>
     requires cycle { expiry.cycle ≤ counter.max }
     ensures { result ≡ expiry_beyond counter (Some expiry) }
 {
-    if expiry.value == counter.advanced().value {
+    if expiry.value == next_value(counter) {
         again(counter, expiry)
     } else {
         Some(expiry)

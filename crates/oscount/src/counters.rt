@@ -43,16 +43,13 @@ impl Counter {
         Counter { max, value: 0 }
     }
 
-    /// The counter after one count more.
-    pub fn advanced(self) -> Self
-        requires max { self.max < 2 ^ 31 }
-        requires value { self.value ≤ self.max }
-        ensures state { result ≡ advanced self }
-        ensures counts { (count : ℕ) → self ≡ counter_at self.max count → result ≡ counter_at self.max (suc count) }
+    /// The counter is incremented, and after its greatest value it is 0 (OSEK/VDX OS 2.2.3, section 9.1).
+    pub fn advance(&mut self)
+        requires max { self.old.max < 2 ^ 31 }
+        requires value { self.old.value ≤ self.old.max }
+        ensures state { self.new ≡ advanced self.old }
+        ensures counts { (count : ℕ) → self.old ≡ counter_at self.old.max count → self.new ≡ counter_at self.old.max (suc count) }
     {
-        Counter {
-            value: wrapped(self.max, self.value + 1),
-            ..self
-        }
+        self.value = wrapped(self.max, self.value + 1);
     }
 }

@@ -1,5 +1,5 @@
 -- Arguments of an operation, as they are taken from a form and as they are put into one.
-use Rattle.std.proofs.Common.{◌≡◌, ℕ, Bool, true, List, [], ◌∷◌, Option, Some, None, option_map, refl, ap}
+use Rattle.std.proofs.Common.{◌≡◌, ℕ, Bool, true, List, [], ◌∷◌, Option, Some, None, option_map, cond, refl, ap, ◌∙◌}
 use Rattle.std.specs.List.{list_all, slice_get}
 use Rattle.std.proofs.lemmas.Bool.{and_parts, false≢true}
 use Rattle.osbase.specs.declared.references.AlarmRef.{AlarmRef}
@@ -7,7 +7,9 @@ use Rattle.osbase.specs.declared.references.TableRef.{TableRef}
 use Rattle.osbase.specs.declared.references.CounterRef.{CounterRef}
 use Rattle.osbase.specs.declared.references.ResourceRef.{ResourceRef}
 use Rattle.osbase.specs.declared.references.TaskRef.{TaskRef}
-use Rattle.osbase.specs.Objects.{alarm_of, counter_of, resource_of, table_of, task_of}
+use Rattle.osbase.specs.Objects.{alarm_of, alarm_place, counter_of, counter_place, resource_of, resource_place, table_of, table_place, task_of, task_place}
+use Rattle.osbase.proofs.Same.{same_kind-self, same_kind-true}
+use Rattle.osbase.specs.declared.objects.ObjectKind.{ObjectKind}
 use Rattle.osbase.specs.declared.objects.ObjectKind.TheVariants.{Task, Resource, Counter, Alarm, Table}
 use Rattle.osbase.specs.declared.objects.Place.{Place}
 use Rattle.osbase.specs.declared.objects.Object.{Object as Named}
@@ -15,28 +17,31 @@ use Rattle.oscript.specs.declared.rows.Arg.{Arg}
 use Rattle.oscript.specs.declared.rows.Arg.TheVariants.{Object, Mask, Number, Int, Variable}
 use Rattle.oscript.specs.declared.rows.Kind.{Kind}
 use Rattle.oscript.specs.declared.rows.TheConstants.{ALARM, COUNTER, RESOURCE, TABLE, TASK}
-use Rattle.oscript.specs.Rows.{alarm_argument, are_of, counter_argument, int_in, is_of, mask_in, number_in, objects_in, place_in, resource_argument, table_argument, task_argument, variable_in}
+use Rattle.oscript.specs.Rows.{alarm_argument, are_of, counter_argument, int_in, is_of, mask_in, number_in, objects_in, place_in, ref_argument, resource_argument, table_argument, task_argument, variable_in}
 
 -- an object's argument is taken back
+ref-back : {R : Type 0} (kind : ObjectKind) (place_of : R → Place) (ref_of : Place → R) → ((r : R) → ref_of (place_of r) ≡ r) → (target : Option R) → option_map ref_of (place_in kind (Some (ref_argument kind place_of target))) ≡ target
+ref-back {R} kind place_of ref_of back target =
+    ap (λ (b : Bool). option_map ref_of (cond b (option_map place_of target) None)) (same_kind-self kind) ∙ by target
+  where
+    by : (o : Option R) → option_map ref_of (option_map place_of o) ≡ o
+    by None = refl
+    by (Some r) = ap Some (back r)
+
 pub task-back : (target : Option TaskRef) → option_map task_of (place_in Task (Some (task_argument target))) ≡ target
-task-back None = refl
-task-back (Some t) = refl
+task-back target = ref-back Task task_place task_of (λ r. refl) target
 
 pub resource-back : (target : Option ResourceRef) → option_map resource_of (place_in Resource (Some (resource_argument target))) ≡ target
-resource-back None = refl
-resource-back (Some r) = refl
+resource-back target = ref-back Resource resource_place resource_of (λ r. refl) target
 
 pub counter-back : (target : Option CounterRef) → option_map counter_of (place_in Counter (Some (counter_argument target))) ≡ target
-counter-back None = refl
-counter-back (Some c) = refl
+counter-back target = ref-back Counter counter_place counter_of (λ r. refl) target
 
 pub alarm-back : (target : Option AlarmRef) → option_map alarm_of (place_in Alarm (Some (alarm_argument target))) ≡ target
-alarm-back None = refl
-alarm-back (Some a) = refl
+alarm-back target = ref-back Alarm alarm_place alarm_of (λ r. refl) target
 
 pub table-back : (target : Option TableRef) → option_map table_of (place_in Table (Some (table_argument target))) ≡ target
-table-back None = refl
-table-back (Some a) = refl
+table-back target = ref-back Table table_place table_of (λ r. refl) target
 
 -- the objects of the later arguments
 pub rest-pass : (p : Named → Bool) (arg : Arg Place) (args : List (Arg Place)) → list_all p (objects_in (arg ∷ args)) ≡ true → list_all p (objects_in args) ≡ true
@@ -52,45 +57,30 @@ rest-pass p (Variable x) args all = all
 pub record Kept (k : Kind) (again : Option (Arg Place) → Arg Place) : Type 0 where
   pub same : (a : Arg Place) → is_of k a ≡ true → again (Some a) ≡ a
 
-task-same : (a : Arg Place) → is_of TASK a ≡ true → task_argument (option_map task_of (place_in Task (Some a))) ≡ a
-task-same (Object Task None) is = refl
-task-same (Object Task (Some place)) is = refl
-task-same a is = absurd (false≢true is)
+ref-same : {R : Type 0} (kind : ObjectKind) (place_of : R → Place) (ref_of : Place → R) → ((p : Place) → place_of (ref_of p) ≡ p) → (a : Arg Place) → is_of (Kind.Object kind) a ≡ true
+    → ref_argument kind place_of (option_map ref_of (place_in kind (Some a))) ≡ a
+ref-same kind place_of ref_of back (Object other target) is =
+    ap (λ (b : Bool). ref_argument kind place_of (option_map ref_of (cond b target None))) is ∙ by target ∙ ap (λ k. Object k target) (same_kind-true kind other is)
+  where
+    by : (o : Option Place) → ref_argument kind place_of (option_map ref_of o) ≡ Object kind o
+    by None = refl
+    by (Some p) = ap (λ q. Object kind (Some q)) (back p)
+ref-same kind place_of ref_of back a is = absurd (false≢true is)
 
 pub task-kept : Kept TASK (λ o. task_argument (option_map task_of (place_in Task o)))
-task-kept = record { same = task-same }
-
-resource-same : (a : Arg Place) → is_of RESOURCE a ≡ true → resource_argument (option_map resource_of (place_in Resource (Some a))) ≡ a
-resource-same (Object Resource None) is = refl
-resource-same (Object Resource (Some place)) is = refl
-resource-same a is = absurd (false≢true is)
+task-kept = record { same = ref-same Task task_place task_of (λ p. refl) }
 
 pub resource-kept : Kept RESOURCE (λ o. resource_argument (option_map resource_of (place_in Resource o)))
-resource-kept = record { same = resource-same }
-
-counter-same : (a : Arg Place) → is_of COUNTER a ≡ true → counter_argument (option_map counter_of (place_in Counter (Some a))) ≡ a
-counter-same (Object Counter None) is = refl
-counter-same (Object Counter (Some place)) is = refl
-counter-same a is = absurd (false≢true is)
+resource-kept = record { same = ref-same Resource resource_place resource_of (λ p. refl) }
 
 pub counter-kept : Kept COUNTER (λ o. counter_argument (option_map counter_of (place_in Counter o)))
-counter-kept = record { same = counter-same }
-
-alarm-same : (a : Arg Place) → is_of ALARM a ≡ true → alarm_argument (option_map alarm_of (place_in Alarm (Some a))) ≡ a
-alarm-same (Object Alarm None) is = refl
-alarm-same (Object Alarm (Some place)) is = refl
-alarm-same a is = absurd (false≢true is)
+counter-kept = record { same = ref-same Counter counter_place counter_of (λ p. refl) }
 
 pub alarm-kept : Kept ALARM (λ o. alarm_argument (option_map alarm_of (place_in Alarm o)))
-alarm-kept = record { same = alarm-same }
-
-table-same : (a : Arg Place) → is_of TABLE a ≡ true → table_argument (option_map table_of (place_in Table (Some a))) ≡ a
-table-same (Object Table None) is = refl
-table-same (Object Table (Some place)) is = refl
-table-same a is = absurd (false≢true is)
+alarm-kept = record { same = ref-same Alarm alarm_place alarm_of (λ p. refl) }
 
 pub table-kept : Kept TABLE (λ o. table_argument (option_map table_of (place_in Table o)))
-table-kept = record { same = table-same }
+table-kept = record { same = ref-same Table table_place table_of (λ p. refl) }
 
 mask-same : (a : Arg Place) → is_of Kind.Mask a ≡ true → Mask (mask_in (Some a)) ≡ a
 mask-same (Mask mask) is = refl

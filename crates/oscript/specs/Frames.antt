@@ -1,12 +1,9 @@
--- Where a job stands in its script, read off a history.
+-- Where a job stands in its script, and what one operation does to that.
 use Rattle.std.specs.Prelude.{ℕ, ◌+◌, ◌==◌, ℤ, pos, negsuc, Bool, false, if◌then◌else◌, Option, Some, None, is_some, List, [], ◌∷◌, slice_get, slice_index_or, slice_set}
 use Rattle.std.specs.Option.{option_map_or}
 use Rattle.osbase.specs.declared.statuses.Status.{Status}
 use Rattle.osbase.specs.declared.statuses.Status.TheVariants.{EOk}
-use Rattle.osbase.specs.declared.references.Runner.{Runner}
 use Rattle.osbase.specs.declared.references.Variable.{Variable}
-use Rattle.osbase.specs.declared.marks.Mark.TheVariants as Mark
-use Rattle.osbase.specs.History.{Entry, History, Printed, Noted, Done, same_runner}
 use Rattle.oscript.specs.declared.Op.{Op}
 use Rattle.oscript.specs.declared.Frame.{Frame}
 use Rattle.oscript.specs.declared.Action.{Action}
@@ -80,16 +77,3 @@ completed_by (Perform op) frame status value =
 
 abbrev pub completed : List Op → Frame → Status → Option ℤ → Frame
 completed script frame status value = completed_by (action_at script frame) frame status value
-
--- Where the oldest live job of the runner stands, or its next job will begin: the operations done by
--- its jobs applied in order, each job from operation 0. [own]
--- The code keeps one frame for each task.
-abbrev pub frame_after : List Op → Runner → Entry → Frame → Frame
-frame_after script r (Noted (Done q status value)) frame = if same_runner q r then completed script frame status value else frame
-frame_after script r (Printed (Mark.Terminated t)) frame = if same_runner (Runner.Task t) r then rewound frame else frame
-frame_after script r (Printed (Mark.IsrLeft i)) frame = if same_runner (Runner.Isr i) r then rewound frame else frame
-frame_after script r e frame = frame
-
-abbrev pub frame_of : List Op → Runner → History → Frame
-frame_of script r [] = new_frame
-frame_of script r (e ∷ h) = frame_after script r e (frame_of script r h)

@@ -99,20 +99,24 @@ place_in kind arg = None
 abbrev pub place_at : ObjectKind → List (Arg Place) → ℕ → Option Place
 place_at kind args i = place_in kind (slice_get args i)
 
+-- The reference to it.
+abbrev pub ref_at : {R : Type 0} → ObjectKind → (Place → R) → List (Arg Place) → ℕ → Option R
+ref_at kind ref_of args i = option_map ref_of (place_at kind args i)
+
 abbrev pub task_at : List (Arg Place) → ℕ → Option TaskRef
-task_at args i = option_map task_of (place_at Task args i)
+task_at args i = ref_at Task task_of args i
 
 abbrev pub resource_at : List (Arg Place) → ℕ → Option ResourceRef
-resource_at args i = option_map resource_of (place_at Resource args i)
+resource_at args i = ref_at Resource resource_of args i
 
 abbrev pub counter_at : List (Arg Place) → ℕ → Option CounterRef
-counter_at args i = option_map counter_of (place_at Counter args i)
+counter_at args i = ref_at Counter counter_of args i
 
 abbrev pub alarm_at : List (Arg Place) → ℕ → Option AlarmRef
-alarm_at args i = option_map alarm_of (place_at Alarm args i)
+alarm_at args i = ref_at Alarm alarm_of args i
 
 abbrev pub table_at : List (Arg Place) → ℕ → Option TableRef
-table_at args i = option_map table_of (place_at Table args i)
+table_at args i = ref_at Table table_of args i
 
 -- The events of the mask at this place.
 abbrev pub mask_in : Option (Arg Place) → ℕ
@@ -179,20 +183,24 @@ op_by Verb.GetScheduleTableStatus args = Op.GetScheduleTableStatus (table_at arg
 abbrev pub op_of : Verb × List (Arg Place) → Op
 op_of form = op_by form.0 form.1
 
+-- The argument that refers to an object of a kind; without one it is the invalid identifier.
+abbrev pub ref_argument : {R : Type 0} → ObjectKind → (R → Place) → Option R → Arg Place
+ref_argument kind place_of target = Object kind (option_map place_of target)
+
 abbrev pub task_argument : Option TaskRef → Arg Place
-task_argument target = Object Task (option_map task_place target)
+task_argument target = ref_argument Task task_place target
 
 abbrev pub resource_argument : Option ResourceRef → Arg Place
-resource_argument target = Object Resource (option_map resource_place target)
+resource_argument target = ref_argument Resource resource_place target
 
 abbrev pub counter_argument : Option CounterRef → Arg Place
-counter_argument target = Object Counter (option_map counter_place target)
+counter_argument target = ref_argument Counter counter_place target
 
 abbrev pub alarm_argument : Option AlarmRef → Arg Place
-alarm_argument target = Object Alarm (option_map alarm_place target)
+alarm_argument target = ref_argument Alarm alarm_place target
 
 abbrev pub table_argument : Option TableRef → Arg Place
-table_argument target = Object Table (option_map table_place target)
+table_argument target = ref_argument Table table_place target
 
 -- The form of an operation. [own]
 abbrev pub form_of_op : Op → Verb × List (Arg Place)

@@ -1,11 +1,13 @@
 //! Scripts: what a job does, operation by operation, and where it stands in them.
 #![tactic(auto)]
 
+pub mod calls;
 pub mod rows;
 
 ghost use Rattle.std.specs.Prelude.{◌≡◌, ◌<◌, ◌^◌};
 ghost use Rattle.oscript.specs.Frames.{action_at, completed, new_frame, op_has_status, place_after, position_of, result_of, rewound, stored, value_of, with_value};
 
+pub use calls::{action_of_op, call_of_op, is_action, op_of_call};
 use osbase::{AlarmRef, CounterRef, List, ResourceRef, Status, TableRef, TaskRef, Variable};
 pub use rows::{Arg, Args, Form, Kind, Row, VERBS, Verb, form_of_op, op_of, row_of, verb_of};
 
@@ -195,10 +197,10 @@ impl Frame {
 }
 
 /// What a job at this place of its script does next.
-pub fn next(script: &Script, frame: &Frame) -> Action
+pub fn next(script: &[Op], frame: &Frame) -> Action
     ensures { result ≡ action_at script.now frame.now }
 {
-    match script.as_slice().get(frame.pc) {
+    match script.get(frame.pc) {
         Some(op) => Action::Perform(*op),
         None => Action::End,
     }
@@ -206,10 +208,10 @@ pub fn next(script: &Script, frame: &Frame) -> Action
 
 /// Goes on after the operation at the frame's place, which answered this status and value. Past
 /// the last operation nothing changes.
-pub fn complete(script: &Script, frame: &mut Frame, status: Status, value: Option<i64>)
+pub fn complete(script: &[Op], frame: &mut Frame, status: Status, value: Option<i64>)
     ensures { frame.new ≡ completed script.now frame.old status value }
 {
-    if let Some(op) = script.as_slice().get(frame.pc) {
+    if let Some(op) = script.get(frame.pc) {
         frame.pc = frame.place_after(*op);
         if op.has_status() {
             frame.status = status;

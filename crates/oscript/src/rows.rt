@@ -2,14 +2,10 @@
 //! that it names.
 
 ghost use Rattle.std.specs.Prelude.{◌≡◌, List, [], ◌∷◌, filter_map, option_map, slice_get};
-ghost use Rattle.osbase.specs.Objects.{alarm_of, counter_of, resource_of, table_of, task_of};
-ghost use Rattle.oscript.specs.Rows.{alarm_argument, alarm_at, counter_argument, counter_at, form_of_op, form_view, has_masks, int_at, items, mask_at, names_own_only, number_at, object_in, objects_of, op_of, place_at, plain_row, resource_argument, resource_at, row_of, row_view, service_row, table_argument, table_at, task_at, task_argument, variable_at};
+ghost use Rattle.oscript.specs.Rows.{alarm_argument, form_of_op, form_view, has_masks, int_at, items, mask_at, names_own_only, number_at, object_in, objects_of, op_of, place_at, plain_row, ref_argument, ref_at, row_of, row_view, service_row, variable_at};
 
 use crate::Op;
-use osbase::{
-    AlarmRef, CounterRef, Object, ObjectKind, Place, ResourceRef, ServiceId, TableRef, TaskRef,
-    Variable,
-};
+use osbase::{AlarmRef, Object, ObjectKind, Place, Reference, ServiceId, Variable};
 
 /// What an argument of an operation has to be.
 #[derive(Clone, Copy, Debug, PartialEq, Eq)]
@@ -250,79 +246,15 @@ fn place_at(args: Args<Arg<Place>>, kind: ObjectKind, i: usize) -> Option<Place>
     }
 }
 
+// The reference to the object that the argument at this place names.
 #[inline(always)]
-fn task_in(target: Option<Place>) -> Option<TaskRef>
-    ensures { result ≡ option_map task_of target }
+fn ref_at<R: Reference>(args: Args<Arg<Place>>, i: usize) -> Option<R>
+    ensures { result ≡ ref_at R.KIND R.ref_of (items args) i }
 {
-    Some(TaskRef::at(target?))
-}
-
-// The task that the argument at this place names.
-#[inline(always)]
-fn task_at(args: Args<Arg<Place>>, i: usize) -> Option<TaskRef>
-    ensures { result ≡ task_at (items args) i }
-{
-    task_in(place_at(args, ObjectKind::Task, i))
-}
-
-#[inline(always)]
-fn resource_in(target: Option<Place>) -> Option<ResourceRef>
-    ensures { result ≡ option_map resource_of target }
-{
-    Some(ResourceRef::at(target?))
-}
-
-// The resource that the argument at this place names.
-#[inline(always)]
-fn resource_at(args: Args<Arg<Place>>, i: usize) -> Option<ResourceRef>
-    ensures { result ≡ resource_at (items args) i }
-{
-    resource_in(place_at(args, ObjectKind::Resource, i))
-}
-
-#[inline(always)]
-fn counter_in(target: Option<Place>) -> Option<CounterRef>
-    ensures { result ≡ option_map counter_of target }
-{
-    Some(CounterRef::at(target?))
-}
-
-// The counter that the argument at this place names.
-#[inline(always)]
-fn counter_at(args: Args<Arg<Place>>, i: usize) -> Option<CounterRef>
-    ensures { result ≡ counter_at (items args) i }
-{
-    counter_in(place_at(args, ObjectKind::Counter, i))
-}
-
-#[inline(always)]
-fn alarm_in(target: Option<Place>) -> Option<AlarmRef>
-    ensures { result ≡ option_map alarm_of target }
-{
-    Some(AlarmRef::at(target?))
-}
-
-// The alarm that the argument at this place names.
-#[inline(always)]
-fn alarm_at(args: Args<Arg<Place>>, i: usize) -> Option<AlarmRef>
-    ensures { result ≡ alarm_at (items args) i }
-{
-    alarm_in(place_at(args, ObjectKind::Alarm, i))
-}
-
-#[inline(always)]
-fn table_in(target: Option<Place>) -> Option<TableRef>
-    ensures { result ≡ option_map table_of target }
-{
-    Some(TableRef::at(target?))
-}
-
-// The schedule table that the argument at this place names.
-#[inline(always)]
-fn table_at(args: Args<Arg<Place>>, i: usize) -> Option<TableRef>
-    ensures { result ≡ table_at (items args) i }
-{
-    table_in(place_at(args, ObjectKind::Table, i))
+    match place_at(args, R::KIND, i) {
+        Some(place) => Some(R::at(place)),
+        None => None,
+    }
 }
 
 // The mask at this place.
@@ -384,93 +316,54 @@ pub fn op_of(form: Form<Place>) -> Op
         Verb::StoreStatus => Op::StoreStatus(variable_at(args, 0)),
         Verb::Jump => Op::Jump(number_at(args, 0)),
         Verb::JumpIfZero => Op::JumpIfZero(variable_at(args, 0), number_at(args, 1)),
-        Verb::ActivateTask => Op::ActivateTask(task_at(args, 0)),
+        Verb::ActivateTask => Op::ActivateTask(ref_at(args, 0)),
         Verb::TerminateTask => Op::TerminateTask,
-        Verb::ChainTask => Op::ChainTask(task_at(args, 0)),
+        Verb::ChainTask => Op::ChainTask(ref_at(args, 0)),
         Verb::Schedule => Op::Schedule,
-        Verb::GetResource => Op::GetResource(resource_at(args, 0)),
-        Verb::ReleaseResource => Op::ReleaseResource(resource_at(args, 0)),
-        Verb::SetEvent => Op::SetEvent(task_at(args, 0), mask_at(args, 1)),
+        Verb::GetResource => Op::GetResource(ref_at(args, 0)),
+        Verb::ReleaseResource => Op::ReleaseResource(ref_at(args, 0)),
+        Verb::SetEvent => Op::SetEvent(ref_at(args, 0), mask_at(args, 1)),
         Verb::ClearEvent => Op::ClearEvent(mask_at(args, 0)),
-        Verb::GetEvent => Op::GetEvent(task_at(args, 0), variable_at(args, 1)),
+        Verb::GetEvent => Op::GetEvent(ref_at(args, 0), variable_at(args, 1)),
         Verb::WaitEvent => Op::WaitEvent(mask_at(args, 0)),
-        Verb::IncrementCounter => Op::IncrementCounter(counter_at(args, 0)),
-        Verb::GetCounterValue => Op::GetCounterValue(counter_at(args, 0), variable_at(args, 1)),
+        Verb::IncrementCounter => Op::IncrementCounter(ref_at(args, 0)),
+        Verb::GetCounterValue => Op::GetCounterValue(ref_at(args, 0), variable_at(args, 1)),
         Verb::SetRelAlarm => {
-            Op::SetRelAlarm(alarm_at(args, 0), number_at(args, 1), number_at(args, 2))
+            Op::SetRelAlarm(ref_at(args, 0), number_at(args, 1), number_at(args, 2))
         }
         Verb::SetAbsAlarm => {
-            Op::SetAbsAlarm(alarm_at(args, 0), number_at(args, 1), number_at(args, 2))
+            Op::SetAbsAlarm(ref_at(args, 0), number_at(args, 1), number_at(args, 2))
         }
-        Verb::CancelAlarm => Op::CancelAlarm(alarm_at(args, 0)),
-        Verb::GetAlarm => Op::GetAlarm(alarm_at(args, 0), variable_at(args, 1)),
+        Verb::CancelAlarm => Op::CancelAlarm(ref_at(args, 0)),
+        Verb::GetAlarm => Op::GetAlarm(ref_at(args, 0), variable_at(args, 1)),
         Verb::StartScheduleTableRel => {
-            Op::StartScheduleTableRel(table_at(args, 0), number_at(args, 1))
+            Op::StartScheduleTableRel(ref_at(args, 0), number_at(args, 1))
         }
         Verb::StartScheduleTableAbs => {
-            Op::StartScheduleTableAbs(table_at(args, 0), number_at(args, 1))
+            Op::StartScheduleTableAbs(ref_at(args, 0), number_at(args, 1))
         }
-        Verb::NextScheduleTable => Op::NextScheduleTable(table_at(args, 0), table_at(args, 1)),
-        Verb::StopScheduleTable => Op::StopScheduleTable(table_at(args, 0)),
+        Verb::NextScheduleTable => Op::NextScheduleTable(ref_at(args, 0), ref_at(args, 1)),
+        Verb::StopScheduleTable => Op::StopScheduleTable(ref_at(args, 0)),
         Verb::GetScheduleTableStatus => {
-            Op::GetScheduleTableStatus(table_at(args, 0), variable_at(args, 1))
+            Op::GetScheduleTableStatus(ref_at(args, 0), variable_at(args, 1))
         }
     }
 }
 
-fn task_argument(target: Option<TaskRef>) -> Arg<Place>
-    ensures { result ≡ task_argument target }
+// The argument that refers to this object.
+fn argument<R: Reference>(target: Option<R>) -> Arg<Place>
+    ensures { result ≡ ref_argument R.KIND R.place_of target }
 {
     match target {
-        Some(task) => Arg::Object(ObjectKind::Task, Some(task.place())),
-        None => Arg::Object(ObjectKind::Task, None),
-    }
-}
-
-fn resource_argument(target: Option<ResourceRef>) -> Arg<Place>
-    ensures { result ≡ resource_argument target }
-{
-    match target {
-        Some(resource) => Arg::Object(ObjectKind::Resource, Some(resource.place())),
-        None => Arg::Object(ObjectKind::Resource, None),
-    }
-}
-
-fn counter_argument(target: Option<CounterRef>) -> Arg<Place>
-    ensures { result ≡ counter_argument target }
-{
-    match target {
-        Some(counter) => Arg::Object(ObjectKind::Counter, Some(counter.place())),
-        None => Arg::Object(ObjectKind::Counter, None),
-    }
-}
-
-fn alarm_argument(target: Option<AlarmRef>) -> Arg<Place>
-    ensures { result ≡ alarm_argument target }
-{
-    match target {
-        Some(alarm) => Arg::Object(ObjectKind::Alarm, Some(alarm.place())),
-        None => Arg::Object(ObjectKind::Alarm, None),
-    }
-}
-
-fn table_argument(target: Option<TableRef>) -> Arg<Place>
-    ensures { result ≡ table_argument target }
-{
-    match target {
-        Some(table) => Arg::Object(ObjectKind::Table, Some(table.place())),
-        None => Arg::Object(ObjectKind::Table, None),
+        Some(object) => Arg::Object(R::KIND, Some(object.place())),
+        None => Arg::Object(R::KIND, None),
     }
 }
 
 fn timed_arguments(target: Option<AlarmRef>, first: u32, cycle: u32) -> Args<Arg<Place>>
     ensures { items result ≡ alarm_argument target ∷ Arg.Number first ∷ Arg.Number cycle ∷ [] }
 {
-    Args::Three(
-        alarm_argument(target),
-        Arg::Number(first),
-        Arg::Number(cycle),
-    )
+    Args::Three(argument(target), Arg::Number(first), Arg::Number(cycle))
 }
 
 fn variable_argument(variable: Variable) -> Arg<Place>
@@ -539,24 +432,24 @@ fn args_of(op: Op) -> Args<Arg<Place>>
         Op::StoreStatus(x) => one(variable_argument(x)),
         Op::Jump(position) => one(Arg::Number(position)),
         Op::JumpIfZero(x, position) => two(variable_argument(x), Arg::Number(position)),
-        Op::ActivateTask(target) | Op::ChainTask(target) => one(task_argument(target)),
-        Op::GetResource(target) | Op::ReleaseResource(target) => one(resource_argument(target)),
-        Op::SetEvent(target, mask) => two(task_argument(target), Arg::Mask(mask)),
+        Op::ActivateTask(target) | Op::ChainTask(target) => one(argument(target)),
+        Op::GetResource(target) | Op::ReleaseResource(target) => one(argument(target)),
+        Op::SetEvent(target, mask) => two(argument(target), Arg::Mask(mask)),
         Op::ClearEvent(mask) | Op::WaitEvent(mask) => one(Arg::Mask(mask)),
-        Op::GetEvent(target, x) => two(task_argument(target), variable_argument(x)),
-        Op::IncrementCounter(target) => one(counter_argument(target)),
-        Op::GetCounterValue(target, x) => two(counter_argument(target), variable_argument(x)),
+        Op::GetEvent(target, x) => two(argument(target), variable_argument(x)),
+        Op::IncrementCounter(target) => one(argument(target)),
+        Op::GetCounterValue(target, x) => two(argument(target), variable_argument(x)),
         Op::SetRelAlarm(target, first, cycle) | Op::SetAbsAlarm(target, first, cycle) => {
             timed_arguments(target, first, cycle)
         }
-        Op::CancelAlarm(target) => one(alarm_argument(target)),
-        Op::GetAlarm(target, x) => two(alarm_argument(target), variable_argument(x)),
+        Op::CancelAlarm(target) => one(argument(target)),
+        Op::GetAlarm(target, x) => two(argument(target), variable_argument(x)),
         Op::StartScheduleTableRel(target, start) | Op::StartScheduleTableAbs(target, start) => {
-            two(table_argument(target), Arg::Number(start))
+            two(argument(target), Arg::Number(start))
         }
-        Op::NextScheduleTable(from, to) => two(table_argument(from), table_argument(to)),
-        Op::StopScheduleTable(target) => one(table_argument(target)),
-        Op::GetScheduleTableStatus(target, x) => two(table_argument(target), variable_argument(x)),
+        Op::NextScheduleTable(from, to) => two(argument(from), argument(to)),
+        Op::StopScheduleTable(target) => one(argument(target)),
+        Op::GetScheduleTableStatus(target, x) => two(argument(target), variable_argument(x)),
     }
 }
 

@@ -1,27 +1,27 @@
 -- The plan of an alarm, which is made while its names and its action are judged.
-use Rattle.std.proofs.Common.{◌≡◌, ℕ, ◌&&◌, ◌||◌, not, Bool, true, false, cond, List, Option, Some, None, is_some, option_map, unwrap_or, refl, sym, ap, ◌∙◌}
+use Rattle.std.proofs.Common.{◌≡◌, ℕ, ◌&&◌, ◌||◌, not, Bool, true, false, cond, List, [], ◌∷◌, Option, Some, None, is_some, option_map, unwrap_or, refl, sym, ap, ◌∙◌}
 use Rattle.std.specs.List.{list_all}
 use Rattle.std.proofs.lemmas.Bool.{and_parts, true≢false}
-use Rattle.osbase.specs.Objects.{counter_of}
+use Rattle.osbase.specs.declared.messages.RemoteCall.{RemoteCall}
+use Rattle.osbase.specs.Objects.{counter_of, object_of_call}
 use Rattle.osbase.specs.declared.references.CoreId.{CoreId}
 use Rattle.osbase.specs.declared.objects.Object.{Object}
 use Rattle.osbase.specs.declared.objects.ObjectKind.{ObjectKind}
 use Rattle.osbase.specs.declared.objects.Place.{Place}
 use Rattle.oscript.specs.declared.Op.{Op}
+use Rattle.oscript.specs.Calls.{action_of_op, is_action as is_action_call, op_of_call}
 use Rattle.oscript.specs.Rows as rows
-use Rattle.oscript.specs.Rows.{is_in_form, objects_of}
+use Rattle.oscript.specs.Rows.{objects_of}
+use Rattle.oscript.proofs.Acting.{IsActionOf, action-is, call-objects}
 use Rattle.osforms.specs.Action.{is_action, is_action_op}
 use Rattle.osforms.specs.Operation.{op_meant, has_masks, is_known}
 use Rattle.osforms.proofs.ActionTexts.{meant_action, action-formed}
 use Rattle.osforms.proofs.Known.{formed-known}
 use Rattle.osforms.proofs.Operations.{meant-known, meant_masks}
-use Rattle.osplan.specs.declared.plans.TimedAction.{TimedAction}
-use Rattle.osplan.specs.Expressible.{op_of_action}
-use Rattle.osplan.specs.Objects.{action_object}
 use Rattle.osread.specs.Reading.{value_if}
 use Rattle.osshape.specs.declared.shapes.AlarmText.{AlarmText}
 use Rattle.osshape.specs.declared.declarations.Declaration.{Declaration}
-use Rattle.oscheck.specs.Action.{action_of, action_of_op, is_action_known, known_action}
+use Rattle.oscheck.specs.Action.{action_of, any_action, is_action_known, known_action}
 use Rattle.oscheck.specs.Check.{alarm_modes, is_mode_name}
 use Rattle.osshape.specs.Declarations.{place_of}
 use Rattle.osdraft.specs.Meaning.{known_alarm, start_plan}
@@ -29,42 +29,44 @@ use Rattle.oscheck.specs.Operation.{is_operation_known}
 
 -- ---- operations that are actions
 
-abbrev pub any_action : TimedAction
-any_action = TimedAction.ActivateTask (record { core = record { number = 0 }; index = 0 })
+-- Such an operation has an action, whose operation it is.
+pub acted : (op : Op) → is_action_op op ≡ true → (call : RemoteCall) × (action_of_op op ≡ Some call) × IsActionOf op call
+acted op is = by (action_of_op op) refl is
+  where
+    by : (o : Option RemoteCall) → action_of_op op ≡ o → is_some o ≡ true → (call : RemoteCall) × (action_of_op op ≡ Some call) × IsActionOf op call
+    by None e some = absurd (true≢false (sym some))
+    by (Some call) e some = (call, e, action-is op call e)
 
-action-is : (op : Op) → value_if (is_action_op op) (unwrap_or (action_of_op op) any_action) ≡ action_of_op op
-action-is (Op.ActivateTask (Some task)) = refl
-action-is (Op.SetEvent (Some task) mask) = refl
-action-is op = refl
+action-taken : (o : Option RemoteCall) → value_if (is_some o) (unwrap_or o any_action) ≡ o
+action-taken None = refl
+action-taken (Some call) = refl
 
--- The operation of the action of an operation that is one is that operation.
-pub action-op : (op : Op) → is_action_op op ≡ true → op_of_action (unwrap_or (action_of_op op) any_action) ≡ op
-action-op (Op.ActivateTask (Some task)) is = refl
-action-op (Op.SetEvent (Some task) mask) is = refl
-action-op op is = absurd (true≢false (sym is))
+-- The operation of the action of an operation that is one is that operation, and its object is named by it.
+pub action-op : (op : Op) → is_action_op op ≡ true → op_of_call (unwrap_or (action_of_op op) any_action) ≡ op
+action-op op is = let a = acted op is in ap (λ (o : Option RemoteCall). op_of_call (unwrap_or o any_action)) a.1 ∙ a.2.written
 
-pub op-action : (action : TimedAction) → action_of_op (op_of_action action) ≡ Some action
-op-action (TimedAction.ActivateTask task) = refl
-op-action (TimedAction.SetEvent task mask) = refl
+pub action-acts : (op : Op) → is_action_op op ≡ true → is_action_call (unwrap_or (action_of_op op) any_action) ≡ true
+action-acts op is = let a = acted op is in ap (λ (o : Option RemoteCall). is_action_call (unwrap_or o any_action)) a.1 ∙ a.2.acts
 
 -- What each object of an operation passes, that of its action passes.
-pub action-passes : (p : Object → Bool) (op : Op) → is_action_op op ≡ true → list_all p (objects_of op) ≡ true → p (action_object (unwrap_or (action_of_op op) any_action)) ≡ true
-action-passes p (Op.ActivateTask (Some task)) is all = (and_parts _ true all).0
-action-passes p (Op.SetEvent (Some task) mask) is all = (and_parts _ true all).0
-action-passes p op is all = absurd (true≢false (sym is))
+pub action-passes : (p : Object → Bool) (op : Op) → is_action_op op ≡ true → list_all p (objects_of op) ≡ true → p (object_of_call (unwrap_or (action_of_op op) any_action)) ≡ true
+action-passes p op is all =
+    let call = unwrap_or (action_of_op op) any_action in
+    let objects : objects_of op ≡ object_of_call call ∷ [] = ap objects_of (sym (action-op op is)) ∙ call-objects call in
+    (and_parts (p (object_of_call call)) true (ap (list_all p) (sym objects) ∙ all)).0
 
 -- ---- the action of a text
 
-masked : (f : Bool) (a : TimedAction) → value_if f a ≡ value_if ((not f || true) && (not f || true) && f) a
+masked : (f : Bool) (a : RemoteCall) → value_if f a ≡ value_if ((not f || true) && (not f || true) && f) a
 masked true a = refl
 masked false a = refl
 
-unmasked : (f : Bool) (a : TimedAction) → None ≡ value_if ((not f || true) && (not f || false) && f) a
+unmasked : (f : Bool) (a : RemoteCall) → None ≡ value_if ((not f || true) && (not f || false) && f) a
 unmasked true a = refl
 unmasked false a = refl
 
 by-masks : (op : Op) (m f : Bool) → is_action_op op ≡ f → cond m (action_of_op op) None ≡ value_if ((not f || true) && (not f || m) && f) (unwrap_or (action_of_op op) any_action)
-by-masks op true f is = sym (action-is op) ∙ ap (λ b. value_if b (unwrap_or (action_of_op op) any_action)) is ∙ masked f _
+by-masks op true f is = sym (action-taken (action_of_op op)) ∙ ap (λ b. value_if b (unwrap_or (action_of_op op) any_action)) is ∙ masked f _
 by-masks op false f is = unmasked f _
 
 -- The action of the operation that a text means is that of a text without a fault, if its mask has an event.
@@ -73,7 +75,7 @@ action_if objects text op e =
     let place = place_of objects in
     rw ((meant-known place text op e).1, e, ← meant_masks place text op e) (by-masks op (rows.has_masks op) (is_action text) (meant_action place text op e))
 
-unknown-by : (f k m : Bool) (a : TimedAction) → (f ≡ true → k ≡ false) → None ≡ value_if ((not f || k) && (not f || m) && f) a
+unknown-by : (f k m : Bool) (a : RemoteCall) → (f ≡ true → k ≡ false) → None ≡ value_if ((not f || k) && (not f || m) && f) a
 unknown-by true k m a unknown = rw (unknown refl) refl
 unknown-by false k m a unknown = refl
 
@@ -95,15 +97,13 @@ action-meant objects text acting known = meant-by objects text (op_meant (place_
 
 -- ---- what a text can say of it
 
-pub action-in-form : (op : Op) → is_in_form op ≡ true → is_in_form (op_of_action (unwrap_or (action_of_op op) any_action)) ≡ true
-action-in-form (Op.ActivateTask (Some task)) h = h
-action-in-form (Op.SetEvent (Some task) mask) h = h
-action-in-form op h = refl
-
-pub action-masks : (op : Op) → rows.has_masks op ≡ true → rows.has_masks (op_of_action (unwrap_or (action_of_op op) any_action)) ≡ true
-action-masks (Op.ActivateTask (Some task)) h = h
-action-masks (Op.SetEvent (Some task) mask) h = h
-action-masks op h = refl
+-- What an operation passes, that of its action passes; so does the operation of what stands for none.
+pub action-keeps : (p : Op → Bool) → p (op_of_call any_action) ≡ true → (op : Op) → p op ≡ true → p (op_of_call (unwrap_or (action_of_op op) any_action)) ≡ true
+action-keeps p any op h = by (action_of_op op) refl
+  where
+    by : (o : Option RemoteCall) → action_of_op op ≡ o → p (op_of_call (unwrap_or o any_action)) ≡ true
+    by None e = any
+    by (Some call) e = ap p (action-is op call e).written ∙ h
 
 -- ---- the plans of alarms and tables, whose tests are partly those of their actions
 
@@ -133,7 +133,7 @@ last-fails true false m f x = refl
 last-fails true true m f x = refl
 
 module _ (objects : List Declaration) (id : CoreId) (alarm : AlarmText) where
-  pub alarm_made : (place : Place) (action : TimedAction) → place_of objects ObjectKind.Counter alarm.counter ≡ Some place → known_action objects alarm.action ≡ Some action → list_all is_mode_name (alarm_modes alarm) ≡ true
+  pub alarm_made : (place : Place) (action : RemoteCall) → place_of objects ObjectKind.Counter alarm.counter ≡ Some place → known_action objects alarm.action ≡ Some action → list_all is_mode_name (alarm_modes alarm) ≡ true
       → known_alarm objects id alarm ≡ Some (record { name = alarm.name; counter = counter_of place; action = action; auto = option_map start_plan alarm.auto })
   alarm_made place action found acts modes =
       let parts = made (is_action_known objects alarm.action) _ (is_action alarm.action) (action_of objects alarm.action) action acts in

@@ -14,11 +14,10 @@ use Rattle.osplan.specs.declared.plans.ExpiryPoint.{ExpiryPoint}
 use Rattle.osplan.specs.declared.plans.TableStart.{TableStart}
 use Rattle.osplan.specs.Limits as limits
 use Rattle.osplan.specs.Limits.{is_between, is_within, same_number, has_number, are_numbers_distinct}
-use Rattle.osplan.specs.Objects.{action_object}
 use Rattle.osplan.proofs.Tests.{all-both, all-flat, any-find, any-mapped}
 use Rattle.oscript.specs.declared.Op.{Op}
 use Rattle.oscript.specs.declared.Op.TheVariants.{Work}
-use Rattle.osforms.specs.Action.{is_action}
+use Rattle.osforms.specs.Action.{is_action, is_action_op}
 use Rattle.osforms.specs.Operation.{op_meant}
 use Rattle.osforms.proofs.Operations.{meant-passes}
 use Rattle.osplan.specs.declared.faults.ConfFault.{ConfFault}
@@ -38,7 +37,7 @@ use Rattle.oscheck.specs.Check.{sizes_of, numbers_of, is_text_within, is_each_on
 use Rattle.osshape.specs.Declarations.{counter_ref, number_id, id_of, declarations, place_of}
 use Rattle.oscheck.specs.Operation.{operations_of, op_of}
 use Rattle.osdraft.specs.Meaning.{only_mode, task_plan, start_plan, alarm_plan, point_plan, table_start_plan, table_plan, core_plan, plan_of}
-use Rattle.osdraft.proofs.Alarms.{action-meant, action-passes}
+use Rattle.osdraft.proofs.Alarms.{action-acts, action-meant, action-passes}
 use Rattle.osdraft.proofs.Planned.{Tested, plan-numbers, plan-timed}
 use Rattle.osshape.proofs.Lists.{list_all-by, list_all-total, list_any-by}
 use Rattle.osdraft.proofs.Numbers.{numbers-kept, bytes-equal}
@@ -67,11 +66,13 @@ counter-known : (t : ConfigText) → PlacesKnown t → (id : CoreId) (name : Lis
 counter-known t known id name None found there = absurd (true≢false (sym there))
 counter-known t known id name (Some place) found there = rw found (known ObjectKind.Counter name place found)
 
-action-known : (t : ConfigText) → PlacesKnown t → (text : List ℕ) → is_action text ≡ true → is_action_known (declarations t.cores) text ≡ true → limits.is_object (plan_of t) (action_object (action_of (declarations t.cores) text)) ≡ true
+action-known : (t : ConfigText) → PlacesKnown t → (text : List ℕ) → is_action text ≡ true → is_action_known (declarations t.cores) text ≡ true → limits.is_action_known (plan_of t) (action_of (declarations t.cores) text) ≡ true
 action-known t known text acting there =
     let meant = action-meant (declarations t.cores) text acting there in
     let is : op_of (declarations t.cores) text ≡ meant.0 = ap (λ o. unwrap_or o Work) meant.1 in
-    action-passes (limits.is_object (plan_of t)) (op_of (declarations t.cores) text) (rw is meant.2) (op-known t known text)
+    let acts : is_action_op (op_of (declarations t.cores) text) ≡ true = rw is meant.2 in
+    and_from _ _ (action-acts (op_of (declarations t.cores) text) acts)
+    (action-passes (limits.is_object (plan_of t)) (op_of (declarations t.cores) text) acts (op-known t known text))
 
 modes-known : (t : ConfigText) (auto : Option AlarmStartText) → list_all (limits.is_mode (plan_of t)) (option_map_or (λ (auto : AlarmStart). auto.modes) (option_map start_plan auto) []) ≡ true
 modes-known t None = refl

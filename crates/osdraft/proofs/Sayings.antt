@@ -42,7 +42,7 @@ use Rattle.osshape.specs.Declarations.{id_of, task_declaration, resource_declara
 use Rattle.oscheck.specs.Operation.{is_operation, op_of, operations_of}
 use Rattle.osdraft.specs.Meaning.{only_mode, task_plan, resource_plan, counter_plan, start_plan, alarm_plan, point_plan, table_start_plan, table_plan, core_plan, plan_of}
 use Rattle.osplan.proofs.Tests.{all-both, all-flat}
-use Rattle.osdraft.proofs.Alarms.{action-in-form, action-masks}
+use Rattle.osdraft.proofs.Alarms.{action-keeps}
 use Rattle.osshape.proofs.Lists.{list_all-by, list_all-total}
 use Rattle.osshape.specs.Shape.{has_named_tasks, has_named_resources, has_named_counters, has_named_alarms, has_named_tables, has_named_objects}
 use Rattle.osdraft.proofs.Bounds.{faultless}
@@ -124,7 +124,7 @@ action-said : (objects : List Declaration) (text : List ℕ) → (is_action_mask
 action-said objects text h =
     let parts = and_parts (is_action_masked text) (is_action text) h in
     let masked : has_masks text ≡ true = ap (λ acting. not acting || has_masks text) (sym parts.1) ∙ parts.0 in
-    and_from _ _ (action-in-form (op_of objects text) (op-said objects text)) (action-masks (op_of objects text) (op-masked objects text masked))
+    and_from _ _ (action-keeps is_in_form refl (op_of objects text) (op-said objects text)) (action-keeps rows.has_masks refl (op_of objects text) (op-masked objects text masked))
 
 alarm-said : (objects : List Declaration) (id : CoreId) (alarm : AlarmText) → (is_name alarm.name && is_alarm_masked alarm && is_alarm_acting alarm) ≡ true → said.is_alarm_expressible (alarm_plan objects id alarm) ≡ true
 alarm-said objects id alarm h =

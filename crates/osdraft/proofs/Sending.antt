@@ -1,11 +1,13 @@
 -- The configuration that a text means posts as many envelopes at once as the text.
 use Rattle.std.proofs.Common.{◌≡◌, ℕ, ◌+◌, ◌&&◌, Bool, true, false, cond, count_by, sum_by, List, [], ◌∷◌, map, Option, Some, None, is_some, option_map, option_and_then, unwrap_or, refl, sym, ap, ◌∙◌}
 use Rattle.std.specs.List.{find, list_all}
-use Rattle.std.proofs.lemmas.Bool.{and_parts, true≢false}
+use Rattle.std.proofs.lemmas.Bool.{and_parts}
 use Rattle.std.proofs.lemmas.List.Sums.{sum_by-cons}
 use Rattle.osbase.specs.declared.objects.ObjectKind.{ObjectKind}
 use Rattle.osbase.specs.declared.objects.Place.{Place}
+use Rattle.osbase.specs.declared.messages.RemoteCall.{RemoteCall}
 use Rattle.oscript.specs.declared.Op.{Op}
+use Rattle.oscript.specs.Calls.{action_of_op}
 use Rattle.oscript.specs.declared.rows.Arg.{Arg}
 use Rattle.oscript.specs.declared.rows.Arg.TheVariants.{Object, Mask, Number, Int, Variable}
 use Rattle.oscript.specs.declared.rows.Verb.{Verb}
@@ -24,12 +26,12 @@ use Rattle.osshape.specs.declared.shapes.AlarmText.{AlarmText}
 use Rattle.osshape.specs.declared.shapes.CoreText.{CoreText}
 use Rattle.osshape.specs.declared.table_shapes.PointText.{PointText}
 use Rattle.osshape.specs.declared.table_shapes.TableText.{TableText}
-use Rattle.oscheck.specs.Action.{action_of, action_of_op, is_action_known}
+use Rattle.oscheck.specs.Action.{action_of, any_action, is_action_known}
 use Rattle.oscheck.specs.Check.{alarm_modes, is_alarm_acting, is_alarm_known, is_core_known, is_core_script, is_mode_name, is_point_acting, is_point_known, is_table_acting, is_table_known, is_task_known, is_task_script, table_modes}
 use Rattle.osshape.specs.Declarations.{has_name, id_of, is_alone, place_alone, place_of, names_of}
 use Rattle.osdraft.specs.Meaning.{alarm_plan, core_plan, point_plan, table_plan}
 use Rattle.oscheck.specs.Posted.{greatest_posted, is_posting, posted_at, posted_at_once}
-use Rattle.osdraft.proofs.Alarms.{action-meant, any_action}
+use Rattle.osdraft.proofs.Alarms.{acted, action-meant}
 use Rattle.osshape.proofs.Alone.{alone}
 use Rattle.osshape.proofs.Lists.{map-same}
 
@@ -80,9 +82,7 @@ count-same f g h p same = sum-same (λ x. cond (f x) 1 0) (λ y. cond (g y) 1 0)
 -- ---- actions
 
 action-some : (op : Op) → is_action_op op ≡ true → action_of_op op ≡ Some (unwrap_or (action_of_op op) any_action)
-action-some (Op.ActivateTask (Some task)) is = refl
-action-some (Op.SetEvent (Some task) mask) is = refl
-action-some op is = absurd (true≢false (sym is))
+action-some op is = let a = acted op is in a.1 ∙ ap (λ (o : Option RemoteCall). Some (unwrap_or o any_action)) (sym a.1)
 
 module _ (objects : List Declaration) (apart : are_distinct (names_of objects) ≡ true) (core : CoreText) where
   abbrev planned : Core

@@ -13,11 +13,11 @@ ghost use Rattle.oscheck.specs.Check.{are_operations_readable, is_task_readable,
 ghost use Rattle.osdraft.specs.Meaning.{only_mode, task_plan, resource_plan, counter_plan, start_plan, alarm_plan, core_plan, known_task, known_alarm, known_core, plan_of};
 
 use crate::table_plans::tables_of;
-use osbase::{CoreId, CounterRef, List, ModeId, Name, ObjectKind};
-use oscheck::{OPERATIONS, action_of_op, are_alarm_modes, are_mode_names, are_timed, has_core};
-use oscript::{Op, Script};
+use osbase::{CoreId, CounterRef, List, ModeId, Name, ObjectKind, Reference, RemoteCall};
+use oscheck::{OPERATIONS, are_alarm_modes, are_mode_names, are_timed, has_core};
+use oscript::{Op, Script, action_of_op};
 use osforms::{Places, op_meant};
-use osplan::{Alarm, AlarmStart, Core, CoreMode, Counter, Plan, Resource, Task, TimedAction};
+use osplan::{Alarm, AlarmStart, Core, CoreMode, Counter, Plan, Resource, Task};
 use osread::{PartReader, Reader, Refusal, Text, Whole, read_each, read_parts};
 use osshape::{
     AlarmStartText, AlarmText, ConfigText, CoreText, CounterText, MODE, Objects, ResourceText,
@@ -165,7 +165,7 @@ fn counters_of<'e>(
 }
 
 /// The action that a text means; None where it is not in good form, or its name or its mask not what it has to be.
-pub fn action_meant(objects: &Objects, text: &str) -> Option<TimedAction>
+pub fn action_meant(objects: &Objects, text: &str) -> Option<RemoteCall>
     ensures { result ≡ known_action objects.now.declared text.now }
 {
     match op_meant(objects, text) {

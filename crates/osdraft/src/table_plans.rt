@@ -9,10 +9,10 @@ ghost use Rattle.osdraft.specs.Meaning.{known_point, known_table, point_plan, ta
 ghost use Rattle.oscheck.specs.Action.{action_of, is_action_known, is_action_masked, known_action};
 
 use crate::plans::{action_meant, modes_of};
-use osbase::{CoreId, CounterRef, List, Name, ObjectKind};
+use osbase::{CoreId, CounterRef, List, Name, ObjectKind, Reference, RemoteCall};
 use oscheck::are_table_modes;
 use osforms::Places;
-use osplan::{ExpiryPoint, Table, TableStart, TimedAction};
+use osplan::{ExpiryPoint, Table, TableStart};
 use osread::{Reader, Refusal, Text, read_each};
 use osshape::{Objects, PointText, TableStartText, TableText, word_of};
 use std::alloc::{AllocError, Global};
@@ -24,12 +24,12 @@ struct TablePlanner<'o, 'e> {
     core: CoreId,
 }
 
-impl<'e> Reader<'e, Text<'e>, TimedAction> for TablePlanner<'_, 'e> {
+impl<'e> Reader<'e, Text<'e>, RemoteCall> for TablePlanner<'_, 'e> {
     ghost shape = { λ planner. known_action planner.objects.now.declared };
 
     ghost passes = { λ _ _. true };
 
-    fn read(&self, _: Global, text: &'e Text<'e>) -> Result<TimedAction, Refusal> {
+    fn read(&self, _: Global, text: &'e Text<'e>) -> Result<RemoteCall, Refusal> {
         match action_meant(self.objects, text.as_str()) {
             Some(action) => Ok(action),
             None => Err(Refusal::Unfit),
@@ -41,7 +41,7 @@ fn actions_of<'e>(
     alloc: Global,
     planner: &TablePlanner<'_, 'e>,
     actions: &'e [Text<'e>],
-) -> Result<List<TimedAction>, Refusal>
+) -> Result<List<RemoteCall>, Refusal>
     ensures { Gives (λ x. x) result (value_if (list_all (is_action_known planner.now.objects.now.declared) actions.now && list_all is_action_masked actions.now && list_all is_action actions.now) (map (action_of planner.now.objects.now.declared) actions.now)) }
 {
     read_each(alloc, planner, actions)

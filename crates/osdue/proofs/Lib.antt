@@ -3,4 +3,3 @@ pub mod InTurn
 pub mod Allowed
 pub mod Actions
 pub mod Postings
-pub mod Carried

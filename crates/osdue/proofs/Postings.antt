@@ -80,7 +80,7 @@ first-le core s = by (own_table core s)
     there table None e = omega arith
     there table (Some point) e = at point (greatest_posted core table) (nat_eq point.offset 0) (posted-within core table.points 0 point e)
 
-    by : (o : Option Table) → posted_by_point core (option_and_then (λ (table : Table). option_and_then if_at_once (slice_get table.points 0)) o) ≤ option_map_or (greatest_posted core) o 0
+    by : (o : Option Table) → posted_by_point core (option_and_then if_at_once (option_and_then (λ (table : Table). slice_get table.points 0) o)) ≤ option_map_or (greatest_posted core) o 0
     by None = omega arith
     by (Some table) = there table (slice_get table.points 0) refl
 

@@ -1,23 +1,24 @@
 -- What a count of a counter leads to, and how many envelopes join the outbox by it at most.
-use Rattle.std.specs.Prelude.{ℕ, ◌+◌, if◌then◌else◌, Bool, false, ◌∷◌, sum_by}
+use Rattle.std.specs.Prelude.{ℕ, ◌+◌, if◌then◌else◌, Bool, false, sum_by}
 use Rattle.std.specs.Option.{option_map_or}
 use Rattle.osbase.specs.declared.references.AlarmRef.{AlarmRef}
 use Rattle.osbase.specs.declared.references.CounterRef.{CounterRef}
 use Rattle.osbase.specs.declared.references.TableRef.{TableRef}
-use Rattle.osbase.specs.History.{History, Noted, Counted}
+use Rattle.osbase.specs.History.{Counted}
 use Rattle.osplan.specs.declared.plans.Alarm.{Alarm}
 use Rattle.osplan.specs.declared.plans.Core.{Core}
 use Rattle.osplan.specs.Objects.{greatest_posted, is_posting}
-use Rattle.osplan.specs.View.{View, own_alarm, own_table}
-use Rattle.osclock.specs.Clocks.{attached_to, due_by}
-use Rattle.ostable.specs.Tables.{due_tables_by, timed_by}
+use Rattle.osplan.specs.View.{own_alarm, own_table}
+use Rattle.osclock.specs.Clocks.{attached_to}
+use Rattle.ostable.specs.Tables.{timed_by}
+use Rattle.osact.specs.Acts.{Acts, Notes, both, look, one_then}
 use Rattle.osdue.specs.Expiring.{expire_each}
 use Rattle.osdue.specs.Passing.{pass_each}
 
 -- The counter goes on by one; then each of its alarms acts that is due at this count, in index order, and then each of its schedule
 -- tables that was running before it. [OSEK/VDX OS 2.2.3, section 9.1 and 9.2; AUTOSAR SWS OS 4.x, section 7.3; the order: own]
-abbrev pub counts : View → CounterRef → History → History
-counts v c h = pass_each v (due_tables_by v.own c h) (expire_each v (due_by v.own c h) (Noted (Counted c) ∷ h))
+abbrev pub counts : CounterRef → Acts
+counts c = look (λ s. one_then (Notes (Counted c)) (both (expire_each (s.due c)) (pass_each (s.due_tables c))))
 
 -- ---- how many envelopes join the outbox, at most
 

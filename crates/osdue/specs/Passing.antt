@@ -1,88 +1,95 @@
 -- What a schedule table does at a count.
-use Rattle.std.specs.Prelude.{ℕ, ◌+◌, ◌==◌, ◌&&◌, nat_le, not, if◌then◌else◌, Bool, true, false, Option, Some, None, List, [], ◌∷◌, filter, length, slice_get}
+use Rattle.std.specs.Prelude.{ℕ, ◌+◌, ◌==◌, ◌&&◌, nat_le, not, if◌then◌else◌, Bool, true, false, Option, Some, None, List, filter, length, slice_get}
 use Rattle.std.specs.List.{list_all}
 use Rattle.std.specs.Option.{option_and_then, option_map_or}
 use Rattle.osbase.specs.declared.references.TableRef.{TableRef}
 use Rattle.osbase.specs.declared.marks.Mark.TheVariants as Mark
-use Rattle.osbase.specs.History.{History, Noted, TableQuit, TableStarted}
+use Rattle.osbase.specs.History.{TableQuit, TableStarted}
 use Rattle.osplan.specs.declared.plans.Core.{Core}
 use Rattle.osplan.specs.declared.plans.ExpiryPoint.{ExpiryPoint}
 use Rattle.osplan.specs.declared.plans.Table.{Table}
-use Rattle.osplan.specs.declared.plans.TimedAction.{TimedAction}
-use Rattle.osplan.specs.Objects.{call_of_action, posted_at}
-use Rattle.osplan.specs.View.{View, own_table}
+use Rattle.osbase.specs.declared.messages.RemoteCall.{RemoteCall}
+use Rattle.osplan.specs.Objects.{posted_at}
+use Rattle.osplan.specs.View.{own_table}
 use Rattle.ostable.specs.declared.tables.DueTable.{DueTable}
 use Rattle.ostable.specs.Waiting.{repeats}
-use Rattle.osstate.specs.Sound.{has_object_of}
+use Rattle.osplan.specs.Objects.{may_act}
+use Rattle.osact.specs.Acts.{Acts, Notes, Prints, both, for_each, look, nothing, notes, one_then, when}
 use Rattle.osdue.specs.Expiring.{acts}
-use Rattle.oscall.specs.Returning.{prints}
 
 -- ---- a point
 
-abbrev pub is_activation : TimedAction → Bool
-is_activation (TimedAction.ActivateTask t) = true
-is_activation (TimedAction.SetEvent t mask) = false
+abbrev pub is_activation : RemoteCall → Bool
+is_activation (RemoteCall.ActivateTask t) = true
+is_activation call = false
 
 -- Those of a point's actions that activate a task, and those that set events, in their order.
-abbrev pub activations_of : List TimedAction → List TimedAction
+abbrev pub activations_of : List RemoteCall → List RemoteCall
 activations_of actions = filter is_activation actions
 
-abbrev pub settings_of : List TimedAction → List TimedAction
-settings_of actions = filter (λ (action : TimedAction). not (is_activation action)) actions
+abbrev pub settings_of : List RemoteCall → List RemoteCall
+settings_of actions = filter (λ (action : RemoteCall). not (is_activation action)) actions
 
-abbrev pub acts_each : View → List TimedAction → History → History
-acts_each v [] h = h
-acts_each v (action ∷ actions) h = acts_each v actions (acts v (call_of_action action) h)
+abbrev pub acts_each : List RemoteCall → Acts
+acts_each actions = for_each (λ (action : RemoteCall). acts action) actions
 
 -- The point's line; then its tasks are activated, before its events are set. [AUTOSAR SWS OS 4.x, SWS_Os_00407 and SWS_Os_00412]
-abbrev pub does_point : View → TableRef → ExpiryPoint → History → History
-does_point v s point h = acts_each v (settings_of point.actions) (acts_each v (activations_of point.actions) (prints (Mark.ExpiryPoint s point.offset) h))
+abbrev pub does_point : TableRef → ExpiryPoint → Acts
+does_point s point =
+    one_then (Prints (Mark.ExpiryPoint s point.offset)) (both (acts_each (activations_of point.actions)) (acts_each (settings_of point.actions)))
 
-abbrev pub reaches : View → TableRef → Option ExpiryPoint → History → History
-reaches v s None h = h
-reaches v s (Some point) h = does_point v s point h
+abbrev pub reaches : TableRef → Option ExpiryPoint → Acts
+reaches s None = nothing
+reaches s (Some point) = does_point s point
 
 -- ---- which point
 
--- The point that is due, of the core's own table.
+-- The point of this number, of the core's own table.
+abbrev pub point_of : Core → TableRef → ℕ → Option ExpiryPoint
+point_of core s number = option_and_then (λ (table : Table). slice_get table.points number) (own_table core s)
+
+-- The point that is due.
 abbrev pub due_point : Core → DueTable → Option ExpiryPoint
-due_point core d = option_and_then (λ (number : ℕ). option_and_then (λ (table : Table). slice_get table.points number) (own_table core d.table)) d.due.point
+due_point core d = option_and_then (point_of core d.table) d.due.point
 
 -- The point with which a period of the table begins: its first, if that has offset 0.
 abbrev pub if_at_once : ExpiryPoint → Option ExpiryPoint
 if_at_once point = if point.offset == 0 then Some point else None
 
 abbrev pub first_point : Core → TableRef → Option ExpiryPoint
-first_point core s = option_and_then (λ (table : Table). option_and_then if_at_once (slice_get table.points 0)) (own_table core s)
+first_point core s = option_and_then if_at_once (point_of core s 0)
 
 -- What the core may act on, and at most so many actions of a point. [AUTOSAR SWS OS 4.x, SWS_Os_00407; the most is own]
 abbrev pub is_known_point : Core → ExpiryPoint → Bool
-is_known_point core point = list_all (has_object_of core) point.actions && nat_le (length point.actions) 8
+is_known_point core point = list_all (may_act core) point.actions && nat_le (length point.actions) 8
 
 -- ---- the end of a period
 
-abbrev pub stops : TableRef → History → History
-stops s h = Noted (TableQuit s) ∷ prints (Mark.TableStopped s) h
+abbrev pub stops : TableRef → Acts
+stops s = one_then (Prints (Mark.TableStopped s)) (notes (TableQuit s))
 
--- A table begins without an offset: its point of offset 0 is done at once. [AUTOSAR SWS OS 4.x, SWS_Os_00414]
-abbrev pub begins : View → TableRef → History → History
-begins v s h = reaches v s (first_point v.own s) (Noted (TableStarted s 0) ∷ prints (Mark.TableBegun s) h)
+-- A period of the table begins: its point of offset 0 is done at once. [AUTOSAR SWS OS 4.x, SWS_Os_00414]
+abbrev pub begins_period : TableRef → Acts
+begins_period s = look (λ seen. reaches s (first_point seen.core s))
+
+-- A table begins without an offset.
+abbrev pub begins : TableRef → Acts
+begins s = one_then (Prints (Mark.TableBegun s)) (one_then (Notes (TableStarted s 0)) (begins_period s))
 
 -- Where a table waits for this end, this one stops and that one begins; or else another period of this one does, or it stops.
 -- [AUTOSAR SWS OS 4.x, SWS_Os_00414, SWS_Os_00194 and SWS_Os_00009]
-abbrev pub ends : View → TableRef → Option TableRef → History → History
-ends v s (Some next) h = begins v next (stops s h)
-ends v s None h = if repeats v.own s then reaches v s (first_point v.own s) h else stops s h
+abbrev pub ends : TableRef → Option TableRef → Acts
+ends s (Some next) = both (stops s) (begins next)
+ends s None = look (λ seen. when (repeats seen.core s) (begins_period s) (stops s))
 
 -- ---- a count
 
 -- A point of the period that is running comes before the period's end. [own]
-abbrev pub passes : View → DueTable → History → History
-passes v d h = if d.due.ends then ends v d.table d.next (reaches v d.table (due_point v.own d) h) else reaches v d.table (due_point v.own d) h
+abbrev pub passes : DueTable → Acts
+passes d = both (look (λ seen. reaches d.table (due_point seen.core d))) (when d.due.ends (ends d.table d.next) nothing)
 
-abbrev pub pass_each : View → List DueTable → History → History
-pass_each v [] h = h
-pass_each v (d ∷ due) h = pass_each v due (passes v d h)
+abbrev pub pass_each : List DueTable → Acts
+pass_each due = for_each passes due
 
 -- ---- how many envelopes join the outbox, at most
 

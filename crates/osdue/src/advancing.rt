@@ -2,7 +2,7 @@
 
 ghost use Rattle.std.specs.Prelude.{◌≡◌, ◌≤◌, ◌+◌, ◌*◌, IsTrue, false, length, suc, sum_by};
 ghost use Rattle.std.specs.List.{list_all};
-ghost use Rattle.osbase.specs.declared.references.AlarmRef.{AlarmRef};
+ghost use Rattle.osbase.specs.declared.references.AlarmRef.{AlarmRef as AlarmRefValue};
 ghost use Rattle.osbase.specs.Objects.{alarm_object, counter_object};
 ghost use Rattle.osbase.specs.Phases.{is_before_live};
 ghost use Rattle.osplan.specs.Objects.{is_own_object};
@@ -10,14 +10,14 @@ ghost use Rattle.osclock.specs.Clocks.{attached_to};
 ghost use Rattle.ostable.specs.Tables.{timed_by};
 ghost use Rattle.ostable.specs.Waiting.{are_own};
 ghost use Rattle.osstate.specs.Does.{Effects, HasRoom};
+ghost use Rattle.osact.specs.Acts.{does};
 ghost use Rattle.osdue.specs.Advancing.{counts, posted_by, posted_for};
 ghost use Rattle.osdue.specs.Expiring.{expire_each};
 ghost use Rattle.osdue.specs.Passing.{pass_each, posted_by_table};
 
 use crate::expiring::expire;
 use crate::passing::pass;
-use osbase::{CounterRef, Mark};
-use osclock::AlarmSlot;
+use osbase::{AlarmRef, CounterRef, Mark};
 use osstate::CoreState;
 use ostable::DueTable;
 
@@ -33,7 +33,7 @@ pub fn advance<const P: usize, const J: usize, const OUT: usize>(
     requires live { is_before_live state.old.progress.phase ≡ false }
     requires outbox { length state.old.border.outbox + posted_by state.old.view.own counter ≤ OUT }
     requires room { HasRoom (suc (3 * length (attached_to state.old.view.own counter) + 38 * length (timed_by state.old.view.own counter))) (3 * length (attached_to state.old.view.own counter) + 36 * length (timed_by state.old.view.own counter)) state.old marks.old }
-    ensures effects { Effects (suc (3 * length (attached_to state.old.view.own counter) + 38 * length (timed_by state.old.view.own counter))) (3 * length (attached_to state.old.view.own counter) + 36 * length (timed_by state.old.view.own counter)) (λ v h. counts v counter h) state.old state.new marks.old marks.new }
+    ensures effects { Effects (suc (3 * length (attached_to state.old.view.own counter) + 38 * length (timed_by state.old.view.own counter))) (3 * length (attached_to state.old.view.own counter) + 36 * length (timed_by state.old.view.own counter)) (does (counts counter)) state.old state.new marks.old marks.new }
     ensures outbox { length state.new.border.outbox ≤ length state.old.border.outbox + posted_by state.old.view.own counter }
 {
     let alarms = state.due_next(counter);
@@ -47,18 +47,18 @@ pub fn advance<const P: usize, const J: usize, const OUT: usize>(
 
 fn expire_each<const P: usize, const J: usize, const OUT: usize>(
     state: &mut CoreState<'_, P, J, OUT>,
-    due: &[AlarmSlot],
+    due: &[AlarmRef],
     marks: &mut Vec<Mark>,
 )
-    requires own { IsTrue (list_all (λ (a : AlarmRef). is_own_object state.old.view.own (alarm_object a)) due.now) }
+    requires own { IsTrue (list_all (λ (a : AlarmRefValue). is_own_object state.old.view.own (alarm_object a)) due.now) }
     requires live { is_before_live state.old.progress.phase ≡ false }
     requires outbox { length state.old.border.outbox + sum_by (posted_for state.old.view.own) due.now ≤ OUT }
     requires room { HasRoom (3 * length due.now) (3 * length due.now) state.old marks.old }
-    ensures effects { Effects (3 * length due.now) (3 * length due.now) (λ v h. expire_each v due.now h) state.old state.new marks.old marks.new }
+    ensures effects { Effects (3 * length due.now) (3 * length due.now) (does (expire_each due.now)) state.old state.new marks.old marks.new }
     ensures outbox { length state.new.border.outbox ≤ length state.old.border.outbox + sum_by (posted_for state.old.view.own) due.now }
 {
-    for slot in due {
-        expire(state, slot.alarm, marks);
+    for alarm in due {
+        expire(state, *alarm, marks);
     }
 }
 
@@ -71,7 +71,7 @@ fn pass_each<const P: usize, const J: usize, const OUT: usize>(
     requires live { is_before_live state.old.progress.phase ≡ false }
     requires outbox { length state.old.border.outbox + sum_by (posted_by_table state.old.view.own) due.now ≤ OUT }
     requires room { HasRoom (38 * length due.now) (36 * length due.now) state.old marks.old }
-    ensures effects { Effects (38 * length due.now) (36 * length due.now) (λ v h. pass_each v due.now h) state.old state.new marks.old marks.new }
+    ensures effects { Effects (38 * length due.now) (36 * length due.now) (does (pass_each due.now)) state.old state.new marks.old marks.new }
     ensures outbox { length state.new.border.outbox ≤ length state.old.border.outbox + sum_by (posted_by_table state.old.view.own) due.now }
 {
     for table in due {

@@ -7,12 +7,14 @@ ghost use Rattle.osbase.specs.Objects.{alarm_object};
 ghost use Rattle.osbase.specs.Phases.{is_before_live};
 ghost use Rattle.osplan.specs.Objects.{is_own_object};
 ghost use Rattle.osstate.specs.Does.{Effects, HasRoom};
+ghost use Rattle.osact.specs.Acts.{does};
 ghost use Rattle.oscall.specs.Border.{core_of_call, is_known_call, is_served};
 ghost use Rattle.osdue.specs.Advancing.{posted_for};
 ghost use Rattle.osdue.specs.Expiring.{acts, acts_here, expires, posts};
 
+use osact::is_ok;
 use osbase::{AlarmRef, CoreId, Mark, Message, RemoteCall, Status};
-use oscall::{is_ok, serve};
+use oscall::serve;
 use osstate::CoreState;
 
 // The alarm's line, and then its action.
@@ -25,12 +27,12 @@ pub(crate) fn expire<const P: usize, const J: usize, const OUT: usize>(
     requires live { is_before_live state.old.progress.phase ≡ false }
     requires outbox { length state.old.border.outbox + posted_for state.old.view.own alarm ≤ OUT }
     requires room { HasRoom 3 3 state.old marks.old }
-    ensures effects { Effects 3 3 (λ v h. expires v alarm h) state.old state.new marks.old marks.new }
+    ensures effects { Effects 3 3 (does (expires alarm)) state.old state.new marks.old marks.new }
     ensures outbox { length state.new.border.outbox ≤ length state.old.border.outbox + posted_for state.old.view.own alarm }
 {
     let action = state.alarm_action(alarm);
     state.print(Mark::AlarmExpired(alarm), marks);
-    act(state, action.call(), marks);
+    act(state, action, marks);
 }
 
 // A task of the core is acted on at once, another core's by an envelope without a reply.
@@ -43,7 +45,7 @@ pub(crate) fn act<const P: usize, const J: usize, const OUT: usize>(
     requires live { is_before_live state.old.progress.phase ≡ false }
     requires outbox { same_core (core_of_call call) state.old.view.own.id ≡ false → length state.old.border.outbox < OUT }
     requires room { HasRoom 2 2 state.old marks.old }
-    ensures effects { Effects 2 2 (λ v h. acts v call h) state.old state.new marks.old marks.new }
+    ensures effects { Effects 2 2 (does (acts call)) state.old state.new marks.old marks.new }
     ensures here { same_core (core_of_call call) state.old.view.own.id ≡ true → state.new.border ≡ state.old.border }
     ensures outbox { length state.new.border.outbox ≤ suc (length state.old.border.outbox) }
 {
@@ -66,7 +68,7 @@ fn act_here<const P: usize, const J: usize, const OUT: usize>(
     requires served { IsTrue (is_served state.old.view call) }
     requires live { is_before_live state.old.progress.phase ≡ false }
     requires room { HasRoom 2 2 state.old marks.old }
-    ensures effects { Effects 2 2 (λ v h. acts_here call v h) state.old state.new marks.old marks.new }
+    ensures effects { Effects 2 2 (does (acts_here call)) state.old state.new marks.old marks.new }
     ensures border { state.new.border ≡ state.old.border }
 {
     let answer = serve(state, call, marks);
@@ -85,7 +87,7 @@ fn post<const P: usize, const J: usize, const OUT: usize>(
     requires receiver { core.number < CORES }
     requires outbox { length state.old.border.outbox < OUT }
     requires room { HasRoom 2 1 state.old marks.old }
-    ensures effects { Effects 2 1 (λ v h. posts call h) state.old state.new marks.old marks.new }
+    ensures effects { Effects 2 1 (does (posts call)) state.old state.new marks.old marks.new }
     ensures outbox { length state.new.border.outbox ≡ suc (length state.old.border.outbox) }
 {
     state.print(Mark::CallQueued { core, call }, marks);

@@ -7,11 +7,12 @@ ghost use Rattle.osplan.specs.Clocked.{are_clocks_within};
 ghost use Rattle.osplan.specs.Objects.{may_name, posted_at_once};
 ghost use Rattle.osjobs.specs.Priorities.{is_own_runner};
 ghost use Rattle.osstate.specs.Does.{Effects, HasRoom, service_entries, service_marks};
+ghost use Rattle.osact.specs.Acts.{does};
 ghost use Rattle.osdue.specs.Incrementing.{increments, is_hardware};
 
 use crate::advancing::advance;
+use osact::{accept, refuse};
 use osbase::{CounterRef, Mark, Runner, ServiceId, Status};
-use oscall::{accept, refuse};
 use osstate::CoreState;
 
 // Whether it is a counter of the core that ticks alone advance (AUTOSAR SWS OS 4.x, OsCounterType).
@@ -43,7 +44,7 @@ pub fn increment_counter<const P: usize, const J: usize, const OUT: usize>(
     requires outbox { state.old.border.outbox ≡ [] }
     requires places { 8 + posted_at_once state.old.view.own ≤ OUT }
     requires room { HasRoom service_entries service_marks state.old marks.old }
-    ensures { Effects service_entries service_marks (λ v h. increments v runner target h) state.old state.new marks.old marks.new }
+    ensures { Effects service_entries service_marks (does (increments runner target)) state.old state.new marks.old marks.new }
 {
     match target {
         Some(counter) => increment(state, runner, counter, marks),
@@ -69,7 +70,7 @@ fn increment<const P: usize, const J: usize, const OUT: usize>(
     requires outbox { state.old.border.outbox ≡ [] }
     requires places { 8 + posted_at_once state.old.view.own ≤ OUT }
     requires room { HasRoom service_entries service_marks state.old marks.old }
-    ensures { Effects service_entries service_marks (λ v h. increments v runner (Some counter) h) state.old state.new marks.old marks.new }
+    ensures { Effects service_entries service_marks (does (increments runner (Some counter))) state.old state.new marks.old marks.new }
 {
     let service = ServiceId::IncrementCounter;
     if is_hardware(state, counter) {

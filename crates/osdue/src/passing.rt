@@ -4,15 +4,15 @@ ghost use Rattle.std.specs.Prelude.{◌≡◌, ◌≤◌, ◌+◌, ◌*◌, IfSo
 ghost use Rattle.std.specs.List.{list_all};
 ghost use Rattle.osbase.specs.Objects.{table_object};
 ghost use Rattle.osbase.specs.Phases.{is_before_live};
-ghost use Rattle.osplan.specs.Objects.{is_own_object, is_posting, posted_at};
+ghost use Rattle.osplan.specs.Objects.{is_own_object, is_posting, may_act, posted_at};
 ghost use Rattle.ostable.specs.Waiting.{are_own, repeats};
 ghost use Rattle.osstate.specs.Does.{Effects, HasRoom};
-ghost use Rattle.osstate.specs.Sound.{has_object_of};
+ghost use Rattle.osact.specs.Acts.{does};
 ghost use Rattle.osdue.specs.Passing.{acts_each, activations_of, begins, does_point, due_point, ends, first_point, is_activation, is_known_point, passes, posted_by_end, posted_by_point, posted_by_table, reaches, settings_of, stops};
 
 use crate::expiring::act;
-use osbase::{Mark, TableRef};
-use osplan::{ExpiryPoint, Table, TimedAction};
+use osbase::{Mark, RemoteCall, TableRef};
+use osplan::{ExpiryPoint, Table};
 use osstate::CoreState;
 use ostable::DueTable;
 
@@ -26,7 +26,7 @@ pub(crate) fn pass<const P: usize, const J: usize, const OUT: usize>(
     requires live { is_before_live state.old.progress.phase ≡ false }
     requires outbox { length state.old.border.outbox + posted_by_table state.old.view.own due ≤ OUT }
     requires room { HasRoom 38 36 state.old marks.old }
-    ensures effects { Effects 38 36 (λ v h. passes v due h) state.old state.new marks.old marks.new }
+    ensures effects { Effects 38 36 (does (passes due)) state.old state.new marks.old marks.new }
     ensures outbox { length state.new.border.outbox ≤ length state.old.border.outbox + posted_by_table state.old.view.own due }
 {
     let point = due_point(state, due);
@@ -48,7 +48,7 @@ fn end<const P: usize, const J: usize, const OUT: usize>(
     requires live { is_before_live state.old.progress.phase ≡ false }
     requires outbox { length state.old.border.outbox + posted_by_end state.old.view.own table next ≤ OUT }
     requires room { HasRoom 21 19 state.old marks.old }
-    ensures effects { Effects 21 19 (λ v h. ends v table next h) state.old state.new marks.old marks.new }
+    ensures effects { Effects 21 19 (does (ends table next)) state.old state.new marks.old marks.new }
     ensures outbox { length state.new.border.outbox ≤ length state.old.border.outbox + posted_by_end state.old.view.own table next }
 {
     if let Some(next) = next {
@@ -81,7 +81,7 @@ fn stop<const P: usize, const J: usize, const OUT: usize>(
 )
     requires own { IsTrue (is_own_object state.old.view.own (table_object table)) }
     requires room { HasRoom 2 1 state.old marks.old }
-    ensures effects { Effects 2 1 (λ v h. stops table h) state.old state.new marks.old marks.new }
+    ensures effects { Effects 2 1 (does (stops table)) state.old state.new marks.old marks.new }
     ensures border { state.new.border ≡ state.old.border }
 {
     state.print(Mark::TableStopped(table), marks);
@@ -97,7 +97,7 @@ fn begin<const P: usize, const J: usize, const OUT: usize>(
     requires live { is_before_live state.old.progress.phase ≡ false }
     requires outbox { length state.old.border.outbox + posted_by_point state.old.view.own (first_point state.old.view.own table) ≤ OUT }
     requires room { HasRoom 19 18 state.old marks.old }
-    ensures effects { Effects 19 18 (λ v h. begins v table h) state.old state.new marks.old marks.new }
+    ensures effects { Effects 19 18 (does (begins table)) state.old state.new marks.old marks.new }
     ensures outbox { length state.new.border.outbox ≤ length state.old.border.outbox + posted_by_point state.old.view.own (first_point state.old.view.own table) }
 {
     state.print(Mark::TableBegun(table), marks);
@@ -152,7 +152,7 @@ fn reach<const P: usize, const J: usize, const OUT: usize>(
     requires live { is_before_live state.old.progress.phase ≡ false }
     requires outbox { length state.old.border.outbox + posted_by_point state.old.view.own (option_copied point) ≤ OUT }
     requires room { HasRoom 17 17 state.old marks.old }
-    ensures effects { Effects 17 17 (λ v h. reaches v table (option_copied point.entry) h) state.old state.new marks.old marks.new }
+    ensures effects { Effects 17 17 (does (reaches table (option_copied point.entry))) state.old state.new marks.old marks.new }
     ensures outbox { length state.new.border.outbox ≤ length state.old.border.outbox + posted_by_point state.old.view.own (option_copied point.entry) }
 {
     if let Some(point) = point {
@@ -171,7 +171,7 @@ fn do_point<const P: usize, const J: usize, const OUT: usize>(
     requires live { is_before_live state.old.progress.phase ≡ false }
     requires outbox { length state.old.border.outbox + posted_at state.old.view.own point.now ≤ OUT }
     requires room { HasRoom 17 17 state.old marks.old }
-    ensures effects { Effects 17 17 (λ v h. does_point v table point.now h) state.old state.new marks.old marks.new }
+    ensures effects { Effects 17 17 (does (does_point table point.now)) state.old state.new marks.old marks.new }
     ensures outbox { length state.new.border.outbox ≤ length state.old.border.outbox + posted_at state.old.view.own point.now }
 {
     let offset = point.offset;
@@ -180,28 +180,28 @@ fn do_point<const P: usize, const J: usize, const OUT: usize>(
     set_each(state, point.actions.as_slice(), marks);
 }
 
-fn is_activation(action: &TimedAction) -> bool
+fn is_activation(action: &RemoteCall) -> bool
     ensures { result ≡ is_activation action.now }
 {
-    matches!(action, TimedAction::ActivateTask(_))
+    matches!(action, RemoteCall::ActivateTask(_))
 }
 
 // Those of the actions that activate a task.
 fn activate_each<const P: usize, const J: usize, const OUT: usize>(
     state: &mut CoreState<'_, P, J, OUT>,
-    actions: &[TimedAction],
+    actions: &[RemoteCall],
     marks: &mut Vec<Mark>,
 )
-    requires known { IsTrue (list_all (has_object_of state.old.view.own) actions.now) }
+    requires known { IsTrue (list_all (may_act state.old.view.own) actions.now) }
     requires live { is_before_live state.old.progress.phase ≡ false }
     requires outbox { length state.old.border.outbox + count_by (is_posting state.old.view.own) (activations_of actions.now) ≤ OUT }
     requires room { HasRoom (2 * length (activations_of actions.now)) (2 * length (activations_of actions.now)) state.old marks.old }
-    ensures effects { Effects (2 * length (activations_of actions.now)) (2 * length (activations_of actions.now)) (λ v h. acts_each v (activations_of actions.now) h) state.old state.new marks.old marks.new }
+    ensures effects { Effects (2 * length (activations_of actions.now)) (2 * length (activations_of actions.now)) (does (acts_each (activations_of actions.now))) state.old state.new marks.old marks.new }
     ensures outbox { length state.new.border.outbox ≤ length state.old.border.outbox + count_by (is_posting state.old.view.own) (activations_of actions.now) }
 {
     for action in actions {
         if is_activation(action) {
-            act(state, action.call(), marks);
+            act(state, *action, marks);
         }
     }
 }
@@ -209,19 +209,19 @@ fn activate_each<const P: usize, const J: usize, const OUT: usize>(
 // Those that set events.
 fn set_each<const P: usize, const J: usize, const OUT: usize>(
     state: &mut CoreState<'_, P, J, OUT>,
-    actions: &[TimedAction],
+    actions: &[RemoteCall],
     marks: &mut Vec<Mark>,
 )
-    requires known { IsTrue (list_all (has_object_of state.old.view.own) actions.now) }
+    requires known { IsTrue (list_all (may_act state.old.view.own) actions.now) }
     requires live { is_before_live state.old.progress.phase ≡ false }
     requires outbox { length state.old.border.outbox + count_by (is_posting state.old.view.own) (settings_of actions.now) ≤ OUT }
     requires room { HasRoom (2 * length (settings_of actions.now)) (2 * length (settings_of actions.now)) state.old marks.old }
-    ensures effects { Effects (2 * length (settings_of actions.now)) (2 * length (settings_of actions.now)) (λ v h. acts_each v (settings_of actions.now) h) state.old state.new marks.old marks.new }
+    ensures effects { Effects (2 * length (settings_of actions.now)) (2 * length (settings_of actions.now)) (does (acts_each (settings_of actions.now))) state.old state.new marks.old marks.new }
     ensures outbox { length state.new.border.outbox ≤ length state.old.border.outbox + count_by (is_posting state.old.view.own) (settings_of actions.now) }
 {
     for action in actions {
         if !is_activation(action) {
-            act(state, action.call(), marks);
+            act(state, *action, marks);
         }
     }
 }

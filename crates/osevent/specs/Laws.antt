@@ -1,10 +1,13 @@
 -- What holds of the events of every history.
-use Rattle.std.specs.Prelude.{◌≡◌, ℕ, ◌==◌, ◌<◌, ◌^◌, nat_lt, Bool, true, false, ◌&&◌, IsTrue, if◌then◌else◌, Option, Some, None, unwrap_or, [], ◌∷◌}
+use Rattle.std.specs.Prelude.{◌≡◌, ℕ, ◌==◌, ◌<◌, ◌^◌, nat_lt, Bool, true, false, ◌&&◌, IsTrue, if◌then◌else◌, Option, Some, None, unwrap_or, List, [], ◌∷◌}
 use Rattle.std.specs.Int.{bit_at}
 use Rattle.std.specs.List.{list_all}
 use Rattle.osbase.specs.declared.references.TaskRef.{TaskRef}
 use Rattle.osbase.specs.declared.marks.Mark.{Mark}
-use Rattle.osbase.specs.History.{History, Entry, Printed, events_of, same_task}
+use Rattle.osbase.specs.declared.references.Runner.{Runner}
+use Rattle.osbase.specs.History.{History, Entry, Printed, same_task}
+use Rattle.oscript.specs.declared.Op.{Op}
+use Rattle.oscript.specs.Runners.{row_of}
 
 -- The event of this number is one of the mask's. [OSEK/VDX OS 2.2.3, section 13.5.1, EventMaskType]
 abbrev pub is_in_mask : ℕ → ℕ → Bool
@@ -30,6 +33,6 @@ has_mask (Printed (Mark.EventSet u mask)) = nat_lt mask (2 ^ 32)
 has_mask (Printed (Mark.EventCleared u mask)) = nat_lt mask (2 ^ 32)
 has_mask e = true
 
--- Each event of the task is set exactly if that is the last word on it.
+-- Each event of the task is set exactly if that is the last word on it, whatever the task's script.
 pub record IsLastWord (t : TaskRef) (h : History) : Type 0 where
-  pub set : IsTrue (list_all has_mask h) → (event : ℕ) → event < 32 → is_in_mask (events_of t h).set event ≡ last_word t event h
+  pub set : IsTrue (list_all has_mask h) → (script : List Op) (event : ℕ) → event < 32 → is_in_mask (row_of script (Runner.Task t) h).events.set event ≡ last_word t event h

@@ -1,4 +1,4 @@
-//! The events of a core's tasks.
+//! The events of a task.
 //!
 //! Nothing here takes memory.
 #![tactic(auto)]
@@ -6,4 +6,7 @@
 pub mod events;
 pub mod laws;
 
-pub use events::{Events, awaits_one_of, have_common, is_waiting};
+pub use events::{
+    awaits_one_of, have_common, is_waiting, no_events, with_awaited, with_cleared, with_none_set,
+    with_set,
+};

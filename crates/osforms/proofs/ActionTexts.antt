@@ -1,5 +1,5 @@
 -- An operation's text is an action's exactly where the operation is one.
-use Rattle.std.proofs.Common.{◌≡◌, ℕ, ◌&&◌, true, false, Option, Some, None, is_some, List, [], ◌∷◌, refl, sym, ap, ◌∙◌}
+use Rattle.std.proofs.Common.{◌≡◌, ℕ, ◌&&◌, Bool, true, false, Option, Some, None, is_some, List, [], ◌∷◌, refl, sym, ap, ◌∙◌}
 use Rattle.std.specs.List.{list_all}
 use Rattle.std.specs.Option.{option_map_or}
 use Rattle.std.proofs.lemmas.Bool.{true≢false}
@@ -10,13 +10,41 @@ use Rattle.oscript.specs.declared.rows.Arg.{Arg}
 use Rattle.oscript.specs.declared.rows.Arg.TheVariants.{Object, Mask, Number, Int, Variable}
 use Rattle.oscript.specs.declared.rows.Verb.{Verb}
 use Rattle.oscript.specs.Rows.{form_of_op}
-use Rattle.osforms.specs.Action.{is_action, is_action_form, is_action_op, is_action_verb, is_named}
+use Rattle.osforms.specs.Action.{is_action, is_action_op}
 use Rattle.osforms.specs.Form.{form_of}
 use Rattle.osforms.specs.Operation.{op_meant, place_of_any, resolve_arg, resolve_args}
 use Rattle.osforms.proofs.KindTexts.{mapped}
 use Rattle.osforms.proofs.Meant.{any_meant}
 use Rattle.osforms.proofs.Operations.{meant-form}
 use Rattle.osforms.proofs.RoundTrip.{both}
+
+-- An operation is an action by its verb and where its object has a name, as is seen before the name is looked up.
+abbrev is_action_verb : Verb → Bool
+is_action_verb Verb.ActivateTask = true
+is_action_verb Verb.SetEvent = true
+is_action_verb verb = false
+
+abbrev is_named : {R : Type 0} → Arg R → Bool
+is_named (Object kind None) = false
+is_named arg = true
+
+abbrev is_action_form : {R : Type 0} → Verb × List (Arg R) → Bool
+is_action_form form = is_action_verb form.0 && list_all is_named form.1
+
+action-form : (op : Op) → is_action_op op ≡ is_action_form (form_of_op op)
+action-form (Op.ActivateTask (Some t)) = refl
+action-form (Op.ActivateTask None) = refl
+action-form (Op.SetEvent (Some t) mask) = refl
+action-form (Op.SetEvent None mask) = refl
+action-form (Op.SetRelAlarm (Some a) increment cycle) = refl
+action-form (Op.SetRelAlarm None increment cycle) = refl
+action-form (Op.SetAbsAlarm (Some a) start cycle) = refl
+action-form (Op.SetAbsAlarm None start cycle) = refl
+action-form (Op.CancelAlarm (Some a)) = refl
+action-form (Op.CancelAlarm None) = refl
+action-form (Op.GetAlarm (Some a) x) = refl
+action-form (Op.GetAlarm None x) = refl
+action-form op = refl
 
 module _ (place : ObjectKind → List ℕ → Option Place) where
   arg-named : (shown : Arg (List ℕ)) (arg : Arg Place) → resolve_arg place shown ≡ Some arg → is_named arg ≡ is_named shown
@@ -35,22 +63,30 @@ module _ (place : ObjectKind → List ℕ → Option Place) where
       let m = both (resolve_arg place a) (resolve_args place shown) args e in
       rw (← m.4, arg-named a m.0 m.2, args-named shown m.1 m.3) refl
 
-  -- The operation that a text means is an action where the text is one.
-  pub meant_action : (text : List ℕ) (op : Op) → op_meant place text ≡ Some op → is_action_op op ≡ is_action text
-  meant_action text op e =
+  formed-action : (text : List ℕ) (op : Op) → op_meant place text ≡ Some op → is_action_op op ≡ option_map_or is_action_form (form_of text) false
+  formed-action text op e =
       let m = meant-form place text op e in
-      ap (λ (verb : Verb). is_action_verb verb && list_all is_named (form_of_op op).1) m.verb_is
+      action-form op
+      ∙ ap (λ (verb : Verb). is_action_verb verb && list_all is_named (form_of_op op).1) m.verb_is
       ∙ ap (λ (args : List (Arg Place)). is_action_verb m.form.0 && list_all is_named args) m.args_are
       ∙ ap (λ b. is_action_verb m.form.0 && b) (args-named m.form.1 m.args m.placed)
       ∙ sym (ap (λ o. option_map_or is_action_form o false) m.formed)
 
+-- So whether a text is an action does not depend on what its name stands for.
 action-by : (o : Option (Verb × List (Arg (List ℕ)))) → is_some o ≡ false → option_map_or is_action_form o false ≡ false
 action-by None none = refl
 action-by (Some form) none = absurd (true≢false none)
 
--- A text that means no operation, whatever its names stand for, is no action.
-pub no_action : (text : List ℕ) → op_meant place_of_any text ≡ None → is_action text ≡ false
-no_action text none = action-by (form_of text) (sym (any_meant text) ∙ ap is_some none)
+form-action : (text : List ℕ) → is_action text ≡ option_map_or is_action_form (form_of text) false
+form-action text = by (op_meant place_of_any text) refl
+  where
+    by : (o : Option Op) → op_meant place_of_any text ≡ o → option_map_or is_action_op o false ≡ option_map_or is_action_form (form_of text) false
+    by None none = sym (action-by (form_of text) (sym (any_meant text) ∙ ap is_some none))
+    by (Some op) e = formed-action place_of_any text op e
+
+-- The operation that a text means is an action where the text is one.
+pub meant_action : (place : ObjectKind → List ℕ → Option Place) (text : List ℕ) (op : Op) → op_meant place text ≡ Some op → is_action_op op ≡ is_action text
+meant_action place text op e = formed-action place text op e ∙ sym (form-action text)
 
 -- An action is in good form.
 formed-by : (o : Option (Verb × List (Arg (List ℕ)))) → option_map_or is_action_form o false ≡ true → is_some o ≡ true
@@ -58,4 +94,4 @@ formed-by None e = absurd (true≢false (sym e))
 formed-by (Some form) e = refl
 
 pub action-formed : (text : List ℕ) → is_action text ≡ true → is_some (form_of text) ≡ true
-action-formed text e = formed-by (form_of text) e
+action-formed text e = formed-by (form_of text) (sym (form-action text) ∙ e)

@@ -1,17 +1,11 @@
 //! Actions: the operations that an alarm can make by itself.
 
 ghost use Rattle.std.specs.Prelude.{◌≡◌};
-ghost use Rattle.osforms.specs.Action.{is_action, is_action_op};
+ghost use Rattle.osforms.specs.Action.{is_action};
 
 use crate::parsing::op_meant;
 use crate::places::AnyName;
-use oscript::Op;
-
-fn is_action_op(op: Op) -> bool
-    ensures { result ≡ is_action_op op }
-{
-    matches!(op, Op::ActivateTask(Some(_)) | Op::SetEvent(Some(_), _))
-}
+use oscript::action_of_op;
 
 /// Whether a text is an action in good form: an operation that activates a task or sets events of one, whose name is no
 /// `?`. Whether there is such a task is not asked (AUTOSAR SWS OS 4.x, OsAlarmAction).
@@ -19,7 +13,7 @@ pub fn is_action(text: &str) -> bool
     ensures { result ≡ is_action text.now }
 {
     match op_meant(&AnyName, text) {
-        Some(op) => is_action_op(op),
+        Some(op) => action_of_op(op).is_some(),
         None => false,
     }
 }

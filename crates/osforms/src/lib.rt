@@ -2,11 +2,10 @@
 //!
 //! The grammar is the table of rows (`oscript`): no operation is known here. What a text says is a form,
 //! whose names are looked up by whoever knows the objects (`Places`), and written by whoever knows their
-//! names (`Names`). A call across cores has a form too, which has the words that its operation has.
+//! names (`Names`). A call across cores has the words of its operation.
 #![tactic(auto)]
 
 mod actions;
-mod calls;
 mod numbers;
 mod parsing;
 mod places;
@@ -14,7 +13,6 @@ mod words;
 mod writing;
 
 pub use actions::is_action;
-pub use calls::{CallForm, form_of_call};
 pub use parsing::{has_masks, is_known, op_meant};
 pub use places::Places;
 pub use writing::{Names, op_text};

@@ -1,23 +1,22 @@
--- A job's priority, and what it comes from: its task, the resources that are held, and whether the job is raised.
+-- A job's priority, and what it comes from: its task, the resources that it holds, and whether the job is raised.
 use Rattle.std.specs.Prelude.{ℕ, ◌==◌, ◌||◌, Bool, true, false, not, if◌then◌else◌, Option, Some, None, is_some, List, [], ◌∷◌}
 use Rattle.std.specs.Option.{option_map_or}
 use Rattle.osbase.specs.declared.references.Runner.{Runner}
 use Rattle.osbase.specs.declared.histories.Job.{Job}
 use Rattle.osbase.specs.declared.histories.HeldResource.{HeldResource}
-use Rattle.osbase.specs.declared.histories.TaskEvents.{TaskEvents}
-use Rattle.osbase.specs.History.{same_job, same_runner, greater, greatest_ceiling, is_waiting, no_events}
+use Rattle.osbase.specs.History.{same_job, same_runner, greater, greatest_ceiling, is_waiting}
+use Rattle.oscript.specs.Runners.{Row}
 use Rattle.osplan.specs.declared.plans.Core.{Core}
 use Rattle.osplan.specs.declared.plans.Task.{Task}
-use Rattle.osplan.specs.View.{own_task}
-use Rattle.osres.specs.Resources.{held_at}
-use Rattle.osevent.specs.Events.{events_at}
+use Rattle.osplan.specs.View.{own_isr, own_task}
+use Rattle.osrunner.specs.Rows.{events_in, held_in}
 
--- The runner is one of the core's own tasks.
+-- The runner is one of the core's own tasks or ISRs.
 abbrev pub is_own_runner : Core → Runner → Bool
 is_own_runner core (Runner.Task t) = is_some (own_task core t)
-is_own_runner core (Runner.Isr i) = false
+is_own_runner core (Runner.Isr i) = is_some (own_isr core i)
 
--- The static priority of a runner. [OSEK/VDX OS 2.2.3, section 4.5]
+-- The static priority of a task; an ISR has none. [OSEK/VDX OS 2.2.3, section 4.5]
 abbrev pub static_priority : Core → Runner → ℕ
 static_priority core (Runner.Task t) = option_map_or (λ (task : Task). task.priority) (own_task core t) 0
 static_priority core (Runner.Isr i) = 0
@@ -43,19 +42,9 @@ abbrev pub raised_of : Core → Option Runner → Option Job → Option Job
 raised_of core way None = None
 raised_of core way (Some j) = if is_preemptable core j.runner || option_map_or (same_runner j.runner) way false then None else Some j
 
--- What the runner's jobs hold. An ISR holds none.
-abbrev pub held_in : Runner → List (List HeldResource) → List HeldResource
-held_in (Runner.Task t) all = held_at t.index all
-held_in (Runner.Isr i) all = []
-
--- The events of the runner's task. An ISR has none.
-abbrev pub events_in : Runner → List TaskEvents → TaskEvents
-events_in (Runner.Task t) all = events_at t.index all
-events_in (Runner.Isr i) all = no_events
-
 -- A live job that may run: one of a task that does not wait; a task that can wait has one job. [OSEK/VDX OS 2.2.3, section 4.2.1]
-abbrev pub is_able_in : List TaskEvents → Job → Bool
-is_able_in events j = not (is_waiting (events_in j.runner events))
+abbrev pub is_able_in : List Row → Job → Bool
+is_able_in rows j = not (is_waiting (events_in j.runner rows))
 
 -- The resource of this index is the newest of these, and whether there is any.
 abbrev pub is_newest : ℕ → List HeldResource → Bool
@@ -66,10 +55,10 @@ abbrev pub holds_any : List HeldResource → Bool
 holds_any [] = false
 holds_any (x ∷ held) = true
 
--- The priority of a job where these resources are held and this job is raised, to the greatest priority of the core's tasks.
+-- The priority of a job where these are the runners' rows and this job is raised, to the greatest priority of the core's tasks.
 -- A further job of a task that holds resources counts with these ceilings too; it comes behind the one that holds them, so it is
 -- never the best.
-abbrev pub priority_by : Core → List (List HeldResource) → Option Job → Job → ℕ
-priority_by core held raised j =
-    greater (greater (static_priority core j.runner) (greatest_ceiling (held_in j.runner held)))
+abbrev pub priority_by : Core → List Row → Option Job → Job → ℕ
+priority_by core rows raised j =
+    greater (greater (static_priority core j.runner) (greatest_ceiling (held_in j.runner rows)))
     (if option_map_or (same_job j) raised false then highest_of core.tasks else 0)

@@ -1,48 +1,48 @@
 //! The live jobs of a core.
 
-ghost use Rattle.std.specs.Prelude.{◌≡◌, ◌<◌, ◌≤◌, false, length, remove, slice_get, None, IsTrue, IfSome, IfNone};
+ghost use Rattle.std.specs.Prelude.{◌≡◌, ◌<◌, ◌≤◌, [], false, length, remove, slice_get, None, IsTrue, IfSome, IfNone};
 ghost use Rattle.std.specs.List.{All};
-ghost use Rattle.osbase.specs.History.{Took, Printed, Noted, Taken, Given, giving_way_after, gives_way, job_count, left_by, oldest, stamped_anew, without_oldest};
-ghost use Rattle.osres.specs.Resources.{held_at, is_occupied};
-ghost use Rattle.osevent.specs.Events.{events_at};
+ghost use Rattle.osbase.specs.History.{Took, Printed, Noted, Taken, Given, Done, giving_way_after, gives_way, job_count, left_by, oldest, stamped_anew, without_oldest};
+ghost use Rattle.oscript.specs.Frames.{action_at};
+ghost use Rattle.osrunner.specs.Rows.{events_in, frame_in, held_in, is_occupied};
 ghost use Rattle.osjobs.specs.Jobs.{best_among, first_jobs, is_plain, jobs_by, running_among};
 ghost use Rattle.osjobs.specs.Priorities.{holds_any, is_newest, is_own_runner};
 
-use crate::equality::{is_same_runner, is_same_task};
 use crate::priorities;
 use crate::slots::JobSlot;
 use arrayvec::ArrayVec;
 use osbase::{
-    HeldResource, Item, Job, Mark, Runner, ServiceId, Status, TASKS, TaskEvents, TaskRef,
+    HeldResource, IsrRef, Item, Job, Mark, Runner, ServiceId, Status, TaskEvents, TaskRef,
 };
-use osevent::Events;
+use oscript::{Action, Frame, Op};
+use osevent::{with_awaited, with_cleared, with_none_set, with_set};
 use osplan::Core;
-use osres::{RESOURCES, Resources};
+use osres::RESOURCES;
+use osrunner::Rows;
 use std::marker::Model;
 
-/// The live jobs of a core, with room for `J` of them, the task in the running state, who gives way, the resources
-/// that jobs hold, and the tasks' events.
+/// The live jobs of a core, with room for `J` of them, whose priorities are below `P`; the task in the running state, who
+/// gives way, and what belongs to each task and ISR.
 #[derive(Drop)]
-pub struct Jobs<const J: usize> {
+pub struct Jobs<const P: usize, const J: usize> {
     // In the order of their stamps.
     jobs: ArrayVec<JobSlot, J>,
     // The task in the running state.
     current: Option<TaskRef>,
     // Who gives way within the item in hand.
     giving_way: Option<Runner>,
-    resources: Resources,
-    events: Events,
+    rows: Rows,
 }
 
-impl<const J: usize> Model for Jobs<J> {
+impl<const P: usize, const J: usize> Model for Jobs<P, J> {
     ghost use Rattle.osjobs.specs.Jobs.{JobState};
 
     ghost Value = { JobState };
 
-    ghost view = { λ s. record { jobs = s.jobs.items; current = s.current; giving_way = s.giving_way; held = s.resources; events = s.events } };
+    ghost view = { λ s. record { jobs = s.jobs.items; current = s.current; giving_way = s.giving_way; rows = s.rows } };
 }
 
-impl<const J: usize> Jobs<J> {
+impl<const P: usize, const J: usize> Jobs<P, J> {
     /// No job.
     pub fn new() -> Self
         ensures { result ≡ first_jobs }
@@ -51,14 +51,13 @@ impl<const J: usize> Jobs<J> {
             jobs: ArrayVec::new(),
             current: None,
             giving_way: None,
-            resources: Resources::new(),
-            events: Events::new(),
+            rows: Rows::new(),
         }
     }
 
     /// With an item nobody gives way (OSEK/VDX OS 2.2.3, section 13.2.3.4).
     pub fn take_item(&mut self, _item: &Item)
-        ensures { self.new ≡ jobs_by (Took _item.now) 0 self.old }
+        ensures { self.new ≡ jobs_by [] (Took _item.now) 0 self.old }
     {
         self.giving_way = None;
     }
@@ -66,96 +65,115 @@ impl<const J: usize> Jobs<J> {
     /// A job of the task begins, with this stamp and no event set (OSEK/VDX OS 2.2.3, section 4.3 and 13.2.3.1).
     pub fn activate(&mut self, task: TaskRef, stamp: u64)
         requires { length self.old.jobs < J }
-        ensures { self.new ≡ jobs_by (Printed (Mark.Activated task)) stamp self.old }
+        ensures { self.new ≡ jobs_by [] (Printed (Mark.Activated task)) stamp self.old }
     {
-        let job = Job {
-            runner: Runner::Task(task),
-            stamp,
-        };
-        self.jobs.push(JobSlot { job });
-        self.events.begin(task.index);
+        let runner = Runner::Task(task);
+        self.jobs.push(JobSlot {
+            job: Job { runner, stamp },
+        });
+        let events = self.rows.events(runner);
+        self.rows.put_events(runner, with_none_set(events));
     }
 
     /// The oldest job of a task has ended, if there is one: it gives back all that it holds, and runs no longer.
-    pub fn terminate(&mut self, task: TaskRef)
-        requires task { task.index < TASKS }
-        ensures { self.new ≡ jobs_by (Printed (Mark.Terminated task)) 0 self.old }
+    pub fn end(&mut self, task: TaskRef)
+        ensures { self.new ≡ jobs_by [] (Printed (Mark.Terminated task)) 0 self.old }
     {
         self.leave(task);
         take_oldest(&mut self.jobs, Runner::Task(task));
-        self.resources.give_all(task.index);
+        self.rows.end(Runner::Task(task));
+    }
+
+    /// The oldest job of an ISR has ended: it gives back all that it holds.
+    pub fn end_isr(&mut self, isr: IsrRef)
+        ensures { self.new ≡ jobs_by [] (Printed (Mark.IsrLeft isr)) 0 self.old }
+    {
+        self.rows.end(Runner::Isr(isr));
     }
 
     /// A task enters the running state.
     pub fn enter(&mut self, task: TaskRef)
-        ensures { self.new ≡ jobs_by (Printed (Mark.PreTaskHook task)) 0 self.old }
+        ensures { self.new ≡ jobs_by [] (Printed (Mark.PreTaskHook task)) 0 self.old }
     {
         self.current = Some(task);
     }
 
     /// A task leaves the running state.
     pub fn leave(&mut self, task: TaskRef)
-        ensures { self.new ≡ jobs_by (Printed (Mark.PostTaskHook task)) 0 self.old }
+        ensures { self.new ≡ jobs_by [] (Printed (Mark.PostTaskHook task)) 0 self.old }
     {
         self.current = left_by(task, self.current);
     }
 
     /// Events of a task are set (OSEK/VDX OS 2.2.3, section 13.5.3.1).
     pub fn set_events(&mut self, task: TaskRef, mask: u32)
-        ensures { self.new ≡ jobs_by (Printed (Mark.EventSet task mask)) 0 self.old }
+        ensures { self.new ≡ jobs_by [] (Printed (Mark.EventSet task mask)) 0 self.old }
     {
-        self.events.set(task.index, mask);
+        let events = self.rows.events(Runner::Task(task));
+        self.rows
+            .put_events(Runner::Task(task), with_set(events, mask));
     }
 
     /// Events of a task are cleared (OSEK/VDX OS 2.2.3, section 13.5.3.2).
     pub fn clear_events(&mut self, task: TaskRef, mask: u32)
-        ensures { self.new ≡ jobs_by (Printed (Mark.EventCleared task mask)) 0 self.old }
+        ensures { self.new ≡ jobs_by [] (Printed (Mark.EventCleared task mask)) 0 self.old }
     {
-        self.events.clear(task.index, mask);
+        let events = self.rows.events(Runner::Task(task));
+        self.rows
+            .put_events(Runner::Task(task), with_cleared(events, mask));
     }
 
     /// A task waits for one of these events (OSEK/VDX OS 2.2.3, section 13.5.3.4).
     pub fn wait(&mut self, task: TaskRef, mask: u32)
-        ensures { self.new ≡ jobs_by (Printed (Mark.EventAwaited task mask)) 0 self.old }
+        ensures { self.new ≡ jobs_by [] (Printed (Mark.EventAwaited task mask)) 0 self.old }
     {
-        self.events.await_mask(task.index, mask);
+        let events = self.rows.events(Runner::Task(task));
+        self.rows
+            .put_events(Runner::Task(task), with_awaited(events, Some(mask)));
     }
 
     /// A task is released from waiting: its oldest job gets this stamp, behind all others (OSEK/VDX OS 2.2.3,
     /// section 4.2.1 and 4.5).
     pub fn release(&mut self, task: TaskRef, stamp: u64)
-        ensures { self.new ≡ jobs_by (Printed (Mark.Released task)) stamp self.old }
+        ensures { self.new ≡ jobs_by [] (Printed (Mark.Released task)) stamp self.old }
     {
-        stamp_anew(&mut self.jobs, Runner::Task(task), stamp);
-        self.events.release(task.index);
+        let runner = Runner::Task(task);
+        stamp_anew(&mut self.jobs, runner, stamp);
+        let events = self.rows.events(runner);
+        self.rows.put_events(runner, with_awaited(events, None));
     }
 
     /// A mark that begins and ends no job is printed, by which no task enters or leaves the running state and no
-    /// task's events change.
+    /// row changes.
     pub fn print(&mut self, mark: &Mark)
         requires { IsTrue (is_plain mark.now) }
-        ensures { self.new ≡ jobs_by (Printed mark.now) 0 self.old }
+        ensures { self.new ≡ jobs_by [] (Printed mark.now) 0 self.old }
     {
         self.giving_way = giving_way_by(mark, self.giving_way);
     }
 
-    /// The oldest job of a task takes a resource that is free (OSEK/VDX OS 2.2.3, section 8.2).
-    pub fn take(&mut self, task: TaskRef, resource: HeldResource)
-        requires task { task.index < TASKS }
+    /// The oldest job of a runner takes a resource that is free (OSEK/VDX OS 2.2.3, section 8.2).
+    pub fn raise(&mut self, runner: Runner, resource: HeldResource)
         requires place { resource.index < RESOURCES }
-        requires free { is_occupied resource.index self.old.held ≡ false }
-        ensures { self.new ≡ jobs_by (Noted (Taken (Runner.Task task) resource)) 0 self.old }
+        requires free { is_occupied resource.index self.old.rows ≡ false }
+        ensures { self.new ≡ jobs_by [] (Noted (Taken runner resource)) 0 self.old }
     {
-        self.resources.take(task.index, resource);
+        self.rows.raise(runner, resource);
     }
 
-    /// The oldest job of a task gives the newest of its resources back (OSEK/VDX OS 2.2.3, section 8.2).
-    pub fn give(&mut self, task: TaskRef, _index: u8)
-        requires task { task.index < TASKS }
-        requires newest { IsTrue (is_newest _index (held_at task.index self.old.held)) }
-        ensures { self.new ≡ jobs_by (Noted (Given (Runner.Task task) _index)) 0 self.old }
+    /// The oldest job of a runner gives the newest of its resources back (OSEK/VDX OS 2.2.3, section 8.2).
+    pub fn lower(&mut self, runner: Runner, _index: u8)
+        requires newest { IsTrue (is_newest _index (held_in runner self.old.rows)) }
+        ensures { self.new ≡ jobs_by [] (Noted (Given runner _index)) 0 self.old }
     {
-        self.resources.give(task.index);
+        self.rows.lower(runner);
+    }
+
+    /// An operation of the oldest job of a runner is done, with this status and value; the script is the runner's.
+    pub fn complete(&mut self, script: &[Op], runner: Runner, status: Status, value: Option<i64>)
+        ensures { self.new ≡ jobs_by script.now (Noted (Done runner status value)) 0 self.old }
+    {
+        self.rows.complete(script, runner, status, value);
     }
 
     /// The task in the running state.
@@ -182,55 +200,61 @@ impl<const J: usize> Jobs<J> {
 
     /// The job to run: of the able jobs of greatest current priority the oldest (OSEK/VDX OS 2.2.3, section 4.4
     /// and 4.5). The caller knows which job is running, and nobody looks for it twice.
-    pub fn best(&self, core: &Core, running: Option<Job>) -> Option<Job>
-        requires running { running ≡ running_among self.now }
-        requires own { All (λ j. IsTrue (is_own_runner core.now j.runner)) self.now.jobs }
-        requires tasks { length core.now.tasks ≤ TASKS }
-        ensures best { result ≡ best_among core.now self.now }
+    pub fn dispatch(&mut self, core: &Core, running: Option<Job>) -> Option<Job>
+        requires running { running ≡ running_among self.old }
+        requires own { All (λ j. IsTrue (is_own_runner core.now j.runner)) self.old.jobs }
+        ensures best { result ≡ best_among core.now self.old }
         ensures own { IfSome result (λ j. IsTrue (is_own_runner core.now j.runner)) }
+        ensures keeps { self.new ≡ self.old }
     {
         let raised = priorities::raised_of(core, self.giving_way, running);
-        priorities::first_greatest(
-            core,
-            &self.resources,
-            &self.events,
-            raised,
-            self.jobs.as_slice(),
-        )
+        priorities::first_greatest(core, &self.rows, raised, self.jobs.as_slice())
     }
 
     /// Whether a job holds the resource of this index.
     pub fn is_occupied(&self, index: u8) -> bool
         requires { index < RESOURCES }
-        ensures { result ≡ is_occupied index self.now.held }
+        ensures { result ≡ is_occupied index self.now.rows }
     {
-        self.resources.is_occupied(index)
+        self.rows.is_occupied(index)
     }
 
-    /// Whether the resource of this index is the newest that the job of a task holds.
-    pub fn is_newest(&self, task: TaskRef, index: u8) -> bool
-        requires { task.index < TASKS }
-        ensures { result ≡ is_newest index (held_at task.index self.now.held) }
+    /// Whether the resource of this index is the newest that the job of a runner holds.
+    pub fn is_newest(&self, runner: Runner, index: u8) -> bool
+        ensures { result ≡ is_newest index (held_in runner self.now.rows) }
     {
-        match self.resources.newest(task.index) {
+        match self.rows.newest(runner) {
             Some(newest) => newest.index == index,
             None => false,
         }
     }
 
-    /// Whether the job of a task holds a resource.
-    pub fn holds_any(&self, task: TaskRef) -> bool
-        requires { task.index < TASKS }
-        ensures { result ≡ holds_any (held_at task.index self.now.held) }
+    /// Whether the job of a runner holds a resource.
+    pub fn holds_any(&self, runner: Runner) -> bool
+        ensures { result ≡ holds_any (held_in runner self.now.rows) }
     {
-        !self.resources.is_free(task.index)
+        !self.rows.is_free(runner)
     }
 
-    /// The events of a task (OSEK/VDX OS 2.2.3, section 7).
-    pub fn events(&self, task: TaskRef) -> TaskEvents
-        ensures { result ≡ events_at task.index self.now.events }
+    /// The events of a runner's task (OSEK/VDX OS 2.2.3, section 7).
+    pub fn events(&self, runner: Runner) -> TaskEvents
+        ensures { result ≡ events_in runner self.now.rows }
     {
-        self.events.get(task.index)
+        self.rows.events(runner)
+    }
+
+    /// Where the oldest job of a runner stands, with the runner's variables.
+    pub fn frame(&self, runner: Runner) -> Frame
+        ensures { result ≡ frame_in runner self.now.rows }
+    {
+        self.rows.frame(runner)
+    }
+
+    /// What the oldest job of a runner does next; the script is the runner's.
+    pub fn next_action(&self, script: &[Op], runner: Runner) -> Action
+        ensures { result ≡ action_at script.now (frame_in runner self.now.rows) }
+    {
+        self.rows.next_action(script, runner)
     }
 }
 
@@ -239,7 +263,7 @@ fn left_by(task: TaskRef, current: Option<TaskRef>) -> Option<TaskRef>
     ensures { result ≡ left_by task current }
 {
     match current {
-        Some(other) if is_same_task(task, other) => None,
+        Some(other) if task == other => None,
         _ => current,
     }
 }
@@ -275,7 +299,7 @@ fn oldest_place(jobs: &[JobSlot], runner: Runner) -> Option<usize>
     ensures absent { IfNone result (oldest runner jobs.now ≡ None) }
 {
     for (place, slot) in jobs.iter().enumerate() {
-        if is_same_runner(slot.job.runner, runner) {
+        if slot.job.runner.is(runner) {
             return Some(place);
         }
     }
@@ -287,7 +311,7 @@ fn oldest_job(jobs: &[JobSlot], runner: Runner) -> Option<Job>
     ensures { result ≡ oldest runner jobs.now }
 {
     for slot in jobs {
-        if is_same_runner(slot.job.runner, runner) {
+        if slot.job.runner.is(runner) {
             return Some(slot.job);
         }
     }
@@ -300,7 +324,7 @@ fn count_jobs(jobs: &[JobSlot], runner: Runner) -> usize
 {
     let mut count = 0;
     for slot in jobs {
-        if is_same_runner(slot.job.runner, runner) {
+        if slot.job.runner.is(runner) {
             count += 1;
         }
     }

@@ -1,11 +1,9 @@
-//! The live jobs of a core: which there are, which one runs, who gives way, what they hold, and their tasks' events.
+//! The live jobs of a core: which there are, which one runs, who gives way, and what belongs to their tasks and ISRs.
 //!
 //! Nothing here takes memory.
 #![tactic(auto)]
 
-pub mod equality;
 pub mod jobs;
-pub mod own;
 mod priorities;
 mod slots;
 

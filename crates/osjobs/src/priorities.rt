@@ -3,17 +3,17 @@
 ghost use Rattle.std.specs.Prelude.{◌≡◌, ◌≤◌, ◌&&◌, not, Some, false, filter, if◌then◌else◌, length, nat_lt, IsTrue, IsSome, IfSome};
 ghost use Rattle.std.specs.List.{All};
 ghost use Rattle.std.specs.Option.{option_map_or};
-ghost use Rattle.osbase.specs.History.{first_greatest as greatest_job, greatest_ceiling, same_runner};
+ghost use Rattle.osbase.specs.History.{first_greatest as greatest_job, same_runner};
 ghost use Rattle.osplan.specs.View.{own_task};
-ghost use Rattle.osjobs.specs.Priorities.{held_in, highest_of, is_able_in, is_extended, is_own_runner, is_preemptable, priority_by, raised_of, static_priority};
+ghost use Rattle.osrunner.specs.Rows.{held_in};
+ghost use Rattle.osjobs.specs.Priorities.{highest_of, is_able_in, is_extended, is_own_runner, is_preemptable, priority_by, raised_of, static_priority};
 
-use crate::equality::is_same_runner;
-use crate::own::task_of;
 use crate::slots::JobSlot;
-use osbase::{Job, Runner, TASKS, TaskRef};
-use osevent::Events;
+use osbase::{Job, Runner, TaskRef};
+use osplan::own::task_of;
 use osplan::{Core, Task};
-use osres::{Resources, greater};
+use osres::greater;
+use osrunner::Rows;
 
 fn is_preemptable(core: &Core, runner: Runner) -> bool
     ensures { result ≡ is_preemptable core.now runner }
@@ -44,7 +44,7 @@ fn is_giving_way(giving_way: Option<Runner>, runner: Runner) -> bool
     ensures { result ≡ option_map_or (same_runner runner) giving_way false }
 {
     match giving_way {
-        Some(other) => is_same_runner(runner, other),
+        Some(other) => runner.is(other),
         None => false,
     }
 }
@@ -71,18 +71,15 @@ struct Ranked {
     priority: u8,
 }
 
-/// Of the able jobs of greatest current priority the first, where these resources are held, these are the events
-/// and this job is raised (OSEK/VDX OS 2.2.3, section 4.4 and 4.5).
+/// Of the able jobs of greatest current priority the first, where these are the runners' rows and this job is raised (OSEK/VDX OS 2.2.3, section 4.4 and 4.5).
 pub(crate) fn first_greatest(
     core: &Core,
-    resources: &Resources,
-    events: &Events,
+    rows: &Rows,
     raised: Option<Job>,
     jobs: &[JobSlot],
 ) -> Option<Job>
     requires own { All (λ j. IsTrue (is_own_runner core.now j.runner)) jobs.now }
-    requires tasks { length core.now.tasks ≤ TASKS }
-    ensures greatest { result ≡ greatest_job (priority_by core.now resources.now raised) (filter (is_able_in events.now) jobs.now) }
+    ensures greatest { result ≡ greatest_job (priority_by core.now rows.now raised) (filter (is_able_in rows.now) jobs.now) }
     ensures own { IfSome result (λ j. IsTrue (is_own_runner core.now j.runner)) }
 {
     let mut best: Option<Ranked> = None;
@@ -91,8 +88,8 @@ pub(crate) fn first_greatest(
         place -= 1;
         let slot = &jobs[place];
         let job = slot.job;
-        let priority = priority_of(core, resources, raised, job);
-        best = better_of(events, Ranked { job, priority }, best);
+        let priority = priority_of(core, rows, raised, job);
+        best = better_of(rows, Ranked { job, priority }, best);
     }
     match best {
         Some(ranked) => Some(ranked.job),
@@ -101,13 +98,10 @@ pub(crate) fn first_greatest(
 }
 
 // Whether a live job may run: one of a task that does not wait (OSEK/VDX OS 2.2.3, section 4.2.1).
-fn is_able(events: &Events, job: Job) -> bool
-    ensures { result ≡ is_able_in events.now job }
+fn is_able(rows: &Rows, job: Job) -> bool
+    ensures { result ≡ is_able_in rows.now job }
 {
-    match job.runner {
-        Runner::Task(task) => !events.is_waiting(task.index),
-        Runner::Isr(_) => true,
-    }
+    !rows.is_waiting(job.runner)
 }
 
 fn is_beaten(priority: u8, best: Option<Ranked>) -> bool
@@ -122,45 +116,30 @@ fn is_beaten(priority: u8, best: Option<Ranked>) -> bool
 // The better of a job and the best of those behind it: of two able jobs of equal priority the first. Whether the job is able
 // is asked only where it would be the better one.
 #[inline(always)]
-fn better_of(events: &Events, ranked: Ranked, best: Option<Ranked>) -> Option<Ranked>
-    ensures { result ≡ (if not (option_map_or (λ other. nat_lt ranked.priority other.priority) best false) && is_able_in events.now ranked.job then Some ranked else best) }
+fn better_of(rows: &Rows, ranked: Ranked, best: Option<Ranked>) -> Option<Ranked>
+    ensures { result ≡ (if not (option_map_or (λ other. nat_lt ranked.priority other.priority) best false) && is_able_in rows.now ranked.job then Some ranked else best) }
 {
     if is_beaten(ranked.priority, best) {
         return best;
     }
-    if is_able(events, ranked.job) {
+    if is_able(rows, ranked.job) {
         Some(ranked)
     } else {
         best
     }
 }
 
-// The current priority of a job, where these resources are held and this job is raised.
-fn priority_of(core: &Core, resources: &Resources, raised: Option<Job>, job: Job) -> u8
-    requires own { IsTrue (is_own_runner core.now job.runner) }
-    requires tasks { length core.now.tasks ≤ TASKS }
-    ensures { result ≡ priority_by core.now resources.now raised job }
+// The current priority of a job, where these are the runners' rows and this job is raised.
+fn priority_of(core: &Core, rows: &Rows, raised: Option<Job>, job: Job) -> u8
+    requires { IsTrue (is_own_runner core.now job.runner) }
+    ensures { result ≡ priority_by core.now rows.now raised job }
 {
-    let priority = greater(
-        static_priority(core, job.runner),
-        ceiling_of(core, resources, job.runner),
-    );
+    let priority = greater(static_priority(core, job.runner), rows.ceiling(job.runner));
     match raised {
         Some(other) if job.stamp == other.stamp => {
             greater(priority, highest_of(core.tasks.as_slice()))
         }
         _ => priority,
-    }
-}
-
-fn ceiling_of(core: &Core, resources: &Resources, runner: Runner) -> u8
-    requires own { IsTrue (is_own_runner core.now runner) }
-    requires tasks { length core.now.tasks ≤ TASKS }
-    ensures { result ≡ greatest_ceiling (held_in runner resources.now) }
-{
-    match runner {
-        Runner::Task(task) => resources.ceiling(task.index),
-        Runner::Isr(_) => unreachable!(),
     }
 }
 
@@ -177,14 +156,14 @@ fn highest_of(tasks: &[Task]) -> u8
     highest
 }
 
-/// The priority of one of the core's tasks as it is configured.
+/// The priority of one of the core's tasks as it is configured; an ISR has none.
 pub fn static_priority(core: &Core, runner: Runner) -> u8
     requires { IsTrue (is_own_runner core.now runner) }
     ensures { result ≡ static_priority core.now runner }
 {
     match runner {
         Runner::Task(task) => task_priority(core, task),
-        Runner::Isr(_) => unreachable!(),
+        Runner::Isr(_) => 0,
     }
 }
 

@@ -13,19 +13,18 @@ use Rattle.osbase.specs.declared.references.Runner.{Runner}
 use Rattle.osbase.specs.declared.items.CoreSet.{CoreSet}
 use Rattle.osbase.specs.declared.items.Item.{Item}
 use Rattle.osbase.specs.declared.marks.Mark.{Mark}
-use Rattle.osbase.specs.declared.histories.HeldResource.{HeldResource}
 use Rattle.osbase.specs.declared.histories.Job.{Job}
-use Rattle.osbase.specs.declared.histories.TaskEvents.{TaskEvents}
 use Rattle.osbase.specs.Sets.{numbers_from}
-use Rattle.osbase.specs.declared.turns.TheConstants.{TASKS}
+use Rattle.osbase.specs.declared.turns.TheConstants.{RUNNERS}
 use Rattle.osbase.specs.Counting.{Stopped, alarm_after, alarm_of, counts_after, counts_of, table_after, table_state}
-use Rattle.osbase.specs.History.{History, Entry, Took, Printed, agreement_after, agreement_of, better_of, current_after, current_job, current_task, events_after, events_of, first_greatest, giving_way, giving_way_after, greater, greatest_ceiling, held_after, held_by, job_count, jobs_after, live_jobs, marks_of, no_events, oldest, oldest_of, open_after, open_call, phase_after, phase_of, same_runner, stamped_anew, without_oldest}
+use Rattle.osbase.specs.History.{History, Entry, Took, Printed, agreement_after, agreement_of, better_of, current_after, current_job, current_task, first_greatest, giving_way, giving_way_after, greater, greatest_ceiling, job_count, jobs_after, live_jobs, marks_of, oldest, oldest_of, open_after, open_call, phase_after, phase_of, same_runner, stamped_anew, without_oldest}
 use Rattle.oscript.specs.declared.Op.{Op}
-use Rattle.oscript.specs.Frames.{frame_after, frame_of}
+use Rattle.oscript.specs.Runners.{Row, first_row, row_after, row_of}
 use Rattle.osplan.specs.declared.plans.Core.{Core}
+use Rattle.osrunner.specs.Rows.{held_in}
 use Rattle.osplan.specs.View.{View}
-use Rattle.osjobs.specs.Priorities.{held_in, highest_of, is_able_in, is_preemptable, priority_by, raised_of, static_priority}
-use Rattle.osstate.specs.Readings.{best_job, current_priority, held_resources, is_able, running, task_events, task_ref}
+use Rattle.osjobs.specs.Priorities.{highest_of, is_able_in, is_preemptable, priority_by, raised_of, static_priority}
+use Rattle.osstate.specs.Readings.{best_job, current_priority, is_able, rows_of, runner_at, running, script_of}
 
 -- The set at the second gate in place of the core's own one.
 abbrev pub with_set : CoreSet → Entry → Entry
@@ -71,25 +70,15 @@ each-same : {A : Type 0} (f g : ℕ → A) → ((n : ℕ) → f n ≡ g n) → (
 each-same f g same [] = refl
 each-same f g same (n ∷ ns) = rw (same n, each-same f g same ns) refl
 
-held-same : (r : Runner) (s : CoreSet) (m : Bool) (k : History) → held_by r (among s (base_of m) k) ≡ held_by r k
-held-same r s m k = reads-same (held_by r) (λ e h j p. ap (held_after r e) p) (λ a b h. refl) s (base_of m) k (by m)
+row-same : (script : List Op) (r : Runner) (s : CoreSet) (m : Bool) (k : History) → row_of script r (among s (base_of m) k) ≡ row_of script r k
+row-same script r s m k = reads-same (row_of script r) (λ e h j p. ap (row_after script r e) p) (λ a b h. refl) s (base_of m) k (by m)
   where
-    by : (b : Bool) → held_by r (base_of b) ≡ []
+    by : (b : Bool) → row_of script r (base_of b) ≡ first_row
     by true = refl
     by false = refl
 
-pub resources-same : (v : View) (s : CoreSet) (m : Bool) (k : History) → held_resources v (among s (base_of m) k) ≡ held_resources v k
-resources-same v s m k = each-same _ _ (λ n. held-same (Runner.Task (task_ref v.own n)) s m k) (numbers_from 0 TASKS)
-
-events-same : (t : TaskRef) (s : CoreSet) (m : Bool) (k : History) → events_of t (among s (base_of m) k) ≡ events_of t k
-events-same t s m k = reads-same (events_of t) (λ e h j p. ap (events_after t e) p) (λ a b h. refl) s (base_of m) k (by m)
-  where
-    by : (b : Bool) → events_of t (base_of b) ≡ no_events
-    by true = refl
-    by false = refl
-
-pub task_events-same : (v : View) (s : CoreSet) (m : Bool) (k : History) → task_events v (among s (base_of m) k) ≡ task_events v k
-task_events-same v s m k = each-same _ _ (λ n. events-same (task_ref v.own n) s m k) (numbers_from 0 TASKS)
+pub rows-same : (core : Core) (s : CoreSet) (m : Bool) (k : History) → rows_of core (among s (base_of m) k) ≡ rows_of core k
+rows-same core s m k = each-same _ _ (λ n. row-same (script_of core (runner_at core n)) (runner_at core n) s m k) (numbers_from 0 RUNNERS)
 
 pub counts-same : (c : CounterRef) (s : CoreSet) (m : Bool) (k : History) → counts_of c (among s (base_of m) k) ≡ counts_of c k
 counts-same c s m k = reads-same (counts_of c) (λ e h j p. ap (counts_after c e) p) (λ a b h. refl) s (base_of m) k (by m)
@@ -134,13 +123,6 @@ pub marks-same : (s : CoreSet) (m : Bool) (k : History) → marks_of (among s (b
 marks-same s m k = reads-same marks_of marks-goes (λ a b h. refl) s (base_of m) k (by m)
   where
     by : (b : Bool) → marks_of (base_of b) ≡ []
-    by true = refl
-    by false = refl
-
-pub frame-same : (script : List Op) (r : Runner) (s : CoreSet) (m : Bool) (k : History) → frame_of script r (among s (base_of m) k) ≡ frame_of script r k
-frame-same script r s m k = reads-same (frame_of script r) (λ e h j p. ap (frame_after script r e) p) (λ a b h. refl) s (base_of m) k (by m)
-  where
-    by : (b : Bool) → frame_of script r (base_of b) ≡ frame_of script r []
     by true = refl
     by false = refl
 
@@ -248,10 +230,10 @@ later-raised d core way (Some j) = by (is_preemptable core j.runner || option_ma
     by true = refl
     by false = refl
 
-later-priority : (d : ℕ) (core : Core) (held : List (List HeldResource)) (raised : Option Job) (j : Job) → priority_by core held (option_map (later d) raised) (later d j) ≡ priority_by core held raised j
-later-priority d core held None j = refl
-later-priority d core held (Some i) j =
-    ap (λ (b : Bool). greater (greater (static_priority core j.runner) (greatest_ceiling (held_in j.runner held))) (cond b (highest_of core.tasks) 0)) (stamp-later d j.stamp i.stamp)
+later-priority : (d : ℕ) (core : Core) (rows : List Row) (raised : Option Job) (j : Job) → priority_by core rows (option_map (later d) raised) (later d j) ≡ priority_by core rows raised j
+later-priority d core rows None j = refl
+later-priority d core rows (Some i) j =
+    ap (λ (b : Bool). greater (greater (static_priority core j.runner) (greatest_ceiling (held_in j.runner rows))) (cond b (highest_of core.tasks) 0)) (stamp-later d j.stamp i.stamp)
 
 -- A job is able whatever its stamp is.
 later-filter : (d : ℕ) (p q : Job → Bool) → ((j : Job) → p (later d j) ≡ q j) → (js : List Job) → filter p (map (later d) js) ≡ map (later d) (filter q js)
@@ -265,7 +247,7 @@ later-filter d p q same (j ∷ js) = rw (same j, later-filter d p q same js) (by
 able-later : (v : View) (s : CoreSet) (m : Bool) (k : History) → filter (is_able v (among s (base_of m) k)) (live_jobs (among s (base_of m) k)) ≡ map (later (delay m)) (filter (is_able v k) (live_jobs k))
 able-later v s m k =
     ap (filter (is_able v (among s (base_of m) k))) (jobs-later s m k)
-    ∙ later-filter (delay m) (is_able v (among s (base_of m) k)) (is_able v k) (λ j. ap (λ (all : List TaskEvents). is_able_in all j) (task_events-same v s m k)) (live_jobs k)
+    ∙ later-filter (delay m) (is_able v (among s (base_of m) k)) (is_able v k) (λ j. ap (λ (all : List Row). is_able_in all j) (rows-same v.own s m k)) (live_jobs k)
 
 pub best-later : (v : View) (s : CoreSet) (m : Bool) (k : History) → best_job v (among s (base_of m) k) ≡ option_map (later (delay m)) (best_job v k)
 best-later v s m k =
@@ -274,8 +256,8 @@ best-later v s m k =
   where
     priority : (j : Job) → current_priority v (among s (base_of m) k) (later (delay m) j) ≡ current_priority v k j
     priority j =
-        ap (λ (held : List (List HeldResource)). priority_by v.own held (raised_of v.own (giving_way (among s (base_of m) k)) (current_job (among s (base_of m) k))) (later (delay m) j)) (resources-same v s m k)
-        ∙ ap (λ (way : Option Runner). priority_by v.own (held_resources v k) (raised_of v.own way (current_job (among s (base_of m) k))) (later (delay m) j)) (giving_way-same s m k)
-        ∙ ap (λ (o : Option Job). priority_by v.own (held_resources v k) (raised_of v.own (giving_way k) o) (later (delay m) j)) (running-later v s m k)
-        ∙ ap (λ (o : Option Job). priority_by v.own (held_resources v k) o (later (delay m) j)) (later-raised (delay m) v.own (giving_way k) (current_job k))
-        ∙ later-priority (delay m) v.own (held_resources v k) (raised_of v.own (giving_way k) (current_job k)) j
+        ap (λ (rows : List Row). priority_by v.own rows (raised_of v.own (giving_way (among s (base_of m) k)) (current_job (among s (base_of m) k))) (later (delay m) j)) (rows-same v.own s m k)
+        ∙ ap (λ (way : Option Runner). priority_by v.own (rows_of v.own k) (raised_of v.own way (current_job (among s (base_of m) k))) (later (delay m) j)) (giving_way-same s m k)
+        ∙ ap (λ (o : Option Job). priority_by v.own (rows_of v.own k) (raised_of v.own (giving_way k) o) (later (delay m) j)) (running-later v s m k)
+        ∙ ap (λ (o : Option Job). priority_by v.own (rows_of v.own k) o (later (delay m) j)) (later-raised (delay m) v.own (giving_way k) (current_job k))
+        ∙ later-priority (delay m) v.own (rows_of v.own k) (raised_of v.own (giving_way k) (current_job k)) j

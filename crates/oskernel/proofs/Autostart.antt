@@ -15,15 +15,16 @@ use Rattle.osstate.specs.State.{KernelState}
 use Rattle.osstate.specs.Sound.{activation_limit}
 use Rattle.osbase.proofs.Same.{same_runner-true, same_core-refl}
 use Rattle.osstate.proofs.JobLists.{job_count-append}
-use Rattle.oscall.specs.Tasks.{activates}
-use Rattle.oskernel.specs.Step.{starts_in}
+use Rattle.osact.specs.Acts.{does}
+use Rattle.ostaskcall.specs.Tasks.{activates}
+use Rattle.oskernel.specs.Step.{starts_if}
 use Rattle.oskernel.proofs.Numbered.{stands-at}
 
 abbrev pub ref_at : CoreId → ℕ → TaskRef
 ref_at core n = record { core = core; index = n }
 
-abbrev pub activate_if_auto : Option Agreement → TaskRef × Task → History → History
-activate_if_auto agreement p h = cond (starts_in agreement p.1.auto) (activates p.0 h) h
+abbrev pub activate_if_auto : View → Option Agreement → TaskRef × Task → History → History
+activate_if_auto v agreement p h = does (starts_if agreement p.1.auto (activates p.0)) v h
 
 -- a task that has no job yet may have one
 pub place-for-first : (own : Core) (js : List Job) (i : ℕ) (t : Task) → list_all (λ (u : Task). nat_le 1 u.activations) own.tasks ≡ true → slice_get own.tasks i ≡ Some t → job_count (Runner.Task (ref_at own.id i)) js ≡ 0 → job_count (Runner.Task (ref_at own.id i)) js < activation_limit own (Runner.Task (ref_at own.id i))

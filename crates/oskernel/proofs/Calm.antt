@@ -8,7 +8,7 @@ use Rattle.osbase.specs.declared.marks.Mark.TheVariants as Mark
 use Rattle.osbase.specs.declared.histories.OpenCall.{OpenCall}
 use Rattle.osbase.specs.History.{Entry, History, Took, Printed, Noted, Opened, Queued, Done, closed_by, open_call, outbox}
 use Rattle.osplan.specs.View.{View}
-use Rattle.oscall.proofs.Carried.{anybody, is_local, nobody}
+use Rattle.osact.proofs.Kept.{anybody, is_local, nobody, none-awaited}
 use Rattle.osstate.specs.State.{state_of}
 use Rattle.oskernel.specs.Admission.{is_settled}
 use Rattle.oskernel.specs.Step.{after}
@@ -41,12 +41,13 @@ calm-holds = record {
   local = calm-local anybody;
   asked = λ core message h m p. absurd (false≢true m);
   replied = λ core s value h m p. absurd (false≢true m);
-  opened = λ call h m p. absurd (false≢true m);
+  opened = λ call h m p. absurd (none-awaited call.awaits m);
 }
 
 pub calm-took : (i : Item) (h : History) → is_mail i ≡ false → Calm h → Calm (Took i ∷ h)
 calm-took (Item.Posted to) h none p = cc
 calm-took (Item.Received from number message) h none p = cc
+calm-took (Item.Halt core status) h none p = record { closed = refl; empty = p.empty }
 calm-took i h none p = record { closed = p.closed; empty = p.empty }
 
 pub mail-replied : (names : CoreId → Bool) (i : Item) → is_mail i ≡ false → is_replied nobody names i ≡ true

@@ -1,5 +1,5 @@
 -- What the entries that a core may add keep holds after an item as it did with it.
-use Rattle.std.proofs.Common.{◌≡◌, ◌||◌, Bool, true, ◌∷◌, refl, ℤ, Option, ◌∙◌}
+use Rattle.std.proofs.Common.{◌≡◌, Bool, true, ◌∷◌, refl, ap, sym, subst, ℤ, Option, ◌∙◌}
 use Rattle.std.proofs.lemmas.Bool.{false≢true}
 use Rattle.osbase.specs.declared.statuses.Status.{Status}
 use Rattle.osbase.specs.declared.references.CoreId.{CoreId}
@@ -9,22 +9,24 @@ use Rattle.osbase.specs.declared.marks.Mark.{Mark}
 use Rattle.osbase.specs.declared.histories.OpenCall.{OpenCall}
 use Rattle.osbase.specs.History.{Entry, History, Note, Took, Printed, Noted, Opened}
 use Rattle.osplan.specs.View.{View}
-use Rattle.osstate.specs.Readings.{is_own}
-use Rattle.oscall.specs.Returning.{queues}
-use Rattle.oscall.proofs.Carried.{anybody, is_local, IsKept, ServesSame}
+use Rattle.osstate.specs.Readings.{knows_started}
+use Rattle.osact.specs.Acts.{Sends, act}
+use Rattle.osact.specs.Seen.{seen_of}
+use Rattle.osact.proofs.Kept.{IsKept, anybody, is_local, is_within, may_await}
+use Rattle.osdue.proofs.Allowed.{seen-is}
 use Rattle.oskernel.specs.Step.{after}
-use Rattle.oskernel.proofs.Carried.{acting-anybody, after-carried, allow-anybody, is_replied, NamesActing, replied-anybody, NamesAllow, steers-itself, SteersSame}
+use Rattle.oskernel.proofs.Carried.{IsActing, NamesActing, NamesAllow, acting-anybody, acts-anybody, after-carried, allow-anybody, is_replied, replied-anybody, steers-itself}
 
 -- Each kind of entry that follows from an item keeps it: one of the core itself, an envelope to a core that may be
 -- asked, a reply to one that may be answered, and a call that is open there.
 pub record Holds (may replies names : CoreId → Bool) (P : History → Type 0) : Type 0 where
   pub local : (e : Entry) (h : History) → is_local names e ≡ true → P h → P (e ∷ h)
-  pub asked : (core : CoreId) (message : Message) (h : History) → may core ≡ true → P h → P (queues core message h)
-  pub replied : (core : CoreId) (s : Status) (value : Option ℤ) (h : History) → replies core ≡ true → P h → P (queues core (Message.Reply s value) h)
-  pub opened : (call : OpenCall) (h : History) → may call.core ≡ true → P h → P (Noted (Opened call) ∷ h)
+  pub asked : (core : CoreId) (message : Message) (h : History) → may core ≡ true → P h → P (act (Sends core message) h)
+  pub replied : (core : CoreId) (s : Status) (value : Option ℤ) (h : History) → replies core ≡ true → P h → P (act (Sends core (Message.Reply s value)) h)
+  pub opened : (call : OpenCall) (h : History) → may_await may call.awaits ≡ true → P h → P (Noted (Opened call) ∷ h)
 
 -- Where marks may name objects of the own core, of those that may be asked, and who acts, it holds after an item.
-module _ (v : View) (may replies names : CoreId → Bool) (P : History → Type 0) (holds : Holds may replies names P) (allowed : NamesAllow v may) (named : (core : CoreId) → (is_own v core || may core) ≡ true → names core ≡ true) (own_named : names v.own.id ≡ true) (acting : (h : History) → P h → NamesActing names v h) where
+module _ (v : View) (may replies names : CoreId → Bool) (P : History → Type 0) (holds : Holds may replies names P) (allowed : NamesAllow v may) (named : (core : CoreId) → is_within v may core ≡ true → names core ≡ true) (own_named : names v.own.id ≡ true) (acting : (h : History) → P h → NamesActing names v h) (sees : (h : History) → P h → IsActing v names (seen_of v h)) where
   -- One history, which has it.
   record Same (h k : History) : Type 0 where
     pub same : h ≡ k
@@ -33,32 +35,27 @@ module _ (v : View) (may replies names : CoreId → Bool) (P : History → Type 
   both : (f : History → History) (h k : History) → Same h k → (P k → P (f k)) → Same (f h) (f k)
   both f h k p q = record { same = rw p.same refl; has = q p.has }
 
-  serves : (h k : History) → Same h k → ServesSame v may h k
-  serves h k p = rw p.same (record { started = λ core m. refl; jobs = λ r. refl; frame = λ r. refl; held = refl; events = refl; counts = λ c. refl; settings = λ c a. refl; tables = λ c s. refl })
-
-  steers : (h k : History) → Same h k → SteersSame v v h k
-  steers h k p = rw p.same (steers-itself v k)
-
-  acts : (h k : History) → Same h k → NamesActing names v h
-  acts h k p = rw p.same (acting k p.has)
-
-  kept : IsKept v may replies names Same
+  kept : IsKept v v.is_master v.cores may replies names (IsActing v names) Same
   kept = record {
     named = named;
-    local = λ e h k m p. both (λ n. e ∷ n) h k p (holds.local e k m);
-    asked = λ core message h k m p. both (queues core message) h k p (holds.asked core message k m);
-    replied = λ core s value h k m p. both (queues core (Message.Reply s value)) h k p (holds.replied core s value k m);
-    opened = λ call h k m p. both (λ n. Noted (Opened call) ∷ n) h k p (holds.opened call k m);
-    reads = serves;
+    holds = record {
+      local = λ e h k m p. both (λ n. e ∷ n) h k p (holds.local e k m);
+      asked = λ core message h k m p. both (act (Sends core message)) h k p (holds.asked core message k m);
+      replied = λ core s value h k m p. both (act (Sends core (Message.Reply s value))) h k p (holds.replied core s value k m);
+      opened = λ call h k m p. both (λ n. Noted (Opened call) ∷ n) h k p (holds.opened call k m);
+    };
+    started = λ core h k m p. ap (λ (n : History). knows_started n core) p.same;
+    reads = λ h k p. ap (seen_of v) p.same;
+    seen = λ h k p. subst (λ (n : History). IsActing v names (seen_of v n)) (sym p.same) (sees k p.has);
   }
 
   pub holds-named : (h : History) (item : Item) → is_replied replies names item ≡ true → P (Took item ∷ h) → P (after v h item)
   holds-named h item m p =
-      (after-carried v v.is_master v.cores may replies names Same kept steers acts allowed own_named h h item item m (λ n. refl) (record { same = refl; has = p })).has
+      (after-carried v may replies names allowed named own_named v.is_master v.cores Same kept (λ h k p. rw p.same (steers-itself v k)) (λ h k p. rw p.same (acting k p.has)) h h item item m refl (record { same = refl; has = p })).has
 
 -- So it does where marks may name whatever there is.
 pub holds-after : (v : View) (may replies : CoreId → Bool) (P : History → Type 0) → Holds may replies anybody P → NamesAllow v may → (h : History) (item : Item) → is_replied replies anybody item ≡ true → P (Took item ∷ h) → P (after v h item)
-holds-after v may replies P holds allowed = holds-named v may replies anybody P holds allowed (λ core m. refl) refl (λ h p. acting-anybody v h)
+holds-after v may replies P holds allowed = holds-named v may replies anybody P holds allowed (λ core m. refl) refl (λ h p. acting-anybody v h) (λ h p. acts-anybody v (seen_of v h) (seen-is v h))
 
 -- What every mark and every note keeps, whichever services there are.
 pub kept_after : (P : History → Type 0) → ((m : Mark) (h : History) → P h → P (Printed m ∷ h)) → ((n : Note) (h : History) → P h → P (Noted n ∷ h)) → (v : View) (h : History) (item : Item) → P (Took item ∷ h) → P (after v h item)

@@ -14,11 +14,13 @@ use Rattle.osbase.specs.declared.histories.Job.{Job}
 use Rattle.osbase.specs.History.{Entry, History, Took, Printed, Noted, better_of, current_after, current_task, first_greatest, live_jobs, marks_of, oldest, oldest_of, same_runner, same_task, stamped_anew, without_oldest}
 use Rattle.osbase.specs.Marks.{core_of_runner, names_only}
 use Rattle.osplan.specs.View.{View}
-use Rattle.osstate.specs.Readings.{current_priority, is_able, is_own}
-use Rattle.oscall.proofs.Carried.{is_local, nobody}
+use Rattle.osstate.specs.Readings.{current_priority, is_able, is_own, running}
+use Rattle.osact.specs.Seen.{seen_of}
+use Rattle.osact.proofs.Kept.{is_local, nobody, none-awaited}
+use Rattle.osdue.proofs.Allowed.{seen-is}
 use Rattle.oskernel.specs.Step.{after, history_from}
 use Rattle.oskernel.proofs.Calm.{Calm, calm-local, calm-took, mail-replied}
-use Rattle.oskernel.proofs.Carried.{NamesActing, passes, passes_job, NamesAllow}
+use Rattle.oskernel.proofs.Carried.{IsActing, NamesActing, NamesAllow, passes, passes_job, runner_of}
 use Rattle.oskernel.proofs.Holding.{Holds, holds-named}
 use Rattle.oskernel.proofs.Stages.{is_mail}
 
@@ -122,10 +124,19 @@ module _ (v : View) where
       let jobs = jobs-own (is_own v) h p.own in
       record {
         current = current-own (is_own v) h p.own;
-        runs = oldest-own (is_own v) (current_task h) (live_jobs h) jobs;
         best = greatest-own (is_own v) (current_priority v h) (filter (is_able v h) (live_jobs h)) (able-own (is_own v) (is_able v h) (live_jobs h) jobs);
-        awaits = rw p.calm.closed refl;
       }
+
+  sees : (h : History) → Inward v h → IsActing v (is_own v) (seen_of v h)
+  sees h p = record {
+    seen = seen-is v h;
+    running = runs (running v h) (oldest-own (is_own v) (current_task h) (live_jobs h) (jobs-own (is_own v) h p.own));
+    awaits = rw p.calm.closed refl;
+  }
+    where
+      runs : (o : Option Job) → passes_job (is_own v) o ≡ true → passes (λ (r : Runner). is_own v (core_of_runner r)) (runner_of o) ≡ true
+      runs None n = n
+      runs (Some j) n = n
 
   inward-local : (e : Entry) (h : History) → is_local (is_own v) e ≡ true → Inward v h → Inward v (e ∷ h)
   inward-local (Printed m) h is p = record {
@@ -140,13 +151,13 @@ module _ (v : View) where
     local = inward-local;
     asked = λ core message h m p. absurd (false≢true m);
     replied = λ core s value h m p. absurd (false≢true m);
-    opened = λ call h m p. absurd (false≢true m);
+    opened = λ call h m p. absurd (none-awaited call.awaits m);
   }
 
   module _ (allowed : NamesAllow v nobody) (same : is_own v v.own.id ≡ true) where
     inward-after : (h : History) (i : Item) → is_mail i ≡ false → Inward v h → Inward v (after v h i)
     inward-after h i none p =
-        holds-named v nobody nobody (is_own v) (Inward v) inward-holds allowed (λ core m. sym (or-false (is_own v core)) ∙ m) same acting h i (mail-replied (is_own v) i none)
+        holds-named v nobody nobody (is_own v) (Inward v) inward-holds allowed (λ core m. sym (or-false (is_own v core)) ∙ m) same acting sees h i (mail-replied (is_own v) i none)
         (record { own = p.own; calm = calm-took i h none p.calm })
 
     -- So it stays by items of which none is mail.

@@ -3,38 +3,51 @@ use Rattle.std.proofs.Common.{List, ◌≡◌, ℕ, Bool, true, false, not, ◌&
 use Rattle.std.specs.List.{list_all, list_any, slice_get}
 use Rattle.std.specs.Option.{option_map_or}
 use Rattle.std.proofs.lemmas.Bool.{not-false, not-true, not_from_false, or_left, or_parts, or_right}
+use Rattle.osbase.specs.declared.messages.RemoteCall.{RemoteCall}
 use Rattle.osbase.specs.declared.references.CoreId.{CoreId}
 use Rattle.osbase.specs.declared.references.Runner.{Runner}
 use Rattle.osbase.specs.History.{same_core}
+use Rattle.osbase.specs.Objects.{object_of_call}
 use Rattle.osbase.proofs.Same.{same_core-true}
 use Rattle.osbase.specs.declared.objects.Object.{Object}
 use Rattle.oscript.specs.declared.Op.{Op}
 use Rattle.oscript.specs.Rows.{objects_of}
 use Rattle.osplan.specs.declared.plans.Plan.{Plan}
 use Rattle.osplan.specs.declared.plans.Core.{Core}
+use Rattle.osplan.specs.declared.plans.Isr.{Isr}
 use Rattle.osplan.specs.declared.plans.Task.{Task}
-use Rattle.osplan.specs.declared.plans.TimedAction.{TimedAction}
-use Rattle.osplan.specs.Objects.{action_object, core_actions}
+use Rattle.osplan.specs.Objects.{core_actions}
 use Rattle.osplan.specs.Separate.{acts_on, has_operation, is_named_elsewhere, is_off, is_on, names_object, op_names}
 use Rattle.osplan.specs.View.{View, core_of, no_core, view_of}
 use Rattle.osplan.proofs.Tests.{all-not, all-weaker, fails-at, find-fails, find-holds}
-use Rattle.osstate.specs.Readings.{is_own, script_of}
-use Rattle.oscall.proofs.Carried.{nobody}
+use Rattle.osstate.specs.Readings.{script_of}
+use Rattle.osact.proofs.Kept.{is_within, nobody}
 use Rattle.oskernel.proofs.Carried.{NamesAllow}
 
 -- Every core but this one.
 abbrev pub all_but : CoreId → CoreId → Bool
 all_but id core = not (same_core core id)
 
--- Where no script of the tasks has an operation that passes a test, none that a runner comes to does.
-script-fails : (own : Core) (test : Op → Bool) → list_any (λ (task : Task). list_any test task.script) own.tasks ≡ false → (r : Runner) (n : ℕ) (op : Op) → slice_get (script_of own r) n ≡ Some op → test op ≡ false
-script-fails own test none (Runner.Task t) n op e = by (same_core t.core own.id) (slice_get own.tasks t.index) refl e
+-- Where no script of the core has an operation that passes a test, none that a runner comes to does.
+script-fails : (own : Core) (test : Op → Bool) → has_operation test own ≡ false → (r : Runner) (n : ℕ) (op : Op) → slice_get (script_of own r) n ≡ Some op → test op ≡ false
+script-fails own test none r n op e = by r e
   where
-    by : (b : Bool) (o : Option Task) → slice_get own.tasks t.index ≡ o → slice_get (option_map_or (λ (task : Task). task.script) (cond b o None) []) n ≡ Some op → test op ≡ false
-    by true (Some task) f g = fails-at test task.script n op (fails-at (λ (x : Task). list_any test x.script) own.tasks t.index task none f) g
-    by true None f g = cc
-    by false o f g = cc
-script-fails own test none (Runner.Isr i) n op e = cc
+    parts : (list_any (λ (x : Task). list_any test x.script) own.tasks ≡ false) × (list_any (λ (x : Isr). list_any test x.script) own.isrs ≡ false)
+    parts = or_parts (list_any (λ (x : Task). list_any test x.script) own.tasks) (list_any (λ (x : Isr). list_any test x.script) own.isrs) none
+
+    of_task : (i : ℕ) (b : Bool) (o : Option Task) → slice_get own.tasks i ≡ o → slice_get (option_map_or (λ (task : Task). task.script) (cond b o None) []) n ≡ Some op → test op ≡ false
+    of_task i true (Some task) f g = fails-at test task.script n op (fails-at (λ (x : Task). list_any test x.script) own.tasks i task parts.0 f) g
+    of_task i true None f g = cc
+    of_task i false o f g = cc
+
+    of_isr : (i : ℕ) (b : Bool) (o : Option Isr) → slice_get own.isrs i ≡ o → slice_get (option_map_or (λ (isr : Isr). isr.script) (cond b o None) []) n ≡ Some op → test op ≡ false
+    of_isr i true (Some isr) f g = fails-at test isr.script n op (fails-at (λ (x : Isr). list_any test x.script) own.isrs i isr parts.1 f) g
+    of_isr i true None f g = cc
+    of_isr i false o f g = cc
+
+    by : (q : Runner) → slice_get (script_of own q) n ≡ Some op → test op ≡ false
+    by (Runner.Task t) g = of_task t.index (same_core t.core own.id) (slice_get own.tasks t.index) refl g
+    by (Runner.Isr i) g = of_isr i.index (same_core i.core own.id) (slice_get own.isrs i.index) refl g
 
 -- Objects none of which passes one test all pass another, which each does that fails the first.
 none-all : (p q : Object → Bool) → ((object : Object) → p object ≡ false → q object ≡ true) → (objects : List Object) → list_any p objects ≡ false → list_all q objects ≡ true
@@ -42,13 +55,13 @@ none-all p q then objects none = all-weaker (λ object. not (p object)) q (λ ob
 
 -- A core that names no object that passes one test, by a script, an alarm or a schedule table: all that it names pass another, which each does that
 -- fails the first.
-names-allow : (v : View) (may : CoreId → Bool) (test : Object → Bool) → names_object test v.own ≡ false → ((object : Object) → test object ≡ false → (is_own v object.place.core || may object.place.core) ≡ true) → NamesAllow v may
+names-allow : (v : View) (may : CoreId → Bool) (test : Object → Bool) → names_object test v.own ≡ false → ((object : Object) → test object ≡ false → is_within v may object.place.core ≡ true) → NamesAllow v may
 names-allow v may test none then =
     let parts = or_parts (has_operation (op_names test) v.own) (acts_on test v.own) none in
     record {
-      scripts = λ r n op e. none-all test (λ (object : Object). is_own v object.place.core || may object.place.core) then (objects_of op) (script-fails v.own (op_names test) parts.0 r n op e);
-      actions = all-weaker (λ (action : TimedAction). not (test (action_object action))) _ (λ action fails. then (action_object action) (not-true (test (action_object action)) fails)) (core_actions v.own)
-          (all-not (λ (action : TimedAction). test (action_object action)) (core_actions v.own) parts.1);
+      scripts = λ r n op e. none-all test (λ (object : Object). is_within v may object.place.core) then (objects_of op) (script-fails v.own (op_names test) parts.0 r n op e);
+      actions = all-weaker (λ (action : RemoteCall). not (test (object_of_call action))) _ (λ action fails. then (object_of_call action) (not-true (test (object_of_call action)) fails)) (core_actions v.own)
+          (all-not (λ (action : RemoteCall). test (object_of_call action)) (core_actions v.own) parts.1);
     }
 
 -- A separate core's scripts and alarms name none but its own objects.

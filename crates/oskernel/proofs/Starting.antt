@@ -14,8 +14,9 @@ use Rattle.osplan.specs.Clocked.{are_clocks_within}
 use Rattle.osplan.specs.View.{View, own_table}
 use Rattle.osplan.proofs.Timing.{own-counter-there, own-table-attached, own-table-within, table-start-bounds}
 use Rattle.osstate.specs.Readings.{numbered_alarms, numbered_tables}
-use Rattle.oscall.specs.Alarms.{sets_alarm}
-use Rattle.oscall.proofs.Remarking.{silent-if}
+use Rattle.osact.specs.Acts.{does}
+use Rattle.osalarmcall.specs.Alarms.{sets_alarm}
+use Rattle.osact.proofs.Remarking.{silent-if}
 use Rattle.oskernel.specs.Step.{sets_by_itself, sets_each, starts_by_itself, starts_each, starts_in}
 
 -- ---- alarms
@@ -23,40 +24,40 @@ use Rattle.oskernel.specs.Step.{sets_by_itself, sets_each, starts_by_itself, sta
 abbrev pub alarm_at : CoreId → ℕ → AlarmRef
 alarm_at core n = record { core = core; index = n }
 
-abbrev pub set_if_auto : Option Agreement → AlarmRef × Alarm → History → History
-set_if_auto agreement p h = sets_by_itself agreement p.0 p.1.auto h
+abbrev pub set_if_auto : View → Option Agreement → AlarmRef × Alarm → History → History
+set_if_auto v agreement p h = does (sets_by_itself agreement p.0 p.1.auto) v h
 
 -- The alarms before this place are set, and no other.
 abbrev pub sets_to : Option Agreement → ℕ → View → History → History
-sets_to agreement n v h = sets_each agreement (take n (numbered_alarms v.own)) h
+sets_to agreement n v h = does (sets_each agreement (take n (numbered_alarms v.own))) v h
 
-pub silent-alarm : (agreement : Option Agreement) (a : AlarmRef) (auto : Option AlarmStart) (h : History) → marks_of (sets_by_itself agreement a auto h) ≡ marks_of h
-silent-alarm agreement a None h = refl
-silent-alarm agreement a (Some x) h = silent-if (starts_in agreement x.modes) (sets_alarm a x.start x.cycle h) h refl
+pub silent-alarm : (v : View) (agreement : Option Agreement) (a : AlarmRef) (auto : Option AlarmStart) (h : History) → marks_of (does (sets_by_itself agreement a auto) v h) ≡ marks_of h
+silent-alarm v agreement a None h = refl
+silent-alarm v agreement a (Some x) h = silent-if (starts_in agreement x.modes) (does (sets_alarm a x.start x.cycle) v h) h refl
 
-pub silent-alarms : (agreement : Option Agreement) (ps : List (AlarmRef × Alarm)) (h : History) → marks_of (sets_each agreement ps h) ≡ marks_of h
-silent-alarms agreement [] h = refl
-silent-alarms agreement (p ∷ ps) h = silent-alarms agreement ps (sets_by_itself agreement p.0 p.1.auto h) ∙ silent-alarm agreement p.0 p.1.auto h
+pub silent-alarms : (v : View) (agreement : Option Agreement) (ps : List (AlarmRef × Alarm)) (h : History) → marks_of (does (sets_each agreement ps) v h) ≡ marks_of h
+silent-alarms v agreement [] h = refl
+silent-alarms v agreement (p ∷ ps) h = silent-alarms v agreement ps (does (sets_by_itself agreement p.0 p.1.auto) v h) ∙ silent-alarm v agreement p.0 p.1.auto h
 
 -- ---- schedule tables
 
 abbrev pub table_at : CoreId → ℕ → TableRef
 table_at core n = record { core = core; index = n }
 
-abbrev pub start_if_auto : Option Agreement → TableRef × Table → History → History
-start_if_auto agreement p h = starts_by_itself agreement p.0 p.1.auto h
+abbrev pub start_if_auto : View → Option Agreement → TableRef × Table → History → History
+start_if_auto v agreement p h = does (starts_by_itself agreement p.0 p.1.auto) v h
 
 -- The tables before this place are started, and no other.
 abbrev pub starts_to : Option Agreement → ℕ → View → History → History
-starts_to agreement n v h = starts_each agreement (take n (numbered_tables v.own)) h
+starts_to agreement n v h = does (starts_each agreement (take n (numbered_tables v.own))) v h
 
-pub silent-table : (agreement : Option Agreement) (s : TableRef) (auto : Option TableStart) (h : History) → marks_of (starts_by_itself agreement s auto h) ≡ marks_of h
-silent-table agreement s None h = refl
-silent-table agreement s (Some x) h = silent-if (starts_in agreement x.modes) (Noted (TableStarted s x.offset) ∷ h) h refl
+pub silent-table : (v : View) (agreement : Option Agreement) (s : TableRef) (auto : Option TableStart) (h : History) → marks_of (does (starts_by_itself agreement s auto) v h) ≡ marks_of h
+silent-table v agreement s None h = refl
+silent-table v agreement s (Some x) h = silent-if (starts_in agreement x.modes) (Noted (TableStarted s x.offset) ∷ h) h refl
 
-pub silent-tables : (agreement : Option Agreement) (ps : List (TableRef × Table)) (h : History) → marks_of (starts_each agreement ps h) ≡ marks_of h
-silent-tables agreement [] h = refl
-silent-tables agreement (p ∷ ps) h = silent-tables agreement ps (starts_by_itself agreement p.0 p.1.auto h) ∙ silent-table agreement p.0 p.1.auto h
+pub silent-tables : (v : View) (agreement : Option Agreement) (ps : List (TableRef × Table)) (h : History) → marks_of (does (starts_each agreement ps) v h) ≡ marks_of h
+silent-tables v agreement [] h = refl
+silent-tables v agreement (p ∷ ps) h = silent-tables v agreement ps (does (starts_by_itself agreement p.0 p.1.auto) v h) ∙ silent-table v agreement p.0 p.1.auto h
 
 -- An automatic table's offset is within a turn.
 pub offset-within : (core : Core) (s : TableRef) (x : Table) (auto : TableStart) → are_clocks_within core ≡ true → own_table core s ≡ Some x → x.auto ≡ Some auto → auto.offset ≤ 1000000001

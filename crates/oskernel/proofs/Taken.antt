@@ -17,7 +17,8 @@ use Rattle.osbase.specs.Sets.{has_core}
 use Rattle.osbase.proofs.Phasing.{in_phase}
 use Rattle.osstate.specs.State.{KernelState}
 use Rattle.osstate.specs.Sound.{is_posted, is_sender_known}
-use Rattle.oscall.specs.Border.{is_action, is_served}
+use Rattle.oscript.specs.Calls.{is_action}
+use Rattle.oscall.specs.Border.{is_served}
 use Rattle.oskernel.specs.Admission.{admits, is_awaited, is_empty, is_front_for, is_reply_to, is_settled}
 use Rattle.oskernel.specs.Taking.{is_acting, is_answered, is_filling, is_going_on, is_known, is_second_gate}
 use Rattle.oskernel.proofs.Phases.{scheduling_past}

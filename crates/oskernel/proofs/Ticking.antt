@@ -19,17 +19,18 @@ use Rattle.ostable.proofs.Portions.{sum-of-plans, timed-portions}
 use Rattle.ostable.proofs.Sums.{sum-both}
 use Rattle.osdue.specs.Advancing.{counts, posted_at_point, posted_by, posted_for, posts_by}
 use Rattle.osdue.proofs.Postings.{sum-of-alarms}
-use Rattle.oskernel.specs.Step.{counts_each}
+use Rattle.osact.specs.Acts.{does}
+use Rattle.oskernel.specs.Step.{counts_each, counts_if_hardware}
 
 abbrev pub clock_at : CoreId → ℕ → CounterRef
 clock_at core n = record { core = core; index = n }
 
 -- The counters before this place went on, and no other.
 abbrev pub counts_to : ℕ → View → History → History
-counts_to n v h = counts_each v (take n (numbered_counters v.own)) h
+counts_to n v h = does (counts_each (take n (numbered_counters v.own))) v h
 
 abbrev pub count_if_hardware : View → CounterRef × Counter → History → History
-count_if_hardware v p h = cond p.1.software h (counts v p.0 h)
+count_if_hardware v p h = does (counts_if_hardware p) v h
 
 -- ---- how much the counters before a place come to
 

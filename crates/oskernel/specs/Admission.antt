@@ -11,6 +11,7 @@ use Rattle.osbase.specs.declared.messages.Message.{Message}
 use Rattle.osbase.specs.declared.items.CoreSet.{CoreSet}
 use Rattle.osbase.specs.declared.items.Agreement.{Agreement}
 use Rattle.osbase.specs.declared.items.Item.{Item}
+use Rattle.osbase.specs.declared.histories.Awaited.{Awaited}
 use Rattle.osbase.specs.declared.histories.OpenCall.{OpenCall}
 use Rattle.osbase.specs.declared.histories.Sent.{Sent}
 use Rattle.osbase.specs.declared.histories.Phase.TheVariants as Phase
@@ -23,8 +24,9 @@ use Rattle.osplan.specs.declared.plans.CoreMode.TheVariants.{Named, DontCare}
 use Rattle.osplan.specs.View.{View, is_configured}
 use Rattle.osstate.specs.Readings.{is_own, next_start}
 use Rattle.osstate.specs.State.{KernelState}
-use Rattle.oscall.specs.Checks.{is_ok_status}
-use Rattle.oscall.specs.Border.{is_action, is_served}
+use Rattle.osact.specs.Checks.{is_ok_status}
+use Rattle.oscript.specs.Calls.{is_action}
+use Rattle.oscall.specs.Border.{is_served}
 
 -- `StartCore` answers E_OS_ID exactly for a core that is not configured, and else E_OK, or E_OS_STATE for one
 -- that was started already. [AUTOSAR SWS OS 4.x, StartCore; E_OS_STATE before StartOS]
@@ -75,9 +77,13 @@ answers_value Service.GetAlarm = true
 answers_value s = false
 
 -- The reply of this core is awaited, with a value exactly for GetAlarm and E_OK. [own]
+abbrev pub is_reply_for : CoreId → Status → Bool → Awaited → Bool
+is_reply_for from status has_value (Awaited.Reply service core) =
+    same_core core from && (if answers_value service && is_ok_status status then has_value else not has_value)
+is_reply_for from status has_value awaited = false
+
 abbrev pub is_reply_to : CoreId → Status → Bool → OpenCall → Bool
-is_reply_to from status has_value call =
-    same_core call.core from && (if answers_value call.service && is_ok_status status then has_value else not has_value)
+is_reply_to from status has_value call = is_reply_for from status has_value call.awaits
 
 -- A message is expected: a request where the reply to it has a place, an action that an alarm may have, or the reply of the open
 -- call. [own]

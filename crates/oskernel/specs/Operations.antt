@@ -1,48 +1,54 @@
 -- What an operation of a job does: a row for each.
-use Rattle.std.specs.Prelude.{None, option_map, ◌∷◌}
+use Rattle.std.specs.Prelude.{Option, Some, None}
 use Rattle.osbase.specs.declared.statuses.Status.TheVariants.{EOk}
-use Rattle.osbase.specs.declared.statuses.ServiceId.TheVariants as Service
+use Rattle.osbase.specs.declared.statuses.ServiceId.{ServiceId}
+use Rattle.osbase.specs.declared.messages.RemoteCall.{RemoteCall}
 use Rattle.osbase.specs.declared.references.Runner.{Runner}
-use Rattle.osbase.specs.History.{History, Noted, Done}
+use Rattle.osbase.specs.History.{Done}
 use Rattle.oscript.specs.declared.Op.{Op}
-use Rattle.osplan.specs.View.{View}
-use Rattle.oscall.specs.Tasks.{schedules, terminates}
-use Rattle.oscall.specs.Resources.{gets_resource, releases_resource}
-use Rattle.oscall.specs.Events.{clears_event, gets_event, waits_event}
-use Rattle.oscall.specs.Counters.{gets_value}
-use Rattle.osdue.specs.Incrementing.{increments}
-use Rattle.oscall.specs.Calling.{activates_task, cancels_alarm, gets_alarm, sets_absolute, sets_event, sets_relative}
-use Rattle.oscall.specs.Tables.{absolute_start, does_service, own_pair, own_schedule, relative_start, status_inquiry, stop, switch}
+use Rattle.oscript.specs.Calls.{call_of_op}
+use Rattle.osact.specs.Acts.{Acts, notes, nothing}
+use Rattle.ostaskcall.specs.Tasks.{schedules, terminates}
+use Rattle.ostaskcall.specs.Resources.{gets_resource, releases_resource}
+use Rattle.ostaskcall.specs.Events.{clears_event, gets_event, waits_event}
+use Rattle.osalarmcall.specs.Counters.{gets_value}
+use Rattle.ostablecall.specs.Tables.{gets_table_status, starts_table_absolute, starts_table_relative, stops_table, switches_tables}
+use Rattle.oscall.specs.Border.{calls}
 use Rattle.oscall.specs.Chaining.{chains}
 use Rattle.oscall.specs.Variables.{adds, adds_variable, sets, stores_status}
+use Rattle.osdue.specs.Incrementing.{increments}
 
--- `work` and a jump have no effect but to be done. [own: one operation is one unit of a script]
-abbrev pub operates : View → Runner → Op → History → History
-operates v r Op.Work h = Noted (Done r EOk None) ∷ h
-operates v r (Op.Set x n) h = sets r x n h
-operates v r (Op.Add x n) h = adds v r x n h
-operates v r (Op.AddVariable x y) h = adds_variable v r x y h
-operates v r (Op.StoreStatus x) h = stores_status v r x h
-operates v r (Op.Jump n) h = Noted (Done r EOk None) ∷ h
-operates v r (Op.JumpIfZero x n) h = Noted (Done r EOk None) ∷ h
-operates v r (Op.ActivateTask target) h = activates_task v r target h
-operates v r (Op.ChainTask target) h = chains v r target h
-operates v r Op.TerminateTask h = terminates v r h
-operates v r Op.Schedule h = schedules v r h
-operates v r (Op.GetResource target) h = gets_resource v r target h
-operates v r (Op.ReleaseResource target) h = releases_resource v r target h
-operates v r (Op.SetEvent target mask) h = sets_event v r target mask h
-operates v r (Op.ClearEvent mask) h = clears_event v r mask h
-operates v r (Op.GetEvent target x) h = gets_event v r target h
-operates v r (Op.WaitEvent mask) h = waits_event v r mask h
-operates v r (Op.IncrementCounter target) h = increments v r target h
-operates v r (Op.GetCounterValue target x) h = gets_value v r target h
-operates v r (Op.SetRelAlarm target increment cycle) h = sets_relative v r target increment cycle h
-operates v r (Op.SetAbsAlarm target start cycle) h = sets_absolute v r target start cycle h
-operates v r (Op.CancelAlarm target) h = cancels_alarm v r target h
-operates v r (Op.GetAlarm target x) h = gets_alarm v r target x h
-operates v r (Op.StartScheduleTableRel target offset) h = does_service v r Service.StartScheduleTableRel (option_map (relative_start offset) (own_schedule v.own target)) h
-operates v r (Op.StartScheduleTableAbs target start) h = does_service v r Service.StartScheduleTableAbs (option_map (absolute_start start) (own_schedule v.own target)) h
-operates v r (Op.NextScheduleTable from to) h = does_service v r Service.NextScheduleTable (option_map switch (own_pair v.own from to)) h
-operates v r (Op.StopScheduleTable target) h = does_service v r Service.StopScheduleTable (option_map stop (own_schedule v.own target)) h
-operates v r (Op.GetScheduleTableStatus target x) h = does_service v r Service.GetScheduleTableStatus (option_map status_inquiry (own_schedule v.own target)) h
+-- An operation of the core alone. `work` and a jump have no effect but to be done; what calls for an object of any core is not
+-- among these. [own: one operation is one unit of a script]
+abbrev pub acts_alone : Runner → Op → Acts
+acts_alone r Op.Work = notes (Done r EOk None)
+acts_alone r (Op.Set x n) = sets r x n
+acts_alone r (Op.Add x n) = adds r x n
+acts_alone r (Op.AddVariable x y) = adds_variable r x y
+acts_alone r (Op.StoreStatus x) = stores_status r x
+acts_alone r (Op.Jump n) = notes (Done r EOk None)
+acts_alone r (Op.JumpIfZero x n) = notes (Done r EOk None)
+acts_alone r (Op.ChainTask target) = chains r target
+acts_alone r Op.TerminateTask = terminates r
+acts_alone r Op.Schedule = schedules r
+acts_alone r (Op.GetResource target) = gets_resource r target
+acts_alone r (Op.ReleaseResource target) = releases_resource r target
+acts_alone r (Op.ClearEvent mask) = clears_event r mask
+acts_alone r (Op.GetEvent target x) = gets_event r target
+acts_alone r (Op.WaitEvent mask) = waits_event r mask
+acts_alone r (Op.IncrementCounter target) = increments r target
+acts_alone r (Op.GetCounterValue target x) = gets_value r target
+acts_alone r (Op.StartScheduleTableRel target offset) = starts_table_relative r target offset
+acts_alone r (Op.StartScheduleTableAbs target start) = starts_table_absolute r target start
+acts_alone r (Op.NextScheduleTable from to) = switches_tables r from to
+acts_alone r (Op.StopScheduleTable target) = stops_table r target
+acts_alone r (Op.GetScheduleTableStatus target x) = gets_table_status r target
+acts_alone r op = nothing
+
+-- An operation that calls for an object of any core is that call. [own]
+abbrev pub operates_by : Runner → Op → Option (ServiceId × Option RemoteCall) → Acts
+operates_by r op None = acts_alone r op
+operates_by r op (Some c) = calls r c.0 c.1
+
+abbrev pub operates : Runner → Op → Acts
+operates r op = operates_by r op (call_of_op op)

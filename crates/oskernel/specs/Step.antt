@@ -17,7 +17,8 @@ use Rattle.osbase.specs.declared.items.Item.{Item}
 use Rattle.osbase.specs.declared.marks.Mark.{Mark}
 use Rattle.osbase.specs.declared.histories.Job.{Job}
 use Rattle.osbase.specs.declared.histories.OpenCall.{OpenCall}
-use Rattle.osbase.specs.History.{History, Noted, TableStarted, Took, same_job, open_call, current_task, agreement_of}
+use Rattle.osbase.specs.declared.histories.Awaited.{Awaited}
+use Rattle.osbase.specs.History.{History, Printed, TableStarted, Took, same_job, open_call, current_task}
 use Rattle.osbase.specs.Phases.{is_scheduling}
 use Rattle.oscript.specs.declared.Action.{Action}
 use Rattle.oscript.specs.declared.Action.TheVariants.{Perform, End}
@@ -28,13 +29,14 @@ use Rattle.osplan.specs.declared.plans.Table.{Table}
 use Rattle.osplan.specs.declared.plans.TableStart.{TableStart}
 use Rattle.osplan.specs.declared.plans.Counter.{Counter}
 use Rattle.osplan.specs.declared.plans.Task.{Task}
+use Rattle.osplan.specs.declared.plans.Core.{Core}
 use Rattle.osplan.specs.View.{View}
-use Rattle.osstate.specs.Readings.{script_of, frame_at, best_job, numbered_alarms, numbered_counters, numbered_tables, phase_at, running, task_refs}
+use Rattle.osstate.specs.Readings.{script_of, best_job, numbered_alarms, numbered_counters, numbered_tables, phase_at, running, task_refs}
 use Rattle.osstate.specs.State.{state_of}
-use Rattle.oscall.specs.Alarms.{sets_alarm}
+use Rattle.osact.specs.Acts.{Acts, both, does, for_each, look, notes, nothing, prints, when}
+use Rattle.osalarmcall.specs.Alarms.{sets_alarm}
 use Rattle.osdue.specs.Advancing.{counts}
-use Rattle.oscall.specs.Returning.{prints}
-use Rattle.oscall.specs.Tasks.{activates, ends_unasked}
+use Rattle.ostaskcall.specs.Tasks.{activates, ends_unasked}
 use Rattle.oscall.specs.Border.{serves_request, serves_action}
 use Rattle.oscall.specs.Chaining.{resumes}
 use Rattle.oskernel.specs.Operations.{operates}
@@ -58,98 +60,95 @@ abbrev pub starts_in : Option Agreement → List ModeId → Bool
 starts_in (Some (Agreement.Mode m)) modes = list_any (λ (n : ModeId). n.index == m.index) modes
 starts_in other modes = false
 
+-- What is to start by itself, if its list names the mode.
+abbrev pub starts_if : Option Agreement → List ModeId → Acts → Acts
+starts_if agreement modes x = when (starts_in agreement modes) x nothing
+
 -- The tasks are activated, in index order.
-abbrev pub autostarts : Option Agreement → List (TaskRef × Task) → History → History
-autostarts agreement [] h = h
-autostarts agreement (p ∷ ps) h = autostarts agreement ps (if starts_in agreement p.1.auto then activates p.0 h else h)
+abbrev pub autostarts : Option Agreement → List (TaskRef × Task) → Acts
+autostarts agreement tasks = for_each (λ p. starts_if agreement p.1.auto (activates p.0)) tasks
 
 -- The alarms are set, in index order. [AUTOSAR SWS OS 4.x, OsAlarmAutostart]
-abbrev pub sets_by_itself : Option Agreement → AlarmRef → Option AlarmStart → History → History
-sets_by_itself agreement a None h = h
-sets_by_itself agreement a (Some x) h = if starts_in agreement x.modes then sets_alarm a x.start x.cycle h else h
+abbrev pub sets_by_itself : Option Agreement → AlarmRef → Option AlarmStart → Acts
+sets_by_itself agreement a None = nothing
+sets_by_itself agreement a (Some x) = starts_if agreement x.modes (sets_alarm a x.start x.cycle)
 
-abbrev pub sets_each : Option Agreement → List (AlarmRef × Alarm) → History → History
-sets_each agreement [] h = h
-sets_each agreement (p ∷ ps) h = sets_each agreement ps (sets_by_itself agreement p.0 p.1.auto h)
+abbrev pub sets_each : Option Agreement → List (AlarmRef × Alarm) → Acts
+sets_each agreement alarms = for_each (λ p. sets_by_itself agreement p.0 p.1.auto) alarms
 
 -- The schedule tables are started, in index order. [AUTOSAR SWS OS 4.x, OsScheduleTableAutostart]
-abbrev pub starts_by_itself : Option Agreement → TableRef → Option TableStart → History → History
-starts_by_itself agreement s None h = h
-starts_by_itself agreement s (Some x) h = if starts_in agreement x.modes then Noted (TableStarted s x.offset) ∷ h else h
+abbrev pub starts_by_itself : Option Agreement → TableRef → Option TableStart → Acts
+starts_by_itself agreement s None = nothing
+starts_by_itself agreement s (Some x) = starts_if agreement x.modes (notes (TableStarted s x.offset))
 
-abbrev pub starts_each : Option Agreement → List (TableRef × Table) → History → History
-starts_each agreement [] h = h
-starts_each agreement (p ∷ ps) h = starts_each agreement ps (starts_by_itself agreement p.0 p.1.auto h)
+abbrev pub starts_each : Option Agreement → List (TableRef × Table) → Acts
+starts_each agreement tables = for_each (λ p. starts_by_itself agreement p.0 p.1.auto) tables
 
 -- First the tasks, then the alarms, and then the tables. [own]
-abbrev pub starts : View → Option Agreement → History → History
-starts v agreement h =
-    starts_each agreement (numbered_tables v.own) (sets_each agreement (numbered_alarms v.own) (autostarts agreement (task_refs v.own) h))
+abbrev pub starts : Option Agreement → Core → Acts
+starts agreement core =
+    both (autostarts agreement (task_refs core)) (both (sets_each agreement (numbered_alarms core)) (starts_each agreement (numbered_tables core)))
 
 -- The stimulus `op`: one operation of the running job, or its end; with nothing running it does nothing. [own]
-abbrev pub performs : View → Runner → Action → History → History
-performs v r (Perform op) h = operates v r op h
-performs v r End h = ends_unasked r h
+abbrev pub performs : Runner → Action → Acts
+performs r (Perform op) = operates r op
+performs r End = ends_unasked r
 
-abbrev pub goes_on : View → Option Job → History → History
-goes_on v None h = h
-goes_on v (Some j) h = performs v j.runner (action_at (script_of v.own j.runner) (frame_at v j.runner h)) h
+abbrev pub goes_on : Option Runner → Acts
+goes_on None = nothing
+goes_on (Some r) = look (λ s. performs r (action_at (script_of s.core r) (s.row r).frame))
 
 -- The stimulus `tick`: its line, and then each hardware counter of the core goes on by one, in index order, and what is due by it
 -- acts. [OSEK/VDX OS 2.2.3, section 9.1; AUTOSAR SWS OS 4.x, OsCounterType; the order: own]
-abbrev pub counts_each : View → List (CounterRef × Counter) → History → History
-counts_each v [] h = h
-counts_each v (p ∷ ps) h = counts_each v ps (if p.1.software then h else counts v p.0 h)
+abbrev pub counts_if_hardware : CounterRef × Counter → Acts
+counts_if_hardware p = when p.1.software nothing (counts p.0)
 
-abbrev pub ticks : View → History → History
-ticks v h = counts_each v (numbered_counters v.own) (prints Mark.Tick h)
+abbrev pub counts_each : List (CounterRef × Counter) → Acts
+counts_each counters = for_each counts_if_hardware counters
+
+abbrev pub ticks : Acts
+ticks = both (prints Mark.Tick) (look (λ s. counts_each (numbered_counters s.core)))
 
 -- A stimulus. An interrupt cannot be taken yet.
-abbrev pub stimulates : View → Stimulus → History → History
-stimulates v Stimulus.Op h = goes_on v (running v h) h
-stimulates v Stimulus.Tick h = ticks v h
-stimulates v (Stimulus.Irq isr) h = h
+abbrev pub stimulates : Stimulus → Acts
+stimulates Stimulus.Op = look (λ s. goes_on s.running)
+stimulates Stimulus.Tick = ticks
+stimulates (Stimulus.Irq isr) = nothing
 
--- The job whose call is open goes on with the reply; with no call open it does nothing. [own]
-abbrev pub closes : Option OpenCall → Status → Option ℤ → History → History
-closes None status value h = h
-closes (Some call) status value h = resumes call.runner call.service status value h
+-- The job whose call awaits a reply goes on with it; where none does, nothing happens. [own]
+abbrev pub resumes_with : Runner → Awaited → Status → Option ℤ → Acts
+resumes_with r (Awaited.Reply service core) status value = resumes r service status value
+resumes_with r awaited status value = nothing
+
+abbrev pub closes : Option OpenCall → Status → Option ℤ → Acts
+closes None status value = nothing
+closes (Some call) status value = resumes_with call.runner call.awaits status value
 
 -- A message of another core.
-abbrev pub receives : View → CoreId → Message → History → History
-receives v from (Message.Request call) h = serves_request v from call h
-receives v from (Message.Action call) h = serves_action v from call h
-receives v from (Message.Reply status value) h = closes (open_call h) status value h
+abbrev pub receives : CoreId → Message → Acts
+receives from (Message.Request call) = serves_request from call
+receives from (Message.Action call) = serves_action from call
+receives from (Message.Reply status value) = look (λ s. closes s.awaits status value)
 
 -- What follows from an item at once, in the history with it. The last four of those that follow nothing cannot be taken
 -- yet. [OSEK/VDX OS 2.2.3, section 11.3; AUTOSAR SWS OS 4.x, SWS_Os_00608 to SWS_Os_00610; items are this project's own]
-abbrev pub effect : View → Item → History → History
-effect v (Item.Began core status) h = prints (Mark.StartCoreReturned core status) h
-effect v (Item.Pass1 agreement) h = prints (gate_mark agreement) h
-effect v (Item.Pass2 cores) h = starts v (agreement_of h) h
-effect v (Item.Stim stimulus) h = stimulates v stimulus h
-effect v (Item.Received from number message) h = receives v from message h
-effect v Item.On h = h
-effect v Item.Entered h = h
-effect v Item.Readied h = h
-effect v (Item.Posted core) h = h
-effect v Item.Drained h = h
-effect v Item.PassEnd h = h
-effect v (Item.Last shutdown) h = h
-effect v (Item.Granted spinlock) h = h
-effect v (Item.Tried spinlock taken) h = h
-effect v (Item.Freed spinlock) h = h
-effect v (Item.Halt core status) h = h
+abbrev pub effect : Item → Acts
+effect (Item.Began core status) = prints (Mark.StartCoreReturned core status)
+effect (Item.Pass1 agreement) = prints (gate_mark agreement)
+effect (Item.Pass2 cores) = look (λ s. starts s.agreement s.core)
+effect (Item.Stim stimulus) = stimulates stimulus
+effect (Item.Received from number message) = receives from message
+effect item = nothing
 
 -- PostTaskHook of the current task, if there is one, and PreTaskHook of the runner's.
 -- [OSEK/VDX OS 2.2.3, section 11.5]
 abbrev pub leaves : Option TaskRef → History → History
 leaves None h = h
-leaves (Some t) h = prints (Mark.PostTaskHook t) h
+leaves (Some t) h = Printed (Mark.PostTaskHook t) ∷ h
 
 abbrev pub enters : Runner → History → History
-enters (Runner.Task t) h = prints (Mark.PreTaskHook t) (leaves (current_task h) h)
-enters (Runner.Isr i) h = prints (Mark.IsrEntered i) h
+enters (Runner.Task t) h = Printed (Mark.PreTaskHook t) ∷ leaves (current_task h) h
+enters (Runner.Isr i) h = Printed (Mark.IsrEntered i) ∷ h
 
 -- Going to the best job: nothing if it is the running one. [OSEK/VDX OS 2.2.3, section 4.4 and 4.6]
 abbrev pub goes_to : View → Option Job → History → History
@@ -164,7 +163,7 @@ dispatches v h =
 
 -- The history after an item: the item, what follows from it, and dispatch. [own]
 abbrev pub after : View → History → Item → History
-after v h item = dispatches v (effect v item (Took item ∷ h))
+after v h item = dispatches v (does (effect item) v (Took item ∷ h))
 
 -- How many envelopes a core's outbox may hold. [own]
 abbrev pub outbox_size : ℕ

@@ -10,12 +10,12 @@ ghost use Rattle.osstate.specs.Readings.{next_start};
 ghost use Rattle.oscall.specs.Border.{is_served};
 ghost use Rattle.oskernel.specs.Admission.{admits, answers_value, are_started_cores, is_agreement, is_awaited, is_for, is_front_for, is_next_from, is_reply_to, is_settled, is_start_answer, is_started_now_or_before, is_unknown_core};
 
+use osact::is_ok;
 use osbase::{
-    Agreement, CORE_NUMBERS, CoreId, CoreSet, Item, Message, ModeId, OpenCall, Phase, RemoteCall,
-    ServiceId, Status, Stimulus,
+    Agreement, Awaited, CORE_NUMBERS, CoreId, CoreSet, Item, Message, ModeId, OpenCall, Phase,
+    RemoteCall, ServiceId, Status, Stimulus, both,
 };
-use oscall::{is_action, is_ok};
-use osjobs::equality::{both, is_same_core};
+use oscript::is_action;
 use osplan::CoreMode;
 use osstate::CoreState;
 
@@ -99,7 +99,7 @@ fn is_front<const P: usize, const J: usize, const OUT: usize>(
     ensures { result ≡ is_front_for core state.now.border.outbox }
 {
     match state.front() {
-        Some(sent) => is_same_core(sent.to, core),
+        Some(sent) => sent.to == core,
         None => false,
     }
 }
@@ -112,7 +112,7 @@ fn is_next_start<const P: usize, const J: usize, const OUT: usize>(
     ensures { result ≡ is_for core (next_start state.now.view state.now.progress.began) }
 {
     match state.next_start() {
-        Some(next) => is_same_core(core, next),
+        Some(next) => core == next,
         None => false,
     }
 }
@@ -265,9 +265,14 @@ fn is_awaited_reply<const P: usize, const J: usize, const OUT: usize>(
 fn is_reply(from: CoreId, status: Status, has_value: bool, call: OpenCall) -> bool
     ensures { result ≡ is_reply_to from status has_value call }
 {
-    let wants_value = both(gives_value(call.service), is_ok(status));
-    let is_wanted = if wants_value { has_value } else { !has_value };
-    both(is_same_core(call.core, from), is_wanted)
+    match call.awaits {
+        Awaited::Reply { service, core } => {
+            let wants_value = both(gives_value(service), is_ok(status));
+            let is_wanted = if wants_value { has_value } else { !has_value };
+            both(core == from, is_wanted)
+        }
+        _ => false,
+    }
 }
 
 fn gives_value(service: ServiceId) -> bool

@@ -4,31 +4,31 @@ ghost use Rattle.std.specs.Prelude.{◌&&◌, is_none, ◌≡◌, ◌==◌, ◌+
 ghost use Rattle.std.specs.List.{list_any};
 ghost use Rattle.std.specs.Option.{option_map_or};
 ghost use Rattle.osbase.specs.declared.turns.TheConstants.{CORES};
-ghost use Rattle.osbase.specs.History.{Took, agreement_of, current_task, job_count, open_call, outbox_after, phase_after, same_job};
+ghost use Rattle.osbase.specs.History.{Took, current_task, job_count, outbox_after, phase_after, same_job};
 ghost use Rattle.osbase.specs.Phases.{is_before_live, is_scheduling, is_past_first_gate};
 ghost use Rattle.osbase.specs.Runs.{is_stimulus};
-ghost use Rattle.oscript.specs.Frames.{action_at};
 ghost use Rattle.osplan.specs.Clocked.{are_clocks_within};
 ghost use Rattle.osplan.specs.View.{own_alarm, own_table};
 ghost use Rattle.osjobs.specs.Jobs.{is_plain};
 ghost use Rattle.osjobs.specs.Priorities.{is_own_runner};
 ghost use Rattle.osstate.specs.Does.{Adds, Does, Effects, HasRoom, Reads, Remarks, item_entries, item_marks, service_entries, service_marks};
 ghost use Rattle.osstate.specs.Queries.{running_in};
-ghost use Rattle.osstate.specs.Readings.{frame_at, numbered_alarms, numbered_tables, running, script_of, task_refs};
+ghost use Rattle.osstate.specs.Readings.{numbered_alarms, numbered_tables, task_refs};
 ghost use Rattle.osstate.specs.Sound.{activation_limit, is_agreed, is_first_gate, is_posted, is_sender_known};
 ghost use Rattle.osplan.specs.Objects.{posted_at_once};
-ghost use Rattle.oscall.specs.Tasks.{activates};
+ghost use Rattle.osact.specs.Acts.{does, look};
+ghost use Rattle.ostaskcall.specs.Tasks.{activates};
 ghost use Rattle.oskernel.specs.Admission.{admits};
 ghost use Rattle.oskernel.specs.Bounded.{step_entries};
-ghost use Rattle.oskernel.specs.Step.{autostarts, closes, dispatches, effect, enters, gate_mark, goes_on, goes_to, leaves, performs, receives, sets_by_itself, sets_each, starts, starts_by_itself, starts_each, starts_in, stimulates};
+ghost use Rattle.oskernel.specs.Step.{autostarts, closes, dispatches, effect, enters, gate_mark, goes_on, goes_to, leaves, receives, sets_by_itself, sets_each, starts, starts_by_itself, starts_each, starts_if, starts_in, stimulates};
 ghost use Rattle.oskernel.specs.Taking.{TakesItem, agreement_on, is_acting, is_answered, is_filling, is_going_on, is_known, is_request, is_second_gate};
 
 use crate::ticks::tick;
+use osact::Answer;
 use osbase::{
-    Agreement, AlarmRef, CoreId, Item, Job, List, Mark, Message, ModeId, Phase, Runner, Status,
-    Stimulus, TableRef, TaskRef,
+    Agreement, AlarmRef, Awaited, CoreId, Item, Job, List, Mark, Message, ModeId, Phase, Runner,
+    Status, Stimulus, TableRef, TaskRef,
 };
-use oscall::Answer;
 use oscript::Action;
 use osplan::{Alarm, Table, Task};
 use osstate::CoreState;
@@ -42,7 +42,7 @@ pub(crate) fn take<const P: usize, const J: usize, const OUT: usize>(
     requires admitted { IsTrue (admits OUT state.old item.now) }
     requires outbox { 8 + posted_at_once state.old.view.own ≤ OUT }
     requires room { HasRoom step_entries item_marks state.old marks.old }
-    ensures does { Does (λ v h. effect v item.now (Took item.now ∷ h)) state.old state.new marks.old.items marks.new.items }
+    ensures does { Does (λ v h. does (effect item.now) v (Took item.now ∷ h)) state.old state.new marks.old.items marks.new.items }
     ensures takes { TakesItem (item_entries + 1) state.old state.new }
     ensures view { state.new.view ≡ state.old.view }
     ensures adds { Adds item_marks marks.old.items marks.new.items }
@@ -88,7 +88,7 @@ fn follow<const P: usize, const J: usize, const OUT: usize>(
     requires empty { IsTrue (is_going_on item.now) → state.old.border.outbox ≡ [] }
     requires places { 8 + posted_at_once state.old.view.own ≤ OUT }
     requires room { HasRoom item_entries item_marks state.old marks.old }
-    ensures { Effects item_entries item_marks (λ v h. effect v item.now h) state.old state.new marks.old marks.new }
+    ensures { Effects item_entries item_marks (does (effect item.now)) state.old state.new marks.old marks.new }
 {
     match item {
         Item::Began { core, status } => {
@@ -138,7 +138,7 @@ fn start<const P: usize, const J: usize, const OUT: usize>(
     requires past { IsTrue (is_past_first_gate state.old.progress.phase) }
     requires fresh { state.old.tasks.jobs ≡ [] }
     requires room { HasRoom item_entries item_marks state.old marks.old }
-    ensures { Effects item_entries item_marks (λ v h. starts v (agreement_of h) h) state.old state.new marks.old marks.new }
+    ensures { Effects item_entries item_marks (does (look (λ s. starts s.agreement s.core))) state.old state.new marks.old marks.new }
 {
     let mode = agreed_mode(state.agreement());
     start_tasks(state, mode, marks);
@@ -155,7 +155,7 @@ fn start_tasks<const P: usize, const J: usize, const OUT: usize>(
     requires live { is_before_live state.old.progress.phase ≡ false }
     requires fresh { state.old.tasks.jobs ≡ [] }
     requires room { HasRoom 32 32 state.old marks.old }
-    ensures { Effects 32 32 (λ v h. autostarts (Some (agreement_on mode)) (task_refs v.own) h) state.old state.new marks.old marks.new }
+    ensures { Effects 32 32 (λ v h. does (autostarts (Some (agreement_on mode)) (task_refs v.own)) v h) state.old state.new marks.old marks.new }
 {
     let core = state.id();
     let tasks = state.tasks();
@@ -190,7 +190,7 @@ fn autostart<const P: usize, const J: usize, const OUT: usize>(
     requires live { is_before_live state.old.progress.phase ≡ false }
     requires limit { job_count (Runner.Task reference) state.old.tasks.jobs < activation_limit state.old.view.own (Runner.Task reference) }
     requires room { HasRoom 1 1 state.old marks.old }
-    ensures effects { Effects 1 1 (λ v h. (if starts_in (Some (agreement_on mode)) task.now.auto then activates reference h else h)) state.old state.new marks.old marks.new }
+    ensures effects { Effects 1 1 (does (starts_if (Some (agreement_on mode)) task.now.auto (activates reference))) state.old state.new marks.old marks.new }
     ensures jobs { state.new.tasks.jobs ≡ (if starts_in (Some (agreement_on mode)) task.now.auto then state.old.tasks.jobs ++ record { runner = Runner.Task reference; stamp = state.old.progress.entries } ∷ [] else state.old.tasks.jobs) }
 {
     if is_started_in(mode, &task.auto) {
@@ -220,7 +220,7 @@ fn start_alarms<const P: usize, const J: usize, const OUT: usize>(
     mode: Option<ModeId>,
 )
     requires count { state.old.progress.entries + 32 ≤ 2 ^ 63 }
-    ensures { Remarks 32 (λ v h. sets_each (Some (agreement_on mode)) (numbered_alarms v.own) h) state.old state.new }
+    ensures { Remarks 32 (λ v h. does (sets_each (Some (agreement_on mode)) (numbered_alarms v.own)) v h) state.old state.new }
 {
     let core = state.id();
     let alarms = state.alarms();
@@ -241,7 +241,7 @@ fn set_by_itself<const P: usize, const J: usize, const OUT: usize>(
     requires own { own_alarm state.old.view.own reference ≡ Some alarm.now }
     requires within { IsTrue (are_clocks_within state.old.view.own) }
     requires count { state.old.progress.entries < 2 ^ 63 }
-    ensures { Remarks 1 (λ v h. sets_by_itself (Some (agreement_on mode)) reference alarm.now.auto h) state.old state.new }
+    ensures { Remarks 1 (does (sets_by_itself (Some (agreement_on mode)) reference alarm.now.auto)) state.old state.new }
 {
     if let Some(start) = &alarm.auto {
         if is_started_in(mode, &start.modes) {
@@ -256,7 +256,7 @@ fn start_tables<const P: usize, const J: usize, const OUT: usize>(
     mode: Option<ModeId>,
 )
     requires count { state.old.progress.entries + 8 ≤ 2 ^ 63 }
-    ensures { Remarks 8 (λ v h. starts_each (Some (agreement_on mode)) (numbered_tables v.own) h) state.old state.new }
+    ensures { Remarks 8 (λ v h. does (starts_each (Some (agreement_on mode)) (numbered_tables v.own)) v h) state.old state.new }
 {
     let core = state.id();
     let tables = state.tables();
@@ -277,7 +277,7 @@ fn start_by_itself<const P: usize, const J: usize, const OUT: usize>(
     requires own { own_table state.old.view.own reference ≡ Some table.now }
     requires within { IsTrue (are_clocks_within state.old.view.own) }
     requires count { state.old.progress.entries < 2 ^ 63 }
-    ensures { Remarks 1 (λ v h. starts_by_itself (Some (agreement_on mode)) reference table.now.auto h) state.old state.new }
+    ensures { Remarks 1 (does (starts_by_itself (Some (agreement_on mode)) reference table.now.auto)) state.old state.new }
 {
     if let Some(start) = &table.auto {
         if is_started_in(mode, &start.modes) {
@@ -297,7 +297,7 @@ fn go_on<const P: usize, const J: usize, const OUT: usize>(
     requires outbox { state.old.border.outbox ≡ [] }
     requires places { 8 + posted_at_once state.old.view.own ≤ OUT }
     requires room { HasRoom service_entries service_marks state.old marks.old }
-    ensures { Effects service_entries service_marks (λ v h. stimulates v stimulus h) state.old state.new marks.old marks.new }
+    ensures { Effects service_entries service_marks (does (stimulates stimulus)) state.old state.new marks.old marks.new }
 {
     match stimulus {
         Stimulus::Op => go_on_by_one(state, marks),
@@ -315,7 +315,7 @@ fn go_on_by_one<const P: usize, const J: usize, const OUT: usize>(
     requires outbox { state.old.border.outbox ≡ [] }
     requires places { 8 + posted_at_once state.old.view.own ≤ OUT }
     requires room { HasRoom service_entries service_marks state.old marks.old }
-    ensures { Effects service_entries service_marks (λ v h. goes_on v (running v h) h) state.old state.new marks.old marks.new }
+    ensures { Effects service_entries service_marks (does (look (λ s. goes_on s.running))) state.old state.new marks.old marks.new }
 {
     if let Some(job) = state.running_job() {
         perform(state, job.runner, marks);
@@ -332,11 +332,11 @@ fn perform<const P: usize, const J: usize, const OUT: usize>(
     requires outbox { state.old.border.outbox ≡ [] }
     requires places { 8 + posted_at_once state.old.view.own ≤ OUT }
     requires room { HasRoom service_entries service_marks state.old marks.old }
-    ensures { Effects service_entries service_marks (λ v h. performs v runner (action_at (script_of v.own runner) (frame_at v runner h)) h) state.old state.new marks.old marks.new }
+    ensures { Effects service_entries service_marks (does (goes_on (Some runner))) state.old state.new marks.old marks.new }
 {
     match state.next_action(runner) {
         Action::Perform(op) => crate::operations::operate(state, runner, op, marks),
-        Action::End => oscall::end_unasked(state, runner, marks),
+        Action::End => ostaskcall::end_unasked(state, runner, marks),
     }
 }
 
@@ -351,7 +351,7 @@ fn receive<const P: usize, const J: usize, const OUT: usize>(
     requires sender { from.number < CORES }
     requires outbox { IsTrue (is_request message.now) → length state.old.border.outbox < OUT }
     requires room { HasRoom service_entries service_marks state.old marks.old }
-    ensures { Effects service_entries service_marks (λ v h. receives v from message.now h) state.old state.new marks.old marks.new }
+    ensures { Effects service_entries service_marks (does (receives from message.now)) state.old state.new marks.old marks.new }
 {
     match message {
         Message::Request(call) => oscall::serve_request(state, from, *call, marks),
@@ -369,13 +369,15 @@ fn close<const P: usize, const J: usize, const OUT: usize>(
 )
     requires awaited { IsSome state.old.border.open_call }
     requires room { HasRoom service_entries service_marks state.old marks.old }
-    ensures { Effects service_entries service_marks (λ v h. closes (open_call h) status value h) state.old state.new marks.old marks.new }
+    ensures { Effects service_entries service_marks (does (look (λ s. closes s.awaits status value))) state.old state.new marks.old marks.new }
 {
     let Some(call) = state.awaited_call() else {
         unreachable!()
     };
-    let answer = Answer { status, value };
-    oscall::resume(state, call.runner, call.service, answer, marks);
+    if let Awaited::Reply { service, core: _ } = call.awaits {
+        let answer = Answer { status, value };
+        oscall::resume(state, call.runner, service, answer, marks);
+    }
 }
 
 /// Dispatch, where the core schedules and no call is open.
@@ -442,7 +444,7 @@ fn enter<const P: usize, const J: usize, const OUT: usize>(
 {
     match runner {
         Runner::Task(task) => enter_task(state, task, marks),
-        Runner::Isr(_) => unreachable!(),
+        Runner::Isr(isr) => state.print(Mark::IsrEntered(isr), marks),
     }
 }
 

@@ -1,14 +1,15 @@
 //! A tick of a core's hardware counters.
 
-ghost use Rattle.std.specs.Prelude.{◌≡◌, ◌+◌, ◌*◌, ◌≤◌, [], if◌then◌else◌, IsTrue, false, length, suc};
+ghost use Rattle.std.specs.Prelude.{◌≡◌, ◌+◌, ◌*◌, ◌≤◌, [], IsTrue, false, length, suc};
 ghost use Rattle.osbase.specs.Objects.{counter_object};
 ghost use Rattle.osbase.specs.Phases.{is_before_live};
 ghost use Rattle.osclock.specs.Clocks.{attached_to};
 ghost use Rattle.ostable.specs.Tables.{timed_by};
 ghost use Rattle.osplan.specs.Objects.{is_own_object, posted_at_once};
 ghost use Rattle.osstate.specs.Does.{Effects, HasRoom, service_entries, service_marks};
-ghost use Rattle.osdue.specs.Advancing.{counts, posted_by};
-ghost use Rattle.oskernel.specs.Step.{ticks};
+ghost use Rattle.osact.specs.Acts.{does};
+ghost use Rattle.osdue.specs.Advancing.{posted_by};
+ghost use Rattle.oskernel.specs.Step.{counts_if_hardware, ticks};
 
 use osbase::{CounterRef, Mark};
 use osplan::Counter;
@@ -24,7 +25,7 @@ pub(crate) fn tick<const P: usize, const J: usize, const OUT: usize>(
     requires outbox { state.old.border.outbox ≡ [] }
     requires places { 8 + posted_at_once state.old.view.own ≤ OUT }
     requires room { HasRoom service_entries service_marks state.old marks.old }
-    ensures { Effects service_entries service_marks (λ v h. ticks v h) state.old state.new marks.old marks.new }
+    ensures { Effects service_entries service_marks (does ticks) state.old state.new marks.old marks.new }
 {
     state.print(Mark::Tick, marks);
     let core = state.id();
@@ -48,7 +49,7 @@ fn count_by_tick<const P: usize, const J: usize, const OUT: usize>(
     requires live { is_before_live state.old.progress.phase ≡ false }
     requires outbox { length state.old.border.outbox + posted_by state.old.view.own reference ≤ OUT }
     requires room { HasRoom (suc (3 * length (attached_to state.old.view.own reference) + 38 * length (timed_by state.old.view.own reference))) (3 * length (attached_to state.old.view.own reference) + 36 * length (timed_by state.old.view.own reference)) state.old marks.old }
-    ensures effects { Effects (suc (3 * length (attached_to state.old.view.own reference) + 38 * length (timed_by state.old.view.own reference))) (3 * length (attached_to state.old.view.own reference) + 36 * length (timed_by state.old.view.own reference)) (λ v h. (if counter.now.software then h else counts v reference h)) state.old state.new marks.old marks.new }
+    ensures effects { Effects (suc (3 * length (attached_to state.old.view.own reference) + 38 * length (timed_by state.old.view.own reference))) (3 * length (attached_to state.old.view.own reference) + 36 * length (timed_by state.old.view.own reference)) (does (counts_if_hardware (reference, counter.now))) state.old state.new marks.old marks.new }
     ensures outbox { length state.new.border.outbox ≤ length state.old.border.outbox + posted_by state.old.view.own reference }
 {
     if !counter.software {

@@ -7,16 +7,17 @@ use Rattle.std.proofs.lemmas.List.Folds.{list_all-map}
 use Rattle.osbase.specs.declared.references.CounterRef.{CounterRef}
 use Rattle.osbase.specs.declared.objects.Object.{Object}
 use Rattle.osbase.specs.History.{same_core}
-use Rattle.osbase.specs.Objects.{counter_object}
+use Rattle.osbase.specs.Objects.{counter_object, object_of_call}
 use Rattle.osbase.proofs.Same.{same_core-true}
+use Rattle.oscript.specs.Calls.{is_action}
 use Rattle.osplan.specs.declared.plans.Alarm.{Alarm}
 use Rattle.osplan.specs.declared.plans.Core.{Core}
 use Rattle.osplan.specs.declared.plans.Plan.{Plan}
 use Rattle.osplan.specs.declared.plans.Table.{Table}
-use Rattle.osplan.specs.declared.plans.TimedAction.{TimedAction}
+use Rattle.osbase.specs.declared.messages.RemoteCall.{RemoteCall}
 use Rattle.osplan.specs.Clocked.{is_alarm_attached, is_table_attached}
 use Rattle.osplan.specs.Limits.{alarm_sizes, is_action_known, is_alarm_known, is_alarm_near, is_core_known, is_core_mode, is_core_timed, is_mode, is_object, is_table_known, is_table_near, is_table_timed, is_task_known, table_sizes}
-use Rattle.osplan.specs.Objects.{action_object, alarm_modes, core_actions, has_index, may_name, table_actions, table_modes}
+use Rattle.osplan.specs.Objects.{alarm_modes, core_actions, has_index, may_act, may_name, table_actions, table_modes}
 use Rattle.osplan.specs.View.{core_of, counter_in, own_counter}
 use Rattle.osplan.proofs.Tests.{all-append, all-both, all-flat, all-weaker, map-where}
 
@@ -47,14 +48,16 @@ module _ (plan : Plan) (core : Core) (found : core_of plan core.id ≡ Some core
       let alarms = and_parts _ (list_all (is_alarm_known plan) core.alarms) tables.0 in
       record { tasks = (and_parts (is_core_mode plan core.mode) _ alarms.0).1; alarms = alarms.1; tables = tables.1 }
 
-  named-each : (actions : List TimedAction) → list_all (is_action_known plan) actions ≡ true → list_all (λ (action : TimedAction). may_name core (action_object action)) actions ≡ true
-  named-each = all-weaker (is_action_known plan) (λ (action : TimedAction). may_name core (action_object action)) (λ action h. known-named (action_object action) h)
+  acts-each : (actions : List RemoteCall) → list_all (is_action_known plan) actions ≡ true → list_all (may_act core) actions ≡ true
+  acts-each =
+      all-weaker (is_action_known plan) (may_act core)
+      (λ action h. let parts = and_parts (is_action action) (is_object plan (object_of_call action)) h in and_from _ _ parts.0 (known-named (object_of_call action) parts.1))
 
-  -- So is what its alarms and tables are for.
-  pub known-actions : is_core_known plan core ≡ true → list_all (λ (action : TimedAction). may_name core (action_object action)) (core_actions core) ≡ true
+  -- What its alarms and tables do are actions, and the core may name what these are for.
+  pub known-actions : is_core_known plan core ≡ true → list_all (may_act core) (core_actions core) ≡ true
   known-actions known =
       let parts = known-parts known in
-      named-each (core_actions core) (all-append (is_action_known plan) (map (λ (alarm : Alarm). alarm.action) core.alarms) (flat_map table_actions core.tables)
+      acts-each (core_actions core) (all-append (is_action_known plan) (map (λ (alarm : Alarm). alarm.action) core.alarms) (flat_map table_actions core.tables)
       (list_all-map (is_action_known plan) (λ (alarm : Alarm). alarm.action) core.alarms
       ∙ all-weaker (is_alarm_known plan) (λ (alarm : Alarm). is_action_known plan alarm.action)
       (λ alarm h. (and_parts (is_object plan (counter_object alarm.counter)) _ (and_parts _ (list_all (is_mode plan) (alarm_modes alarm)) h).0).1) core.alarms parts.alarms)

@@ -8,10 +8,11 @@ use Rattle.std.proofs.lemmas.Bool.{and_parts, and_from, or_from, or_parts, or_le
 use Rattle.osbase.specs.declared.references.CoreId.{CoreId}
 use Rattle.osbase.specs.declared.references.CounterRef.{CounterRef}
 use Rattle.osbase.specs.declared.objects.Object.{Object}
-use Rattle.osbase.specs.Objects.{counter_object}
+use Rattle.osbase.specs.Objects.{counter_object, object_of_call}
 use Rattle.osbase.specs.History.{same_core}
 use Rattle.osbase.proofs.Same.{same_core-true, same_core-refl}
 use Rattle.oscript.specs.declared.Op.{Op}
+use Rattle.oscript.specs.Calls.{is_action}
 use Rattle.oscript.specs.Rows.{objects_of}
 use Rattle.osplan.specs.declared.plans.Plan.{Plan}
 use Rattle.osplan.specs.declared.plans.Core.{Core}
@@ -23,9 +24,9 @@ use Rattle.osplan.specs.declared.plans.Isr.{Isr}
 use Rattle.osplan.specs.declared.plans.Resource.{Resource}
 use Rattle.osplan.specs.declared.plans.Alarm.{Alarm}
 use Rattle.osplan.specs.declared.plans.Table.{Table}
-use Rattle.osplan.specs.declared.plans.TimedAction.{TimedAction}
+use Rattle.osbase.specs.declared.messages.RemoteCall.{RemoteCall}
 use Rattle.osplan.specs.View.{core_of}
-use Rattle.osplan.specs.Objects.{action_object, alarm_modes, object_count, table_actions, table_modes}
+use Rattle.osplan.specs.Objects.{alarm_modes, object_count, table_actions, table_modes}
 use Rattle.osplan.specs.Limits.{CoreSizes, StartSizes, TableSizes, core_sizes, sizes_of, is_action_known, is_alarm_known, is_alarm_near, is_core_timed, is_core_within, is_table_known, is_table_near, is_within, is_object, is_op_known, is_mode, is_core_mode, is_task_known, is_core_known, is_core_near, is_within_limits}
 use Rattle.osplan.specs.Expressible.{is_core_expressible, is_expressible, are_distinct, object_names}
 use Rattle.osplan.specs.Separate.{agree, alone_of, has_operation, is_agreed_mode, is_named_elsewhere, is_off, is_on, is_separate, is_separate_core, is_started, names_other}
@@ -89,43 +90,46 @@ module _ (plan : Plan) (id : CoreId) (core : Core) (found : core_of plan id ≡ 
   own-scripts : list_all (is_task_known plan) core.tasks ≡ true → has_operation (names_other core.id) core ≡ false → list_all (is_task_known (alone_of plan id core)) core.tasks ≡ true
   own-scripts known inside =
       all-weaker (λ (task : Task). is_task_known plan task && not (list_any (names_other core.id) task.script)) (is_task_known (alone_of plan id core)) own-script core.tasks
-      (all-both (is_task_known plan) (λ (task : Task). not (list_any (names_other core.id) task.script)) core.tasks known (all-not (λ (task : Task). list_any (names_other core.id) task.script) core.tasks inside))
+      (all-both (is_task_known plan) (λ (task : Task). not (list_any (names_other core.id) task.script)) core.tasks known (all-not (λ (task : Task). list_any (names_other core.id) task.script) core.tasks (or_parts (list_any (λ (task : Task). list_any (names_other core.id) task.script) core.tasks) _ inside).0))
 
   -- an action of this core is for an object of it
-  own-action : (action : TimedAction) → (is_action_known plan action && not (is_off core.id (action_object action))) ≡ true → is_action_known (alone_of plan id core) action ≡ true
-  own-action action h = own-object (action_object action) h
+  own-action : (action : RemoteCall) → (is_action_known plan action && not (is_off core.id (object_of_call action))) ≡ true → is_action_known (alone_of plan id core) action ≡ true
+  own-action action h =
+      let parts = and_parts (is_action_known plan action) (not (is_off core.id (object_of_call action))) h in
+      let known = and_parts (is_action action) (is_object plan (object_of_call action)) parts.0 in
+      and_from _ _ known.0 (own-object (object_of_call action) (and_from _ _ known.1 parts.1))
 
-  own-actions : (actions : List TimedAction) → list_all (is_action_known plan) actions ≡ true → list_any (λ (action : TimedAction). is_off core.id (action_object action)) actions ≡ false → list_all (is_action_known (alone_of plan id core)) actions ≡ true
+  own-actions : (actions : List RemoteCall) → list_all (is_action_known plan) actions ≡ true → list_any (λ (action : RemoteCall). is_off core.id (object_of_call action)) actions ≡ false → list_all (is_action_known (alone_of plan id core)) actions ≡ true
   own-actions actions known acting =
-      all-weaker (λ (action : TimedAction). is_action_known plan action && not (is_off core.id (action_object action))) (is_action_known (alone_of plan id core)) own-action actions
-      (all-both (is_action_known plan) (λ (action : TimedAction). not (is_off core.id (action_object action))) actions known
-      (all-not (λ (action : TimedAction). is_off core.id (action_object action)) actions acting))
+      all-weaker (λ (action : RemoteCall). is_action_known plan action && not (is_off core.id (object_of_call action))) (is_action_known (alone_of plan id core)) own-action actions
+      (all-both (is_action_known plan) (λ (action : RemoteCall). not (is_off core.id (object_of_call action))) actions known
+      (all-not (λ (action : RemoteCall). is_off core.id (object_of_call action)) actions acting))
 
   own-counter : (counter : CounterRef) → is_object plan (counter_object counter) ≡ true → is_on core.id (counter_object counter) ≡ true → is_object (alone_of plan id core) (counter_object counter) ≡ true
   own-counter counter known here = own-object (counter_object counter) (and_from _ _ known (ap (λ b. not (not b)) here))
 
   -- an alarm names its counter, of this core, and an object that its action is for
   abbrev stands-here : Alarm → Bool
-  stands-here alarm = is_alarm_near core.id alarm && not (is_off core.id (action_object alarm.action))
+  stands-here alarm = is_alarm_near core.id alarm && not (is_off core.id (object_of_call alarm.action))
 
   own-alarm : (alarm : Alarm) → (is_alarm_known plan alarm && stands-here alarm) ≡ true → is_alarm_known (alone_of plan id core) alarm ≡ true
   own-alarm alarm h =
       let parts = and_parts (is_alarm_known plan alarm) (stands-here alarm) h in
-      let here = and_parts (is_alarm_near core.id alarm) (not (is_off core.id (action_object alarm.action))) parts.1 in
+      let here = and_parts (is_alarm_near core.id alarm) (not (is_off core.id (object_of_call alarm.action))) parts.1 in
       let known = and_parts _ (list_all (is_mode plan) (alarm_modes alarm)) parts.0 in
       let objects = and_parts (is_object plan (counter_object alarm.counter)) (is_action_known plan alarm.action) known.0 in
       and_from _ _ (and_from _ _ (own-counter alarm.counter objects.0 here.0) (own-action alarm.action (and_from _ _ objects.1 here.1))) known.1
 
-  own-alarms : list_all (is_alarm_known plan) core.alarms ≡ true → list_all (is_alarm_near core.id) core.alarms ≡ true → list_any (λ (alarm : Alarm). is_off core.id (action_object alarm.action)) core.alarms ≡ false → list_all (is_alarm_known (alone_of plan id core)) core.alarms ≡ true
+  own-alarms : list_all (is_alarm_known plan) core.alarms ≡ true → list_all (is_alarm_near core.id) core.alarms ≡ true → list_any (λ (alarm : Alarm). is_off core.id (object_of_call alarm.action)) core.alarms ≡ false → list_all (is_alarm_known (alone_of plan id core)) core.alarms ≡ true
   own-alarms known near acting =
       all-weaker (λ (alarm : Alarm). is_alarm_known plan alarm && stands-here alarm) (is_alarm_known (alone_of plan id core)) own-alarm core.alarms
       (all-both (is_alarm_known plan) stands-here core.alarms known
-      (all-both (is_alarm_near core.id) (λ (alarm : Alarm). not (is_off core.id (action_object alarm.action))) core.alarms near
-      (all-not (λ (alarm : Alarm). is_off core.id (action_object alarm.action)) core.alarms acting)))
+      (all-both (is_alarm_near core.id) (λ (alarm : Alarm). not (is_off core.id (object_of_call alarm.action))) core.alarms near
+      (all-not (λ (alarm : Alarm). is_off core.id (object_of_call alarm.action)) core.alarms acting)))
 
   -- and so does a table
   abbrev lies-here : Table → Bool
-  lies-here table = is_table_near core.id table && not (list_any (λ (action : TimedAction). is_off core.id (action_object action)) (table_actions table))
+  lies-here table = is_table_near core.id table && not (list_any (λ (action : RemoteCall). is_off core.id (object_of_call action)) (table_actions table))
 
   own-table : (table : Table) → (is_table_known plan table && lies-here table) ≡ true → is_table_known (alone_of plan id core) table ≡ true
   own-table table h =
@@ -135,12 +139,12 @@ module _ (plan : Plan) (id : CoreId) (core : Core) (found : core_of plan id ≡ 
       let objects = and_parts (is_object plan (counter_object table.counter)) (list_all (is_action_known plan) (table_actions table)) known.0 in
       and_from _ _ (and_from _ _ (own-counter table.counter objects.0 here.0) (own-actions (table_actions table) objects.1 (not-true _ here.1))) known.1
 
-  own-tables-known : list_all (is_table_known plan) core.tables ≡ true → list_all (is_table_near core.id) core.tables ≡ true → list_any (λ (table : Table). list_any (λ (action : TimedAction). is_off core.id (action_object action)) (table_actions table)) core.tables ≡ false → list_all (is_table_known (alone_of plan id core)) core.tables ≡ true
+  own-tables-known : list_all (is_table_known plan) core.tables ≡ true → list_all (is_table_near core.id) core.tables ≡ true → list_any (λ (table : Table). list_any (λ (action : RemoteCall). is_off core.id (object_of_call action)) (table_actions table)) core.tables ≡ false → list_all (is_table_known (alone_of plan id core)) core.tables ≡ true
   own-tables-known known near acting =
       all-weaker (λ (table : Table). is_table_known plan table && lies-here table) (is_table_known (alone_of plan id core)) own-table core.tables
       (all-both (is_table_known plan) lies-here core.tables known
-      (all-both (is_table_near core.id) (λ (table : Table). not (list_any (λ (action : TimedAction). is_off core.id (action_object action)) (table_actions table))) core.tables near
-      (all-not (λ (table : Table). list_any (λ (action : TimedAction). is_off core.id (action_object action)) (table_actions table)) core.tables acting)))
+      (all-both (is_table_near core.id) (λ (table : Table). not (list_any (λ (action : RemoteCall). is_off core.id (object_of_call action)) (table_actions table))) core.tables near
+      (all-not (λ (table : Table). list_any (λ (action : RemoteCall). is_off core.id (object_of_call action)) (table_actions table)) core.tables acting)))
 
   core-alone : is_core_known plan core ≡ true → NearParts core → SeparateParts plan core → is_core_known (alone_of plan id core) core ≡ true
   core-alone known near separate =

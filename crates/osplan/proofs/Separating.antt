@@ -9,8 +9,9 @@ use Rattle.osplan.specs.declared.plans.ExpiryPoint.{ExpiryPoint}
 use Rattle.osplan.specs.declared.plans.Plan.{Plan}
 use Rattle.osplan.specs.declared.plans.Core.{Core}
 use Rattle.osplan.specs.declared.plans.Table.{Table}
-use Rattle.osplan.specs.declared.plans.TimedAction.{TimedAction}
-use Rattle.osplan.specs.Objects.{action_object, table_actions}
+use Rattle.osbase.specs.declared.messages.RemoteCall.{RemoteCall}
+use Rattle.osbase.specs.Objects.{object_of_call}
+use Rattle.osplan.specs.Objects.{table_actions}
 use Rattle.osplan.specs.Separate.{acts_on, has_operation, is_agreed_mode, is_named_elsewhere, is_off, is_separate_core, is_started, names_mode, names_object, names_other}
 use Rattle.osplan.proofs.Tests.{any-by, any-flat, any-mapped, none-from}
 
@@ -42,8 +43,8 @@ separate-parts plan core separate =
 
 -- What its alarms act on, and what its tables, table by table and point by point.
 module _ (test : Object → Bool) where
-  abbrev acts : TimedAction → Bool
-  acts action = test (action_object action)
+  abbrev acts : RemoteCall → Bool
+  acts action = test (object_of_call action)
 
   pub any-acting : (core : Core) → acts_on test core ≡ (list_any (λ (alarm : Alarm). acts alarm.action) core.alarms || list_any (λ (table : Table). list_any acts (table_actions table)) core.tables)
   any-acting core =

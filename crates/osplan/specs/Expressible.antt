@@ -1,13 +1,15 @@
 -- What a text can say of a configuration so far, beside its limits: names in form and all different, one mode, scripts whose
 -- arguments are of their kinds, whose masks have events and that stay within themselves, actions likewise, and no ISR. [own]
 -- Each is a test, so that a literal configuration passes it by computation.
-use Rattle.std.specs.Prelude.{ℕ, ◌==◌, ◌&&◌, nat_le, Bool, true, false, not, Some, List, [], ◌∷◌, ◌++◌, length, map, codes}
+use Rattle.std.specs.Prelude.{ℕ, ◌==◌, ◌&&◌, nat_le, Bool, true, false, not, List, [], ◌∷◌, ◌++◌, length, map, codes}
 use Rattle.std.specs.List.{list_all, list_any, flat_map}
 use Rattle.std.specs.Option.{option_map_or}
 use Rattle.std.specs.Str.{bytes_eq}
 use Rattle.osbase.specs.declared.references.ModeId.{ModeId}
+use Rattle.osbase.specs.declared.messages.RemoteCall.{RemoteCall}
 use Rattle.osbase.specs.Names.{is_name}
 use Rattle.oscript.specs.declared.Op.{Op}
+use Rattle.oscript.specs.Calls.{op_of_call}
 use Rattle.oscript.specs.Frames.{position_of}
 use Rattle.oscript.specs.Rows.{has_masks, is_in_form}
 use Rattle.osplan.specs.declared.plans.Alarm.{Alarm}
@@ -17,7 +19,6 @@ use Rattle.osplan.specs.declared.plans.Counter.{Counter}
 use Rattle.osplan.specs.declared.plans.Resource.{Resource}
 use Rattle.osplan.specs.declared.plans.Table.{Table}
 use Rattle.osplan.specs.declared.plans.Task.{Task}
-use Rattle.osplan.specs.declared.plans.TimedAction.{TimedAction}
 use Rattle.osplan.specs.declared.plans.CoreMode.{CoreMode}
 use Rattle.osplan.specs.declared.plans.CoreMode.TheVariants.{Named, DontCare}
 use Rattle.osplan.specs.Objects.{alarm_modes, table_actions, table_modes}
@@ -65,14 +66,9 @@ is_jumping_within script = list_all (goes_within (length script)) script
 abbrev pub is_script_expressible : List Op → Bool
 is_script_expressible script = list_all is_in_form script && list_all has_masks script && is_jumping_within script
 
--- An action as the operation that a script has for it. [own]
-abbrev pub op_of_action : TimedAction → Op
-op_of_action (TimedAction.ActivateTask t) = Op.ActivateTask (Some t)
-op_of_action (TimedAction.SetEvent t mask) = Op.SetEvent (Some t) mask
-
--- That operation has arguments of its kinds and a mask with an event.
-abbrev pub is_action_expressible : TimedAction → Bool
-is_action_expressible action = is_in_form (op_of_action action) && has_masks (op_of_action action)
+-- The operation that a script has for an action has arguments of its kinds and a mask with an event. [own]
+abbrev pub is_action_expressible : RemoteCall → Bool
+is_action_expressible action = is_in_form (op_of_call action) && has_masks (op_of_call action)
 
 -- A task has a name in form, starts by itself in no mode but the only one, and has such a script.
 abbrev pub is_task_expressible : Task → Bool

@@ -7,9 +7,11 @@ use Rattle.std.specs.Option.{option_map_or}
 use Rattle.osbase.specs.declared.references.CoreId.{CoreId}
 use Rattle.osbase.specs.declared.references.CounterRef.{CounterRef}
 use Rattle.osbase.specs.declared.references.ModeId.{ModeId}
+use Rattle.osbase.specs.declared.messages.RemoteCall.{RemoteCall}
 use Rattle.osbase.specs.declared.objects.Object.{Object}
-use Rattle.osbase.specs.Objects.{counter_object}
+use Rattle.osbase.specs.Objects.{counter_object, object_of_call}
 use Rattle.oscript.specs.declared.Op.{Op}
+use Rattle.oscript.specs.Calls.{is_action}
 use Rattle.oscript.specs.Rows.{names_own_only, objects_of}
 use Rattle.osplan.specs.declared.plans.Alarm.{Alarm}
 use Rattle.osplan.specs.declared.plans.AlarmStart.{AlarmStart}
@@ -21,10 +23,9 @@ use Rattle.osplan.specs.declared.plans.Resource.{Resource}
 use Rattle.osplan.specs.declared.plans.Table.{Table}
 use Rattle.osplan.specs.declared.plans.TableStart.{TableStart}
 use Rattle.osplan.specs.declared.plans.Task.{Task}
-use Rattle.osplan.specs.declared.plans.TimedAction.{TimedAction}
 use Rattle.osplan.specs.declared.plans.CoreMode.{CoreMode}
 use Rattle.osplan.specs.declared.plans.CoreMode.TheVariants.{Named, DontCare}
-use Rattle.osplan.specs.Objects.{action_object, alarm_modes, has_index, posted_at_once, table_actions, table_modes}
+use Rattle.osplan.specs.Objects.{alarm_modes, has_index, posted_at_once, table_actions, table_modes}
 use Rattle.osplan.specs.Separate.{is_on, names_other}
 use Rattle.osplan.specs.View.{core_of, counter_in}
 
@@ -349,9 +350,10 @@ is_core_mode plan DontCare = true
 abbrev pub is_task_known : Plan → Task → Bool
 is_task_known plan task = list_all (is_op_known plan) task.script && list_all (is_mode plan) task.auto
 
--- What an action is for is there.
-abbrev pub is_action_known : Plan → TimedAction → Bool
-is_action_known plan action = is_object plan (action_object action)
+-- What an alarm or a table does is an action, and what that is for is there. [AUTOSAR SWS OS 4.x, OsAlarmAction and
+-- OsScheduleTableExpiryPoint]
+abbrev pub is_action_known : Plan → RemoteCall → Bool
+is_action_known plan action = is_action action && is_object plan (object_of_call action)
 
 -- An alarm's counter is there, what its action is for, and the modes in which it is set by itself.
 abbrev pub is_alarm_known : Plan → Alarm → Bool

@@ -8,9 +8,9 @@ use Rattle.osbase.specs.declared.messages.RemoteCall.{RemoteCall}
 use Rattle.osbase.specs.declared.references.ModeId.{ModeId}
 use Rattle.osbase.specs.History.{greater, same_core}
 use Rattle.osbase.specs.Objects.{object_of_call}
+use Rattle.oscript.specs.Calls.{is_action}
 use Rattle.osplan.specs.declared.plans.Alarm.{Alarm as AlarmValue}
 use Rattle.osplan.specs.declared.plans.AlarmStart.{AlarmStart}
-use Rattle.osplan.specs.declared.plans.TimedAction.{TimedAction}
 use Rattle.osplan.specs.declared.plans.Core.{Core}
 use Rattle.osplan.specs.declared.plans.ExpiryPoint.{ExpiryPoint}
 use Rattle.osplan.specs.declared.plans.Table.{Table as TableValue}
@@ -38,15 +38,6 @@ may_name core object = not (same_core object.place.core core.id) || is_own_objec
 
 -- ---- alarms
 
--- An action as the call that it makes, also of a task of the alarm's own core. [AUTOSAR SWS OS 4.x, OsAlarmAction]
-abbrev pub call_of_action : TimedAction → RemoteCall
-call_of_action (TimedAction.ActivateTask t) = RemoteCall.ActivateTask t
-call_of_action (TimedAction.SetEvent t mask) = RemoteCall.SetEvent t mask
-
--- The object that an action is for.
-abbrev pub action_object : TimedAction → Object
-action_object action = object_of_call (call_of_action action)
-
 -- The modes in which an alarm is set by itself: none of one that is not automatic. [AUTOSAR SWS OS 4.x, OsAlarmAutostart]
 abbrev pub alarm_modes : AlarmValue → List ModeId
 alarm_modes alarm = option_map_or (λ (auto : AlarmStart). auto.modes) alarm.auto []
@@ -58,18 +49,23 @@ abbrev pub table_modes : TableValue → List ModeId
 table_modes table = option_map_or (λ (auto : TableStart). auto.modes) table.auto []
 
 -- The actions of a table, point by point.
-abbrev pub table_actions : TableValue → List TimedAction
+abbrev pub table_actions : TableValue → List RemoteCall
 table_actions table = flat_map (λ (point : ExpiryPoint). point.actions) table.points
 
 -- ---- both
 
 -- The actions of a core's alarms, and then those of its tables.
-abbrev pub core_actions : Core → List TimedAction
+abbrev pub core_actions : Core → List RemoteCall
 core_actions core = map (λ (alarm : AlarmValue). alarm.action) core.alarms ++ flat_map table_actions core.tables
 
+-- What an alarm or a table of the core may do by itself: an action, on an object that the core may name; it may be another core's.
+-- [AUTOSAR SWS OS 4.x, OsAlarmAction and OsScheduleTableExpiryPoint]
+abbrev pub may_act : Core → RemoteCall → Bool
+may_act core action = is_action action && may_name core (object_of_call action)
+
 -- The action is for another core's object.
-abbrev pub is_posting : Core → TimedAction → Bool
-is_posting core action = not (same_core (action_object action).place.core core.id)
+abbrev pub is_posting : Core → RemoteCall → Bool
+is_posting core action = not (same_core (object_of_call action).place.core core.id)
 
 -- How many actions of a point, and of that point of a table that has most, are for other cores.
 abbrev pub posted_at : Core → ExpiryPoint → ℕ

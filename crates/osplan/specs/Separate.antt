@@ -3,18 +3,20 @@ use Rattle.std.specs.Prelude.{ℕ, zero, suc, ◌==◌, ◌&&◌, ◌||◌, not,
 use Rattle.std.specs.List.{list_all, list_any}
 use Rattle.std.specs.Option.{option_map_or}
 use Rattle.osbase.specs.declared.references.CoreId.{CoreId}
+use Rattle.osbase.specs.declared.messages.RemoteCall.{RemoteCall}
 use Rattle.osbase.specs.declared.objects.Object.{Object}
 use Rattle.osbase.specs.History.{same_core}
+use Rattle.osbase.specs.Objects.{object_of_call}
 use Rattle.oscript.specs.declared.Op.{Op}
 use Rattle.oscript.specs.Rows.{objects_of}
 use Rattle.osplan.specs.declared.plans.Plan.{Plan}
 use Rattle.osplan.specs.declared.plans.Core.{Core}
+use Rattle.osplan.specs.declared.plans.Isr.{Isr}
 use Rattle.osplan.specs.declared.plans.Task.{Task}
-use Rattle.osplan.specs.declared.plans.TimedAction.{TimedAction}
 use Rattle.osplan.specs.declared.plans.CoreMode.{CoreMode}
 use Rattle.osplan.specs.declared.plans.CoreMode.TheVariants.{Named, DontCare}
 use Rattle.osplan.specs.declared.separate.Standing.{Standing}
-use Rattle.osplan.specs.Objects.{action_object, core_actions}
+use Rattle.osplan.specs.Objects.{core_actions}
 use Rattle.osplan.specs.View.{core_of}
 
 -- ---- which cores are started
@@ -84,13 +86,13 @@ names_own id op = op_names (is_on id) op
 abbrev pub names_other : CoreId → Op → Bool
 names_other id op = op_names (is_off id) op
 
--- A script of the core has such an operation.
+-- A script of the core has such an operation, one of a task or of an ISR.
 abbrev pub has_operation : (Op → Bool) → Core → Bool
-has_operation test core = list_any (λ (task : Task). list_any test task.script) core.tasks
+has_operation test core = list_any (λ (task : Task). list_any test task.script) core.tasks || list_any (λ (isr : Isr). list_any test isr.script) core.isrs
 
 -- An alarm or a schedule table of the core acts on an object that passes the test.
 abbrev pub acts_on : (Object → Bool) → Core → Bool
-acts_on test core = list_any (λ (action : TimedAction). test (action_object action)) (core_actions core)
+acts_on test core = list_any (λ (action : RemoteCall). test (object_of_call action)) (core_actions core)
 
 -- The core names an object that passes the test, by a script, an alarm or a table. [own]
 abbrev pub names_object : (Object → Bool) → Core → Bool

@@ -3,6 +3,7 @@ use Rattle.std.specs.Prelude.{ℕ, if◌then◌else◌, Bool, Option, None, List
 use Rattle.osbase.specs.declared.references.AlarmRef.{AlarmRef}
 use Rattle.osbase.specs.declared.references.CoreId.{CoreId}
 use Rattle.osbase.specs.declared.references.CounterRef.{CounterRef}
+use Rattle.osbase.specs.declared.references.IsrRef.{IsrRef}
 use Rattle.osbase.specs.declared.references.ResourceRef.{ResourceRef}
 use Rattle.osbase.specs.declared.references.TableRef.{TableRef}
 use Rattle.osbase.specs.declared.references.TaskRef.{TaskRef}
@@ -11,6 +12,7 @@ use Rattle.osplan.specs.declared.plans.Plan.{Plan}
 use Rattle.osplan.specs.declared.plans.Alarm.{Alarm}
 use Rattle.osplan.specs.declared.plans.Core.{Core}
 use Rattle.osplan.specs.declared.plans.Counter.{Counter}
+use Rattle.osplan.specs.declared.plans.Isr.{Isr}
 use Rattle.osplan.specs.declared.plans.Resource.{Resource}
 use Rattle.osplan.specs.declared.plans.Table.{Table}
 use Rattle.osplan.specs.declared.plans.Task.{Task}
@@ -60,6 +62,10 @@ is_configured v id = is_some (find (same_core id) v.cores)
 -- The task of this reference, if it is one of the core's own.
 abbrev pub own_task : Core → TaskRef → Option Task
 own_task core t = if same_core t.core core.id then slice_get core.tasks t.index else None
+
+-- The ISR of this reference, if it is one of the core's own.
+abbrev pub own_isr : Core → IsrRef → Option Isr
+own_isr core i = if same_core i.core core.id then slice_get core.isrs i.index else None
 
 -- The resource of this reference, if it is one of the core's own.
 abbrev pub own_resource : Core → ResourceRef → Option Resource

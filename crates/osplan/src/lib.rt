@@ -6,12 +6,13 @@
 
 pub mod faults;
 mod names;
+pub mod own;
 pub mod plans;
 pub mod separate;
 
 pub use faults::ConfFault;
 pub use plans::{
     Alarm, AlarmStart, Config, Core, CoreMode, Counter, ExpiryPoint, Isr, Plan, Resource, Table,
-    TableStart, Task, TimedAction,
+    TableStart, Task,
 };
 pub use separate::{Standing, cut, is_separate, standing_of, stays_on};

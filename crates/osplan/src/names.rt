@@ -4,7 +4,9 @@ ghost use Rattle.std.specs.Prelude.{◌≡◌};
 ghost use Rattle.osplan.specs.Names.{alarm_name, isr_name, name_of_mode, name_in, name_of, resource_name, runner_name, table_name, task_name};
 
 use crate::plans::{Core, Plan};
-use osbase::{AlarmRef, IsrRef, ModeId, ObjectKind, Place, ResourceRef, Runner, TableRef, TaskRef};
+use osbase::{
+    AlarmRef, IsrRef, ModeId, ObjectKind, Place, Reference, ResourceRef, Runner, TableRef, TaskRef,
+};
 
 impl Core {
     fn name_in(&self, kind: ObjectKind, index: u8) -> &str

@@ -2,15 +2,15 @@
 
 ghost use Rattle.std.specs.Prelude.{◌≡◌, ◌↔◌, IsTrue, Option, option_copied};
 ghost use Rattle.std.specs.List.{list_all};
-ghost use Rattle.osplan.specs.Objects.{action_object, call_of_action, is_own_object, object_count};
+ghost use Rattle.osplan.specs.Objects.{is_own_object, object_count};
 ghost use Rattle.osplan.specs.View.{core_of};
 ghost use Rattle.osplan.specs.Limits.{is_alarm_near, is_core_near, is_table_near, is_within_limits, stays_on};
-ghost use Rattle.osplan.specs.Expressible.{is_expressible, op_of_action};
+ghost use Rattle.osplan.specs.Expressible.{is_expressible};
 ghost use Rattle.osplan.specs.declared.plans.Task.{Task as TaskValue};
 
 use crate::separate::{is_on, stays_on};
-use osbase::{CoreId, CounterRef, List, ModeId, Name, Object, ObjectKind, RemoteCall, TaskRef};
-use oscript::{Op, Script};
+use osbase::{CoreId, CounterRef, List, ModeId, Name, Object, ObjectKind, Reference, RemoteCall};
+use oscript::Script;
 use std::marker::Model;
 
 /// A task (OSEK/VDX OS 2.2.3, section 4).
@@ -39,10 +39,15 @@ pub struct Resource {
     pub ceiling: u8,
 }
 
-/// A category 2 ISR. None can be configured yet.
+/// A category 2 ISR (AUTOSAR SWS OS 4.x, OsIsr). None can be configured yet.
 #[derive(Debug, Drop)]
 pub struct Isr {
     pub name: Name,
+    /// The level, 1 to 16: an ISR interrupts those of a lower one.
+    pub level: u8,
+    /// How many ticks a job may run (OsIsrExecutionBudget); 0 for any number.
+    pub budget: u32,
+    pub script: Script,
 }
 
 /// A counter (AUTOSAR SWS OS 4.x, OsCounter).
@@ -55,43 +60,6 @@ pub struct Counter {
     pub min: u32,
     /// Whether IncrementCounter alone advances it, and no tick.
     pub software: bool,
-}
-
-/// What an alarm does when it is due, or a schedule table at a point: its task may stand on another core (AUTOSAR SWS OS
-/// 4.x, OsAlarmAction and OsScheduleTableExpiryPoint).
-#[derive(Clone, Copy, Debug, PartialEq, Eq)]
-pub enum TimedAction {
-    ActivateTask(TaskRef),
-    SetEvent(TaskRef, u32),
-}
-
-impl TimedAction {
-    /// The call that the action makes, also of a task of the alarm's own core.
-    pub fn call(self) -> RemoteCall
-        ensures { result ≡ call_of_action self }
-    {
-        match self {
-            TimedAction::ActivateTask(task) => RemoteCall::ActivateTask(task),
-            TimedAction::SetEvent(task, mask) => RemoteCall::SetEvent { task, mask },
-        }
-    }
-
-    /// The object that the action is for.
-    pub fn object(self) -> Object
-        ensures { result ≡ action_object self }
-    {
-        self.call().object()
-    }
-
-    /// The operation that a script has for the action.
-    pub fn op(self) -> Op
-        ensures { result ≡ op_of_action self }
-    {
-        match self {
-            TimedAction::ActivateTask(task) => Op::ActivateTask(Some(task)),
-            TimedAction::SetEvent(task, mask) => Op::SetEvent(Some(task), mask),
-        }
-    }
 }
 
 /// How an alarm is set by itself: in these application modes, first due after so many counts, and again after each
@@ -111,7 +79,8 @@ pub struct Alarm {
     pub name: Name,
     /// The counter, one of its own core.
     pub counter: CounterRef,
-    pub action: TimedAction,
+    /// What it does when it is due, an action (OsAlarmAction): its task may stand on another core.
+    pub action: RemoteCall,
     pub auto: Option<AlarmStart>,
 }
 
@@ -121,7 +90,7 @@ pub struct ExpiryPoint {
     /// 0 to the table's duration, greater than that of the point before.
     pub offset: u32,
     /// 1 to 8 actions. All activations come before all settings of events.
-    pub actions: List<TimedAction>,
+    pub actions: List<RemoteCall>,
 }
 
 /// How a schedule table is started by itself: in these application modes, its first period after so many counts

@@ -4,20 +4,22 @@ ghost use Rattle.std.specs.Prelude.{◌≡◌, ◌<◌, ◌⊎◌, ◌↔◌, fa
 ghost use Rattle.std.specs.List.{list_any};
 ghost use Rattle.std.specs.Option.{option_map_or};
 ghost use Rattle.osbase.specs.History.{same_core};
+ghost use Rattle.osbase.specs.Objects.{object_of_call};
 ghost use Rattle.osbase.specs.Sets.{has_core};
 ghost use Rattle.osbase.specs.declared.turns.TheConstants.{CORES};
 ghost use Rattle.osplan.specs.Limits.{is_within_limits, stays_on};
 ghost use Rattle.osplan.specs.Expressible.{is_core_expressible};
 ghost use Rattle.osplan.specs.Flags.{is_named_by_one_of, is_next, AreStarted};
-ghost use Rattle.osplan.specs.Objects.{action_object};
 ghost use Rattle.osplan.specs.declared.plans.Alarm.{Alarm as AlarmValue};
 ghost use Rattle.osplan.specs.declared.plans.ExpiryPoint.{ExpiryPoint as PointValue};
+ghost use Rattle.osplan.specs.declared.plans.Isr.{Isr as IsrValue};
 ghost use Rattle.osplan.specs.declared.plans.Table.{Table as TableValue};
+ghost use Rattle.osplan.specs.declared.plans.Task.{Task as TaskValue};
 ghost use Rattle.osplan.specs.Separate.{acts_on, agree, alone_of, cut_of, has_operation, is_among, is_named_elsewhere, is_agreed_mode, is_off, is_on, is_separate, is_separate_core, is_started, names_mode, names_object, names_other, names_own, standing_of};
 
 use crate::faults::ConfFault;
 use crate::plans::{
-    Alarm, AlarmStart, Config, Core, CoreMode, Counter, ExpiryPoint, Plan, Resource, Table,
+    Alarm, AlarmStart, Config, Core, CoreMode, Counter, ExpiryPoint, Isr, Plan, Resource, Table,
     TableStart, Task,
 };
 use osbase::{CORE_NUMBERS, CORES, CoreId, CoreSet, List, Name, Object};
@@ -177,8 +179,20 @@ fn is_script_inward(id: CoreId, task: &Task) -> bool
     task.script.as_slice().iter().any(|op| names_own(id, *op))
 }
 
-fn has_script_outward(core: &Core) -> bool
-    ensures { result ≡ has_operation (names_other core.now.id) core.now }
+fn is_isr_outward(id: CoreId, isr: &Isr) -> bool
+    ensures { result ≡ list_any (names_other id) isr.now.script }
+{
+    isr.script.as_slice().iter().any(|op| names_other(id, *op))
+}
+
+fn is_isr_inward(id: CoreId, isr: &Isr) -> bool
+    ensures { result ≡ list_any (names_own id) isr.now.script }
+{
+    isr.script.as_slice().iter().any(|op| names_own(id, *op))
+}
+
+fn has_task_outward(core: &Core) -> bool
+    ensures { result ≡ list_any (λ (task : TaskValue). list_any (names_other core.now.id) task.script) core.now.tasks }
 {
     core.tasks
         .as_slice()
@@ -186,8 +200,23 @@ fn has_script_outward(core: &Core) -> bool
         .any(|task| is_script_outward(core.id, task))
 }
 
+fn has_isr_outward(core: &Core) -> bool
+    ensures { result ≡ list_any (λ (isr : IsrValue). list_any (names_other core.now.id) isr.script) core.now.isrs }
+{
+    core.isrs
+        .as_slice()
+        .iter()
+        .any(|isr| is_isr_outward(core.id, isr))
+}
+
+fn has_script_outward(core: &Core) -> bool
+    ensures { result ≡ has_operation (names_other core.now.id) core.now }
+{
+    has_task_outward(core) || has_isr_outward(core)
+}
+
 fn has_alarm_outward(core: &Core) -> bool
-    ensures { result ≡ list_any (λ (alarm : AlarmValue). is_off core.now.id (action_object alarm.action)) core.now.alarms }
+    ensures { result ≡ list_any (λ (alarm : AlarmValue). is_off core.now.id (object_of_call alarm.action)) core.now.alarms }
 {
     core.alarms
         .as_slice()
@@ -196,7 +225,7 @@ fn has_alarm_outward(core: &Core) -> bool
 }
 
 fn is_point_outward(id: CoreId, point: &ExpiryPoint) -> bool
-    ensures { result ≡ list_any (λ action. is_off id (action_object action)) point.now.actions }
+    ensures { result ≡ list_any (λ action. is_off id (object_of_call action)) point.now.actions }
 {
     point
         .actions
@@ -206,7 +235,7 @@ fn is_point_outward(id: CoreId, point: &ExpiryPoint) -> bool
 }
 
 fn is_table_outward(id: CoreId, table: &Table) -> bool
-    ensures { result ≡ list_any (λ (point : PointValue). list_any (λ action. is_off id (action_object action)) point.actions) table.now.points }
+    ensures { result ≡ list_any (λ (point : PointValue). list_any (λ action. is_off id (object_of_call action)) point.actions) table.now.points }
 {
     table
         .points
@@ -216,7 +245,7 @@ fn is_table_outward(id: CoreId, table: &Table) -> bool
 }
 
 fn has_table_outward(core: &Core) -> bool
-    ensures { result ≡ list_any (λ (table : TableValue). list_any (λ (point : PointValue). list_any (λ action. is_off core.now.id (action_object action)) point.actions) table.points) core.now.tables }
+    ensures { result ≡ list_any (λ (table : TableValue). list_any (λ (point : PointValue). list_any (λ action. is_off core.now.id (object_of_call action)) point.actions) table.points) core.now.tables }
 {
     core.tables
         .as_slice()
@@ -236,8 +265,8 @@ fn is_outward(core: &Core) -> bool
     has_script_outward(core) || acts_outward(core)
 }
 
-fn has_script_inward(id: CoreId, other: &Core) -> bool
-    ensures { result ≡ has_operation (names_own id) other.now }
+fn has_task_inward(id: CoreId, other: &Core) -> bool
+    ensures { result ≡ list_any (λ (task : TaskValue). list_any (names_own id) task.script) other.now.tasks }
 {
     other
         .tasks
@@ -246,8 +275,24 @@ fn has_script_inward(id: CoreId, other: &Core) -> bool
         .any(|task| is_script_inward(id, task))
 }
 
+fn has_isr_inward(id: CoreId, other: &Core) -> bool
+    ensures { result ≡ list_any (λ (isr : IsrValue). list_any (names_own id) isr.script) other.now.isrs }
+{
+    other
+        .isrs
+        .as_slice()
+        .iter()
+        .any(|isr| is_isr_inward(id, isr))
+}
+
+fn has_script_inward(id: CoreId, other: &Core) -> bool
+    ensures { result ≡ has_operation (names_own id) other.now }
+{
+    has_task_inward(id, other) || has_isr_inward(id, other)
+}
+
 fn has_alarm_inward(id: CoreId, other: &Core) -> bool
-    ensures { result ≡ list_any (λ (alarm : AlarmValue). is_on id (action_object alarm.action)) other.now.alarms }
+    ensures { result ≡ list_any (λ (alarm : AlarmValue). is_on id (object_of_call alarm.action)) other.now.alarms }
 {
     other
         .alarms
@@ -257,7 +302,7 @@ fn has_alarm_inward(id: CoreId, other: &Core) -> bool
 }
 
 fn is_point_inward(id: CoreId, point: &ExpiryPoint) -> bool
-    ensures { result ≡ list_any (λ action. is_on id (action_object action)) point.now.actions }
+    ensures { result ≡ list_any (λ action. is_on id (object_of_call action)) point.now.actions }
 {
     point
         .actions
@@ -267,7 +312,7 @@ fn is_point_inward(id: CoreId, point: &ExpiryPoint) -> bool
 }
 
 fn is_table_inward(id: CoreId, table: &Table) -> bool
-    ensures { result ≡ list_any (λ (point : PointValue). list_any (λ action. is_on id (action_object action)) point.actions) table.now.points }
+    ensures { result ≡ list_any (λ (point : PointValue). list_any (λ action. is_on id (object_of_call action)) point.actions) table.now.points }
 {
     table
         .points
@@ -277,7 +322,7 @@ fn is_table_inward(id: CoreId, table: &Table) -> bool
 }
 
 fn has_table_inward(id: CoreId, other: &Core) -> bool
-    ensures { result ≡ list_any (λ (table : TableValue). list_any (λ (point : PointValue). list_any (λ action. is_on id (action_object action)) point.actions) table.points) other.now.tables }
+    ensures { result ≡ list_any (λ (table : TableValue). list_any (λ (point : PointValue). list_any (λ action. is_on id (object_of_call action)) point.actions) table.points) other.now.tables }
 {
     other
         .tables
@@ -304,7 +349,7 @@ fn is_named_elsewhere(plan: &Plan, id: CoreId) -> bool
     plan.cores.as_slice().iter().any(|other| other.id.number != id.number && is_inward(id, other))
 }
 
-// Tasks, alarms and tables name objects so far: ISRs, which could too, cannot be configured yet.
+// Tasks, ISRs, alarms and tables name objects.
 fn is_separate_core(plan: &Plan, core: &Core) -> bool
     requires { IsTrue (is_within_limits plan.now) }
     ensures { result ≡ is_separate_core plan.now core.now }

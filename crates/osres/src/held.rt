@@ -68,7 +68,7 @@ impl Held {
     }
 
     /// One resource more, which is now the newest.
-    pub fn take(&mut self, resource: HeldResource)
+    pub fn raise(&mut self, resource: HeldResource)
         requires { length self.old < RESOURCES }
         ensures { self.new ≡ resource ∷ self.old }
     {
@@ -77,7 +77,7 @@ impl Held {
     }
 
     /// Gives the newest resource back, if there is one.
-    pub fn give(&mut self) -> Option<HeldResource>
+    pub fn lower(&mut self) -> Option<HeldResource>
         ensures newest { result ≡ slice_get self.old 0 }
         ensures rest { self.new ≡ drop 1 self.old }
     {
@@ -86,12 +86,19 @@ impl Held {
         Some(slot.resource)
     }
 
+    /// The resource at this place, if there is one; the newest is at 0.
+    pub fn held(&self, place: usize) -> Option<HeldResource>
+        ensures { result ≡ slice_get self.now place }
+    {
+        let slot = self.resources.as_slice().get(place)?;
+        Some(slot.resource)
+    }
+
     /// The newest resource, if there is one.
     pub fn newest(&self) -> Option<HeldResource>
         ensures { result ≡ slice_get self.now 0 }
     {
-        let slot = self.resources.as_slice().first()?;
-        Some(slot.resource)
+        self.held(0)
     }
 
     /// Whether no resource is held.

@@ -1,10 +1,8 @@
-//! The resources that the jobs of a core hold.
+//! The resources that one job holds.
 //!
 //! Nothing here takes memory.
 #![tactic(auto)]
 
 pub mod held;
-pub mod resources;
 
 pub use held::{Held, RESOURCES, greater};
-pub use resources::Resources;

@@ -14,7 +14,7 @@ use Rattle.oscript.specs.declared.Op.TheVariants as Op
 use Rattle.osplan.specs.declared.plans.Plan.{Plan}
 use Rattle.osplan.specs.declared.plans.Table.{Table}
 use Rattle.osplan.specs.declared.plans.Task.{Task}
-use Rattle.osplan.specs.declared.plans.TimedAction.TheVariants as TimedAction
+use Rattle.osbase.specs.declared.messages.RemoteCall.TheVariants as Remote
 use Rattle.osrows.specs.Parts.{alone, auto_task, core, core_of, counter, counter_at, end, ended, gates, plan_of, returned, task, task_at, with_clocks, with_events, with_priority, with_tables}
 
 abbrev pub task_w : TaskRef
@@ -41,7 +41,7 @@ first = record {
   counter = counter_at 0 0;
   duration = 3;
   repeating = false;
-  points = record { offset = 1; actions = TimedAction.SetEvent task_w 1 ∷ TimedAction.ActivateTask task_b ∷ [] } ∷ [];
+  points = record { offset = 1; actions = Remote.SetEvent task_w 1 ∷ Remote.ActivateTask task_b ∷ [] } ∷ [];
   auto = None;
 }
 
@@ -51,7 +51,7 @@ second = record {
   counter = counter_at 0 0;
   duration = 2;
   repeating = true;
-  points = record { offset = 0; actions = TimedAction.ActivateTask task_b ∷ [] } ∷ [];
+  points = record { offset = 0; actions = Remote.ActivateTask task_b ∷ [] } ∷ [];
   auto = None;
 }
 

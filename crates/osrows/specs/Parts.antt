@@ -22,7 +22,6 @@ use Rattle.osbase.specs.History.{marks_of}
 use Rattle.oscript.specs.declared.Op.{Op}
 use Rattle.osplan.specs.declared.plans.Alarm.{Alarm}
 use Rattle.osplan.specs.declared.plans.Counter.{Counter}
-use Rattle.osplan.specs.declared.plans.TimedAction.TheVariants as TimedAction
 use Rattle.osplan.specs.declared.plans.Plan.{Plan}
 use Rattle.osplan.specs.declared.plans.Core.{Core}
 use Rattle.osplan.specs.declared.plans.Table.{Table}
@@ -87,7 +86,7 @@ abbrev pub counter_at : ℕ → ℕ → CounterRef
 counter_at n index = record { core = core n; index = index }
 
 abbrev pub alarm_for : ℕ → List ℕ → TaskRef → Alarm
-alarm_for n name t = record { name = name; counter = counter_at n 0; action = TimedAction.ActivateTask t; auto = None }
+alarm_for n name t = record { name = name; counter = counter_at n 0; action = Remote.ActivateTask t; auto = None }
 
 abbrev pub alarm_at : ℕ → ℕ → AlarmRef
 alarm_at n index = record { core = core n; index = index }

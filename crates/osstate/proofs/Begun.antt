@@ -1,41 +1,41 @@
 -- The state of a core that took no item.
 use Rattle.std.proofs.Common.{◌≡◌, ℕ, zero, suc, ◌+◌, ◌≤◌, Bool, true, false, cond, IsTrue, Option, Some, None, is_some, List, [], ◌∷◌, length, map, refl, ap, sym, subst, ◌∙◌, arith, replicate, nat_lt, sum_by, get_or, unwrap_or}
-use Rattle.std.specs.List.{find, list_all}
+use Rattle.std.specs.List.{find, list_all, slice_get}
+use Rattle.std.specs.Option.{option_map_or}
 use Rattle.std.proofs.lemmas.Bool.{false≢true, and_parts}
-use Rattle.std.proofs.lemmas.List.{length-replicate}
 use Rattle.osbase.specs.declared.references.CoreId.{CoreId}
-use Rattle.osbase.specs.declared.histories.HeldResource.{HeldResource}
+use Rattle.osbase.specs.declared.references.Runner.{Runner}
 use Rattle.osbase.specs.declared.histories.Sent.{Sent}
-use Rattle.osbase.specs.declared.histories.TaskEvents.{TaskEvents}
-use Rattle.osbase.specs.declared.turns.TheConstants.{CORES}
-use Rattle.osbase.specs.History.{no_events, same_core}
+use Rattle.osbase.specs.declared.turns.TheConstants.{CORES, RUNNERS}
+use Rattle.osbase.specs.History.{same_core}
 use Rattle.osbase.specs.Phases.{is_past_first_gate}
 use Rattle.osbase.specs.Sets.{numbers_from}
 use Rattle.oscript.specs.declared.Op.{Op}
 use Rattle.oscript.specs.Rows.{objects_of}
-use Rattle.oscript.specs.declared.Frame.{Frame}
-use Rattle.oscript.specs.Frames.{new_frame}
+use Rattle.oscript.specs.Runners.{Row, first_row}
 use Rattle.osplan.specs.declared.plans.Plan.{Plan}
 use Rattle.osplan.specs.declared.plans.Core.{Core}
+use Rattle.osplan.specs.declared.plans.Isr.{Isr}
 use Rattle.osplan.specs.declared.plans.Resource.{Resource}
 use Rattle.osplan.specs.declared.plans.Task.{Task}
-use Rattle.osplan.specs.View.{View, core_of, no_core, view_from, view_of}
+use Rattle.osplan.specs.View.{View, core_of, no_core, own_isr, own_task, view_from, view_of}
 use Rattle.osplan.specs.Limits.{is_within_limits, is_core_known, is_task_known, is_object, is_op_known}
+use Rattle.osplan.specs.Expressible.{is_core_expressible, is_expressible}
 use Rattle.osplan.specs.Objects.{may_name}
-use Rattle.osbase.specs.declared.turns.TheConstants.{TASKS}
 use Rattle.osclock.specs.Clocks.{ClockState, clocks_of}
 use Rattle.ostable.proofs.Waiting.{waits-begun}
 use Rattle.ostable.specs.Tables.{TableStates, tables_of}
 use Rattle.osjobs.specs.Jobs.{JobState, first_jobs}
 use Rattle.osstate.specs.declared.progress.Progress.{Progress}
-use Rattle.osstate.specs.State.{state_of, tasks_from}
-use Rattle.osstate.specs.Steps.{state_from, first_border, first_progress, first_state, first_tasks}
+use Rattle.osstate.specs.State.{state_of}
+use Rattle.osstate.specs.Steps.{state_from, first_border, first_progress, first_state}
+use Rattle.osstate.specs.Readings.{script_of}
 use Rattle.osstate.specs.Sound.{IsSound, is_agreed, has_objects_of}
 use Rattle.osbase.proofs.Same.{same_core-comm, same_core-true}
-use Rattle.osplan.proofs.Tests.{all-weaker, find-holds, find-passes}
+use Rattle.osplan.proofs.Tests.{all-weaker, find-holds, find-passes, passes-at}
 use Rattle.osplan.proofs.Alarming.{known-actions, known-named, known-parts}
 use Rattle.osplan.proofs.Clocked.{clocks_within}
-use Rattle.osplan.proofs.Within.{FitsKernel, limit-parts, core-fits}
+use Rattle.osplan.proofs.Within.{FitsKernel, limit-parts, core-fits, core-text-parts, text-parts}
 
 -- An operation of a configuration names objects that are there, so on this core some of its own.
 known_scripts : (plan : Plan) (core : Core) → is_core_known plan core ≡ true → core_of plan core.id ≡ Some core → list_all (λ (t : Task). list_all (has_objects_of core) t.script) core.tasks ≡ true
@@ -64,10 +64,26 @@ all-begun x first (suc count) = ap (λ xs. x ∷ xs) (all-begun x (first + 1) co
 -- The state before any item stands for the empty history.
 pub state-begun : (plan : Plan) (id : CoreId) (core : Core) → core_of plan id ≡ Some core → first_state plan core (same_core core.id plan.master) ≡ state_of (view_of plan id) []
 state-begun plan id core found =
-    ap (λ (fs : List Frame). state_from plan core (first_progress (same_core core.id plan.master)) (tasks_from first_jobs fs) (clocks_of core []) (tables_of core []) first_border) (sym (all-begun new_frame 0 (length core.tasks)))
-    ∙ ap (λ (held : List (List HeldResource)). state_from plan core (first_progress (same_core core.id plan.master)) (tasks_from (record first_jobs { held = held }) (map (λ (n : ℕ). new_frame) (numbers_from 0 (length core.tasks)))) (clocks_of core []) (tables_of core []) first_border) (sym (all-begun [] 0 TASKS))
-    ∙ ap (λ (events : List TaskEvents). state_from plan core (first_progress (same_core core.id plan.master)) (tasks_from (record first_jobs { held = map (λ (n : ℕ). []) (numbers_from 0 TASKS); events = events }) (map (λ (n : ℕ). new_frame) (numbers_from 0 (length core.tasks)))) (clocks_of core []) (tables_of core []) first_border) (sym (all-begun no_events 0 TASKS))
+    ap (λ (rows : List Row). state_from plan core (first_progress (same_core core.id plan.master)) (record first_jobs { rows = rows }) (clocks_of core []) (tables_of core []) first_border) (sym (all-begun first_row 0 RUNNERS))
     ∙ ap (λ (v : View). state_of v []) (view-own plan id core found)
+
+-- Whatever a runner's script names on this core is there.
+scripts-known : (core : Core) → list_all (λ (t : Task). list_all (has_objects_of core) t.script) core.tasks ≡ true → core.isrs ≡ [] → (r : Runner) → list_all (has_objects_of core) (script_of core r) ≡ true
+scripts-known core tasks none (Runner.Task t) = by (own_task core t) refl
+  where
+    listed : (u : Task) (b : Bool) → cond b (slice_get core.tasks t.index) None ≡ Some u → list_all (has_objects_of core) u.script ≡ true
+    listed u true e = passes-at (λ (w : Task). list_all (has_objects_of core) w.script) core.tasks t.index u tasks e
+    listed u false e = cc
+
+    by : (o : Option Task) → own_task core t ≡ o → list_all (has_objects_of core) (option_map_or (λ (u : Task). u.script) o []) ≡ true
+    by None e = refl
+    by (Some u) e = listed u (same_core t.core core.id) e
+scripts-known core tasks none (Runner.Isr i) =
+    ap (λ (o : Option Isr). list_all (has_objects_of core) (option_map_or (λ (x : Isr). x.script) o [])) (nobody (same_core i.core core.id))
+  where
+    nobody : (b : Bool) → cond b (slice_get core.isrs i.index) None ≡ None
+    nobody true = ap (λ (xs : List Isr). slice_get xs i.index) none
+    nobody false = refl
 
 zeros_low : (n k : ℕ) → get_or (replicate n 0) k 0 ≤ 0
 zeros_low zero k = omega arith
@@ -75,31 +91,32 @@ zeros_low (suc n) zero = omega arith
 zeros_low (suc n) (suc k) = zeros_low n k
 
 -- And it is sound.
-pub sound-begun : (priorities room : ℕ) (plan : Plan) (id : CoreId) (core : Core) (master : Bool) → IsTrue (is_within_limits plan) → core_of plan id ≡ Some core
+pub sound-begun : (priorities room : ℕ) (plan : Plan) (id : CoreId) (core : Core) (master : Bool) → IsTrue (is_within_limits plan) → IsTrue (is_expressible plan) → core_of plan id ≡ Some core
     → list_all (λ (t : Task). nat_lt t.priority priorities) (view_of plan id).own.tasks ≡ true
     → list_all (λ (r : Resource). nat_lt r.ceiling priorities) (view_of plan id).own.resources ≡ true
     → sum_by (λ (t : Task). t.activations) (view_of plan id).own.tasks ≤ room → IsSound priorities room (first_state plan core master)
-sound-begun priorities room plan id core master limits found below ceilings sum = record {
-  tasks = fits.tasks;
-  frames = length-replicate (length core.tasks) new_frame;
-  bounded = subst (λ (v : View). list_all (λ (t : Task). nat_lt t.priority priorities) v.own.tasks ≡ true) (sym (view-own plan id core found)) below;
-  limits = subst (λ (v : View). sum_by (λ (t : Task). t.activations) v.own.tasks ≤ room) (sym (view-own plan id core found)) sum;
-  some = fits.some;
-  resources = fits.resources;
-  ceilings = subst (λ (v : View). list_all (λ (r : Resource). nat_lt r.ceiling priorities) v.own.resources ≡ true) (sym (view-own plan id core found)) ceilings;
-  scripts = known_scripts plan core known mine;
-  actions = known-actions plan core mine known;
-  jobs = (λ r. omega arith);
-  idle = (λ e. refl);
-  agreed = before_gate master;
-  clocks = record { within = clocks_within plan id core limits found; history = []; is = refl };
-  tables = record { within = clocks_within plan id core limits found; history = []; is = refl };
-  waiting = waits-begun core;
-  caller = tt;
-  began = omega arith;
-  items = omega arith;
-  queued = zeros_low CORES;
-  received = zeros_low CORES;
+sound-begun priorities room plan id core master limits text found below ceilings sum = record {
+  tasks = record {
+    tasks = fits.tasks;
+    isrs = omega (arith, ap length none);
+    bounded = subst (λ (v : View). list_all (λ (t : Task). nat_lt t.priority priorities) v.own.tasks ≡ true) (sym (view-own plan id core found)) below;
+    limits = subst (λ (v : View). sum_by (λ (t : Task). t.activations) v.own.tasks ≤ room) (sym (view-own plan id core found)) sum;
+    some = fits.some;
+  };
+  objects = record {
+    scripts = scripts-known core (known_scripts plan core known mine) none;
+    actions = known-actions plan core mine known;
+    resources = fits.resources;
+    ceilings = subst (λ (v : View). list_all (λ (r : Resource). nat_lt r.ceiling priorities) v.own.resources ≡ true) (sym (view-own plan id core found)) ceilings;
+  };
+  jobs = record { within = (λ r. omega arith); idle = (λ e. refl) };
+  progress = record { agreed = before_gate master; began = omega arith; items = omega arith };
+  border = record { caller = tt; queued = zeros_low CORES; received = zeros_low CORES };
+  times = record {
+    clocks = record { within = clocks_within plan id core limits found; history = []; is = refl };
+    tables = record { within = clocks_within plan id core limits found; history = []; is = refl };
+    waiting = waits-begun core;
+  };
 }
   where
     before_gate : (b : Bool) → is_past_first_gate (first_progress b).phase ≡ true → is_agreed None ≡ true
@@ -115,16 +132,18 @@ sound-begun priorities room plan id core master limits found below ceilings sum 
     fits : FitsKernel core
     fits = core-fits plan id core limits found
 
+    none : core.isrs ≡ []
+    none = (core-text-parts core (find-passes (λ (c : Core). same_core c.id id) is_core_expressible plan.cores core (text-parts plan text).cores found)).isrs
+
 -- The parts of a state before any item, each with what it is.
-pub parts-begun : (plan : Plan) (core : Core) (b : Bool) (p : Progress) (n : ℕ) (jobs : JobState) (frames : List Frame) (clocks : ClockState) (tables : TableStates) (outbox : List Sent) → p ≡ first_progress b → n ≡ length core.tasks → jobs ≡ first_jobs → frames ≡ replicate n new_frame → clocks ≡ clocks_of core [] → tables ≡ tables_of core [] → outbox ≡ []
-    → state_from plan core p (tasks_from jobs frames) clocks tables (record first_border { outbox = outbox }) ≡ first_state plan core b
-parts-begun plan core b p n jobs frames clocks tables outbox progress count no_jobs new_frames no_counts none_started no_outbox =
-    ap (λ (q : Progress). state_from plan core q (tasks_from jobs frames) clocks tables (record first_border { outbox = outbox })) progress
-    ∙ ap (λ (js : JobState). state_from plan core (first_progress b) (tasks_from js frames) clocks tables (record first_border { outbox = outbox })) no_jobs
-    ∙ ap (λ (fs : List Frame). state_from plan core (first_progress b) (tasks_from first_jobs fs) clocks tables (record first_border { outbox = outbox })) (new_frames ∙ ap (λ (m : ℕ). replicate m new_frame) count)
-    ∙ ap (λ (k : ClockState). state_from plan core (first_progress b) (first_tasks (length core.tasks)) k tables (record first_border { outbox = outbox })) no_counts
-    ∙ ap (λ (x : TableStates). state_from plan core (first_progress b) (first_tasks (length core.tasks)) (clocks_of core []) x (record first_border { outbox = outbox })) none_started
-    ∙ ap (λ (out : List Sent). state_from plan core (first_progress b) (first_tasks (length core.tasks)) (clocks_of core []) (tables_of core []) (record first_border { outbox = out })) no_outbox
+pub parts-begun : (plan : Plan) (core : Core) (b : Bool) (p : Progress) (jobs : JobState) (clocks : ClockState) (tables : TableStates) (outbox : List Sent) → p ≡ first_progress b → jobs ≡ first_jobs → clocks ≡ clocks_of core [] → tables ≡ tables_of core [] → outbox ≡ []
+    → state_from plan core p jobs clocks tables (record first_border { outbox = outbox }) ≡ first_state plan core b
+parts-begun plan core b p jobs clocks tables outbox progress no_jobs no_counts none_started no_outbox =
+    ap (λ (q : Progress). state_from plan core q jobs clocks tables (record first_border { outbox = outbox })) progress
+    ∙ ap (λ (js : JobState). state_from plan core (first_progress b) js clocks tables (record first_border { outbox = outbox })) no_jobs
+    ∙ ap (λ (k : ClockState). state_from plan core (first_progress b) first_jobs k tables (record first_border { outbox = outbox })) no_counts
+    ∙ ap (λ (x : TableStates). state_from plan core (first_progress b) first_jobs (clocks_of core []) x (record first_border { outbox = outbox })) none_started
+    ∙ ap (λ (out : List Sent). state_from plan core (first_progress b) first_jobs (clocks_of core []) (tables_of core []) (record first_border { outbox = out })) no_outbox
 
 -- A configured core's number is among those that a core sees.
 pub is_some-core_of : (id : CoreId) (cores : List Core) → is_some (find (λ (c : Core). same_core c.id id) cores) ≡ is_some (find (same_core id) (map (λ (c : Core). c.id) cores))

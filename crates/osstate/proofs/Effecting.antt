@@ -1,5 +1,7 @@
 -- How effects compose.
-use Rattle.std.proofs.Common.{◌≡◌, ℕ, ◌+◌, ◌≤◌, ◌<◌, List, [], ◌∷◌, ◌++◌, refl, ap, sym, subst, ◌∙◌, arith, append_assoc, length-append, Vec, Global, vec_len, vec_capacity}
+use Rattle.std.proofs.Common.{◌≡◌, ℕ, ◌+◌, ◌≤◌, ◌<◌, true, List, [], ◌∷◌, ◌++◌, refl, ap, sym, subst, ◌∙◌, arith, append_assoc, length-append, Vec, Global, vec_len, vec_capacity}
+use Rattle.std.specs.Option.{option_map_or}
+use Rattle.std.proofs.lemmas.Bool.{lt-ltb}
 use Rattle.std.proofs.lemmas.List.{append-nil}
 use Rattle.osbase.specs.declared.references.CoreId.{CoreId}
 use Rattle.osbase.specs.declared.histories.Sent.{Sent}
@@ -7,11 +9,14 @@ use Rattle.osbase.specs.declared.messages.Message.{Message}
 use Rattle.osbase.specs.declared.marks.Mark.{Mark}
 use Rattle.osbase.specs.declared.turns.TheConstants.{CORES}
 use Rattle.osbase.specs.History.{History, Entry, Note, Printed, Noted, Queued, queued_count}
+use Rattle.oscript.specs.Runners.{runner_of}
 use Rattle.osplan.specs.View.{View}
-use Rattle.osstate.specs.State.{KernelState, Stands, state_of}
+use Rattle.osjobs.specs.Priorities.{is_own_runner}
+use Rattle.osstate.specs.State.{KernelState, Stands}
 use Rattle.osstate.specs.Steps.{next_envelope, one_more, state_after}
 use Rattle.osstate.specs.Does.{Adds, Effects, Remarks, StaysInItem}
-use Rattle.osstate.proofs.Histories.{notes, notes_queued}
+use Rattle.osstate.specs.Sound.{IsSound}
+use Rattle.osstate.proofs.Histories.{are_numbers_known, notes, notes_queued, own_entry}
 
 adds-then : {m n : ℕ} {a b c : List Mark} → Adds m a b → Adds n b c → Adds (m + n) a c
 adds-then {a = a} e d = record {
@@ -62,10 +67,10 @@ stays_in : (s s' : KernelState) (e : Entry) → s' ≡ state_after e s → Stays
 stays_in s s' e is stays = subst (λ (q : KernelState). StaysInItem 1 s q) (sym is) stays
 
 -- One mark more.
-pub printing : {m : Mark} {s s' : KernelState} {x x' : Vec Mark Global} → s' ≡ state_after (Printed m) s → ((h : History) → state_after (Printed m) (state_of s.view h) ≡ state_of s.view (Printed m ∷ h)) → x'.items ≡ x.items ++ m ∷ [] → vec_len x' ≤ vec_len x + 1 → vec_capacity x' ≡ vec_capacity x → Effects 1 1 (λ v h. Printed m ∷ h) s s' x x'
-printing {m} {s} {s'} is step more len capacity = record {
+pub printing : {priorities room : ℕ} {m : Mark} {s s' : KernelState} {x x' : Vec Mark Global} → IsSound priorities room s → option_map_or (is_own_runner s.view.own) (runner_of (Printed m)) true ≡ true → s' ≡ state_after (Printed m) s → x'.items ≡ x.items ++ m ∷ [] → vec_len x' ≤ vec_len x + 1 → vec_capacity x' ≡ vec_capacity x → Effects 1 1 (λ v h. Printed m ∷ h) s s' x x'
+printing {m = m} {s = s} {s' = s'} sound own is more len capacity = record {
   does = (λ v h earlier base tracks. record {
-    stands = notes is step v h tracks.stands;
+    stands = notes is (own_entry (Printed m) sound own refl) v h tracks.stands;
     added = tracks.added ++ m ∷ [];
     behind = more ∙ ap (λ (ms : List Mark). ms ++ m ∷ []) tracks.behind ∙ append_assoc base tracks.added (m ∷ []);
     shows = sym (append_assoc earlier tracks.added (m ∷ [])) ∙ ap (λ (ms : List Mark). ms ++ m ∷ []) tracks.shows;
@@ -77,21 +82,21 @@ printing {m} {s} {s'} is step more len capacity = record {
 }
 
 -- One note more.
-pub noting : {n : Note} {s s' : KernelState} → s' ≡ state_after (Noted n) s → ((h : History) → state_after (Noted n) (state_of s.view h) ≡ state_of s.view (Noted n ∷ h)) → Remarks 1 (λ v h. Noted n ∷ h) s s'
-noting {n} {s} {s'} is step = record {
-  notes = notes is step;
+pub noting : {priorities room : ℕ} {n : Note} {s s' : KernelState} → IsSound priorities room s → option_map_or (is_own_runner s.view.own) (runner_of (Noted n)) true ≡ true → are_numbers_known (Noted n) ≡ true → s' ≡ state_after (Noted n) s → Remarks 1 (λ v h. Noted n ∷ h) s s'
+noting {n = n} {s = s} {s' = s'} sound own numbers is = record {
+  notes = notes is (own_entry (Noted n) sound own numbers);
   silent = (λ v h. refl);
   stays = stays_in s s' (Noted n) is (record { view = refl; phase = refl; items = refl; entries = omega arith });
 }
 
 -- One envelope more.
-pub queueing : {to : CoreId} {message : Message} {s old : KernelState} {waiting : List Sent} {counts : List ℕ} → s ≡ old → to.number < CORES
+pub queueing : {priorities room : ℕ} {to : CoreId} {message : Message} {s old : KernelState} {waiting : List Sent} {counts : List ℕ} → IsSound priorities room s → s ≡ old → to.number < CORES
     → waiting ≡ s.border.outbox ++ (let x : Sent = record { to = to; envelope = next_envelope s to message } in x) ∷ [] → counts ≡ one_more to s.border.queued
     → Remarks 1 (λ v h. Noted (Queued to (record { number = queued_count to h; message = message })) ∷ h) old
     (record s { progress = record s.progress { entries = s.progress.entries + 1 }; border = record s.border { outbox = waiting; queued = counts } })
-queueing {to} {message} {s} {old} {waiting} {counts} same known joins more =
+queueing {to = to} {message = message} {s = s} {old = old} {waiting = waiting} {counts = counts} sound same known joins more =
     subst (λ (q : KernelState). Remarks 1 (λ v h. Noted (Queued to (record { number = queued_count to h; message = message })) ∷ h) q new) same (record {
-      notes = notes_queued known is;
+      notes = notes_queued (own_entry (Noted (Queued to (next_envelope s to message))) sound refl (lt-ltb to.number CORES known)) known is;
       silent = (λ v h. refl);
       stays = stays_in s new (Noted (Queued to (next_envelope s to message))) is (record { view = refl; phase = refl; items = refl; entries = omega arith });
     })

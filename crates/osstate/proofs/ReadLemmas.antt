@@ -7,8 +7,6 @@ use Rattle.std.specs.Option.{option_map_or}
 use Rattle.osbase.specs.declared.references.AlarmRef.{AlarmRef}
 use Rattle.osbase.specs.declared.references.CounterRef.{CounterRef}
 use Rattle.osbase.specs.declared.references.TableRef.{TableRef}
-use Rattle.osbase.specs.declared.references.TaskRef.{TaskRef}
-use Rattle.osbase.specs.declared.references.Runner.{Runner}
 use Rattle.osbase.specs.History.{History, same_core}
 use Rattle.osbase.specs.Objects.{alarm_object, counter_object, table_object}
 use Rattle.oscript.specs.declared.Op.{Op}
@@ -19,10 +17,9 @@ use Rattle.oscript.specs.Frames.{action_at}
 use Rattle.osplan.specs.declared.plans.Alarm.{Alarm}
 use Rattle.osplan.specs.declared.plans.Core.{Core}
 use Rattle.osplan.specs.declared.plans.Table.{Table}
-use Rattle.osplan.specs.declared.plans.Task.{Task}
 use Rattle.osplan.specs.Clocked.{are_clocks_within}
-use Rattle.osplan.specs.Objects.{action_object, core_actions, is_own_object, may_name, table_actions}
-use Rattle.osplan.specs.View.{View, own_alarm, own_table, own_task}
+use Rattle.osplan.specs.Objects.{core_actions, is_own_object, may_act, table_actions}
+use Rattle.osplan.specs.View.{View, own_alarm, own_table}
 use Rattle.osplan.proofs.Tests.{each-flat, passes-at}
 use Rattle.osclock.specs.Clocks.{alarm_in, counter_in, counts_to_by, counts_to_in, counts_to_value_by, counts_to_value_in, due_by, due_in, is_in_use_by, is_used, left_by, left_in, value_by}
 use Rattle.osclock.proofs.Asked.{counts_to-read, counts_to_value-read, dues-read, left-read, used-read, value-read}
@@ -32,72 +29,47 @@ use Rattle.ostable.specs.Ahead.{status_of}
 use Rattle.ostable.specs.Tables.{due_tables_by, due_tables_in, next_by, next_in, state_by, status_in, table_in}
 use Rattle.ostable.proofs.Asked.{next-read, status-read}
 use Rattle.ostable.proofs.Asked.{dues-read as tables-read}
-use Rattle.osjobs.specs.Priorities.{is_own_runner}
 use Rattle.osstate.specs.Does.{Reads}
-use Rattle.osstate.specs.Queries.{next_action_in}
-use Rattle.osstate.specs.Readings.{frame_at, script_of}
-use Rattle.osstate.specs.Sound.{is_action_known, has_object_of, has_objects_of}
+use Rattle.osstate.specs.Sound.{is_action_known, has_objects_of}
 use Rattle.osstate.specs.State.{KernelState, Stands, state_of}
-use Rattle.osstate.specs.Steps.{frame_in}
-use Rattle.osstate.proofs.Histories.{frame-own}
 
 -- What is asked of the state is asked of the state that the history leads to.
 pub read : {A : Type 0} (query : KernelState → A) {s : KernelState} {v : View} {h : History} {x : A} → x ≡ query s → Stands v h s → x ≡ query (state_of v h)
 read query is stands = is ∙ ap query stands.is
 
-frame-in : (v : View) (h : History) (r : Runner) → is_own_runner v.own r ≡ true → frame_in r (state_of v h).tasks.frames ≡ frame_at v r h
-frame-in v h (Runner.Isr i) own = absurd (true≢false (sym own))
-frame-in v h (Runner.Task t) own = frame-own v h t own
-
-pub reads_frame : (s : KernelState) (r : Runner) (f : Frame) → is_own_runner s.view.own r ≡ true → f ≡ frame_in r s.tasks.frames → Reads (λ v h. frame_at v r h) s f
-reads_frame s r f own is v h stands =
-    read (λ (q : KernelState). frame_in r q.tasks.frames) is stands ∙ frame-in v h r (subst (λ (q : KernelState). is_own_runner q.view.own r ≡ true) stands.is own)
-
-action-in : (v : View) (h : History) (r : Runner) → is_own_runner v.own r ≡ true → next_action_in r (state_of v h) ≡ action_at (script_of v.own r) (frame_at v r h)
-action-in v h (Runner.Isr i) own = refl
-action-in v h (Runner.Task t) own = ap (action_at (script_of v.own (Runner.Task t))) (frame-own v h t own)
-
-pub reads_action : (s : KernelState) (r : Runner) (a : Action) → is_own_runner s.view.own r ≡ true → a ≡ next_action_in r s → Reads (λ v h. action_at (script_of v.own r) (frame_at v r h)) s a
-reads_action s r a own is v h stands =
-    read (next_action_in r) is stands ∙ action-in v h r (subst (λ (q : KernelState). is_own_runner q.view.own r ≡ true) stands.is own)
-
--- What an own task does next names on this core only the core's tasks.
-pub known_action : (core : Core) (t : TaskRef) (u : Task) (frame : Frame) (a : Action) → list_all (λ (w : Task). list_all (has_objects_of core) w.script) core.tasks ≡ true → own_task core t ≡ Some u → a ≡ action_at u.script frame → is_action_known core a ≡ true
-known_action core t u frame a all own is = subst (λ (b : Action). is_action_known core b ≡ true) (sym is) (next (slice_get u.script frame.pc) refl)
+-- What a runner does next names on this core only the core's objects.
+pub known_action : (core : Core) (script : List Op) (frame : Frame) (a : Action) → list_all (has_objects_of core) script ≡ true → a ≡ action_at script frame → is_action_known core a ≡ true
+known_action core script frame a all is = subst (λ (b : Action). is_action_known core b ≡ true) (sym is) (next (slice_get script frame.pc) refl)
   where
-    script : (b : Bool) → cond b (slice_get core.tasks t.index) None ≡ Some u → list_all (has_objects_of core) u.script ≡ true
-    script true e = passes-at (λ (w : Task). list_all (has_objects_of core) w.script) core.tasks t.index u all e
-    script false e = cc
-
-    next : (o : Option Op) → slice_get u.script frame.pc ≡ o → is_action_known core (option_map_or Perform o End) ≡ true
+    next : (o : Option Op) → slice_get script frame.pc ≡ o → is_action_known core (option_map_or Perform o End) ≡ true
     next None e = refl
-    next (Some op) e = passes-at (has_objects_of core) u.script frame.pc op (script (same_core t.core core.id) own) e
+    next (Some op) e = passes-at (has_objects_of core) script frame.pc op all e
 
 -- Nor does one of its alarms act on another object of this core.
-pub known_timed : (core : Core) (a : AlarmRef) (alarm : Alarm) → list_all (has_object_of core) (core_actions core) ≡ true → own_alarm core a ≡ Some alarm → may_name core (action_object alarm.action) ≡ true
+pub known_timed : (core : Core) (a : AlarmRef) (alarm : Alarm) → list_all (may_act core) (core_actions core) ≡ true → own_alarm core a ≡ Some alarm → may_act core alarm.action ≡ true
 known_timed core a alarm all own = by (same_core a.core core.id) own
   where
-    each : list_all (λ (x : Alarm). has_object_of core x.action) core.alarms ≡ true
+    each : list_all (λ (x : Alarm). may_act core x.action) core.alarms ≡ true
     each =
-        sym (list_all-map (has_object_of core) (λ (x : Alarm). x.action) core.alarms)
-        ∙ (and_parts _ (list_all (has_object_of core) (flat_map table_actions core.tables)) (sym (list_all-append (has_object_of core) (map (λ (x : Alarm). x.action) core.alarms) (flat_map table_actions core.tables)) ∙ all)).0
+        sym (list_all-map (may_act core) (λ (x : Alarm). x.action) core.alarms)
+        ∙ (and_parts _ (list_all (may_act core) (flat_map table_actions core.tables)) (sym (list_all-append (may_act core) (map (λ (x : Alarm). x.action) core.alarms) (flat_map table_actions core.tables)) ∙ all)).0
 
-    by : (b : Bool) → cond b (slice_get core.alarms a.index) None ≡ Some alarm → may_name core (action_object alarm.action) ≡ true
-    by true e = passes-at (λ (x : Alarm). has_object_of core x.action) core.alarms a.index alarm each e
+    by : (b : Bool) → cond b (slice_get core.alarms a.index) None ≡ Some alarm → may_act core alarm.action ≡ true
+    by true e = passes-at (λ (x : Alarm). may_act core x.action) core.alarms a.index alarm each e
     by false e = cc
 
 -- Nor do the points of one of its tables.
-known_table : (core : Core) (s : TableRef) (table : Table) → list_all (has_object_of core) (core_actions core) ≡ true → own_table core s ≡ Some table → list_all (has_object_of core) (table_actions table) ≡ true
+known_table : (core : Core) (s : TableRef) (table : Table) → list_all (may_act core) (core_actions core) ≡ true → own_table core s ≡ Some table → list_all (may_act core) (table_actions table) ≡ true
 known_table core s table all own = by (same_core s.core core.id) own
   where
-    flat : list_all (has_object_of core) (flat_map table_actions core.tables) ≡ true
-    flat = (and_parts (list_all (has_object_of core) (map (λ (x : Alarm). x.action) core.alarms)) _ (sym (list_all-append (has_object_of core) (map (λ (x : Alarm). x.action) core.alarms) (flat_map table_actions core.tables)) ∙ all)).1
+    flat : list_all (may_act core) (flat_map table_actions core.tables) ≡ true
+    flat = (and_parts (list_all (may_act core) (map (λ (x : Alarm). x.action) core.alarms)) _ (sym (list_all-append (may_act core) (map (λ (x : Alarm). x.action) core.alarms) (flat_map table_actions core.tables)) ∙ all)).1
 
-    by : (b : Bool) → cond b (slice_get core.tables s.index) None ≡ Some table → list_all (has_object_of core) (table_actions table) ≡ true
-    by true e = passes-at (λ (x : Table). list_all (has_object_of core) (table_actions x)) core.tables s.index table (each-flat (has_object_of core) table_actions core.tables flat) e
+    by : (b : Bool) → cond b (slice_get core.tables s.index) None ≡ Some table → list_all (may_act core) (table_actions table) ≡ true
+    by true e = passes-at (λ (x : Table). list_all (may_act core) (table_actions x)) core.tables s.index table (each-flat (may_act core) table_actions core.tables flat) e
     by false e = cc
 
-pub known_if_table : (core : Core) (s : TableRef) (o : Option Table) → list_all (has_object_of core) (core_actions core) ≡ true → o ≡ own_table core s → IfSome o (λ table. IsTrue (list_all (has_object_of core) (table_actions table)))
+pub known_if_table : (core : Core) (s : TableRef) (o : Option Table) → list_all (may_act core) (core_actions core) ≡ true → o ≡ own_table core s → IfSome o (λ table. IsTrue (list_all (may_act core) (table_actions table)))
 known_if_table core s None all is = tt
 known_if_table core s (Some table) all is = known_table core s table all (sym is)
 

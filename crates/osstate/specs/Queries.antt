@@ -7,27 +7,27 @@ use Rattle.osbase.specs.History.{History, job_count}
 use Rattle.oscript.specs.declared.Action.{Action}
 use Rattle.oscript.specs.Frames.{action_at}
 use Rattle.osplan.specs.View.{View}
+use Rattle.osrunner.specs.Rows.{frame_in}
 use Rattle.osjobs.specs.Jobs.{best_among, raised_among, running_among}
 use Rattle.osstate.specs.Readings.{script_of}
 use Rattle.osstate.specs.Sound.{activation_limit}
-use Rattle.osstate.specs.State.{KernelState, jobs_in, state_of}
-use Rattle.osstate.specs.Steps.{frame_in}
+use Rattle.osstate.specs.State.{KernelState, state_of}
 
 -- The running job. [OSEK/VDX OS 2.2.3, section 4.2]
 abbrev pub running_in : KernelState → Option Job
-running_in s = running_among (jobs_in s.tasks)
+running_in s = running_among s.tasks
 
 -- The job that is raised.
 abbrev pub raised_in : KernelState → Option Job
-raised_in s = raised_among s.view.own (jobs_in s.tasks)
+raised_in s = raised_among s.view.own s.tasks
 
 -- The job to run: of the able jobs of greatest current priority the oldest.
 abbrev pub best_in : KernelState → Option Job
-best_in s = best_among s.view.own (jobs_in s.tasks)
+best_in s = best_among s.view.own s.tasks
 
 -- What the runner's oldest live job does next.
 abbrev pub next_action_in : Runner → KernelState → Action
-next_action_in r s = action_at (script_of s.view.own r) (frame_in r s.tasks.frames)
+next_action_in r s = action_at (script_of s.view.own r) (frame_in r s.tasks.rows)
 
 -- As many jobs of the task are live as it may have. [OSEK/VDX OS 2.2.3, section 4.3, multiple requesting]
 abbrev pub is_at_limit_in : TaskRef → KernelState → Bool

@@ -1,5 +1,5 @@
 -- What is read off a core's history with what the core sees of its configuration.
-use Rattle.std.specs.Prelude.{ℕ, Bool, Option, Some, None, List, [], filter, length, map, option_map, slice_get}
+use Rattle.std.specs.Prelude.{ℕ, ◌-◌, nat_lt, Bool, if◌then◌else◌, Option, Some, None, List, [], filter, map, option_map, slice_get}
 use Rattle.std.specs.List.{enumerate_from}
 use Rattle.std.specs.Option.{option_map_or}
 use Rattle.osbase.specs.declared.references.AlarmRef.{AlarmRef}
@@ -7,60 +7,68 @@ use Rattle.osbase.specs.declared.references.CoreId.{CoreId}
 use Rattle.osbase.specs.declared.references.CounterRef.{CounterRef}
 use Rattle.osbase.specs.declared.references.ResourceRef.{ResourceRef}
 use Rattle.osbase.specs.declared.references.TableRef.{TableRef}
+use Rattle.osbase.specs.declared.references.IsrRef.{IsrRef}
 use Rattle.osbase.specs.declared.references.TaskRef.{TaskRef}
 use Rattle.osbase.specs.declared.references.Runner.{Runner}
 use Rattle.osbase.specs.declared.histories.Job.{Job}
 use Rattle.osbase.specs.declared.histories.HeldResource.{HeldResource}
 use Rattle.osbase.specs.declared.histories.Phase.{Phase}
 use Rattle.osbase.specs.declared.histories.TaskEvents.{TaskEvents}
-use Rattle.osbase.specs.History.{History, same_core, current_job, events_of, giving_way, held_by, live_jobs, first_greatest, started_cores, phase_of}
+use Rattle.osbase.specs.History.{History, same_core, current_job, giving_way, live_jobs, first_greatest, started_cores, phase_of}
 use Rattle.osbase.specs.Sets.{has_core, numbers_from}
 use Rattle.oscript.specs.declared.Op.{Op}
 use Rattle.oscript.specs.declared.Frame.{Frame}
-use Rattle.oscript.specs.Frames.{frame_of}
+use Rattle.oscript.specs.Runners.{Row, row_of}
 use Rattle.osplan.specs.declared.plans.Alarm.{Alarm}
 use Rattle.osplan.specs.declared.plans.Core.{Core}
 use Rattle.osplan.specs.declared.plans.Counter.{Counter}
+use Rattle.osplan.specs.declared.plans.Isr.{Isr}
 use Rattle.osplan.specs.declared.plans.Resource.{Resource}
 use Rattle.osplan.specs.declared.plans.Table.{Table}
 use Rattle.osplan.specs.declared.plans.Task.{Task}
-use Rattle.osplan.specs.View.{View, own_alarm, own_counter, own_resource, own_table, own_task}
-use Rattle.osbase.specs.declared.turns.TheConstants.{TASKS}
+use Rattle.osplan.specs.View.{View, own_alarm, own_counter, own_isr, own_resource, own_table, own_task}
+use Rattle.osbase.specs.declared.turns.TheConstants.{RUNNERS, TASKS}
 use Rattle.osclock.specs.Clocks.{alarm_ref, counter_ref}
 use Rattle.ostable.specs.Tables.{table_ref}
-use Rattle.osjobs.specs.Priorities.{events_in, held_in, is_able_in, priority_by, raised_of}
+use Rattle.osrunner.specs.Rows.{row_in}
+use Rattle.osjobs.specs.Priorities.{is_able_in, priority_by, raised_of}
 
 -- The object is one of this core's.
 abbrev pub is_own : View → CoreId → Bool
 is_own v core = same_core core v.core
 
--- The script of a task of this core; there are no ISRs yet.
+-- The script of a task or an ISR of this core.
 abbrev pub script_of : Core → Runner → List Op
 script_of core (Runner.Task t) = option_map_or (λ (task : Task). task.script) (own_task core t) []
-script_of core (Runner.Isr i) = []
+script_of core (Runner.Isr i) = option_map_or (λ (isr : Isr). isr.script) (own_isr core i) []
 
--- Where the runner's oldest live job stands.
-abbrev pub frame_at : View → Runner → History → Frame
-frame_at v r h = frame_of (script_of v.own r) r h
-
--- A task of the core by its index.
+-- A task and an ISR of the core by their indexes, and either by its place: the tasks come first.
 abbrev pub task_ref : Core → ℕ → TaskRef
 task_ref core index = record { core = core.id; index = index }
 
--- What the jobs of each task hold, in index order: of a task only the oldest job holds any.
-abbrev pub held_resources : View → History → List (List HeldResource)
-held_resources v h = map (λ (n : ℕ). held_by (Runner.Task (task_ref v.own n)) h) (numbers_from 0 TASKS)
+abbrev pub isr_ref : Core → ℕ → IsrRef
+isr_ref core index = record { core = core.id; index = index }
 
--- What the runner's oldest live job holds, the newest first.
+abbrev pub runner_at : Core → ℕ → Runner
+runner_at core place = if nat_lt place TASKS then Runner.Task (task_ref core place) else Runner.Isr (isr_ref core (place - TASKS))
+
+-- The row of each task and ISR, by their places. The code keeps these rows.
+abbrev pub rows_of : Core → History → List Row
+rows_of core h = map (λ (n : ℕ). row_of (script_of core (runner_at core n)) (runner_at core n) h) (numbers_from 0 RUNNERS)
+
+-- The row of one of the core's tasks or ISRs, and its fields: what its oldest live job holds, the newest first; its events; and where
+-- that job stands.
+abbrev pub row_at : View → Runner → History → Row
+row_at v r h = row_in r (rows_of v.own h)
+
 abbrev pub resources_of : View → Runner → History → List HeldResource
-resources_of v r h = held_in r (held_resources v h)
-
--- The events of each task, in index order, and those of one runner.
-abbrev pub task_events : View → History → List TaskEvents
-task_events v h = map (λ (n : ℕ). events_of (task_ref v.own n) h) (numbers_from 0 TASKS)
+resources_of v r h = (row_at v r h).held
 
 abbrev pub events_at : View → Runner → History → TaskEvents
-events_at v r h = events_in r (task_events v h)
+events_at v r h = (row_at v r h).events
+
+abbrev pub frame_at : View → Runner → History → Frame
+frame_at v r h = (row_at v r h).frame
 
 -- A resource that a script names, as a job would hold it; none for the invalid identifier, and for one that is not the core's own,
 -- which no script of an accepted configuration names.
@@ -81,14 +89,14 @@ abbrev pub table_named : Core → Option TableRef → Option Table
 table_named core None = None
 table_named core (Some s) = own_table core s
 
--- The current priority of a job: the greatest of its static one, of the ceilings of what its task holds and, for the running
+-- The current priority of a job: the greatest of its static one, of the ceilings of what its runner holds and, for the running
 -- job of a task that cannot be preempted, unless it gives way, of all tasks. [OSEK/VDX OS 2.2.3, section 4.5, 4.6.2 and 8.5]
 abbrev pub current_priority : View → History → Job → ℕ
-current_priority v h j = priority_by v.own (held_resources v h) (raised_of v.own (giving_way h) (current_job h)) j
+current_priority v h j = priority_by v.own (rows_of v.own h) (raised_of v.own (giving_way h) (current_job h)) j
 
 -- A live job that may run: one of a task that does not wait. [OSEK/VDX OS 2.2.3, section 4.2.1]
 abbrev pub is_able : View → History → Job → Bool
-is_able v h j = is_able_in (task_events v h) j
+is_able v h j = is_able_in (rows_of v.own h) j
 
 -- The running job: the current one, since there are no ISR jobs yet. [OSEK/VDX OS 2.2.3, section 4.2]
 abbrev pub running : View → History → Option Job
@@ -127,7 +135,3 @@ numbered_alarms core = numbered (alarm_ref core) core.alarms
 
 abbrev pub numbered_tables : Core → List (TableRef × Table)
 numbered_tables core = numbered (table_ref core) core.tables
-
--- Where each task's oldest live job stands, in index order.
-abbrev pub frames_at : View → History → List Frame
-frames_at v h = map (λ (n : ℕ). frame_at v (Runner.Task (task_ref v.own n)) h) (numbers_from 0 (length v.own.tasks))

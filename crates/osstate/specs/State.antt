@@ -1,40 +1,16 @@
 -- The state that a kernel keeps, and what it means that it stands for a history.
 use Rattle.std.specs.Prelude.{◌≡◌, ℕ, Option, List, length, map}
 use Rattle.osbase.specs.declared.references.CoreId.{CoreId}
-use Rattle.osbase.specs.declared.references.TaskRef.{TaskRef}
-use Rattle.osbase.specs.declared.references.Runner.{Runner}
-use Rattle.osbase.specs.declared.histories.Job.{Job}
-use Rattle.osbase.specs.declared.histories.HeldResource.{HeldResource}
 use Rattle.osbase.specs.declared.histories.OpenCall.{OpenCall}
 use Rattle.osbase.specs.declared.histories.Sent.{Sent}
-use Rattle.osbase.specs.declared.histories.TaskEvents.{TaskEvents}
 use Rattle.osbase.specs.History.{History, began_count, agreement_of, started_cores, live_jobs, current_task, giving_way, open_call, outbox, queued_count, received_count, item_count}
 use Rattle.osbase.specs.Sets.{core_ids}
-use Rattle.oscript.specs.declared.Frame.{Frame}
 use Rattle.osplan.specs.View.{View}
 use Rattle.osjobs.specs.Jobs.{JobState}
 use Rattle.osclock.specs.Clocks.{ClockState, clocks_of}
 use Rattle.ostable.specs.Tables.{TableStates, tables_of}
 use Rattle.osstate.specs.declared.progress.Progress.{Progress}
-use Rattle.osstate.specs.Readings.{phase_at, frames_at, held_resources, task_events}
-
--- The core's tasks: the live jobs in the order of their stamps, the task in the running state, the runner that gives way
--- within the item in hand, and in index order the resources that each task's oldest job holds, the task's events, and where its
--- oldest job stands.
-pub record TaskState : Type 0 where
-  pub jobs : List Job
-  pub current : Option TaskRef
-  pub giving_way : Option Runner
-  pub held : List (List HeldResource)
-  pub events : List TaskEvents
-  pub frames : List Frame
-
--- The part of it that `osjobs` keeps, and the whole from that part and the frames.
-abbrev pub jobs_in : TaskState → JobState
-jobs_in s = record { jobs = s.jobs; current = s.current; giving_way = s.giving_way; held = s.held; events = s.events }
-
-abbrev pub tasks_from : JobState → List Frame → TaskState
-tasks_from s frames = record { jobs = s.jobs; current = s.current; giving_way = s.giving_way; held = s.held; events = s.events; frames = frames }
+use Rattle.osstate.specs.Readings.{phase_at, rows_of}
 
 -- What crosses the core's border: the call that awaits its reply, the envelopes that wait to be posted, and how many were
 -- queued for each core and received from it, by core number.
@@ -48,7 +24,7 @@ pub record BorderState : Type 0 where
 pub record KernelState : Type 0 where
   pub view : View
   pub progress : Progress
-  pub tasks : TaskState
+  pub tasks : JobState
   pub clocks : ClockState
   pub tables : TableStates
   pub border : BorderState
@@ -64,8 +40,8 @@ progress_of v h = record {
   entries = length h;
 }
 
-abbrev pub tasks_of : View → History → TaskState
-tasks_of v h = record { jobs = live_jobs h; current = current_task h; giving_way = giving_way h; held = held_resources v h; events = task_events v h; frames = frames_at v h }
+abbrev pub tasks_of : View → History → JobState
+tasks_of v h = record { jobs = live_jobs h; current = current_task h; giving_way = giving_way h; rows = rows_of v.own h }
 
 abbrev pub border_of : History → BorderState
 border_of h = record {

@@ -1,24 +1,24 @@
 -- What each entry of the history does to the state.
-use Rattle.std.specs.Prelude.{ℕ, ◌+◌, Bool, None, List, [], replicate, length, slice_index, slice_index_or, slice_set}
+use Rattle.std.specs.Prelude.{ℕ, ◌+◌, Bool, Option, Some, None, List, [], replicate, slice_index, slice_set}
 use Rattle.osbase.specs.declared.references.CoreId.{CoreId}
 use Rattle.osbase.specs.declared.references.Runner.{Runner}
 use Rattle.osbase.specs.declared.messages.Message.{Message}
 use Rattle.osbase.specs.declared.messages.Envelope.{Envelope}
 use Rattle.osbase.specs.declared.items.Item.TheVariants as Item
-use Rattle.osbase.specs.declared.marks.Mark.TheVariants as Mark
 use Rattle.osbase.specs.declared.turns.TheConstants.{CORES}
-use Rattle.osbase.specs.History.{Entry, Took, Printed, Noted, Queued, Done, first_phase, phase_after, began_after, agreement_after, started_after, items_after, open_after, outbox_after, no_cores}
-use Rattle.oscript.specs.declared.Frame.{Frame}
-use Rattle.oscript.specs.Frames.{new_frame, rewound, completed}
+use Rattle.osbase.specs.History.{Entry, Took, Noted, Queued, first_phase, phase_after, began_after, agreement_after, started_after, items_after, open_after, outbox_after, no_cores}
+use Rattle.oscript.specs.declared.Op.{Op}
+use Rattle.oscript.specs.Runners.{Row, runner_of}
 use Rattle.osplan.specs.declared.plans.Plan.{Plan}
 use Rattle.osplan.specs.declared.plans.Core.{Core}
 use Rattle.osplan.specs.View.{view_from}
-use Rattle.osjobs.specs.Jobs.{first_jobs, jobs_by}
+use Rattle.osrunner.specs.Rows.{rows_by}
+use Rattle.osjobs.specs.Jobs.{JobState, first_jobs, jobs_by}
 use Rattle.osclock.specs.Clocks.{ClockState, clocks_by, clocks_of}
 use Rattle.ostable.specs.Tables.{TableStates, tables_by, tables_of}
 use Rattle.osstate.specs.declared.progress.Progress.{Progress}
 use Rattle.osstate.specs.Readings.{script_of}
-use Rattle.osstate.specs.State.{KernelState, TaskState, BorderState, jobs_in, tasks_from}
+use Rattle.osstate.specs.State.{KernelState, BorderState}
 
 -- ---- where the core stands
 
@@ -38,25 +38,17 @@ first_progress is_master = record { phase = first_phase is_master; began = 0; ag
 
 -- ---- the tasks
 
--- The frame of the runner's task, and the frames with that one changed. An ISR has none yet.
-abbrev pub frame_in : Runner → List Frame → Frame
-frame_in (Runner.Task t) frames = slice_index_or frames t.index new_frame
-frame_in (Runner.Isr i) frames = new_frame
+-- The script of the runner whose row an entry changes.
+abbrev pub script_for : Core → Option Runner → List Op
+script_for core None = []
+script_for core (Some r) = script_of core r
 
-abbrev pub with_frame : Runner → Frame → List Frame → List Frame
-with_frame (Runner.Task t) frame frames = slice_set frames t.index frame
-with_frame (Runner.Isr i) frame frames = frames
+-- The rows after an entry, and all that is kept of jobs.
+abbrev pub rows_after : Core → Entry → List Row → List Row
+rows_after core e rows = rows_by (script_for core (runner_of e)) e (runner_of e) rows
 
-abbrev pub frames_after : Core → Entry → List Frame → List Frame
-frames_after core (Noted (Done r status value)) frames = with_frame r (completed (script_of core r) (frame_in r frames) status value) frames
-frames_after core (Printed (Mark.Terminated t)) frames = with_frame (Runner.Task t) (rewound (frame_in (Runner.Task t) frames)) frames
-frames_after core e frames = frames
-
-abbrev pub tasks_after : Core → Entry → ℕ → TaskState → TaskState
-tasks_after core e stamp s = tasks_from (jobs_by e stamp (jobs_in s)) (frames_after core e s.frames)
-
-abbrev pub first_tasks : ℕ → TaskState
-first_tasks count = tasks_from first_jobs (replicate count new_frame)
+abbrev pub tasks_after : Core → Entry → ℕ → JobState → JobState
+tasks_after core e stamp s = jobs_by (script_for core (runner_of e)) e stamp s
 
 -- ---- the border
 
@@ -101,9 +93,9 @@ state_after e s = record {
 }
 
 -- The state of a core that took no item, and the state whose parts these are.
-abbrev pub state_from : Plan → Core → Progress → TaskState → ClockState → TableStates → BorderState → KernelState
+abbrev pub state_from : Plan → Core → Progress → JobState → ClockState → TableStates → BorderState → KernelState
 state_from plan core progress tasks clocks tables border =
     record { view = view_from plan core.id core; progress = progress; tasks = tasks; clocks = clocks; tables = tables; border = border }
 
 abbrev pub first_state : Plan → Core → Bool → KernelState
-first_state plan core is_master = state_from plan core (first_progress is_master) (first_tasks (length core.tasks)) (clocks_of core []) (tables_of core []) first_border
+first_state plan core is_master = state_from plan core (first_progress is_master) first_jobs (clocks_of core []) (tables_of core []) first_border

@@ -2,14 +2,13 @@
 
 ghost use Rattle.std.specs.Prelude.{◌≡◌, ◌<◌, ◌^◌, ℕ, length, slice_index, IsTrue};
 ghost use Rattle.osbase.specs.declared.turns.TheConstants.{CORES};
-ghost use Rattle.osbase.specs.History.{Took, closed_by as call_closed_by, outbox_after};
+ghost use Rattle.osbase.specs.History.{Took, closed_by as call_closed_by, open_after, outbox_after};
 ghost use Rattle.osstate.specs.Sound.{is_posted, is_sender_known};
 ghost use Rattle.osstate.specs.Steps.{one_more, received_after};
 
 use crate::slots::SentSlot;
 use arrayvec::ArrayVec;
 use osbase::{CORES, CoreId, Item, OpenCall, Runner};
-use osjobs::equality::is_same_runner;
 
 /// What crosses a core's border, with room for `OUT` envelopes.
 #[derive(Drop)]
@@ -27,8 +26,18 @@ pub(crate) fn closed_by(runner: Runner, open_call: Option<OpenCall>) -> Option<O
     ensures { result ≡ call_closed_by runner open_call }
 {
     match open_call {
-        Some(call) if is_same_runner(call.runner, runner) => None,
+        Some(call) if call.runner.is(runner) => None,
         other => other,
+    }
+}
+
+/// The call that is still open once an item is taken: none once all cores are halted.
+pub(crate) fn open_by(item: &Item, open_call: Option<OpenCall>) -> Option<OpenCall>
+    ensures { result ≡ open_after (Took item.now) open_call }
+{
+    match item {
+        Item::Halt { core: _, status: _ } => None,
+        _ => open_call,
     }
 }
 

@@ -4,8 +4,8 @@
 #![tactic(auto)]
 
 mod border;
-mod frames;
 pub mod progress;
+mod scripts;
 mod slots;
 pub mod state;
 

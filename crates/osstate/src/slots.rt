@@ -1,32 +1,7 @@
 //! What a place of a bounded list holds: each has a blank for a place that is not in use.
 
 use osbase::{CoreId, Envelope, Message, Sent, Status};
-use oscript::Frame;
 use std::marker::Model;
-
-/// A place of the list of frames.
-#[derive(Clone, Copy)]
-pub(crate) struct FrameSlot {
-    pub(crate) frame: Frame,
-}
-
-impl Model for FrameSlot {
-    ghost use Rattle.oscript.specs.declared.Frame.{Frame};
-
-    ghost Value = { Frame };
-
-    ghost view = { λ slot. slot.frame };
-
-    ghost inverse = { λ frame. record { frame = frame } };
-}
-
-impl Default for FrameSlot {
-    fn default() -> Self {
-        FrameSlot {
-            frame: Frame::new(),
-        }
-    }
-}
 
 /// A place of the outbox.
 #[derive(Clone, Copy)]

@@ -11,37 +11,37 @@ ghost use Rattle.osbase.specs.Sets.{has_core};
 ghost use Rattle.osplan.specs.declared.plans.Resource.{Resource as ResourceValue};
 ghost use Rattle.osplan.specs.declared.plans.Task.{Task as TaskValue};
 ghost use Rattle.osplan.specs.Clocked.{are_clocks_within};
-ghost use Rattle.osplan.specs.Objects.{action_object, is_own_object, may_name};
+ghost use Rattle.osplan.specs.Objects.{is_own_object, may_act};
 ghost use Rattle.osplan.specs.declared.plans.Alarm.{Alarm as AlarmValue};
 ghost use Rattle.osplan.specs.View.{core_of, is_configured, own_alarm, own_task, view_of};
 ghost use Rattle.osclock.specs.Clocks.{alarm_in, attached_to, counter_in, counts_to_by, counts_to_in, due_by, due_in, is_in_use_by, is_used, left_by, left_in, max_for, value_by};
 ghost use Rattle.osjobs.specs.Jobs.{is_current, is_plain};
-ghost use Rattle.osjobs.specs.Priorities.{events_in, held_in, holds_any, is_extended, is_newest, is_own_runner, static_priority};
+ghost use Rattle.osrunner.specs.Rows.{events_in, frame_in, held_in, is_occupied};
+ghost use Rattle.osjobs.specs.Priorities.{holds_any, is_extended, is_newest, is_own_runner, static_priority};
 ghost use Rattle.osstate.specs.Does.{Effects, HasRoom, Notes, Reads, Remarks};
 ghost use Rattle.osstate.specs.Queries.{best_in, is_at_limit_in, is_suspended, is_suspended_in, next_action_in, running_in};
-ghost use Rattle.osstate.specs.Readings.{alarm_named, best_job, counter_named, events_at, frame_at, held_resources, is_own, next_start, resource_of, resources_of, script_of};
+ghost use Rattle.osstate.specs.Readings.{alarm_named, best_job, counter_named, events_at, frame_at, is_own, next_start, resource_of, resources_of, rows_of, script_of};
 ghost use Rattle.oscript.specs.Frames.{action_at};
 ghost use Rattle.osstate.specs.Sound.{activation_limit, is_action_known, is_agreed, is_first_gate, is_posted, is_sender_known};
-ghost use Rattle.osres.specs.Resources.{is_occupied};
 ghost use Rattle.osstate.specs.State.{state_of};
-ghost use Rattle.osstate.specs.Steps.{frame_in, next_envelope, state_after};
+ghost use Rattle.osstate.specs.Steps.{next_envelope, state_after};
 
 mod tables;
 
 use crate::border::{self, Border};
-use crate::frames;
 use crate::progress::Progress;
-use crate::slots::{FrameSlot, SentSlot};
+use crate::scripts::script_of;
+use crate::slots::SentSlot;
 use arrayvec::ArrayVec;
 use osbase::{
-    Agreement, AlarmRef, CORES, CoreId, CounterRef, Envelope, HeldResource, Item, Job, Mark,
-    Message, Object, OpenCall, Phase, ResourceRef, Runner, Sent, Status, TaskEvents, TaskRef,
+    Agreement, AlarmRef, CORES, CoreId, CounterRef, Envelope, HeldResource, IsrRef, Item, Job,
+    Mark, Message, Object, OpenCall, Phase, RemoteCall, ResourceRef, Runner, Sent, Status,
+    TaskEvents, TaskRef,
 };
 use osclock::{AlarmList, Clocks};
 use oscript::{Action, Frame};
-use osjobs::equality::is_same_core;
-use osjobs::{Jobs, own};
-use osplan::{Alarm, Config, Core, CoreMode, Counter, Task, TimedAction};
+use osjobs::Jobs;
+use osplan::{Alarm, Config, Core, CoreMode, Counter, Task, own};
 use osres::RESOURCES;
 use ostable::Tables;
 use std::marker::Model;
@@ -53,25 +53,23 @@ pub struct CoreState<'a, const P: usize, const J: usize, const OUT: usize> {
     // The core's own part of the configuration, so that no step looks it up.
     core: &'a Core,
     progress: Progress,
-    jobs: Jobs<J>,
-    // Where each task stands in its script, in index order.
-    frames: ArrayVec<FrameSlot, 32>,
+    jobs: Jobs<P, J>,
     clocks: Clocks,
     tables: Tables,
     border: Border<OUT>,
 }
 
 impl<'a, const P: usize, const J: usize, const OUT: usize> Model for CoreState<'a, P, J, OUT> {
-    ghost use Rattle.osstate.specs.State.{KernelState, tasks_from};
+    ghost use Rattle.osstate.specs.State.{KernelState};
 
     ghost Value = { KernelState };
 
     ghost use Rattle.osstate.specs.Steps.{state_from};
     ghost use Rattle.osstate.specs.Sound.{IsSound};
 
-    ghost view = { λ s. state_from s.config.now s.core.now s.progress (tasks_from s.jobs s.frames.items) s.clocks s.tables (record { open_call = s.border.open_call; outbox = s.border.outbox.items; queued = s.border.queued; received = s.border.received }) };
+    ghost view = { λ s. state_from s.config.now s.core.now s.progress s.jobs s.clocks s.tables (record { open_call = s.border.open_call; outbox = s.border.outbox.items; queued = s.border.queued; received = s.border.received }) };
 
-    ghost invariant = { λ s. IsSound P J (state_from s.config.now s.core.now s.progress (tasks_from s.jobs s.frames.items) s.clocks s.tables (record { open_call = s.border.open_call; outbox = s.border.outbox.items; queued = s.border.queued; received = s.border.received })) };
+    ghost invariant = { λ s. IsSound P J (state_from s.config.now s.core.now s.progress s.jobs s.clocks s.tables (record { open_call = s.border.open_call; outbox = s.border.outbox.items; queued = s.border.queued; received = s.border.received })) };
 }
 
 impl<'a, const P: usize, const J: usize, const OUT: usize> CoreState<'a, P, J, OUT> {
@@ -88,13 +86,11 @@ impl<'a, const P: usize, const J: usize, const OUT: usize> CoreState<'a, P, J, O
             Some(core) => core,
             None => unreachable!(),
         };
-        let frames = frames::new_frames(core.tasks.len());
         CoreState {
             config,
             core,
-            progress: Progress::new(is_same_core(core.id, plan.master)),
+            progress: Progress::new(core.id == plan.master),
             jobs: Jobs::new(),
-            frames,
             clocks: Clocks::new(core),
             tables: Tables::new(core),
             border: Border {
@@ -119,6 +115,7 @@ impl<'a, const P: usize, const J: usize, const OUT: usize> CoreState<'a, P, J, O
     {
         self.progress.take_item(item);
         self.jobs.take_item(item);
+        self.border.open_call = border::open_by(item, self.border.open_call);
         border::post_by(&mut self.border.outbox, item);
         border::receive_by(&mut self.border.received, item);
     }
@@ -145,11 +142,24 @@ impl<'a, const P: usize, const J: usize, const OUT: usize> CoreState<'a, P, J, O
         ensures effects { Effects 1 1 (λ v h. Printed (Mark.Terminated task) ∷ h) self.old self.new marks.old marks.new }
         ensures below { job_count (Runner.Task task) self.new.tasks.jobs < activation_limit self.new.view.own (Runner.Task task) }
     {
-        self.jobs.terminate(task);
-        frames::rewind_frame(&mut self.frames, task);
+        self.jobs.end(task);
         self.border.open_call = border::closed_by(Runner::Task(task), self.border.open_call);
         self.progress.entries += 1;
         marks.push_reserved(Mark::Terminated(task));
+    }
+
+    /// The oldest job of one of the core's ISRs has ended: it gives back all that it holds (AUTOSAR SWS OS 4.x,
+    /// SWS_Os_00070).
+    pub fn leave_isr(&mut self, isr: IsrRef, marks: &mut Vec<Mark>)
+        requires own { IsTrue (is_own_runner self.old.view.own (Runner.Isr isr)) }
+        requires room { HasRoom 1 1 self.old marks.old }
+        ensures state { self.new ≡ state_after (Printed (Mark.IsrLeft isr)) self.old }
+        ensures effects { Effects 1 1 (λ v h. Printed (Mark.IsrLeft isr) ∷ h) self.old self.new marks.old marks.new }
+    {
+        self.jobs.end_isr(isr);
+        self.border.open_call = border::closed_by(Runner::Isr(isr), self.border.open_call);
+        self.progress.entries += 1;
+        marks.push_reserved(Mark::IsrLeft(isr));
     }
 
     /// A task enters the running state, and PreTaskHook is called (OSEK/VDX OS 2.2.3, section 11.5).
@@ -224,8 +234,8 @@ impl<'a, const P: usize, const J: usize, const OUT: usize> CoreState<'a, P, J, O
         marks.push_reserved(Mark::Released(task));
     }
 
-    /// A mark that begins and ends no job, by which no task enters or leaves the running state and no task's events
-    /// change.
+    /// A mark that begins and ends no job, by which no task enters or leaves the running state and no row
+    /// changes.
     pub fn print(&mut self, mark: Mark, marks: &mut Vec<Mark>)
         requires plain { IsTrue (is_plain mark) }
         requires room { HasRoom 1 1 self.old marks.old }
@@ -309,15 +319,12 @@ impl<'a, const P: usize, const J: usize, const OUT: usize> CoreState<'a, P, J, O
     pub fn take_resource(&mut self, runner: Runner, resource: HeldResource)
         requires own { IsTrue (is_own_runner self.old.view.own runner) }
         requires place { resource.index < RESOURCES }
-        requires free { is_occupied resource.index self.old.tasks.held ≡ false }
+        requires free { is_occupied resource.index self.old.tasks.rows ≡ false }
         requires count { self.old.progress.entries < 2 ^ 63 }
         ensures state { self.new ≡ state_after (Noted (Taken runner resource)) self.old }
         ensures remarks { Remarks 1 (λ v h. Noted (Taken runner resource) ∷ h) self.old self.new }
     {
-        match runner {
-            Runner::Task(task) => self.jobs.take(task, resource),
-            Runner::Isr(_) => unreachable!(),
-        }
+        self.jobs.raise(runner, resource);
         self.progress.entries += 1;
     }
 
@@ -325,15 +332,12 @@ impl<'a, const P: usize, const J: usize, const OUT: usize> CoreState<'a, P, J, O
     /// (OSEK/VDX OS 2.2.3, section 8.2).
     pub fn give_resource(&mut self, runner: Runner, index: u8)
         requires own { IsTrue (is_own_runner self.old.view.own runner) }
-        requires newest { is_newest index (held_in runner self.old.tasks.held) ≡ true }
+        requires newest { is_newest index (held_in runner self.old.tasks.rows) ≡ true }
         requires count { self.old.progress.entries < 2 ^ 63 }
         ensures state { self.new ≡ state_after (Noted (Given runner index)) self.old }
         ensures remarks { Remarks 1 (λ v h. Noted (Given runner index) ∷ h) self.old self.new }
     {
-        match runner {
-            Runner::Task(task) => self.jobs.give(task, index),
-            Runner::Isr(_) => unreachable!(),
-        }
+        self.jobs.lower(runner, index);
         self.progress.entries += 1;
     }
 
@@ -344,12 +348,8 @@ impl<'a, const P: usize, const J: usize, const OUT: usize> CoreState<'a, P, J, O
         ensures state { self.new ≡ state_after (Noted (Done runner status value)) self.old }
         ensures remarks { Remarks 1 (λ v h. Noted (Done runner status value) ∷ h) self.old self.new }
     {
-        match runner {
-            Runner::Task(task) => {
-                frames::complete_frame(self.core, &mut self.frames, task, status, value);
-            }
-            Runner::Isr(_) => unreachable!(),
-        }
+        let script = script_of(self.core, runner);
+        self.jobs.complete(script, runner, status, value);
         self.border.open_call = border::closed_by(runner, self.border.open_call);
         self.progress.entries += 1;
     }
@@ -442,7 +442,7 @@ impl<'a, const P: usize, const J: usize, const OUT: usize> CoreState<'a, P, J, O
         ensures value { result ≡ is_own self.now.view id }
         ensures own { result ≡ same_core id self.now.view.own.id }
     {
-        is_same_core(id, self.core.id)
+        id == self.core.id
     }
 
     /// Whether the object is there among this core's.
@@ -503,13 +503,14 @@ impl<'a, const P: usize, const J: usize, const OUT: usize> CoreState<'a, P, J, O
 
     /// The job to run: of the able jobs of greatest current priority the oldest (OSEK/VDX OS 2.2.3, section 4.4
     /// and 4.5), where this one is running.
-    pub fn best_job(&self, running: Option<Job>) -> Option<Job>
-        requires { running ≡ running_in self.now }
-        ensures value { result ≡ best_in self.now }
-        ensures reads { Reads (λ v h. best_job v h) self.now result }
-        ensures own { IfSome result (λ job. IsTrue (is_own_runner self.now.view.own job.runner)) }
+    pub fn best_job(&mut self, running: Option<Job>) -> Option<Job>
+        requires { running ≡ running_in self.old }
+        ensures value { result ≡ best_in self.old }
+        ensures reads { Reads (λ v h. best_job v h) self.old result }
+        ensures own { IfSome result (λ job. IsTrue (is_own_runner self.old.view.own job.runner)) }
+        ensures keeps { self.new ≡ self.old }
     {
-        self.jobs.best(self.core, running)
+        self.jobs.dispatch(self.core, running)
     }
 
     /// A resource of the core that a script names, as a job would hold it; none for the invalid identifier, and for
@@ -608,10 +609,10 @@ impl<'a, const P: usize, const J: usize, const OUT: usize> CoreState<'a, P, J, O
     }
 
     /// What one of the core's alarms does when it is due (AUTOSAR SWS OS 4.x, OsAlarmAction).
-    pub fn alarm_action(&self, alarm: AlarmRef) -> TimedAction
+    pub fn alarm_action(&self, alarm: AlarmRef) -> RemoteCall
         requires own { IsTrue (is_own_object self.now.view.own (alarm_object alarm)) }
         ensures value { option_map (λ (x : AlarmValue). x.action) (own_alarm self.now.view.own alarm) ≡ Some result }
-        ensures known { IsTrue (may_name self.now.view.own (action_object result)) }
+        ensures known { IsTrue (may_act self.now.view.own result) }
     {
         match own::alarm_of(self.core, alarm) {
             Some(own) => own.action,
@@ -650,14 +651,10 @@ impl<'a, const P: usize, const J: usize, const OUT: usize> CoreState<'a, P, J, O
 
     /// The events of one of the core's tasks (OSEK/VDX OS 2.2.3, section 7).
     pub fn events(&self, runner: Runner) -> TaskEvents
-        requires own { IsTrue (is_own_runner self.now.view.own runner) }
-        ensures value { result ≡ events_in runner self.now.tasks.events }
+        ensures value { result ≡ events_in runner self.now.tasks.rows }
         ensures reads { Reads (λ v h. events_at v runner h) self.now result }
     {
-        match runner {
-            Runner::Task(task) => self.jobs.events(task),
-            Runner::Isr(_) => unreachable!(),
-        }
+        self.jobs.events(runner)
     }
 
     /// Whether no job of the task is live (OSEK/VDX OS 2.2.3, section 4.2.1).
@@ -671,92 +668,53 @@ impl<'a, const P: usize, const J: usize, const OUT: usize> CoreState<'a, P, J, O
     /// Whether a job of the core holds the resource of this index.
     pub fn is_occupied(&self, index: u8) -> bool
         requires { index < RESOURCES }
-        ensures value { result ≡ is_occupied index self.now.tasks.held }
-        ensures reads { Reads (λ v h. is_occupied index (held_resources v h)) self.now result }
+        ensures value { result ≡ is_occupied index self.now.tasks.rows }
+        ensures reads { Reads (λ v h. is_occupied index (rows_of v.own h)) self.now result }
     {
         self.jobs.is_occupied(index)
     }
 
     /// Whether the resource of this index is the newest that the job of one of the core's tasks holds.
     pub fn is_newest(&self, runner: Runner, index: u8) -> bool
-        requires own { IsTrue (is_own_runner self.now.view.own runner) }
-        ensures value { result ≡ is_newest index (held_in runner self.now.tasks.held) }
+        ensures value { result ≡ is_newest index (held_in runner self.now.tasks.rows) }
         ensures reads { Reads (λ v h. is_newest index (resources_of v runner h)) self.now result }
     {
-        match runner {
-            Runner::Task(task) => self.jobs.is_newest(task, index),
-            Runner::Isr(_) => unreachable!(),
-        }
+        self.jobs.is_newest(runner, index)
     }
 
     /// Whether the job of one of the core's tasks holds a resource.
     pub fn holds_resource(&self, runner: Runner) -> bool
-        requires own { IsTrue (is_own_runner self.now.view.own runner) }
-        ensures value { result ≡ holds_any (held_in runner self.now.tasks.held) }
+        ensures value { result ≡ holds_any (held_in runner self.now.tasks.rows) }
         ensures reads { Reads (λ v h. holds_any (resources_of v runner h)) self.now result }
     {
-        match runner {
-            Runner::Task(task) => self.jobs.holds_any(task),
-            Runner::Isr(_) => unreachable!(),
-        }
+        self.jobs.holds_any(runner)
     }
 
-    /// Whether as many jobs of one of the core's tasks are live as it may have.
+    /// Whether as many jobs of one of the core's tasks are live as it may have; of another core's none may be.
     pub fn is_at_limit(&self, task: TaskRef) -> bool
-        requires own { IsTrue (is_own_runner self.now.view.own (Runner.Task task)) }
         ensures { result ≡ is_at_limit_in task self.now }
     {
         let limit = match own::task_of(self.core, task) {
             Some(own) => usize::from(own.activations),
-            None => unreachable!(),
+            None => 0,
         };
         limit <= self.jobs.count(Runner::Task(task))
     }
 
     /// Where the oldest live job of one of the core's tasks stands, with the task's variables.
     pub fn frame(&self, runner: Runner) -> Frame
-        requires own { IsTrue (is_own_runner self.now.view.own runner) }
-        ensures value { result ≡ frame_in runner self.now.tasks.frames }
+        ensures value { result ≡ frame_in runner self.now.tasks.rows }
         ensures reads { Reads (λ v h. frame_at v runner h) self.now result }
     {
-        match runner {
-            Runner::Task(task) => self.frame_of(task),
-            Runner::Isr(_) => unreachable!(),
-        }
-    }
-
-    fn frame_of(&self, task: TaskRef) -> Frame
-        requires { IsSome (own_task self.now.view.own task) }
-        ensures { result ≡ frame_in (Runner.Task task) self.now.tasks.frames }
-    {
-        let slot = &self.frames.as_slice()[usize::from(task.index)];
-        slot.frame
+        self.jobs.frame(runner)
     }
 
     /// What the oldest live job of one of the core's tasks does next.
     pub fn next_action(&self, runner: Runner) -> Action
-        requires own { IsTrue (is_own_runner self.now.view.own runner) }
         ensures value { result ≡ next_action_in runner self.now }
         ensures reads { Reads (λ v h. action_at (script_of v.own runner) (frame_at v runner h)) self.now result }
         ensures known { IsTrue (is_action_known self.now.view.own result) }
     {
-        match runner {
-            Runner::Task(task) => self.next_action_of(task),
-            Runner::Isr(_) => unreachable!(),
-        }
-    }
-
-    fn next_action_of(&self, task: TaskRef) -> Action
-        requires { IsSome (own_task self.now.view.own task) }
-        ensures value { result ≡ next_action_in (Runner.Task task) self.now }
-        ensures known { IsTrue (is_action_known self.now.view.own result) }
-    {
-        match own::task_of(self.core, task) {
-            Some(own) => {
-                let slot = &self.frames.as_slice()[usize::from(task.index)];
-                oscript::next(&own.script, &slot.frame)
-            }
-            None => unreachable!(),
-        }
+        self.jobs.next_action(script_of(self.core, runner), runner)
     }
 }

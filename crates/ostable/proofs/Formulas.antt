@@ -17,7 +17,7 @@ use Rattle.ostable.specs.Periods.{count_in_period, number_of_point}
 use Rattle.ostable.specs.Ahead.{IsTimed, due_in, if_any}
 use Rattle.ostable.specs.Formulas.{IsPeriodic, concerns, due_point, is_end, running_for}
 use Rattle.ostable.proofs.Points.{number-from, number-is}
-use Rattle.ostable.proofs.Places.{same_table-refl}
+use Rattle.osbase.proofs.Same.{same_table-refl}
 
 -- ---- the count of a period
 

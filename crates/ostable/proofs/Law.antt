@@ -1,6 +1,6 @@
 -- What an entry does to the tables of a core is what it does to what is read off the history.
 use Rattle.std.proofs.Common.{◌≡◌, ℕ, ◌<◌, ◌+◌, Bool, true, false, cond, Option, Some, None, is_some, List, ◌∷◌, length, refl, ap, sym, ◌∙◌, arith, get_or}
-use Rattle.std.specs.List.{slice_get, slice_set}
+use Rattle.std.specs.List.{slice_set}
 use Rattle.std.specs.Option.{option_map_or}
 use Rattle.std.proofs.lemmas.Bool.{cond-false, cond-true, false≢true}
 use Rattle.osbase.specs.declared.references.CounterRef.{CounterRef}
@@ -8,6 +8,7 @@ use Rattle.osbase.specs.declared.references.TableRef.{TableRef}
 use Rattle.osbase.specs.History.{History, Entry, Noted, Counted, TableStarted, TableQuit, TableNext, same_core}
 use Rattle.osbase.specs.Counting.{TableState, Stopped, NextOf, counted_once, same_counter, same_table, started_after, table_state}
 use Rattle.osbase.specs.Objects.{counter_object, table_object}
+use Rattle.osbase.proofs.Same.{same_table-refl}
 use Rattle.osbase.proofs.Tables.{table-at, table-set}
 use Rattle.osplan.specs.declared.plans.Core.{Core}
 use Rattle.osplan.specs.declared.plans.Table.{Table as TablePlan}
@@ -15,12 +16,13 @@ use Rattle.osplan.specs.Clocked.{are_clocks_within, is_table_attached}
 use Rattle.osplan.specs.Objects.{is_own_object}
 use Rattle.osplan.specs.View.{own_table}
 use Rattle.osplan.proofs.Clocked.{clock-parts}
-use Rattle.osplan.proofs.Tests.{passes-at}
-use Rattle.osclock.proofs.Places.{counter-apart, table-within}
+use Rattle.osattach.specs.Attached.{changed_by}
+use Rattle.osattach.proofs.Places.{counter-apart, own-passes as passes}
+use Rattle.osattach.proofs.Ranges.{table-within}
 use Rattle.ostable.specs.declared.table.Table.{Table}
 use Rattle.ostable.specs.Ahead.{table_at, table_beyond}
-use Rattle.ostable.specs.Tables.{TableStates, all_moved, moved_by, table_by, table_in, table_ref, tables_by, tables_of, with_table}
-use Rattle.ostable.proofs.Places.{same_table-refl, table-apart, table-other, table-own, table-place, table-some}
+use Rattle.ostable.specs.Tables.{TableStates, all_moved, moved, table_by, table_family, table_in, table_ref, tables_by, tables_of, with_table}
+use Rattle.ostable.proofs.Places.{table-apart, table-other, table-own, table-place, table-some}
 use Rattle.ostable.proofs.Runs.{beyond-at}
 use Rattle.ostable.proofs.Timed.{timed}
 
@@ -31,11 +33,7 @@ table-there core s h own =
 
 -- the counter of an own table is one of the core's own
 pub attached : (core : Core) (s : TableRef) (t : TablePlan) → are_clocks_within core ≡ true → own_table core s ≡ Some t → is_own_object core (counter_object t.counter) ≡ true
-attached core s t within own = by (same_core s.core core.id) own
-  where
-    by : (b : Bool) → cond b (slice_get core.tables s.index) None ≡ Some t → is_own_object core (counter_object t.counter) ≡ true
-    by true e = passes-at (is_table_attached core) core.tables s.index t (clock-parts core within).tables_attached e
-    by false e = cc
+attached core s t within own = passes (is_table_attached core) core.tables (same_core s.core core.id) s.index t (clock-parts core within).tables_attached own
 
 abbrev pub read : Core → TableRef → History → TablePlan → Table
 read core s h t = table_at t (table_state t.counter s h)
@@ -56,6 +54,9 @@ table-on core c s h within (Some t) own = by (same_counter c t.counter)
     by : (b : Bool) → cond b (table_beyond t (read core s h t)) (read core s h t) ≡ table_at t (cond b (counted_once (table_state t.counter s h)) (table_state t.counter s h))
     by false = refl
     by true = beyond-at t (timed core s t within own) (read core s h t) (table_state t.counter s h) refl
+
+abbrev moved_by : Core → CounterRef → ℕ → Table → Table
+moved_by core c = changed_by (table_family core) c (moved core)
 
 tables-on : (core : Core) (c : CounterRef) (h : History) → are_clocks_within core ≡ true → all_moved core c (tables_of core h).tables ≡ (tables_of core (Noted (Counted c) ∷ h)).tables
 tables-on core c h within =

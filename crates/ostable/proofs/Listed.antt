@@ -1,47 +1,43 @@
 -- The tables of a counter, in a list.
-use Rattle.std.proofs.Common.{◌≡◌, ℕ, zero, suc, ◌+◌, ◌<◌, ◌≤◌, Bool, true, false, cond, All, Option, Some, None, filter, filter_map, get_or, List, [], ◌∷◌, drop, length, take, ◌++◌, refl, ap, sym, ◌∙◌, arith, add-one}
+use Rattle.std.proofs.Common.{◌≡◌, ℕ, zero, suc, ◌+◌, ◌<◌, ◌≤◌, true, All, Option, Some, None, filter_map, get_or, List, [], ◌∷◌, drop, length, take, ◌++◌, refl, ap, sym, ◌∙◌, arith, add-one}
 use Rattle.std.specs.List.{slice_get}
-use Rattle.std.specs.Option.{option_map_or}
-use Rattle.std.proofs.lemmas.Bool.{false≢true}
-use Rattle.std.proofs.lemmas.List.Elements.{filter-append, filter_map-append}
-use Rattle.std.proofs.lemmas.List.{length-map, take_more}
+use Rattle.std.proofs.lemmas.List.Elements.{filter_map-append}
+use Rattle.std.proofs.lemmas.List.{take_more}
 use Rattle.std.proofs.lemmas.Option.{slice_get-get_or}
 use Rattle.osbase.specs.declared.references.CounterRef.{CounterRef}
 use Rattle.osbase.specs.declared.references.TableRef.{TableRef}
-use Rattle.osbase.specs.Counting.{same_counter}
 use Rattle.osbase.specs.History.{same_core}
 use Rattle.osbase.specs.Objects.{table_object}
-use Rattle.osbase.specs.Sets.{numbers_from}
 use Rattle.osbase.proofs.Tables.{table-at}
 use Rattle.osplan.specs.declared.plans.Core.{Core}
 use Rattle.osplan.specs.declared.plans.Table.{Table as TablePlan}
+use Rattle.osplan.specs.Clocked.{are_clocks_within}
 use Rattle.osplan.specs.Objects.{is_own_object}
 use Rattle.osplan.specs.View.{own_table}
 use Rattle.osplan.proofs.Tests.{found-inside}
-use Rattle.osclock.proofs.Attached.{kept-all, table-more}
-use Rattle.osclock.proofs.Places.{length-numbers}
-use Rattle.ostable.specs.Tables.{is_timed_by, table_ref, table_refs, timed_by}
+use Rattle.osattach.proofs.Members.{Next, kept-all, stands}
+use Rattle.osattach.proofs.Places.{counter-place}
+use Rattle.osattach.proofs.Ranges.{length-table}
+use Rattle.ostable.specs.Tables.{is_timed_by, table_family, table_ref, table_refs, timed_by}
+use Rattle.ostable.proofs.Law.{attached}
+use Rattle.ostable.proofs.Places.{table-is, table-own}
 
 pub table-refs-length : (core : Core) → length (table_refs core) ≡ length core.tables
-table-refs-length core = length-map (numbers_from 0 (length core.tables)) (table_ref core) ∙ length-numbers 0 (length core.tables)
-
-pub timed-more : (core : Core) (c : CounterRef) (n : ℕ) (b : Bool) → n < length core.tables → b ≡ is_timed_by core c (table_ref core n)
-    → filter (is_timed_by core c) (take (n + 1) (table_refs core)) ≡ filter (is_timed_by core c) (take n (table_refs core)) ++ cond b (table_ref core n ∷ []) []
-timed-more core c n b inside is =
-    ap (filter (is_timed_by core c)) (table-more (table_ref core) (length core.tables) n inside)
-    ∙ filter-append (is_timed_by core c) (take n (table_refs core)) (table_ref core n ∷ [])
-    ∙ ap (λ d. filter (is_timed_by core c) (take n (table_refs core)) ++ cond d (table_ref core n ∷ []) []) (sym is)
+table-refs-length core = length-table (table_ref core) (length core.tables)
 
 -- each is the core's own
 pub timed-own : (core : Core) (c : CounterRef) (s : TableRef) → is_timed_by core c s ≡ true → is_own_object core (table_object s) ≡ true
-timed-own core c s on = at (own_table core s) refl on
-  where
-    at : (o : Option TablePlan) → own_table core s ≡ o → option_map_or (λ (t : TablePlan). same_counter c t.counter) o false ≡ true → is_own_object core (table_object s) ≡ true
-    at None is on = absurd (false≢true on)
-    at (Some t) is on = found-inside (same_core s.core core.id) core.tables s.index t is
+timed-own core c s on = let own = stands (table_family core) c s on in found-inside (same_core s.core core.id) core.tables s.index own.value own.is
 
 pub timed-all : (core : Core) (c : CounterRef) (P : TableRef → Type 0) → ((s : TableRef) → is_timed_by core c s ≡ true → P s) → All P (timed_by core c)
 timed-all core c P each = kept-all (is_timed_by core c) P (table_refs core) each
+
+-- The table of an index, whose counter is one of the core's own.
+pub table-next : (core : Core) (xs : List TablePlan) (n : ℕ) (t : TablePlan) → are_clocks_within core ≡ true → xs ≡ core.tables → n < length core.tables → t ≡ get_or xs n t → Next core (table_family core) n t
+table-next core xs n t within are inside is =
+    let here : own_table core (table_ref core n) ≡ Some t =
+    table-is core (table_ref core n) (table-own core n inside) ∙ slice_get-get_or core.tables n t inside ∙ ap Some (ap (λ ys. get_or ys n t) (sym are) ∙ sym is) in
+    record { inside = inside; here = here; place = counter-place core t.counter (attached core (table_ref core n) t within here) }
 
 -- ---- from a place on
 

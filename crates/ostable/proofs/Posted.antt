@@ -12,7 +12,8 @@ use Rattle.osplan.specs.declared.plans.Core.{Core}
 use Rattle.osplan.specs.declared.plans.Table.{Table as TablePlan}
 use Rattle.osplan.specs.Clocked.{are_clocks_within}
 use Rattle.osplan.specs.View.{own_table}
-use Rattle.osclock.proofs.Places.{same_counter-true}
+use Rattle.osbase.proofs.Same.{same_counter-true, same_table-true}
+use Rattle.osattach.proofs.Sums.{at-most-once, sum-across, sum-both, sum-kept, sum-mapped, sum-none}
 use Rattle.ostable.specs.declared.table.Due.{Due}
 use Rattle.ostable.specs.declared.table.Table.{Table}
 use Rattle.ostable.specs.declared.tables.DueTable.{DueTable}
@@ -20,30 +21,18 @@ use Rattle.ostable.specs.Ahead.{due_next}
 use Rattle.ostable.specs.Tables.{TableStates, due_in, due_table, due_tables_by, due_tables_in, is_next_in, is_timed_by, next_in, table_in, table_ref, table_refs, tables_of, timed_by}
 use Rattle.ostable.specs.Waiting.{all_wait_by_counter, are_of_one_counter, waits_by_counter, with_next}
 use Rattle.ostable.proofs.Asked.{dues-read}
-use Rattle.ostable.proofs.Places.{same_table-true}
-use Rattle.ostable.proofs.Sums.{found-le, sum-across, sum-both, sum-kept, sum-made, sum-none}
+use Rattle.ostable.proofs.Sums.{found-le, sum-made}
 
 -- ---- one table of a core is at one place
 
-sum-past : (core : Core) (s : TableRef) (k first count : ℕ) → ((n : ℕ) → first ≤ n → same_table s (table_ref core n) ≡ false) → sum_by (λ (u : TableRef). cond (same_table s u) k 0) (map (table_ref core) (numbers_from first count)) ≡ 0
-sum-past core s k first zero none = refl
-sum-past core s k first (suc count) none =
-    sum_by-cons (λ (u : TableRef). cond (same_table s u) k 0) (table_ref core first) (map (table_ref core) (numbers_from (first + 1) count))
-    ∙ ap (λ (b : Bool). cond b k 0 + sum_by (λ (u : TableRef). cond (same_table s u) k 0) (map (table_ref core) (numbers_from (first + 1) count))) (none first (omega arith))
-    ∙ omega (arith, sum-past core s k (first + 1) count (λ n h. none n (omega (arith, h))))
-
-sum-once : (core : Core) (s : TableRef) (k first count : ℕ) → sum_by (λ (u : TableRef). cond (same_table s u) k 0) (map (table_ref core) (numbers_from first count)) ≤ k
-sum-once core s k first zero = omega arith
-sum-once core s k first (suc count) =
-    subst (λ (n : ℕ). n ≤ k) (sym (sum_by-cons (λ (u : TableRef). cond (same_table s u) k 0) (table_ref core first) (map (table_ref core) (numbers_from (first + 1) count))))
-    (by (same_table s (table_ref core first)) refl (sum-once core s k (first + 1) count))
-  where
-    by : (b : Bool) → same_table s (table_ref core first) ≡ b → sum_by (λ (u : TableRef). cond (same_table s u) k 0) (map (table_ref core) (numbers_from (first + 1) count)) ≤ k → cond b k 0 + sum_by (λ (u : TableRef). cond (same_table s u) k 0) (map (table_ref core) (numbers_from (first + 1) count)) ≤ k
-    by false e rest = omega (arith, rest)
-    by true e rest =
-        let at : s.index ≡ first = ap (λ (u : TableRef). u.index) (same_table-true s (table_ref core first) e) in
-        let others : (n : ℕ) → first + 1 ≤ n → same_table s (table_ref core n) ≡ false = λ n h. false_from_ne_true (same_table s (table_ref core n)) (λ d. omega (arith, h, at, ap (λ (u : TableRef). u.index) (same_table-true s (table_ref core n) d))) in
-        omega (arith, sum-past core s k (first + 1) count others)
+sum-once : (core : Core) (s : TableRef) (k : ℕ) → sum_by (λ (u : TableRef). cond (same_table s u) k 0) (table_refs core) ≤ k
+sum-once core s k =
+    omega (
+      arith,
+      sum-mapped (λ (u : TableRef). cond (same_table s u) k 0) (table_ref core) (numbers_from 0 (length core.tables)),
+      at-most-once (λ (n : ℕ). same_table s (table_ref core n)) k 0 (length core.tables)
+          (λ m n one other. ap (λ (u : TableRef). u.index) (sym (same_table-true s (table_ref core m) one) ∙ same_table-true s (table_ref core n) other)),
+    )
 
 -- ---- a table that waits goes by the counter of the one that it waits for
 
@@ -99,8 +88,8 @@ module _ (core : Core) (c : CounterRef) (x : TableStates) (f : TableRef → ℕ)
       by : (o : Option TablePlan) (table : Table) → cond (is_some (option_map_or (λ (t : TablePlan). due_next t table) o None)) (amount u) 0 + sum_by (λ (s : TableRef). cond (is_next_in s table) (amount u) 0) (table_refs core) ≤ amount u
       by o Table.Stopped = omega (arith, least (is_some (option_map_or (λ (t : TablePlan). due_next t Table.Stopped) o None)), sum-none (table_refs core))
       by o (Table.Running ahead) = omega (arith, least (is_some (option_map_or (λ (t : TablePlan). due_next t (Table.Running ahead)) o None)), sum-none (table_refs core))
-      by None (Table.NextOf t) = omega (arith, sum-once core t (amount u) 0 (length core.tables))
-      by (Some plan) (Table.NextOf t) = omega (arith, sum-once core t (amount u) 0 (length core.tables))
+      by None (Table.NextOf t) = omega (arith, sum-once core t (amount u))
+      by (Some plan) (Table.NextOf t) = omega (arith, sum-once core t (amount u))
 
   pub posted-in : all_wait_by_counter core x ≡ true → sum_by (with_next f) (due_tables_in core c x) ≤ sum_by f (timed_by core c)
   posted-in near =

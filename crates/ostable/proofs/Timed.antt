@@ -1,6 +1,6 @@
 -- What the limits of a configuration say of a table's points.
-use Rattle.std.proofs.Common.{◌≡◌, ℕ, ◌≤◌, Bool, true, false, cond, nat_le, nat_lt, Some, None, List, [], ◌∷◌, length, map, refl, arith}
-use Rattle.std.specs.List.{list_all, slice_get}
+use Rattle.std.proofs.Common.{◌≡◌, ℕ, ◌≤◌, Bool, true, nat_le, nat_lt, Some, List, [], ◌∷◌, length, map, refl, arith}
+use Rattle.std.specs.List.{list_all}
 use Rattle.std.proofs.lemmas.Bool.{and_parts, and_from, leb-true, le-leb, ltb-true}
 use Rattle.std.proofs.lemmas.List.{length-map}
 use Rattle.osbase.specs.declared.references.TableRef.{TableRef}
@@ -13,8 +13,8 @@ use Rattle.osplan.specs.Limits.{PointSizes, is_between, is_point_within, is_tabl
 use Rattle.osplan.specs.Limits as limits
 use Rattle.osplan.specs.View.{own_table}
 use Rattle.osplan.proofs.Clocked.{clock-parts}
-use Rattle.osplan.proofs.Tests.{passes-at}
 use Rattle.osplan.proofs.Within.{between}
+use Rattle.osattach.proofs.Places.{own-passes as passes}
 use Rattle.ostable.specs.Ahead.{IsTimed}
 use Rattle.ostable.specs.Periods.{are_ascending}
 
@@ -43,11 +43,7 @@ none-later (p ∷ r ∷ points) most a last =
     and_from _ _ (le-leb p.offset most (omega (arith, first, last))) (none-later (r ∷ points) most (and_parts (nat_lt p.offset r.offset) (are_ascending (r ∷ points)) a).1 last)
 
 pub own-passes : (core : Core) (q : TablePlan → Bool) (s : TableRef) (t : TablePlan) → list_all q core.tables ≡ true → own_table core s ≡ Some t → q t ≡ true
-own-passes core q s t all own = by (same_core s.core core.id) own
-  where
-    by : (b : Bool) → cond b (slice_get core.tables s.index) None ≡ Some t → q t ≡ true
-    by true e = passes-at q core.tables s.index t all e
-    by false e = cc
+own-passes core q s t all own = passes q core.tables (same_core s.core core.id) s.index t all own
 
 -- An own table is in order.
 pub timed : (core : Core) (s : TableRef) (t : TablePlan) → are_clocks_within core ≡ true → own_table core s ≡ Some t → IsTimed t

@@ -16,7 +16,8 @@ use Rattle.ostable.specs.Ahead.{table_at}
 use Rattle.ostable.specs.Tables.{AreTables, TableStates, table_in, table_ref, tables_by, tables_of}
 use Rattle.ostable.specs.Waiting.{all_wait_by_counter, are_of_one_counter, is_next_by_counter, waits_by_counter}
 use Rattle.ostable.proofs.Law.{after, read, table-there}
-use Rattle.ostable.proofs.Places.{same_table-true, table-own}
+use Rattle.osbase.proofs.Same.{same_table-true}
+use Rattle.ostable.proofs.Places.{table-own}
 
 -- ---- each of a range
 

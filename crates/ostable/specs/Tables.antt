@@ -1,11 +1,11 @@
 -- The schedule tables of a core: what is read off its history, and what each entry does to them.
-use Rattle.std.specs.Prelude.{◌≡◌, ℕ, Bool, false, if◌then◌else◌, IsTrue, Option, None, List, [], ◌∷◌, filter, filter_map, find, length, map, option_map, slice_index_or}
+use Rattle.std.specs.Prelude.{◌≡◌, ℕ, Bool, false, if◌then◌else◌, IsTrue, Option, None, List, filter_map, find, length, map, option_map, slice_index_or}
 use Rattle.std.specs.List.{slice_set}
 use Rattle.std.specs.Option.{option_map_or}
 use Rattle.osbase.specs.declared.references.CounterRef.{CounterRef}
 use Rattle.osbase.specs.declared.references.TableRef.{TableRef}
 use Rattle.osbase.specs.History.{History, Entry, Noted, Counted, TableStarted, TableQuit, TableNext}
-use Rattle.osbase.specs.Counting.{TableState, Stopped, NextOf, counted_once, same_counter, same_table, started_after, table_state}
+use Rattle.osbase.specs.Counting.{TableState, Stopped, NextOf, counted_once, same_table, started_after, table_state}
 use Rattle.osbase.specs.Objects.{counter_object, table_object}
 use Rattle.osbase.specs.Sets.{numbers_from}
 use Rattle.osplan.specs.declared.plans.Core.{Core}
@@ -13,7 +13,7 @@ use Rattle.osplan.specs.declared.plans.Table.{Table as TablePlan}
 use Rattle.osplan.specs.Clocked.{are_clocks_within}
 use Rattle.osplan.specs.Objects.{is_own_object}
 use Rattle.osplan.specs.View.{own_table}
-use Rattle.osclock.specs.Clocks.{counter_ref}
+use Rattle.osattach.specs.Attached.{Family, all_changed, each_by, each_changed, goes_by, refs_of, those_by}
 use Rattle.ostable.specs.declared.tables.DueTable.{DueTable}
 use Rattle.ostable.specs.declared.table.Due.{Due}
 use Rattle.ostable.specs.declared.table.Table.{Table}
@@ -25,18 +25,22 @@ pub record TableStates : Type 0 where
   pub tables : List Table
   pub timed : List (List TableRef)
 
--- The core's tables in index order, and those of them that go by a counter. [AUTOSAR SWS OS 4.x, OsScheduleTableCounterRef]
+-- A table of the core by its index, and the core's tables as those that go by its counters.
 abbrev pub table_ref : Core → ℕ → TableRef
 table_ref core index = record { core = core.id; index = index }
 
+abbrev pub table_family : Core → Family TableRef TablePlan
+table_family core = record { own = own_table core; counter = λ (t : TablePlan). t.counter; ref = table_ref core; count = length core.tables }
+
+-- The core's tables in index order, and those of them that go by a counter. [AUTOSAR SWS OS 4.x, OsScheduleTableCounterRef]
 abbrev pub table_refs : Core → List TableRef
-table_refs core = map (table_ref core) (numbers_from 0 (length core.tables))
+table_refs core = refs_of (table_family core)
 
 abbrev pub is_timed_by : Core → CounterRef → TableRef → Bool
-is_timed_by core c s = option_map_or (λ (t : TablePlan). same_counter c t.counter) (own_table core s) false
+is_timed_by core c s = goes_by (table_family core) c s
 
 abbrev pub timed_by : Core → CounterRef → List TableRef
-timed_by core c = filter (is_timed_by core c) (table_refs core)
+timed_by core c = those_by (table_family core) c
 
 -- ---- what is read off a history
 
@@ -50,7 +54,7 @@ table_by core s h = option_map_or (λ (t : TablePlan). table_at t (table_state t
 abbrev pub tables_of : Core → History → TableStates
 tables_of core h = record {
   tables = map (λ (n : ℕ). table_by core (table_ref core n) h) (numbers_from 0 (length core.tables));
-  timed = map (λ (n : ℕ). timed_by core (counter_ref core n)) (numbers_from 0 (length core.counters));
+  timed = each_by core (table_family core) (table_refs core);
 }
 
 -- The table that waits for the end of a period of this one. [AUTOSAR SWS OS 4.x, SWS_Os_00284]
@@ -84,16 +88,12 @@ table_in s x = slice_index_or x.tables s.index Table.Stopped
 abbrev pub moved : Core → TableRef → Table → Table
 moved core s table = option_map_or (λ (t : TablePlan). table_beyond t table) (own_table core s) table
 
-abbrev pub moved_by : Core → CounterRef → ℕ → Table → Table
-moved_by core c index table = if is_timed_by core c (table_ref core index) then moved core (table_ref core index) table else table
-
 abbrev pub all_moved : Core → CounterRef → List Table → List Table
-all_moved core c tables = map (λ (n : ℕ). moved_by core c n (slice_index_or tables n Table.Stopped)) (numbers_from 0 (length core.tables))
+all_moved core c tables = all_changed (table_family core) c (moved core) Table.Stopped tables
 
 -- The same, table by table of the counter's own, as the code goes over them.
 abbrev pub each_moved : Core → List TableRef → List Table → List Table
-each_moved core [] tables = tables
-each_moved core (s ∷ others) tables = each_moved core others (slice_set tables s.index (moved core s (slice_index_or tables s.index Table.Stopped)))
+each_moved core timed tables = each_changed (λ (s : TableRef). s.index) (moved core) Table.Stopped timed tables
 
 abbrev pub started : Core → TableRef → ℕ → Table
 started core s wait = option_map_or (λ (t : TablePlan). table_at t (started_after wait)) (own_table core s) Table.Stopped

@@ -4,10 +4,8 @@
 #![tactic(auto)]
 
 pub mod laws;
-pub mod slots;
 pub mod table;
 pub mod tables;
 
-pub use slots::TableSlot;
 pub use table::{Ahead, Due, Table, TableStatus};
-pub use tables::{DueTable, DueTables, TableList, Tables};
+pub use tables::{DueTable, DueTables, Tables};

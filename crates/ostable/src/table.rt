@@ -9,7 +9,6 @@ ghost use Rattle.ostable.specs.declared.table.Table.{Table as TableValue};
 ghost use Rattle.ostable.specs.Ahead.{IsTimed, ahead_beyond, ahead_in, beyond_next, count_of_next, due_at, due_next, due_of_next, status_of, table_at, table_beyond};
 
 use osbase::TableRef;
-use osjobs::equality::{both, is_same_core};
 
 /// What comes next of a table that runs: the point of this number, or, past the last point, the end of the period; and
 /// after how many counts.
@@ -20,7 +19,7 @@ pub struct Ahead {
 }
 
 /// What a table does at a count: the point that is due, by its number, and whether a period ends.
-#[derive(Clone, Copy, Debug, PartialEq, Eq)]
+#[derive(Clone, Copy, Debug, Default, PartialEq, Eq)]
 pub struct Due {
     pub point: Option<u8>,
     pub ends: bool,
@@ -82,7 +81,7 @@ impl Table {
 
     /// The table runs, and its first period begins after so many counts. A point of offset 0 of a period that begins at
     /// once is not due any more: it is for whoever starts the table.
-    pub fn start(&mut self, plan: &osplan::Table, wait: u32)
+    pub fn start_rel(&mut self, plan: &osplan::Table, wait: u32)
         requires timed { IsTimed plan.now }
         requires turn { wait ≤ 1000000001 }
         ensures { self.new ≡ table_at plan.now (started_after wait) }
@@ -98,7 +97,7 @@ impl Table {
     }
 
     /// The table is stopped, or waits no longer.
-    pub fn quit(&mut self)
+    pub fn stop(&mut self)
         ensures state { self.new ≡ TableValue.Stopped }
         ensures counts { (t : TablePlan) → self.new ≡ table_at t Stopped }
     {
@@ -106,7 +105,7 @@ impl Table {
     }
 
     /// The table waits for the end of a period of another one.
-    pub fn wait_for(&mut self, table: TableRef)
+    pub fn next(&mut self, table: TableRef)
         ensures state { self.new ≡ TableValue.NextOf table }
         ensures counts { (t : TablePlan) → self.new ≡ table_at t (NextOf table) }
     {
@@ -130,10 +129,7 @@ impl Table {
         ensures { result ≡ is_next_in table self }
     {
         match self {
-            Table::NextOf(other) => both(
-                is_same_core(other.core, table.core),
-                other.index == table.index,
-            ),
+            Table::NextOf(other) => other == table,
             _ => false,
         }
     }
@@ -151,8 +147,8 @@ impl Table {
     }
 
     /// Its counter goes on by one. Where a period ends, another one begins, of which a point of offset 0 is not due any
-    /// more, as in `start`.
-    pub fn count(&mut self, plan: &osplan::Table)
+    /// more, as in `start_rel`.
+    pub fn advance(&mut self, plan: &osplan::Table)
         requires timed { IsTimed plan.now }
         ensures state { self.new ≡ table_beyond plan.now self.old }
         ensures counts { (state : TableState) → self.old ≡ table_at plan.now state → self.new ≡ table_at plan.now (counted_once state) }

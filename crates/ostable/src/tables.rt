@@ -2,56 +2,31 @@
 
 ghost use Rattle.std.specs.Prelude.{◌≡◌, ◌<◌, ◌≤◌, ◌+◌, ◌^◌, ℕ, Bool, false, None, [], All, IsTrue, IfSome, filter_map, length, map, option_map, replicate, slice_index_or};
 ghost use Rattle.std.specs.List.{slice_set};
-ghost use Rattle.arrayvec.specs.ArrayVec.{ArrayVec as Items};
 ghost use Rattle.osbase.specs.declared.references.TableRef.{TableRef};
 ghost use Rattle.osbase.specs.History.{Noted, Counted, TableStarted, TableQuit, TableNext};
 ghost use Rattle.osbase.specs.Objects.{counter_object, table_object};
-ghost use Rattle.osbase.specs.Sets.{numbers_from};
 ghost use Rattle.osplan.specs.Clocked.{are_clocks_within};
 ghost use Rattle.osplan.specs.Objects.{is_own_object};
-ghost use Rattle.osclock.specs.Clocks.{counter_ref};
-ghost use Rattle.ostable.specs.Tables.{AreTables, due_in, due_table, due_tables_in, each_moved, is_timed_by, next_in, started, status_in, table_in, table_ref, tables_by, tables_of, timed_by};
+ghost use Rattle.osattach.specs.Attached.{each_by};
+ghost use Rattle.ostable.specs.Tables.{AreTables, due_in, due_table, due_tables_in, each_moved, next_in, started, status_in, table_family, table_in, table_refs, tables_by, tables_of};
 ghost use Rattle.ostable.specs.declared.table.Table.{Table as TableValue};
 
-use crate::slots::TableSlot;
 use crate::table::{Due, Table, TableStatus};
 use arrayvec::ArrayVec;
+use osattach::Attached;
 use osbase::{CoreId, CounterRef, TableRef};
-use osclock::COUNTERS;
-use osjobs::equality::{both, is_same_core};
-use osjobs::own;
-use osplan::Core;
+use osplan::{Core, own};
 use std::marker::Model;
 
 /// The most schedule tables of a core.
 pub const TABLES: usize = 8;
 
-/// Some of a core's tables, in index order.
-pub type TableList = ArrayVec<TableSlot, TABLES>;
-
 /// What a table does at a count, and which table begins in its place where its period ends.
-#[derive(Clone, Copy, Debug, PartialEq, Eq)]
+#[derive(Clone, Copy, Debug, Default, PartialEq, Eq)]
 pub struct DueTable {
     pub table: TableRef,
     pub due: Due,
     pub next: Option<TableRef>,
-}
-
-impl Default for DueTable {
-    fn default() -> Self
-        ensures table { result.table ≡ record { core = record { number = 0 }; index = 0 } }
-        ensures due { result.due ≡ record { point = None; ends = false } }
-        ensures next { result.next ≡ None }
-    {
-        DueTable {
-            table: TableSlot::default().table,
-            due: Due {
-                point: None,
-                ends: false,
-            },
-            next: None,
-        }
-    }
 }
 
 /// What some tables do at a count, in index order.
@@ -61,19 +36,15 @@ pub type DueTables = ArrayVec<DueTable, TABLES>;
 #[derive(Drop)]
 pub struct Tables {
     tables: ArrayVec<Table, TABLES>,
-    // The tables of each counter, so that a count goes over no others.
-    timed: ArrayVec<TableList, COUNTERS>,
+    timed: Attached<TableRef, TABLES>,
 }
 
 impl Model for Tables {
-    ghost use Rattle.std.specs.Prelude.{map};
-    ghost use Rattle.osbase.specs.declared.references.TableRef.{TableRef};
-    ghost use Rattle.arrayvec.specs.ArrayVec.{ArrayVec as Items};
     ghost use Rattle.ostable.specs.Tables.{TableStates};
 
     ghost Value = { TableStates };
 
-    ghost view = { λ c. record { tables = c.tables.items; timed = map (λ (x : Items TableRef). x.items) c.timed.items } };
+    ghost view = { λ c. record { tables = c.tables.items; timed = c.timed } };
 }
 
 impl Tables {
@@ -94,7 +65,7 @@ impl Tables {
         requires own { IsTrue (is_own_object core.now (counter_object counter)) }
         ensures { self.new ≡ tables_by core.now (Noted (Counted counter)) self.old }
     {
-        move_tables(core, &mut self.tables, list_at(&self.timed, counter));
+        move_tables(core, &mut self.tables, self.timed.of(counter));
     }
 
     /// A table of the core runs, and its first period begins after so many counts, at most a full turn of its counter
@@ -114,7 +85,7 @@ impl Tables {
         requires own { IsTrue (is_own_object core.now (table_object table)) }
         ensures { self.new ≡ tables_by core.now (Noted (TableQuit table)) self.old }
     {
-        set_table(&mut self.tables, table, Table::new());
+        stop(&mut self.tables, table);
     }
 
     /// A second table of the core waits for the end of a period of the first (AUTOSAR SWS OS 4.x, SWS_Os_00284).
@@ -123,7 +94,7 @@ impl Tables {
         requires own { IsTrue (is_own_object core.now (table_object next)) }
         ensures { self.new ≡ tables_by core.now (Noted (TableNext table next)) self.old }
     {
-        set_table(&mut self.tables, next, Table::NextOf(table));
+        wait(&mut self.tables, next, table);
     }
 
     /// Whether a table of the core is stopped, waits or runs (AUTOSAR SWS OS 4.x, SWS_Os_00289 to SWS_Os_00291).
@@ -155,8 +126,8 @@ impl Tables {
         ensures { result.items ≡ due_tables_in core.now counter self.now }
     {
         let mut due = ArrayVec::new();
-        for slot in list_at(&self.timed, counter) {
-            if let Some(table) = self.due_table(core, slot.table) {
+        for table in self.timed.of(counter) {
+            if let Some(table) = self.due_table(core, *table) {
                 due.push(table);
             }
         }
@@ -197,46 +168,16 @@ fn new_tables(count: usize) -> ArrayVec<Table, TABLES>
     tables
 }
 
-// The tables of each counter.
-fn new_timed(core: &Core) -> ArrayVec<TableList, COUNTERS>
-    requires counters { length core.now.counters ≤ COUNTERS }
-    requires tables { length core.now.tables ≤ TABLES }
-    ensures { map (λ (x : Items TableRef). x.items) result.items ≡ map (λ (n : ℕ). timed_by core.now (counter_ref core.now n)) (numbers_from 0 (length core.now.counters)) }
+fn new_timed(core: &Core) -> Attached<TableRef, TABLES>
+    requires { IsTrue (are_clocks_within core.now) }
+    ensures { result ≡ each_by core.now (table_family core.now) (table_refs core.now) }
 {
-    let mut timed = ArrayVec::new();
-    for index in 0..core.counters.len() {
-        let counter = CounterRef {
-            core: core.id,
-            index: index as u8,
-        };
-        timed.push(timed_by(core, counter));
-    }
-    timed
-}
-
-fn timed_by(core: &Core, counter: CounterRef) -> TableList
-    requires { length core.now.tables ≤ TABLES }
-    ensures { result.items ≡ timed_by core.now counter }
-{
-    let mut timed = ArrayVec::new();
+    let mut timed = Attached::new(core.counters.len());
     for index in 0..core.tables.len() {
-        if is_timed_by(core, index, counter) {
-            timed.push(slot(core.id, index));
-        }
+        let counter = core.tables.as_slice()[index].counter;
+        timed.attach(counter, reference(core.id, index));
     }
     timed
-}
-
-// Whether the table of this index goes by the counter.
-fn is_timed_by(core: &Core, index: usize, counter: CounterRef) -> bool
-    requires { index < length core.now.tables }
-    ensures { result ≡ is_timed_by core.now counter (table_ref core.now index) }
-{
-    let own = core.tables.as_slice()[index].counter;
-    both(
-        is_same_core(counter.core, own.core),
-        counter.index == own.index,
-    )
 }
 
 fn reference(core: CoreId, index: usize) -> TableRef
@@ -247,35 +188,15 @@ fn reference(core: CoreId, index: usize) -> TableRef
     TableRef { core, index }
 }
 
-fn slot(core: CoreId, index: usize) -> TableSlot
-    requires { index < TABLES }
-    ensures { result ≡ record { core = core; index = index } }
-{
-    TableSlot {
-        table: reference(core, index),
-    }
-}
-
-// The tables of this counter.
-fn list_at(timed: &ArrayVec<TableList, COUNTERS>, counter: CounterRef) -> &[TableSlot]
-    requires { counter.index < length timed.now.items }
-    ensures value { result.now ≡ slice_index_or (map (λ (x : Items TableRef). x.items) timed.now.items) counter.index [] }
-    ensures few { length result.now ≤ TABLES }
-{
-    let list = &timed.as_slice()[usize::from(counter.index)];
-    list.as_slice()
-}
-
 // Takes each of these tables one count on.
-fn move_tables(core: &Core, tables: &mut ArrayVec<Table, TABLES>, timed: &[TableSlot])
+fn move_tables(core: &Core, tables: &mut ArrayVec<Table, TABLES>, timed: &[TableRef])
     requires within { IsTrue (are_clocks_within core.now) }
     requires places { All (λ (s : TableRef). s.index < length tables.old.items) timed.now }
     ensures { tables.new.items ≡ each_moved core.now timed.now tables.old.items }
 {
-    for slot in timed {
-        if let Some(plan) = own::table_of(core, slot.table) {
-            let table = &mut tables.as_mut_slice()[usize::from(slot.table.index)];
-            table.count(plan);
+    for table in timed {
+        if let Some(plan) = own::table_of(core, *table) {
+            tables.as_mut_slice()[usize::from(table.index)].advance(plan);
         }
     }
 }
@@ -287,7 +208,7 @@ fn started(core: &Core, table: TableRef, wait: u32) -> Table
 {
     let mut started = Table::new();
     if let Some(plan) = own::table_of(core, table) {
-        started.start(plan, wait);
+        started.start_rel(plan, wait);
     }
     started
 }
@@ -297,4 +218,19 @@ fn set_table(tables: &mut ArrayVec<Table, TABLES>, table: TableRef, value: Table
     ensures { tables.new.items ≡ slice_set tables.old.items table.index value }
 {
     tables.as_mut_slice()[usize::from(table.index)] = value;
+}
+
+fn stop(tables: &mut ArrayVec<Table, TABLES>, table: TableRef)
+    requires { table.index < length tables.old.items }
+    ensures { tables.new.items ≡ slice_set tables.old.items table.index TableValue.Stopped }
+{
+    tables.as_mut_slice()[usize::from(table.index)].stop();
+}
+
+// The table waits for the end of a period of another one.
+fn wait(tables: &mut ArrayVec<Table, TABLES>, table: TableRef, other: TableRef)
+    requires { table.index < length tables.old.items }
+    ensures { tables.new.items ≡ slice_set tables.old.items table.index (TableValue.NextOf other) }
+{
+    tables.as_mut_slice()[usize::from(table.index)].next(other);
 }

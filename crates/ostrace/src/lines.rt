@@ -1,9 +1,10 @@
 //! The lines of a trace.
 
-ghost use Rattle.std.specs.Prelude.{◌≡◌, ◌^◌, ◌<◌, ◌++◌, ◌∷◌, [], codes, map};
+ghost use Rattle.std.specs.Prelude.{◌≡◌, ◌^◌, ◌<◌, ◌++◌, ◌∷◌, [], codes};
 ghost use Rattle.std.specs.Fmt.{decimal, signed_decimal};
 ghost use Rattle.osbase.specs.Words.{service_name, status_name};
-ghost use Rattle.oscript.specs.Rows.{items};
+ghost use Rattle.oscript.specs.Rows.{form_view};
+ghost use Rattle.osforms.specs.Call.{form_words};
 ghost use Rattle.osforms.specs.Form.{arg_text};
 ghost use Rattle.osforms.specs.Operation.{named};
 ghost use Rattle.ostrace.specs.Pieces.{word_text};
@@ -16,8 +17,7 @@ use crate::words::{Word, write_led, write_words};
 use osbase::{
     CoreId, IsrRef, Mark, Place, RemoteCall, ServiceId, Status, TableRef, TaskRef, Variable,
 };
-use oscript::{Arg, Args};
-use osforms::form_of_call;
+use oscript::{Arg, Args, Form, form_of_op, op_of_call, row_of};
 use osplan::Plan;
 
 fn write_word_alone<S: Sink>(out: &mut S, word: &str) -> Result<(), WriteFailed>
@@ -166,33 +166,21 @@ fn write_call<S: Sink>(plan: &Plan, out: &mut S, call: RemoteCall) -> Result<(),
     requires { S.failed out.old < 2 ^ 48 }
     ensures { Writes S.taken S.failed out.old out.new (led (call_words plan.now call)) result }
 {
-    let form = form_of_call(call);
-    write_asked(plan, out, form.service, form.args)
+    write_form(plan, out, form_of_op(op_of_call(call)))
 }
 
 // No call is in sight here, so that no goal is split by calls.
-fn write_asked<S: Sink>(
-    plan: &Plan,
-    out: &mut S,
-    service: ServiceId,
-    args: Args<Arg<Place>>,
-) -> Result<(), WriteFailed>
+fn write_form<S: Sink>(plan: &Plan, out: &mut S, form: Form<Place>) -> Result<(), WriteFailed>
     requires { S.failed out.old < 2 ^ 48 }
-    ensures { Writes S.taken S.failed out.old out.new
-        (led (service_name service ∷ map (λ a. arg_text (named (name_of plan.now) a)) (items args))) result }
+    ensures { Writes S.taken S.failed out.old out.new (led (form_words (name_of plan.now) (form_view form))) result }
 {
-    let service = Word::Text(service.name());
-    match args {
-        Args::Zero => write_led(out, &[service]),
-        Args::One(a) => write_led(out, &[service, word_of(plan, a)]),
-        Args::Two(a, b) => write_led(out, &[service, word_of(plan, a), word_of(plan, b)]),
+    let word = Word::Text(row_of(form.verb).word);
+    match form.args {
+        Args::Zero => write_led(out, &[word]),
+        Args::One(a) => write_led(out, &[word, word_of(plan, a)]),
+        Args::Two(a, b) => write_led(out, &[word, word_of(plan, a), word_of(plan, b)]),
         Args::Three(a, b, c) => {
-            let words = [
-                service,
-                word_of(plan, a),
-                word_of(plan, b),
-                word_of(plan, c),
-            ];
+            let words = [word, word_of(plan, a), word_of(plan, b), word_of(plan, c)];
             write_led(out, &words)
         }
     }

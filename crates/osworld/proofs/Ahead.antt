@@ -17,7 +17,7 @@ use Rattle.osplan.specs.declared.plans.CoreMode.{CoreMode}
 use Rattle.osplan.specs.declared.plans.CoreMode.TheVariants.{Named}
 use Rattle.osplan.specs.View.{View, is_configured}
 use Rattle.osstate.specs.Readings.{knows_started, next_start, phase_at}
-use Rattle.oscall.proofs.Carried.{nobody}
+use Rattle.osact.proofs.Kept.{nobody}
 use Rattle.osbase.specs.Phases.{stands_in}
 use Rattle.osstate.specs.State.{state_of}
 use Rattle.oskernel.specs.Admission.{admits, are_started_cores, is_agreement, is_for, is_start_answer}

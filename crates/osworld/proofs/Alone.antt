@@ -26,7 +26,7 @@ use Rattle.osplan.proofs.Separating.{SeparateParts, separate-parts}
 use Rattle.osplan.proofs.Starting.{configured-low}
 use Rattle.osplan.proofs.Tests.{all-weaker, find-holds}
 use Rattle.osstate.specs.Readings.{is_own}
-use Rattle.oscall.proofs.Carried.{nobody}
+use Rattle.osact.proofs.Kept.{nobody}
 use Rattle.oskernel.specs.Admission.{are_started_cores}
 use Rattle.oskernel.specs.Step.{history_from, solo}
 use Rattle.oskernel.proofs.Carried.{NamesAllow}

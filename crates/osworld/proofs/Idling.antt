@@ -10,14 +10,14 @@ use Rattle.osbase.specs.declared.references.TaskRef.{TaskRef}
 use Rattle.osbase.specs.declared.references.Runner.{Runner}
 use Rattle.osbase.specs.declared.items.Item.{Item}
 use Rattle.osbase.specs.declared.marks.Mark.{Mark}
-use Rattle.osbase.specs.declared.histories.HeldResource.{HeldResource}
 use Rattle.osbase.specs.declared.histories.Job.{Job}
 use Rattle.osbase.specs.declared.histories.OpenCall.{OpenCall}
-use Rattle.osbase.specs.declared.histories.TaskEvents.{TaskEvents}
+use Rattle.oscript.specs.Runners.{Row}
 use Rattle.osbase.specs.History.{Entry, History, Took, Printed, better_of, current_job, current_task, first_greatest, giving_way, greater, greatest_ceiling, is_waiting, jobs_after, live_jobs, oldest, open_call, same_job, same_runner, stamped_anew, without_oldest}
 use Rattle.osplan.specs.View.{View}
-use Rattle.osjobs.specs.Priorities.{events_in, held_in, highest_of, is_able_in, is_preemptable, priority_by, raised_of, static_priority}
-use Rattle.osstate.specs.Readings.{best_job, current_priority, events_at, held_resources, is_able, running, task_events}
+use Rattle.osrunner.specs.Rows.{events_in, held_in}
+use Rattle.osjobs.specs.Priorities.{highest_of, is_able_in, is_preemptable, priority_by, raised_of, static_priority}
+use Rattle.osstate.specs.Readings.{best_job, current_priority, events_at, is_able, rows_of, running}
 use Rattle.osbase.proofs.Same.{same_runner-true, same_task-refl}
 use Rattle.oskernel.specs.Step.{after, enters, goes_to, leaves}
 
@@ -159,18 +159,18 @@ stays-best p q (x ∷ xs) j i e f up down = by (first_greatest p xs) (first_grea
 
 -- ---- priorities, where a job is raised
 
-module _ (v : View) (held : List (List HeldResource)) where
+module _ (v : View) (rows : List Row) where
   abbrev base : Job → ℕ
-  base j = greater (static_priority v.own j.runner) (greatest_ceiling (held_in j.runner held))
+  base j = greater (static_priority v.own j.runner) (greatest_ceiling (held_in j.runner rows))
 
-  least : (o : Option Job) (j : Job) → base j ≤ priority_by v.own held o j
+  least : (o : Option Job) (j : Job) → base j ≤ priority_by v.own rows o j
   least o j = by (nat_lt (base j) (cond (option_map_or (same_job j) o false) (highest_of v.own.tasks) 0)) refl
     where
       by : (b : Bool) → nat_lt (base j) (cond (option_map_or (same_job j) o false) (highest_of v.own.tasks) 0) ≡ b → base j ≤ cond b (cond (option_map_or (same_job j) o false) (highest_of v.own.tasks) 0) (base j)
       by true lt = grind (arith, nat_tests, lt)
       by false lt = omega arith
 
-  unraised : (o : Option Job) (j : Job) → option_map_or (same_job j) o false ≡ false → priority_by v.own held o j ≡ base j
+  unraised : (o : Option Job) (j : Job) → option_map_or (same_job j) o false ≡ false → priority_by v.own rows o j ≡ base j
   unraised o j e = ap (λ (b : Bool). greater (base j) (cond b (highest_of v.own.tasks) 0)) e ∙ low (base j)
     where
       low : (n : ℕ) → greater n 0 ≡ n
@@ -202,7 +202,7 @@ pub record Idle (v : View) (h : History) : Type 0 where
 -- ---- which jobs are able
 
 -- Of a runner's jobs all are able, or none.
-able-runner : (all : List TaskEvents) (r : Runner) (js : List Job) → not (is_waiting (events_in r all)) ≡ true → oldest r (filter (is_able_in all) js) ≡ oldest r js
+able-runner : (all : List Row) (r : Runner) (js : List Job) → not (is_waiting (events_in r all)) ≡ true → oldest r (filter (is_able_in all) js) ≡ oldest r js
 able-runner all r [] able = refl
 able-runner all r (j ∷ js) able = by (same_runner j.runner r) refl (is_able_in all j) refl (able-runner all r js able)
   where
@@ -239,9 +239,9 @@ entered-jobs : (o : Option TaskRef) (h : History) → live_jobs (leaves o h) ≡
 entered-jobs None h = refl
 entered-jobs (Some t) h = refl
 
-entered-held : (v : View) (o : Option TaskRef) (t : TaskRef) (h : History) → held_resources v (Printed (Mark.PreTaskHook t) ∷ leaves o h) ≡ held_resources v h
-entered-held v None t h = refl
-entered-held v (Some u) t h = refl
+entered-rows : (v : View) (o : Option TaskRef) (t : TaskRef) (h : History) → rows_of v.own (Printed (Mark.PreTaskHook t) ∷ leaves o h) ≡ rows_of v.own h
+entered-rows v None t h = refl
+entered-rows v (Some u) t h = refl
 
 best-runs : (v : View) (h : History) (j : Job) (t : TaskRef) → best_job v h ≡ Some j → j.runner ≡ Runner.Task t → option_map_or (same_job j) (running v h) false ≡ false → BestRuns v (enters (Runner.Task t) h)
 best-runs v h j t best task apart i f = choose (same_job i j) refl
@@ -258,31 +258,31 @@ best-runs v h j t best task apart i f = choose (same_job i j) refl
     able : is_able v h j ≡ true
     able = greatest-among (current_priority v h) (is_able v h) (able_jobs v h) j (filtered-all (is_able v h) (live_jobs h)) best
 
-    still : held_resources v next ≡ held_resources v h
-    still = entered-held v (current_task h) t h
+    still : rows_of v.own next ≡ rows_of v.own h
+    still = entered-rows v (current_task h) t h
 
-    own : current_priority v h j ≡ base v (held_resources v h) j
-    own = unraised v (held_resources v h) (raised_of v.own (giving_way h) (running v h)) j (not-raised v (giving_way h) (running v h) j apart)
+    own : current_priority v h j ≡ base v (rows_of v.own h) j
+    own = unraised v (rows_of v.own h) (raised_of v.own (giving_way h) (running v h)) j (not-raised v (giving_way h) (running v h) j apart)
 
     others : (k : Job) → k.runner ≡ j.runner → current_priority v h j ≤ current_priority v h k
     others k same =
-        let alike : base v (held_resources v h) k ≡ base v (held_resources v h) j = ap (λ (r : Runner). greater (static_priority v.own r) (greatest_ceiling (held_in r (held_resources v h)))) same in
-        omega (arith, own, alike, least v (held_resources v h) (raised_of v.own (giving_way h) (running v h)) k)
+        let alike : base v (rows_of v.own h) k ≡ base v (rows_of v.own h) j = ap (λ (r : Runner). greater (static_priority v.own r) (greatest_ceiling (held_in r (rows_of v.own h)))) same in
+        omega (arith, own, alike, least v (rows_of v.own h) (raised_of v.own (giving_way h) (running v h)) k)
 
     runs : running v next ≡ Some j
     runs =
         ap (oldest (Runner.Task t)) jobs
-        ∙ sym (able-runner (task_events v h) (Runner.Task t) (live_jobs h) (ap (λ (r : Runner). not (is_waiting (events_at v r h))) (sym task) ∙ able))
+        ∙ sym (able-runner (rows_of v.own h) (Runner.Task t) (live_jobs h) (ap (λ (r : Runner). not (is_waiting (events_at v r h))) (sym task) ∙ able))
         ∙ greatest-oldest (current_priority v h) t (able_jobs v h) j best task others
 
     choose : (b : Bool) → same_job i j ≡ b → option_map_or (same_job i) (running v next) false ≡ true
     choose true e = ap (λ (o : Option Job). option_map_or (same_job i) o false) runs ∙ e
     choose false e =
-        let plain : current_priority v next i ≡ base v (held_resources v h) i =
-        unraised v (held_resources v next) (raised_of v.own (giving_way next) (running v next)) i (not-raised v (giving_way next) (running v next) i (ap (λ (o : Option Job). option_map_or (same_job i) o false) runs ∙ e))
-        ∙ ap (λ (held : List (List HeldResource)). base v held i) still in
-        let up : current_priority v h j ≤ current_priority v next j = omega (arith, own, ap (λ (held : List (List HeldResource)). base v held j) still, least v (held_resources v next) (raised_of v.own (giving_way next) (running v next)) j) in
-        let down : current_priority v next i ≤ current_priority v h i = omega (arith, plain, least v (held_resources v h) (raised_of v.own (giving_way h) (running v h)) i) in
+        let plain : current_priority v next i ≡ base v (rows_of v.own h) i =
+        unraised v (rows_of v.own next) (raised_of v.own (giving_way next) (running v next)) i (not-raised v (giving_way next) (running v next) i (ap (λ (o : Option Job). option_map_or (same_job i) o false) runs ∙ e))
+        ∙ ap (λ (rows : List Row). base v rows i) still in
+        let up : current_priority v h j ≤ current_priority v next j = omega (arith, own, ap (λ (rows : List Row). base v rows j) still, least v (rows_of v.own next) (raised_of v.own (giving_way next) (running v next)) j) in
+        let down : current_priority v next i ≤ current_priority v h i = omega (arith, plain, least v (rows_of v.own h) (raised_of v.own (giving_way h) (running v h)) i) in
         let same : j ≡ i = stays-best (current_priority v h) (current_priority v next) (able_jobs v h) j i best again up down in
         absurd (false≢true (sym e ∙ ap (λ (x : Job). same_job i x) same ∙ eq-eqb i.stamp i.stamp refl))
 
@@ -327,7 +327,7 @@ pub end-idle : (v : View) (h : History) → Idle v h → after v h Item.PassEnd 
 end-idle v h idle = by (best_job v (Took Item.PassEnd ∷ h)) same
   where
     same : best_job v h ≡ best_job v (Took Item.PassEnd ∷ h)
-    same = ap (λ (way : Option Runner). first_greatest (priority_by v.own (held_resources v h) (raised_of v.own way (current_job h))) (filter (is_able v h) (live_jobs h))) idle.stays
+    same = ap (λ (way : Option Runner). first_greatest (priority_by v.own (rows_of v.own h) (raised_of v.own way (current_job h))) (filter (is_able v h) (live_jobs h))) idle.stays
 
     stays : (b : Bool) (x : History) → cond b x x ≡ x
     stays true x = refl

@@ -16,7 +16,7 @@ use Rattle.osbase.specs.Phases.{is_scheduling}
 use Rattle.osbase.proofs.Same.{same_core-true, same_core-refl}
 use Rattle.osplan.specs.View.{View}
 use Rattle.osstate.specs.Readings.{is_own, knows_started, phase_at}
-use Rattle.oscall.proofs.Carried.{anybody, is_local, nobody}
+use Rattle.osact.proofs.Kept.{anybody, is_local, nobody}
 use Rattle.osstate.specs.State.{state_of}
 use Rattle.oskernel.specs.Admission.{admits, is_awaited, is_front_for, is_reply_to}
 use Rattle.oskernel.specs.Step.{after, history_from, outbox_size, solo_from}

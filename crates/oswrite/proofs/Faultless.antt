@@ -8,8 +8,10 @@ use Rattle.std.proofs.lemmas.Simd.{map-map}
 use Rattle.osbase.specs.History.{same_core}
 use Rattle.osbase.specs.declared.references.CoreId.{CoreId}
 use Rattle.oscript.specs.declared.Op.{Op}
+use Rattle.oscript.specs.Calls.{is_action as is_action_call, op_of_call}
+use Rattle.oscript.proofs.Acting.{action-back as action-of}
 use Rattle.oscript.specs.Rows as rows
-use Rattle.osforms.specs.Action.{is_action, is_action_op}
+use Rattle.osforms.specs.Action.{is_action}
 use Rattle.osforms.specs.Operation.{has_masks}
 use Rattle.osforms.proofs.ActionTexts.{meant_action}
 use Rattle.osforms.proofs.Operations.{meant-known, meant_masks}
@@ -18,7 +20,7 @@ use Rattle.osplan.specs.declared.plans.AlarmStart.{AlarmStart}
 use Rattle.osplan.specs.declared.plans.ExpiryPoint.{ExpiryPoint}
 use Rattle.osplan.specs.declared.plans.Table.{Table}
 use Rattle.osplan.specs.declared.plans.TableStart.{TableStart}
-use Rattle.osplan.specs.declared.plans.TimedAction.{TimedAction}
+use Rattle.osbase.specs.declared.messages.RemoteCall.{RemoteCall}
 use Rattle.osplan.specs.declared.plans.Plan.{Plan}
 use Rattle.osplan.specs.declared.plans.Core.{Core}
 use Rattle.osplan.specs.declared.plans.Task.{Task}
@@ -52,7 +54,7 @@ use Rattle.osdraft.proofs.Known.{near_kept}
 use Rattle.osdraft.proofs.Sending.{posted-same}
 use Rattle.oswrite.proofs.Said.{task_said, resource_said, counter_said, start_said, counter_name, action_said, alarm_said, point_said, table_start_said, table_said, core_said, config_said}
 use Rattle.oswrite.proofs.Reshaped.{modes-are, mode-text, config-shape}
-use Rattle.oswrite.proofs.Restored.{is_kept_task, is_kept_alarm, is_kept_point, is_kept_table, is_kept_core, kept-task, kept-alarm, kept-table, kept-core, kept-cores, is_kept_op, apart, counter-named, counter-placed, counter-ref-back, op-meant, ops-back, script-back, core-back, plan-back}
+use Rattle.oswrite.proofs.Restored.{is_kept_task, is_kept_action, is_kept_alarm, is_kept_point, is_kept_table, is_kept_core, kept-task, kept-alarm, kept-table, kept-core, kept-cores, is_kept_op, apart, counter-named, counter-placed, counter-ref-back, op-meant, ops-back, script-back, core-back, plan-back}
 
 module _ (plan : Plan) (inside : IsTrue (limits.is_within_limits plan)) (sayable : IsTrue (said.is_expressible plan)) where
   abbrev objects : List Declaration
@@ -95,19 +97,19 @@ module _ (plan : Plan) (inside : IsTrue (limits.is_within_limits plan)) (sayable
   auto-known None h = refl
   auto-known (Some auto) h = list_all-by said.is_only_mode is_mode_name (name_of_mode plan) (λ m e. mode-known (name_of_mode plan m) (mode-text plan parts.modes m e)) auto.modes h
 
-  action-known : (action : TimedAction) → is_kept_op plan (said.op_of_action action) ≡ true → is_action_known objects (action_said plan action) ≡ true
-  action-known action h = or_right (not (is_action (action_said plan action))) _ (op-known (said.op_of_action action) h)
+  action-known : (action : RemoteCall) → is_kept_action plan action ≡ true → is_action_known objects (action_said plan action) ≡ true
+  action-known action h = or_right (not (is_action (action_said plan action))) _ (op-known (op_of_call action) (and_parts (is_action_call action) _ h).1)
 
   alarm-known : (alarm : Alarm) → is_kept_alarm plan alarm ≡ true → is_alarm_known objects (alarm_said plan alarm) ≡ true
   alarm-known alarm h =
       let k = kept-alarm plan alarm h in
-      and_from _ _ (and_from _ _ (ap is_some (counter-placed plan inside sayable alarm.counter k.counter)) (action-known alarm.action k.operation)) (auto-known alarm.auto k.auto)
+      and_from _ _ (and_from _ _ (ap is_some (counter-placed plan inside sayable alarm.counter k.counter)) (action-known alarm.action k.action)) (auto-known alarm.auto k.auto)
 
   -- What each action of a kept point passes, the point's text passes.
-  point-passes : (p : List ℕ → Bool) → ((action : TimedAction) → is_kept_op plan (said.op_of_action action) ≡ true → p (action_said plan action) ≡ true) → (point : ExpiryPoint) → is_kept_point plan point ≡ true
+  point-passes : (p : List ℕ → Bool) → ((action : RemoteCall) → is_kept_action plan action ≡ true → p (action_said plan action) ≡ true) → (point : ExpiryPoint) → is_kept_point plan point ≡ true
       → list_all p (point_said plan point).actions ≡ true
   point-passes p each point h =
-      list_all-by (λ (action : TimedAction). is_kept_op plan (said.op_of_action action)) p (action_said plan) each point.actions (and_parts (limits.is_between 0 1000000000 (Some point.offset)) _ h).1
+      list_all-by (is_kept_action plan) p (action_said plan) each point.actions (and_parts (limits.is_between 0 1000000000 (Some point.offset)) _ h).1
 
   table-auto-known : (auto : Option TableStart) → list_all said.is_only_mode (option_map_or (λ (auto : TableStart). auto.modes) auto []) ≡ true → list_all is_mode_name (option_map_or (λ (auto : TableStartText). auto.modes) (option_map (table_start_said plan) auto) []) ≡ true
   table-auto-known None h = refl
@@ -145,11 +147,11 @@ module _ (plan : Plan) (inside : IsTrue (limits.is_within_limits plan)) (sayable
       let k = kept-task plan task h in
       rw (script-back plan inside sayable task.script k.operations) (list_all-by (is_kept_op plan) has_masks (op_text plan) op-masked task.script k.operations)
 
-  action-masked : (action : TimedAction) → is_kept_op plan (said.op_of_action action) ≡ true → is_action_masked (action_said plan action) ≡ true
-  action-masked action h = or_right (not (is_action (action_said plan action))) _ (op-masked (said.op_of_action action) h)
+  action-masked : (action : RemoteCall) → is_kept_action plan action ≡ true → is_action_masked (action_said plan action) ≡ true
+  action-masked action h = or_right (not (is_action (action_said plan action))) _ (op-masked (op_of_call action) (and_parts (is_action_call action) _ h).1)
 
   alarm-masked : (alarm : Alarm) → is_kept_alarm plan alarm ≡ true → is_alarm_masked (alarm_said plan alarm) ≡ true
-  alarm-masked alarm h = action-masked alarm.action (kept-alarm plan alarm h).operation
+  alarm-masked alarm h = action-masked alarm.action (kept-alarm plan alarm h).action
 
   table-masked : (table : Table) → is_kept_table plan table ≡ true → is_table_masked (table_said plan table) ≡ true
   table-masked table h = list_all-by (is_kept_point plan) is_point_masked (point_said plan) (point-passes is_action_masked action-masked) table.points (kept-table plan table h).points
@@ -173,17 +175,14 @@ module _ (plan : Plan) (inside : IsTrue (limits.is_within_limits plan)) (sayable
       let k = kept-task plan task h in
       rw (script-back plan inside sayable task.script k.operations) (and_from _ _ (list_all-by (is_kept_op plan) is_operation (op_text plan) op-form task.script k.operations) (ap said.is_jumping_within (ops-back plan inside sayable task.script k.operations) ∙ k.jumps))
 
-  action-acts : (action : TimedAction) → is_action_op (said.op_of_action action) ≡ true
-  action-acts (TimedAction.ActivateTask task) = refl
-  action-acts (TimedAction.SetEvent task mask) = refl
-
-  action-acting : (action : TimedAction) → is_kept_op plan (said.op_of_action action) ≡ true → is_action (action_said plan action) ≡ true
+  action-acting : (action : RemoteCall) → is_kept_action plan action ≡ true → is_action (action_said plan action) ≡ true
   action-acting action h =
-      let op = said.op_of_action action in
-      sym (meant_action (place_of objects) (op_text plan op) op (op-meant plan inside sayable op h)) ∙ action-acts action
+      let parts = and_parts (is_action_call action) (is_kept_op plan (op_of_call action)) h in
+      let op = op_of_call action in
+      sym (meant_action (place_of objects) (op_text plan op) op (op-meant plan inside sayable op parts.1)) ∙ ap is_some (action-of action parts.0)
 
   alarm-acting : (alarm : Alarm) → is_kept_alarm plan alarm ≡ true → is_alarm_acting (alarm_said plan alarm) ≡ true
-  alarm-acting alarm h = action-acting alarm.action (kept-alarm plan alarm h).operation
+  alarm-acting alarm h = action-acting alarm.action (kept-alarm plan alarm h).action
 
   table-acting : (table : Table) → is_kept_table plan table ≡ true → is_table_acting (table_said plan table) ≡ true
   table-acting table h = list_all-by (is_kept_point plan) is_point_acting (point_said plan) (point-passes is_action action-acting) table.points (kept-table plan table h).points

@@ -18,7 +18,7 @@ use Rattle.osplan.specs.declared.plans.Resource.{Resource}
 use Rattle.osplan.specs.declared.plans.ExpiryPoint.{ExpiryPoint}
 use Rattle.osplan.specs.declared.plans.Table.{Table}
 use Rattle.osplan.specs.declared.plans.TableStart.{TableStart}
-use Rattle.osplan.specs.declared.plans.TimedAction.{TimedAction}
+use Rattle.osbase.specs.declared.messages.RemoteCall.{RemoteCall}
 use Rattle.osplan.specs.declared.plans.Task.{Task}
 use Rattle.osbase.specs.Names.{is_name}
 use Rattle.osplan.specs.Limits as limits
@@ -111,7 +111,7 @@ module _ (plan : Plan) (inside : IsTrue (limits.is_within_limits plan)) (sayable
 
   point-shape : (point : ExpiryPoint) → point_shape (point_data plan point) ≡ Some (point_said plan point)
   unfolding point_shape
-  point-shape point = rw (each-items as_str (action_data plan) (action_said plan) (λ (action : TimedAction). true) (λ action e. refl) point.actions (always point.actions)) refl
+  point-shape point = rw (each-items as_str (action_data plan) (action_said plan) (λ (action : RemoteCall). true) (λ action e. refl) point.actions (always point.actions)) refl
 
   table-start-shape : (auto : TableStart) → list_all is_only_mode auto.modes ≡ true → table_start_shape (table_start_data plan auto) ≡ Some (table_start_said plan auto)
   unfolding table_start_shape

@@ -5,7 +5,8 @@ use Rattle.std.specs.Option.{option_map_or}
 use Rattle.std.proofs.lemmas.Bool.{and_parts, and_from, leb-true, ltb-true, true≢false, eqb-true}
 use Rattle.std.proofs.lemmas.List.Folds.{list_all-map}
 use Rattle.std.proofs.lemmas.Simd.{map-map}
-use Rattle.osbase.specs.Objects.{counter_object, counter_place}
+use Rattle.osbase.specs.declared.messages.RemoteCall.{RemoteCall}
+use Rattle.osbase.specs.Objects.{counter_object, counter_place, object_of_call}
 use Rattle.osbase.specs.declared.objects.ObjectKind.{ObjectKind}
 use Rattle.osbase.specs.declared.references.CounterRef.{CounterRef}
 use Rattle.osbase.specs.declared.references.CoreId.{CoreId}
@@ -14,7 +15,9 @@ use Rattle.osbase.specs.History.{same_core}
 use Rattle.osbase.specs.Names.{is_name}
 use Rattle.oscript.specs.declared.Op.{Op}
 use Rattle.oscript.specs.declared.Op.TheVariants.{Work}
+use Rattle.oscript.specs.Calls.{action_of_op, is_action, op_of_call}
 use Rattle.oscript.specs.Rows.{has_masks, is_in_form}
+use Rattle.oscript.proofs.Acting.{action-back as action-of, call-objects}
 use Rattle.osforms.specs.Operation.{op_meant}
 use Rattle.osforms.proofs.Joining.{has_none}
 use Rattle.osforms.proofs.Operations.{IsNamed, text-meant, text-none, text-some}
@@ -23,7 +26,6 @@ use Rattle.osplan.specs.declared.plans.AlarmStart.{AlarmStart}
 use Rattle.osplan.specs.declared.plans.ExpiryPoint.{ExpiryPoint}
 use Rattle.osplan.specs.declared.plans.Table.{Table}
 use Rattle.osplan.specs.declared.plans.TableStart.{TableStart}
-use Rattle.osplan.specs.declared.plans.TimedAction.{TimedAction}
 use Rattle.osplan.specs.declared.plans.Plan.{Plan}
 use Rattle.osplan.specs.declared.plans.Core.{Core}
 use Rattle.osplan.specs.declared.plans.Counter.{Counter}
@@ -33,7 +35,7 @@ use Rattle.osplan.specs.declared.plans.CoreMode.{CoreMode}
 use Rattle.osplan.specs.declared.plans.CoreMode.TheVariants.{Named, DontCare}
 use Rattle.osplan.specs.Limits as limits
 use Rattle.osplan.specs.Limits.{CounterSizes, PointSizes, TableSizes, task_sizes, alarm_sizes, start_sizes, point_sizes, table_sizes, core_sizes, number_of, are_ascending, are_counters_within, is_alarm_within, is_between, is_point_within, is_start, is_table_start_within, is_table_timed, is_table_within, is_task_within, is_timed_by, is_core_within, last_offset}
-use Rattle.osplan.specs.Objects.{action_object, alarm_modes, table_actions, table_modes}
+use Rattle.osplan.specs.Objects.{alarm_modes, table_actions, table_modes}
 use Rattle.osplan.specs.View.{core_of, counter_in}
 use Rattle.osplan.specs.Expressible as said
 use Rattle.osplan.proofs.Tests.{all-both, all-weaker, each-flat, find-holds}
@@ -41,7 +43,7 @@ use Rattle.osplan.proofs.Distinct.{distinct-back}
 use Rattle.osplan.proofs.Starting.{master-low}
 use Rattle.osplan.proofs.Within.{TextParts, CoreTextParts, between, limit-parts, text-parts, core-text-parts}
 use Rattle.osshape.specs.declared.declarations.Declaration.{Declaration}
-use Rattle.oscheck.specs.Action.{action_of, action_of_op}
+use Rattle.oscheck.specs.Action.{action_of, any_action}
 use Rattle.oscheck.specs.Check.{counter_sizes}
 use Rattle.osshape.specs.Declarations.{byte_of, counter_ref, number_id, word_of, declarations, place_of, names_of}
 use Rattle.oscheck.specs.Operation.{operations_of, op_of}
@@ -50,7 +52,6 @@ use Rattle.osplan.specs.Names.{name_of, name_of_mode}
 use Rattle.oswrite.specs.Writing.{op_text, script_text}
 use Rattle.osshape.proofs.Lists.{map-back}
 use Rattle.osdraft.proofs.Numbers.{IsByte, byte-small, is-byte, is-word, task-bytes, counter-words, start-words, table-start-word, core-bytes, cap-byte}
-use Rattle.osdraft.proofs.Alarms.{any_action, op-action}
 use Rattle.osdraft.proofs.Named.{HasCounters, NamedCounter, named-counter}
 use Rattle.oscheck.proofs.Points.{offsets-low}
 use Rattle.osdraft.proofs.Standing.{IsFound, each-found}
@@ -71,6 +72,10 @@ mode-back DontCare h = absurd (true≢false (sym h))
 
 abbrev pub is_kept_op : Plan → Op → Bool
 is_kept_op plan op = limits.is_op_known plan op && is_in_form op && has_masks op
+
+-- So is each action, by its operation.
+abbrev pub is_kept_action : Plan → RemoteCall → Bool
+is_kept_action plan action = is_action action && is_kept_op plan (op_of_call action)
 
 abbrev pub is_kept_task : Plan → Task → Bool
 is_kept_task plan task = is_task_within (task_sizes task) && limits.is_task_known plan task && said.is_task_expressible task
@@ -94,11 +99,11 @@ pub record KeptTask (plan : Plan) (task : Task) : Type 0 where
 pub record KeptAlarm (plan : Plan) (alarm : Alarm) : Type 0 where
   pub within : is_alarm_within (alarm_sizes (counter_in plan) alarm) ≡ true
   pub counter : limits.is_object plan (counter_object alarm.counter) ≡ true
-  pub operation : is_kept_op plan (said.op_of_action alarm.action) ≡ true
+  pub action : is_kept_action plan alarm.action ≡ true
   pub auto : list_all said.is_only_mode (alarm_modes alarm) ≡ true
 
 abbrev pub is_kept_point : Plan → ExpiryPoint → Bool
-is_kept_point plan point = is_between 0 1000000000 (Some point.offset) && list_all (λ (action : TimedAction). is_kept_op plan (said.op_of_action action)) point.actions
+is_kept_point plan point = is_between 0 1000000000 (Some point.offset) && list_all (is_kept_action plan) point.actions
 
 pub record KeptTable (plan : Plan) (table : Table) : Type 0 where
   pub within : is_table_within (table_sizes (counter_in plan) table) ≡ true
@@ -129,31 +134,28 @@ kept-task plan task h =
       auto = (and_parts (is_name task.name) _ parts.0).1;
     }
 
-action-op-known : (plan : Plan) (action : TimedAction) → limits.is_object plan (action_object action) ≡ true → limits.is_op_known plan (said.op_of_action action) ≡ true
-action-op-known plan (TimedAction.ActivateTask task) h = and_from _ true h refl
-action-op-known plan (TimedAction.SetEvent task mask) h = and_from _ true h refl
+kept-action : (plan : Plan) (action : RemoteCall) → (limits.is_action_known plan action && said.is_action_expressible action) ≡ true → is_kept_action plan action ≡ true
+kept-action plan action h =
+    let op = op_of_call action in
+    let both = and_parts (limits.is_action_known plan action) (said.is_action_expressible action) h in
+    let known = and_parts (is_action action) (limits.is_object plan (object_of_call action)) both.0 in
+    let forms = and_parts (is_in_form op) (has_masks op) both.1 in
+    let named : limits.is_op_known plan op ≡ true = ap (list_all (limits.is_object plan)) (call-objects action) ∙ and_from _ true known.1 refl in
+    and_from _ _ known.0 (and_from _ _ (and_from _ _ named forms.0) forms.1)
 
 pub kept-alarm : (plan : Plan) (alarm : Alarm) → is_kept_alarm plan alarm ≡ true → KeptAlarm plan alarm
 kept-alarm plan alarm h =
     let sayable = and_parts _ (said.is_alarm_expressible alarm) h in
     let within = and_parts (is_alarm_within (alarm_sizes (counter_in plan) alarm)) (limits.is_alarm_known plan alarm) sayable.0 in
-    let known = and_parts (limits.is_object plan (counter_object alarm.counter)) (limits.is_object plan (action_object alarm.action)) (and_parts _ (list_all (limits.is_mode plan) (alarm_modes alarm)) within.1).0 in
+    let known = and_parts (limits.is_object plan (counter_object alarm.counter)) (limits.is_action_known plan alarm.action) (and_parts _ (list_all (limits.is_mode plan) (alarm_modes alarm)) within.1).0 in
     let parts = and_parts _ (list_all said.is_only_mode (alarm_modes alarm)) sayable.1 in
-    let op = said.op_of_action alarm.action in
-    let forms = and_parts (is_in_form op) (has_masks op) (and_parts (is_name alarm.name) (said.is_action_expressible alarm.action) parts.0).1 in
+    let forms = (and_parts (is_name alarm.name) (said.is_action_expressible alarm.action) parts.0).1 in
     record {
       within = within.0;
       counter = known.0;
-      operation = and_from _ _ (and_from _ _ (action-op-known plan alarm.action known.1) forms.0) forms.1;
+      action = kept-action plan alarm.action (and_from _ _ known.1 forms);
       auto = parts.1;
     }
-
-kept-action : (plan : Plan) (action : TimedAction) → (limits.is_action_known plan action && said.is_action_expressible action) ≡ true → is_kept_op plan (said.op_of_action action) ≡ true
-kept-action plan action h =
-    let op = said.op_of_action action in
-    let both = and_parts (limits.is_action_known plan action) (said.is_action_expressible action) h in
-    let forms = and_parts (is_in_form op) (has_masks op) both.1 in
-    and_from _ _ (and_from _ _ (action-op-known plan action both.0) forms.0) forms.1
 
 pub kept-table : (plan : Plan) (table : Table) → is_kept_table plan table ≡ true → KeptTable plan table
 kept-table plan table h =
@@ -165,7 +167,7 @@ kept-table plan table h =
     let parts = and_parts _ (list_all said.is_only_mode (table_modes table)) sayable.1 in
     let names = and_parts (limits.is_object plan (counter_object table.counter)) (list_all (limits.is_action_known plan) (table_actions table)) known.0 in
     let forms = and_parts (is_name table.name) (list_all said.is_action_expressible (table_actions table)) parts.0 in
-    let actions = all-weaker (λ (action : TimedAction). limits.is_action_known plan action && said.is_action_expressible action) (λ (action : TimedAction). is_kept_op plan (said.op_of_action action)) (kept-action plan) (table_actions table)
+    let actions = all-weaker (λ (action : RemoteCall). limits.is_action_known plan action && said.is_action_expressible action) (is_kept_action plan) (kept-action plan) (table_actions table)
     (all-both (limits.is_action_known plan) said.is_action_expressible (table_actions table) names.1 forms.1) in
     let start = and_parts _ (option_map_or (is_table_start_within sizes) sizes.auto true) both.0 in
     let counts = and_parts (is_between 1 1000000000 (Some table.duration)) _ (and_parts _ (list_all is_point_within sizes.points) start.0).0 in
@@ -177,7 +179,7 @@ kept-table plan table h =
       counter = names.0;
       duration = counts.0;
       points = all-both _ _ table.points (sym (list_all-map (λ (point : PointSizes). is_between 0 1000000000 point.offset) point_sizes table.points) ∙ offsets-low 1000000000 sizes.points order.0 last)
-          (each-flat (λ (action : TimedAction). is_kept_op plan (said.op_of_action action)) (λ (point : ExpiryPoint). point.actions) table.points actions);
+          (each-flat (is_kept_action plan) (λ (point : ExpiryPoint). point.actions) table.points actions);
       auto = parts.1;
     }
 
@@ -328,20 +330,21 @@ module _ (plan : Plan) (inside : IsTrue (limits.is_within_limits plan)) (sayable
       let cycle : word_of (Some auto.cycle) ≡ auto.cycle = ap (λ o. unwrap_or o 0) words.1 in
       rw (start, cycle, map-back (λ (name : List ℕ). only_mode) (name_of_mode plan) said.is_only_mode (λ m e. sym (mode-is m e)) auto.modes modes) refl
 
-  action-back : (action : TimedAction) → is_kept_op plan (said.op_of_action action) ≡ true → action_of objects (op_text plan (said.op_of_action action)) ≡ action
+  action-back : (action : RemoteCall) → is_kept_action plan action ≡ true → action_of objects (op_text plan (op_of_call action)) ≡ action
   action-back action h =
-      ap (λ (op : Op). unwrap_or (action_of_op op) any_action) (op-back (said.op_of_action action) h) ∙ ap (λ (o : Option TimedAction). unwrap_or o any_action) (op-action action)
+      let parts = and_parts (is_action action) (is_kept_op plan (op_of_call action)) h in
+      ap (λ (op : Op). unwrap_or (action_of_op op) any_action) (op-back (op_of_call action) parts.1) ∙ ap (λ (o : Option RemoteCall). unwrap_or o any_action) (action-of action parts.0)
 
   alarm-back : (id : CoreId) (alarm : Alarm) → is_kept_alarm plan alarm ≡ true → alarm_plan objects id (alarm_said plan alarm) ≡ alarm
   alarm-back id alarm h =
       let kept = kept-alarm plan alarm h in
-      rw (counter-ref-back id alarm.counter kept.counter, action-back alarm.action kept.operation, auto-back id alarm.counter alarm.auto kept.counter kept.within kept.auto) refl
+      rw (counter-ref-back id alarm.counter kept.counter, action-back alarm.action kept.action, auto-back id alarm.counter alarm.auto kept.counter kept.within kept.auto) refl
 
   point-back : (point : ExpiryPoint) → is_kept_point plan point ≡ true → point_plan objects (point_said plan point) ≡ point
   point-back point h =
       let parts = and_parts (is_between 0 1000000000 (Some point.offset)) _ h in
       let offset : word_of (Some point.offset) ≡ point.offset = ap (λ o. unwrap_or o 0) (is-word 0 1000000000 (Some point.offset) parts.0 (omega arith)) in
-      rw (offset, map-back (action_of objects) (action_said plan) (λ (action : TimedAction). is_kept_op plan (said.op_of_action action)) action-back point.actions parts.1) refl
+      rw (offset, map-back (action_of objects) (action_said plan) (is_kept_action plan) action-back point.actions parts.1) refl
 
   table-auto-back : (s : TableSizes) (counter : CounterSizes) (auto : Option TableStart) → s.counter ≡ Some counter → limits.is_counter_within counter ≡ true
       → option_map_or (is_table_start_within s) (option_map (λ (auto : TableStart). Some auto.offset) auto) true ≡ true → list_all said.is_only_mode (option_map_or (λ (auto : TableStart). auto.modes) auto []) ≡ true

@@ -12,9 +12,9 @@ use Rattle.osplan.specs.declared.plans.Resource.{Resource}
 use Rattle.osplan.specs.declared.plans.ExpiryPoint.{ExpiryPoint}
 use Rattle.osplan.specs.declared.plans.Table.{Table}
 use Rattle.osplan.specs.declared.plans.TableStart.{TableStart}
-use Rattle.osplan.specs.declared.plans.TimedAction.{TimedAction}
 use Rattle.osplan.specs.declared.plans.Task.{Task}
-use Rattle.osplan.specs.Expressible.{op_of_action}
+use Rattle.osbase.specs.declared.messages.RemoteCall.{RemoteCall}
+use Rattle.oscript.specs.Calls.{op_of_call}
 use Rattle.osplan.specs.Limits.{ceiling_of, number_of}
 use Rattle.osplan.specs.Names.{name_of, name_of_mode}
 use Rattle.osshape.specs.declared.shapes.AlarmStartText.{AlarmStartText}
@@ -44,8 +44,8 @@ start_said plan auto = record { modes = map (name_of_mode plan) auto.modes; star
 abbrev pub counter_name : Plan → CounterRef → List ℕ
 counter_name plan counter = name_of plan ObjectKind.Counter (counter_place counter)
 
-abbrev pub action_said : Plan → TimedAction → List ℕ
-action_said plan action = op_text plan (op_of_action action)
+abbrev pub action_said : Plan → RemoteCall → List ℕ
+action_said plan action = op_text plan (op_of_call action)
 
 abbrev pub alarm_said : Plan → Alarm → AlarmText
 alarm_said plan alarm = record { name = alarm.name; counter = counter_name plan alarm.counter; action = action_said plan alarm.action; auto = option_map (start_said plan) alarm.auto }

@@ -19,9 +19,9 @@ use Rattle.osplan.specs.declared.plans.Resource.{Resource}
 use Rattle.osplan.specs.declared.plans.ExpiryPoint.{ExpiryPoint}
 use Rattle.osplan.specs.declared.plans.Table.{Table}
 use Rattle.osplan.specs.declared.plans.TableStart.{TableStart}
-use Rattle.osplan.specs.declared.plans.TimedAction.{TimedAction}
 use Rattle.osplan.specs.declared.plans.Task.{Task}
-use Rattle.osplan.specs.Expressible.{op_of_action}
+use Rattle.osbase.specs.declared.messages.RemoteCall.{RemoteCall}
+use Rattle.oscript.specs.Calls.{op_of_call}
 use Rattle.osplan.specs.Names.{name_of_mode, name_of}
 
 -- ---- scripts
@@ -88,13 +88,13 @@ auto_data plan (Some auto) = start_data plan auto
 -- An alarm: its action, how it is set by itself, its counter's name and its own. The action has the text of its operation.
 abbrev pub alarm_data : Plan → Alarm → Data
 alarm_data plan alarm = object
-    (member (codes "action") (string (op_text plan (op_of_action alarm.action)))
+    (member (codes "action") (string (op_text plan (op_of_call alarm.action)))
     (member (codes "auto") (auto_data plan alarm.auto)
     (member (codes "counter") (string (name_of plan ObjectKind.Counter (counter_place alarm.counter)))
     (member (codes "name") (string alarm.name) no_members))))
 
-abbrev pub action_data : Plan → TimedAction → Data
-action_data plan action = string (op_text plan (op_of_action action))
+abbrev pub action_data : Plan → RemoteCall → Data
+action_data plan action = string (op_text plan (op_of_call action))
 
 -- An expiry point of a schedule table: its actions and its offset.
 abbrev pub point_data : Plan → ExpiryPoint → Data

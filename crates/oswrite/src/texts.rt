@@ -6,12 +6,11 @@ ghost use Rattle.serde_json.specs.View.{view};
 ghost use Rattle.osdraft.specs.Meaning.{config_of};
 ghost use Rattle.oswrite.specs.Writing.{script_text, id_data, mode_data, list_data, start_data, auto_data, alarm_data, action_data, point_data, table_start_data, table_auto_data, table_data, counter_data, resource_data, task_data, core_data, config_data, config_text};
 
-use osbase::{CoreId, ModeId, ObjectKind, Place};
-use oscript::Op;
+use osbase::{CoreId, ModeId, ObjectKind, Place, Reference, RemoteCall};
+use oscript::{Op, op_of_call};
 use osforms::{Names, op_text};
 use osplan::{
     Alarm, AlarmStart, Config, Core, Counter, ExpiryPoint, Plan, Resource, Table, TableStart, Task,
-    TimedAction,
 };
 use serde_json::{Value, json};
 use std::alloc::{AllocError, Global};
@@ -152,7 +151,7 @@ impl Writer<Alarm> for PlanWriter<'_> {
     ghost written = { λ writer. alarm_data writer.plan.now };
 
     fn value(&self, alloc: Global, alarm: &Alarm) -> Result<Value, AllocError> {
-        let action = op_text(alloc, self, alarm.action.op())?;
+        let action = op_text(alloc, self, op_of_call(alarm.action))?;
         let auto = auto_value(alloc, self, &alarm.auto)?;
         let counter = self
             .plan
@@ -166,11 +165,11 @@ impl Writer<Alarm> for PlanWriter<'_> {
     }
 }
 
-impl Writer<TimedAction> for PlanWriter<'_> {
+impl Writer<RemoteCall> for PlanWriter<'_> {
     ghost written = { λ writer. action_data writer.plan.now };
 
-    fn value(&self, alloc: Global, action: &TimedAction) -> Result<Value, AllocError> {
-        Ok(Value::String(op_text(alloc, self, action.op())?))
+    fn value(&self, alloc: Global, action: &RemoteCall) -> Result<Value, AllocError> {
+        Ok(Value::String(op_text(alloc, self, op_of_call(*action))?))
     }
 }
 

@@ -2,9 +2,8 @@
 
 use super::{TWO_CORES, alarms, configured, counters, events, resources};
 use crate::read_config;
-use osbase::{AlarmRef, CoreId, CounterRef, ResourceRef, TaskRef, Variable};
+use osbase::{AlarmRef, CoreId, CounterRef, RemoteCall, ResourceRef, TaskRef, Variable};
 use oscript::Op;
-use osplan::TimedAction;
 use std::alloc::Global;
 use std::process::Abort;
 use std::test::Fail;
@@ -254,11 +253,11 @@ fn resources_and_counters_have_their_parts(rt: HostRuntime) -> Result<(), Fail> 
 }
 
 // The name, the counter, the action, and where it starts by itself the modes, the start and the cycle.
-const ALARMS: &[(&str, u8, TimedAction, Option<(usize, u32, u32)>)] = &[
+const ALARMS: &[(&str, u8, RemoteCall, Option<(usize, u32, u32)>)] = &[
     (
         "W",
         0,
-        TimedAction::ActivateTask(TaskRef {
+        RemoteCall::ActivateTask(TaskRef {
             core: FIRST,
             index: 0,
         }),
@@ -267,13 +266,13 @@ const ALARMS: &[(&str, u8, TimedAction, Option<(usize, u32, u32)>)] = &[
     (
         "X",
         1,
-        TimedAction::SetEvent(
-            TaskRef {
+        RemoteCall::SetEvent {
+            task: TaskRef {
                 core: FIRST,
                 index: 1,
             },
-            5,
-        ),
+            mask: 5,
+        },
         Some((1, 1000, 10)),
     ),
 ];

@@ -6,20 +6,18 @@ ghost use Rattle.osbase.specs.declared.references.TableRef.{TableRef as TableRef
 ghost use Rattle.osbase.specs.History.{Noted, TableNext, TableQuit, TableStarted};
 ghost use Rattle.osbase.specs.Objects.{counter_object, table_object};
 ghost use Rattle.osplan.specs.Clocked.{are_clocks_within};
-ghost use Rattle.osplan.specs.Objects.{is_own_object, table_actions};
+ghost use Rattle.osplan.specs.Objects.{is_own_object, may_act, table_actions};
 ghost use Rattle.osclock.specs.Clocks.{counts_to_value_by, counts_to_value_in, max_of};
 ghost use Rattle.ostable.specs.Ahead.{status_of};
 ghost use Rattle.ostable.specs.Tables.{due_tables_by, due_tables_in, next_by, next_in, state_by, status_in, table_in, timed_by};
 ghost use Rattle.ostable.specs.Waiting.{are_of_one_counter, are_own, ends_alone, with_next};
 ghost use Rattle.osstate.specs.Does.{Reads, Remarks};
 ghost use Rattle.osstate.specs.Readings.{table_named};
-ghost use Rattle.osstate.specs.Sound.{has_object_of};
 ghost use Rattle.osstate.specs.Steps.{state_after};
 
 use super::CoreState;
 use osbase::{CounterRef, TableRef};
-use osjobs::own;
-use osplan::Table;
+use osplan::{Table, own};
 use ostable::{DueTables, TableStatus};
 
 impl<'a, const P: usize, const J: usize, const OUT: usize> CoreState<'a, P, J, OUT> {
@@ -65,7 +63,7 @@ impl<'a, const P: usize, const J: usize, const OUT: usize> CoreState<'a, P, J, O
         ensures value { option_copied result ≡ table_named self.now.view.own target }
         ensures reads { Reads (λ v h. table_named v.own target) self.now (option_copied result) }
         ensures within { IsTrue (are_clocks_within self.now.view.own) }
-        ensures known { IfSome (option_copied result) (λ table. IsTrue (list_all (has_object_of self.now.view.own) (table_actions table))) }
+        ensures known { IfSome (option_copied result) (λ table. IsTrue (list_all (may_act self.now.view.own) (table_actions table))) }
     {
         let core = self.core;
         own::table_of(core, target?)

@@ -4,7 +4,7 @@ ghost use Rattle.std.specs.Prelude.{◌≡◌, IfOk, IsTrue, Some};
 
 use crate::sinks::Sink;
 use osbase::{CoreId, CounterRef, List, Mark, ModeId, Name, RemoteCall, Report, Status, TaskRef};
-use osplan::{Alarm, Config, Core, CoreMode, Isr, Plan, Table, Task, TimedAction};
+use osplan::{Alarm, Config, Core, CoreMode, Isr, Plan, Table, Task};
 use std::alloc::{AllocError, Global};
 
 /// Core 0 has the task A, the ISR I1, the alarm L and the table S1; core 1 has the task Blink.
@@ -54,6 +54,9 @@ fn full_core(alloc: Global) -> Result<Core, AllocError> {
     let mut core = core(alloc, 0, task(alloc, "A")?)?;
     core.isrs.push(Isr {
         name: Name::new(alloc, "I1")?,
+        level: 1,
+        budget: 0,
+        script: List::new(alloc),
     })?;
     core.alarms.push(Alarm {
         name: Name::new(alloc, "L")?,
@@ -61,7 +64,7 @@ fn full_core(alloc: Global) -> Result<Core, AllocError> {
             core: CoreId { number: 0 },
             index: 0,
         },
-        action: TimedAction::ActivateTask(TaskRef {
+        action: RemoteCall::ActivateTask(TaskRef {
             core: CoreId { number: 0 },
             index: 0,
         }),

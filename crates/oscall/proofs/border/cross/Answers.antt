@@ -3,15 +3,18 @@ use Rattle.osstate.specs.Readings.{is_own}
 use Rattle.osstate.specs.State.{KernelState}
 use Rattle.osstate.proofs.Effecting.{as_effect, then}
 use Rattle.osstate.proofs.ReadLemmas.{read}
-use Rattle.oscall.specs.declared.returning.Answer.{Answer}
-use Rattle.oscall.specs.Border.{answer_to, core_of_call, effect_of, returns_with}
-use Rattle.oscall.specs.Returning.{asks}
+use Rattle.osact.specs.declared.returning.Answer.{Answer}
+use Rattle.osact.specs.Acts.{does}
+use Rattle.osact.specs.Returning.{asks}
+use Rattle.osact.specs.Seen.{seen_of}
+use Rattle.osact.specs.Service.{carries_out, returns_with, serves}
+use Rattle.oscall.specs.Border.{core_of_call, service_of}
 use Rattle.oscall.proofs.border.cross.Goals as goal
 
 pub returns : goal.returns
 returns g c =
     as_effect (λ v h stands.
     let own : is_own v (core_of_call c.args.call) ≡ true = ap (is_own v) (sym c.requires.core) ∙ sym (read (λ (s : KernelState). is_own s.view c.args.core) c.is_own.ensures.value stands) ∙ c.if-not-is_own.false in
-    ap (λ (b : Bool). cond b (returns_with c.args.runner c.args.service (answer_to c.args.call v h) (effect_of c.args.call v h)) (asks c.args.runner c.args.service (core_of_call c.args.call) c.args.call h)) own
-    ∙ ap (λ (answer : Answer). returns_with c.args.runner c.args.service answer (effect_of c.args.call v h)) (sym (c.serve-answer.ensures.answer v h stands)))
+    ap (λ (b : Bool). cond b (does (serves c.args.runner c.args.service (service_of c.args.call (seen_of v h))) v h) (does (asks c.args.runner c.args.service (core_of_call c.args.call) c.args.call) v h)) own
+    ∙ ap (λ (answer : Answer). does (returns_with c.args.runner c.args.service answer) v (does (carries_out (service_of c.args.call)) v h)) (sym (c.serve-answer.ensures.answer v h stands)))
     (lit≤ tt) (lit≤ tt) (then c.serve-answer.ensures.effects c.finish.ensures)

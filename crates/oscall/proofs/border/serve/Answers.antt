@@ -1,8 +1,10 @@
 use Rattle.std.proofs.Common.{refl, lit≤}
 use Rattle.osstate.proofs.Effecting.{as_effect, unprinted}
-use Rattle.oscall.specs.Alarms.{use_checks}
-use Rattle.oscall.specs.Checks.{first_failing, is_ok_status}
-use Rattle.oscall.proofs.Remarking.{either-way, unmoved}
+use Rattle.osact.specs.Checks.{is_ok_status}
+use Rattle.osact.specs.Seen.{seen_of}
+use Rattle.osact.specs.Service.{status_of}
+use Rattle.osalarmcall.specs.Alarms.{inquiry}
+use Rattle.osact.proofs.Remarking.{either-way, unmoved}
 use Rattle.oscall.proofs.border.serve.Goals as goal
 
 pub returns-in-ActivateTask-clause-effects : goal.returns-in-ActivateTask-clause-effects
@@ -12,10 +14,10 @@ pub returns-in-ActivateTask-clause-refused : goal.returns-in-ActivateTask-clause
 returns-in-ActivateTask-clause-refused g c = rw c.in-ActivateTask.is c.activate.ensures.refused
 
 pub returns-in-SetEvent-clause-effects : goal.returns-in-SetEvent-clause-effects
-returns-in-SetEvent-clause-effects g c = rw c.in-SetEvent.is c.set.ensures.effects
+returns-in-SetEvent-clause-effects g c = rw c.in-SetEvent.is c.set_events.ensures.effects
 
 pub returns-in-SetEvent-clause-refused : goal.returns-in-SetEvent-clause-refused
-returns-in-SetEvent-clause-refused g c = rw c.in-SetEvent.is c.set.ensures.refused
+returns-in-SetEvent-clause-refused g c = rw c.in-SetEvent.is c.set_events.ensures.refused
 
 pub returns-in-SetRelAlarm-clause-effects : goal.returns-in-SetRelAlarm-clause-effects
 returns-in-SetRelAlarm-clause-effects g c = rw c.in-SetRelAlarm.is (as_effect (λ v h stands. refl) (lit≤ tt) (lit≤ tt) (unprinted c.set_relative.ensures.effects))
@@ -37,8 +39,8 @@ returns-in-CancelAlarm-clause-refused g c not_ok = rw c.in-CancelAlarm.is (unpri
 
 pub returns-in-GetAlarm-clause-effects : goal.returns-in-GetAlarm-clause-effects
 returns-in-GetAlarm-clause-effects g c =
-    rw c.in-GetAlarm.is (as_effect {f = λ v h. h} (λ v h stands. either-way (is_ok_status (first_failing (use_checks c.in-GetAlarm.alarm v h))) h) (lit≤ tt) (lit≤ tt) (unprinted unmoved))
+    rw c.in-GetAlarm.is (as_effect {f = λ v h. h} (λ v h stands. either-way (is_ok_status (status_of (inquiry c.in-GetAlarm.alarm (seen_of v h)))) h) (lit≤ tt) (lit≤ tt) (unprinted unmoved))
 
 pub returns-in-GetAlarm-clause-refused : goal.returns-in-GetAlarm-clause-refused
 returns-in-GetAlarm-clause-refused g c not_ok =
-    rw c.in-GetAlarm.is (as_effect {f = λ v h. h} (λ v h stands. either-way (is_ok_status (first_failing (use_checks c.in-GetAlarm.alarm v h))) h) (lit≤ tt) (lit≤ tt) (unprinted unmoved))
+    rw c.in-GetAlarm.is (as_effect {f = λ v h. h} (λ v h stands. either-way (is_ok_status (status_of (inquiry c.in-GetAlarm.alarm (seen_of v h)))) h) (lit≤ tt) (lit≤ tt) (unprinted unmoved))

@@ -3,9 +3,9 @@ use Rattle.osbase.specs.declared.references.AlarmRef.{AlarmRef}
 use Rattle.osclock.specs.Clocks.{IsBounded, all_beyond, unset}
 use Rattle.osclock.proofs.clocks.pass_alarms.Given as goal
 
-abbrev pub invariant-loop-slot : goal.invariant-loop-slot
-invariant-loop-slot l = record {
-  told : all_beyond l.before (drop l.slot-index l.attached) l.alarms.items ≡ all_beyond l.before l.attached l.initial.alarms.items;
+abbrev pub invariant-loop-alarm : goal.invariant-loop-alarm
+invariant-loop-alarm l = record {
+  told : all_beyond l.before (drop l.alarm-index l.attached) l.alarms.items ≡ all_beyond l.before l.attached l.initial.alarms.items;
   bounded : All (λ (a : AlarmRef). IsBounded l.before.max (get_or l.alarms.items a.index unset)) l.attached;
   long : length l.alarms.items ≡ length l.initial.alarms.items;
 }

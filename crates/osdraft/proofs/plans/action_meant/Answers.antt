@@ -1,5 +1,5 @@
 use Rattle.std.proofs.Common.{cond, None, sym, ap, ◌∙◌}
-use Rattle.oscheck.specs.Action.{action_of_op}
+use Rattle.oscript.specs.Calls.{action_of_op}
 use Rattle.osdraft.proofs.Alarms.{action_if, action_unknown}
 use Rattle.osdraft.proofs.plans.action_meant.Goals as goal
 

@@ -11,6 +11,7 @@ use Rattle.ostable.specs.declared.tables.DueTable.{DueTable}
 use Rattle.ostable.specs.Waiting.{are_own}
 use Rattle.osstate.specs.State.{KernelState}
 use Rattle.osstate.proofs.Effecting.{as_effect, then, unprinted}
+use Rattle.osact.specs.Acts.{does}
 use Rattle.osdue.specs.Advancing.{posted_at_point, posted_for}
 use Rattle.osdue.specs.Expiring.{expire_each}
 use Rattle.osdue.specs.Passing.{pass_each, posted_by_table}
@@ -64,8 +65,8 @@ returns-clause-effects g c =
     let some : length c.as_slice-due_alarms.result.now ≡ length c.due_next-alarms.result.items = ap length c.as_slice-due_alarms.ensures.value in
     let few : length c.as_slice-due_tables.result.now ≡ length c.due_tables-tables.result.items = ap length c.as_slice-due_tables.ensures.value in
     as_effect (λ v h stands.
-    ap (λ (due : List DueTable). pass_each v due (expire_each v (due_by v.own c.args.counter h) (Noted (Counted c.args.counter) ∷ h))) (sym (c.due_tables-tables.ensures.reads v h stands) ∙ sym c.as_slice-due_tables.ensures.value)
-    ∙ ap (λ (due : List AlarmRef). pass_each v c.as_slice-due_tables.result.now (expire_each v due (Noted (Counted c.args.counter) ∷ h))) (sym (c.due_next-alarms.ensures.reads v h stands) ∙ sym c.as_slice-due_alarms.ensures.value))
+    ap (λ (due : List DueTable). does (pass_each due) v (does (expire_each (due_by v.own c.args.counter h)) v (Noted (Counted c.args.counter) ∷ h))) (sym (c.due_tables-tables.ensures.reads v h stands) ∙ sym c.as_slice-due_tables.ensures.value)
+    ∙ ap (λ (due : List AlarmRef). does (pass_each c.as_slice-due_tables.result.now) v (does (expire_each due) v (Noted (Counted c.args.counter) ∷ h))) (sym (c.due_next-alarms.ensures.reads v h stands) ∙ sym c.as_slice-due_alarms.ensures.value))
     (omega (arith, some, few, c.due_next-alarms.ensures.few, c.due_tables-tables.ensures.few)) (omega (arith, some, few, c.due_next-alarms.ensures.few, c.due_tables-tables.ensures.few))
     (then (then (unprinted c.count.ensures.remarks) c.expire_each.ensures.effects) c.pass_each.ensures.effects)
 

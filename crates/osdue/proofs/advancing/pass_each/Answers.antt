@@ -4,8 +4,9 @@ use Rattle.osplan.specs.View.{View}
 use Rattle.ostable.specs.declared.tables.DueTable.{DueTable}
 use Rattle.ostable.specs.Waiting.{are_own}
 use Rattle.osstate.proofs.Effecting.{as_effect, then}
+use Rattle.osact.specs.Acts.{does}
 use Rattle.osdue.specs.Passing.{pass_each, passes, posted_by_table}
-use Rattle.osdue.proofs.InTurn.{next-done, passes-there, whole}
+use Rattle.osdue.proofs.InTurn.{next-act, passes-there, whole}
 use Rattle.osdue.proofs.advancing.pass_each.Goals as goal
 
 -- what stands past the last one
@@ -37,7 +38,7 @@ loop-table-preserved g c =
     record {
       outbox = omega (arith, more, own, c.loop-table.invariant.outbox, c.pass.ensures.outbox);
       effects =
-          as_effect (λ v h stands. next-done (λ (d : DueTable) t. passes v d t) (pass_each v) (λ t. refl) (λ d xs t. refl) c.args.due.now i blank (slice_index_or c.args.due.now i blank) h c.loop-table-test.true refl)
+          as_effect (λ v h stands. next-act passes v c.args.due.now i blank (slice_index_or c.args.due.now i blank) h c.loop-table-test.true refl)
           (omega arith) (omega arith) (then c.loop-table.invariant.effects c.pass.ensures.effects);
     }
 
@@ -46,4 +47,4 @@ returns-clause-effects g c =
     let i = c.loop-table.table-index in
     let all = whole c.args.due.now i c.loop-table-test.false in
     let placed : i ≤ length c.args.due.now = omega arith in
-    as_effect (λ v h stands. ap (λ (xs : List DueTable). pass_each v xs h) (sym all)) (omega (arith, placed)) (omega (arith, placed)) c.loop-table.invariant.effects
+    as_effect (λ v h stands. ap (λ (xs : List DueTable). does (pass_each xs) v h) (sym all)) (omega (arith, placed)) (omega (arith, placed)) c.loop-table.invariant.effects

@@ -1,22 +1,20 @@
-use Rattle.std.proofs.Common.{ap, sym, ◌∙◌, lit≤, option_map}
+use Rattle.std.proofs.Common.{◌∷◌, ap, sym, ◌∙◌, lit≤, option_map}
 use Rattle.osbase.specs.declared.marks.Mark.TheVariants as Mark
+use Rattle.osbase.specs.History.{Printed}
 use Rattle.osbase.specs.declared.messages.RemoteCall.{RemoteCall}
 use Rattle.osplan.specs.declared.plans.Alarm.{Alarm}
-use Rattle.osplan.specs.declared.plans.TimedAction.{TimedAction}
-use Rattle.osplan.specs.Objects.{call_of_action}
 use Rattle.osplan.specs.View.{own_alarm}
 use Rattle.osstate.specs.State.{KernelState}
 use Rattle.osstate.proofs.Effecting.{as_effect, then}
-use Rattle.osdue.specs.Expiring.{acts}
-use Rattle.oscall.specs.Returning.{prints}
+use Rattle.osact.specs.Acts.{Acts, does, nothing}
+use Rattle.osdue.specs.Expiring.{acts, expires_by}
 use Rattle.osdue.proofs.Owned.{by-action}
 use Rattle.osdue.proofs.expiring.expire.Goals as goal
 
 pub returns-clause-effects : goal.returns-clause-effects
 returns-clause-effects g c =
     as_effect (λ v h stands.
-    by-action v.own c.args.alarm c.alarm_action-action.result
+    ap (λ (x : Acts). does x v h) (by-action v.own c.args.alarm c.alarm_action-action.result
     (sym (ap (λ (s : KernelState). option_map (λ (x : Alarm). x.action) (own_alarm s.view.own c.args.alarm)) stands.is) ∙ c.alarm_action-action.ensures.value)
-    (λ (x : TimedAction). acts v (call_of_action x) (prints (Mark.AlarmExpired c.args.alarm) h)) h
-    ∙ ap (λ (call : RemoteCall). acts v call (prints (Mark.AlarmExpired c.args.alarm) h)) (sym c.call.ensures))
+    (expires_by c.args.alarm) nothing))
     (lit≤ tt) (lit≤ tt) (then c.print.ensures.effects c.act.ensures.effects)

@@ -9,7 +9,8 @@ use Rattle.osstate.proofs.Effecting.{as_effect, then}
 use Rattle.osstate.proofs.ReadLemmas.{read}
 use Rattle.osdue.specs.Incrementing.{counts_and_returns, is_hardware}
 use Rattle.osdue.specs.Advancing.{posted_by}
-use Rattle.oscall.specs.Returning.{returns as returning}
+use Rattle.osact.specs.Acts.{does}
+use Rattle.osact.specs.Returning.{returns as returning}
 use Rattle.osdue.proofs.Owned.{attached-few}
 use Rattle.osdue.proofs.Postings.{posted-fewer, timed-few}
 use Rattle.osdue.proofs.incrementing.increment.Goals as goal
@@ -34,16 +35,16 @@ accept-requires g c =
 
 pub returns-then-is_hardware : goal.returns-then-is_hardware
 returns-then-is_hardware g c =
-    as_effect {f = λ v h. returning c.args.runner Service.IncrementCounter EOsId None h} (λ v h stands.
+    as_effect {f = does (returning c.args.runner Service.IncrementCounter EOsId None)} (λ v h stands.
     let hard : is_hardware v.own c.args.counter ≡ true = sym (read (λ (s : KernelState). is_hardware s.view.own c.args.counter) c.is_hardware.ensures.value stands) ∙ c.if-is_hardware.true in
-    rw (hard) (refl {a = returning c.args.runner Service.IncrementCounter EOsId None h}))
+    rw (hard) (refl {a = does (returning c.args.runner Service.IncrementCounter EOsId None) v h}))
     (lit≤ tt) (lit≤ tt) c.refuse.ensures
 
 pub returns-then-is_own : goal.returns-then-is_own
 returns-then-is_own g c =
     let few = attached-few c.args.state.now.view.own c.args.counter c.is_hardware.ensures.within in
     let short = timed-few c.args.state.now.view.own c.args.counter c.is_hardware.ensures.within in
-    as_effect {f = λ v h. counts_and_returns v c.args.runner (Some c.args.counter) h} (λ v h stands.
+    as_effect {f = does (counts_and_returns c.args.runner (Some c.args.counter))} (λ v h stands.
     let soft : is_hardware v.own c.args.counter ≡ false = sym (read (λ (s : KernelState). is_hardware s.view.own c.args.counter) c.is_hardware.ensures.value stands) ∙ c.if-is_hardware.false in
     let own : is_own v c.args.counter.core ≡ true = sym (read (λ (s : KernelState). is_own s.view c.args.counter.core) c.is_own.ensures.value stands) ∙ c.if-is_own.true in
     rw (soft, own) refl)
@@ -51,7 +52,7 @@ returns-then-is_own g c =
 
 pub returns-else-is_own : goal.returns-else-is_own
 returns-else-is_own g c =
-    as_effect {f = λ v h. returning c.args.runner Service.IncrementCounter EOsCore None h} (λ v h stands.
+    as_effect {f = does (returning c.args.runner Service.IncrementCounter EOsCore None)} (λ v h stands.
     let soft : is_hardware v.own c.args.counter ≡ false = sym (read (λ (s : KernelState). is_hardware s.view.own c.args.counter) c.is_hardware.ensures.value stands) ∙ c.if-is_hardware.false in
     let own : is_own v c.args.counter.core ≡ false = sym (read (λ (s : KernelState). is_own s.view c.args.counter.core) c.is_own.ensures.value stands) ∙ c.if-is_own.false in
     rw (soft, own) refl)

@@ -1,10 +1,11 @@
-use Rattle.std.proofs.Common.{◌≡◌, ◌<◌, ◌≤◌, ◌+◌, ◌*◌, ◌^◌, IsTrue, true, false, length, take, vec_len, vec_capacity, rules, refl, ap, sym, subst, ◌∙◌, arith}
+use Rattle.std.proofs.Common.{slice_index_or, ◌≡◌, ◌<◌, ◌≤◌, ◌+◌, ◌*◌, ◌^◌, IsTrue, true, false, length, take, vec_len, vec_capacity, rules, refl, ap, sym, subst, ◌∙◌, arith}
 use Rattle.osbase.specs.History.{same_core}
-use Rattle.osplan.specs.declared.plans.TimedAction.{TimedAction}
-use Rattle.osplan.specs.Objects.{call_of_action}
+use Rattle.osbase.specs.declared.messages.RemoteCall.{RemoteCall}
+use Rattle.osbase.specs.declared.messages.RemoteCall.TheVariants as Remote
 use Rattle.osplan.specs.View.{View}
 use Rattle.osstate.specs.Does.{Effects}
 use Rattle.osstate.proofs.Effecting.{as_effect, then}
+use Rattle.osact.specs.Acts.{does}
 use Rattle.oscall.specs.Border.{core_of_call, is_known_call}
 use Rattle.osdue.specs.Expiring.{acts}
 use Rattle.osdue.specs.Passing.{acts_each, activations_of, is_activation}
@@ -13,17 +14,21 @@ use Rattle.osdue.proofs.InTurn.{kept-length, kept-length-le, left-out, next-kept
 use Rattle.osdue.proofs.passing.activate_each.Goals as goal
 use Rattle.osdue.proofs.passing.activate_each.Goals.{then-is_activation, else-is_activation}
 
+-- what stands past the last one
+abbrev blank : RemoteCall
+blank = Remote.ActivateTask (record { core = record { number = 0 }; index = 0 })
+
 pub act-requires : goal.act-requires
 act-requires g c =
     let core = c.args.state.now.view.own in
     let actions = c.args.actions.now in
     let i = c.loop-action.action-index in
     let view : c.loop-action.state.view ≡ c.args.state.now.view = c.loop-action.invariant.effects.stays.view in
-    let known : IsTrue (is_known_call c.loop-action.state.view.own c.call.result) =
-    subst (λ (v : View). IsTrue (is_known_call v.own c.call.result)) (sym view) (known-call core actions i _ c.loop-action-test.true c.call.ensures c.requires.known) in
-    let place : (same_core (core_of_call c.call.result) c.loop-action.state.view.own.id ≡ false → length c.loop-action.state.border.outbox < g.row.OUT) =
-    subst (λ (v : View). same_core (core_of_call c.call.result) v.own.id ≡ false → length c.loop-action.state.border.outbox < g.row.OUT) (sym view)
-    (place-left core actions i _ c.loop-action-test.true c.call.ensures is_activation c.is_activation.result c.is_activation.ensures c.if-is_activation.true (length c.args.state.now.border.outbox) (length c.loop-action.state.border.outbox) g.row.OUT c.loop-action.invariant.outbox c.requires.outbox) in
+    let known : IsTrue (is_known_call c.loop-action.state.view.own (slice_index_or actions i blank)) =
+    subst (λ (v : View). IsTrue (is_known_call v.own (slice_index_or actions i blank))) (sym view) (known-call core actions i _ c.loop-action-test.true refl c.requires.known) in
+    let place : (same_core (core_of_call (slice_index_or actions i blank)) c.loop-action.state.view.own.id ≡ false → length c.loop-action.state.border.outbox < g.row.OUT) =
+    subst (λ (v : View). same_core (core_of_call (slice_index_or actions i blank)) v.own.id ≡ false → length c.loop-action.state.border.outbox < g.row.OUT) (sym view)
+    (place-left core actions i _ c.loop-action-test.true refl is_activation c.is_activation.result c.is_activation.ensures c.if-is_activation.true (length c.args.state.now.border.outbox) (length c.loop-action.state.border.outbox) g.row.OUT c.loop-action.invariant.outbox c.requires.outbox) in
     let more = kept-length is_activation actions i _ _ c.loop-action-test.true refl (sym c.is_activation.ensures ∙ c.if-is_activation.true) in
     let few = kept-length-le is_activation actions (i + 1) in
     let count : c.loop-action.state.progress.entries + 2 ≤ 2 ^ 63 = omega (arith, more, few, c.requires.room.count, c.loop-action.invariant.effects.stays.entries) in
@@ -40,10 +45,10 @@ loop-action-preserved g c = elim c.if-is_activation.branch [
       let more = kept-length is_activation actions i _ _ c.loop-action-test.true refl (sym c.is_activation.ensures ∙ w.if-is_activation.true) in
       rw (w.state-is, w.marks-is) (record {
         outbox =
-            joined core actions i _ c.loop-action-test.true w.call.ensures is_activation c.is_activation.result c.is_activation.ensures w.if-is_activation.true (length c.args.state.now.border.outbox) (length c.loop-action.state.border.outbox) _ c.loop-action.invariant.outbox
-            (λ same. ap (λ s. length s.outbox) (w.act.ensures.here (subst (λ (v : View). same_core (core_of_call w.call.result) v.own.id ≡ true) (sym view) same))) w.act.ensures.outbox;
+            joined core actions i _ c.loop-action-test.true refl is_activation c.is_activation.result c.is_activation.ensures w.if-is_activation.true (length c.args.state.now.border.outbox) (length c.loop-action.state.border.outbox) _ c.loop-action.invariant.outbox
+            (λ same. ap (λ s. length s.outbox) (w.act.ensures.here (subst (λ (v : View). same_core (core_of_call (slice_index_or actions i blank)) v.own.id ≡ true) (sym view) same))) w.act.ensures.outbox;
         effects =
-            as_effect (λ v h stands. next-kept (λ (x : TimedAction) t. acts v (call_of_action x) t) (acts_each v) (λ t. refl) (λ x xs t. refl) is_activation actions i _ _ h c.loop-action-test.true refl (sym c.is_activation.ensures ∙ w.if-is_activation.true) ∙ ap (λ call. acts v call (acts_each v (activations_of (take i actions)) h)) (sym w.call.ensures))
+            as_effect (λ v h stands. next-kept (λ (x : RemoteCall). acts x) v is_activation actions i _ _ h c.loop-action-test.true refl (sym c.is_activation.ensures ∙ w.if-is_activation.true))
             (omega (arith, more)) (omega (arith, more)) (then c.loop-action.invariant.effects w.act.ensures.effects);
       })
   | else-is_activation w ↦
@@ -54,4 +59,4 @@ loop-action-preserved g c = elim c.if-is_activation.branch [
 pub returns-clause-effects : goal.returns-clause-effects
 returns-clause-effects g c =
     let all = whole c.args.actions.now c.loop-action.action-index (omega arith) in
-    subst (λ xs. Effects (2 * length (activations_of xs)) (2 * length (activations_of xs)) (λ v h. acts_each v (activations_of xs) h) c.args.state.now c.loop-action.state c.args.marks.now c.loop-action.marks) all c.loop-action.invariant.effects
+    subst (λ xs. Effects (2 * length (activations_of xs)) (2 * length (activations_of xs)) (does (acts_each (activations_of xs))) c.args.state.now c.loop-action.state c.args.marks.now c.loop-action.marks) all c.loop-action.invariant.effects

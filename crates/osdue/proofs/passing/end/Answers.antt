@@ -5,6 +5,7 @@ use Rattle.ostable.specs.Waiting.{repeats}
 use Rattle.osstate.specs.State.{KernelState}
 use Rattle.osstate.proofs.Effecting.{as_effect, then}
 use Rattle.osstate.proofs.ReadLemmas.{read}
+use Rattle.osact.specs.Acts.{does}
 use Rattle.osdue.specs.Passing.{ends, first_point, reaches, stops}
 use Rattle.osdue.proofs.passing.end.Goals as goal
 
@@ -14,18 +15,18 @@ none-left (Some s) not = absurd (not s refl)
 
 pub returns-in-Some-clause-effects : goal.returns-in-Some-clause-effects
 returns-in-Some-clause-effects g c =
-    as_effect (λ v h stands. ap (λ (o : Option TableRef). ends v c.args.table o h) c.in-Some.is) (lit≤ tt) (lit≤ tt) (then c.stop.ensures.effects c.begin.ensures.effects)
+    as_effect (λ v h stands. ap (λ (o : Option TableRef). does (ends c.args.table o) v h) c.in-Some.is) (lit≤ tt) (lit≤ tt) (then c.stop.ensures.effects c.begin.ensures.effects)
 
 pub returns-then-repeats-clause-effects : goal.returns-then-repeats-clause-effects
 returns-then-repeats-clause-effects g c =
     as_effect (λ v h stands.
     let again : repeats v.own c.args.table ≡ true = sym (read (λ (s : KernelState). repeats s.view.own c.args.table) c.repeats.ensures stands) ∙ c.if-repeats.true in
-    ap (λ (o : Option TableRef). ends v c.args.table o h) (none-left c.args.next c.in_default.not-Some) ∙ rw (again) (ap (λ (o : Option ExpiryPoint). reaches v c.args.table o h) (sym (read (λ (s : KernelState). first_point s.view.own c.args.table) c.first_point-point.ensures.value stands))))
+    ap (λ (o : Option TableRef). does (ends c.args.table o) v h) (none-left c.args.next c.in_default.not-Some) ∙ rw (again) (ap (λ (o : Option ExpiryPoint). does (reaches c.args.table o) v h) (sym (read (λ (s : KernelState). first_point s.view.own c.args.table) c.first_point-point.ensures.value stands))))
     (lit≤ tt) (lit≤ tt) c.reach.ensures.effects
 
 pub returns-else-repeats-clause-effects : goal.returns-else-repeats-clause-effects
 returns-else-repeats-clause-effects g c =
-    as_effect {f = λ v h. stops c.args.table h} (λ v h stands.
+    as_effect {f = does (stops c.args.table)} (λ v h stands.
     let once : repeats v.own c.args.table ≡ false = sym (read (λ (s : KernelState). repeats s.view.own c.args.table) c.repeats.ensures stands) ∙ c.if-repeats.false in
-    ap (λ (o : Option TableRef). ends v c.args.table o h) (none-left c.args.next c.in_default.not-Some) ∙ rw (once) refl)
+    ap (λ (o : Option TableRef). does (ends c.args.table o) v h) (none-left c.args.next c.in_default.not-Some) ∙ rw (once) refl)
     (lit≤ tt) (lit≤ tt) c.stop-else-repeats.ensures.effects

@@ -1,11 +1,12 @@
 use Rattle.std.proofs.Common.{◌≤◌, ◌+◌, ◌*◌, count_by, length, take}
 use Rattle.osplan.specs.Objects.{is_posting}
 use Rattle.osstate.specs.Does.{Effects}
+use Rattle.osact.specs.Acts.{does}
 use Rattle.osdue.specs.Passing.{acts_each, settings_of}
 use Rattle.osdue.proofs.passing.set_each.Given as goal
 
 abbrev pub invariant-loop-action : goal.invariant-loop-action
 invariant-loop-action g l = record {
   outbox : length l.state.border.outbox ≤ length l.initial.state.border.outbox + count_by (is_posting l.initial.state.view.own) (settings_of (take l.action-index l.actions));
-  effects : Effects (2 * length (settings_of (take l.action-index l.actions))) (2 * length (settings_of (take l.action-index l.actions))) (λ v h. acts_each v (settings_of (take l.action-index l.actions)) h) l.initial.state l.state l.initial.marks l.marks;
+  effects : Effects (2 * length (settings_of (take l.action-index l.actions))) (2 * length (settings_of (take l.action-index l.actions))) (does (acts_each (settings_of (take l.action-index l.actions)))) l.initial.state l.state l.initial.marks l.marks;
 }

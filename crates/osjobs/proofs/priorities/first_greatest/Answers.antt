@@ -11,8 +11,8 @@ loop-place-preserved c =
     let place = c.loop-place.place - 1 in
     let job : Job = c.slot.inside.job in
     let ranked : Ranked = record { job = job; priority = c.priority_of-priority.result } in
-    let priority = priority_by c.args.core.now c.args.resources.now c.args.raised in
-    let able = is_able_in c.args.events.now in
+    let priority = priority_by c.args.core.now c.args.rows.now c.args.raised in
+    let able = is_able_in c.args.rows.now in
     let is = c.better_of-best.ensures in
     let one : suc place ≡ c.loop-place.place = omega (arith, c.loop-place-test.true) in
     let inside : place < length c.args.jobs.now = omega (arith, c.loop-place-test.true, c.loop-place.invariant.within) in

@@ -6,8 +6,8 @@ use Rattle.osjobs.proofs.priorities.first_greatest.Given as goal
 abbrev pub invariant-loop-place : goal.invariant-loop-place
 invariant-loop-place l = record {
   within : l.place ≤ length l.jobs;
-  best : option_map (λ r. r.job) l.best ≡ first_greatest (priority_by l.core l.resources l.raised) (filter (is_able_in l.events) (drop l.place l.jobs));
-  ranked : IfSome l.best (λ r. r.priority ≡ priority_by l.core l.resources l.raised r.job);
+  best : option_map (λ r. r.job) l.best ≡ first_greatest (priority_by l.core l.rows l.raised) (filter (is_able_in l.rows) (drop l.place l.jobs));
+  ranked : IfSome l.best (λ r. r.priority ≡ priority_by l.core l.rows l.raised r.job);
   own : IfSome l.best (λ r. IsTrue (is_own_runner l.core r.job.runner));
 }
 

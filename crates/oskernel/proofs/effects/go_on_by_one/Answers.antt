@@ -1,10 +1,11 @@
-use Rattle.std.proofs.Common.{Option, ap, sym, lit≤}
+use Rattle.std.proofs.Common.{Option, option_map, ap, sym, lit≤}
 use Rattle.osbase.specs.declared.histories.Job.{Job}
 use Rattle.osstate.specs.Queries.{running_in}
 use Rattle.osstate.proofs.Effecting.{as_effect}
 use Rattle.osstate.proofs.ReadLemmas.{read}
+use Rattle.osact.specs.Acts.{does}
 use Rattle.oskernel.specs.Step.{goes_on}
 use Rattle.oskernel.proofs.effects.go_on_by_one.Goals as goal
 
 pub returns-in-Some : goal.returns-in-Some
-returns-in-Some g c = as_effect (λ v h stands. ap (λ (o : Option Job). goes_on v o h) (sym (read running_in c.in-Some.ensures.value stands))) (lit≤ tt) (lit≤ tt) c.perform.ensures
+returns-in-Some g c = as_effect (λ v h stands. ap (λ (o : Option Job). does (goes_on (option_map (λ (j : Job). j.runner) o)) v h) (sym (read running_in c.in-Some.ensures.value stands))) (lit≤ tt) (lit≤ tt) c.perform.ensures

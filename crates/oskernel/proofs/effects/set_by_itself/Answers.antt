@@ -4,8 +4,9 @@ use Rattle.osbase.specs.Objects.{alarm_object}
 use Rattle.osplan.specs.Objects.{is_own_object}
 use Rattle.osplan.proofs.Tests.{found-inside}
 use Rattle.osclock.proofs.Starts.{starts-within}
-use Rattle.oscall.specs.Alarms.{sets_alarm}
-use Rattle.oscall.proofs.Remarking.{as_remarks}
+use Rattle.osact.specs.Acts.{does}
+use Rattle.osalarmcall.specs.Alarms.{sets_alarm}
+use Rattle.osact.proofs.Remarking.{as_remarks}
 use Rattle.oskernel.specs.Step.{starts_in}
 use Rattle.oskernel.specs.Taking.{agreement_on}
 use Rattle.oskernel.proofs.Starting.{silent-alarm}
@@ -20,5 +21,5 @@ set_alarm-requires g c =
 pub returns-then-is_started_in : goal.returns-then-is_started_in
 returns-then-is_started_in g c =
     let started : starts_in (Some (agreement_on c.args.mode)) c.in-Some.start.modes ≡ true = sym c.is_started_in.ensures ∙ c.if-is_started_in.true in
-    as_remarks {f = λ v h. sets_alarm c.args.reference c.in-Some.start.start c.in-Some.start.cycle h} (λ v h stands. rw (c.in-Some.is, started) refl)
-    (λ v h. silent-alarm (Some (agreement_on c.args.mode)) c.args.reference c.args.alarm.now.auto h) (lit≤ tt) c.set_alarm.ensures.remarks
+    as_remarks {f = does (sets_alarm c.args.reference c.in-Some.start.start c.in-Some.start.cycle)} (λ v h stands. rw (c.in-Some.is, started) refl)
+    (λ v h. silent-alarm v (Some (agreement_on c.args.mode)) c.args.reference c.args.alarm.now.auto h) (lit≤ tt) c.set_alarm.ensures.remarks

@@ -6,8 +6,9 @@ use Rattle.osclock.specs.Clocks.{alarm_ref}
 use Rattle.osclock.proofs.Places.{alarm-is, alarm-own}
 use Rattle.osstate.specs.Readings.{numbered_alarms}
 use Rattle.osstate.specs.State.{KernelState}
+use Rattle.osact.specs.Acts.{does}
 use Rattle.oskernel.specs.Taking.{agreement_on}
-use Rattle.oscall.proofs.Remarking.{as_remarks, remarks-then}
+use Rattle.osact.proofs.Remarking.{as_remarks, remarks-then}
 use Rattle.oskernel.specs.Step.{sets_each}
 use Rattle.oskernel.proofs.Numbered.{all-objects, next-object, next-own}
 use Rattle.oskernel.proofs.Starting.{alarm_at, set_if_auto, silent-alarms}
@@ -27,13 +28,13 @@ pub loop-alarm-preserved : goal.loop-alarm-preserved
 loop-alarm-preserved g c = record {
   place = omega arith;
   effects =
-      as_remarks (λ v h stands. next-object alarm_at (λ (core : Core). core.alarms) (set_if_auto (Some (agreement_on c.args.mode))) (sets_each (Some (agreement_on c.args.mode))) (λ k. refl) (λ p ps k. refl) v c.args.state.now.view (ap (λ (s : KernelState). s.view) stands.is) h c.alarms-alarms.result.now c.alarms-alarms.ensures.value c.id-core.result c.loop-alarm.index c.loop-alarm.alarm-index c.alarm-item.result c.id-core.ensures.own c.loop-alarm.invariant.place c.loop-alarm-test.true c.alarm-item.is)
-      (λ v h. silent-alarms (Some (agreement_on c.args.mode)) (take (c.loop-alarm.alarm-index + 1) (numbered_alarms v.own)) h)
+      as_remarks (λ v h stands. next-object alarm_at (λ (core : Core). core.alarms) (set_if_auto v (Some (agreement_on c.args.mode))) (λ ps k. does (sets_each (Some (agreement_on c.args.mode)) ps) v k) (λ k. refl) (λ p ps k. refl) v c.args.state.now.view (ap (λ (s : KernelState). s.view) stands.is) h c.alarms-alarms.result.now c.alarms-alarms.ensures.value c.id-core.result c.loop-alarm.index c.loop-alarm.alarm-index c.alarm-item.result c.id-core.ensures.own c.loop-alarm.invariant.place c.loop-alarm-test.true c.alarm-item.is)
+      (λ v h. silent-alarms v (Some (agreement_on c.args.mode)) (take (c.loop-alarm.alarm-index + 1) (numbered_alarms v.own)) h)
       (omega arith) (remarks-then c.loop-alarm.invariant.effects c.set_by_itself.ensures);
 }
 
 pub returns : goal.returns
 returns g c =
-    as_remarks (λ v h stands. sym (all-objects alarm_at (λ (core : Core). core.alarms) (set_if_auto (Some (agreement_on c.args.mode))) (sets_each (Some (agreement_on c.args.mode))) (λ k. refl) (λ p ps k. refl) v c.args.state.now.view (ap (λ (s : KernelState). s.view) stands.is) h c.alarms-alarms.result.now c.alarms-alarms.ensures.value c.loop-alarm.alarm-index c.loop-alarm-test.false))
-    (λ v h. silent-alarms (Some (agreement_on c.args.mode)) (numbered_alarms v.own) h)
+    as_remarks (λ v h stands. sym (all-objects alarm_at (λ (core : Core). core.alarms) (set_if_auto v (Some (agreement_on c.args.mode))) (λ ps k. does (sets_each (Some (agreement_on c.args.mode)) ps) v k) (λ k. refl) (λ p ps k. refl) v c.args.state.now.view (ap (λ (s : KernelState). s.view) stands.is) h c.alarms-alarms.result.now c.alarms-alarms.ensures.value c.loop-alarm.alarm-index c.loop-alarm-test.false))
+    (λ v h. silent-alarms v (Some (agreement_on c.args.mode)) (numbered_alarms v.own) h)
     (omega (arith, c.alarms-alarms.ensures.few)) c.loop-alarm.invariant.effects

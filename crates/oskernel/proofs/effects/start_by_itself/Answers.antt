@@ -3,7 +3,7 @@ use Rattle.osbase.specs.History.{Noted, TableStarted, same_core}
 use Rattle.osbase.specs.Objects.{table_object}
 use Rattle.osplan.specs.Objects.{is_own_object}
 use Rattle.osplan.proofs.Tests.{found-inside}
-use Rattle.oscall.proofs.Remarking.{as_remarks}
+use Rattle.osact.proofs.Remarking.{as_remarks}
 use Rattle.oskernel.specs.Step.{starts_in}
 use Rattle.oskernel.specs.Taking.{agreement_on}
 use Rattle.oskernel.proofs.Starting.{offset-within, silent-table}
@@ -19,4 +19,4 @@ pub returns-then-is_started_in : goal.returns-then-is_started_in
 returns-then-is_started_in g c =
     let started : starts_in (Some (agreement_on c.args.mode)) c.in-Some.start.modes ≡ true = sym c.is_started_in.ensures ∙ c.if-is_started_in.true in
     as_remarks {f = λ v h. Noted (TableStarted c.args.reference c.in-Some.start.offset) ∷ h} (λ v h stands. rw (c.in-Some.is, started) refl)
-    (λ v h. silent-table (Some (agreement_on c.args.mode)) c.args.reference c.args.table.now.auto h) (lit≤ tt) c.start_table.ensures.remarks
+    (λ v h. silent-table v (Some (agreement_on c.args.mode)) c.args.reference c.args.table.now.auto h) (lit≤ tt) c.start_table.ensures.remarks

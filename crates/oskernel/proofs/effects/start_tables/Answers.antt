@@ -6,8 +6,9 @@ use Rattle.ostable.specs.Tables.{table_ref}
 use Rattle.ostable.proofs.Places.{table-is, table-own}
 use Rattle.osstate.specs.Readings.{numbered_tables}
 use Rattle.osstate.specs.State.{KernelState}
+use Rattle.osact.specs.Acts.{does}
 use Rattle.oskernel.specs.Taking.{agreement_on}
-use Rattle.oscall.proofs.Remarking.{as_remarks, remarks-then}
+use Rattle.osact.proofs.Remarking.{as_remarks, remarks-then}
 use Rattle.oskernel.specs.Step.{starts_each}
 use Rattle.oskernel.proofs.Numbered.{all-objects, next-object, next-own}
 use Rattle.oskernel.proofs.Starting.{silent-tables, start_if_auto, table_at}
@@ -27,13 +28,13 @@ pub loop-table-preserved : goal.loop-table-preserved
 loop-table-preserved g c = record {
   place = omega arith;
   effects =
-      as_remarks (λ v h stands. next-object table_at (λ (core : Core). core.tables) (start_if_auto (Some (agreement_on c.args.mode))) (starts_each (Some (agreement_on c.args.mode))) (λ k. refl) (λ p ps k. refl) v c.args.state.now.view (ap (λ (s : KernelState). s.view) stands.is) h c.tables-tables.result.now c.tables-tables.ensures.value c.id-core.result c.loop-table.index c.loop-table.table-index c.table-item.result c.id-core.ensures.own c.loop-table.invariant.place c.loop-table-test.true c.table-item.is)
-      (λ v h. silent-tables (Some (agreement_on c.args.mode)) (take (c.loop-table.table-index + 1) (numbered_tables v.own)) h)
+      as_remarks (λ v h stands. next-object table_at (λ (core : Core). core.tables) (start_if_auto v (Some (agreement_on c.args.mode))) (λ ps k. does (starts_each (Some (agreement_on c.args.mode)) ps) v k) (λ k. refl) (λ p ps k. refl) v c.args.state.now.view (ap (λ (s : KernelState). s.view) stands.is) h c.tables-tables.result.now c.tables-tables.ensures.value c.id-core.result c.loop-table.index c.loop-table.table-index c.table-item.result c.id-core.ensures.own c.loop-table.invariant.place c.loop-table-test.true c.table-item.is)
+      (λ v h. silent-tables v (Some (agreement_on c.args.mode)) (take (c.loop-table.table-index + 1) (numbered_tables v.own)) h)
       (omega arith) (remarks-then c.loop-table.invariant.effects c.start_by_itself.ensures);
 }
 
 pub returns : goal.returns
 returns g c =
-    as_remarks (λ v h stands. sym (all-objects table_at (λ (core : Core). core.tables) (start_if_auto (Some (agreement_on c.args.mode))) (starts_each (Some (agreement_on c.args.mode))) (λ k. refl) (λ p ps k. refl) v c.args.state.now.view (ap (λ (s : KernelState). s.view) stands.is) h c.tables-tables.result.now c.tables-tables.ensures.value c.loop-table.table-index c.loop-table-test.false))
-    (λ v h. silent-tables (Some (agreement_on c.args.mode)) (numbered_tables v.own) h)
+    as_remarks (λ v h stands. sym (all-objects table_at (λ (core : Core). core.tables) (start_if_auto v (Some (agreement_on c.args.mode))) (λ ps k. does (starts_each (Some (agreement_on c.args.mode)) ps) v k) (λ k. refl) (λ p ps k. refl) v c.args.state.now.view (ap (λ (s : KernelState). s.view) stands.is) h c.tables-tables.result.now c.tables-tables.ensures.value c.loop-table.table-index c.loop-table-test.false))
+    (λ v h. silent-tables v (Some (agreement_on c.args.mode)) (numbered_tables v.own) h)
     (omega (arith, c.tables-tables.ensures.few)) c.loop-table.invariant.effects

@@ -1,26 +1,37 @@
-use Rattle.std.proofs.Common.{refl, rules, lit≤, SFits, w64}
-use Rattle.std.proofs.lemmas.Int.{to_z-of_z}
-use Rattle.osstate.proofs.Effecting.{as_effect, unprinted}
+use Rattle.std.proofs.Common.{◌≡◌, ◌<◌, length, arith, Option, Some, None, option_and_then, List, IfSome, IsTrue, true, rules, ap, sym, subst, lit≤}
+use Rattle.std.specs.List.{list_all}
+use Rattle.std.proofs.lemmas.Bool.{and_parts}
+use Rattle.osbase.specs.declared.histories.Sent.{Sent}
+use Rattle.osbase.specs.declared.messages.RemoteCall.{RemoteCall}
+use Rattle.osbase.specs.declared.objects.Object.{Object}
+use Rattle.osbase.specs.declared.statuses.ServiceId.{ServiceId}
+use Rattle.osbase.specs.Objects.{object_of_call}
+use Rattle.oscript.specs.declared.Op.{Op}
+use Rattle.oscript.specs.Calls.{call_of_op}
+use Rattle.oscript.proofs.Acting.{called-object}
+use Rattle.osplan.specs.declared.plans.Core.{Core}
+use Rattle.osplan.specs.Objects.{may_name}
+use Rattle.osstate.specs.Sound.{has_objects_of}
+use Rattle.osstate.proofs.Effecting.{as_effect}
+use Rattle.osact.specs.Acts.{does}
+use Rattle.oscall.specs.Border.{is_known_call}
+use Rattle.oskernel.specs.Operations.{operates_by}
 use Rattle.oskernel.proofs.operations.operate.Goals as goal
 
-pub returns-in-Set : goal.returns-in-Set
-returns-in-Set g c =
-    let number : SFits w64 c.in-Set.number = search rules in
-    rw c.in-Set.is (as_effect (λ v h stands. refl) (lit≤ tt) (lit≤ tt) (simp to_z-of_z at c.set.ensures))
+-- What is asked for is an object that the operation names.
+known-call : (core : Core) (op : Op) (id : ServiceId) (target : Option RemoteCall) → Some (id, target) ≡ call_of_op op → has_objects_of core op ≡ true → IfSome target (λ call. IsTrue (is_known_call core call))
+known-call core op id None is known = tt
+known-call core op id (Some call) is known =
+    (and_parts (may_name core (object_of_call call)) true (subst (λ (objects : List Object). list_all (may_name core) objects ≡ true) (called-object op call (ap (option_and_then (λ (entry : ServiceId × Option RemoteCall). entry.1)) (sym is))) known)).0
 
-pub returns-in-Add : goal.returns-in-Add
-returns-in-Add g c =
-    let number : SFits w64 c.in-Add.number = search rules in
-    rw c.in-Add.is (as_effect (λ v h stands. refl) (lit≤ tt) (lit≤ tt) (simp to_z-of_z at c.add.ensures))
+pub call-requires : goal.call-requires
+call-requires g c =
+    let known : IfSome c.in-Some.target (λ call. IsTrue (is_known_call c.args.state.now.view.own call)) = known-call c.args.state.now.view.own c.args.op c.in-Some.service c.in-Some.target c.in-Some.ensures c.requires.known in
+    let place : length c.args.state.now.border.outbox < g.row.OUT = omega (arith, ap (λ (xs : List Sent). length xs) c.requires.outbox, c.requires.places) in
+    search (rules, known, place)
 
-pub returns-in-Work : goal.returns-in-Work
-returns-in-Work g c = rw c.in-Work.is (as_effect (λ v h stands. refl) (lit≤ tt) (lit≤ tt) (unprinted c.complete.ensures.remarks))
+pub returns-in-Some : goal.returns-in-Some
+returns-in-Some g c = as_effect (λ v h stands. ap (λ o. does (operates_by c.args.runner c.args.op o) v h) (sym c.in-Some.ensures)) (lit≤ tt) (lit≤ tt) c.call.ensures
 
-pub returns-in-Jump : goal.returns-in-Jump
-returns-in-Jump g c = rw c.in-Jump.is (as_effect (λ v h stands. refl) (lit≤ tt) (lit≤ tt) (unprinted c.complete-in-Jump.ensures.remarks))
-
-pub returns-in-JumpIfZero : goal.returns-in-JumpIfZero
-returns-in-JumpIfZero g c = rw c.in-JumpIfZero.is (as_effect (λ v h stands. refl) (lit≤ tt) (lit≤ tt) (unprinted c.complete-in-JumpIfZero.ensures.remarks))
-
-pub returns-in-WaitEvent : goal.returns-in-WaitEvent
-returns-in-WaitEvent g c = rw c.in-WaitEvent.is (as_effect (λ v h stands. refl) (lit≤ tt) (lit≤ tt) c.wait_event.ensures)
+pub returns-in-None : goal.returns-in-None
+returns-in-None g c = as_effect (λ v h stands. ap (λ o. does (operates_by c.args.runner c.args.op o) v h) (sym c.in-None.ensures)) (lit≤ tt) (lit≤ tt) c.act_alone.ensures

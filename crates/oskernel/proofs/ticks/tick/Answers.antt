@@ -1,8 +1,9 @@
-use Rattle.std.proofs.Common.{◌≡◌, ◌<◌, ◌≤◌, ◌+◌, ◌*◌, ◌^◌, false, IsTrue, length, suc, vec_len, vec_capacity, rules, refl, ap, sym, ◌∙◌, arith}
-use Rattle.osbase.specs.declared.marks.Mark.{Mark}
+use Rattle.std.proofs.Common.{◌≡◌, ◌<◌, ◌≤◌, ◌+◌, ◌*◌, ◌^◌, ◌∷◌, false, IsTrue, length, suc, vec_len, vec_capacity, rules, refl, ap, sym, ◌∙◌, arith}
+use Rattle.osbase.specs.declared.marks.Mark.TheVariants as Mark
 use Rattle.osbase.specs.declared.references.CoreId.{CoreId}
 use Rattle.osbase.specs.declared.references.CounterRef.{CounterRef}
 use Rattle.osclock.specs.Clocks.{attached_to, counter_ref}
+use Rattle.osbase.specs.History.{Printed}
 use Rattle.osbase.specs.Objects.{counter_object}
 use Rattle.osbase.specs.Phases.{is_before_live}
 use Rattle.osclock.proofs.Places.{counter-own}
@@ -12,9 +13,9 @@ use Rattle.osplan.specs.View.{View}
 use Rattle.ostable.specs.Tables.{timed_by}
 use Rattle.osstate.specs.State.{KernelState}
 use Rattle.osstate.proofs.Effecting.{as_effect, then, unprinted}
-use Rattle.oscall.proofs.Remarking.{unmoved}
+use Rattle.osact.proofs.Remarking.{unmoved}
 use Rattle.osdue.specs.Advancing.{posted_by}
-use Rattle.oscall.specs.Returning.{prints}
+use Rattle.osact.specs.Acts.{does}
 use Rattle.osdue.proofs.Owned.{alarms-few}
 use Rattle.osdue.proofs.Postings.{tables-few}
 use Rattle.oskernel.specs.Step.{counts_each}
@@ -74,7 +75,7 @@ loop-counter-preserved g c =
       place = omega arith;
       outbox = omega (arith, c.count_by_tick.ensures.outbox, c.loop-counter.invariant.outbox, posted, total-more (posted_at own) place);
       effects =
-          as_effect (λ v h stands. next-object clock_at (λ (core : Core). core.counters) (count_if_hardware v) (counts_each v) (λ k. refl) (λ p ps k. refl) v c.print.new.self.view (ap (λ (s : KernelState). s.view) stands.is) h c.counters-counters.result.now c.counters-counters.ensures.value c.id-core.result c.loop-counter.index place c.counter-item.result c.id-core.ensures.own c.loop-counter.invariant.place c.loop-counter-test.true c.counter-item.is)
+          as_effect (λ v h stands. next-object clock_at (λ (core : Core). core.counters) (count_if_hardware v) (λ ps k. does (counts_each ps) v k) (λ k. refl) (λ p ps k. refl) v c.print.new.self.view (ap (λ (s : KernelState). s.view) stands.is) h c.counters-counters.result.now c.counters-counters.ensures.value c.id-core.result c.loop-counter.index place c.counter-item.result c.id-core.ensures.own c.loop-counter.invariant.place c.loop-counter-test.true c.counter-item.is)
           (omega (arith, attached, timed, more_alarms, more_tables)) (omega (arith, attached, timed, more_alarms, more_tables)) (then c.loop-counter.invariant.effects c.count_by_tick.ensures.effects);
     }
 
@@ -85,5 +86,5 @@ returns g c =
     let short = tables-few own c.counters-counters.ensures.within in
     let all_alarms = alarms-within own c.loop-counter.counter-index in
     let all_tables = tables-within own c.loop-counter.counter-index in
-    as_effect (λ v h stands. sym (all-objects clock_at (λ (core : Core). core.counters) (count_if_hardware v) (counts_each v) (λ k. refl) (λ p ps k. refl) v c.print.new.self.view (c.print.ensures.effects.stays.view ∙ ap (λ (s : KernelState). s.view) stands.is) (prints Mark.Tick h) c.counters-counters.result.now c.counters-counters.ensures.value c.loop-counter.counter-index c.loop-counter-test.false))
+    as_effect (λ v h stands. sym (all-objects clock_at (λ (core : Core). core.counters) (count_if_hardware v) (λ ps k. does (counts_each ps) v k) (λ k. refl) (λ p ps k. refl) v c.print.new.self.view (c.print.ensures.effects.stays.view ∙ ap (λ (s : KernelState). s.view) stands.is) (Printed Mark.Tick ∷ h) c.counters-counters.result.now c.counters-counters.ensures.value c.loop-counter.counter-index c.loop-counter-test.false))
     (omega (arith, c.counters-counters.ensures.few, few, short, all_alarms, all_tables)) (omega (arith, few, short, all_alarms, all_tables)) (then c.print.ensures.effects c.loop-counter.invariant.effects)

@@ -1,24 +1,32 @@
-use Rattle.std.proofs.Common.{◌≡◌, ◌<◌, ℕ, length, map, rules, arith, sym, ◌∙◌}
-use Rattle.std.proofs.lemmas.List.{length-map, map_push, take_all}
-use Rattle.osbase.specs.Sets.{numbers_from}
-use Rattle.ostable.specs.Tables.{timed_by}
-use Rattle.osclock.specs.Clocks.{counter_ref}
-use Rattle.osclock.proofs.Attached.{table-more}
-use Rattle.osclock.proofs.Places.{length-numbers}
+use Rattle.std.proofs.Common.{◌≡◌, ◌<◌, ◌≤◌, length, arith, ◌∙◌}
+use Rattle.osplan.proofs.Clocked.{clock-parts}
+use Rattle.osattach.proofs.Members.{first-all, first-known, first-more, first-none, first-room}
+use Rattle.ostable.specs.Tables.{table_family}
+use Rattle.ostable.proofs.Listed.{table-next}
 use Rattle.ostable.proofs.tables.new_timed.Goals as goal
+
+pub loop-index-init : goal.loop-index-init
+loop-index-init c = c.new-timed.ensures ∙ first-none c.args.core.now (table_family c.args.core.now) c.len.result c.len.ensures
+
+pub attach-requires : goal.attach-requires
+attach-requires c =
+    let inside : c.loop-index.index < length c.args.core.now.tables = omega arith in
+    let next = table-next c.args.core.now c.as_slice.result.now c.loop-index.index c.index-as_slice-index.result c.requires c.as_slice.ensures inside c.index-as_slice-index.is in
+    let few : length c.args.core.now.tables ≤ 8 = (clock-parts c.args.core.now c.requires).tables in (
+      omega arith,
+      (
+        rw (← c.index-as_slice-index.is, c.loop-index.invariant) (first-known c.args.core.now (table_family c.args.core.now) c.loop-index.index c.index-as_slice-index.result next),
+        rw (← c.index-as_slice-index.is, c.loop-index.invariant) (omega (arith, few, first-room c.args.core.now (table_family c.args.core.now) c.loop-index.index c.index-as_slice-index.result next)),
+      ),
+    )
 
 pub loop-index-preserved : goal.loop-index-preserved
 loop-index-preserved c =
-    let inside : c.loop-index.index < length c.args.core.now.counters = search rules in
-    let more = table-more (λ (n : ℕ). timed_by c.args.core.now (counter_ref c.args.core.now n)) (length c.args.core.now.counters) c.loop-index.index inside in
-    record {
-      lists = rw (c.push.ensures.items, map_push, c.timed_by.ensures, c.loop-index.invariant.lists) (sym more);
-      count = omega (arith, c.push.ensures.len, c.loop-index.invariant.count);
-    }
+    let inside : c.loop-index.index < length c.args.core.now.tables = omega arith in
+    let next = table-next c.args.core.now c.as_slice.result.now c.loop-index.index c.index-as_slice-index.result c.requires c.as_slice.ensures inside c.index-as_slice-index.is in
+    rw (c.attach.ensures, c.reference.ensures, ← c.index-as_slice-index.is, c.loop-index.invariant) (first-more c.args.core.now (table_family c.args.core.now) c.loop-index.index c.index-as_slice-index.result next)
 
 pub returns : goal.returns
 returns c =
-    let done : c.loop-index.index ≡ length c.args.core.now.counters = search rules in
-    c.loop-index.invariant.lists
-    ∙ take_all c.loop-index.index (map (λ (n : ℕ). timed_by c.args.core.now (counter_ref c.args.core.now n)) (numbers_from 0 (length c.args.core.now.counters)))
-    (omega (arith, done, length-map (numbers_from 0 (length c.args.core.now.counters)) (λ (n : ℕ). timed_by c.args.core.now (counter_ref c.args.core.now n)), length-numbers 0 (length c.args.core.now.counters)))
+    let done : c.loop-index.index ≡ length c.args.core.now.tables = omega arith in
+    c.loop-index.invariant ∙ first-all c.args.core.now (table_family c.args.core.now) c.loop-index.index done

@@ -3,7 +3,7 @@ use Rattle.osplan.specs.View.{own_table}
 use Rattle.ostable.proofs.Timed.{timed}
 use Rattle.ostable.proofs.tables.started.Goals as goal
 
-pub start-requires-clause-timed : goal.start-requires-clause-timed
-start-requires-clause-timed c =
+pub start_rel-requires-clause-timed : goal.start_rel-requires-clause-timed
+start_rel-requires-clause-timed c =
     let own : own_table c.args.core.now c.args.table ≡ Some c.in-Some.plan.now = search rules in
     timed c.args.core.now c.args.table c.in-Some.plan.now c.requires.within own

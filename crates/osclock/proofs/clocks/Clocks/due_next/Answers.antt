@@ -1,11 +1,7 @@
-use Rattle.std.proofs.Common.{ap, ◌∙◌}
-use Rattle.osclock.specs.Clocks.{ClockState}
+use Rattle.std.proofs.Common.{◌∙◌}
 use Rattle.osclock.proofs.Asked.{dues-in}
-use Rattle.osclock.proofs.Bounds.{attached-inside, counter-inside, counter-within, list-inside}
+use Rattle.osclock.proofs.Bounds.{attached-inside, counter-inside, counter-within}
 use Rattle.osclock.proofs.clocks.Clocks.due_next.Goals as goal
-
-pub list_at-requires : goal.list_at-requires
-list_at-requires c = list-inside c.args.core.now _ c.args.counter _ (ap (λ (s : ClockState). s.attached) c.self.view_is) c.requires.clocks c.requires.own
 
 pub counter-requires : goal.counter-requires
 counter-requires c = counter-inside c.args.core.now _ c.args.counter c.requires.clocks c.requires.own
@@ -17,8 +13,8 @@ pub due_alarms-requires-clause-value : goal.due_alarms-requires-clause-value
 due_alarms-requires-clause-value c = rw c.counter.ensures (counter-within c.args.core.now _ c.args.counter c.requires.clocks c.requires.own).value
 
 pub due_alarms-requires-clause-places : goal.due_alarms-requires-clause-places
-due_alarms-requires-clause-places c = rw c.as_slice.ensures.value (attached-inside c.args.core.now c.args.counter _ _ c.list_at.result.now c.self.view_is c.requires.clocks c.requires.own c.list_at.ensures.value)
+due_alarms-requires-clause-places c = rw c.as_slice.ensures.value (attached-inside c.args.core.now c.args.counter _ _ c.of.result.now c.self.view_is c.requires.clocks c.requires.own c.of.ensures.value)
 
 pub returns : goal.returns
 returns c =
-    c.due_alarms.ensures ∙ dues-in c.args.core.now c.args.counter _ _ c.counter.result c.list_at.result.now c.as_slice.result.now c.self.view_is c.requires.clocks c.requires.own c.counter.ensures c.list_at.ensures.value c.as_slice.ensures.value
+    c.due_alarms.ensures ∙ dues-in c.args.core.now c.args.counter _ _ c.counter.result c.of.result.now c.as_slice.result.now c.self.view_is c.requires.clocks c.requires.own c.counter.ensures c.of.ensures.value c.as_slice.ensures.value

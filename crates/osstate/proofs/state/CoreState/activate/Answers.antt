@@ -2,11 +2,10 @@ use Rattle.std.proofs.Common.{◌≡◌, ◌<◌, false, rules, arith, sym, subs
 use Rattle.osbase.specs.declared.references.Runner.TheVariants as Runner
 use Rattle.osbase.specs.History.{job_count}
 use Rattle.osbase.specs.Phases.{is_before_live}
-use Rattle.osstate.specs.Sound.{activation_limit}
+use Rattle.osstate.specs.Sound.{IsSound, activation_limit}
 use Rattle.osstate.specs.State.{KernelState}
 use Rattle.osstate.proofs.Sounds.{activated, place}
 use Rattle.osstate.proofs.Effecting.{printing}
-use Rattle.osstate.proofs.Histories.{activated as begun}
 use Rattle.osstate.proofs.Room.{own_from_place}
 use Rattle.osstate.proofs.state.CoreState.activate.Goals as goal
 
@@ -21,4 +20,4 @@ invariant_of-self g c =
     (subst (λ (s : KernelState). is_before_live s.progress.phase ≡ false) (sym c.self.view_is) c.requires.live))
 
 pub returns-clause-effects : goal.returns-clause-effects
-returns-clause-effects g c = printing (search rules) (λ h. begun c.args.task _ h (search rules) (own_from_place c.args.self.now.view.own (Runner.Task c.args.task) (omega (arith, c.requires.limit)))) (search rules) (omega arith) (search rules)
+returns-clause-effects g c = printing (subst (IsSound g.row.P g.row.J) c.self.view_is c.self.invariant) (own_from_place c.args.self.now.view.own (Runner.Task c.args.task) (omega (arith, c.requires.limit))) (search rules) (search rules) (omega arith) (search rules)

@@ -5,7 +5,7 @@ use Rattle.osplan.specs.View.{own_alarm}
 use Rattle.osclock.proofs.Places.{alarm-some}
 use Rattle.std.specs.List.{list_all}
 use Rattle.osplan.specs.Objects.{core_actions}
-use Rattle.osstate.specs.Sound.{has_object_of}
+use Rattle.osplan.specs.Objects.{may_act}
 use Rattle.osstate.specs.State.{KernelState}
 use Rattle.osstate.proofs.ReadLemmas.{known_timed}
 use Rattle.osstate.proofs.state.CoreState.alarm_action.Goals as goal
@@ -13,7 +13,7 @@ use Rattle.osstate.proofs.state.CoreState.alarm_action.Goals as goal
 pub returns-clause-known : goal.returns-clause-known
 returns-clause-known g c =
     known_timed c.args.self.now.view.own c.args.alarm c.in-Some.own.now
-    (subst (λ (s : KernelState). list_all (has_object_of s.view.own) (core_actions s.view.own) ≡ true) c.self.view_is c.self.invariant.actions) (search rules)
+    (subst (λ (s : KernelState). list_all (may_act s.view.own) (core_actions s.view.own) ≡ true) c.self.view_is c.self.invariant.objects.actions) (search rules)
 
 pub unreachable-requires : goal.unreachable-requires
 unreachable-requires g c =

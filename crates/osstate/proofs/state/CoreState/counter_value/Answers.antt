@@ -7,7 +7,7 @@ use Rattle.osstate.proofs.ReadLemmas.{reads_value}
 use Rattle.osstate.proofs.state.CoreState.counter_value.Goals as goal
 
 pub value-requires : goal.value-requires
-value-requires g c = counter-inside c.self.inside.core.now _ c.args.counter c.self.invariant.clocks (subst (λ (s : KernelState). is_own_object s.view.own (counter_object c.args.counter) ≡ true) (sym c.self.view_is) c.requires.own)
+value-requires g c = counter-inside c.self.inside.core.now _ c.args.counter c.self.invariant.times.clocks (subst (λ (s : KernelState). is_own_object s.view.own (counter_object c.args.counter) ≡ true) (sym c.self.view_is) c.requires.own)
 
 pub returns-clause-reads : goal.returns-clause-reads
 returns-clause-reads g c = reads_value c.args.self.now c.args.counter _ c.requires.own (search rules)

@@ -10,5 +10,5 @@ returns-clause-value g c = c.left.ensures ∙ ap (λ (s : KernelState). left_in 
 
 pub returns-clause-reads : goal.returns-clause-reads
 returns-clause-reads g c =
-    reads_left c.args.self.now c.args.alarm _ (subst (λ (s : KernelState). are_clocks_within s.view.own ≡ true) c.self.view_is c.self.invariant.clocks.within) c.requires.own
+    reads_left c.args.self.now c.args.alarm _ (subst (λ (s : KernelState). are_clocks_within s.view.own ≡ true) c.self.view_is c.self.invariant.times.clocks.within) c.requires.own
     (c.left.ensures ∙ ap (λ (s : KernelState). left_in s.view.own c.args.alarm s.clocks) c.self.view_is)

@@ -13,7 +13,7 @@ use Rattle.osstate.proofs.state.CoreState.due_next.Goals as goal
 
 pub returns-clause-reads : goal.returns-clause-reads
 returns-clause-reads g c =
-    reads_dues c.args.self.now c.args.counter _ (subst (λ (s : KernelState). are_clocks_within s.view.own ≡ true) c.self.view_is c.self.invariant.clocks.within)
+    reads_dues c.args.self.now c.args.counter _ (subst (λ (s : KernelState). are_clocks_within s.view.own ≡ true) c.self.view_is c.self.invariant.times.clocks.within)
     (c.due_next.ensures ∙ ap (λ (s : KernelState). due_in s.view.own c.args.counter s.clocks) c.self.view_is)
 
 pub returns-clause-own : goal.returns-clause-own

@@ -1,8 +1,7 @@
-use Rattle.std.proofs.Common.{rules, arith, refl}
-use Rattle.osbase.specs.declared.marks.Mark.TheVariants as Mark
+use Rattle.std.proofs.Common.{rules, refl, subst, arith}
+use Rattle.osstate.specs.Sound.{IsSound}
 use Rattle.osstate.proofs.Effecting.{printing}
-use Rattle.osstate.proofs.Histories.{printed}
 use Rattle.osstate.proofs.state.CoreState.enter.Goals as goal
 
 pub returns-clause-effects : goal.returns-clause-effects
-returns-clause-effects g c = printing (search rules) (λ h. printed (Mark.PreTaskHook c.args.task) refl _ h) (search rules) (omega arith) (search rules)
+returns-clause-effects g c = printing (subst (IsSound g.row.P g.row.J) c.self.view_is c.self.invariant) refl (search rules) (search rules) (omega arith) (search rules)

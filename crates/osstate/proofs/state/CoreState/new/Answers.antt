@@ -6,28 +6,22 @@ use Rattle.osstate.specs.State.{KernelState}
 use Rattle.osstate.specs.Steps.{first_progress}
 use Rattle.osstate.specs.Sound.{IsSound}
 use Rattle.osplan.proofs.Clocked.{clocks_within}
-use Rattle.osplan.proofs.Within.{core-fits}
 use Rattle.osstate.proofs.Begun.{state-begun, sound-begun, parts-begun}
 use Rattle.osstate.proofs.state.CoreState.new.Goals as goal
-
-pub new_frames-frames-requires : goal.new_frames-frames-requires
-new_frames-frames-requires g c =
-    let found : core_of c.args.config.now c.args.id ≡ Some c.in-Some.core.now = sym (c.in-Some.ensures ∙ ap (λ (p : Plan). core_of p c.args.id) c.plan-plan.ensures.value) in
-    omega (arith, c.len.ensures, (core-fits c.args.config.now c.args.id c.in-Some.core.now c.plan-plan.ensures.limits found).tasks)
 
 pub invariant_of-result : goal.invariant_of-result
 invariant_of-result g c =
     let found : core_of c.args.config.now c.args.id ≡ Some c.in-Some.core.now = sym (c.in-Some.ensures ∙ ap (λ (p : Plan). core_of p c.args.id) c.plan-plan.ensures.value) in
     subst (λ (s : KernelState). IsSound g.row.P g.row.J s)
-    (sym (parts-begun c.args.config.now c.in-Some.core.now c.is_same_core.result c.new.result c.len.result _ _ _ _ _ c.new.ensures c.len.ensures c.new-2.ensures c.new_frames-frames.ensures c.new-3.ensures c.new-4.ensures c.new-5.ensures))
-    (sound-begun g.row.P g.row.J c.args.config.now c.args.id c.in-Some.core.now c.is_same_core.result c.plan-plan.ensures.limits found c.requires.priorities c.requires.ceilings c.requires.activations)
+    (sym (parts-begun c.args.config.now c.in-Some.core.now c.eq.result c.new.result _ _ _ _ c.new.ensures c.new-2.ensures c.new-3.ensures c.new-4.ensures c.new-5.ensures))
+    (sound-begun g.row.P g.row.J c.args.config.now c.args.id c.in-Some.core.now c.eq.result c.plan-plan.ensures.limits c.plan-plan.ensures.expressible found c.requires.priorities c.requires.ceilings c.requires.activations)
 
 pub returns : goal.returns
 returns g c =
     let found : core_of c.args.config.now c.args.id ≡ Some c.in-Some.core.now = sym (c.in-Some.ensures ∙ ap (λ (p : Plan). core_of p c.args.id) c.plan-plan.ensures.value) in
-    parts-begun c.args.config.now c.in-Some.core.now (same_core c.in-Some.core.now.id c.args.config.now.master) c.new.result c.len.result _ _ _ _ _
-    (c.new.ensures ∙ ap first_progress (c.is_same_core.ensures ∙ ap (λ (p : Plan). same_core c.in-Some.core.now.id p.master) c.plan-plan.ensures.value))
-    c.len.ensures c.new-2.ensures c.new_frames-frames.ensures c.new-3.ensures c.new-4.ensures c.new-5.ensures
+    parts-begun c.args.config.now c.in-Some.core.now (same_core c.in-Some.core.now.id c.args.config.now.master) c.new.result _ _ _ _
+    (c.new.ensures ∙ ap first_progress (c.eq.ensures ∙ ap (λ (p : Plan). same_core c.in-Some.core.now.id p.master) c.plan-plan.ensures.value))
+    c.new-2.ensures c.new-3.ensures c.new-4.ensures c.new-5.ensures
     ∙ state-begun c.args.config.now c.args.id c.in-Some.core.now found
 
 pub new-requires-3 : goal.new-requires-3

@@ -1,6 +1,18 @@
-use Rattle.std.proofs.Common.{rules}
-use Rattle.osstate.proofs.ReadLemmas.{reads_action}
+use Rattle.std.proofs.Common.{rules, ◌≡◌, true, ap, subst, ◌∙◌}
+use Rattle.std.specs.List.{list_all}
+use Rattle.oscript.specs.Frames.{action_at}
+use Rattle.osrunner.specs.Rows.{frame_in}
+use Rattle.osstate.specs.Queries.{next_action_in}
+use Rattle.osstate.specs.Readings.{script_of}
+use Rattle.osstate.specs.Sound.{has_objects_of}
+use Rattle.osstate.specs.State.{KernelState}
+use Rattle.osstate.proofs.ReadLemmas.{known_action, read}
 use Rattle.osstate.proofs.state.CoreState.next_action.Goals as goal
 
 pub returns-clause-reads : goal.returns-clause-reads
-returns-clause-reads g c = reads_action c.args.self.now c.args.runner _ c.requires.own (search rules)
+returns-clause-reads g c v h stands = read (next_action_in c.args.runner) (search rules) stands
+
+pub returns-clause-known : goal.returns-clause-known
+returns-clause-known g c =
+    known_action c.args.self.now.view.own (script_of c.args.self.now.view.own c.args.runner) (frame_in c.args.runner c.args.self.now.tasks.rows) c.next_action.result
+    (subst (λ (s : KernelState). list_all (has_objects_of s.view.own) (script_of s.view.own c.args.runner) ≡ true) c.self.view_is (c.self.invariant.objects.scripts c.args.runner)) (search rules)

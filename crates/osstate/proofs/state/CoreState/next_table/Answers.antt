@@ -12,7 +12,7 @@ use Rattle.osstate.proofs.ReadLemmas.{reads_next}
 use Rattle.osstate.proofs.state.CoreState.next_table.Goals as goal
 
 pub next-requires : goal.next-requires
-next-requires g c = tables-length c.self.inside.core.now _ c.self.invariant.tables
+next-requires g c = tables-length c.self.inside.core.now _ c.self.invariant.times.tables
 
 pub returns-clause-reads : goal.returns-clause-reads
 returns-clause-reads g c =
@@ -23,8 +23,8 @@ returns-clause-own g c =
     subst (λ (s : KernelState). IfSome c.next.result (λ next. IsTrue (is_own_object s.view.own (table_object next)))) c.self.view_is
     (if-some c.self.inside.core.now c.next.result
     (ap (λ (o : Option TableRef). option_map_or (λ (u : TableRef). is_own_object c.self.inside.core.now (table_object u)) o true)
-    (c.next.ensures ∙ ap (λ (x : TableStates). next_in c.self.inside.core.now c.args.table x) c.self.invariant.tables.is ∙ next-read c.self.inside.core.now c.args.table c.self.invariant.tables.history)
-    ∙ next-own c.self.inside.core.now c.args.table c.self.invariant.tables.history))
+    (c.next.ensures ∙ ap (λ (x : TableStates). next_in c.self.inside.core.now c.args.table x) c.self.invariant.times.tables.is ∙ next-read c.self.inside.core.now c.args.table c.self.invariant.times.tables.history)
+    ∙ next-own c.self.inside.core.now c.args.table c.self.invariant.times.tables.history))
   where
     if-some : (core : Core) (o : Option TableRef) → option_map_or (λ (u : TableRef). is_own_object core (table_object u)) o true ≡ true → IfSome o (λ next. IsTrue (is_own_object core (table_object next)))
     if-some core None own = tt

@@ -1,6 +1,6 @@
-use Rattle.std.proofs.Common.{rules, arith}
+use Rattle.std.proofs.Common.{subst, rules, arith}
+use Rattle.osstate.specs.Sound.{IsSound}
 use Rattle.osstate.proofs.Effecting.{printing}
-use Rattle.osstate.proofs.Histories.{released as freed}
 use Rattle.osstate.proofs.Sounds.{released}
 use Rattle.osstate.proofs.state.CoreState.release.Goals as goal
 
@@ -8,4 +8,4 @@ pub invariant_of-self : goal.invariant_of-self
 invariant_of-self g c = rw c.release.ensures (released g.row.P g.row.J c.args.task _ c.self.invariant)
 
 pub returns-clause-effects : goal.returns-clause-effects
-returns-clause-effects g c = printing (search rules) (λ h. freed c.args.task _ h (search rules) c.requires.own) (search rules) (omega arith) (search rules)
+returns-clause-effects g c = printing (subst (IsSound g.row.P g.row.J) c.self.view_is c.self.invariant) c.requires.own (search rules) (search rules) (omega arith) (search rules)

@@ -9,7 +9,7 @@ use Rattle.osstate.proofs.state.CoreState.running_job.Goals as goal
 pub returns-clause-own : goal.returns-clause-own
 returns-clause-own g c =
     subst (λ (s : KernelState). IfSome c.running.result (λ job. IsTrue (is_own_runner s.view.own job.runner))) c.self.view_is
-    (own_current c.self.inside.core.now c.self.inside.jobs.current c.self.inside.jobs.jobs c.running.result c.self.invariant.jobs c.running.ensures)
+    (own_current c.self.inside.core.now c.self.inside.jobs.current c.self.inside.jobs.jobs c.running.result c.self.invariant.jobs.within c.running.ensures)
 
 pub returns-clause-live : goal.returns-clause-live
 returns-clause-live g c =

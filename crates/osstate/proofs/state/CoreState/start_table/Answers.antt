@@ -1,23 +1,20 @@
 use Rattle.std.proofs.Common.{◌≡◌, true, rules, refl, ap, sym, subst, ◌∙◌}
 use Rattle.osbase.specs.History.{Noted, TableStarted}
-use Rattle.osplan.specs.Clocked.{are_clocks_within}
 use Rattle.ostable.specs.Tables.{AreTables}
 use Rattle.ostable.specs.Waiting.{all_wait_by_counter}
 use Rattle.ostable.proofs.Asked.{kept}
 use Rattle.ostable.proofs.Waiting.{waits-kept}
-use Rattle.osstate.specs.State.{KernelState}
+use Rattle.osstate.specs.Sound.{IsSound}
 use Rattle.osstate.proofs.Effecting.{noting}
-use Rattle.osstate.proofs.Histories.{table_started}
 use Rattle.osstate.proofs.Sounds.{clocked}
 use Rattle.osstate.proofs.state.CoreState.start_table.Goals as goal
 
 pub invariant_of-self : goal.invariant_of-self
 invariant_of-self g c =
-    clocked g.row.P g.row.J _ _ _ c.self.invariant c.self.invariant.clocks
-    (subst (AreTables c.self.inside.core.now) (sym c.start.ensures) (kept c.self.inside.core.now (Noted (TableStarted c.args.table c.args.wait)) _ c.self.invariant.tables))
-    (ap (all_wait_by_counter c.self.inside.core.now) c.start.ensures ∙ waits-kept c.self.inside.core.now (Noted (TableStarted c.args.table c.args.wait)) _ c.self.invariant.tables refl c.self.invariant.waiting)
+    clocked g.row.P g.row.J _ _ _ c.self.invariant c.self.invariant.times.clocks
+    (subst (AreTables c.self.inside.core.now) (sym c.start.ensures) (kept c.self.inside.core.now (Noted (TableStarted c.args.table c.args.wait)) _ c.self.invariant.times.tables))
+    (ap (all_wait_by_counter c.self.inside.core.now) c.start.ensures ∙ waits-kept c.self.inside.core.now (Noted (TableStarted c.args.table c.args.wait)) _ c.self.invariant.times.tables refl c.self.invariant.times.waiting)
 
 pub returns-clause-remarks : goal.returns-clause-remarks
 returns-clause-remarks g c =
-    let within : are_clocks_within c.args.self.now.view.own ≡ true = subst (λ (s : KernelState). are_clocks_within s.view.own ≡ true) c.self.view_is c.self.invariant.clocks.within in
-    noting (search rules) (λ h. table_started c.args.table c.args.wait _ h within)
+    noting (subst (IsSound g.row.P g.row.J) c.self.view_is c.self.invariant) refl refl (search rules)

@@ -8,7 +8,7 @@ use Rattle.osstate.proofs.ReadLemmas.{reads_status}
 use Rattle.osstate.proofs.state.CoreState.table_status.Goals as goal
 
 pub status-requires : goal.status-requires
-status-requires g c = table-inside c.self.inside.core.now _ c.self.invariant.tables c.args.table (subst (λ (s : KernelState). is_own_object s.view.own (table_object c.args.table) ≡ true) (sym c.self.view_is) c.requires.own)
+status-requires g c = table-inside c.self.inside.core.now _ c.self.invariant.times.tables c.args.table (subst (λ (s : KernelState). is_own_object s.view.own (table_object c.args.table) ≡ true) (sym c.self.view_is) c.requires.own)
 
 pub returns-clause-reads : goal.returns-clause-reads
 returns-clause-reads g c =

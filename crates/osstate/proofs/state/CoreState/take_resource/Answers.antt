@@ -1,8 +1,11 @@
-use Rattle.std.proofs.Common.{rules}
+use Rattle.std.proofs.Common.{rules, refl, subst}
+use Rattle.osstate.specs.Sound.{IsSound}
 use Rattle.osstate.proofs.Effecting.{noting}
-use Rattle.osstate.proofs.Histories.{taken}
+use Rattle.osstate.proofs.Sounds.{same-jobs}
 use Rattle.osstate.proofs.state.CoreState.take_resource.Goals as goal
 
+pub invariant_of-self : goal.invariant_of-self
+invariant_of-self g c = rw c.raise.ensures (same-jobs _ refl c.self.invariant)
+
 pub returns-clause-remarks : goal.returns-clause-remarks
-returns-clause-remarks g c =
-    noting (search rules) (λ h. taken c.args.runner c.args.resource _ h (search rules) c.requires.own)
+returns-clause-remarks g c = noting (subst (IsSound g.row.P g.row.J) c.self.view_is c.self.invariant) c.requires.own refl (search rules)

@@ -1,18 +1,17 @@
 use Rattle.std.proofs.Common.{◌≡◌, true, rules, arith, sym, subst}
 use Rattle.osbase.specs.declared.references.Runner.TheVariants as Runner
 use Rattle.osjobs.specs.Priorities.{is_own_runner}
+use Rattle.osstate.specs.Sound.{IsSound}
 use Rattle.osstate.specs.State.{KernelState}
 use Rattle.osstate.proofs.Effecting.{printing}
-use Rattle.osstate.proofs.Histories.{terminated as ended}
 use Rattle.osstate.proofs.Sounds.{below, terminated}
 use Rattle.osstate.proofs.state.CoreState.terminate.Goals as goal
 
 pub invariant_of-self : goal.invariant_of-self
-invariant_of-self g c = rw (c.terminate.ensures, c.rewind_frame.ensures, c.closed_by-self-inside.ensures) (terminated g.row.P g.row.J c.args.task _ c.self.invariant)
+invariant_of-self g c = rw (c.end.ensures, c.closed_by-self-inside.ensures) (terminated g.row.P g.row.J c.args.task _ c.self.invariant)
 
 pub returns-clause-effects : goal.returns-clause-effects
-returns-clause-effects g c =
-    printing (search rules) (λ h. ended c.args.task _ h (search rules) c.requires.own) (search rules) (omega arith) (search rules)
+returns-clause-effects g c = printing (subst (IsSound g.row.P g.row.J) c.self.view_is c.self.invariant) c.requires.own (search rules) (search rules) (omega arith) (search rules)
 
 pub returns-clause-below : goal.returns-clause-below
-returns-clause-below g c = rw c.terminate.ensures (below g.row.P g.row.J c.args.task _ c.self.invariant (subst (λ (s : KernelState). is_own_runner s.view.own (Runner.Task c.args.task) ≡ true) (sym c.self.view_is) c.requires.own))
+returns-clause-below g c = rw c.end.ensures (below g.row.P g.row.J c.args.task _ c.self.invariant (subst (λ (s : KernelState). is_own_runner s.view.own (Runner.Task c.args.task) ≡ true) (sym c.self.view_is) c.requires.own))

@@ -1,0 +1,155 @@
+-- Once for all acts: what they do to one history they do to every history that reads the same.
+use Rattle.std.proofs.Common.{◌≡◌, ◌||◌, ℤ, Bool, true, false, cond, Option, Some, None, option_map, List, [], ◌∷◌, refl, subst, sym, ◌∙◌}
+use Rattle.std.specs.List.{list_all}
+use Rattle.std.proofs.lemmas.Bool.{and_parts}
+use Rattle.osbase.specs.declared.statuses.Status.{Status}
+use Rattle.osbase.specs.declared.statuses.ServiceId.{ServiceId}
+use Rattle.osbase.specs.declared.references.CoreId.{CoreId}
+use Rattle.osbase.specs.declared.references.Runner.{Runner}
+use Rattle.osbase.specs.declared.messages.RemoteCall.{RemoteCall}
+use Rattle.osbase.specs.declared.messages.Message.{Message}
+use Rattle.osbase.specs.declared.marks.Mark.{Mark}
+use Rattle.osbase.specs.declared.histories.Awaited.{Awaited}
+use Rattle.osbase.specs.declared.histories.OpenCall.{OpenCall}
+use Rattle.osbase.specs.History.{Entry, History, Note, Took, Printed, Noted, Opened, Queued, same_core}
+use Rattle.osbase.specs.Marks.{core_of_runner, names_only}
+use Rattle.osplan.specs.declared.plans.Core.{Core}
+use Rattle.osplan.specs.View.{View}
+use Rattle.osstate.specs.Readings.{knows_started}
+use Rattle.osact.specs.Acts.{Act, Acts, Prints, Notes, Sends, nothing, one_then, both, when, if_started, look, act, does, for_each}
+use Rattle.osact.specs.Checks.{Check, first_failing, is_ok_status}
+use Rattle.osact.specs.Returning.{answers, asks, reports, returns}
+use Rattle.osact.specs.Seen.{Seen, seen_of}
+use Rattle.osact.specs.Service.{Service, answer_of, effect_of, returns_with, serves, serves_if, serves_own}
+
+-- Which cores one asks, or answers: every one, and none.
+abbrev pub anybody : CoreId → Bool
+anybody core = true
+
+abbrev pub nobody : CoreId → Bool
+nobody core = false
+
+-- What a core sees that differs only in who is the master and which cores there are.
+abbrev pub seen_as : View → Bool → List CoreId → View
+seen_as v master ids = record v { is_master = master; cores = ids }
+
+-- The core is the own one, or one that may be asked.
+abbrev pub is_within : View → (CoreId → Bool) → CoreId → Bool
+is_within v may core = same_core core v.core || may core
+
+-- A call awaits only the reply of a core that may be asked.
+abbrev pub may_await : (CoreId → Bool) → Awaited → Bool
+may_await may (Awaited.Reply service core) = may core
+may_await may awaited = false
+
+pub none-awaited : (awaited : Awaited) → may_await nobody awaited ≡ true → ⊥
+none-awaited (Awaited.Reply service core) e = cc
+none-awaited awaited e = cc
+
+-- An act names only objects of cores that pass, asks only those that may be asked, and answers only those that may be answered.
+abbrev pub is_allowed : (CoreId → Bool) → (CoreId → Bool) → (CoreId → Bool) → Act → Bool
+is_allowed may answered names (Prints m) = names_only names m
+is_allowed may answered names (Notes (Opened call)) = may_await may call.awaits
+is_allowed may answered names (Notes (Queued core envelope)) = false
+is_allowed may answered names (Notes n) = true
+is_allowed may answered names (Sends core (Message.Reply status value)) = answered core
+is_allowed may answered names (Sends core message) = may core
+
+-- A note of the core itself, or a mark that names only objects of cores that pass: neither an item nor what goes to
+-- another core.
+abbrev pub is_local : (CoreId → Bool) → Entry → Bool
+is_local names (Took item) = false
+is_local names (Printed m) = names_only names m
+is_local names (Noted (Opened call)) = false
+is_local names (Noted (Queued core envelope)) = false
+is_local names entry = true
+
+-- Each kind of entry that acts may add keeps it: one of the core itself, an envelope to a core that may be asked, a reply to
+-- one that may be answered, and a call that is open there.
+pub record KeepsEntries (may answered names : CoreId → Bool) (R : History → History → Type 0) : Type 0 where
+  pub local : (e : Entry) (h k : History) → is_local names e ≡ true → R h k → R (e ∷ h) (e ∷ k)
+  pub asked : (core : CoreId) (message : Message) (h k : History) → may core ≡ true → R h k → R (act (Sends core message) h) (act (Sends core message) k)
+  pub replied : (core : CoreId) (s : Status) (value : Option ℤ) (h k : History) → answered core ≡ true → R h k → R (act (Sends core (Message.Reply s value)) h) (act (Sends core (Message.Reply s value)) k)
+  pub opened : (call : OpenCall) (h k : History) → may_await may call.awaits ≡ true → R h k → R (Noted (Opened call) ∷ h) (Noted (Opened call) ∷ k)
+
+-- A relation of histories that they keep, and where it holds the core reads the same; what it reads is as `sees` says. The second
+-- history is that of a core that sees another master and other cores.
+pub record IsKept (v : View) (master : Bool) (ids : List CoreId) (may answered names : CoreId → Bool) (sees : Seen → Type 0) (R : History → History → Type 0) : Type 0 where
+  pub named : (core : CoreId) → is_within v may core ≡ true → names core ≡ true
+  pub holds : KeepsEntries may answered names R
+  pub started : (core : CoreId) (h k : History) → is_within v may core ≡ true → R h k → knows_started h core ≡ knows_started k core
+  pub reads : (h k : History) → R h k → seen_of v h ≡ seen_of (seen_as v master ids) k
+  pub seen : (h k : History) → R h k → sees (seen_of v h)
+
+module _ (v : View) (may answered names : CoreId → Bool) (sees : Seen → Type 0) where
+  -- So is each of these acts, whatever is read.
+  abbrev pub AreAllowed : Acts → Type 0
+  AreAllowed nothing = Unit {0}
+  AreAllowed (one_then a x) = (is_allowed may answered names a ≡ true) × AreAllowed x
+  AreAllowed (both x y) = AreAllowed x × AreAllowed y
+  AreAllowed (when b x y) = (b ≡ true → AreAllowed x) × (b ≡ false → AreAllowed y)
+  AreAllowed (if_started core x y) = (is_within v may core ≡ true) × (AreAllowed x × AreAllowed y)
+  AreAllowed (look f) = (s : Seen) → sees s → AreAllowed (f s)
+
+  -- ---- the law
+
+  module _ (master : Bool) (ids : List CoreId) (R : History → History → Type 0) (kept : IsKept v master ids may answered names sees R) where
+    one-kept : (a : Act) → is_allowed may answered names a ≡ true → (h k : History) → R h k → R (act a h) (act a k)
+    one-kept (Prints m) ok h k p = kept.holds.local (Printed m) h k ok p
+    one-kept (Notes (Opened call)) ok h k p = kept.holds.opened call h k ok p
+    one-kept (Notes (Queued core envelope)) ok h k p = cc
+    one-kept (Notes n) ok h k p = kept.holds.local (Noted n) h k ok p
+    one-kept (Sends core (Message.Reply status value)) ok h k p = kept.holds.replied core status value h k ok p
+    one-kept (Sends core message) ok h k p = kept.holds.asked core message h k ok p
+
+    either : (b : Bool) (h h' k k' : History) → (b ≡ true → R h k) → (b ≡ false → R h' k') → R (cond b h h') (cond b k k')
+    either true h h' k k' p q = p refl
+    either false h h' k k' p q = q refl
+
+    pub kept-by : (x : Acts) → AreAllowed x → (h k : History) → R h k → R (does x v h) (does x (seen_as v master ids) k)
+    kept-by nothing ok h k p = p
+    kept-by (one_then a x) ok h k p = kept-by x ok.1 (act a h) (act a k) (one-kept a ok.0 h k p)
+    kept-by (both x y) ok h k p = kept-by y ok.1 (does x v h) (does x (seen_as v master ids) k) (kept-by x ok.0 h k p)
+    kept-by (when b x y) ok h k p = either b (does x v h) (does y v h) (does x (seen_as v master ids) k) (does y (seen_as v master ids) k) (λ e. kept-by x (ok.0 e) h k p) (λ e. kept-by y (ok.1 e) h k p)
+    kept-by (if_started core x y) ok h k p =
+        subst (λ (b : Bool). R (cond (knows_started h core) (does x v h) (does y v h)) (cond b (does x (seen_as v master ids) k) (does y (seen_as v master ids) k))) (kept.started core h k ok.0 p)
+        (either (knows_started h core) (does x v h) (does y v h) (does x (seen_as v master ids) k) (does y (seen_as v master ids) k) (λ e. kept-by x ok.1.0 h k p) (λ e. kept-by y ok.1.1 h k p))
+    kept-by (look f) ok h k p =
+        subst (λ (s : Seen). R (does (f (seen_of v h)) v h) (does (f s) (seen_as v master ids) k)) (kept.reads h k p) (kept-by (f (seen_of v h)) (ok (seen_of v h) (kept.seen h k p)) h k p)
+
+  -- ---- the parts of a service
+
+  -- Marks may name the runner.
+  abbrev pub IsNamed : Runner → Type 0
+  IsNamed r = names (core_of_runner r) ≡ true
+
+  pub reports-ok : (s : Status) → AreAllowed (reports s)
+  reports-ok s = (λ e. tt, λ e. (refl, tt))
+
+  pub returns-ok : (r : Runner) (service : ServiceId) (s : Status) (value : Option ℤ) → IsNamed r → AreAllowed (returns r service s value)
+  returns-ok r service s value n = ((n, tt), (reports-ok s, (refl, tt)))
+
+  pub answers-ok : (r : Runner) (service : ServiceId) (checks : List Check) (effect : Acts) → IsNamed r → (is_ok_status (first_failing checks) ≡ true → AreAllowed effect) → AreAllowed (answers r service checks effect)
+  answers-ok r service checks effect n ok = (ok, λ e. returns-ok r service (first_failing checks) None n)
+
+  pub asks-ok : (r : Runner) (service : ServiceId) (core : CoreId) (call : RemoteCall) → names_only names (Mark.CallQueued core call) ≡ true → may core ≡ true → AreAllowed (asks r service core call)
+  asks-ok r service core call n m = (n, (m, (m, tt)))
+
+  pub for_each-ok : {A : Type 0} (f : A → Acts) (test : A → Bool) → ((x : A) → test x ≡ true → AreAllowed (f x)) → (xs : List A) → list_all test xs ≡ true → AreAllowed (for_each f xs)
+  for_each-ok f test each [] all = tt
+  for_each-ok f test each (x ∷ xs) all =
+      let parts = and_parts (test x) (list_all test xs) all in
+      (each x parts.0, for_each-ok f test each xs parts.1)
+
+  pub effect-ok : (x : Service) → AreAllowed x.effect → AreAllowed (effect_of x)
+  effect-ok x ok = (λ e. ok, λ e. tt)
+
+  pub serves-ok : (r : Runner) (service : ServiceId) (x : Service) → IsNamed r → AreAllowed x.effect → AreAllowed (serves r service x)
+  serves-ok r service x n ok = (effect-ok x ok, returns-ok r service (answer_of x).status (answer_of x).value n)
+
+  pub serves_own-ok : {A : Type 0} (r : Runner) (id : ServiceId) (make : A → Seen → Service) (named : Core → Option A) → IsNamed r → ((x : A) (s : Seen) → sees s → AreAllowed (make x s).effect) → AreAllowed (serves_own r id make named)
+  serves_own-ok {A} r id make named n ok s seen = by (named s.core)
+    where
+      by : (o : Option A) → AreAllowed (serves_if r id (option_map (λ x. make x s) o))
+      by None = returns-ok r id Status.EOsId None n
+      by (Some x) = serves-ok r id (make x s) n (ok x s seen)

@@ -1,0 +1,6 @@
+pub mod Remarking
+pub mod Answering
+pub mod Serving
+pub mod Kept
+pub mod SeenSame
+pub mod Carrying

@@ -1,0 +1,5 @@
+use Rattle.osstate.proofs.Effecting.{then, unprinted}
+use Rattle.osact.proofs.returning.finish.Goals as goal
+
+pub returns : goal.returns
+returns g c = then (then c.print.ensures.effects c.report.ensures) (unprinted c.complete.ensures.remarks)

@@ -1,0 +1,7 @@
+pub mod Seen
+pub mod Acts
+pub mod Checks
+pub mod Callers
+pub mod Named
+pub mod Returning
+pub mod Service

@@ -1,0 +1,8 @@
+//! What all services share: what they may read and do, how they return, and how they ask another core.
+//!
+//! No function here takes memory. Each asks for room for the entries and marks that it adds.
+#![tactic(auto)]
+
+pub mod returning;
+
+pub use returning::{Answer, accept, ask, finish, is_ok, refuse, report, without_value};

@@ -1,0 +1,128 @@
+//! How a service returns to its caller.
+
+ghost use Rattle.std.specs.Prelude.{◌≡◌, ◌<◌, None, IsTrue, length};
+ghost use Rattle.osbase.specs.declared.statuses.Status.TheVariants.{EOk};
+ghost use Rattle.osbase.specs.declared.turns.TheConstants.{CORES};
+ghost use Rattle.osjobs.specs.Priorities.{is_own_runner};
+ghost use Rattle.osstate.specs.Does.{Effects, HasRoom};
+ghost use Rattle.osact.specs.Acts.{does};
+ghost use Rattle.osact.specs.Checks.{is_ok_status};
+ghost use Rattle.osact.specs.Returning.{asks, reports, returns};
+
+use osbase::{Awaited, CoreId, Mark, Message, OpenCall, RemoteCall, Runner, ServiceId, Status};
+use osstate::CoreState;
+
+/// What a service answers: its status, and with E_OK the value of one that has a value.
+#[derive(Clone, Copy, Debug, PartialEq, Eq)]
+pub struct Answer {
+    pub status: Status,
+    pub value: Option<i64>,
+}
+
+/// What a service answers that has no value.
+pub fn without_value(status: Status) -> Answer
+    ensures { result ≡ record { status = status; value = None } }
+{
+    Answer {
+        status,
+        value: None,
+    }
+}
+
+/// Whether the status is E_OK.
+pub fn is_ok(status: Status) -> bool
+    ensures { result ≡ is_ok_status status }
+{
+    matches!(status, Status::EOk)
+}
+
+/// A status other than E_OK calls ErrorHook (OSEK/VDX OS 2.2.3, section 11.2).
+pub fn report<const P: usize, const J: usize, const OUT: usize>(
+    state: &mut CoreState<'_, P, J, OUT>,
+    status: Status,
+    marks: &mut Vec<Mark>,
+)
+    requires { HasRoom 1 1 state.old marks.old }
+    ensures { Effects 1 1 (does (reports status)) state.old state.new marks.old marks.new }
+{
+    if !is_ok(status) {
+        state.print(Mark::ErrorHook(status), marks);
+    }
+}
+
+/// A service returns to the job of one of the core's tasks: its status is printed, then ErrorHook is
+/// called, and the job stands at its next operation.
+pub fn finish<const P: usize, const J: usize, const OUT: usize>(
+    state: &mut CoreState<'_, P, J, OUT>,
+    runner: Runner,
+    service: ServiceId,
+    answer: Answer,
+    marks: &mut Vec<Mark>,
+)
+    requires own { IsTrue (is_own_runner state.old.view.own runner) }
+    requires room { HasRoom 3 2 state.old marks.old }
+    ensures { Effects 3 2 (does (returns runner service answer.status answer.value)) state.old state.new marks.old marks.new }
+{
+    let mark = Mark::ServiceReturned {
+        runner,
+        service,
+        status: answer.status,
+        value: answer.value,
+    };
+    state.print(mark, marks);
+    report(state, answer.status, marks);
+    state.complete(runner, answer.status, answer.value);
+}
+
+/// A service that is refused returns with this status.
+pub fn refuse<const P: usize, const J: usize, const OUT: usize>(
+    state: &mut CoreState<'_, P, J, OUT>,
+    runner: Runner,
+    service: ServiceId,
+    status: Status,
+    marks: &mut Vec<Mark>,
+)
+    requires own { IsTrue (is_own_runner state.old.view.own runner) }
+    requires room { HasRoom 3 2 state.old marks.old }
+    ensures { Effects 3 2 (does (returns runner service status None)) state.old state.new marks.old marks.new }
+{
+    finish(state, runner, service, without_value(status), marks);
+}
+
+/// A service without a value that has had its effect returns with E_OK.
+pub fn accept<const P: usize, const J: usize, const OUT: usize>(
+    state: &mut CoreState<'_, P, J, OUT>,
+    runner: Runner,
+    service: ServiceId,
+    marks: &mut Vec<Mark>,
+)
+    requires own { IsTrue (is_own_runner state.old.view.own runner) }
+    requires room { HasRoom 3 2 state.old marks.old }
+    ensures { Effects 3 2 (does (returns runner service EOk None)) state.old state.new marks.old marks.new }
+{
+    finish(state, runner, service, without_value(Status::EOk), marks);
+}
+
+/// A service on another core's object: its request joins the outbox, and the call stays open until the
+/// reply comes (AUTOSAR SWS OS 4.x, SWS_Os_00596 and SWS_Os_00602).
+pub fn ask<const P: usize, const J: usize, const OUT: usize>(
+    state: &mut CoreState<'_, P, J, OUT>,
+    runner: Runner,
+    service: ServiceId,
+    core: CoreId,
+    call: RemoteCall,
+    marks: &mut Vec<Mark>,
+)
+    requires own { IsTrue (is_own_runner state.old.view.own runner) }
+    requires receiver { core.number < CORES }
+    requires outbox { length state.old.border.outbox < OUT }
+    requires room { HasRoom 3 1 state.old marks.old }
+    ensures { Effects 3 1 (does (asks runner service core call)) state.old state.new marks.old marks.new }
+{
+    state.print(Mark::CallQueued { core, call }, marks);
+    state.queue(core, Message::Request(call));
+    state.open_call(OpenCall {
+        runner,
+        awaits: Awaited::Reply { service, core },
+    });
+}

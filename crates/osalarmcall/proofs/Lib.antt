@@ -1,0 +1,3 @@
+pub mod Inquired
+pub mod Settings
+pub mod Allowed

@@ -1,0 +1,6 @@
+pub mod Ranges
+pub mod Places
+pub mod Filling
+pub mod Sums
+pub mod Members
+pub mod Changed

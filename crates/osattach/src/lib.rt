@@ -1,0 +1,8 @@
+//! The objects of a core that go by its counters.
+//!
+//! Nothing here takes memory.
+#![tactic(auto)]
+
+pub mod attached;
+
+pub use attached::{Attached, COUNTERS};

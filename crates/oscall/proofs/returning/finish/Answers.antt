@@ -1,5 +1,0 @@
-use Rattle.osstate.proofs.Effecting.{then, unprinted}
-use Rattle.oscall.proofs.returning.finish.Goals as goal
-
-pub returns : goal.returns
-returns g c = then (then c.print.ensures.effects c.report.ensures) (unprinted c.complete.ensures.remarks)

@@ -1,0 +1,276 @@
+//! What belongs to each task and ISR of a core, as one row for each.
+
+ghost use Rattle.std.specs.Prelude.{◌≡◌, ◌==◌, ◌<◌, ◌∷◌, [], drop, false, length, replicate, slice_get};
+ghost use Rattle.osbase.specs.History.{greatest_ceiling, is_waiting};
+ghost use Rattle.oscript.specs.Frames.{action_at, completed, rewound};
+ghost use Rattle.oscript.specs.Runners.{ended, first_row};
+ghost use Rattle.osrunner.specs.Rows.{events_in, frame_in, held_in, is_occupied, row_at, with_row, with_row_at};
+
+use arrayvec::ArrayVec;
+use osbase::{HeldResource, RUNNERS, Runner, Status, TaskEvents};
+use oscript::{Action, Frame, Op};
+use osevent::no_events;
+use osres::{Held, RESOURCES};
+use std::marker::Model;
+
+// What belongs to one task or ISR.
+#[derive(Drop)]
+struct RunnerRow {
+    held: Held,
+    events: TaskEvents,
+    frame: Frame,
+}
+
+impl Model for RunnerRow {
+    ghost use Rattle.oscript.specs.Runners.{Row};
+
+    ghost Value = { Row };
+
+    ghost view = { λ row. record { held = row.held; events = row.events; frame = row.frame } };
+}
+
+impl RunnerRow {
+    // Before the first job.
+    fn new() -> Self
+        ensures { result ≡ first_row }
+    {
+        RunnerRow {
+            held: Held::new(),
+            events: no_events(),
+            frame: Frame::new(),
+        }
+    }
+}
+
+impl Default for RunnerRow {
+    fn default() -> Self {
+        RunnerRow::new()
+    }
+}
+
+/// The rows of a core's tasks and ISRs, by their places. No resource is held twice. A call for a runner that no core has
+/// a place for changes nothing.
+#[derive(Drop)]
+pub struct Rows {
+    rows: ArrayVec<RunnerRow, RUNNERS>,
+    // Whether a job holds the resource, by its index, so that nobody looks through what others hold.
+    occupied: [bool; RESOURCES],
+}
+
+impl Model for Rows {
+    ghost use Rattle.std.specs.Prelude.{List};
+    ghost use Rattle.oscript.specs.Runners.{Row};
+    ghost use Rattle.osrunner.specs.Rows.{IsFlagged};
+
+    ghost Value = { List Row };
+
+    ghost view = { λ r. r.rows.items };
+
+    ghost invariant = { λ r. IsFlagged r.rows.items r.occupied };
+}
+
+impl Rows {
+    /// No runner had a job yet.
+    pub fn new() -> Self
+        ensures { result ≡ replicate RUNNERS first_row }
+    {
+        let mut rows = ArrayVec::new();
+        for _place in 0..RUNNERS {
+            rows.push(RunnerRow::new());
+        }
+        Rows {
+            rows,
+            occupied: [false; RESOURCES],
+        }
+    }
+
+    /// The runner's oldest job takes a resource that is free (OSEK/VDX OS 2.2.3, section 8.2).
+    pub fn raise(&mut self, runner: Runner, resource: HeldResource)
+        requires resource { resource.index < RESOURCES }
+        requires free { is_occupied resource.index self.old ≡ false }
+        ensures { self.new ≡ with_row runner (λ row. record row { held = resource ∷ row.held }) self.old }
+    {
+        let place = runner.slot();
+        if place >= self.rows.len() {
+            return;
+        }
+        raise_at(&mut self.rows, place, resource);
+        self.occupied[usize::from(resource.index)] = true;
+    }
+
+    /// The runner's oldest job gives its newest resource back, if it holds one (OSEK/VDX OS 2.2.3, section 8.2).
+    pub fn lower(&mut self, runner: Runner) -> Option<HeldResource>
+        ensures newest { result ≡ slice_get (held_in runner self.old) 0 }
+        ensures rest { self.new ≡ with_row runner (λ row. record row { held = drop 1 row.held }) self.old }
+    {
+        let resource = lower_at(&mut self.rows, runner.slot())?;
+        self.occupied[usize::from(resource.index)] = false;
+        Some(resource)
+    }
+
+    /// The runner's oldest job has ended: it gives back all that it holds, and the next one begins at the first operation
+    /// (AUTOSAR SWS OS 4.x, SWS_Os_00070, for the resources).
+    pub fn end(&mut self, runner: Runner)
+        ensures { self.new ≡ with_row runner ended self.old }
+    {
+        while !self.is_free(runner) {
+            self.lower(runner);
+        }
+        rewind_at(&mut self.rows, runner.slot());
+    }
+
+    /// The runner's task has these events now (OSEK/VDX OS 2.2.3, section 7).
+    pub fn put_events(&mut self, runner: Runner, events: TaskEvents)
+        ensures { self.new ≡ with_row runner (λ row. record row { events = events }) self.old }
+    {
+        put_events_at(&mut self.rows, runner.slot(), events);
+    }
+
+    /// An operation of the runner's oldest job is done, with this status and value; the script is the runner's.
+    pub fn complete(&mut self, script: &[Op], runner: Runner, status: Status, value: Option<i64>)
+        ensures { self.new ≡ with_row runner (λ row. record row { frame = completed script.now row.frame status value }) self.old }
+    {
+        complete_at(&mut self.rows, runner.slot(), script, status, value);
+    }
+
+    /// Whether a job holds the resource of this index.
+    pub fn is_occupied(&self, index: u8) -> bool
+        requires resource { index < RESOURCES }
+        ensures { result ≡ is_occupied index self.now }
+    {
+        self.occupied[usize::from(index)]
+    }
+
+    /// The newest resource that the runner's oldest job holds, if it holds one.
+    pub fn newest(&self, runner: Runner) -> Option<HeldResource>
+        ensures { result ≡ slice_get (held_in runner self.now) 0 }
+    {
+        let row = self.rows.as_slice().get(runner.slot())?;
+        row.held.newest()
+    }
+
+    /// Whether the runner's oldest job holds none.
+    pub fn is_free(&self, runner: Runner) -> bool
+        ensures { result ≡ (length (held_in runner self.now) == 0) }
+    {
+        match self.rows.as_slice().get(runner.slot()) {
+            Some(row) => row.held.is_empty(),
+            None => true,
+        }
+    }
+
+    /// The greatest ceiling of what the runner's oldest job holds, 0 of none (OSEK/VDX OS 2.2.3, section 8.5).
+    #[inline(always)]
+    pub fn ceiling(&self, runner: Runner) -> u8
+        ensures { result ≡ greatest_ceiling (held_in runner self.now) }
+    {
+        match self.rows.as_slice().get(runner.slot()) {
+            Some(row) => row.held.ceiling(),
+            None => 0,
+        }
+    }
+
+    /// Whether the runner's task waits (OSEK/VDX OS 2.2.3, section 4.2.1).
+    #[inline(always)]
+    pub fn is_waiting(&self, runner: Runner) -> bool
+        ensures { result ≡ is_waiting (events_in runner self.now) }
+    {
+        match self.rows.as_slice().get(runner.slot()) {
+            Some(row) => row.events.awaited.is_some(),
+            None => false,
+        }
+    }
+
+    /// The events of the runner's task (OSEK/VDX OS 2.2.3, section 7).
+    pub fn events(&self, runner: Runner) -> TaskEvents
+        ensures { result ≡ events_in runner self.now }
+    {
+        match self.rows.as_slice().get(runner.slot()) {
+            Some(row) => row.events,
+            None => no_events(),
+        }
+    }
+
+    /// Where the runner's oldest job stands, with the runner's variables.
+    pub fn frame(&self, runner: Runner) -> Frame
+        ensures { result ≡ frame_in runner self.now }
+    {
+        match self.rows.as_slice().get(runner.slot()) {
+            Some(row) => row.frame,
+            None => Frame::new(),
+        }
+    }
+
+    /// What the runner's oldest job does next; the script is the runner's.
+    pub fn next_action(&self, script: &[Op], runner: Runner) -> Action
+        ensures { result ≡ action_at script.now (frame_in runner self.now) }
+    {
+        match self.rows.as_slice().get(runner.slot()) {
+            Some(row) => oscript::next(script, &row.frame),
+            None => oscript::next(script, &Frame::new()),
+        }
+    }
+}
+
+impl Default for Rows {
+    fn default() -> Self {
+        Rows::new()
+    }
+}
+
+fn raise_at(rows: &mut ArrayVec<RunnerRow, RUNNERS>, place: usize, resource: HeldResource)
+    requires place { place < length rows.old.items }
+    requires room { length (row_at place rows.old.items).held < RESOURCES }
+    ensures { rows.new.items ≡ with_row_at place (λ row. record row { held = resource ∷ row.held }) rows.old.items }
+{
+    let row = &mut rows.as_mut_slice()[place];
+    row.held.raise(resource);
+}
+
+fn lower_at(rows: &mut ArrayVec<RunnerRow, RUNNERS>, place: usize) -> Option<HeldResource>
+    ensures newest { result ≡ slice_get (row_at place rows.old.items).held 0 }
+    ensures rest { rows.new.items ≡ with_row_at place (λ row. record row { held = drop 1 row.held }) rows.old.items }
+{
+    let rows = rows.as_mut_slice();
+    if place >= rows.len() {
+        return None;
+    }
+    let row = &mut rows[place];
+    row.held.lower()
+}
+
+fn rewind_at(rows: &mut ArrayVec<RunnerRow, RUNNERS>, place: usize)
+    ensures { rows.new.items ≡ with_row_at place (λ row. record row { frame = rewound row.frame }) rows.old.items }
+{
+    let rows = rows.as_mut_slice();
+    if place < rows.len() {
+        let row = &mut rows[place];
+        row.frame.rewind();
+    }
+}
+
+fn put_events_at(rows: &mut ArrayVec<RunnerRow, RUNNERS>, place: usize, events: TaskEvents)
+    ensures { rows.new.items ≡ with_row_at place (λ row. record row { events = events }) rows.old.items }
+{
+    let rows = rows.as_mut_slice();
+    if place < rows.len() {
+        let row = &mut rows[place];
+        row.events = events;
+    }
+}
+
+fn complete_at(
+    rows: &mut ArrayVec<RunnerRow, RUNNERS>,
+    place: usize,
+    script: &[Op],
+    status: Status,
+    value: Option<i64>,
+)
+    ensures { rows.new.items ≡ with_row_at place (λ row. record row { frame = completed script.now row.frame status value }) rows.old.items }
+{
+    let rows = rows.as_mut_slice();
+    if place < rows.len() {
+        let row = &mut rows[place];
+        oscript::complete(script, &mut row.frame, status, value);
+    }
+}

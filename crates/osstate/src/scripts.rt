@@ -1,0 +1,25 @@
+//! The scripts of a core's tasks and ISRs.
+
+ghost use Rattle.std.specs.Prelude.{◌≡◌};
+ghost use Rattle.osstate.specs.Readings.{script_of};
+
+use osbase::Runner;
+use oscript::Op;
+use osplan::Core;
+use osplan::own::{isr_of, task_of};
+
+/// The script of one of the core's tasks or ISRs; no operation of another runner.
+pub(crate) fn script_of(core: &Core, runner: Runner) -> &[Op]
+    ensures { result.now ≡ script_of core.now runner }
+{
+    match runner {
+        Runner::Task(task) => match task_of(core, task) {
+            Some(own) => own.script.as_slice(),
+            None => &[],
+        },
+        Runner::Isr(isr) => match isr_of(core, isr) {
+            Some(own) => own.script.as_slice(),
+            None => &[],
+        },
+    }
+}

@@ -1,0 +1,5 @@
+use Rattle.osstate.proofs.Effecting.{then, unprinted}
+use Rattle.ostaskcall.proofs.events.begin_to_wait.Goals as goal
+
+pub returns-in-Task : goal.returns-in-Task
+returns-in-Task g c = rw c.in-Task.is (then (then c.leave.ensures.effects c.wait.ensures.effects) (unprinted c.complete.ensures.remarks))

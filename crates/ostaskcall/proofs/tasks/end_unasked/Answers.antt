@@ -1,0 +1,11 @@
+use Rattle.std.proofs.Common.{refl, lit≤}
+use Rattle.osstate.proofs.Effecting.{as_effect, then}
+use Rattle.osact.specs.Acts.{does}
+use Rattle.ostaskcall.specs.Tasks.{ends}
+use Rattle.ostaskcall.proofs.tasks.end_unasked.Goals as goal
+
+pub returns-in-Task : goal.returns-in-Task
+returns-in-Task g c = rw c.in-Task.is (then c.print.ensures.effects c.end_task.ensures.effects)
+
+pub returns-in-Isr : goal.returns-in-Isr
+returns-in-Isr g c = as_effect {f = does (ends c.args.runner)} (λ v h stands. rw c.in-Isr.is refl) (lit≤ tt) (lit≤ tt) c.end.ensures

@@ -1,0 +1,46 @@
+-- The services of tasks.
+use Rattle.std.specs.Prelude.{None, List, [], ◌∷◌}
+use Rattle.osbase.specs.declared.statuses.Status.TheVariants.{EOk, EOsLimit, EOsMissingend}
+use Rattle.osbase.specs.declared.statuses.ServiceId.TheVariants as ServiceId
+use Rattle.osbase.specs.declared.references.TaskRef.{TaskRef}
+use Rattle.osbase.specs.declared.references.Runner.{Runner}
+use Rattle.osbase.specs.declared.marks.Mark.TheVariants as Mark
+use Rattle.osact.specs.Acts.{Acts, both, look, prints}
+use Rattle.osact.specs.Callers.{by_task, holding_checks}
+use Rattle.osact.specs.Checks.{Check}
+use Rattle.osact.specs.Returning.{answers, returns}
+use Rattle.osact.specs.Seen.{Seen, is_at_limit}
+use Rattle.osact.specs.Service.{Service, without_value}
+
+-- A job of the task begins. [OSEK/VDX OS 2.2.3, section 4.3]
+abbrev pub activates : TaskRef → Acts
+activates t = prints (Mark.Activated t)
+
+-- A task is activated where it stands: no more jobs than allowed. [OSEK/VDX OS 2.2.3, section 13.2.3.1]
+abbrev pub activation : TaskRef → Seen → Service
+activation t s = without_value ((is_at_limit s t, EOsLimit) ∷ []) (activates t)
+
+-- The runner's oldest job ends by its own act: PostTaskHook comes first. [OSEK/VDX OS 2.2.3, section 11.5]
+abbrev pub ends : Runner → Acts
+ends (Runner.Task t) = both (prints (Mark.PostTaskHook t)) (prints (Mark.Terminated t))
+ends (Runner.Isr i) = prints (Mark.IsrLeft i)
+
+-- A job that comes to the end of its script: a task is ended by the OS with E_OS_MISSINGEND.
+-- [AUTOSAR SWS OS 4.x, SWS_Os_00069, SWS_Os_00052]
+abbrev pub ends_unasked : Runner → Acts
+ends_unasked (Runner.Task t) = both (prints (Mark.ErrorHook EOsMissingend)) (ends (Runner.Task t))
+ends_unasked (Runner.Isr i) = ends (Runner.Isr i)
+
+-- What TerminateTask and Schedule check: that a task calls, then that its job holds no resource.
+-- [OSEK/VDX OS 2.2.3, section 8.2, 13.2.3.2 and 13.2.3.4]
+abbrev pub task_checks : Seen → Runner → List Check
+task_checks s r = by_task r ∷ holding_checks s r
+
+-- A job ends itself. [OSEK/VDX OS 2.2.3, section 13.2.3.2]
+abbrev pub terminates : Runner → Acts
+terminates r = look (λ s. answers r ServiceId.TerminateTask (task_checks s r) (ends r))
+
+-- Schedule answers E_OK, and by that line its caller gives way within this item. It tells only where the caller's task cannot
+-- be preempted. [OSEK/VDX OS 2.2.3, section 13.2.3.4]
+abbrev pub schedules : Runner → Acts
+schedules r = look (λ s. answers r ServiceId.Schedule (task_checks s r) (returns r ServiceId.Schedule EOk None))

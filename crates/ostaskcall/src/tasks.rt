@@ -1,0 +1,162 @@
+//! The services of tasks.
+
+ghost use Rattle.std.specs.Prelude.{◌≡◌, ◌<◌, IsTrue, false};
+ghost use Rattle.osbase.specs.History.{job_count, without_oldest};
+ghost use Rattle.osbase.specs.Phases.{is_before_live};
+ghost use Rattle.osjobs.specs.Priorities.{is_own_runner};
+ghost use Rattle.osstate.specs.Does.{Effects, HasRoom, Reads};
+ghost use Rattle.osstate.specs.Sound.{activation_limit};
+ghost use Rattle.osact.specs.Acts.{does};
+ghost use Rattle.osact.specs.Checks.{first_failing, is_ok_status};
+ghost use Rattle.osact.specs.Callers.{holding_checks};
+ghost use Rattle.osact.specs.Seen.{seen_of};
+ghost use Rattle.osact.specs.Service.{answers_with, carries_out};
+ghost use Rattle.ostaskcall.specs.Tasks.{activation, ends, ends_unasked, schedules, task_checks, terminates};
+
+use osact::{Answer, finish, is_ok, refuse, without_value};
+use osbase::{Mark, Runner, ServiceId, Status, TaskRef};
+use osstate::CoreState;
+
+/// A task is activated where it stands, which is where the number of its live jobs is known
+/// (OSEK/VDX OS 2.2.3, section 13.2.3.1). A task with as many jobs as it may have answers E_OS_LIMIT, and
+/// nothing is activated.
+pub fn activate<const P: usize, const J: usize, const OUT: usize>(
+    state: &mut CoreState<'_, P, J, OUT>,
+    task: TaskRef,
+    marks: &mut Vec<Mark>,
+) -> Answer
+    requires own { IsTrue (is_own_runner state.old.view.own (Runner.Task task)) }
+    requires live { is_before_live state.old.progress.phase ≡ false }
+    requires room { HasRoom 1 1 state.old marks.old }
+    ensures answer { Reads (answers_with (activation task)) state.old result }
+    ensures effects { Effects 1 1 (does (carries_out (activation task))) state.old state.new marks.old marks.new }
+    ensures refused { is_ok_status result.status ≡ false → Effects 0 0 (does (carries_out (activation task))) state.old state.new marks.old marks.new }
+    ensures border { state.new.border ≡ state.old.border }
+{
+    if state.is_at_limit(task) {
+        return without_value(Status::EOsLimit);
+    }
+    state.activate(task, marks);
+    without_value(Status::EOk)
+}
+
+/// The oldest job of one of the core's tasks ends by its own act: PostTaskHook comes first
+/// (OSEK/VDX OS 2.2.3, section 11.5). So the task has fewer jobs than it may have.
+pub fn end_task<const P: usize, const J: usize, const OUT: usize>(
+    state: &mut CoreState<'_, P, J, OUT>,
+    task: TaskRef,
+    marks: &mut Vec<Mark>,
+)
+    requires own { IsTrue (is_own_runner state.old.view.own (Runner.Task task)) }
+    requires room { HasRoom 2 2 state.old marks.old }
+    ensures effects { Effects 2 2 (does (ends (Runner.Task task))) state.old state.new marks.old marks.new }
+    ensures jobs { state.new.tasks.jobs ≡ without_oldest (Runner.Task task) state.old.tasks.jobs }
+    ensures below { job_count (Runner.Task task) state.new.tasks.jobs < activation_limit state.new.view.own (Runner.Task task) }
+{
+    state.leave(task, marks);
+    state.terminate(task, marks);
+}
+
+/// The oldest job of one of the core's tasks or ISRs ends by its own act.
+pub fn end<const P: usize, const J: usize, const OUT: usize>(
+    state: &mut CoreState<'_, P, J, OUT>,
+    runner: Runner,
+    marks: &mut Vec<Mark>,
+)
+    requires own { IsTrue (is_own_runner state.old.view.own runner) }
+    requires room { HasRoom 2 2 state.old marks.old }
+    ensures { Effects 2 2 (does (ends runner)) state.old state.new marks.old marks.new }
+{
+    match runner {
+        Runner::Task(task) => end_task(state, task, marks),
+        Runner::Isr(isr) => state.leave_isr(isr, marks),
+    }
+}
+
+/// A job of one of the core's tasks or ISRs that comes to the end of its script. A task's is ended by the OS with
+/// E_OS_MISSINGEND (AUTOSAR SWS OS 4.x, SWS_Os_00052 and SWS_Os_00069).
+pub fn end_unasked<const P: usize, const J: usize, const OUT: usize>(
+    state: &mut CoreState<'_, P, J, OUT>,
+    runner: Runner,
+    marks: &mut Vec<Mark>,
+)
+    requires own { IsTrue (is_own_runner state.old.view.own runner) }
+    requires room { HasRoom 3 3 state.old marks.old }
+    ensures { Effects 3 3 (does (ends_unasked runner)) state.old state.new marks.old marks.new }
+{
+    match runner {
+        Runner::Task(task) => {
+            state.print(Mark::ErrorHook(Status::EOsMissingend), marks);
+            end_task(state, task, marks);
+        }
+        Runner::Isr(_) => end(state, runner, marks),
+    }
+}
+
+/// The first check that fails of what a job may not hold that ends itself, waits or gives way: a resource (OSEK/VDX OS
+/// 2.2.3, section 8.2).
+pub fn status_of_holding<const P: usize, const J: usize, const OUT: usize>(
+    state: &CoreState<'_, P, J, OUT>,
+    runner: Runner,
+) -> Status
+    requires own { IsTrue (is_own_runner state.now.view.own runner) }
+    ensures { Reads (λ v h. first_failing (holding_checks (seen_of v h) runner)) state.now result }
+{
+    if state.holds_resource(runner) {
+        Status::EOsResource
+    } else {
+        Status::EOk
+    }
+}
+
+// The first check that fails of those that a job makes which ends itself or gives way.
+fn status_of_task<const P: usize, const J: usize, const OUT: usize>(
+    state: &CoreState<'_, P, J, OUT>,
+    runner: Runner,
+) -> Status
+    requires own { IsTrue (is_own_runner state.now.view.own runner) }
+    ensures { Reads (λ v h. first_failing (task_checks (seen_of v h) runner)) state.now result }
+{
+    match runner {
+        Runner::Task(_) => status_of_holding(state, runner),
+        Runner::Isr(_) => Status::EOsCallevel,
+    }
+}
+
+/// A running job of one of the core's tasks ends itself (OSEK/VDX OS 2.2.3, section 13.2.3.2). One that holds a
+/// resource answers E_OS_RESOURCE and goes on.
+pub fn terminate<const P: usize, const J: usize, const OUT: usize>(
+    state: &mut CoreState<'_, P, J, OUT>,
+    runner: Runner,
+    marks: &mut Vec<Mark>,
+)
+    requires own { IsTrue (is_own_runner state.old.view.own runner) }
+    requires room { HasRoom 3 2 state.old marks.old }
+    ensures { Effects 3 2 (does (terminates runner)) state.old state.new marks.old marks.new }
+{
+    let status = status_of_task(state, runner);
+    if is_ok(status) {
+        end(state, runner, marks);
+    } else {
+        refuse(state, runner, ServiceId::TerminateTask, status, marks);
+    }
+}
+
+/// A running job of one of the core's tasks lets a job of greater priority run, also where its task cannot
+/// be preempted (OSEK/VDX OS 2.2.3, section 13.2.3.4). One that holds a resource answers E_OS_RESOURCE and does not
+/// give way.
+pub fn schedule<const P: usize, const J: usize, const OUT: usize>(
+    state: &mut CoreState<'_, P, J, OUT>,
+    runner: Runner,
+    marks: &mut Vec<Mark>,
+)
+    requires own { IsTrue (is_own_runner state.old.view.own runner) }
+    requires room { HasRoom 3 2 state.old marks.old }
+    ensures { Effects 3 2 (does (schedules runner)) state.old state.new marks.old marks.new }
+{
+    let answer = Answer {
+        status: status_of_task(state, runner),
+        value: None,
+    };
+    finish(state, runner, ServiceId::Schedule, answer, marks);
+}
