@@ -61,7 +61,7 @@ abbrev pub alarm_of : CounterRef → AlarmRef → History → Option AlarmSettin
 alarm_of c a [] = None
 alarm_of c a (e ∷ h) = alarm_after c a e (alarm_of c a h)
 
--- What SetRelAlarm and SetAbsAlarm grant, and what is set at the start: the first count within a turn of the counter, and the cycle
+-- What a setting of an alarm grants, and what is set at the start: the first count within a turn of the counter, and the cycle
 -- within its values. Nothing else is ever set. [OSEK/VDX OS 2.2.3, section 13.6.3.3 and 13.6.3.4]
 abbrev pub is_in_turn : ℕ → AlarmSetting → Bool
 is_in_turn max setting = nat_lt 0 setting.first && nat_le setting.first (suc max) && nat_le setting.cycle max

@@ -1,7 +1,7 @@
 -- Operations and the calls that they make, there and back.
+use native.Mathlib.Omega.{arith}
 use Rattle.std.proofs.Common.{◌≡◌, true, Some, None, option_and_then, [], ◌∷◌, refl, ap, ◌∙◌}
 use Rattle.osbase.specs.declared.messages.RemoteCall.{RemoteCall}
-use Rattle.osbase.specs.declared.messages.RemoteCall.TheVariants as Call
 use Rattle.osbase.specs.Objects.{object_of_call}
 use Rattle.oscript.specs.declared.Op.{Op}
 use Rattle.oscript.specs.Calls.{action_of_op, if_action, is_action, named_call, op_of_call}
@@ -9,13 +9,11 @@ use Rattle.oscript.specs.Rows.{objects_of}
 
 -- The operation of a call names the call's object and no other.
 pub call-objects : (call : RemoteCall) → objects_of (op_of_call call) ≡ object_of_call call ∷ []
-call-objects (Call.ActivateTask t) = refl
-call-objects call = refl
+call-objects call = grind arith
 
 -- The table gives a call back.
 pub call-back : (call : RemoteCall) → named_call (op_of_call call) ≡ Some call
-call-back (Call.ActivateTask t) = refl
-call-back call = refl
+call-back call = grind arith
 
 -- So it does with an action.
 pub action-back : (call : RemoteCall) → is_action call ≡ true → action_of_op (op_of_call call) ≡ Some call
@@ -23,13 +21,7 @@ action-back call is = ap (option_and_then if_action) (call-back call) ∙ rw is 
 
 -- An operation that calls for an object names that object and no other.
 pub called-object : (op : Op) (call : RemoteCall) → named_call op ≡ Some call → objects_of op ≡ object_of_call call ∷ []
-called-object (Op.ActivateTask (Some t)) call e = let same : Call.ActivateTask t ≡ call = cc in rw (← same) refl
-called-object (Op.SetEvent (Some t) mask) call e = let same : Call.SetEvent t mask ≡ call = cc in rw (← same) refl
-called-object (Op.SetRelAlarm (Some a) increment cycle) call e = let same : Call.SetRelAlarm a increment cycle ≡ call = cc in rw (← same) refl
-called-object (Op.SetAbsAlarm (Some a) start cycle) call e = let same : Call.SetAbsAlarm a start cycle ≡ call = cc in rw (← same) refl
-called-object (Op.CancelAlarm (Some a)) call e = let same : Call.CancelAlarm a ≡ call = cc in rw (← same) refl
-called-object (Op.GetAlarm (Some a) x) call e = let same : Call.GetAlarm a x ≡ call = cc in rw (← same) refl
-called-object op call e = cc
+called-object op call e = grind arith
 
 -- An operation that is an action is the one that a script has for that action.
 pub record IsActionOf (op : Op) (call : RemoteCall) : Type 0 where
@@ -37,16 +29,4 @@ pub record IsActionOf (op : Op) (call : RemoteCall) : Type 0 where
   pub acts : is_action call ≡ true
 
 pub action-is : (op : Op) (call : RemoteCall) → action_of_op op ≡ Some call → IsActionOf op call
-action-is (Op.ActivateTask (Some t)) call e = let same : Call.ActivateTask t ≡ call = cc in rw (← same) (record { written = refl; acts = refl })
-action-is (Op.SetEvent (Some t) mask) call e = let same : Call.SetEvent t mask ≡ call = cc in rw (← same) (record { written = refl; acts = refl })
-action-is (Op.ActivateTask None) call e = cc
-action-is (Op.SetEvent None mask) call e = cc
-action-is (Op.SetRelAlarm (Some a) increment cycle) call e = cc
-action-is (Op.SetRelAlarm None increment cycle) call e = cc
-action-is (Op.SetAbsAlarm (Some a) start cycle) call e = cc
-action-is (Op.SetAbsAlarm None start cycle) call e = cc
-action-is (Op.CancelAlarm (Some a)) call e = cc
-action-is (Op.CancelAlarm None) call e = cc
-action-is (Op.GetAlarm (Some a) x) call e = cc
-action-is (Op.GetAlarm None x) call e = cc
-action-is op call e = cc
+action-is op call e = record { written = grind arith; acts = grind arith }

@@ -1,6 +1,7 @@
 -- The operations that call a service for an object of any core, beside the calls that cross between cores. This table is the one place
 -- where both are known together. And which calls an alarm or a schedule table may make.
 use Rattle.std.specs.Prelude.{Bool, true, false, if◌then◌else◌, Option, Some, None, option_and_then, option_map}
+use Rattle.osbase.specs.Objects.{place_on, task_of}
 use Rattle.osbase.specs.declared.messages.RemoteCall.{RemoteCall}
 use Rattle.osbase.specs.declared.messages.RemoteCall.TheVariants as Call
 use Rattle.osbase.specs.declared.references.AlarmRef.{AlarmRef}
@@ -35,6 +36,15 @@ abbrev pub is_action : RemoteCall → Bool
 is_action (Call.ActivateTask t) = true
 is_action (Call.SetEvent t mask) = true
 is_action call = false
+
+-- Of these actions the one that activates a task. The others set events.
+abbrev pub is_activation : RemoteCall → Bool
+is_activation (Call.ActivateTask t) = true
+is_activation call = false
+
+-- An action like any other. It stands where none is meant, and is never done. [own]
+abbrev pub any_action : RemoteCall
+any_action = Call.ActivateTask (task_of (place_on (record { number = 0 }) 0))
 
 -- The call of an operation that names its object.
 abbrev pub named_call : Op → Option RemoteCall

@@ -1,7 +1,7 @@
 //! Operations beside the calls that cross between cores.
 
 ghost use Rattle.std.specs.Prelude.{◌≡◌, Some};
-ghost use Rattle.oscript.specs.Calls.{action_of_op, call_of_op, is_action, named_call, op_of_call};
+ghost use Rattle.oscript.specs.Calls.{action_of_op, call_of_op, is_action, is_activation, named_call, op_of_call};
 
 use crate::Op;
 use osbase::{RemoteCall, ServiceId};
@@ -81,6 +81,14 @@ pub fn is_action(call: RemoteCall) -> bool
         call,
         RemoteCall::ActivateTask(_) | RemoteCall::SetEvent { .. }
     )
+}
+
+/// Whether an action activates a task. The other actions set events (AUTOSAR SWS OS 4.x, OsAlarmAction and
+/// OsScheduleTableExpiryPoint).
+pub fn is_activation(call: RemoteCall) -> bool
+    ensures { result ≡ is_activation call }
+{
+    matches!(call, RemoteCall::ActivateTask(_))
 }
 
 /// The action that an operation is, if it is one: its call, where an alarm may make that.

@@ -7,7 +7,7 @@ pub mod rows;
 ghost use Rattle.std.specs.Prelude.{◌≡◌, ◌<◌, ◌^◌};
 ghost use Rattle.oscript.specs.Frames.{action_at, completed, new_frame, op_has_status, place_after, position_of, result_of, rewound, stored, value_of, with_value};
 
-pub use calls::{action_of_op, call_of_op, is_action, op_of_call};
+pub use calls::{action_of_op, call_of_op, is_action, is_activation, op_of_call};
 use osbase::{AlarmRef, CounterRef, List, ResourceRef, Status, TableRef, TaskRef, Variable};
 pub use rows::{Arg, Args, Form, Kind, Row, VERBS, Verb, form_of_op, op_of, row_of, verb_of};
 
