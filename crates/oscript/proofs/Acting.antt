@@ -1,6 +1,7 @@
--- Operations and the calls that they make, there and back.
+-- Operations and the calls that they make, there and back. The check makes a case of each operation and each call, so a new one needs no
+-- line here; where a clause for Op.Work stands, it is only there to make these cases.
 use native.Mathlib.Omega.{arith}
-use Rattle.std.proofs.Common.{◌≡◌, true, Some, None, option_and_then, [], ◌∷◌, refl, ap, ◌∙◌}
+use Rattle.std.proofs.Common.{◌≡◌, true, Some, option_and_then, [], ◌∷◌, refl, ap, ◌∙◌}
 use Rattle.osbase.specs.declared.messages.RemoteCall.{RemoteCall}
 use Rattle.osbase.specs.Objects.{object_of_call}
 use Rattle.oscript.specs.declared.Op.{Op}
@@ -21,6 +22,7 @@ action-back call is = ap (option_and_then if_action) (call-back call) ∙ rw is 
 
 -- An operation that calls for an object names that object and no other.
 pub called-object : (op : Op) (call : RemoteCall) → named_call op ≡ Some call → objects_of op ≡ object_of_call call ∷ []
+called-object Op.Work call e = cc
 called-object op call e = grind arith
 
 -- An operation that is an action is the one that a script has for that action.
@@ -29,4 +31,5 @@ pub record IsActionOf (op : Op) (call : RemoteCall) : Type 0 where
   pub acts : is_action call ≡ true
 
 pub action-is : (op : Op) (call : RemoteCall) → action_of_op op ≡ Some call → IsActionOf op call
+action-is Op.Work call e = cc
 action-is op call e = record { written = grind arith; acts = grind arith }

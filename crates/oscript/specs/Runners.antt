@@ -2,7 +2,7 @@
 --
 -- Of a runner's live jobs the oldest alone holds anything and has begun, so a runner has one row. A new reading of a runner is one
 -- more field, and a line for each entry that changes it.
-use Rattle.std.specs.Prelude.{Bool, if◌then◌else◌, Option, Some, None, List, [], ◌∷◌}
+use Rattle.std.specs.Prelude.{if◌then◌else◌, Option, Some, None, List, [], ◌∷◌}
 use Rattle.osbase.specs.declared.references.Runner.{Runner}
 use Rattle.osbase.specs.declared.histories.HeldResource.{HeldResource}
 use Rattle.osbase.specs.declared.histories.TaskEvents.{TaskEvents}

@@ -1,15 +1,18 @@
 -- An operation's text is an action's exactly where the operation is one.
-use Rattle.std.proofs.Common.{◌≡◌, ℕ, ◌&&◌, Bool, true, false, Option, Some, None, is_some, List, [], ◌∷◌, refl, sym, ap, ◌∙◌}
+use native.Mathlib.Omega.{arith}
+use Rattle.std.proofs.Common.{◌≡◌, ℕ, ◌&&◌, Bool, true, false, Option, Some, None, is_some, List, [], ◌∷◌, map, refl, sym, ap, ◌∙◌}
 use Rattle.std.specs.List.{list_all}
 use Rattle.std.specs.Option.{option_map_or}
 use Rattle.std.proofs.lemmas.Bool.{true≢false}
 use Rattle.osbase.specs.declared.objects.ObjectKind.{ObjectKind}
 use Rattle.osbase.specs.declared.objects.Place.{Place}
+use Rattle.osbase.specs.Objects.{place_on}
 use Rattle.oscript.specs.declared.Op.{Op}
 use Rattle.oscript.specs.declared.rows.Arg.{Arg}
 use Rattle.oscript.specs.declared.rows.Arg.TheVariants.{Object, Mask, Number, Int, Variable}
+use Rattle.oscript.specs.declared.rows.Kind.{Kind}
 use Rattle.oscript.specs.declared.rows.Verb.{Verb}
-use Rattle.oscript.specs.Rows.{form_of_op}
+use Rattle.oscript.specs.Rows.{form_of_op, kinds_of, op_of}
 use Rattle.osforms.specs.Action.{is_action, is_action_op}
 use Rattle.osforms.specs.Form.{form_of}
 use Rattle.osforms.specs.Operation.{op_meant, place_of_any, resolve_arg, resolve_args}
@@ -18,11 +21,14 @@ use Rattle.osforms.proofs.Meant.{any_meant}
 use Rattle.osforms.proofs.Operations.{meant-form}
 use Rattle.osforms.proofs.RoundTrip.{both}
 
--- An operation is an action by its verb and where its object has a name, as is seen before the name is looked up.
+-- An operation is an action by its verb, whatever its object and its other arguments are, and where that object has a name, as is
+-- seen before the name is looked up.
+abbrev any_arg : Kind → Arg Place
+any_arg (Kind.Object kind) = Object kind (Some (place_on (record { number = 0 }) 0))
+any_arg kind = Number 0
+
 abbrev is_action_verb : Verb → Bool
-is_action_verb Verb.ActivateTask = true
-is_action_verb Verb.SetEvent = true
-is_action_verb verb = false
+is_action_verb verb = is_action_op (op_of (verb, map any_arg (kinds_of verb)))
 
 abbrev is_named : {R : Type 0} → Arg R → Bool
 is_named (Object kind None) = false
@@ -32,19 +38,7 @@ abbrev is_action_form : {R : Type 0} → Verb × List (Arg R) → Bool
 is_action_form form = is_action_verb form.0 && list_all is_named form.1
 
 action-form : (op : Op) → is_action_op op ≡ is_action_form (form_of_op op)
-action-form (Op.ActivateTask (Some t)) = refl
-action-form (Op.ActivateTask None) = refl
-action-form (Op.SetEvent (Some t) mask) = refl
-action-form (Op.SetEvent None mask) = refl
-action-form (Op.SetRelAlarm (Some a) increment cycle) = refl
-action-form (Op.SetRelAlarm None increment cycle) = refl
-action-form (Op.SetAbsAlarm (Some a) start cycle) = refl
-action-form (Op.SetAbsAlarm None start cycle) = refl
-action-form (Op.CancelAlarm (Some a)) = refl
-action-form (Op.CancelAlarm None) = refl
-action-form (Op.GetAlarm (Some a) x) = refl
-action-form (Op.GetAlarm None x) = refl
-action-form op = refl
+action-form op = grind arith
 
 module _ (place : ObjectKind → List ℕ → Option Place) where
   arg-named : (shown : Arg (List ℕ)) (arg : Arg Place) → resolve_arg place shown ≡ Some arg → is_named arg ≡ is_named shown
