@@ -4,3 +4,4 @@ pub mod Filling
 pub mod Sums
 pub mod Members
 pub mod Changed
+pub mod Own

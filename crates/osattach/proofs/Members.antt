@@ -1,10 +1,10 @@
 -- What holds of the objects that go by a counter.
-use Rattle.std.proofs.Common.{◌≡◌, ℕ, ◌<◌, ◌≤◌, ◌+◌, Bool, true, false, cond, All, Option, Some, None, filter, List, [], ◌∷◌, ◌++◌, length, replicate, take, sum_by, get_or, refl, ap, sym, ◌∙◌, arith}
+use Rattle.std.proofs.Common.{◌≡◌, ℕ, zero, suc, ◌≤◌, ◌+◌, Bool, true, false, cond, All, Option, Some, None, filter, List, [], ◌∷◌, ◌++◌, length, replicate, map, sum_by, get_or, refl, ap, sym, ◌∙◌, arith, length-append}
 use Rattle.std.specs.List.{list_all, slice_set}
 use Rattle.std.specs.Option.{option_map_or}
 use Rattle.std.proofs.lemmas.Bool.{and_from, false_from_ne_true, false≢true}
 use Rattle.std.proofs.lemmas.List.Elements.{All-weaker, filter-append, filter_passes}
-use Rattle.std.proofs.lemmas.List.{length-take, take_all}
+use Rattle.std.proofs.lemmas.List.{append-nil}
 use Rattle.std.proofs.lemmas.List.Sums.{sum_by-le-sum_by}
 use Rattle.osbase.specs.declared.references.CounterRef.{CounterRef}
 use Rattle.osbase.specs.Counting.{same_counter}
@@ -12,10 +12,9 @@ use Rattle.osbase.specs.Sets.{numbers_from}
 use Rattle.osbase.proofs.Same.{same_counter-refl, same_counter-true}
 use Rattle.osbase.proofs.Tables.{table-at, table-set}
 use Rattle.osplan.specs.declared.plans.Core.{Core}
-use Rattle.osplan.proofs.Tests.{length-filter-le}
-use Rattle.osattach.specs.Attached.{Family, counter_ref, each_by, goes_by, refs_of, those_by}
+use Rattle.osattach.specs.Attached.{Family, IsMember, counter_ref, each_by, firsts_by, goes_by, refs_of, those_by}
 use Rattle.osattach.proofs.Places.{CounterPlace}
-use Rattle.osattach.proofs.Ranges.{length-table, repeated, table-more}
+use Rattle.osattach.proofs.Ranges.{repeated, table-more}
 use Rattle.osattach.proofs.Sums.{at-most-once, sum-across, sum-kept}
 
 -- ---- one object
@@ -67,59 +66,52 @@ kept-passes q t (x ∷ xs) each = by (q x) refl (kept-passes q t xs each)
 
 -- ---- the lists of them, object by object
 
--- an object of the core, by its index
-pub record Next {R X : Type 0} (core : Core) (f : Family R X) (n : ℕ) (x : X) : Type 0 where
-  pub inside : n < f.count
-  pub here : f.own (f.ref n) ≡ Some x
-  pub place : CounterPlace core (f.counter x)
+module _ {R : Type 0} (core : Core) (goes : CounterRef → R → Bool) (ref : ℕ → R) where
+  abbrev firsts : ℕ → List (List R)
+  firsts n = firsts_by core goes ref n
 
-module _ {R X : Type 0} (core : Core) (f : Family R X) where
-  -- those of the first objects
-  abbrev pub first_by : ℕ → List (List R)
-  first_by n = each_by core f (take n (refs_of f))
+  pub firsts-none : (count : ℕ) → count ≡ length core.counters → replicate count [] ≡ firsts 0
+  firsts-none count is = ap (λ n. replicate n []) is ∙ repeated [] (λ (k : ℕ). filter (goes (counter_ref core k)) []) 0 (length core.counters) (λ k. refl)
 
-  pub first-none : (count : ℕ) → count ≡ length core.counters → replicate count [] ≡ first_by 0
-  first-none count is = ap (λ n. replicate n []) is ∙ repeated [] (λ (k : ℕ). filter (goes_by f (counter_ref core k)) (take 0 (refs_of f))) 0 (length core.counters) (λ k. refl)
-
-  pub first-all : (n : ℕ) → n ≡ f.count → first_by n ≡ each_by core f (refs_of f)
-  first-all n is = ap (each_by core f) (take_all n (refs_of f) (omega (arith, is, length-table f.ref f.count)))
-
-  kept-more : (c : CounterRef) (n : ℕ) (b : Bool) → n < f.count → goes_by f c (f.ref n) ≡ b → filter (goes_by f c) (take (n + 1) (refs_of f)) ≡ filter (goes_by f c) (take n (refs_of f)) ++ cond b (f.ref n ∷ []) []
-  kept-more c n b inside is =
-      ap (filter (goes_by f c)) (table-more f.ref f.count n inside)
-      ∙ filter-append (goes_by f c) (take n (refs_of f)) (f.ref n ∷ [])
-      ∙ ap (λ d. filter (goes_by f c) (take n (refs_of f)) ++ cond d (f.ref n ∷ []) []) is
+  kept-more : (c : CounterRef) (n : ℕ) (b : Bool) → goes c (ref n) ≡ b → filter (goes c) (map ref (numbers_from 0 (n + 1))) ≡ filter (goes c) (map ref (numbers_from 0 n)) ++ cond b (ref n ∷ []) []
+  kept-more c n b is =
+      ap (filter (goes c)) (table-more ref n)
+      ∙ filter-append (goes c) (map ref (numbers_from 0 n)) (ref n ∷ [])
+      ∙ ap (λ d. filter (goes c) (map ref (numbers_from 0 n)) ++ cond d (ref n ∷ []) []) is
 
   -- the next object, which goes by a counter of the core
-  module _ (n : ℕ) (x : X) (next : Next core f n x) where
-    goes : (c : CounterRef) → goes_by f c (f.ref n) ≡ same_counter c (f.counter x)
-    goes c = ap (λ (o : Option X). option_map_or (λ (y : X). same_counter c (f.counter y)) o false) next.here
+  pub firsts-more : (n : ℕ) (counter : CounterRef) (r : R) → IsMember goes ref n counter r → CounterPlace core counter → slice_set (firsts n) counter.index (get_or (firsts n) counter.index [] ++ r ∷ []) ≡ firsts (n + 1)
+  firsts-more n counter r next place =
+      ap (λ (l : List R). slice_set (firsts n) counter.index (l ++ r ∷ [])) (table-at list 0 (length core.counters) counter.index counter.index [] (omega arith) place.inside)
+      ∙ ap (λ (x : R). slice_set (firsts n) counter.index (list counter.index ++ x ∷ [])) next.here
+      ∙ ap (slice_set (firsts n) counter.index) (sym (kept-more (counter_ref core counter.index) n true (next.by (counter_ref core counter.index) ∙ ap (λ (c : CounterRef). same_counter c counter) (sym place.ref) ∙ same_counter-refl counter)))
+      ∙ table-set list (λ (k : ℕ). filter (goes (counter_ref core k)) (map ref (numbers_from 0 (n + 1)))) 0 (length core.counters) counter.index counter.index (omega arith) place.inside others
+    where
+      list : ℕ → List R
+      list k = filter (goes (counter_ref core k)) (map ref (numbers_from 0 n))
 
-    list-there : get_or (first_by n) (f.counter x).index [] ≡ filter (goes_by f (counter_ref core (f.counter x).index)) (take n (refs_of f))
-    list-there = table-at (λ (k : ℕ). filter (goes_by f (counter_ref core k)) (take n (refs_of f))) 0 (length core.counters) (f.counter x).index (f.counter x).index [] (omega arith) next.place.inside
+      others : (m : ℕ) → (m ≡ counter.index → ⊥) → list m ≡ filter (goes (counter_ref core m)) (map ref (numbers_from 0 (n + 1)))
+      others m other =
+          sym (append-nil (list m))
+          ∙ sym (kept-more (counter_ref core m) n false (next.by (counter_ref core m) ∙ false_from_ne_true (same_counter (counter_ref core m) counter) (λ e. other (ap (λ (c : CounterRef). c.index) (same_counter-true (counter_ref core m) counter e)))))
 
-    pub first-known : (f.counter x).index < length (first_by n)
-    first-known = omega (arith, next.place.inside, length-table (λ (k : ℕ). filter (goes_by f (counter_ref core k)) (take n (refs_of f))) (length core.counters))
+-- no list has more than there are objects
+pub few-more : {R : Type 0} (lists : List (List R)) (i n : ℕ) (r : R) → ((k : ℕ) → length (get_or lists k []) ≤ n) → (k : ℕ) → length (get_or (slice_set lists i (get_or lists i [] ++ r ∷ [])) k []) ≤ n + 1
+few-more {R} lists i n r few k = at lists i k (get_or lists i [] ++ r ∷ []) (omega (arith, length-append (get_or lists i []) (r ∷ []), few i)) few
+  where
+    at : (xs : List (List R)) (i k : ℕ) (v : List R) → length v ≤ n + 1 → ((j : ℕ) → length (get_or xs j []) ≤ n) → length (get_or (slice_set xs i v) k []) ≤ n + 1
+    at [] i k v h all = omega (arith, all k)
+    at (x ∷ xs) zero zero v h all = h
+    at (x ∷ xs) zero (suc k) v h all = omega (arith, all (suc k))
+    at (x ∷ xs) (suc i) zero v h all = omega (arith, all zero)
+    at (x ∷ xs) (suc i) (suc k) v h all = at xs i k v h (λ j. all (suc j))
 
-    pub first-room : length (get_or (first_by n) (f.counter x).index []) < f.count
-    first-room = omega (arith, next.inside, ap length list-there, length-filter-le (goes_by f (counter_ref core (f.counter x).index)) (take n (refs_of f)), length-take n (refs_of f))
+pub none-few : (R : Type 0) (count k : ℕ) → length (get_or (replicate {A = List R} count []) k []) ≤ 0
+none-few R zero k = omega arith
+none-few R (suc count) zero = omega arith
+none-few R (suc count) (suc k) = none-few R count k
 
-    pub first-more : slice_set (first_by n) (f.counter x).index (get_or (first_by n) (f.counter x).index [] ++ f.ref n ∷ []) ≡ first_by (n + 1)
-    first-more =
-        ap (λ (l : List R). slice_set (first_by n) (f.counter x).index (l ++ f.ref n ∷ [])) list-there
-        ∙ ap (slice_set (first_by n) (f.counter x).index) (sym (kept-more (counter_ref core (f.counter x).index) n true next.inside (goes (counter_ref core (f.counter x).index) ∙ ap (λ (c : CounterRef). same_counter c (f.counter x)) (sym next.place.ref) ∙ same_counter-refl (f.counter x))))
-        ∙ table-set (λ (k : ℕ). filter (goes_by f (counter_ref core k)) (take n (refs_of f))) (λ (k : ℕ). filter (goes_by f (counter_ref core k)) (take (n + 1) (refs_of f))) 0 (length core.counters) (f.counter x).index (f.counter x).index (omega arith) next.place.inside others
-      where
-        none : (xs : List R) → xs ≡ xs ++ []
-        none [] = refl
-        none (y ∷ xs) = ap (λ ys. y ∷ ys) (none xs)
-
-        others : (m : ℕ) → (m ≡ (f.counter x).index → ⊥) → filter (goes_by f (counter_ref core m)) (take n (refs_of f)) ≡ filter (goes_by f (counter_ref core m)) (take (n + 1) (refs_of f))
-        others m other =
-            none (filter (goes_by f (counter_ref core m)) (take n (refs_of f)))
-            ∙ sym (kept-more (counter_ref core m) n false next.inside
-            (goes (counter_ref core m) ∙ false_from_ne_true (same_counter (counter_ref core m) (f.counter x)) (λ e. other (ap (λ (c : CounterRef). c.index) (same_counter-true (counter_ref core m) (f.counter x) e)))))
-
+module _ {R X : Type 0} (core : Core) (f : Family R X) where
   -- those of an own counter
   pub list-at : (c : CounterRef) → CounterPlace core c → get_or (each_by core f (refs_of f)) c.index [] ≡ those_by f c
   list-at c place =

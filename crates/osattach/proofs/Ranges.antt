@@ -1,10 +1,9 @@
 -- Lists that have something for each number of a range.
-use Rattle.std.proofs.Common.{◌≡◌, ℕ, zero, suc, ◌+◌, ◌<◌, Some, List, [], ◌∷◌, ◌++◌, get_or, length, map, replicate, take, refl, ap, sym, ◌∙◌, arith}
+use Rattle.std.proofs.Common.{◌≡◌, ℕ, zero, suc, ◌+◌, ◌<◌, Some, List, [], ◌∷◌, ◌++◌, get_or, length, map, replicate, refl, ap, sym, ◌∙◌, arith, add-one}
 use Rattle.std.specs.List.{slice_get, slice_set}
-use Rattle.std.proofs.lemmas.List.{get_or-map, length-map, map-set, take_more}
+use Rattle.std.proofs.lemmas.List.{get_or-map, length-map, map-set}
 use Rattle.arrayvec.specs.ArrayVec.{ArrayVec as Items}
 use Rattle.osbase.specs.Sets.{numbers_from}
-use Rattle.osbase.proofs.Tables.{table-at}
 
 pub length-numbers : (first count : ℕ) → length (numbers_from first count) ≡ count
 length-numbers first zero = refl
@@ -21,10 +20,12 @@ table-within F G first (suc count) same =
     ∙ ap (λ xs. G first ∷ xs) (table-within F G (first + 1) count (λ n h. same n (omega (arith, h))))
 
 -- a table one place on
-pub table-more : {A : Type 0} (F : ℕ → A) (count n : ℕ) → n < count → take (n + 1) (map F (numbers_from 0 count)) ≡ take n (map F (numbers_from 0 count)) ++ F n ∷ []
-table-more F count n inside =
-    take_more (map F (numbers_from 0 count)) n (F n) (omega (arith, inside, length-table F count))
-    ∙ ap (λ x. take n (map F (numbers_from 0 count)) ++ x ∷ []) (table-at F 0 count n n (F n) (omega arith) inside)
+pub table-more : {A : Type 0} (F : ℕ → A) (count : ℕ) → map F (numbers_from 0 (count + 1)) ≡ map F (numbers_from 0 count) ++ F count ∷ []
+table-more {A} F count = ap (λ n. map F (numbers_from 0 n)) (add-one count) ∙ from 0 count count (omega arith)
+  where
+    from : (first many last : ℕ) → last ≡ first + many → map F (numbers_from first (suc many)) ≡ map F (numbers_from first many) ++ F last ∷ []
+    from first zero last is = ap (λ n. F n ∷ []) (let here : first ≡ last = omega (arith, is) in here)
+    from first (suc many) last is = ap (λ xs. F first ∷ xs) (from (first + 1) many last (omega (arith, is)))
 
 -- a list by place
 pub listed : {X Y : Type 0} (f : X → Y) (G : ℕ → Y) (first : ℕ) (xs : List X) → ((k : ℕ) (x : X) → slice_get xs k ≡ Some x → f x ≡ G (first + k)) → map f xs ≡ map G (numbers_from first (length xs))

@@ -1,10 +1,15 @@
 //! Which objects of a core go by which of its counters.
 
-ghost use Rattle.std.specs.Prelude.{◌≡◌, ◌<◌, ◌≤◌, ◌++◌, ◌∷◌, [], length, replicate, slice_index_or};
+ghost use Rattle.std.specs.Prelude.{◌≡◌, ◌<◌, ◌≤◌, ◌++◌, ◌∷◌, ℕ, Bool, IsTrue, [], length, replicate, slice_index_or};
 ghost use Rattle.std.specs.List.{slice_set};
+ghost use Rattle.osbase.specs.declared.references.CounterRef.{CounterRef as CounterRefValue};
+ghost use Rattle.osbase.specs.Objects.{counter_object};
+ghost use Rattle.osplan.specs.Objects.{is_own_object};
+ghost use Rattle.osattach.specs.Attached.{IsMember, firsts_by};
 
 use arrayvec::ArrayVec;
 use osbase::CounterRef;
+use osplan::Core;
 use std::marker::Model;
 
 /// The most counters of a core.
@@ -27,8 +32,25 @@ impl<R, const N: usize> Model for Attached<R, N> {
 }
 
 impl<R: Copy + Default, const N: usize> Attached<R, N> {
-    /// So many counters, and nothing goes by any of them.
-    pub fn new(counters: usize) -> Self
+    /// The core's first so many objects of one kind: the closure gives for each index the counter by which the object goes,
+    /// one of the core's, and how it is referred to.
+    pub fn new<F: Fn(usize) -> (CounterRef, R)>(core: &Core, count: usize, object: F) -> Self
+        requires counters { length core.now.counters ≤ COUNTERS }
+        requires few { count ≤ N }
+        requires called { (n : ℕ) → n < count → F.pre object n }
+        requires own { (n : ℕ) (x : _) → n < count → F.post object n x → IsTrue (is_own_object core.now (counter_object x.0)) }
+        ensures { (goes : CounterRefValue → R → Bool) (ref : ℕ → R) → ((n : ℕ) (x : _) → n < count → F.post object n x → IsMember goes ref n x.0 x.1) → result ≡ firsts_by core.now goes ref count }
+    {
+        let mut attached = Attached::none(core.counters.len());
+        for index in 0..count {
+            let (counter, reference) = object(index);
+            attached.attach(counter, reference);
+        }
+        attached
+    }
+
+    // So many counters, and nothing goes by any of them.
+    fn none(counters: usize) -> Self
         requires { counters ≤ COUNTERS }
         ensures { result ≡ replicate counters [] }
     {
@@ -39,8 +61,8 @@ impl<R: Copy + Default, const N: usize> Attached<R, N> {
         Attached { lists }
     }
 
-    /// One object more goes by this counter.
-    pub fn attach(&mut self, counter: CounterRef, object: R)
+    // One object more goes by this counter.
+    fn attach(&mut self, counter: CounterRef, object: R)
         requires known { counter.index < length self.old }
         requires room { length (slice_index_or self.old counter.index []) < N }
         ensures { self.new ≡ slice_set self.old counter.index (slice_index_or self.old counter.index [] ++ object ∷ []) }

@@ -18,6 +18,7 @@ use Rattle.osplan.specs.View.{own_alarm}
 use Rattle.osplan.proofs.Clocked.{clock-parts}
 use Rattle.osplan.proofs.Tests.{passes-at}
 use Rattle.osattach.proofs.Members.{list-at as own-list}
+use Rattle.osattach.proofs.Own.{own-inside, those-inside}
 use Rattle.osattach.proofs.Places.{counter-is, counter-place}
 use Rattle.osattach.proofs.Ranges.{length-table}
 use Rattle.oscount.specs.declared.alarms.Alarm.{Alarm}
@@ -27,7 +28,7 @@ use Rattle.oscount.specs.Clocks.{counter_at, expiry_at}
 use Rattle.osclock.specs.Clocks.{AreClocks, ClockState, IsBounded, alarm_by, alarm_family, alarm_in, alarm_ref, attached_to, counter_by, counter_for, counter_in, counter_ref, max_for, max_of, no_counter, unset}
 use Rattle.osclock.proofs.Attached.{attached-all, attached-max, attached-own}
 use Rattle.osclock.proofs.Law.{alarm-at, attached, counter-at, read}
-use Rattle.osclock.proofs.Places.{alarm-place}
+use Rattle.osclock.proofs.Places.{placed}
 
 -- ---- limits
 
@@ -55,7 +56,7 @@ pub counter-inside : (core : Core) (s : ClockState) (c : CounterRef) → AreCloc
 counter-inside core s c clocks own = omega (arith, counters-length core s clocks, (counter-place core c own).inside)
 
 pub alarm-inside : (core : Core) (s : ClockState) (a : AlarmRef) → AreClocks core s → is_own_object core (alarm_object a) ≡ true → a.index < length s.alarms
-alarm-inside core s a clocks own = omega (arith, alarms-length core s clocks, (alarm-place core a own).inside)
+alarm-inside core s a clocks own = omega (arith, alarms-length core s clocks, own-inside (placed core) a own)
 
 -- which of them are the counter's own
 pub list-at : (core : Core) (s : ClockState) (c : CounterRef) → AreClocks core s → is_own_object core (counter_object c) ≡ true → get_or s.attached c.index [] ≡ attached_to core c
@@ -121,7 +122,7 @@ pub attached-inside : (core : Core) (c : CounterRef) (t s : ClockState) (list : 
 attached-inside core c t s list same clocks own own_list =
     subst (λ (u : ClockState). All (λ (a : AlarmRef). a.index < length u.alarms) list) (sym same)
     (All-same (λ (a : AlarmRef). a.index < length s.alarms) list (attached_to core c) (own_list ∙ ap (λ (u : ClockState). get_or u.attached c.index []) same ∙ list-at core s c clocks own)
-    (attached-all core c (λ (a : AlarmRef). a.index < length s.alarms) (λ a on. alarm-inside core s a clocks (attached-own core c a on))))
+    (those-inside (placed core) c (length s.alarms) (alarms-length core s clocks)))
 
 pub attached-bounded : (core : Core) (c : CounterRef) (t s : ClockState) (counter : Counter) (list : List AlarmRef) → t ≡ s → AreClocks core s → is_own_object core (counter_object c) ≡ true → counter ≡ counter_in c s → list ≡ get_or t.attached c.index []
     → All (λ (a : AlarmRef). IsBounded counter.max (alarm_in a t)) list

@@ -1,31 +1,31 @@
 -- What an entry does to the state is what it does to what is read off the history.
-use Rattle.std.proofs.Common.{◌≡◌, ℕ, suc, ◌+◌, ◌<◌, ◌%◌, Bool, true, false, cond, ◌&&◌, Option, Some, None, is_some, option_map, List, ◌∷◌, length, refl, ap, sym, ◌∙◌, arith, get_or}
+use Rattle.std.proofs.Common.{◌≡◌, ℕ, suc, ◌<◌, ◌%◌, Bool, true, false, cond, ◌&&◌, Option, Some, None, is_some, option_map, List, ◌∷◌, length, refl, ap, sym, ◌∙◌, arith}
 use Rattle.std.specs.List.{slice_set}
 use Rattle.std.specs.Option.{option_map_or}
 use Rattle.std.proofs.Math.Nat.{mod-add-mod}
 use Rattle.std.proofs.lemmas.Bool.{cond-false, cond-true, false≢true}
 use Rattle.osbase.specs.declared.references.AlarmRef.{AlarmRef}
 use Rattle.osbase.specs.declared.references.CounterRef.{CounterRef}
-use Rattle.osbase.specs.History.{History, Entry, Noted, Counted, AlarmSet, AlarmCancelled, same_core}
+use Rattle.osbase.specs.History.{History, Entry, Noted, Counted, AlarmSet, AlarmCancelled}
 use Rattle.osbase.specs.Counting.{AlarmSetting, alarm_of, counts_left, counts_of, is_in_turn, one_count_more, same_alarm, same_counter, will_be_due}
 use Rattle.osbase.specs.Objects.{alarm_object, counter_object}
 use Rattle.osbase.proofs.Same.{same_alarm-refl, same_counter-refl, same_counter-true}
 use Rattle.osbase.proofs.Tables.{table-at, table-set}
 use Rattle.osplan.specs.declared.plans.Alarm.{Alarm as AlarmValue}
 use Rattle.osplan.specs.declared.plans.Core.{Core}
-use Rattle.osplan.specs.Clocked.{are_clocks_within, is_alarm_attached}
+use Rattle.osplan.specs.Clocked.{are_clocks_within}
 use Rattle.osplan.specs.Objects.{is_own_object}
 use Rattle.osplan.specs.View.{own_alarm}
 use Rattle.osplan.proofs.Clocked.{clock-parts}
-use Rattle.osattach.specs.Attached.{changed_by}
-use Rattle.osattach.proofs.Places.{counter-apart, counter-other, counter-place, own-passes}
+use Rattle.osattach.proofs.Own.{kept-there, none-changed, one-changed, refers, those-changed}
+use Rattle.osattach.proofs.Places.{counter-apart, counter-other, counter-own, counter-place}
 use Rattle.osattach.proofs.Ranges.{table-within}
 use Rattle.oscount.specs.declared.counters.Counter.{Counter}
 use Rattle.oscount.specs.declared.alarms.Alarm.{Alarm}
 use Rattle.oscount.specs.Clocks.{advanced, alarm_at, alarm_beyond, counter_at, setting_of}
 use Rattle.oscount.proofs.Expiries.{beyond, counted as next}
-use Rattle.osclock.specs.Clocks.{ClockState, alarm_by, alarm_family, alarm_in, alarm_ref, all_passed, clocks_by, clocks_of, counted, counter_by, counter_for, counter_in, counter_ref, due_after, max_of, no_counter, unset, with_alarm}
-use Rattle.osclock.proofs.Places.{alarm-apart, alarm-other, alarm-own, alarm-place, alarm-some, counter-own}
+use Rattle.osclock.specs.Clocks.{ClockState, alarm_by, alarm_in, alarm_ref, all_passed, clocks_by, clocks_of, counted, counter_by, counter_for, counter_in, counter_ref, due_after, max_of, no_counter, unset, with_alarm}
+use Rattle.osclock.proofs.Places.{alarm-some, placed}
 
 -- ---- what stands at an own object's place
 
@@ -35,13 +35,11 @@ counter-at core c h own =
     table-at (λ n. counter_by core (counter_ref core n) h) 0 (length core.counters) c.index c.index no_counter (omega arith) place.inside ∙ ap (λ r. counter_by core r h) (sym place.ref)
 
 pub alarm-at : (core : Core) (a : AlarmRef) (h : History) → is_own_object core (alarm_object a) ≡ true → alarm_in a (clocks_of core h) ≡ alarm_by core a h
-alarm-at core a h own =
-    let place = alarm-place core a own in
-    table-at (λ n. alarm_by core (alarm_ref core n) h) 0 (length core.alarms) a.index a.index unset (omega arith) place.inside ∙ ap (λ r. alarm_by core r h) (sym place.ref)
+alarm-at core a h own = kept-there (placed core) (λ b. alarm_by core b h) a unset own
 
 -- the counter of an own alarm is one of the core's own
 pub attached : (core : Core) (a : AlarmRef) (x : AlarmValue) → are_clocks_within core ≡ true → own_alarm core a ≡ Some x → is_own_object core (counter_object x.counter) ≡ true
-attached core a x within own = own-passes (is_alarm_attached core) core.alarms (same_core a.core core.id) a.index x (clock-parts core within).attached own
+attached core a x within own = refers (placed core) a x (clock-parts core within).attached own
 
 abbrev pub read : Core → AlarmRef → History → AlarmValue → Alarm
 read core a h x = alarm_at (max_of core x.counter) (counts_of x.counter h) (alarm_of x.counter a h)
@@ -77,19 +75,11 @@ alarm-on core c a h (Some x) = by (same_counter c x.counter) refl
         ap (λ (d : CounterRef). alarm_beyond (counter_by core d h) (read core a h x)) (same_counter-true c x.counter e)
         ∙ ap (λ y. let alarm : Alarm = record { expiry = y } in alarm) (beyond (max_of core x.counter) (counts_of x.counter h) (alarm_of x.counter a h))
 
-abbrev passed : Core → CounterRef → Counter → ℕ → Alarm → Alarm
-passed core c counter = changed_by (alarm_family core) c (λ (a : AlarmRef). alarm_beyond counter)
-
 alarms-on : (core : Core) (c : CounterRef) (h : History) → is_own_object core (counter_object c) ≡ true
     → all_passed core c (counter_in c (clocks_of core h)) (clocks_of core h).alarms ≡ (clocks_of core (Noted (Counted c) ∷ h)).alarms
 alarms-on core c h own =
     ap (λ (k : Counter). all_passed core c k (clocks_of core h).alarms) (counter-at core c h own)
-    ∙ table-within (λ n. passed core c (counter_by core c h) n (get_or (clocks_of core h).alarms n unset)) (λ n. alarm_by core (alarm_ref core n) (Noted (Counted c) ∷ h)) 0 (length core.alarms) each
-  where
-    each : (n : ℕ) → n < 0 + length core.alarms → passed core c (counter_by core c h) n (get_or (clocks_of core h).alarms n unset) ≡ alarm_by core (alarm_ref core n) (Noted (Counted c) ∷ h)
-    each n inside =
-        ap (passed core c (counter_by core c h) n) (table-at (λ m. alarm_by core (alarm_ref core m) h) 0 (length core.alarms) n n unset (omega arith) (omega (arith, inside)))
-        ∙ alarm-on core c (alarm_ref core n) h (own_alarm core (alarm_ref core n))
+    ∙ those-changed (placed core) (λ a. alarm_by core a h) (λ a. alarm_by core a (Noted (Counted c) ∷ h)) c (λ (a : AlarmRef). alarm_beyond (counter_by core c h)) unset (λ a. alarm-on core c a h (own_alarm core a))
 
 pub both : {s t : ClockState} → s.counters ≡ t.counters → s.alarms ≡ t.alarms → s.attached ≡ t.attached → s ≡ t
 both {s} {t} counters alarms attached =
@@ -106,14 +96,6 @@ count-on core c h own = both (counters-on core c h own) (alarms-on core c h own)
 seen : (max count : ℕ) (x : AlarmSetting) → alarm_at max (count % suc max) (Some x) ≡ alarm_at max count (Some x)
 seen max count x =
     ap (λ n. let alarm : Alarm = record { expiry = cond (is_in_turn max x && will_be_due x) (Some (record { value = n; cycle = x.cycle })) None } in alarm) (mod-add-mod count (suc max) (counts_left x))
-
--- what becomes of one alarm, and of no other
-alarm-set : (core : Core) (a : AlarmRef) (h : History) (e : Entry) (alarm : Alarm) → is_own_object core (alarm_object a) ≡ true → alarm ≡ alarm_by core a (e ∷ h)
-    → ((b : AlarmRef) → same_alarm a b ≡ false → alarm_by core b h ≡ alarm_by core b (e ∷ h))
-    → slice_set (clocks_of core h).alarms a.index alarm ≡ (clocks_of core (e ∷ h)).alarms
-alarm-set core a h e alarm own here others =
-    ap (slice_set (clocks_of core h).alarms a.index) (here ∙ ap (λ r. alarm_by core r (e ∷ h)) (alarm-place core a own).ref)
-    ∙ table-set (λ n. alarm_by core (alarm_ref core n) h) (λ n. alarm_by core (alarm_ref core n) (e ∷ h)) 0 (length core.alarms) a.index a.index (omega arith) (alarm-place core a own).inside (λ m apart. others (alarm_ref core m) (alarm-other core a m apart))
 
 set-here : (core : Core) (a : AlarmRef) (first cycle : ℕ) (h : History) → are_clocks_within core ≡ true → is_own_object core (alarm_object a) ≡ true → (o : Option AlarmValue) → own_alarm core a ≡ o
     → due_after (option_map_or (λ (x : AlarmValue). counter_in x.counter (clocks_of core h)) o no_counter) first cycle ≡ option_map_or (read core a (Noted (AlarmSet a first cycle) ∷ h)) o unset
@@ -154,13 +136,6 @@ count-off core c h within other =
         ap (λ (t : Bool). alarm_at (max_of core x.counter) (cond t (suc (counts_of x.counter h)) (counts_of x.counter h)) (cond t (option_map one_count_more (alarm_of x.counter a h)) (alarm_of x.counter a h)))
         (sym (counter-apart core c x.counter other (attached core a x within own)))
 
--- what is told of an alarm that is not the core's own
-alarms-off : (core : Core) (a : AlarmRef) (h : History) (e : Entry) → is_own_object core (alarm_object a) ≡ false → ((b : AlarmRef) → same_alarm a b ≡ false → alarm_by core b h ≡ alarm_by core b (e ∷ h))
-    → (clocks_of core h).alarms ≡ (clocks_of core (e ∷ h)).alarms
-alarms-off core a h e other others =
-    table-within (λ n. alarm_by core (alarm_ref core n) h) (λ n. alarm_by core (alarm_ref core n) (e ∷ h)) 0 (length core.alarms)
-    (λ n inside. others (alarm_ref core n) (alarm-apart core a (alarm_ref core n) other (alarm-own core n (omega (arith, inside)))))
-
 pub count-after : (core : Core) (c : CounterRef) (h : History) → are_clocks_within core ≡ true → clocks_by core (Noted (Counted c)) (clocks_of core h) ≡ clocks_of core (Noted (Counted c) ∷ h)
 count-after core c h within = by (is_own_object core (counter_object c)) refl
   where
@@ -175,8 +150,8 @@ set-after core a first cycle h within = by (is_own_object core (alarm_object a))
     others b apart = set-other core a b first cycle h apart
 
     by : (b : Bool) → is_own_object core (alarm_object a) ≡ b → cond b (with_alarm a (due_after (counter_for core a (clocks_of core h)) first cycle) (clocks_of core h)) (clocks_of core h) ≡ clocks_of core (Noted (AlarmSet a first cycle) ∷ h)
-    by true own = both refl (alarm-set core a h (Noted (AlarmSet a first cycle)) (due_after (counter_for core a (clocks_of core h)) first cycle) own (set-here core a first cycle h within own (own_alarm core a) refl) others) refl
-    by false other = both refl (alarms-off core a h (Noted (AlarmSet a first cycle)) other others) refl
+    by true own = both refl (one-changed (placed core) (λ b. alarm_by core b h) (λ b. alarm_by core b (Noted (AlarmSet a first cycle) ∷ h)) a (due_after (counter_for core a (clocks_of core h)) first cycle) own (set-here core a first cycle h within own (own_alarm core a) refl) others) refl
+    by false other = both refl (none-changed (placed core) (λ b. alarm_by core b h) (λ b. alarm_by core b (Noted (AlarmSet a first cycle) ∷ h)) a other others) refl
 
 pub cancel-after : (core : Core) (a : AlarmRef) (h : History) → clocks_by core (Noted (AlarmCancelled a)) (clocks_of core h) ≡ clocks_of core (Noted (AlarmCancelled a) ∷ h)
 cancel-after core a h = by (is_own_object core (alarm_object a)) refl
@@ -185,8 +160,8 @@ cancel-after core a h = by (is_own_object core (alarm_object a)) refl
     others b apart = cancelled-other core a b h apart
 
     by : (b : Bool) → is_own_object core (alarm_object a) ≡ b → cond b (with_alarm a unset (clocks_of core h)) (clocks_of core h) ≡ clocks_of core (Noted (AlarmCancelled a) ∷ h)
-    by true own = both refl (alarm-set core a h (Noted (AlarmCancelled a)) unset own (cancelled-here core a h (own_alarm core a)) others) refl
-    by false other = both refl (alarms-off core a h (Noted (AlarmCancelled a)) other others) refl
+    by true own = both refl (one-changed (placed core) (λ b. alarm_by core b h) (λ b. alarm_by core b (Noted (AlarmCancelled a) ∷ h)) a unset own (cancelled-here core a h (own_alarm core a)) others) refl
+    by false other = both refl (none-changed (placed core) (λ b. alarm_by core b h) (λ b. alarm_by core b (Noted (AlarmCancelled a) ∷ h)) a other others) refl
 
 -- What is read off a longer history is what its newest entry does to what was read.
 pub after : (core : Core) (e : Entry) (h : History) → are_clocks_within core ≡ true → clocks_by core e (clocks_of core h) ≡ clocks_of core (e ∷ h)

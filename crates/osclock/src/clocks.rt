@@ -9,12 +9,12 @@ ghost use Rattle.osplan.specs.declared.plans.Counter.{Counter as CounterValue};
 ghost use Rattle.osplan.specs.Clocked.{are_clocks_within};
 ghost use Rattle.osplan.specs.Objects.{is_own_object};
 ghost use Rattle.oscount.specs.Clocks.{counter_at, is_due_next};
-ghost use Rattle.osattach.specs.Attached.{each_by};
+ghost use Rattle.osattach.specs.Attached.{IsObject, each_by};
 ghost use Rattle.osclock.specs.Clocks.{AreClocks, IsBounded, alarm_family, alarm_in, alarm_refs, all_beyond, clocks_by, clocks_of, counter_for, counter_in, counts_to_in, counts_to_value_in, due_after, due_in, is_used, left_in, max_for, max_of, unset};
 
 use arrayvec::ArrayVec;
 use osattach::{Attached, COUNTERS};
-use osbase::{AlarmRef, CoreId, CounterRef};
+use osbase::{AlarmRef, CounterRef};
 use oscount::{Alarm, Counter};
 use osplan::{Core, own};
 use std::marker::Model;
@@ -212,20 +212,19 @@ fn new_attached(core: &Core) -> Attached<AlarmRef, ALARMS>
     requires { IsTrue (are_clocks_within core.now) }
     ensures { result ≡ each_by core.now (alarm_family core.now) (alarm_refs core.now) }
 {
-    let mut attached = Attached::new(core.counters.len());
-    for index in 0..core.alarms.len() {
-        let counter = core.alarms.as_slice()[index].counter;
-        attached.attach(counter, reference(core.id, index));
-    }
-    attached
+    Attached::new(core, core.alarms.len(), |index| object_at(core, index))
 }
 
-fn reference(core: CoreId, index: usize) -> AlarmRef
-    requires { index < ALARMS }
-    ensures { result ≡ record { core = core; index = index } }
+// The counter of the alarm of this index, and its reference.
+fn object_at(core: &Core, index: usize) -> (CounterRef, AlarmRef)
+    requires within { IsTrue (are_clocks_within core.now) }
+    requires inside { index < length core.now.alarms }
+    ensures { IsObject core.now (alarm_family core.now) index result.0 result.1 }
 {
+    let counter = core.alarms.as_slice()[index].counter;
     let index = index as u8;
-    AlarmRef { core, index }
+    let core = core.id;
+    (counter, AlarmRef { core, index })
 }
 
 fn set_counter(counters: &mut ArrayVec<Counter, COUNTERS>, counter: CounterRef, value: Counter)

@@ -221,11 +221,8 @@ relative-by counter count first cycle value is later most within same =
     set-by counter count first cycle value is later most within
     (same ∙ (ap (λ v. wrapped counter.max (v + first)) (value-is counter count is) ∙ further-mod counter.max count first most))
 
-pub absolute-by : (counter : Counter) (count start cycle : ℕ) → counter ≡ counter_at counter.max count → start ≤ counter.max → cycle ≤ counter.max
-    → record { expiry = Some (record { value = start; cycle = cycle }) } ≡ alarm_at counter.max count (Some (setting_of (counts_to counter.max counter.value start) cycle))
-absolute-by counter count start cycle is most within =
-    set-by counter count (counts_to counter.max counter.value start) cycle start is (omega arith) (omega (arith, below)) within
-    (sym (ap (λ v. (count + counts_to counter.max v start) % suc counter.max) (value-is counter count is) ∙ led-to counter.max count start most))
-  where
-    below : (start + counter.max - counter.value) % suc counter.max < suc counter.max
-    below = mod-lt (start + counter.max - counter.value) (omega arith)
+-- so many counts lead to the value
+pub reached-by : (counter : Counter) (count start left : ℕ) → counter ≡ counter_at counter.max count → start ≤ counter.max → left ≡ counts_to counter.max counter.value start
+    → (count + left) % suc counter.max ≡ start
+reached-by counter count start left is most same =
+    ap (λ n. (count + n) % suc counter.max) (same ∙ ap (λ v. counts_to counter.max v start) (value-is counter count is)) ∙ led-to counter.max count start most

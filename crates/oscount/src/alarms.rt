@@ -1,7 +1,7 @@
 //! When an alarm is due.
 
 ghost use Rattle.std.specs.Prelude.{◌≡◌, ◌+◌, ◌<◌, ◌≤◌, ◌^◌, ℕ, suc, Some, None, IfSome, Option, is_some, option_map};
-ghost use Rattle.osbase.specs.Counting.{AlarmSetting, counts_to, is_due, is_in_use, left_of, one_count_more};
+ghost use Rattle.osbase.specs.Counting.{AlarmSetting, is_due, is_in_use, left_of, one_count_more};
 ghost use Rattle.oscount.specs.Clocks.{advanced, alarm_at, alarm_beyond, alarm_due, counter_at, counts_until, due_again, expiry_beyond, is_due_next, setting_of, wrapped};
 
 use crate::counters::{self, Counter};
@@ -42,21 +42,6 @@ impl Alarm {
     {
         self.expiry = Some(Expiry {
             value: counters::wrapped(counter.max, counter.value + increment),
-            cycle,
-        });
-    }
-
-    /// The alarm is due when its counter reaches this value, which is a full turn away where it has it, and again after
-    /// each cycle (OSEK/VDX OS 2.2.3, section 13.6.3.4).
-    pub fn set_abs(&mut self, counter: Counter, start: u32, cycle: u32)
-        requires value { counter.value ≤ counter.max }
-        requires turn { start ≤ counter.max }
-        requires cycle { cycle ≤ counter.max }
-        ensures state { self.new ≡ alarm_due start cycle }
-        ensures counts { (count : ℕ) → counter ≡ counter_at counter.max count → self.new ≡ alarm_at counter.max count (Some (setting_of (counts_to counter.max counter.value start) cycle)) }
-    {
-        self.expiry = Some(Expiry {
-            value: start,
             cycle,
         });
     }

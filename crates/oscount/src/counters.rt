@@ -1,7 +1,7 @@
 //! The value of a counter.
 
-ghost use Rattle.std.specs.Prelude.{◌≡◌, ◌<◌, ◌≤◌, ◌^◌, ℕ, suc};
-ghost use Rattle.osbase.specs.Counting.{counts_to};
+ghost use Rattle.std.specs.Prelude.{◌≡◌, ◌+◌, ◌<◌, ◌≤◌, ◌^◌, ℕ, suc};
+ghost use Rattle.osbase.specs.Counting.{counts_to, value_after};
 ghost use Rattle.oscount.specs.Clocks.{advanced, counter_at, wrapped};
 
 /// A counter (OSEK/VDX OS 2.2.3, section 9.1): its value goes from 0 to its greatest, and then to 0 again.
@@ -30,7 +30,8 @@ pub fn counts_to(counter: Counter, start: u32) -> u32
     requires max { counter.max < 2 ^ 31 }
     requires value { counter.value ≤ counter.max }
     requires turn { start ≤ counter.max }
-    ensures { result ≡ counts_to counter.max counter.value start }
+    ensures state { result ≡ counts_to counter.max counter.value start }
+    ensures reached { (count : ℕ) → counter ≡ counter_at counter.max count → value_after counter.max (count + result) ≡ start }
 {
     (start + counter.max - counter.value) % (counter.max + 1) + 1
 }

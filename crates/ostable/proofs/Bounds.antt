@@ -6,11 +6,11 @@ use Rattle.osbase.specs.Objects.{counter_object, table_object}
 use Rattle.osplan.specs.declared.plans.Core.{Core}
 use Rattle.osplan.specs.Objects.{is_own_object}
 use Rattle.osattach.proofs.Members.{list-at as own-list}
+use Rattle.osattach.proofs.Own.{own-inside, those-inside}
 use Rattle.osattach.proofs.Places.{counter-place}
 use Rattle.osattach.proofs.Ranges.{length-table}
 use Rattle.ostable.specs.Tables.{AreTables, TableStates, table_by, table_family, table_ref, timed_by}
-use Rattle.ostable.proofs.Listed.{timed-all, timed-own}
-use Rattle.ostable.proofs.Places.{table-place}
+use Rattle.ostable.proofs.Places.{placed}
 
 module _ (core : Core) (x : TableStates) (are : AreTables core x) where
   pub tables-length : length x.tables ≡ length core.tables
@@ -19,10 +19,10 @@ module _ (core : Core) (x : TableStates) (are : AreTables core x) where
       ∙ length-table (λ n. table_by core (table_ref core n) are.history) (length core.tables)
 
   pub table-inside : (s : TableRef) → is_own_object core (table_object s) ≡ true → s.index < length x.tables
-  table-inside s own = omega (arith, tables-length, (table-place core s own).inside)
+  table-inside s own = omega (arith, tables-length, own-inside (placed core) s own)
 
   pub list-at : (c : CounterRef) → is_own_object core (counter_object c) ≡ true → get_or x.timed c.index [] ≡ timed_by core c
   list-at c own = ap (λ (y : TableStates). get_or y.timed c.index []) are.is ∙ own-list core (table_family core) c (counter-place core c own)
 
   pub timed-inside : (c : CounterRef) → All (λ (s : TableRef). s.index < length x.tables) (timed_by core c)
-  timed-inside c = timed-all core c (λ (s : TableRef). s.index < length x.tables) (λ s on. table-inside s (timed-own core c s on))
+  timed-inside c = those-inside (placed core) c (length x.tables) tables-length

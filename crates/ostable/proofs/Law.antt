@@ -1,39 +1,35 @@
 -- What an entry does to the tables of a core is what it does to what is read off the history.
-use Rattle.std.proofs.Common.{◌≡◌, ℕ, ◌<◌, ◌+◌, Bool, true, false, cond, Option, Some, None, is_some, List, ◌∷◌, length, refl, ap, sym, ◌∙◌, arith, get_or}
-use Rattle.std.specs.List.{slice_set}
+use Rattle.std.proofs.Common.{◌≡◌, ℕ, Bool, true, false, cond, Option, Some, None, is_some, List, ◌∷◌, length, refl, ap, sym, ◌∙◌}
 use Rattle.std.specs.Option.{option_map_or}
 use Rattle.std.proofs.lemmas.Bool.{cond-false, cond-true, false≢true}
 use Rattle.osbase.specs.declared.references.CounterRef.{CounterRef}
 use Rattle.osbase.specs.declared.references.TableRef.{TableRef}
-use Rattle.osbase.specs.History.{History, Entry, Noted, Counted, TableStarted, TableQuit, TableNext, same_core}
+use Rattle.osbase.specs.History.{History, Entry, Noted, Counted, TableStarted, TableQuit, TableNext}
 use Rattle.osbase.specs.Counting.{TableState, Stopped, NextOf, counted_once, same_counter, same_table, started_after, table_state}
 use Rattle.osbase.specs.Objects.{counter_object, table_object}
 use Rattle.osbase.proofs.Same.{same_table-refl}
-use Rattle.osbase.proofs.Tables.{table-at, table-set}
 use Rattle.osplan.specs.declared.plans.Core.{Core}
 use Rattle.osplan.specs.declared.plans.Table.{Table as TablePlan}
-use Rattle.osplan.specs.Clocked.{are_clocks_within, is_table_attached}
+use Rattle.osplan.specs.Clocked.{are_clocks_within}
 use Rattle.osplan.specs.Objects.{is_own_object}
 use Rattle.osplan.specs.View.{own_table}
 use Rattle.osplan.proofs.Clocked.{clock-parts}
-use Rattle.osattach.specs.Attached.{changed_by}
-use Rattle.osattach.proofs.Places.{counter-apart, own-passes as passes}
+use Rattle.osattach.proofs.Own.{kept-there, none-changed, one-changed, own-some, refers, those-changed}
+use Rattle.osattach.proofs.Places.{counter-apart}
 use Rattle.osattach.proofs.Ranges.{table-within}
 use Rattle.ostable.specs.declared.table.Table.{Table}
 use Rattle.ostable.specs.Ahead.{table_at, table_beyond}
-use Rattle.ostable.specs.Tables.{TableStates, all_moved, moved, table_by, table_family, table_in, table_ref, tables_by, tables_of, with_table}
-use Rattle.ostable.proofs.Places.{table-apart, table-other, table-own, table-place, table-some}
+use Rattle.ostable.specs.Tables.{TableStates, all_moved, moved, table_by, table_in, table_ref, tables_by, tables_of, with_table}
+use Rattle.ostable.proofs.Places.{placed}
 use Rattle.ostable.proofs.Runs.{beyond-at}
 use Rattle.ostable.proofs.Timed.{timed}
 
 pub table-there : (core : Core) (s : TableRef) (h : History) → is_own_object core (table_object s) ≡ true → table_in s (tables_of core h) ≡ table_by core s h
-table-there core s h own =
-    let place = table-place core s own in
-    table-at (λ n. table_by core (table_ref core n) h) 0 (length core.tables) s.index s.index Table.Stopped (omega arith) place.inside ∙ ap (λ r. table_by core r h) (sym place.ref)
+table-there core s h own = kept-there (placed core) (λ u. table_by core u h) s Table.Stopped own
 
 -- the counter of an own table is one of the core's own
 pub attached : (core : Core) (s : TableRef) (t : TablePlan) → are_clocks_within core ≡ true → own_table core s ≡ Some t → is_own_object core (counter_object t.counter) ≡ true
-attached core s t within own = passes (is_table_attached core) core.tables (same_core s.core core.id) s.index t (clock-parts core within).tables_attached own
+attached core s t within own = refers (placed core) s t (clock-parts core within).tables_attached own
 
 abbrev pub read : Core → TableRef → History → TablePlan → Table
 read core s h t = table_at t (table_state t.counter s h)
@@ -55,17 +51,9 @@ table-on core c s h within (Some t) own = by (same_counter c t.counter)
     by false = refl
     by true = beyond-at t (timed core s t within own) (read core s h t) (table_state t.counter s h) refl
 
-abbrev moved_by : Core → CounterRef → ℕ → Table → Table
-moved_by core c = changed_by (table_family core) c (moved core)
-
 tables-on : (core : Core) (c : CounterRef) (h : History) → are_clocks_within core ≡ true → all_moved core c (tables_of core h).tables ≡ (tables_of core (Noted (Counted c) ∷ h)).tables
 tables-on core c h within =
-    table-within (λ n. moved_by core c n (get_or (tables_of core h).tables n Table.Stopped)) (λ n. table_by core (table_ref core n) (Noted (Counted c) ∷ h)) 0 (length core.tables) each
-  where
-    each : (n : ℕ) → n < 0 + length core.tables → moved_by core c n (get_or (tables_of core h).tables n Table.Stopped) ≡ table_by core (table_ref core n) (Noted (Counted c) ∷ h)
-    each n inside =
-        ap (moved_by core c n) (table-at (λ m. table_by core (table_ref core m) h) 0 (length core.tables) n n Table.Stopped (omega arith) (omega (arith, inside)))
-        ∙ table-on core c (table_ref core n) h within (own_table core (table_ref core n)) refl
+    those-changed (placed core) (λ s. table_by core s h) (λ s. table_by core s (Noted (Counted c) ∷ h)) c (moved core) Table.Stopped (λ s. table-on core c s h within (own_table core s) refl)
 
 -- a count of what is not the core's own
 count-off : (core : Core) (c : CounterRef) (h : History) → are_clocks_within core ≡ true → is_own_object core (counter_object c) ≡ false → tables_of core h ≡ tables_of core (Noted (Counted c) ∷ h)
@@ -107,16 +95,13 @@ module _ (core : Core) (s : TableRef) (h : History) (e : Entry) (state : TableSt
   told-own : is_own_object core (table_object s) ≡ true → with_table s (option_map_or (λ (t : TablePlan). table_at t state) (own_table core s) Table.Stopped) (tables_of core h) ≡ tables_of core (e ∷ h)
   told-own own =
       together
-      (ap (slice_set (tables_of core h).tables s.index) (told-here (own_table core s) ∙ ap (λ r. table_by core r (e ∷ h)) (table-place core s own).ref)
-      ∙ table-set (λ n. table_by core (table_ref core n) h) (λ n. table_by core (table_ref core n) (e ∷ h)) 0 (length core.tables) s.index s.index (omega arith) (table-place core s own).inside
-      (λ m apart. told-there (table_ref core m) (table-other core s m apart) (own_table core (table_ref core m))))
+      (one-changed (placed core) (λ u. table_by core u h) (λ u. table_by core u (e ∷ h)) s _ own (told-here (own_table core s)) (λ u apart. told-there u apart (own_table core u)))
       refl
 
   told-off : is_own_object core (table_object s) ≡ false → tables_of core h ≡ tables_of core (e ∷ h)
   told-off other =
       together
-      (table-within (λ n. table_by core (table_ref core n) h) (λ n. table_by core (table_ref core n) (e ∷ h)) 0 (length core.tables)
-      (λ n inside. told-there (table_ref core n) (table-apart core s (table_ref core n) other (table-own core n (omega (arith, inside)))) (own_table core (table_ref core n))))
+      (none-changed (placed core) (λ u. table_by core u h) (λ u. table_by core u (e ∷ h)) s other (λ u apart. told-there u apart (own_table core u)))
       refl
 
   pub told-after : (b : Bool) → is_own_object core (table_object s) ≡ b → cond b (with_table s (option_map_or (λ (t : TablePlan). table_at t state) (own_table core s) Table.Stopped) (tables_of core h)) (tables_of core h) ≡ tables_of core (e ∷ h)
@@ -129,7 +114,7 @@ whichever None table some = absurd (false≢true some)
 whichever (Some t) table some = refl
 
 plain : (core : Core) (s : TableRef) (h : History) (table : Table) (b : Bool) → is_own_object core (table_object s) ≡ b → cond b (with_table s table (tables_of core h)) (tables_of core h) ≡ cond b (with_table s (option_map_or (λ (t : TablePlan). table) (own_table core s) Table.Stopped) (tables_of core h)) (tables_of core h)
-plain core s h table true own = ap (λ (x : Table). with_table s x (tables_of core h)) (whichever (own_table core s) table (table-some core s own))
+plain core s h table true own = ap (λ (x : Table). with_table s x (tables_of core h)) (whichever (own_table core s) table (own-some (placed core) s own))
 plain core s h table false other = refl
 
 start-after : (core : Core) (s : TableRef) (wait : ℕ) (h : History) → tables_by core (Noted (TableStarted s wait)) (tables_of core h) ≡ tables_of core (Noted (TableStarted s wait) ∷ h)

@@ -1,43 +1,26 @@
 -- The tables of a counter, in a list.
-use Rattle.std.proofs.Common.{◌≡◌, ℕ, zero, suc, ◌+◌, ◌<◌, ◌≤◌, true, All, Option, Some, None, filter_map, get_or, List, [], ◌∷◌, drop, length, take, ◌++◌, refl, ap, sym, ◌∙◌, arith, add-one}
+use Rattle.std.proofs.Common.{◌≡◌, ℕ, zero, suc, ◌+◌, ◌<◌, ◌≤◌, true, Option, Some, None, filter_map, get_or, List, [], ◌∷◌, drop, length, take, ◌++◌, refl, ap, sym, ◌∙◌, arith, add-one}
 use Rattle.std.specs.List.{slice_get}
 use Rattle.std.proofs.lemmas.List.Elements.{filter_map-append}
 use Rattle.std.proofs.lemmas.List.{take_more}
 use Rattle.std.proofs.lemmas.Option.{slice_get-get_or}
 use Rattle.osbase.specs.declared.references.CounterRef.{CounterRef}
 use Rattle.osbase.specs.declared.references.TableRef.{TableRef}
-use Rattle.osbase.specs.History.{same_core}
 use Rattle.osbase.specs.Objects.{table_object}
 use Rattle.osbase.proofs.Tables.{table-at}
 use Rattle.osplan.specs.declared.plans.Core.{Core}
-use Rattle.osplan.specs.declared.plans.Table.{Table as TablePlan}
-use Rattle.osplan.specs.Clocked.{are_clocks_within}
 use Rattle.osplan.specs.Objects.{is_own_object}
-use Rattle.osplan.specs.View.{own_table}
-use Rattle.osplan.proofs.Tests.{found-inside}
-use Rattle.osattach.proofs.Members.{Next, kept-all, stands}
-use Rattle.osattach.proofs.Places.{counter-place}
+use Rattle.osattach.proofs.Own.{goes-own}
 use Rattle.osattach.proofs.Ranges.{length-table}
-use Rattle.ostable.specs.Tables.{is_timed_by, table_family, table_ref, table_refs, timed_by}
-use Rattle.ostable.proofs.Law.{attached}
-use Rattle.ostable.proofs.Places.{table-is, table-own}
+use Rattle.ostable.specs.Tables.{is_timed_by, table_ref, table_refs}
+use Rattle.ostable.proofs.Places.{placed}
 
 pub table-refs-length : (core : Core) → length (table_refs core) ≡ length core.tables
 table-refs-length core = length-table (table_ref core) (length core.tables)
 
 -- each is the core's own
 pub timed-own : (core : Core) (c : CounterRef) (s : TableRef) → is_timed_by core c s ≡ true → is_own_object core (table_object s) ≡ true
-timed-own core c s on = let own = stands (table_family core) c s on in found-inside (same_core s.core core.id) core.tables s.index own.value own.is
-
-pub timed-all : (core : Core) (c : CounterRef) (P : TableRef → Type 0) → ((s : TableRef) → is_timed_by core c s ≡ true → P s) → All P (timed_by core c)
-timed-all core c P each = kept-all (is_timed_by core c) P (table_refs core) each
-
--- The table of an index, whose counter is one of the core's own.
-pub table-next : (core : Core) (xs : List TablePlan) (n : ℕ) (t : TablePlan) → are_clocks_within core ≡ true → xs ≡ core.tables → n < length core.tables → t ≡ get_or xs n t → Next core (table_family core) n t
-table-next core xs n t within are inside is =
-    let here : own_table core (table_ref core n) ≡ Some t =
-    table-is core (table_ref core n) (table-own core n inside) ∙ slice_get-get_or core.tables n t inside ∙ ap Some (ap (λ ys. get_or ys n t) (sym are) ∙ sym is) in
-    record { inside = inside; here = here; place = counter-place core t.counter (attached core (table_ref core n) t within here) }
+timed-own core c s on = goes-own (placed core) c s on
 
 -- ---- from a place on
 

@@ -7,7 +7,7 @@ ghost use Rattle.osbase.specs.History.{Noted, Counted, TableStarted, TableQuit, 
 ghost use Rattle.osbase.specs.Objects.{counter_object, table_object};
 ghost use Rattle.osplan.specs.Clocked.{are_clocks_within};
 ghost use Rattle.osplan.specs.Objects.{is_own_object};
-ghost use Rattle.osattach.specs.Attached.{each_by};
+ghost use Rattle.osattach.specs.Attached.{IsObject, each_by};
 ghost use Rattle.ostable.specs.Tables.{AreTables, due_in, due_table, due_tables_in, each_moved, next_in, started, status_in, table_family, table_in, table_refs, tables_by, tables_of};
 ghost use Rattle.ostable.specs.declared.table.Table.{Table as TableValue};
 
@@ -172,12 +172,17 @@ fn new_timed(core: &Core) -> Attached<TableRef, TABLES>
     requires { IsTrue (are_clocks_within core.now) }
     ensures { result ≡ each_by core.now (table_family core.now) (table_refs core.now) }
 {
-    let mut timed = Attached::new(core.counters.len());
-    for index in 0..core.tables.len() {
-        let counter = core.tables.as_slice()[index].counter;
-        timed.attach(counter, reference(core.id, index));
-    }
-    timed
+    Attached::new(core, core.tables.len(), |index| object_at(core, index))
+}
+
+// The counter of the table of this index, and its reference.
+fn object_at(core: &Core, index: usize) -> (CounterRef, TableRef)
+    requires within { IsTrue (are_clocks_within core.now) }
+    requires inside { index < length core.now.tables }
+    ensures { IsObject core.now (table_family core.now) index result.0 result.1 }
+{
+    let counter = core.tables.as_slice()[index].counter;
+    (counter, reference(core.id, index))
 }
 
 fn reference(core: CoreId, index: usize) -> TableRef

@@ -18,4 +18,4 @@ counts_to-requires-clause-turn c = rw c.counter.ensures (omega (arith, c.require
 pub returns-clause-turn : goal.returns-clause-turn
 returns-clause-turn c =
     let is : (counter_in c.args.counter c.args.self.now).max ≡ max_of c.args.core.now c.args.counter = (counter-within c.args.core.now _ c.args.counter c.requires.clocks c.requires.own).is in
-    rw (c.counts_to.ensures, c.counter.ensures, is) (turn-within (max_of c.args.core.now c.args.counter) _ c.args.start)
+    rw (c.counts_to.ensures.state, c.counter.ensures, is) (turn-within (max_of c.args.core.now c.args.counter) _ c.args.start)

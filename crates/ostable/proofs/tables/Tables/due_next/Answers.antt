@@ -3,9 +3,10 @@ use Rattle.std.proofs.lemmas.List.{append-nil, take_all}
 use Rattle.osbase.specs.declared.references.TableRef.{TableRef}
 use Rattle.osbase.specs.Objects.{table_object}
 use Rattle.osplan.specs.Objects.{is_own_object}
-use Rattle.ostable.specs.Tables.{TableStates, due_in, due_table, next_in, timed_by}
+use Rattle.osattach.proofs.Members.{kept-all}
+use Rattle.ostable.specs.Tables.{TableStates, due_in, due_table, is_timed_by, next_in, table_refs, timed_by}
 use Rattle.ostable.proofs.Bounds.{list-at}
-use Rattle.ostable.proofs.Listed.{filter_map-more, none-kept, one-kept, timed-all, timed-own}
+use Rattle.ostable.proofs.Listed.{filter_map-more, none-kept, one-kept, timed-own}
 use Rattle.ostable.proofs.tables.Tables.due_next.Goals.{in-Some, in_default}
 use Rattle.ostable.proofs.tables.Tables.due_next.Goals as goal
 
@@ -19,7 +20,7 @@ due_table-requires-clause-own c =
     c.of-table-items.ensures.value ∙ ap (λ (x : TableStates). get_or x.timed c.args.counter.index []) c.self.view_is ∙ list-at c.args.core.now _ c.requires.tables c.args.counter c.requires.own in
     let all : All (λ (s : TableRef). IsTrue (is_own_object c.args.core.now (table_object s))) c.of-table-items.result.now =
     subst (λ (l : List TableRef). All (λ (s : TableRef). IsTrue (is_own_object c.args.core.now (table_object s))) l) (sym list)
-    (timed-all c.args.core.now c.args.counter (λ (s : TableRef). IsTrue (is_own_object c.args.core.now (table_object s))) (λ s on. timed-own c.args.core.now c.args.counter s on)) in
+    (kept-all (is_timed_by c.args.core.now c.args.counter) (λ (s : TableRef). IsTrue (is_own_object c.args.core.now (table_object s))) (table_refs c.args.core.now) (λ s on. timed-own c.args.core.now c.args.counter s on)) in
     all c.loop-table.table-index no_table c.loop-table-test.true
 
 pub loop-table-preserved : goal.loop-table-preserved
