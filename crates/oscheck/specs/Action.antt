@@ -1,18 +1,15 @@
 -- The actions of alarms and schedule tables, and what the names in them stand for. [own]
 use Rattle.std.specs.Prelude.{ℕ, ◌&&◌, ◌||◌, not, Bool, Option, unwrap_or, List}
 use Rattle.osbase.specs.declared.messages.RemoteCall.{RemoteCall}
-use Rattle.osbase.specs.declared.messages.RemoteCall.TheVariants.{ActivateTask}
 use Rattle.oscript.specs.Calls.{action_of_op}
 use Rattle.osforms.specs.Action.{is_action}
 use Rattle.osforms.specs.Operation.{has_masks}
 use Rattle.osread.specs.Reading.{value_if}
 use Rattle.osshape.specs.declared.declarations.Declaration.{Declaration}
 use Rattle.oscheck.specs.Operation.{is_operation_known, op_of}
+pub use Rattle.oscript.specs.Calls.{any_action}
 
 -- The action that a text means. One that is not in good form, or whose name has no task, stands for none that is used.
-abbrev pub any_action : RemoteCall
-any_action = ActivateTask (record { core = record { number = 0 }; index = 0 })
-
 abbrev pub action_of : List Declaration → List ℕ → RemoteCall
 action_of objects text = unwrap_or (action_of_op (op_of objects text)) any_action
 
