@@ -1,67 +1,70 @@
 //! A core's own objects, by their references.
 
-ghost use Rattle.std.specs.Prelude.{◌≡◌, option_copied};
+ghost use Rattle.std.specs.Prelude.{◌≡◌, None, if◌then◌else◌, option_copied, slice_get};
+ghost use Rattle.osbase.specs.History.{same_core};
 ghost use Rattle.osplan.specs.View.{own_alarm, own_counter, own_isr, own_resource, own_table, own_task};
 
 use crate::plans::{Alarm, Core, Counter, Isr, Resource, Table, Task};
-use osbase::{AlarmRef, CounterRef, IsrRef, ResourceRef, TableRef, TaskRef};
+use osbase::{AlarmRef, CoreId, CounterRef, IsrRef, ResourceRef, TableRef, TaskRef};
+
+// The object of this index in a list of the core's objects, if it is this core that is referred to.
+fn own_at<T>(core: CoreId, objects: &[T], referred: CoreId, index: u8) -> Option<&T>
+    ensures { option_copied result ≡ (if same_core referred core then slice_get objects.now index else None) }
+{
+    if referred == core {
+        return objects.get(usize::from(index));
+    }
+    None
+}
 
 /// The task of this reference, if it is one of this core's.
 pub fn task_of(core: &Core, task: TaskRef) -> Option<&Task>
     ensures { option_copied result ≡ own_task core.now task }
 {
-    if task.core == core.id {
-        return core.tasks.as_slice().get(usize::from(task.index));
-    }
-    None
+    own_at(core.id, core.tasks.as_slice(), task.core, task.index)
 }
 
 /// The ISR of this reference, if it is one of this core's.
 pub fn isr_of(core: &Core, isr: IsrRef) -> Option<&Isr>
     ensures { option_copied result ≡ own_isr core.now isr }
 {
-    if isr.core == core.id {
-        return core.isrs.as_slice().get(usize::from(isr.index));
-    }
-    None
+    own_at(core.id, core.isrs.as_slice(), isr.core, isr.index)
 }
 
 /// The resource of this reference, if it is one of this core's.
 pub fn resource_of(core: &Core, resource: ResourceRef) -> Option<&Resource>
     ensures { option_copied result ≡ own_resource core.now resource }
 {
-    if resource.core == core.id {
-        return core.resources.as_slice().get(usize::from(resource.index));
-    }
-    None
+    own_at(
+        core.id,
+        core.resources.as_slice(),
+        resource.core,
+        resource.index,
+    )
 }
 
 /// The counter of this reference, if it is one of this core's.
 pub fn counter_of(core: &Core, counter: CounterRef) -> Option<&Counter>
     ensures { option_copied result ≡ own_counter core.now counter }
 {
-    if counter.core == core.id {
-        return core.counters.as_slice().get(usize::from(counter.index));
-    }
-    None
+    own_at(
+        core.id,
+        core.counters.as_slice(),
+        counter.core,
+        counter.index,
+    )
 }
 
 /// The alarm of this reference, if it is one of this core's.
 pub fn alarm_of(core: &Core, alarm: AlarmRef) -> Option<&Alarm>
     ensures { option_copied result ≡ own_alarm core.now alarm }
 {
-    if alarm.core == core.id {
-        return core.alarms.as_slice().get(usize::from(alarm.index));
-    }
-    None
+    own_at(core.id, core.alarms.as_slice(), alarm.core, alarm.index)
 }
 
 /// The schedule table of this reference, if it is one of this core's.
 pub fn table_of(core: &Core, table: TableRef) -> Option<&Table>
     ensures { option_copied result ≡ own_table core.now table }
 {
-    if table.core == core.id {
-        return core.tables.as_slice().get(usize::from(table.index));
-    }
-    None
+    own_at(core.id, core.tables.as_slice(), table.core, table.index)
 }
