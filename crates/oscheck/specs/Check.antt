@@ -27,7 +27,7 @@ use Rattle.osshape.specs.declared.declarations.Declaration.{Declaration}
 use Rattle.oscheck.specs.Action.{is_action_known, is_action_masked}
 use Rattle.osshape.specs.Declarations.{counter_declared, counter_ref, declarations, declared_sizes, id_of, names_of, place_of}
 use Rattle.oscheck.specs.Posted.{posted_at_once}
-use Rattle.oscheck.specs.Operation.{operations_of, op_of, is_operation_known, is_operation}
+use Rattle.oscheck.specs.Operation.{operations_of, op_of, named_op, is_operation_known, is_operation}
 
 -- ---- limits: those of a configuration, over the text's numbers
 
@@ -155,9 +155,10 @@ are_readable t = has_number (numbers_of t.cores) t.master && list_all (is_core_r
 
 -- ---- names of other cores' objects
 
--- The operation that the text means names no object of another core than this one, where it may name the core's own alone.
+-- The operation that the text names, whatever its numbers are, names no object of another core than this one, where it may
+-- name the core's own alone.
 abbrev pub is_operation_near : List Declaration → CoreId → List ℕ → Bool
-is_operation_near objects id text = stays_on id (op_of objects text)
+is_operation_near objects id text = stays_on id (named_op objects text)
 
 abbrev pub is_script_near : List Declaration → CoreId → List ℕ → Bool
 is_script_near objects id script = list_all (is_operation_near objects id) (operations_of script)

@@ -2,7 +2,7 @@
 use Rattle.std.specs.Prelude.{ℕ, ◌&&◌, Bool, Option, unwrap_or, List}
 use Rattle.oscript.specs.declared.Op.{Op}
 use Rattle.oscript.specs.declared.Op.TheVariants.{Work}
-use Rattle.osforms.specs.Operation.{op_meant, has_masks, is_formed, is_known}
+use Rattle.osforms.specs.Operation.{op_meant, op_named, has_masks, is_formed, is_known}
 use Rattle.osread.specs.Reading.{value_if, parts_of}
 use Rattle.osshape.specs.declared.declarations.Declaration.{Declaration}
 use Rattle.osshape.specs.Declarations.{place_of}
@@ -23,6 +23,10 @@ is_operation text = is_formed text
 -- The operation that a text means. One that is not in good form, or whose names have no objects, stands for none that is used.
 abbrev pub op_of : List Declaration → List ℕ → Op
 op_of objects text = unwrap_or (op_meant (place_of objects) text) Work
+
+-- The operation that a text names, whatever its numbers are.
+abbrev pub named_op : List Declaration → List ℕ → Op
+named_op objects text = unwrap_or (op_named (place_of objects) text) Work
 
 -- The operation of a text that has none of these faults.
 abbrev pub known_op : List Declaration → List ℕ → Option Op

@@ -22,7 +22,7 @@ use crate::table_checks::{
     are_tables_within,
 };
 use osbase::{CoreId, ObjectKind, TASKS};
-use osforms::{Places, has_masks, is_action, is_known, op_meant};
+use osforms::{Places, has_masks, is_action, is_known, op_named};
 use osplan::{ConfFault, stays_on};
 use osread::{Text, Whole, part_count};
 use osshape::{
@@ -402,7 +402,7 @@ fn are_known(text: &ConfigText, objects: &Objects) -> bool
 fn is_operation_near(objects: &Objects, id: CoreId, text: &str) -> bool
     ensures { result ≡ is_operation_near objects.now.declared id text.now }
 {
-    match op_meant(objects, text) {
+    match op_named(objects, text) {
         Some(op) => stays_on(id, op),
         None => true,
     }

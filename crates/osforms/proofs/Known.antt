@@ -12,7 +12,7 @@ use Rattle.oscript.specs.declared.rows.Arg.{Arg}
 use Rattle.oscript.specs.declared.rows.Arg.TheVariants.{Mask, Number}
 use Rattle.osforms.specs.Word.{is_decimal, number_in}
 use Rattle.osforms.specs.Form.{arg_of, args_of, form_of, form_of_verb, form_of_words, is_first, verb_of, words_behind, words_of}
-use Rattle.osforms.specs.Operation.{args_meant, is_formed, is_known, is_verb_known, of_first, op_meant, place_of_any, resolve_arg, resolve_args, resolved, unranged}
+use Rattle.osforms.specs.Operation.{is_formed, is_known, is_verb_known, of_first, op_meant, op_named, place_of_any, read_args, resolve_arg, resolve_args, resolved, unranged, verb_named}
 use Rattle.osforms.proofs.KindTexts.{cond-some, mapped}
 use Rattle.osforms.proofs.Meant.{any-args, any-two, find-passes, is-mapped, meant-args}
 use Rattle.osforms.proofs.RoundTrip.{both, chained}
@@ -45,14 +45,30 @@ either-way : {A B : Type 0} (f : A → Option B) (o : Option A) → (is_some (op
 either-way f None = refl
 either-way f (Some a) = or-false (is_some (f a))
 
+any-read : (words : List (List ℕ)) (verb : Verb) → is_some (verb_named place_of_any words verb) ≡ is_some (read_args words verb)
+any-read words verb =
+    is-mapped (λ args. op_of (verb, args)) (option_and_then (resolve_args place_of_any) (read_args words verb))
+    ∙ ap is_some (meant-args place_of_any (map unranged (kinds_of verb)) words)
+    ∙ any-args (map unranged (kinds_of verb)) words
+
 -- Each name has its place, or the words are no arguments of the verb, whatever names stand for.
-pub verb-known : (place : ObjectKind → List ℕ → Option Place) (words : List (List ℕ)) (verb : Verb)
-    → (is_some (args_meant place (map unranged (kinds_of verb)) words) || not (is_some (args_meant place_of_any (map unranged (kinds_of verb)) words))) ≡ is_verb_known place words verb
+verb-known : (place : ObjectKind → List ℕ → Option Place) (words : List (List ℕ)) (verb : Verb) → (is_some (verb_named place words verb) || not (is_some (verb_named place_of_any words verb))) ≡ is_verb_known place words verb
 verb-known place words verb =
-    let kinds = map unranged (kinds_of verb) in
-    ap (λ b. is_some (args_meant place kinds words) || not b) (any-args kinds words)
-    ∙ ap (λ (o : Option (List (Arg Place))). is_some o || not (is_some (args_of kinds words))) (sym (meant-args place kinds words))
-    ∙ either-way (resolve_args place) (args_of kinds words)
+    ap (λ b. is_some (verb_named place words verb) || not b) (any-read words verb)
+    ∙ ap (λ b. b || not (is_some (read_args words verb))) (is-mapped (λ args. op_of (verb, args)) (option_and_then (resolve_args place) (read_args words verb)))
+    ∙ either-way (resolve_args place) (read_args words verb)
+
+words-named : (place : ObjectKind → List ℕ → Option Place) (words : List (List ℕ)) → (is_some (of_first (verb_named place) None words) || not (is_some (of_first (verb_named place_of_any) None words))) ≡ of_first (is_verb_known place) true words
+words-named place [] = refl
+words-named place (word ∷ words) = by (verb_of word)
+  where
+    by : (o : Option Verb) → (is_some (option_map_or (verb_named place words) o None) || not (is_some (option_map_or (verb_named place_of_any words) o None))) ≡ option_map_or (is_verb_known place words) o true
+    by None = refl
+    by (Some verb) = verb-known place words verb
+
+-- The names of a text are known where it names an operation by their places, or none whatever they stand for.
+pub known_named : (place : ObjectKind → List ℕ → Option Place) (text : List ℕ) → (is_some (op_named place text) || not (is_some (op_named place_of_any text))) ≡ is_known place text
+known_named place text = words-named place (words_of text)
 
 -- ---- a text in good form is one without regard to ranges, with the same names
 

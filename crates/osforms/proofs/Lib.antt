@@ -7,6 +7,7 @@ pub mod RoundTrip
 pub mod LastWord
 pub mod Meant
 pub mod Known
+pub mod Alike
 pub mod ArgsTexts
 pub mod Fitting
 pub mod Operations

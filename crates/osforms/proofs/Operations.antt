@@ -2,7 +2,7 @@
 use Rattle.std.proofs.Common.{◌≡◌, ℕ, ◌==◌, ◌≤◌, nat_le, not, Bool, true, false, Option, Some, None, is_some, option_map, option_and_then, List, [], ◌∷◌, length, map, refl, sym, ap, ◌∙◌, arith}
 use Rattle.std.specs.List.{list_all}
 use Rattle.std.specs.Option.{option_map_or}
-use Rattle.std.proofs.lemmas.Bool.{and_parts, and_from, false≢true, leb-true, true≢false}
+use Rattle.std.proofs.lemmas.Bool.{and_parts, and_from, false≢true, leb-true}
 use Rattle.osbase.specs.declared.objects.ObjectKind.{ObjectKind}
 use Rattle.osbase.specs.declared.objects.Place.{Place}
 use Rattle.osbase.specs.declared.objects.Object.{Object as Named}
@@ -17,6 +17,7 @@ use Rattle.oscript.specs.Rows.{are_of, form_of_op, has_event, is_in_form, is_of,
 use Rattle.oscript.proofs.Arguments.{rest-pass}
 use Rattle.osforms.specs.Form.{form_of, words_of}
 use Rattle.osforms.specs.Operation.{resolve_arg, resolve_args, resolved, named, op_meant, place_of_any, has_masks, is_formed, is_known, op_text}
+use Rattle.osforms.proofs.Alike.{named-alike}
 use Rattle.osforms.proofs.Joining.{has_none}
 use Rattle.osforms.proofs.KindTexts.{mapped, is_kind, ReadsBack, invalid-back, name-back, mask-back, number-back, int-back, variable-back, IsApart}
 use Rattle.osforms.proofs.Known.{form-known}
@@ -104,19 +105,23 @@ module _ (place : ObjectKind → List ℕ → Option Place) where
       let m = both (resolve_arg place a) (resolve_args place shown) args e in
       rw (← m.4, arg-event a m.0 m.2, args-events shown m.1 m.3) refl
 
-  -- The masks of the operation that a text means are the text's.
-  pub meant_masks : (text : List ℕ) (op : Op) → op_meant place text ≡ Some op → rows.has_masks op ≡ has_masks text
-  meant_masks text op e =
+  -- The masks of the operation that a text means are those of its form,
+  form-masks : (text : List ℕ) (op : Op) → op_meant place text ≡ Some op → rows.has_masks op ≡ option_map_or (λ form. list_all has_event form.1) (form_of text) true
+  form-masks text op e =
       let m = meant-form place text op e in
       ap (list_all has_event) m.args_are ∙ args-events m.form.1 m.args m.placed ∙ sym (ap (λ o. option_map_or (λ form. list_all has_event form.1) o true) m.formed)
 
--- A text that means no operation, whatever its names stand for, has none.
-masks-by : (text : List ℕ) (o : Option (Verb × List (Arg (List ℕ)))) → is_some o ≡ false → option_map_or (λ form. list_all has_event form.1) o true ≡ true
-masks-by text None none = refl
-masks-by text (Some form) none = absurd (true≢false none)
+some-of : (o : Option Op) → is_some o ≡ true → (op : Op) × (o ≡ Some op)
+some-of None e = cc
+some-of (Some op) e = (op, refl)
 
-pub no-masks : (text : List ℕ) → op_meant place_of_any text ≡ None → has_masks text ≡ true
-no-masks text none = masks-by text (form_of text) (sym (any_meant text) ∙ ap is_some none)
+-- and so the text's.
+pub meant_masks : (place : ObjectKind → List ℕ → Option Place) (text : List ℕ) (op : Op) → op_meant place text ≡ Some op → rows.has_masks op ≡ has_masks text
+meant_masks place text op e =
+    let any = some-of (op_meant place_of_any text) (any_meant text ∙ (meant-known place text op e).0) in
+    let alike = named-alike place_of_any text any.0 any.1 in
+    form-masks place text op e ∙ sym (form-masks place_of_any text any.0 any.1)
+    ∙ alike.2.masks ∙ sym (ap (λ o. option_map_or rows.has_masks o true) alike.1)
 
 -- ---- what an operation's text means
 

@@ -1,7 +1,6 @@
 -- Operations and their texts, by what names stand for. [own]
 use Rattle.std.specs.Prelude.{ℕ, ◌++◌, if◌then◌else◌, Bool, true, Option, Some, None, is_some, option_map, option_and_then, List, [], ◌∷◌, map}
 use Rattle.std.specs.Borrow.{Bor}
-use Rattle.std.specs.List.{list_all}
 use Rattle.std.specs.Option.{option_map_or}
 use Rattle.osbase.specs.Names.{is_name}
 use Rattle.osbase.specs.declared.objects.ObjectKind.{ObjectKind}
@@ -11,7 +10,8 @@ use Rattle.oscript.specs.declared.rows.Verb.{Verb}
 use Rattle.oscript.specs.declared.rows.Arg.{Arg}
 use Rattle.oscript.specs.declared.rows.Kind.{Kind}
 use Rattle.oscript.specs.declared.rows.Arg.TheVariants.{Object, Mask, Number, Int, Variable}
-use Rattle.oscript.specs.Rows.{op_of, form_of_op, has_event, kinds_of}
+use Rattle.oscript.specs.Rows as rows
+use Rattle.oscript.specs.Rows.{op_of, form_of_op, kinds_of}
 use Rattle.osforms.specs.Form.{and_then_rest, arg_of, args_of, form_of, form_text, arg_text, rest_words, verb_of, words_of}
 
 -- ---- from names to places
@@ -66,31 +66,45 @@ verb_meant place words verb = option_map (λ args. op_of (verb, args)) (args_mea
 abbrev pub place_of_any : ObjectKind → List ℕ → Option Place
 place_of_any kind name = if is_name name then Some (record { core = record { number = 0 }; index = 0 }) else None
 
--- The text is in good form.
+-- The text is in good form, and its numbers are in their ranges.
 abbrev pub is_formed : List ℕ → Bool
 is_formed text = is_some (form_of text)
 
--- As far as names go a number is any decimal one: whether it is in its range is asked apart, as of a mask. [own]
+-- ---- what is judged beside the ranges of numbers. All of it is asked of one reading of the words, in which a number is any
+-- decimal one, so that no number hides a fault of a name or of a mask.
+
+-- As a mask is: whether a number is in its range is asked apart. [own]
 abbrev pub unranged : Kind → Kind
 unranged (Kind.Number low high) = Kind.Mask
 unranged kind = kind
 
--- Each name has its place, where the words are arguments of the verb but for the ranges of numbers. Other words have no names.
-abbrev pub is_verb_known : (ObjectKind → List ℕ → Option Place) → List (List ℕ) → Verb → Bool
-is_verb_known place words verb = option_map_or (λ args. is_some (resolve_args place args)) (args_of (map unranged (kinds_of verb)) words) true
+-- The words as arguments of the verb, whatever its numbers are.
+abbrev pub read_args : List (List ℕ) → Verb → Option (List (Arg (List ℕ)))
+read_args words verb = args_of (map unranged (kinds_of verb)) words
 
 -- What is asked of a first word and those behind it, where there is a verb of that word.
 abbrev pub of_first : {X : Type 0} → (List (List ℕ) → Verb → X) → X → List (List ℕ) → X
 of_first ask none [] = none
 of_first ask none (word ∷ words) = option_map_or (ask words) (verb_of word) none
 
--- Each name of a text has its place, where the text is in good form but for the ranges of its numbers. Another text has no names.
+-- Each name has its place, where the words are arguments of the verb. Other words have no names.
+abbrev pub is_verb_known : (ObjectKind → List ℕ → Option Place) → List (List ℕ) → Verb → Bool
+is_verb_known place words verb = option_map_or (λ args. is_some (resolve_args place args)) (read_args words verb) true
+
+-- Each name of a text has its place.
 abbrev pub is_known : (ObjectKind → List ℕ → Option Place) → List ℕ → Bool
 is_known place text = of_first (is_verb_known place) true (words_of text)
 
--- Each mask of a text in good form is in its range. A text in another form has no masks.
+abbrev pub verb_named : (ObjectKind → List ℕ → Option Place) → List (List ℕ) → Verb → Option Op
+verb_named place words verb = option_map (λ args. op_of (verb, args)) (option_and_then (resolve_args place) (read_args words verb))
+
+-- The operation that a text names, where its names have places: the one that it means, but with 0 for each number.
+abbrev pub op_named : (ObjectKind → List ℕ → Option Place) → List ℕ → Option Op
+op_named place text = of_first (verb_named place) None (words_of text)
+
+-- Each mask of a text is in its range, whatever its names stand for. A text that names no operation has no masks.
 abbrev pub has_masks : List ℕ → Bool
-has_masks text = option_map_or (λ form. list_all has_event form.1) (form_of text) true
+has_masks text = option_map_or rows.has_masks (op_named place_of_any text) true
 
 -- ---- from places to names
 

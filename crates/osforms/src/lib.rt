@@ -13,6 +13,6 @@ mod words;
 mod writing;
 
 pub use actions::is_action;
-pub use parsing::{has_masks, is_known, op_meant};
+pub use parsing::{has_masks, is_known, op_meant, op_named};
 pub use places::Places;
 pub use writing::{Names, op_text};

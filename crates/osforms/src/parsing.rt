@@ -1,10 +1,10 @@
 //! Reading: operations in good form, with the places of their names.
 
-ghost use Rattle.std.specs.Prelude.{◌≡◌, ◌∷◌, [], find, is_some, map, option_map, List};
+ghost use Rattle.std.specs.Prelude.{◌≡◌, ◌∷◌, [], find, map, option_map, List};
 ghost use Rattle.oscript.specs.declared.rows.Kind.{Kind};
-ghost use Rattle.oscript.specs.Rows.{word_of, items, kinds_of};
+ghost use Rattle.oscript.specs.Rows.{word_of, items};
 ghost use Rattle.osforms.specs.Form.{is_first, rest_words, words_behind, words_of};
-ghost use Rattle.osforms.specs.Operation.{arg_meant, args_after, args_meant, has_masks, is_known, is_verb_known, last_of, op_meant, two_of, unranged, verb_meant};
+ghost use Rattle.osforms.specs.Operation.{arg_meant, args_after, args_meant, has_masks, is_known, last_of, op_meant, op_named, two_of, unranged, verb_meant, verb_named};
 
 use crate::numbers::{int_of, mask_of, number_in, variable_of};
 use crate::places::{AnyName, Places};
@@ -194,18 +194,29 @@ fn all_unranged(kinds: Args<Kind>) -> Args<Kind>
     }
 }
 
-// Whether the words are arguments of the verb, but for the ranges of numbers, and each name has its place.
 #[inline(always)]
-fn has_places<P: Places>(places: &P, verb: Verb, rest: Option<&str>) -> bool
-    ensures { result ≡ is_some (args_meant (P.place places.now) (map unranged (kinds_of verb)) (rest_words rest.entry)) }
+fn verb_named<P: Places>(places: &P, verb: Verb, rest: Option<&str>) -> Option<Op>
+    ensures { result ≡ verb_named (P.place places.now) (rest_words rest.entry) verb }
 {
-    args_meant(places, all_unranged(row_of(verb).kinds), rest).is_some()
+    match args_meant(places, all_unranged(row_of(verb).kinds), rest) {
+        Some(args) => Some(op_of(Form { verb, args })),
+        None => None,
+    }
 }
 
-fn is_verb_known<P: Places>(places: &P, verb: Verb, rest: Option<&str>) -> bool
-    ensures { result ≡ is_verb_known (P.place places.now) (rest_words rest.entry) verb }
+/// The operation that a text names: the one that it means, but with 0 for each number, be that in its range or not. So its
+/// names and its masks can be judged whatever its numbers are. None where the text is not in good form, or where a name
+/// in it has no place.
+pub fn op_named<P: Places>(places: &P, text: &str) -> Option<Op>
+    ensures { result ≡ op_named (P.place places.now) text.now }
 {
-    has_places(places, verb, rest) || !has_places(&AnyName, verb, rest)
+    match first_verb(text) {
+        Some(verb) => match rest_of(verb, text) {
+            Some(rest) => verb_named(places, verb, rest),
+            None => None,
+        },
+        None => None,
+    }
 }
 
 /// Whether each name of a text has its place, where the text is in good form but for the ranges of its numbers. A
@@ -213,20 +224,15 @@ fn is_verb_known<P: Places>(places: &P, verb: Verb, rest: Option<&str>) -> bool
 pub fn is_known<P: Places>(places: &P, text: &str) -> bool
     ensures { result ≡ is_known (P.place places.now) text.now }
 {
-    match first_verb(text) {
-        Some(verb) => match rest_of(verb, text) {
-            Some(rest) => is_verb_known(places, verb, rest),
-            None => true,
-        },
-        None => true,
-    }
+    op_named(places, text).is_some() || op_named(&AnyName, text).is_none()
 }
 
-/// Whether each mask of a text in good form is in its range. A text in another form has no masks.
+/// Whether each mask of a text is in its range, where the text is in good form but for the ranges of its numbers. A text
+/// in another form has no masks.
 pub fn has_masks(text: &str) -> bool
     ensures { result ≡ has_masks text.now }
 {
-    match op_meant(&AnyName, text) {
+    match op_named(&AnyName, text) {
         Some(op) => op.has_masks(),
         None => true,
     }

@@ -1,20 +1,20 @@
-use Rattle.std.proofs.Common.{true, option_map, sym, ap, ◌∙◌}
-use Rattle.std.specs.Option.{option_map_or}
-use Rattle.osforms.specs.Form.{rest_words}
-use Rattle.osforms.specs.Operation.{is_verb_known}
-use Rattle.osforms.proofs.Known.{asked-first, asked-none}
+use Rattle.std.proofs.Common.{is_some, not, ◌||◌, sym, ap, ◌∙◌}
+use Rattle.std.proofs.Math.Bool.{not-not}
+use Rattle.std.proofs.lemmas.Bool.{or_left}
+use Rattle.osforms.specs.Operation.{op_named, place_of_any}
+use Rattle.osforms.proofs.Known.{known_named}
 use Rattle.osforms.proofs.parsing.is_known.Goals as goal
 
-pub returns-in-Some-rest_of : goal.returns-in-Some-rest_of
-returns-in-Some-rest_of g c =
+pub returns-then-is_some : goal.returns-then-is_some
+returns-then-is_some g c =
     let place = g.P.Places.place c.args.places.now in
-    c.is_verb_known.ensures
-    ∙ sym (asked-first (is_verb_known place) true c.args.text.now c.in-Some.verb (sym c.first_verb.ensures ∙ c.in-Some.is) ∙ ap (λ o. option_map_or (λ words. is_verb_known place words c.in-Some.verb) o true) (sym c.rest_of.ensures ∙ ap (option_map rest_words) c.in-Some-rest_of.is))
+    c.if-is_some.true
+    ∙ sym (or_left _ _ (ap is_some (sym c.op_named.ensures) ∙ sym c.is_some.ensures ∙ c.if-is_some.true))
+    ∙ known_named place c.args.text.now
 
-pub returns-in-None-rest_of : goal.returns-in-None-rest_of
-returns-in-None-rest_of g c =
+pub returns-else-is_some : goal.returns-else-is_some
+returns-else-is_some g c =
     let place = g.P.Places.place c.args.places.now in
-    sym (asked-first (is_verb_known place) true c.args.text.now c.in-Some.verb (sym c.first_verb.ensures ∙ c.in-Some.is) ∙ ap (λ o. option_map_or (λ words. is_verb_known place words c.in-Some.verb) o true) (sym c.rest_of.ensures ∙ ap (option_map rest_words) c.in-None-rest_of.is))
-
-pub returns-in-None : goal.returns-in-None
-returns-in-None g c = sym (asked-none (is_verb_known (g.P.Places.place c.args.places.now)) true c.args.text.now (sym c.first_verb.ensures ∙ c.in-None.is))
+    sym (not-not c.is_none.result) ∙ ap not (sym c.is_none.ensures ∙ ap is_some c.op_named-else-is_some.ensures)
+    ∙ ap (λ b. b || not (is_some (op_named place_of_any c.args.text.now))) (sym c.if-is_some.false ∙ c.is_some.ensures ∙ ap is_some c.op_named.ensures)
+    ∙ known_named place c.args.text.now
