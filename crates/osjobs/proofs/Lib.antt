@@ -1,2 +1,3 @@
 pub mod Removal
 pub mod Choosing
+pub mod Stamps

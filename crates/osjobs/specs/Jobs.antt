@@ -1,5 +1,5 @@
 -- The live jobs of a core: what each entry of the history does to them, and which of them runs.
-use Rattle.std.specs.Prelude.{ℕ, Bool, true, false, Option, Some, None, List, [], filter, replicate}
+use Rattle.std.specs.Prelude.{ℕ, ◌<◌, Bool, true, false, Option, Some, None, List, [], ◌∷◌, filter, replicate}
 use Rattle.osbase.specs.declared.references.TaskRef.{TaskRef}
 use Rattle.osbase.specs.declared.references.Runner.{Runner}
 use Rattle.osbase.specs.declared.histories.Job.{Job}
@@ -19,6 +19,16 @@ pub record JobState : Type 0 where
   pub current : Option TaskRef
   pub giving_way : Option Runner
   pub rows : List Row
+
+-- Every one of these jobs.
+abbrev pub Each : (Job → Type 0) → List Job → Type 0
+Each P [] = Unit {0}
+Each P (j ∷ js) = P j × Each P js
+
+-- Each job's stamp is smaller than those of the jobs behind it.
+abbrev pub Ascending : List Job → Type 0
+Ascending [] = Unit {0}
+Ascending (j ∷ js) = Each (λ (k : Job). j.stamp < k.stamp) js × Ascending js
 
 -- ---- what an entry does
 

@@ -2,10 +2,11 @@
 
 ghost use Rattle.std.specs.Prelude.{◌≡◌, ◌<◌, ◌≤◌, [], false, length, remove, slice_get, None, IsTrue, IfSome, IfNone};
 ghost use Rattle.std.specs.List.{All};
+ghost use Rattle.osbase.specs.declared.histories.Job.{Job as JobValue};
 ghost use Rattle.osbase.specs.History.{Took, Printed, Noted, Taken, Given, Done, giving_way_after, gives_way, job_count, left_by, oldest, stamped_anew, without_oldest};
 ghost use Rattle.oscript.specs.Frames.{action_at};
 ghost use Rattle.osrunner.specs.Rows.{events_in, frame_in, held_in, is_occupied};
-ghost use Rattle.osjobs.specs.Jobs.{best_among, first_jobs, is_plain, jobs_by, running_among};
+ghost use Rattle.osjobs.specs.Jobs.{Each, best_among, first_jobs, is_plain, jobs_by, running_among};
 ghost use Rattle.osjobs.specs.Priorities.{holds_any, is_newest, is_own_runner};
 
 use crate::priorities;
@@ -36,10 +37,13 @@ pub struct Jobs<const P: usize, const J: usize> {
 
 impl<const P: usize, const J: usize> Model for Jobs<P, J> {
     ghost use Rattle.osjobs.specs.Jobs.{JobState};
+    ghost use Rattle.osjobs.specs.Jobs.{Ascending};
 
     ghost Value = { JobState };
 
     ghost view = { λ s. record { jobs = s.jobs.items; current = s.current; giving_way = s.giving_way; rows = s.rows } };
+
+    ghost invariant = { λ s. Ascending s.jobs.items };
 }
 
 impl<const P: usize, const J: usize> Jobs<P, J> {
@@ -62,9 +66,11 @@ impl<const P: usize, const J: usize> Jobs<P, J> {
         self.giving_way = None;
     }
 
-    /// A job of the task begins, with this stamp and no event set (OSEK/VDX OS 2.2.3, section 4.3 and 13.2.3.1).
+    /// A job of the task begins, with a stamp greater than all that there are, and no event set (OSEK/VDX OS 2.2.3,
+    /// section 4.3 and 13.2.3.1).
     pub fn activate(&mut self, task: TaskRef, stamp: u64)
-        requires { length self.old.jobs < J }
+        requires room { length self.old.jobs < J }
+        requires newest { Each (λ (j : JobValue). j.stamp < stamp) self.old.jobs }
         ensures { self.new ≡ jobs_by [] (Printed (Mark.Activated task)) stamp self.old }
     {
         let runner = Runner::Task(task);
@@ -132,9 +138,10 @@ impl<const P: usize, const J: usize> Jobs<P, J> {
             .put_events(Runner::Task(task), with_awaited(events, Some(mask)));
     }
 
-    /// A task is released from waiting: its oldest job gets this stamp, behind all others (OSEK/VDX OS 2.2.3,
-    /// section 4.2.1 and 4.5).
+    /// A task is released from waiting: its oldest job gets a stamp greater than all that there are, behind all others
+    /// (OSEK/VDX OS 2.2.3, section 4.2.1 and 4.5).
     pub fn release(&mut self, task: TaskRef, stamp: u64)
+        requires newest { Each (λ (j : JobValue). j.stamp < stamp) self.old.jobs }
         ensures { self.new ≡ jobs_by [] (Printed (Mark.Released task)) stamp self.old }
     {
         let runner = Runner::Task(task);

@@ -109,7 +109,7 @@ sound-begun priorities room plan id core master limits text found below ceilings
     resources = fits.resources;
     ceilings = subst (λ (v : View). list_all (λ (r : Resource). nat_lt r.ceiling priorities) v.own.resources ≡ true) (sym (view-own plan id core found)) ceilings;
   };
-  jobs = record { within = (λ r. omega arith); idle = (λ e. refl) };
+  jobs = record { within = (λ r. omega arith); stamps = tt; idle = (λ e. refl) };
   progress = record { agreed = before_gate master; began = omega arith; items = omega arith };
   border = record { caller = tt; queued = zeros_low CORES; received = zeros_low CORES };
   times = record {

@@ -14,7 +14,7 @@ use Rattle.osplan.specs.View.{View}
 use Rattle.osjobs.specs.Priorities.{is_own_runner}
 use Rattle.osstate.specs.State.{KernelState, Stands}
 use Rattle.osstate.specs.Steps.{next_envelope, one_more, state_after}
-use Rattle.osstate.specs.Does.{Adds, Effects, Remarks, StaysInItem}
+use Rattle.osstate.specs.Does.{Adds, Effects, Joins, Remarks, StaysInItem}
 use Rattle.osstate.specs.Sound.{IsSound}
 use Rattle.osstate.proofs.Histories.{are_numbers_known, notes, notes_queued, own_entry}
 
@@ -67,18 +67,18 @@ stays_in : (s s' : KernelState) (e : Entry) → s' ≡ state_after e s → Stays
 stays_in s s' e is stays = subst (λ (q : KernelState). StaysInItem 1 s q) (sym is) stays
 
 -- One mark more.
-pub printing : {priorities room : ℕ} {m : Mark} {s s' : KernelState} {x x' : Vec Mark Global} → IsSound priorities room s → option_map_or (is_own_runner s.view.own) (runner_of (Printed m)) true ≡ true → s' ≡ state_after (Printed m) s → x'.items ≡ x.items ++ m ∷ [] → vec_len x' ≤ vec_len x + 1 → vec_capacity x' ≡ vec_capacity x → Effects 1 1 (λ v h. Printed m ∷ h) s s' x x'
-printing {m = m} {s = s} {s' = s'} sound own is more len capacity = record {
+pub printing : {priorities room : ℕ} {m : Mark} {s s' : KernelState} {x x' : Vec Mark Global} → IsSound priorities room s → option_map_or (is_own_runner s.view.own) (runner_of (Printed m)) true ≡ true → s' ≡ state_after (Printed m) s → Joins m x x' → Effects 1 1 (λ v h. Printed m ∷ h) s s' x x'
+printing {m = m} {s = s} {s' = s'} sound own is joins = record {
   does = (λ v h earlier base tracks. record {
     stands = notes is (own_entry (Printed m) sound own refl) v h tracks.stands;
     added = tracks.added ++ m ∷ [];
-    behind = more ∙ ap (λ (ms : List Mark). ms ++ m ∷ []) tracks.behind ∙ append_assoc base tracks.added (m ∷ []);
+    behind = joins.items ∙ ap (λ (ms : List Mark). ms ++ m ∷ []) tracks.behind ∙ append_assoc base tracks.added (m ∷ []);
     shows = sym (append_assoc earlier tracks.added (m ∷ [])) ∙ ap (λ (ms : List Mark). ms ++ m ∷ []) tracks.shows;
   });
   stays = stays_in s s' (Printed m) is (record { view = refl; phase = refl; items = refl; entries = omega arith });
-  adds = record { added = m ∷ []; is = more; within = omega arith };
-  len = len;
-  capacity = capacity;
+  adds = record { added = m ∷ []; is = joins.items; within = omega arith };
+  len = joins.len;
+  capacity = joins.capacity;
 }
 
 -- One note more.

@@ -12,7 +12,8 @@ use Rattle.osbase.specs.declared.histories.Sent.{Sent}
 use Rattle.osbase.specs.declared.references.Runner.{Runner}
 use Rattle.osbase.specs.declared.marks.Mark.{Mark}
 use Rattle.oscript.specs.Runners.{runner_of}
-use Rattle.osjobs.specs.Jobs.{JobState, is_plain}
+use Rattle.osjobs.specs.Jobs.{Each, JobState, is_plain}
+use Rattle.osjobs.proofs.Stamps.{each-anew, each-less, each-push, each-weaker}
 use Rattle.osbase.specs.declared.histories.Job.{Job}
 use Rattle.osbase.specs.declared.histories.OpenCall.{OpenCall}
 use Rattle.osbase.specs.History.{Printed, Took, agreement_after, began_after, closed_by, job_count, jobs_after, open_after, same_core, same_runner, stamped_anew, without_oldest, phase_on}
@@ -34,14 +35,21 @@ use Rattle.osstate.proofs.Room.{length_within}
 
 -- ---- what an entry leaves: its part is given anew, and the others stay
 
+-- what is older than the next entry is older than the one after it
+older-still : (entries : ℕ) (jobs : List Job) → Each (λ (j : Job). j.stamp < entries) jobs → Each (λ (j : Job). j.stamp < entries + 1) jobs
+older-still entries jobs older = each-weaker (λ (j : Job). j.stamp < entries) (λ (j : Job). j.stamp < entries + 1) jobs (λ j before. omega (arith, before)) older
+
 pub under-way : {p : Progress} → IsUnderWay p → IsUnderWay (record p { entries = p.entries + 1 })
 under-way sound = record { agreed = sound.agreed; began = omega (arith, sound.began); items = omega (arith, sound.items) }
+
+pub jobs-later : {core : Core} {phase : Phase} {entries : ℕ} {jobs : List Job} → HasJobs core phase entries jobs → HasJobs core phase (entries + 1) jobs
+jobs-later {entries = entries} {jobs = jobs} sound = record { within = sound.within; stamps = older-still entries jobs sound.stamps; idle = sound.idle }
 
 pub border-later : {core : Core} {entries : ℕ} {border : BorderState} → HasBorder core entries border → HasBorder core (entries + 1) border
 border-later sound = record { caller = sound.caller; queued = (λ k. omega (arith, sound.queued k)); received = (λ k. omega (arith, sound.received k)) }
 
 pub goes-on : {priorities room : ℕ} {s : KernelState} (tasks : JobState) (border : BorderState) {clocks : ClockState} {timetables : TableStates} → IsSound priorities room s
-    → HasJobs s.view.own s.progress.phase tasks.jobs → HasBorder s.view.own (s.progress.entries + 1) border → HasClocks s.view.own clocks timetables
+    → HasJobs s.view.own s.progress.phase (s.progress.entries + 1) tasks.jobs → HasBorder s.view.own (s.progress.entries + 1) border → HasClocks s.view.own clocks timetables
     → IsSound priorities room (record s { progress = record s.progress { entries = s.progress.entries + 1 }; tasks = tasks; border = border; clocks = clocks; tables = timetables })
 goes-on tasks border sound jobs crossing times = record { tasks = sound.tasks; objects = sound.objects; jobs = jobs; progress = under-way sound.progress; border = crossing; times = times }
 
@@ -49,14 +57,15 @@ goes-on tasks border sound jobs crossing times = record { tasks = sound.tasks; o
 pub same-jobs : {priorities room : ℕ} {s : KernelState} (tasks : JobState) → tasks.jobs ≡ s.tasks.jobs → IsSound priorities room s
     → IsSound priorities room (record s { progress = record s.progress { entries = s.progress.entries + 1 }; tasks = tasks })
 same-jobs {s = s} tasks same sound =
-    goes-on tasks s.border sound (subst (HasJobs s.view.own s.progress.phase) (sym same) sound.jobs) (border-later sound.border) sound.times
+    goes-on tasks s.border sound (subst (HasJobs s.view.own s.progress.phase (s.progress.entries + 1)) (sym same) (jobs-later sound.jobs)) (border-later sound.border) sound.times
 
 pub activated : (priorities room : ℕ) (t : TaskRef) (s : KernelState) → IsSound priorities room s → job_count (Runner.Task t) s.tasks.jobs < activation_limit s.view.own (Runner.Task t) → is_before_live s.progress.phase ≡ false → IsSound priorities room (state_after (Printed (Mark.Activated t)) s)
 activated priorities room t s sound below live = goes-on _ _ sound jobs (border-later sound.border) sound.times
   where
-    jobs : HasJobs s.view.own s.progress.phase (s.tasks.jobs ++ record { runner = Runner.Task t; stamp = s.progress.entries } ∷ [])
+    jobs : HasJobs s.view.own s.progress.phase (s.progress.entries + 1) (s.tasks.jobs ++ record { runner = Runner.Task t; stamp = s.progress.entries } ∷ [])
     jobs = record {
       within = within_append (activation_limit s.view.own) s.tasks.jobs (record { runner = Runner.Task t; stamp = s.progress.entries }) sound.jobs.within below;
+      stamps = each-push (λ (j : Job). j.stamp < s.progress.entries + 1) s.tasks.jobs (record { runner = Runner.Task t; stamp = s.progress.entries }) (older-still s.progress.entries s.tasks.jobs sound.jobs.stamps) (omega arith);
       idle = (λ e. absurd (false≢true (sym live ∙ e)));
     }
 
@@ -75,18 +84,20 @@ border-closed {core = core} {border = border} r sound = record {
 pub terminated : (priorities room : ℕ) (t : TaskRef) (s : KernelState) → IsSound priorities room s → IsSound priorities room (state_after (Printed (Mark.Terminated t)) s)
 terminated priorities room t s sound = goes-on _ _ sound jobs (border-closed (Runner.Task t) sound.border) sound.times
   where
-    jobs : HasJobs s.view.own s.progress.phase (without_oldest (Runner.Task t) s.tasks.jobs)
+    jobs : HasJobs s.view.own s.progress.phase (s.progress.entries + 1) (without_oldest (Runner.Task t) s.tasks.jobs)
     jobs = record {
       within = (λ r. omega (arith, sound.jobs.within r, job_count-without_oldest r (Runner.Task t) s.tasks.jobs));
+      stamps = each-less (λ (j : Job). j.stamp < s.progress.entries + 1) (Runner.Task t) s.tasks.jobs (older-still s.progress.entries s.tasks.jobs sound.jobs.stamps);
       idle = (λ e. ap (without_oldest (Runner.Task t)) (sound.jobs.idle e));
     }
 
 pub released : (priorities room : ℕ) (t : TaskRef) (s : KernelState) → IsSound priorities room s → IsSound priorities room (state_after (Printed (Mark.Released t)) s)
 released priorities room t s sound = goes-on _ _ sound jobs (border-later sound.border) sound.times
   where
-    jobs : HasJobs s.view.own s.progress.phase (stamped_anew (Runner.Task t) s.progress.entries s.tasks.jobs)
+    jobs : HasJobs s.view.own s.progress.phase (s.progress.entries + 1) (stamped_anew (Runner.Task t) s.progress.entries s.tasks.jobs)
     jobs = record {
       within = (λ r. omega (arith, sound.jobs.within r, job_count-stamped_anew r (Runner.Task t) s.progress.entries s.tasks.jobs));
+      stamps = each-anew (λ (j : Job). j.stamp < s.progress.entries + 1) (Runner.Task t) s.progress.entries s.tasks.jobs (older-still s.progress.entries s.tasks.jobs sound.jobs.stamps) (λ j. omega arith);
       idle = (λ e. ap (stamped_anew (Runner.Task t) s.progress.entries) (sound.jobs.idle e));
     }
 
@@ -163,7 +174,7 @@ pub taken : (priorities room : ℕ) (item : Item) (outbox : List Sent) (s : Kern
 taken priorities room item outbox s sound forward onward = record {
   tasks = sound.tasks;
   objects = sound.objects;
-  jobs = record { within = sound.jobs.within; idle = (λ e. sound.jobs.idle (forward e)) };
+  jobs = record { within = sound.jobs.within; stamps = older-still s.progress.entries s.tasks.jobs sound.jobs.stamps; idle = (λ e. sound.jobs.idle (forward e)) };
   progress = record {
     agreed = agreed-on item s.progress.phase s.progress.agreement onward sound.progress.agreed;
     began = began-within item s.progress.began s.progress.entries sound.progress.began;
@@ -181,7 +192,7 @@ taken priorities room item outbox s sound forward onward = record {
 pub clocked : (priorities room : ℕ) (clocks : ClockState) (timetables : TableStates) (s : KernelState) → IsSound priorities room s → AreClocks s.view.own clocks → AreTables s.view.own timetables → all_wait_by_counter s.view.own timetables ≡ true
     → IsSound priorities room (record s { progress = record s.progress { entries = s.progress.entries + 1 }; clocks = clocks; tables = timetables })
 clocked priorities room clocks timetables s sound are tables waiting =
-    goes-on s.tasks s.border sound sound.jobs (border-later sound.border) (record { clocks = are; tables = tables; waiting = waiting })
+    goes-on s.tasks s.border sound (jobs-later sound.jobs) (border-later sound.border) (record { clocks = are; tables = tables; waiting = waiting })
 
 -- a mark that begins and ends no job
 pub plain-jobs : (m : Mark) (stamp : ℕ) (jobs : List Job) → is_plain m ≡ true → jobs_after (Printed m) stamp jobs ≡ jobs

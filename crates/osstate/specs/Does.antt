@@ -1,5 +1,5 @@
 -- What a function does to every history: the form of the contracts of the kernel.
-use Rattle.std.specs.Prelude.{◌≡◌, ℕ, ◌+◌, ◌≤◌, ◌^◌, List, ◌++◌, length, Vec, vec_len, vec_capacity}
+use Rattle.std.specs.Prelude.{◌≡◌, ℕ, ◌+◌, ◌≤◌, ◌^◌, List, [], ◌∷◌, ◌++◌, length, Vec, vec_len, vec_capacity}
 use Rattle.std.specs.declared.alloc.Global.{Global}
 use Rattle.osbase.specs.declared.marks.Mark.{Mark}
 use Rattle.osbase.specs.History.{History, marks_of}
@@ -34,6 +34,12 @@ pub record Adds (most : ℕ) (old new : List Mark) : Type 0 where
   pub added : List Mark
   pub is : new ≡ old ++ added
   pub within : length added ≤ most
+
+-- One mark joins those in a vector, which has a place for it. [own]
+pub record Joins (m : Mark) (old new : Vec Mark Global) : Type 0 where
+  pub items : new.items ≡ old.items ++ m ∷ []
+  pub len : vec_len new ≤ vec_len old + 1
+  pub capacity : vec_capacity new ≡ vec_capacity old
 
 -- A function within an item: it changes neither what the core sees nor its phase, takes no item, and the
 -- history grows by at most so many entries. [own]

@@ -1,5 +1,5 @@
 -- What holds of the state of every kernel: that nothing runs out of its room. All of it is this project's own.
-use Rattle.std.specs.Prelude.{◌≡◌, ℕ, ◌≤◌, nat_le, nat_lt, Bool, true, false, IsTrue, IfSome, Option, Some, List, [], length, slice_index, sum_by}
+use Rattle.std.specs.Prelude.{◌≡◌, ℕ, ◌<◌, ◌≤◌, nat_le, nat_lt, Bool, true, false, IsTrue, IfSome, Option, Some, List, [], length, slice_index, sum_by}
 use Rattle.std.specs.List.{list_all}
 use Rattle.std.specs.Option.{option_map_or}
 use Rattle.osbase.specs.declared.references.Runner.{Runner}
@@ -20,6 +20,7 @@ use Rattle.osplan.specs.declared.plans.Task.{Task}
 use Rattle.osplan.specs.Objects.{core_actions, may_act, may_name}
 use Rattle.osplan.specs.View.{own_task}
 use Rattle.osres.specs.declared.held.TheConstants.{RESOURCES}
+use Rattle.osjobs.specs.Jobs.{Each}
 use Rattle.osjobs.specs.Priorities.{is_own_runner}
 use Rattle.osclock.specs.Clocks.{AreClocks, ClockState}
 use Rattle.ostable.specs.Tables.{AreTables, TableStates}
@@ -82,9 +83,11 @@ pub record HasObjects (priorities : ℕ) (core : Core) : Type 0 where
   pub resources : length core.resources ≤ RESOURCES
   pub ceilings : IsTrue (list_all (λ (r : Resource). nat_lt r.ceiling priorities) core.resources)
 
--- No runner has more live jobs than it may have, and none before the core schedules.
-pub record HasJobs (core : Core) (phase : Phase) (jobs : List Job) : Type 0 where
+-- No runner has more live jobs than it may have, and none before the core schedules. Each began or was released at an entry that the
+-- history has, so the stamp of the next entry is greater than theirs.
+pub record HasJobs (core : Core) (phase : Phase) (entries : ℕ) (jobs : List Job) : Type 0 where
   pub within : (r : Runner) → job_count r jobs ≤ activation_limit core r
+  pub stamps : Each (λ (j : Job). j.stamp < entries) jobs
   pub idle : IsTrue (is_before_live phase) → jobs ≡ []
 
 -- A core that goes on past the first gate met no conflict of modes there. Nothing is counted more often than the history has entries.
@@ -110,7 +113,7 @@ pub record HasClocks (core : Core) (counters : ClockState) (schedules : TableSta
 pub record IsSound (priorities room : ℕ) (s : KernelState) : Type 0 where
   pub tasks : HasTasks priorities room s.view.own
   pub objects : HasObjects priorities s.view.own
-  pub jobs : HasJobs s.view.own s.progress.phase s.tasks.jobs
+  pub jobs : HasJobs s.view.own s.progress.phase s.progress.entries s.tasks.jobs
   pub progress : IsUnderWay s.progress
   pub border : HasBorder s.view.own s.progress.entries s.border
   pub times : HasClocks s.view.own s.clocks s.tables

@@ -1,10 +1,11 @@
 //! Where a core stands: the part of its state that speaks of no task and of no other core.
 
-ghost use Rattle.std.specs.Prelude.{◌≡◌, ◌<◌, ◌^◌};
-ghost use Rattle.osbase.specs.History.{Took, agreement_after, began_after, phase_after, phase_past_first_gate, started_after};
+ghost use Rattle.std.specs.Prelude.{◌≡◌, ◌<◌, ◌^◌, vec_capacity, vec_len};
+ghost use Rattle.osbase.specs.History.{Took, Printed, agreement_after, began_after, phase_after, phase_past_first_gate, started_after};
+ghost use Rattle.osstate.specs.Does.{Joins};
 ghost use Rattle.osstate.specs.Steps.{first_progress, progress_after};
 
-use osbase::{Agreement, CORES, CoreSet, Item, Phase};
+use osbase::{Agreement, CORES, CoreSet, Item, Mark, Phase};
 
 /// Where a core stands.
 #[derive(Clone, Copy, Debug, PartialEq, Eq)]
@@ -52,6 +53,17 @@ impl Progress {
         self.started = started_by(self.started, item);
         self.items += 1;
         self.entries += 1;
+    }
+
+    /// Goes on by a mark that is printed.
+    pub(crate) fn record(&mut self, mark: Mark, marks: &mut Vec<Mark>)
+        requires entries { self.old.entries < 2 ^ 63 }
+        requires place { vec_len marks.old < vec_capacity marks.old }
+        ensures progress { self.new ≡ progress_after (Printed mark) self.old }
+        ensures marks { Joins mark marks.old marks.new }
+    {
+        self.entries += 1;
+        marks.push_reserved(mark);
     }
 }
 

@@ -129,8 +129,7 @@ impl<'a, const P: usize, const J: usize, const OUT: usize> CoreState<'a, P, J, O
         ensures effects { Effects 1 1 (λ v h. Printed (Mark.Activated task) ∷ h) self.old self.new marks.old marks.new }
     {
         self.jobs.activate(task, self.progress.entries);
-        self.progress.entries += 1;
-        marks.push_reserved(Mark::Activated(task));
+        self.progress.record(Mark::Activated(task), marks);
     }
 
     /// The oldest job of one of the core's tasks has ended, if there is one: it gives back all that it holds, and
@@ -144,8 +143,7 @@ impl<'a, const P: usize, const J: usize, const OUT: usize> CoreState<'a, P, J, O
     {
         self.jobs.end(task);
         self.border.open_call = border::closed_by(Runner::Task(task), self.border.open_call);
-        self.progress.entries += 1;
-        marks.push_reserved(Mark::Terminated(task));
+        self.progress.record(Mark::Terminated(task), marks);
     }
 
     /// The oldest job of one of the core's ISRs has ended: it gives back all that it holds (AUTOSAR SWS OS 4.x,
@@ -158,8 +156,7 @@ impl<'a, const P: usize, const J: usize, const OUT: usize> CoreState<'a, P, J, O
     {
         self.jobs.end_isr(isr);
         self.border.open_call = border::closed_by(Runner::Isr(isr), self.border.open_call);
-        self.progress.entries += 1;
-        marks.push_reserved(Mark::IsrLeft(isr));
+        self.progress.record(Mark::IsrLeft(isr), marks);
     }
 
     /// A task enters the running state, and PreTaskHook is called (OSEK/VDX OS 2.2.3, section 11.5).
@@ -169,8 +166,7 @@ impl<'a, const P: usize, const J: usize, const OUT: usize> CoreState<'a, P, J, O
         ensures effects { Effects 1 1 (λ v h. Printed (Mark.PreTaskHook task) ∷ h) self.old self.new marks.old marks.new }
     {
         self.jobs.enter(task);
-        self.progress.entries += 1;
-        marks.push_reserved(Mark::PreTaskHook(task));
+        self.progress.record(Mark::PreTaskHook(task), marks);
     }
 
     /// PostTaskHook is called, and the task leaves the running state (OSEK/VDX OS 2.2.3, section 11.5).
@@ -180,8 +176,7 @@ impl<'a, const P: usize, const J: usize, const OUT: usize> CoreState<'a, P, J, O
         ensures effects { Effects 1 1 (λ v h. Printed (Mark.PostTaskHook task) ∷ h) self.old self.new marks.old marks.new }
     {
         self.jobs.leave(task);
-        self.progress.entries += 1;
-        marks.push_reserved(Mark::PostTaskHook(task));
+        self.progress.record(Mark::PostTaskHook(task), marks);
     }
 
     /// Events of one of the core's tasks are set, besides those that are (OSEK/VDX OS 2.2.3, section 7 and 13.5.3.1).
@@ -192,8 +187,7 @@ impl<'a, const P: usize, const J: usize, const OUT: usize> CoreState<'a, P, J, O
         ensures effects { Effects 1 1 (λ v h. Printed (Mark.EventSet task mask) ∷ h) self.old self.new marks.old marks.new }
     {
         self.jobs.set_events(task, mask);
-        self.progress.entries += 1;
-        marks.push_reserved(Mark::EventSet { task, mask });
+        self.progress.record(Mark::EventSet { task, mask }, marks);
     }
 
     /// Events of one of the core's tasks are cleared, and no other (OSEK/VDX OS 2.2.3, section 7 and 13.5.3.2).
@@ -204,8 +198,8 @@ impl<'a, const P: usize, const J: usize, const OUT: usize> CoreState<'a, P, J, O
         ensures effects { Effects 1 1 (λ v h. Printed (Mark.EventCleared task mask) ∷ h) self.old self.new marks.old marks.new }
     {
         self.jobs.clear_events(task, mask);
-        self.progress.entries += 1;
-        marks.push_reserved(Mark::EventCleared { task, mask });
+        self.progress
+            .record(Mark::EventCleared { task, mask }, marks);
     }
 
     /// One of the core's tasks waits for one of these events: no job of it may run (OSEK/VDX OS 2.2.3, section 4.2.1 and
@@ -217,8 +211,8 @@ impl<'a, const P: usize, const J: usize, const OUT: usize> CoreState<'a, P, J, O
         ensures effects { Effects 1 1 (λ v h. Printed (Mark.EventAwaited task mask) ∷ h) self.old self.new marks.old marks.new }
     {
         self.jobs.wait(task, mask);
-        self.progress.entries += 1;
-        marks.push_reserved(Mark::EventAwaited { task, mask });
+        self.progress
+            .record(Mark::EventAwaited { task, mask }, marks);
     }
 
     /// One of the core's tasks waits no longer: its oldest job may run, behind all others of its priority
@@ -230,8 +224,7 @@ impl<'a, const P: usize, const J: usize, const OUT: usize> CoreState<'a, P, J, O
         ensures effects { Effects 1 1 (λ v h. Printed (Mark.Released task) ∷ h) self.old self.new marks.old marks.new }
     {
         self.jobs.release(task, self.progress.entries);
-        self.progress.entries += 1;
-        marks.push_reserved(Mark::Released(task));
+        self.progress.record(Mark::Released(task), marks);
     }
 
     /// A mark that begins and ends no job, by which no task enters or leaves the running state and no row
@@ -243,8 +236,7 @@ impl<'a, const P: usize, const J: usize, const OUT: usize> CoreState<'a, P, J, O
         ensures effects { Effects 1 1 (λ v h. Printed mark ∷ h) self.old self.new marks.old marks.new }
     {
         self.jobs.print(&mark);
-        self.progress.entries += 1;
-        marks.push_reserved(mark);
+        self.progress.record(mark, marks);
     }
 
     /// A message for this core joins the outbox, with the next number on the way there.

@@ -11,13 +11,13 @@ use Rattle.osstate.proofs.state.CoreState.activate.Goals as goal
 
 pub activate-requires : goal.activate-requires
 activate-requires g c =
-    (search rules, place g.row.P g.row.J c.args.task _ c.self.invariant (subst (λ (s : KernelState). job_count (Runner.Task c.args.task) s.tasks.jobs < activation_limit s.view.own (Runner.Task c.args.task)) (sym c.self.view_is) c.requires.limit))
+    (search rules, (place g.row.P g.row.J c.args.task _ c.self.invariant (subst (λ (s : KernelState). job_count (Runner.Task c.args.task) s.tasks.jobs < activation_limit s.view.own (Runner.Task c.args.task)) (sym c.self.view_is) c.requires.limit), c.self.invariant.jobs.stamps))
 
 pub invariant_of-self : goal.invariant_of-self
 invariant_of-self g c =
-    rw c.activate.ensures (activated g.row.P g.row.J c.args.task _ c.self.invariant
+    rw (c.activate.ensures, c.record.ensures.progress) (activated g.row.P g.row.J c.args.task _ c.self.invariant
     (subst (λ (s : KernelState). job_count (Runner.Task c.args.task) s.tasks.jobs < activation_limit s.view.own (Runner.Task c.args.task)) (sym c.self.view_is) c.requires.limit)
     (subst (λ (s : KernelState). is_before_live s.progress.phase ≡ false) (sym c.self.view_is) c.requires.live))
 
 pub returns-clause-effects : goal.returns-clause-effects
-returns-clause-effects g c = printing (subst (IsSound g.row.P g.row.J) c.self.view_is c.self.invariant) (own_from_place c.args.self.now.view.own (Runner.Task c.args.task) (omega (arith, c.requires.limit))) (search rules) (search rules) (omega arith) (search rules)
+returns-clause-effects g c = printing (subst (IsSound g.row.P g.row.J) c.self.view_is c.self.invariant) (own_from_place c.args.self.now.view.own (Runner.Task c.args.task) (omega (arith, c.requires.limit))) (search rules) c.record.ensures.marks

@@ -1,12 +1,12 @@
 use Rattle.std.proofs.Common.{rules, refl, subst}
 use Rattle.osstate.specs.Sound.{IsSound}
 use Rattle.osstate.proofs.Effecting.{noting}
-use Rattle.osstate.proofs.Sounds.{border-closed, goes-on}
+use Rattle.osstate.proofs.Sounds.{border-closed, goes-on, jobs-later}
 use Rattle.osstate.proofs.state.CoreState.complete.Goals as goal
 
 pub invariant_of-self : goal.invariant_of-self
 invariant_of-self g c =
-    rw (c.complete.ensures, c.closed_by-self-inside.ensures) (goes-on _ _ c.self.invariant c.self.invariant.jobs (border-closed c.args.runner c.self.invariant.border) c.self.invariant.times)
+    rw (c.complete.ensures, c.closed_by-self-inside.ensures) (goes-on _ _ c.self.invariant (jobs-later c.self.invariant.jobs) (border-closed c.args.runner c.self.invariant.border) c.self.invariant.times)
 
 pub returns-clause-remarks : goal.returns-clause-remarks
 returns-clause-remarks g c = noting (subst (IsSound g.row.P g.row.J) c.self.view_is c.self.invariant) c.requires.own refl (search rules)

@@ -1,7 +1,11 @@
-use Rattle.std.proofs.Common.{rules, refl, subst, arith}
+use Rattle.std.proofs.Common.{rules, refl, subst}
 use Rattle.osstate.specs.Sound.{IsSound}
 use Rattle.osstate.proofs.Effecting.{printing}
+use Rattle.osstate.proofs.Sounds.{same-jobs}
 use Rattle.osstate.proofs.state.CoreState.enter.Goals as goal
 
+pub invariant_of-self : goal.invariant_of-self
+invariant_of-self g c = rw (c.enter.ensures, c.record.ensures.progress) (same-jobs _ refl c.self.invariant)
+
 pub returns-clause-effects : goal.returns-clause-effects
-returns-clause-effects g c = printing (subst (IsSound g.row.P g.row.J) c.self.view_is c.self.invariant) refl (search rules) (search rules) (omega arith) (search rules)
+returns-clause-effects g c = printing (subst (IsSound g.row.P g.row.J) c.self.view_is c.self.invariant) refl (search rules) c.record.ensures.marks

@@ -1,7 +1,20 @@
-use Rattle.std.proofs.Common.{rules, refl, subst}
+use Rattle.std.proofs.Common.{◌≡◌, true, rules, refl, arith, sym, subst}
+use Rattle.osjobs.specs.Priorities.{is_own_runner}
 use Rattle.osstate.specs.Sound.{IsSound}
+use Rattle.osstate.specs.State.{KernelState}
 use Rattle.osstate.proofs.Effecting.{noting}
+use Rattle.osstate.proofs.Sounds.{goes-on, jobs-later}
 use Rattle.osstate.proofs.state.CoreState.open_call.Goals as goal
+
+pub invariant_of-self : goal.invariant_of-self
+invariant_of-self g c =
+    goes-on _ _ c.self.invariant (jobs-later c.self.invariant.jobs)
+    (record {
+      caller = subst (λ (s : KernelState). is_own_runner s.view.own c.args.call.runner ≡ true) (sym c.self.view_is) c.requires.own;
+      queued = (λ k. omega (arith, c.self.invariant.border.queued k));
+      received = (λ k. omega (arith, c.self.invariant.border.received k));
+    })
+    c.self.invariant.times
 
 pub returns-clause-remarks : goal.returns-clause-remarks
 returns-clause-remarks g c = noting (subst (IsSound g.row.P g.row.J) c.self.view_is c.self.invariant) refl refl (search rules)

@@ -1,11 +1,11 @@
 use Rattle.std.proofs.Common.{ℕ, [], ◌∷◌, ◌++◌, get_or, ap, ◌∙◌, arith}
 use Rattle.osbase.specs.declared.histories.Sent.{Sent}
 use Rattle.osstate.proofs.Effecting.{queueing}
-use Rattle.osstate.proofs.Sounds.{goes-on, one_more-within}
+use Rattle.osstate.proofs.Sounds.{goes-on, jobs-later, one_more-within}
 use Rattle.osstate.proofs.state.CoreState.queue.Goals as goal
 
 pub invariant_of-self : goal.invariant_of-self
-invariant_of-self g c = rw c.count_one.ensures (goes-on _ _ c.self.invariant c.self.invariant.jobs
+invariant_of-self g c = rw c.count_one.ensures (goes-on _ _ c.self.invariant (jobs-later c.self.invariant.jobs)
     (record {
       caller = c.self.invariant.border.caller;
       queued = one_more-within _ c.args.to _ c.self.invariant.border.queued;

@@ -5,7 +5,7 @@ use Rattle.osstate.proofs.Sounds.{same-jobs}
 use Rattle.osstate.proofs.state.CoreState.set_events.Goals as goal
 
 pub invariant_of-self : goal.invariant_of-self
-invariant_of-self g c = rw c.set_events.ensures (same-jobs _ refl c.self.invariant)
+invariant_of-self g c = rw (c.set_events.ensures, c.record.ensures.progress) (same-jobs _ refl c.self.invariant)
 
 pub returns-clause-effects : goal.returns-clause-effects
-returns-clause-effects g c = printing (subst (IsSound g.row.P g.row.J) c.self.view_is c.self.invariant) c.requires.own (search rules) (search rules) (omega arith) (search rules)
+returns-clause-effects g c = printing (subst (IsSound g.row.P g.row.J) c.self.view_is c.self.invariant) c.requires.own (search rules) c.record.ensures.marks

@@ -1,0 +1,6 @@
+use Rattle.osbase.specs.declared.references.Runner.TheVariants as Runner
+use Rattle.osjobs.proofs.Stamps.{ascending-less}
+use Rattle.osjobs.proofs.jobs.Jobs.end.Goals as goal
+
+pub invariant_of-self : goal.invariant_of-self
+invariant_of-self g c = rw c.take_oldest.ensures.rest (ascending-less (Runner.Task c.args.task) _ c.self.invariant)

@@ -1,0 +1,10 @@
+use Rattle.std.proofs.Common.{◌<◌, sym, subst}
+use Rattle.osbase.specs.declared.histories.Job.{Job}
+use Rattle.osbase.specs.declared.references.Runner.TheVariants as Runner
+use Rattle.osjobs.specs.Jobs.{Each, JobState}
+use Rattle.osjobs.proofs.Stamps.{ascending-anew}
+use Rattle.osjobs.proofs.jobs.Jobs.release.Goals as goal
+
+pub invariant_of-self : goal.invariant_of-self
+invariant_of-self g c =
+    rw c.stamp_anew.ensures (ascending-anew (Runner.Task c.args.task) c.args.stamp _ c.self.invariant (subst (λ (s : JobState). Each (λ (j : Job). j.stamp < c.args.stamp) s.jobs) (sym c.self.view_is) c.requires.newest))
