@@ -5,6 +5,7 @@ mod given;
 mod hostile;
 mod limits;
 mod names;
+mod numbers;
 mod operations;
 mod parts;
 mod resources;
