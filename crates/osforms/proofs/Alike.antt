@@ -91,28 +91,7 @@ module _ (place : ObjectKind → List ℕ → Option Place) where
   verb-read Verb.SetAbsAlarm words args e = by-first Verb.SetAbsAlarm (λ first rest read. record { own = refl; objects = refl; masks = refl }) Alarm (TICKS ∷ TICKS ∷ []) words args e
   verb-read Verb.StartScheduleTableRel words args e = by-first Verb.StartScheduleTableRel (λ first rest read. record { own = refl; objects = refl; masks = refl }) Table (TICKS ∷ []) words args e
   verb-read Verb.StartScheduleTableAbs words args e = by-first Verb.StartScheduleTableAbs (λ first rest read. record { own = refl; objects = refl; masks = refl }) Table (TICKS ∷ []) words args e
-  verb-read Verb.Work words args e = (args, e, same _)
-  verb-read Verb.Set words args e = (args, e, same _)
-  verb-read Verb.Add words args e = (args, e, same _)
-  verb-read Verb.AddVariable words args e = (args, e, same _)
-  verb-read Verb.StoreStatus words args e = (args, e, same _)
-  verb-read Verb.ActivateTask words args e = (args, e, same _)
-  verb-read Verb.TerminateTask words args e = (args, e, same _)
-  verb-read Verb.ChainTask words args e = (args, e, same _)
-  verb-read Verb.Schedule words args e = (args, e, same _)
-  verb-read Verb.GetResource words args e = (args, e, same _)
-  verb-read Verb.ReleaseResource words args e = (args, e, same _)
-  verb-read Verb.SetEvent words args e = (args, e, same _)
-  verb-read Verb.ClearEvent words args e = (args, e, same _)
-  verb-read Verb.GetEvent words args e = (args, e, same _)
-  verb-read Verb.WaitEvent words args e = (args, e, same _)
-  verb-read Verb.IncrementCounter words args e = (args, e, same _)
-  verb-read Verb.GetCounterValue words args e = (args, e, same _)
-  verb-read Verb.CancelAlarm words args e = (args, e, same _)
-  verb-read Verb.GetAlarm words args e = (args, e, same _)
-  verb-read Verb.NextScheduleTable words args e = (args, e, same _)
-  verb-read Verb.StopScheduleTable words args e = (args, e, same _)
-  verb-read Verb.GetScheduleTableStatus words args e = (args, e, same _)
+  verb-read verb words args e = (args, e, same _)
 
   verb-alike : (words : List (List ℕ)) (verb : Verb) (op : Op) → verb_meant place words verb ≡ Some op → (other : Op) × (verb_named place words verb ≡ Some other) × AreAlike op other
   verb-alike words verb op e =
