@@ -1,6 +1,5 @@
 -- What the worked examples are made of.
-use Rattle.std.specs.Prelude.{ℕ, pos, true, false, Option, Some, None, List, [], ◌∷◌, codes, replicate}
-use Rattle.std.specs.Option.{option_map}
+use Rattle.std.specs.Prelude.{ℕ, pos, true, false, Some, None, List, [], ◌∷◌, ◌++◌, codes, map, replicate}
 use Rattle.osbase.specs.declared.references.AlarmRef.{AlarmRef}
 use Rattle.osbase.specs.declared.references.CoreId.{CoreId}
 use Rattle.osbase.specs.declared.references.CounterRef.{CounterRef}
@@ -11,15 +10,19 @@ use Rattle.osbase.specs.declared.references.ModeId.{ModeId}
 use Rattle.osbase.specs.declared.items.CoreSet.{CoreSet}
 use Rattle.osbase.specs.declared.items.Agreement.TheVariants as Agreement
 use Rattle.osbase.specs.declared.items.Item.{Item}
+use Rattle.osbase.specs.declared.items.Stimulus.{Stimulus as Word}
+use Rattle.osbase.specs.declared.items.Stimulus.TheVariants as Stimulus
 use Rattle.osbase.specs.declared.marks.Mark.{Mark}
 use Rattle.osbase.specs.declared.messages.Message.{Message}
 use Rattle.osbase.specs.declared.messages.RemoteCall.{RemoteCall}
 use Rattle.osbase.specs.declared.messages.RemoteCall.TheVariants as Remote
 use Rattle.osbase.specs.declared.statuses.ServiceId.{ServiceId}
+use Rattle.osbase.specs.declared.statuses.ServiceId.TheVariants as Service
 use Rattle.osbase.specs.declared.statuses.Status.{Status}
 use Rattle.osbase.specs.declared.statuses.Status.TheVariants.{EOk}
-use Rattle.osbase.specs.History.{marks_of}
+use Rattle.osbase.specs.declared.turns.CoreStimuli.{CoreStimuli}
 use Rattle.oscript.specs.declared.Op.{Op}
+use Rattle.oscript.specs.declared.Op.TheVariants.{TerminateTask}
 use Rattle.osplan.specs.declared.plans.Alarm.{Alarm}
 use Rattle.osplan.specs.declared.plans.Counter.{Counter}
 use Rattle.osplan.specs.declared.plans.Plan.{Plan}
@@ -27,30 +30,27 @@ use Rattle.osplan.specs.declared.plans.Core.{Core}
 use Rattle.osplan.specs.declared.plans.Table.{Table}
 use Rattle.osplan.specs.declared.plans.Task.{Task}
 use Rattle.osplan.specs.declared.plans.CoreMode.TheVariants.{Named}
-use Rattle.osplan.specs.View.{view_of}
-use Rattle.oskernel.specs.Step.{solo}
+use Rattle.osrows.specs.Example.{Example, core}
 
-abbrev pub core : ℕ → CoreId
-core n = record { number = n }
+-- ---- the configuration
 
 -- the one mode, M
 abbrev pub mode : ModeId
 mode = record { index = 0 }
 
--- a core's task, and its first one
+-- a core's task
 abbrev pub task_at : ℕ → ℕ → TaskRef
 task_at n index = record { core = core n; index = index }
 
-abbrev pub first_task : ℕ → TaskRef
-first_task n = task_at n 0
-
--- a task of priority 1 that is started by itself in mode M
-abbrev pub auto_task : List ℕ → List Op → Task
-auto_task name script = record { name = name; priority = 1; auto = mode ∷ []; activations = 1; preemptable = true; extended = false; script = script }
-
--- a task of priority 1 that is not
+-- a task of priority 1, one that starts by itself in mode M, and one that only ends
 abbrev pub task : List ℕ → List Op → Task
 task name script = record { name = name; priority = 1; auto = []; activations = 1; preemptable = true; extended = false; script = script }
+
+abbrev pub auto_task : List ℕ → List Op → Task
+auto_task name script = record (task name script) { auto = mode ∷ [] }
+
+abbrev pub short_task : List ℕ → Task
+short_task name = task name (TerminateTask ∷ [])
 
 -- a task of another priority
 abbrev pub with_priority : ℕ → Task → Task
@@ -64,12 +64,9 @@ without_preemption t = record t { preemptable = false }
 abbrev pub with_events : Task → Task
 with_events t = record t { extended = true }
 
--- a core with these tasks, and with one
+-- a core with these tasks
 abbrev pub core_of : ℕ → List CoreId → List Task → Core
 core_of n start tasks = record { id = core n; mode = Named mode; start = start; tasks = tasks; resources = []; isrs = []; counters = []; alarms = []; tables = [] }
-
-abbrev pub core_with : ℕ → List CoreId → Task → Core
-core_with n start t = core_of n start (t ∷ [])
 
 -- with one resource, of this name and ceiling
 abbrev pub with_resource : List ℕ → ℕ → Core → Core
@@ -101,6 +98,18 @@ with_tables tables c = record c { tables = tables }
 abbrev pub plan_of : List Core → Plan
 plan_of cores = record { cap = 16; master = core 0; modes = codes "M" ∷ []; cores = cores }
 
+-- ---- the stimuli and the items
+
+-- so many stimuli of a kind, and those of a core
+abbrev pub operations : ℕ → List Word
+operations n = replicate n Stimulus.Op
+
+abbrev pub ticks : ℕ → List Word
+ticks n = replicate n Stimulus.Tick
+
+abbrev pub given_to : ℕ → List Word → CoreStimuli
+given_to n words = record { core = core n; words = words }
+
 -- core 0 alone, and cores 0 and 1
 abbrev pub alone : CoreSet
 alone = record { members = true ∷ replicate 15 false }
@@ -112,12 +121,9 @@ both = record { members = true ∷ true ∷ replicate 14 false }
 abbrev pub gates : CoreSet → List Item
 gates started = Item.Entered ∷ Item.Pass1 (Agreement.Mode mode) ∷ Item.Readied ∷ Item.Pass2 started ∷ []
 
--- a request, one to activate the task, and a reply
+-- a request, and a reply without a value and with one
 abbrev pub requested : ℕ → ℕ → RemoteCall → Item
 requested from number call = Item.Received (core from) number (Message.Request call)
-
-abbrev pub asked : ℕ → ℕ → TaskRef → Item
-asked from number t = requested from number (Remote.ActivateTask t)
 
 abbrev pub replied : ℕ → ℕ → Status → Item
 replied from number status = Item.Received (core from) number (Message.Reply status None)
@@ -125,20 +131,54 @@ replied from number status = Item.Received (core from) number (Message.Reply sta
 abbrev pub replied_with : ℕ → ℕ → ℕ → Item
 replied_with from number value = Item.Received (core from) number (Message.Reply EOk (Some (pos value)))
 
--- the items after the last stimulus of a core to its end
+-- the stimuli as items, and the items after the last stimulus of a core to its end
+abbrev pub taken : List Word → List Item
+taken words = map Item.Stim words
+
 abbrev pub end : List Item
 end = Item.PassEnd ∷ Item.Last None ∷ []
 
--- the lines of a service of a task, and those of its end
+-- ---- the marks
+
+-- the core starts, and the job of a task runs
+abbrev pub begun : TaskRef → List Mark
+begun t = Mark.StartupHook ∷ Mark.Activated t ∷ Mark.PreTaskHook t ∷ []
+
+-- a service of a task returns: with this status, with a value, with a status that is an error, and after it activated another one
 abbrev pub returned : TaskRef → ServiceId → Status → List Mark
 returned t service status = Mark.ServiceReturned (Runner.Task t) service status None ∷ []
 
 abbrev pub returned_with : TaskRef → ServiceId → ℕ → List Mark
 returned_with t service value = Mark.ServiceReturned (Runner.Task t) service EOk (Some (pos value)) ∷ []
 
+abbrev pub failed : TaskRef → ServiceId → Status → List Mark
+failed t service status = returned t service status ++ Mark.ErrorHook status ∷ []
+
+abbrev pub activated_by : TaskRef → TaskRef → List Mark
+activated_by t other = Mark.Activated other ∷ returned t Service.ActivateTask EOk
+
+-- a job waits for events
+abbrev pub awaited : TaskRef → ℕ → List Mark
+awaited t mask = Mark.PostTaskHook t ∷ Mark.EventAwaited t mask ∷ []
+
+-- a job ends, and one runs to its end
 abbrev pub ended : TaskRef → List Mark
 ended t = Mark.PostTaskHook t ∷ Mark.Terminated t ∷ []
 
--- what a core prints for items, if each may be taken in turn
-abbrev pub marks_alone : Plan → ℕ → List Item → Option (List Mark)
-marks_alone plan n items = option_map marks_of (solo (view_of plan (core n)) items)
+abbrev pub run_to_end : TaskRef → List Mark
+run_to_end t = Mark.PreTaskHook t ∷ ended t
+
+-- ---- an example of one core
+
+-- The core, the stimuli that it takes one after another, and the marks that it prints.
+pub record OneCore : Type 0 where
+  pub core : Core
+  pub stimuli : List Word
+  pub marks : List Mark
+
+abbrev pub of_one_core : OneCore → Example
+of_one_core a = record {
+  plan = plan_of (a.core ∷ []);
+  stimuli = given_to 0 a.stimuli ∷ [];
+  blocks = record { items = gates alone ++ taken a.stimuli ++ Item.Drained ∷ end; marks = a.marks } ∷ [];
+}

@@ -1,31 +1,88 @@
-//! One activation across the border.
+//! Two cores: what each core prints for its own items, and that the default schedule gives these items.
 
-ghost use Rattle.std.specs.Prelude.{◌≡◌, IsTrue, Option, Some, [], ◌∷◌};
-ghost use Rattle.osrows.specs.Parts.{core, marks_alone};
-ghost use Rattle.osrows.specs.Border.{plan, stimuli, first_items, second_items, first_marks, second_marks, first_items_unmoved, second_items_unmoved, first_marks_unmoved, second_marks_unmoved};
-ghost use Rattle.osworld.specs.World.{world};
-ghost use Rattle.osworld.specs.Runs.{default_turns, is_default};
+ghost use Rattle.osrows.specs.Border.{activation, asking, distant, limit, refusals, refused, unmoved};
+ghost use Rattle.osrows.specs.Example.{HasRounds, Prints, TakesItems};
 
-/// What each core prints for its own items.
-pub fn prints_each_block()
-    ensures first { marks_alone plan 0 first_items ≡ Some first_marks }
-    ensures second { marks_alone plan 1 second_items ≡ Some second_marks }
+/// One activation across the border.
+pub fn activation_prints_each_block()
+    ensures first { Prints activation 0 }
+    ensures second { Prints activation 1 }
 {}
 
 /// The items of the default schedule.
-pub fn takes_these_items_by_default()
-    ensures rounds { IsTrue (is_default plan stimuli 10) }
-    ensures items { (world plan stimuli (default_turns plan 10)).items ≡ (core 0, first_items) ∷ (core 1, second_items) ∷ [] }
+pub fn activation_takes_these_items_by_default()
+    ensures rounds { HasRounds activation 10 }
+    ensures items { TakesItems activation 10 }
 {}
 
-/// What each core prints where there is no stimulus.
-pub fn prints_each_block_unmoved()
-    ensures first { marks_alone plan 0 first_items_unmoved ≡ Some first_marks_unmoved }
-    ensures second { marks_alone plan 1 second_items_unmoved ≡ Some second_marks_unmoved }
+/// The same where there is no stimulus.
+pub fn unmoved_prints_each_block()
+    ensures first { Prints unmoved 0 }
+    ensures second { Prints unmoved 1 }
 {}
 
-/// The items of the default schedule where there is no stimulus.
-pub fn takes_these_items_unmoved()
-    ensures rounds { IsTrue (is_default plan [] 7) }
-    ensures items { (world plan [] (default_turns plan 7)).items ≡ (core 0, first_items_unmoved) ∷ (core 1, second_items_unmoved) ∷ [] }
+/// The items of the default schedule.
+pub fn unmoved_takes_these_items_by_default()
+    ensures rounds { HasRounds unmoved 7 }
+    ensures items { TakesItems unmoved 7 }
+{}
+
+/// The activation limit across cores.
+pub fn limit_prints_each_block()
+    ensures first { Prints limit 0 }
+    ensures second { Prints limit 1 }
+{}
+
+/// The items of the default schedule.
+pub fn limit_takes_these_items_by_default()
+    ensures rounds { HasRounds limit 11 }
+    ensures items { TakesItems limit 11 }
+{}
+
+/// Refused activations. Core 1 is never started, and prints nothing.
+pub fn refusals_prints_each_block()
+    ensures first { Prints refusals 0 }
+    ensures second { Prints refusals 1 }
+{}
+
+/// The items of the default schedule.
+pub fn refusals_takes_these_items_by_default()
+    ensures rounds { HasRounds refusals 8 }
+    ensures items { TakesItems refusals 8 }
+{}
+
+/// A chain across the border that is refused.
+pub fn refused_prints_each_block()
+    ensures first { Prints refused 0 }
+    ensures second { Prints refused 1 }
+{}
+
+/// The items of the default schedule.
+pub fn refused_takes_these_items_by_default()
+    ensures rounds { HasRounds refused 9 }
+    ensures items { TakesItems refused 9 }
+{}
+
+/// An event set across the border.
+pub fn distant_prints_each_block()
+    ensures first { Prints distant 0 }
+    ensures second { Prints distant 1 }
+{}
+
+/// The items of the default schedule.
+pub fn distant_takes_these_items_by_default()
+    ensures rounds { HasRounds distant 10 }
+    ensures items { TakesItems distant 10 }
+{}
+
+/// An alarm that another core sets, asks for and cancels.
+pub fn asking_prints_each_block()
+    ensures first { Prints asking 0 }
+    ensures second { Prints asking 1 }
+{}
+
+/// The items of the default schedule.
+pub fn asking_takes_these_items_by_default()
+    ensures rounds { HasRounds asking 13 }
+    ensures items { TakesItems asking 13 }
 {}

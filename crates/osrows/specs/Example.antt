@@ -1,0 +1,50 @@
+-- What a worked example is, and what is proved of each.
+use Rattle.std.specs.Prelude.{◌≡◌, ℕ, suc, IsTrue, Option, Some, None, option_map, List, [], ◌∷◌, slice_get}
+use Rattle.osbase.specs.declared.references.CoreId.{CoreId}
+use Rattle.osbase.specs.declared.items.Item.{Item}
+use Rattle.osbase.specs.declared.marks.Mark.{Mark}
+use Rattle.osbase.specs.declared.turns.CoreStimuli.{CoreStimuli}
+use Rattle.osbase.specs.History.{marks_of}
+use Rattle.osplan.specs.declared.plans.Plan.{Plan}
+use Rattle.osplan.specs.View.{view_of}
+use Rattle.oskernel.specs.Step.{solo}
+use Rattle.osworld.specs.Runs.{default_turns, is_default}
+use Rattle.osworld.specs.World.{world}
+
+-- What is said of one core: the items that it takes, and the marks that it prints.
+pub record Block : Type 0 where
+  pub items : List Item
+  pub marks : List Mark
+
+-- A configuration, the stimuli of a run, and the block of each core, of core 0 first.
+pub record Example : Type 0 where
+  pub plan : Plan
+  pub stimuli : List CoreStimuli
+  pub blocks : List Block
+
+abbrev pub core : ℕ → CoreId
+core n = record { number = n }
+
+-- What a core prints for items, if each may be taken in turn.
+abbrev pub marks_alone : Plan → ℕ → List Item → Option (List Mark)
+marks_alone plan n items = option_map marks_of (solo (view_of plan (core n)) items)
+
+-- There is such a block, and the core prints its marks for its items.
+abbrev pub PrintsBlock : Plan → ℕ → Option Block → Type 0
+PrintsBlock plan n None = ⊥
+PrintsBlock plan n (Some b) = marks_alone plan n b.items ≡ Some b.marks
+
+abbrev pub Prints : Example → ℕ → Type 0
+Prints e n = PrintsBlock e.plan n (slice_get e.blocks n)
+
+-- The default schedule has so many rounds.
+abbrev pub HasRounds : Example → ℕ → Type 0
+HasRounds e rounds = IsTrue (is_default e.plan e.stimuli rounds)
+
+abbrev pub items_from : ℕ → List Block → List (CoreId × List Item)
+items_from n [] = []
+items_from n (b ∷ bs) = (core n, b.items) ∷ items_from (suc n) bs
+
+-- In so many rounds each core takes the items of its block.
+abbrev pub TakesItems : Example → ℕ → Type 0
+TakesItems e rounds = (world e.plan e.stimuli (default_turns e.plan rounds)).items ≡ items_from 0 e.blocks

@@ -1,0 +1,26 @@
+//! A job that holds a resource: what the core prints for its items, and that the default schedule gives these items.
+
+ghost use Rattle.osrows.specs.Example.{HasRounds, Prints, TakesItems};
+ghost use Rattle.osrows.specs.Resources.{ceiling, keeping};
+
+/// It runs at the resource's ceiling.
+pub fn ceiling_prints_its_block()
+    ensures { Prints ceiling 0 }
+{}
+
+/// The items of the default schedule.
+pub fn ceiling_takes_these_items_by_default()
+    ensures rounds { HasRounds ceiling 9 }
+    ensures items { TakesItems ceiling 9 }
+{}
+
+/// It does not give way.
+pub fn keeping_prints_its_block()
+    ensures { Prints keeping 0 }
+{}
+
+/// The items of the default schedule.
+pub fn keeping_takes_these_items_by_default()
+    ensures rounds { HasRounds keeping 10 }
+    ensures items { TakesItems keeping 10 }
+{}
