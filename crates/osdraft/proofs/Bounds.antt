@@ -152,4 +152,4 @@ bounds-of t none =
     let tested : Tested t = record { within = inside; once = passed.1; known = passed.2; timed = passed.5; operations = passed.6 } in
     and_from _ _ (and_from _ _ (and_from _ _ (and_from _ _ (and_from _ _ (ap is_within (plan-numbers t tested) ∙ inside) distinct) (master-found objects t.cores t.master (and_parts _ _ passed.2).0))
     (list_all-by (λ (core : CoreText). is_core_known objects core && is_core_script objects core) (limits.is_core_known (plan_of t)) (core_plan objects) (core-known t (place-known t distinct)) t.cores cores))
-    (near_kept objects t.cores ∙ passed.3)) (plan-timed t tested)
+    (near_kept objects t.cores passed.6 ∙ passed.3)) (plan-timed t tested)

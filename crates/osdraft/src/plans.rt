@@ -301,7 +301,7 @@ fn are_near(cores: &[Core]) -> bool
 }
 
 // The plans of cores, none of whose scripts, alarms and tables names an object of another core where it may not.
-#[tactic(auto, using(crate::proofs::Known::near_kept))]
+#[tactic(auto, using(crate::proofs::Known::near_if, crate::proofs::Known::not_near))]
 fn near_cores_of<'e>(
     alloc: Global,
     objects: &Objects<'e>,

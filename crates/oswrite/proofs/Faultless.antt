@@ -132,11 +132,6 @@ module _ (plan : Plan) (inside : IsTrue (limits.is_within_limits plan)) (sayable
       and_from _ _ (ap (λ numbers. has_number numbers (number_of plan.master)) (numbers-kept plan.cores) ∙ any-mapped (λ id. same_number id (number_of plan.master)) (λ (c : Core). number_of c.id) plan.cores ∙ (any-find (λ (c : Core). same_core c.id plan.master) plan.cores ∙ bounds.master))
       (list_all-by (is_kept_core plan) (is_core_known objects) (core_said plan) core-known plan.cores cores)
 
-  -- ---- scripts that stay on their cores: what the text means is the configuration
-
-  near : are_near (config_said plan) ≡ true
-  near = sym (near_kept objects (map (core_said plan) plan.cores)) ∙ ap (λ (p : Plan). list_all limits.is_core_near p.cores) (plan-back plan inside sayable) ∙ bounds.near
-
   -- ---- masks
 
   op-masked : (op : Op) → is_kept_op plan op ≡ true → has_masks (op_text plan op) ≡ true
@@ -195,6 +190,11 @@ module _ (plan : Plan) (inside : IsTrue (limits.is_within_limits plan)) (sayable
 
   operations : are_operations (config_said plan) ≡ true
   operations = list_all-by (is_kept_core plan) (is_core_script objects) (core_said plan) core-script plan.cores cores
+
+  -- ---- scripts that stay on their cores: what the text means is the configuration
+
+  near : are_near (config_said plan) ≡ true
+  near = sym (near_kept objects (map (core_said plan) plan.cores) operations) ∙ ap (λ (p : Plan). list_all limits.is_core_near p.cores) (plan-back plan inside sayable) ∙ bounds.near
 
   -- ---- limits: the text has the configuration's numbers
 
