@@ -1,5 +1,5 @@
 -- Once for all acts: what they do to one history they do to every history that reads the same.
-use Rattle.std.proofs.Common.{◌≡◌, ◌||◌, ℤ, Bool, true, false, cond, Option, Some, None, option_map, List, [], ◌∷◌, refl, subst, sym, ◌∙◌}
+use Rattle.std.proofs.Common.{◌≡◌, ◌||◌, ℤ, Bool, true, false, cond, Option, Some, None, IfSome, option_map, unwrap_or, List, [], ◌∷◌, refl, subst}
 use Rattle.std.specs.List.{list_all}
 use Rattle.std.proofs.lemmas.Bool.{and_parts}
 use Rattle.osbase.specs.declared.statuses.Status.{Status}
@@ -11,7 +11,7 @@ use Rattle.osbase.specs.declared.messages.Message.{Message}
 use Rattle.osbase.specs.declared.marks.Mark.{Mark}
 use Rattle.osbase.specs.declared.histories.Awaited.{Awaited}
 use Rattle.osbase.specs.declared.histories.OpenCall.{OpenCall}
-use Rattle.osbase.specs.History.{Entry, History, Note, Took, Printed, Noted, Opened, Queued, same_core}
+use Rattle.osbase.specs.History.{Entry, History, Took, Printed, Noted, Opened, Queued, same_core}
 use Rattle.osbase.specs.Marks.{core_of_runner, names_only}
 use Rattle.osplan.specs.declared.plans.Core.{Core}
 use Rattle.osplan.specs.View.{View}
@@ -20,7 +20,7 @@ use Rattle.osact.specs.Acts.{Act, Acts, Prints, Notes, Sends, nothing, one_then,
 use Rattle.osact.specs.Checks.{Check, first_failing, is_ok_status}
 use Rattle.osact.specs.Returning.{answers, asks, reports, returns}
 use Rattle.osact.specs.Seen.{Seen, seen_of}
-use Rattle.osact.specs.Service.{Service, answer_of, effect_of, returns_with, serves, serves_if, serves_own}
+use Rattle.osact.specs.Service.{Service, answer_of, effect_of, serves, serves_if, serves_own}
 
 -- Which cores one asks, or answers: every one, and none.
 abbrev pub anybody : CoreId → Bool
@@ -141,6 +141,11 @@ module _ (v : View) (may answered names : CoreId → Bool) (sees : Seen → Type
       let parts = and_parts (test x) (list_all test xs) all in
       (each x parts.0, for_each-ok f test each xs parts.1)
 
+  -- Of a chain of tables the first that has an entry.
+  pub first-ok : (o : Option Acts) (others : Acts) → IfSome o AreAllowed → AreAllowed others → AreAllowed (unwrap_or o others)
+  first-ok None others ok rest = rest
+  first-ok (Some x) others ok rest = ok
+
   pub effect-ok : (x : Service) → AreAllowed x.effect → AreAllowed (effect_of x)
   effect-ok x ok = (λ e. ok, λ e. tt)
 
@@ -153,3 +158,17 @@ module _ (v : View) (may answered names : CoreId → Bool) (sees : Seen → Type
       by : (o : Option A) → AreAllowed (serves_if r id (option_map (λ x. make x s) o))
       by None = returns-ok r id Status.EOsId None n
       by (Some x) = serves-ok r id (make x s) n (ok x s seen)
+
+  -- These parts, for a module to open at what it is about.
+  pub record Parts : Type 1 where
+    pub reports-ok : (s : Status) → AreAllowed (reports s)
+    pub returns-ok : (r : Runner) (service : ServiceId) (s : Status) (value : Option ℤ) → IsNamed r → AreAllowed (returns r service s value)
+    pub answers-ok : (r : Runner) (service : ServiceId) (checks : List Check) (effect : Acts) → IsNamed r → (is_ok_status (first_failing checks) ≡ true → AreAllowed effect) → AreAllowed (answers r service checks effect)
+    pub asks-ok : (r : Runner) (service : ServiceId) (core : CoreId) (call : RemoteCall) → names_only names (Mark.CallQueued core call) ≡ true → may core ≡ true → AreAllowed (asks r service core call)
+    pub first-ok : (o : Option Acts) (others : Acts) → IfSome o AreAllowed → AreAllowed others → AreAllowed (unwrap_or o others)
+    pub effect-ok : (x : Service) → AreAllowed x.effect → AreAllowed (effect_of x)
+    pub serves-ok : (r : Runner) (service : ServiceId) (x : Service) → IsNamed r → AreAllowed x.effect → AreAllowed (serves r service x)
+    pub serves_own-ok : {A : Type 0} (r : Runner) (id : ServiceId) (make : A → Seen → Service) (named : Core → Option A) → IsNamed r → ((x : A) (s : Seen) → sees s → AreAllowed (make x s).effect) → AreAllowed (serves_own r id make named)
+
+  pub parts : Parts
+  parts = record { reports-ok = reports-ok; returns-ok = returns-ok; answers-ok = answers-ok; asks-ok = asks-ok; first-ok = first-ok; effect-ok = effect-ok; serves-ok = serves-ok; serves_own-ok = serves_own-ok }

@@ -4,3 +4,4 @@ pub mod Serving
 pub mod Kept
 pub mod SeenSame
 pub mod Carrying
+pub mod Called

@@ -1,5 +1,5 @@
 -- Histories that agree in what they say of a core's own runners, counters, alarms and tables let the core see the same.
-use Rattle.std.proofs.Common.{◌≡◌, ℕ, Bool, Option, None, List, filter, filter_map, find, option_map}
+use Rattle.std.proofs.Common.{◌≡◌, ℕ, Bool, None, List, filter, filter_map, find, option_map}
 use Rattle.std.specs.Option.{option_map_or}
 use Rattle.osbase.specs.declared.references.AlarmRef.{AlarmRef}
 use Rattle.osbase.specs.declared.references.CoreId.{CoreId}
@@ -7,7 +7,7 @@ use Rattle.osbase.specs.declared.references.CounterRef.{CounterRef}
 use Rattle.osbase.specs.declared.references.TableRef.{TableRef}
 use Rattle.osbase.specs.declared.references.Runner.{Runner}
 use Rattle.osbase.specs.declared.histories.Job.{Job}
-use Rattle.osbase.specs.Counting.{AlarmSetting, Stopped, TableState, alarm_of, counted_once, counts_of, counts_to, is_due, is_in_use, left_of, one_count_more, table_state, value_after}
+use Rattle.osbase.specs.Counting.{Stopped, alarm_of, counted_once, counts_of, counts_to, is_due, is_in_use, left_of, one_count_more, table_state, value_after}
 use Rattle.osbase.specs.History.{History, agreement_of, job_count, live_jobs, open_call}
 use Rattle.osplan.specs.declared.plans.Alarm.{Alarm}
 use Rattle.osplan.specs.declared.plans.Table.{Table}

@@ -1,4 +1,4 @@
--- What SetRelAlarm and SetAbsAlarm come to, by whether the alarm's counter admits the setting.
+-- What the setting of an alarm comes to, by whether the alarm's counter admits it.
 use Rattle.std.proofs.Common.{◌≡◌, ℕ, Bool}
 use Rattle.osbase.specs.declared.references.AlarmRef.{AlarmRef}
 use Rattle.osbase.specs.declared.statuses.Status.{Status}

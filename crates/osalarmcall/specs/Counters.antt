@@ -1,9 +1,10 @@
 -- The service that tells a counter's value.
-use Rattle.std.specs.Prelude.{pos, Option, Some, []}
+use Rattle.std.specs.Prelude.{pos, Option, Some, None, []}
 use Rattle.osbase.specs.declared.statuses.ServiceId.TheVariants as ServiceId
 use Rattle.osbase.specs.declared.references.CounterRef.{CounterRef}
 use Rattle.osbase.specs.declared.references.Runner.{Runner}
 use Rattle.osbase.specs.Objects.{counter_object}
+use Rattle.oscript.specs.declared.Op.{Op}
 use Rattle.osact.specs.Acts.{Acts, nothing}
 use Rattle.osact.specs.Named.{own_of}
 use Rattle.osact.specs.Seen.{Seen}
@@ -16,3 +17,8 @@ value_inquiry c s = record { checks = []; effect = nothing; value = Some (pos (s
 -- [AUTOSAR SWS OS 4.x, SWS_Os_00376 and SWS_Os_00377]
 abbrev pub gets_value : Runner → Option CounterRef → Acts
 gets_value r target = serves_own r ServiceId.GetCounterValue value_inquiry (λ core. own_of counter_object core target)
+
+-- The operation that is this service.
+abbrev pub counter_acts : Runner → Op → Option Acts
+counter_acts r (Op.GetCounterValue target x) = Some (gets_value r target)
+counter_acts r op = None

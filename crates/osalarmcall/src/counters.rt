@@ -1,33 +1,18 @@
 //! The services of counters.
 
-ghost use Rattle.std.specs.Prelude.{◌≡◌, IfSome, IsTrue};
+ghost use Rattle.std.specs.Prelude.{◌≡◌, IsTrue, true, false, is_some, unwrap_or};
 ghost use Rattle.osbase.specs.Objects.{counter_object};
 ghost use Rattle.osplan.specs.Objects.{is_own_object};
 ghost use Rattle.osjobs.specs.Priorities.{is_own_runner};
-ghost use Rattle.osstate.specs.Does.{Effects, HasRoom, Reads};
-ghost use Rattle.osact.specs.Acts.{does};
-ghost use Rattle.osact.specs.Named.{own_of};
+ghost use Rattle.osstate.specs.Does.{Effects, HasRoom, Reads, service_entries, service_marks};
+ghost use Rattle.osact.specs.Acts.{does, nothing};
 ghost use Rattle.osact.specs.Service.{answers_with};
-ghost use Rattle.osalarmcall.specs.Counters.{gets_value, value_inquiry};
+ghost use Rattle.osalarmcall.specs.Counters.{counter_acts, gets_value, value_inquiry};
 
-use osact::{Answer, finish, without_value};
-use osbase::{CounterRef, Mark, Reference, Runner, ServiceId, Status};
+use osact::{Answer, finish, own_of, without_value};
+use osbase::{CounterRef, Mark, Runner, ServiceId, Status};
+use oscript::Op;
 use osstate::CoreState;
-
-// The counter that a script names, if it is one of the core's own.
-fn own_counter<const P: usize, const J: usize, const OUT: usize>(
-    state: &CoreState<'_, P, J, OUT>,
-    target: Option<CounterRef>,
-) -> Option<CounterRef>
-    ensures value { result ≡ own_of counter_object state.now.view.own target }
-    ensures own { IfSome result (λ counter. IsTrue (is_own_object state.now.view.own (counter_object counter))) }
-{
-    let counter = target?;
-    if state.has(counter.object()) {
-        return Some(counter);
-    }
-    None
-}
 
 // What GetCounterValue answers for one of the core's counters.
 fn read_value<const P: usize, const J: usize, const OUT: usize>(
@@ -44,9 +29,9 @@ fn read_value<const P: usize, const J: usize, const OUT: usize>(
     }
 }
 
-/// A running job of one of the core's tasks asks for the value of a counter (AUTOSAR SWS OS 4.x, SWS_Os_00377). The
-/// invalid identifier, and a counter of another core, answer E_OS_ID.
-pub fn get_counter_value<const P: usize, const J: usize, const OUT: usize>(
+// A running job of one of the core's tasks asks for the value of a counter (AUTOSAR SWS OS 4.x, SWS_Os_00377). The
+// invalid identifier, and a counter of another core, answer E_OS_ID.
+fn get_counter_value<const P: usize, const J: usize, const OUT: usize>(
     state: &mut CoreState<'_, P, J, OUT>,
     runner: Runner,
     target: Option<CounterRef>,
@@ -56,9 +41,32 @@ pub fn get_counter_value<const P: usize, const J: usize, const OUT: usize>(
     requires room { HasRoom 3 2 state.old marks.old }
     ensures { Effects 3 2 (does (gets_value runner target)) state.old state.new marks.old marks.new }
 {
-    let answer = match own_counter(state, target) {
+    let answer = match own_of(state, target) {
         Some(counter) => read_value(state, counter),
         None => without_value(Status::EOsId),
     };
     finish(state, runner, ServiceId::GetCounterValue, answer, marks);
+}
+
+/// An operation of a running job of one of the core's tasks, if it is GetCounterValue: it is done, and the answer
+/// is yes. Else nothing changes.
+pub fn operate<const P: usize, const J: usize, const OUT: usize>(
+    state: &mut CoreState<'_, P, J, OUT>,
+    runner: Runner,
+    op: Op,
+    marks: &mut Vec<Mark>,
+) -> bool
+    requires own { IsTrue (is_own_runner state.old.view.own runner) }
+    requires room { HasRoom service_entries service_marks state.old marks.old }
+    ensures known { result ≡ is_some (counter_acts runner op) }
+    ensures effects { result ≡ true → Effects service_entries service_marks (does (unwrap_or (counter_acts runner op) nothing)) state.old state.new marks.old marks.new }
+    ensures others { result ≡ false → (state.new ≡ state.old) × (marks.new ≡ marks.old) }
+{
+    match op {
+        Op::GetCounterValue(target, _) => {
+            get_counter_value(state, runner, target, marks);
+            true
+        }
+        _ => false,
+    }
 }

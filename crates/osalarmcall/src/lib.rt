@@ -7,4 +7,4 @@ pub mod alarms;
 pub mod counters;
 
 pub use alarms::{ask_left, cancel, set_absolute, set_relative};
-pub use counters::get_counter_value;
+pub use counters::operate;

@@ -1,5 +1,5 @@
 -- ChainTask: the caller's job ends, and a job of a task begins, which may stand on another core.
-use Rattle.std.specs.Prelude.{◌&&◌, Bool, true, false, not, if◌then◌else◌, ℤ, Option, Some, None, List, [], ◌∷◌}
+use Rattle.std.specs.Prelude.{◌&&◌, Bool, true, false, not, ℤ, Option, Some, None, [], ◌∷◌}
 use Rattle.osbase.specs.declared.statuses.Status.{Status}
 use Rattle.osbase.specs.declared.statuses.Status.TheVariants.{EOk, EOsCore, EOsId, EOsLimit}
 use Rattle.osbase.specs.declared.statuses.ServiceId.{ServiceId}
@@ -8,6 +8,7 @@ use Rattle.osbase.specs.declared.references.TaskRef.{TaskRef}
 use Rattle.osbase.specs.declared.references.Runner.{Runner}
 use Rattle.osbase.specs.declared.messages.RemoteCall.TheVariants as Remote
 use Rattle.osbase.specs.History.{same_runner}
+use Rattle.oscript.specs.declared.Op.{Op}
 use Rattle.osact.specs.Acts.{Acts, both, if_started, look, when}
 use Rattle.osact.specs.Callers.{by_task, holding_checks}
 use Rattle.osact.specs.Returning.{answers, asks, returns}
@@ -41,6 +42,11 @@ chains_if r (Some t) = chains_across r t
 -- [OSEK/VDX OS 2.2.3, section 13.2.3.3; E_OS_CORE: own]
 abbrev pub chains : Runner → Option TaskRef → Acts
 chains r target = answers r Service.ChainTask (by_task r ∷ []) (chains_if r target)
+
+-- The operation that is this service.
+abbrev pub chain_acts : Runner → Op → Option Acts
+chain_acts r (Op.ChainTask target) = Some (chains r target)
+chain_acts r op = None
 
 -- ChainTask that was granted does not return: its caller ends.
 abbrev pub ends_caller : ServiceId → Status → Bool

@@ -1,5 +1,5 @@
--- The operations that work on a script's variables. [own]
-use Rattle.std.specs.Prelude.{ℤ, pos, ◌+ℤ◌, Some}
+-- The operations of a script that are no services: those that work on its variables, jumps, and work. [own]
+use Rattle.std.specs.Prelude.{ℤ, pos, ◌+ℤ◌, Option, Some, None}
 use Rattle.std.specs.Int.{saturate_signed, w64}
 use Rattle.osbase.specs.declared.statuses.Status.TheVariants.{EOk}
 use Rattle.osbase.specs.declared.references.Runner.{Runner}
@@ -7,6 +7,7 @@ use Rattle.osbase.specs.declared.references.Variable.{Variable}
 use Rattle.osbase.specs.declared.marks.Mark.TheVariants as Mark
 use Rattle.osbase.specs.History.{Done}
 use Rattle.osbase.specs.Words.{status_number}
+use Rattle.oscript.specs.declared.Op.{Op}
 use Rattle.oscript.specs.Frames.{value_of}
 use Rattle.osact.specs.Acts.{Acts, Prints, look, notes, one_then}
 
@@ -27,3 +28,17 @@ adds_variable r x y = look (λ s. sets r x (sum_of (value_of x (s.row r).frame) 
 
 abbrev pub stores_status : Runner → Variable → Acts
 stores_status r x = look (λ s. sets r x (pos (status_number (s.row r).frame.status)))
+
+-- `work` and a jump have no effect but to be done.
+abbrev pub is_done : Runner → Acts
+is_done r = notes (Done r EOk None)
+
+abbrev pub script_acts : Runner → Op → Option Acts
+script_acts r Op.Work = Some (is_done r)
+script_acts r (Op.Set x n) = Some (sets r x n)
+script_acts r (Op.Add x n) = Some (adds r x n)
+script_acts r (Op.AddVariable x y) = Some (adds_variable r x y)
+script_acts r (Op.StoreStatus x) = Some (stores_status r x)
+script_acts r (Op.Jump n) = Some (is_done r)
+script_acts r (Op.JumpIfZero x n) = Some (is_done r)
+script_acts r op = None

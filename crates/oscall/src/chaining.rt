@@ -1,29 +1,31 @@
 //! ChainTask.
 
-ghost use Rattle.std.specs.Prelude.{◌≡◌, ◌<◌, ◌&&◌, IfSome, IsTrue, false, length, not};
+ghost use Rattle.std.specs.Prelude.{◌≡◌, ◌<◌, ◌&&◌, IfSome, IsTrue, true, false, is_some, length, not, unwrap_or};
 ghost use Rattle.osbase.specs.declared.turns.TheConstants.{CORES};
 ghost use Rattle.osbase.specs.History.{same_runner};
 ghost use Rattle.osbase.specs.Objects.{task_object};
 ghost use Rattle.osbase.specs.Phases.{is_before_live};
 ghost use Rattle.osplan.specs.Objects.{may_name};
 ghost use Rattle.osjobs.specs.Priorities.{is_own_runner};
-ghost use Rattle.osstate.specs.Does.{Effects, HasRoom, Reads};
+ghost use Rattle.osstate.specs.Does.{Effects, HasRoom, Reads, service_entries, service_marks};
 ghost use Rattle.osstate.specs.Queries.{is_at_limit_in};
-ghost use Rattle.osact.specs.Acts.{does};
+ghost use Rattle.osstate.specs.Sound.{has_objects_of};
+ghost use Rattle.osact.specs.Acts.{does, nothing};
 ghost use Rattle.osact.specs.Seen.{seen_of};
-ghost use Rattle.oscall.specs.Chaining.{chains, chains_across, chains_here, chains_if, chains_to, ends_caller, exceeds_limit, resumes};
+ghost use Rattle.oscall.specs.Chaining.{chain_acts, chains, chains_across, chains_here, chains_if, chains_to, ends_caller, exceeds_limit, resumes};
 
 use osact::{Answer, ask, finish, is_ok, refuse};
 use osbase::{Mark, RemoteCall, Runner, ServiceId, Status, TaskRef};
+use oscript::Op;
 use osstate::CoreState;
 use ostaskcall::{end, end_task, status_of_holding};
 
-/// A running job of one of the core's tasks ends itself, and a job of the task begins (OSEK/VDX OS 2.2.3, section
-/// 13.2.3.3). The invalid identifier answers E_OS_ID, a task of a core that was never started E_OS_CORE, a caller
-/// that holds a resource E_OS_RESOURCE, and a task with as many jobs as it may have, if it is not the caller's own,
-/// E_OS_LIMIT; then nothing is activated, and the caller goes on. Another core is asked to activate its task, and
-/// the caller ends once it answers.
-pub fn chain<const P: usize, const J: usize, const OUT: usize>(
+// A running job of one of the core's tasks ends itself, and a job of the task begins (OSEK/VDX OS 2.2.3, section
+// 13.2.3.3). The invalid identifier answers E_OS_ID, a task of a core that was never started E_OS_CORE, a caller
+// that holds a resource E_OS_RESOURCE, and a task with as many jobs as it may have, if it is not the caller's own,
+// E_OS_LIMIT; then nothing is activated, and the caller goes on. Another core is asked to activate its task, and
+// the caller ends once it answers.
+fn chain<const P: usize, const J: usize, const OUT: usize>(
     state: &mut CoreState<'_, P, J, OUT>,
     runner: Runner,
     target: Option<TaskRef>,
@@ -45,6 +47,32 @@ pub fn chain<const P: usize, const J: usize, const OUT: usize>(
             Status::EOsCallevel,
             marks,
         ),
+    }
+}
+
+/// An operation of a running job of one of the core's tasks, if it is ChainTask: it is done, and the answer
+/// is yes. Else nothing changes.
+pub fn operate<const P: usize, const J: usize, const OUT: usize>(
+    state: &mut CoreState<'_, P, J, OUT>,
+    runner: Runner,
+    op: Op,
+    marks: &mut Vec<Mark>,
+) -> bool
+    requires own { IsTrue (is_own_runner state.old.view.own runner) }
+    requires known { IsTrue (has_objects_of state.old.view.own op) }
+    requires live { is_before_live state.old.progress.phase ≡ false }
+    requires outbox { length state.old.border.outbox < OUT }
+    requires room { HasRoom service_entries service_marks state.old marks.old }
+    ensures known { result ≡ is_some (chain_acts runner op) }
+    ensures effects { result ≡ true → Effects service_entries service_marks (does (unwrap_or (chain_acts runner op) nothing)) state.old state.new marks.old marks.new }
+    ensures others { result ≡ false → (state.new ≡ state.old) × (marks.new ≡ marks.old) }
+{
+    match op {
+        Op::ChainTask(target) => {
+            chain(state, runner, target, marks);
+            true
+        }
+        _ => false,
     }
 }
 

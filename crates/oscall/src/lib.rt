@@ -8,5 +8,4 @@ pub mod chaining;
 pub mod variables;
 
 pub use border::{call, serve, serve_action, serve_request};
-pub use chaining::{chain, resume};
-pub use variables::{add, add_variable, set, store_status};
+pub use chaining::resume;

@@ -1,16 +1,17 @@
-//! The operations that work on a script's variables.
+//! The operations of a script that are no services: those that work on its variables, jumps, and work.
 
-ghost use Rattle.std.specs.Prelude.{◌≡◌, IsTrue};
+ghost use Rattle.std.specs.Prelude.{◌≡◌, IsTrue, true, false, is_some, unwrap_or};
 ghost use Rattle.osjobs.specs.Priorities.{is_own_runner};
-ghost use Rattle.osstate.specs.Does.{Effects, HasRoom};
-ghost use Rattle.osact.specs.Acts.{does};
-ghost use Rattle.oscall.specs.Variables.{adds, adds_variable, sets, stores_status, sum_of};
+ghost use Rattle.osstate.specs.Does.{Effects, HasRoom, service_entries, service_marks};
+ghost use Rattle.osact.specs.Acts.{does, nothing};
+ghost use Rattle.oscall.specs.Variables.{adds, adds_variable, script_acts, sets, stores_status, sum_of};
 
 use osbase::{Mark, Runner, Status, Variable};
+use oscript::Op;
 use osstate::CoreState;
 
-/// A variable of the running job of one of the core's tasks becomes this number, which is printed.
-pub fn set<const P: usize, const J: usize, const OUT: usize>(
+// A variable of the running job of one of the core's tasks becomes this number, which is printed.
+fn set<const P: usize, const J: usize, const OUT: usize>(
     state: &mut CoreState<'_, P, J, OUT>,
     runner: Runner,
     variable: Variable,
@@ -37,8 +38,8 @@ fn sum(number: i64, other: i64) -> i64
     number.saturating_add(other)
 }
 
-/// The variable becomes its sum with this number, which stops at the ends of the type.
-pub fn add<const P: usize, const J: usize, const OUT: usize>(
+// The variable becomes its sum with this number, which stops at the ends of the type.
+fn add<const P: usize, const J: usize, const OUT: usize>(
     state: &mut CoreState<'_, P, J, OUT>,
     runner: Runner,
     variable: Variable,
@@ -54,8 +55,8 @@ pub fn add<const P: usize, const J: usize, const OUT: usize>(
     set(state, runner, variable, value, marks);
 }
 
-/// The first variable becomes the sum of both, which stops at the ends of the type.
-pub fn add_variable<const P: usize, const J: usize, const OUT: usize>(
+// The first variable becomes the sum of both, which stops at the ends of the type.
+fn add_variable<const P: usize, const J: usize, const OUT: usize>(
     state: &mut CoreState<'_, P, J, OUT>,
     runner: Runner,
     variable: Variable,
@@ -71,8 +72,8 @@ pub fn add_variable<const P: usize, const J: usize, const OUT: usize>(
     set(state, runner, variable, value, marks);
 }
 
-/// The variable becomes the number of the job's last status; 0 before any.
-pub fn store_status<const P: usize, const J: usize, const OUT: usize>(
+// The variable becomes the number of the job's last status; 0 before any.
+fn store_status<const P: usize, const J: usize, const OUT: usize>(
     state: &mut CoreState<'_, P, J, OUT>,
     runner: Runner,
     variable: Variable,
@@ -85,4 +86,51 @@ pub fn store_status<const P: usize, const J: usize, const OUT: usize>(
     let frame = state.frame(runner);
     let number = i64::from(frame.status.number());
     set(state, runner, variable, number, marks);
+}
+
+/// An operation of a running job of one of the core's tasks, if it is one of the script alone: it is done, and the answer
+/// is yes. Else nothing changes.
+pub fn operate<const P: usize, const J: usize, const OUT: usize>(
+    state: &mut CoreState<'_, P, J, OUT>,
+    runner: Runner,
+    op: Op,
+    marks: &mut Vec<Mark>,
+) -> bool
+    requires own { IsTrue (is_own_runner state.old.view.own runner) }
+    requires room { HasRoom service_entries service_marks state.old marks.old }
+    ensures known { result ≡ is_some (script_acts runner op) }
+    ensures effects { result ≡ true → Effects service_entries service_marks (does (unwrap_or (script_acts runner op) nothing)) state.old state.new marks.old marks.new }
+    ensures others { result ≡ false → (state.new ≡ state.old) × (marks.new ≡ marks.old) }
+{
+    match op {
+        Op::Work => {
+            state.complete(runner, Status::EOk, None);
+            true
+        }
+        Op::Jump(_) => {
+            state.complete(runner, Status::EOk, None);
+            true
+        }
+        Op::JumpIfZero(_, _) => {
+            state.complete(runner, Status::EOk, None);
+            true
+        }
+        Op::Set(variable, number) => {
+            set(state, runner, variable, number, marks);
+            true
+        }
+        Op::Add(variable, number) => {
+            add(state, runner, variable, number, marks);
+            true
+        }
+        Op::AddVariable(variable, other) => {
+            add_variable(state, runner, variable, other, marks);
+            true
+        }
+        Op::StoreStatus(variable) => {
+            store_status(state, runner, variable, marks);
+            true
+        }
+        _ => false,
+    }
 }

@@ -7,6 +7,7 @@ use Rattle.osbase.specs.declared.references.Runner.{Runner}
 use Rattle.osbase.specs.declared.references.TableRef.{TableRef}
 use Rattle.osbase.specs.History.{TableNext, TableQuit, TableStarted}
 use Rattle.osbase.specs.Objects.{table_object}
+use Rattle.oscript.specs.declared.Op.{Op}
 use Rattle.osplan.specs.declared.plans.Core.{Core}
 use Rattle.osplan.specs.declared.plans.Counter.{Counter}
 use Rattle.osplan.specs.declared.plans.Table.{Table}
@@ -119,3 +120,13 @@ stops_table r target = serves_own r ServiceId.StopScheduleTable stop (λ core. o
 -- [AUTOSAR SWS OS 4.x, SWS_Os_00289 to SWS_Os_00291]
 abbrev pub gets_table_status : Runner → Option TableRef → Acts
 gets_table_status r target = serves_own r ServiceId.GetScheduleTableStatus status_inquiry (λ core. own_of table_object core target)
+
+-- ---- the operations that are these services
+
+abbrev pub table_acts : Runner → Op → Option Acts
+table_acts r (Op.StartScheduleTableRel target offset) = Some (starts_table_relative r target offset)
+table_acts r (Op.StartScheduleTableAbs target start) = Some (starts_table_absolute r target start)
+table_acts r (Op.NextScheduleTable from to) = Some (switches_tables r from to)
+table_acts r (Op.StopScheduleTable target) = Some (stops_table r target)
+table_acts r (Op.GetScheduleTableStatus target x) = Some (gets_table_status r target)
+table_acts r op = None

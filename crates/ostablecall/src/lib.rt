@@ -5,7 +5,4 @@
 
 pub mod tables;
 
-pub use tables::{
-    get_schedule_table_status, next_schedule_table, start_schedule_table_abs,
-    start_schedule_table_rel, stop_schedule_table,
-};
+pub use tables::operate;

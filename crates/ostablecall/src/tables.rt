@@ -1,39 +1,24 @@
 //! The services of schedule tables.
 
-ghost use Rattle.std.specs.Prelude.{◌≡◌, ◌<◌, ◌≤◌, ◌+◌, ◌^◌, IfSome, IsTrue, map};
+ghost use Rattle.std.specs.Prelude.{◌≡◌, ◌<◌, ◌≤◌, ◌+◌, ◌^◌, IfSome, IsTrue, true, false, is_some, map, unwrap_or};
 ghost use Rattle.osbase.specs.Counting.{same_counter};
 ghost use Rattle.osbase.specs.Objects.{table_object};
 ghost use Rattle.osplan.specs.Limits.{first_offset, point_sizes};
 ghost use Rattle.osplan.specs.Objects.{is_own_object};
 ghost use Rattle.osjobs.specs.Priorities.{is_own_runner};
 ghost use Rattle.ostable.specs.Waiting.{are_of_one_counter};
-ghost use Rattle.osstate.specs.Does.{Effects, HasRoom, Reads, Remarks};
-ghost use Rattle.osact.specs.Acts.{does};
+ghost use Rattle.osstate.specs.Does.{Effects, HasRoom, Reads, Remarks, service_entries, service_marks};
+ghost use Rattle.osact.specs.Acts.{does, nothing};
 ghost use Rattle.osact.specs.Checks.{first_failing, is_ok_status};
-ghost use Rattle.osact.specs.Named.{own_of};
 ghost use Rattle.osact.specs.Seen.{seen_of};
 ghost use Rattle.osact.specs.Service.{answers_with, carries_out};
-ghost use Rattle.ostablecall.specs.Tables.{absolute_start, counts_to_start, gets_table_status, is_offset, is_value, own_pair, quits_next, relative_start, starting_checks, starts_table_absolute, starts_table_relative, status_inquiry, stop, stops_table, suits, switch, switches_tables};
+ghost use Rattle.ostablecall.specs.Tables.{absolute_start, counts_to_start, gets_table_status, is_offset, is_value, own_pair, quits_next, relative_start, starting_checks, starts_table_absolute, starts_table_relative, status_inquiry, stop, stops_table, suits, switch, switches_tables, table_acts};
 
-use osact::{Answer, finish, is_ok, without_value};
-use osbase::{CounterRef, Mark, Reference, Runner, ServiceId, Status, TableRef};
+use osact::{Answer, finish, is_ok, own_of, without_value};
+use osbase::{CounterRef, Mark, Runner, ServiceId, Status, TableRef};
+use oscript::Op;
 use osplan::{Counter, Table};
 use osstate::CoreState;
-
-// The table that a script names, if it is one of the core's own.
-fn own_table<const P: usize, const J: usize, const OUT: usize>(
-    state: &CoreState<'_, P, J, OUT>,
-    target: Option<TableRef>,
-) -> Option<TableRef>
-    ensures value { result ≡ own_of table_object state.now.view.own target }
-    ensures own { IfSome result (λ table. IsTrue (is_own_object state.now.view.own (table_object table))) }
-{
-    let table = target?;
-    if state.has(table.object()) {
-        return Some(table);
-    }
-    None
-}
 
 // Whether a table can be started: that it is stopped, and then that its counter admits it.
 fn status_of_start<const P: usize, const J: usize, const OUT: usize>(
@@ -208,10 +193,10 @@ fn stop<const P: usize, const J: usize, const OUT: usize>(
     without_value(Status::EOk)
 }
 
-/// A running job of one of the core's tasks starts a schedule table, whose first period begins after so many counts (AUTOSAR
-/// SWS OS 4.x, SWS_Os_00278). The invalid identifier answers E_OS_ID, a table that is not stopped E_OS_STATE; an offset of 0, and one
-/// above the counter's greatest value less the offset of the first point, E_OS_VALUE. Then the table stays as it was.
-pub fn start_schedule_table_rel<const P: usize, const J: usize, const OUT: usize>(
+// A running job of one of the core's tasks starts a schedule table, whose first period begins after so many counts (AUTOSAR
+// SWS OS 4.x, SWS_Os_00278). The invalid identifier answers E_OS_ID, a table that is not stopped E_OS_STATE; an offset of 0, and one
+// above the counter's greatest value less the offset of the first point, E_OS_VALUE. Then the table stays as it was.
+fn start_schedule_table_rel<const P: usize, const J: usize, const OUT: usize>(
     state: &mut CoreState<'_, P, J, OUT>,
     runner: Runner,
     target: Option<TableRef>,
@@ -222,7 +207,7 @@ pub fn start_schedule_table_rel<const P: usize, const J: usize, const OUT: usize
     requires room { HasRoom 4 2 state.old marks.old }
     ensures { Effects 4 2 (does (starts_table_relative runner target offset)) state.old state.new marks.old marks.new }
 {
-    let answer = match own_table(state, target) {
+    let answer = match own_of(state, target) {
         Some(table) => start_relative(state, table, offset),
         None => without_value(Status::EOsId),
     };
@@ -235,10 +220,10 @@ pub fn start_schedule_table_rel<const P: usize, const J: usize, const OUT: usize
     );
 }
 
-/// Its first period begins when its counter has this value, the present one after a full turn (AUTOSAR SWS OS 4.x,
-/// SWS_Os_00351). The refusals are those of `start_schedule_table_rel`, but E_OS_VALUE answers a value above the counter's
-/// greatest.
-pub fn start_schedule_table_abs<const P: usize, const J: usize, const OUT: usize>(
+// Its first period begins when its counter has this value, the present one after a full turn (AUTOSAR SWS OS 4.x,
+// SWS_Os_00351). The refusals are those of `start_schedule_table_rel`, but E_OS_VALUE answers a value above the counter's
+// greatest.
+fn start_schedule_table_abs<const P: usize, const J: usize, const OUT: usize>(
     state: &mut CoreState<'_, P, J, OUT>,
     runner: Runner,
     target: Option<TableRef>,
@@ -249,7 +234,7 @@ pub fn start_schedule_table_abs<const P: usize, const J: usize, const OUT: usize
     requires room { HasRoom 4 2 state.old marks.old }
     ensures { Effects 4 2 (does (starts_table_absolute runner target start)) state.old state.new marks.old marks.new }
 {
-    let answer = match own_table(state, target) {
+    let answer = match own_of(state, target) {
         Some(table) => start_absolute(state, table, start),
         None => without_value(Status::EOsId),
     };
@@ -262,10 +247,10 @@ pub fn start_schedule_table_abs<const P: usize, const J: usize, const OUT: usize
     );
 }
 
-/// A table waits for the end of a period of another one, to begin in its place; one that waited for it stops (AUTOSAR SWS OS
-/// 4.x, SWS_Os_00284 and SWS_Os_00324). The invalid identifier and two tables of different counters answer E_OS_ID, a second table
-/// that is not stopped E_OS_STATE, a first one that does not run E_OS_NOFUNC. Then both stay as they were.
-pub fn next_schedule_table<const P: usize, const J: usize, const OUT: usize>(
+// A table waits for the end of a period of another one, to begin in its place; one that waited for it stops (AUTOSAR SWS OS
+// 4.x, SWS_Os_00284 and SWS_Os_00324). The invalid identifier and two tables of different counters answer E_OS_ID, a second table
+// that is not stopped E_OS_STATE, a first one that does not run E_OS_NOFUNC. Then both stay as they were.
+fn next_schedule_table<const P: usize, const J: usize, const OUT: usize>(
     state: &mut CoreState<'_, P, J, OUT>,
     runner: Runner,
     from: Option<TableRef>,
@@ -283,9 +268,9 @@ pub fn next_schedule_table<const P: usize, const J: usize, const OUT: usize>(
     finish(state, runner, ServiceId::NextScheduleTable, answer, marks);
 }
 
-/// A table stops, or waits no longer; one that waits for it stops too (AUTOSAR SWS OS 4.x, SWS_Os_00281). The invalid
-/// identifier answers E_OS_ID, a table that is stopped E_OS_NOFUNC.
-pub fn stop_schedule_table<const P: usize, const J: usize, const OUT: usize>(
+// A table stops, or waits no longer; one that waits for it stops too (AUTOSAR SWS OS 4.x, SWS_Os_00281). The invalid
+// identifier answers E_OS_ID, a table that is stopped E_OS_NOFUNC.
+fn stop_schedule_table<const P: usize, const J: usize, const OUT: usize>(
     state: &mut CoreState<'_, P, J, OUT>,
     runner: Runner,
     target: Option<TableRef>,
@@ -295,16 +280,16 @@ pub fn stop_schedule_table<const P: usize, const J: usize, const OUT: usize>(
     requires room { HasRoom 5 2 state.old marks.old }
     ensures { Effects 5 2 (does (stops_table runner target)) state.old state.new marks.old marks.new }
 {
-    let answer = match own_table(state, target) {
+    let answer = match own_of(state, target) {
         Some(table) => stop(state, table),
         None => without_value(Status::EOsId),
     };
     finish(state, runner, ServiceId::StopScheduleTable, answer, marks);
 }
 
-/// Whether a table is stopped, 0, waits for another one, 1, or runs, 2 (AUTOSAR SWS OS 4.x, SWS_Os_00289 to SWS_Os_00291; the
-/// numbers: own). The invalid identifier answers E_OS_ID.
-pub fn get_schedule_table_status<const P: usize, const J: usize, const OUT: usize>(
+// Whether a table is stopped, 0, waits for another one, 1, or runs, 2 (AUTOSAR SWS OS 4.x, SWS_Os_00289 to SWS_Os_00291; the
+// numbers: own). The invalid identifier answers E_OS_ID.
+fn get_schedule_table_status<const P: usize, const J: usize, const OUT: usize>(
     state: &mut CoreState<'_, P, J, OUT>,
     runner: Runner,
     target: Option<TableRef>,
@@ -314,7 +299,7 @@ pub fn get_schedule_table_status<const P: usize, const J: usize, const OUT: usiz
     requires room { HasRoom 3 2 state.old marks.old }
     ensures { Effects 3 2 (does (gets_table_status runner target)) state.old state.new marks.old marks.new }
 {
-    let answer = match own_table(state, target) {
+    let answer = match own_of(state, target) {
         Some(table) => tell_status(state, table),
         None => without_value(Status::EOsId),
     };
@@ -352,8 +337,8 @@ fn own_pair<const P: usize, const J: usize, const OUT: usize>(
     ensures to { IfSome result (λ pair. IsTrue (is_own_object state.now.view.own (table_object pair.1))) }
     ensures counter { IfSome result (λ pair. IsTrue (are_of_one_counter state.now.view.own pair.0 pair.1)) }
 {
-    let from = own_table(state, from)?;
-    let to = own_table(state, to)?;
+    let from = own_of(state, from)?;
+    let to = own_of(state, to)?;
     if are_of_one_counter(state, from, to) {
         return Some((from, to));
     }
@@ -377,4 +362,43 @@ fn is_same_counter(counter: CounterRef, other: CounterRef) -> bool
     ensures { result ≡ same_counter counter other }
 {
     counter == other
+}
+
+/// An operation of a running job of one of the core's tasks, if it is a service of schedule tables: it is done, and the answer
+/// is yes. Else nothing changes.
+pub fn operate<const P: usize, const J: usize, const OUT: usize>(
+    state: &mut CoreState<'_, P, J, OUT>,
+    runner: Runner,
+    op: Op,
+    marks: &mut Vec<Mark>,
+) -> bool
+    requires own { IsTrue (is_own_runner state.old.view.own runner) }
+    requires room { HasRoom service_entries service_marks state.old marks.old }
+    ensures known { result ≡ is_some (table_acts runner op) }
+    ensures effects { result ≡ true → Effects service_entries service_marks (does (unwrap_or (table_acts runner op) nothing)) state.old state.new marks.old marks.new }
+    ensures others { result ≡ false → (state.new ≡ state.old) × (marks.new ≡ marks.old) }
+{
+    match op {
+        Op::StartScheduleTableRel(target, offset) => {
+            start_schedule_table_rel(state, runner, target, offset, marks);
+            true
+        }
+        Op::StartScheduleTableAbs(target, start) => {
+            start_schedule_table_abs(state, runner, target, start, marks);
+            true
+        }
+        Op::NextScheduleTable(from, to) => {
+            next_schedule_table(state, runner, from, to, marks);
+            true
+        }
+        Op::StopScheduleTable(target) => {
+            stop_schedule_table(state, runner, target, marks);
+            true
+        }
+        Op::GetScheduleTableStatus(target, _) => {
+            get_schedule_table_status(state, runner, target, marks);
+            true
+        }
+        _ => false,
+    }
 }

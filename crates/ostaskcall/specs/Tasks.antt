@@ -1,16 +1,19 @@
 -- The services of tasks.
-use Rattle.std.specs.Prelude.{None, List, [], ◌∷◌}
+use Rattle.std.specs.Prelude.{Option, Some, None, List, [], ◌∷◌}
 use Rattle.osbase.specs.declared.statuses.Status.TheVariants.{EOk, EOsLimit, EOsMissingend}
 use Rattle.osbase.specs.declared.statuses.ServiceId.TheVariants as ServiceId
 use Rattle.osbase.specs.declared.references.TaskRef.{TaskRef}
 use Rattle.osbase.specs.declared.references.Runner.{Runner}
 use Rattle.osbase.specs.declared.marks.Mark.TheVariants as Mark
+use Rattle.oscript.specs.declared.Op.{Op}
 use Rattle.osact.specs.Acts.{Acts, both, look, prints}
 use Rattle.osact.specs.Callers.{by_task, holding_checks}
 use Rattle.osact.specs.Checks.{Check}
 use Rattle.osact.specs.Returning.{answers, returns}
 use Rattle.osact.specs.Seen.{Seen, is_at_limit}
 use Rattle.osact.specs.Service.{Service, without_value}
+use Rattle.ostaskcall.specs.Events.{clears_event, gets_event, waits_event}
+use Rattle.ostaskcall.specs.Resources.{gets_resource, releases_resource}
 
 -- A job of the task begins. [OSEK/VDX OS 2.2.3, section 4.3]
 abbrev pub activates : TaskRef → Acts
@@ -44,3 +47,15 @@ terminates r = look (λ s. answers r ServiceId.TerminateTask (task_checks s r) (
 -- be preempted. [OSEK/VDX OS 2.2.3, section 13.2.3.4]
 abbrev pub schedules : Runner → Acts
 schedules r = look (λ s. answers r ServiceId.Schedule (task_checks s r) (returns r ServiceId.Schedule EOk None))
+
+-- ---- the operations that are services of tasks, resources and events
+
+abbrev pub task_acts : Runner → Op → Option Acts
+task_acts r Op.TerminateTask = Some (terminates r)
+task_acts r Op.Schedule = Some (schedules r)
+task_acts r (Op.GetResource target) = Some (gets_resource r target)
+task_acts r (Op.ReleaseResource target) = Some (releases_resource r target)
+task_acts r (Op.ClearEvent mask) = Some (clears_event r mask)
+task_acts r (Op.GetEvent target x) = Some (gets_event r target)
+task_acts r (Op.WaitEvent mask) = Some (waits_event r mask)
+task_acts r op = None

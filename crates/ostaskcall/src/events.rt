@@ -1,19 +1,17 @@
 //! The services of events.
 
-ghost use Rattle.std.specs.Prelude.{◌≡◌, IfSome, IsTrue, false};
+ghost use Rattle.std.specs.Prelude.{◌≡◌, IsTrue, false};
 ghost use Rattle.osjobs.specs.Priorities.{is_own_runner};
 ghost use Rattle.osstate.specs.Does.{Effects, HasRoom, Reads};
-ghost use Rattle.osbase.specs.Objects.{task_object};
 ghost use Rattle.osact.specs.Acts.{does};
 ghost use Rattle.osact.specs.Checks.{first_failing, is_ok_status};
-ghost use Rattle.osact.specs.Named.{own_of};
 ghost use Rattle.osact.specs.Seen.{seen_of};
 ghost use Rattle.osact.specs.Service.{answers_with, carries_out};
 ghost use Rattle.ostaskcall.specs.Events.{begins_to_wait, clearing_checks, clears_and_returns, clears_event, event_checks, gets_event, goes_on_or_waits, reading, releases, sets_events, setting, waiting_checks, waits_event};
 
 use crate::tasks::status_of_holding;
-use osact::{Answer, accept, finish, is_ok, refuse, without_value};
-use osbase::{Mark, Reference, Runner, ServiceId, Status, TaskRef};
+use osact::{Answer, accept, finish, is_ok, own_of, refuse, without_value};
+use osbase::{Mark, Runner, ServiceId, Status, TaskRef};
 use osstate::CoreState;
 
 // The first check that fails of those that concern the task whose events are set or read.
@@ -89,21 +87,6 @@ fn release_from<const P: usize, const J: usize, const OUT: usize>(
     }
 }
 
-// The task that a script names, if it is one of the core's own.
-fn own_target<const P: usize, const J: usize, const OUT: usize>(
-    state: &CoreState<'_, P, J, OUT>,
-    target: Option<TaskRef>,
-) -> Option<TaskRef>
-    ensures value { result ≡ own_of task_object state.now.view.own target }
-    ensures own { IfSome result (λ task. IsTrue (is_own_runner state.now.view.own (Runner.Task task))) }
-{
-    let task = target?;
-    if state.has(task.object()) {
-        return Some(task);
-    }
-    None
-}
-
 // What GetEvent answers for one of the core's tasks.
 fn read_events<const P: usize, const J: usize, const OUT: usize>(
     state: &CoreState<'_, P, J, OUT>,
@@ -136,7 +119,7 @@ pub fn get_event<const P: usize, const J: usize, const OUT: usize>(
     requires room { HasRoom 3 2 state.old marks.old }
     ensures { Effects 3 2 (does (gets_event runner target)) state.old state.new marks.old marks.new }
 {
-    let answer = match own_target(state, target) {
+    let answer = match own_of(state, target) {
         Some(task) => read_events(state, task),
         None => without_value(Status::EOsId),
     };

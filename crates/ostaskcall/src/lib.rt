@@ -7,6 +7,5 @@ pub mod events;
 pub mod resources;
 pub mod tasks;
 
-pub use events::{clear_event, get_event, set_events, wait_event};
-pub use resources::{get_resource, release_resource};
-pub use tasks::{activate, end, end_task, end_unasked, schedule, status_of_holding, terminate};
+pub use events::set_events;
+pub use tasks::{activate, end, end_task, end_unasked, operate, status_of_holding};

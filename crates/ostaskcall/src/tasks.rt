@@ -1,20 +1,23 @@
 //! The services of tasks.
 
-ghost use Rattle.std.specs.Prelude.{◌≡◌, ◌<◌, IsTrue, false};
+ghost use Rattle.std.specs.Prelude.{◌≡◌, ◌<◌, IsTrue, true, false, is_some, unwrap_or};
 ghost use Rattle.osbase.specs.History.{job_count, without_oldest};
 ghost use Rattle.osbase.specs.Phases.{is_before_live};
 ghost use Rattle.osjobs.specs.Priorities.{is_own_runner};
-ghost use Rattle.osstate.specs.Does.{Effects, HasRoom, Reads};
+ghost use Rattle.osstate.specs.Does.{Effects, HasRoom, Reads, service_entries, service_marks};
 ghost use Rattle.osstate.specs.Sound.{activation_limit};
-ghost use Rattle.osact.specs.Acts.{does};
+ghost use Rattle.osact.specs.Acts.{does, nothing};
 ghost use Rattle.osact.specs.Checks.{first_failing, is_ok_status};
 ghost use Rattle.osact.specs.Callers.{holding_checks};
 ghost use Rattle.osact.specs.Seen.{seen_of};
 ghost use Rattle.osact.specs.Service.{answers_with, carries_out};
-ghost use Rattle.ostaskcall.specs.Tasks.{activation, ends, ends_unasked, schedules, task_checks, terminates};
+ghost use Rattle.ostaskcall.specs.Tasks.{activation, ends, ends_unasked, schedules, task_acts, task_checks, terminates};
 
+use crate::events::{clear_event, get_event, wait_event};
+use crate::resources::{get_resource, release_resource};
 use osact::{Answer, finish, is_ok, refuse, without_value};
 use osbase::{Mark, Runner, ServiceId, Status, TaskRef};
+use oscript::Op;
 use osstate::CoreState;
 
 /// A task is activated where it stands, which is where the number of its live jobs is known
@@ -123,9 +126,9 @@ fn status_of_task<const P: usize, const J: usize, const OUT: usize>(
     }
 }
 
-/// A running job of one of the core's tasks ends itself (OSEK/VDX OS 2.2.3, section 13.2.3.2). One that holds a
-/// resource answers E_OS_RESOURCE and goes on.
-pub fn terminate<const P: usize, const J: usize, const OUT: usize>(
+// A running job of one of the core's tasks ends itself (OSEK/VDX OS 2.2.3, section 13.2.3.2). One that holds a
+// resource answers E_OS_RESOURCE and goes on.
+fn terminate<const P: usize, const J: usize, const OUT: usize>(
     state: &mut CoreState<'_, P, J, OUT>,
     runner: Runner,
     marks: &mut Vec<Mark>,
@@ -142,10 +145,10 @@ pub fn terminate<const P: usize, const J: usize, const OUT: usize>(
     }
 }
 
-/// A running job of one of the core's tasks lets a job of greater priority run, also where its task cannot
-/// be preempted (OSEK/VDX OS 2.2.3, section 13.2.3.4). One that holds a resource answers E_OS_RESOURCE and does not
-/// give way.
-pub fn schedule<const P: usize, const J: usize, const OUT: usize>(
+// A running job of one of the core's tasks lets a job of greater priority run, also where its task cannot
+// be preempted (OSEK/VDX OS 2.2.3, section 13.2.3.4). One that holds a resource answers E_OS_RESOURCE and does not
+// give way.
+fn schedule<const P: usize, const J: usize, const OUT: usize>(
     state: &mut CoreState<'_, P, J, OUT>,
     runner: Runner,
     marks: &mut Vec<Mark>,
@@ -159,4 +162,51 @@ pub fn schedule<const P: usize, const J: usize, const OUT: usize>(
         value: None,
     };
     finish(state, runner, ServiceId::Schedule, answer, marks);
+}
+
+/// An operation of a running job of one of the core's tasks, if it is a service of tasks, resources or events: it is done, and the answer
+/// is yes. Else nothing changes.
+pub fn operate<const P: usize, const J: usize, const OUT: usize>(
+    state: &mut CoreState<'_, P, J, OUT>,
+    runner: Runner,
+    op: Op,
+    marks: &mut Vec<Mark>,
+) -> bool
+    requires own { IsTrue (is_own_runner state.old.view.own runner) }
+    requires room { HasRoom service_entries service_marks state.old marks.old }
+    ensures known { result ≡ is_some (task_acts runner op) }
+    ensures effects { result ≡ true → Effects service_entries service_marks (does (unwrap_or (task_acts runner op) nothing)) state.old state.new marks.old marks.new }
+    ensures others { result ≡ false → (state.new ≡ state.old) × (marks.new ≡ marks.old) }
+{
+    match op {
+        Op::TerminateTask => {
+            terminate(state, runner, marks);
+            true
+        }
+        Op::Schedule => {
+            schedule(state, runner, marks);
+            true
+        }
+        Op::GetResource(target) => {
+            get_resource(state, runner, target, marks);
+            true
+        }
+        Op::ReleaseResource(target) => {
+            release_resource(state, runner, target, marks);
+            true
+        }
+        Op::ClearEvent(mask) => {
+            clear_event(state, runner, mask, marks);
+            true
+        }
+        Op::GetEvent(target, _) => {
+            get_event(state, runner, target, marks);
+            true
+        }
+        Op::WaitEvent(mask) => {
+            wait_event(state, runner, mask, marks);
+            true
+        }
+        _ => false,
+    }
 }

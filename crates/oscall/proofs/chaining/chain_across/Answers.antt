@@ -1,4 +1,4 @@
-use Rattle.std.proofs.Common.{◌≡◌, false, true, None, refl, sym, ◌∙◌, lit≤}
+use Rattle.std.proofs.Common.{◌≡◌, true, None, sym, ◌∙◌, lit≤}
 use Rattle.osbase.specs.declared.statuses.ServiceId.TheVariants as Service
 use Rattle.osbase.specs.declared.references.Runner.TheVariants as Runner
 use Rattle.osbase.specs.Sets.{has_core}

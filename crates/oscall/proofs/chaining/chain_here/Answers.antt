@@ -3,7 +3,6 @@ use Rattle.std.proofs.lemmas.Bool.{leb-false}
 use Rattle.osbase.specs.declared.statuses.ServiceId.TheVariants as Service
 use Rattle.osbase.specs.declared.statuses.Status.TheVariants.{EOsLimit}
 use Rattle.osbase.specs.declared.references.Runner.{Runner}
-use Rattle.osbase.specs.declared.references.Runner.TheVariants as Runner
 use Rattle.osbase.specs.declared.references.TaskRef.{TaskRef}
 use Rattle.osbase.specs.History.{job_count, same_runner, without_oldest}
 use Rattle.osbase.proofs.Same.{same_runner-true}
