@@ -1,44 +1,49 @@
 -- What is done for each element of a list in turn, and how much it comes to so far.
-use Rattle.std.proofs.Common.{◌≡◌, ◌<◌, ◌≤◌, ◌+◌, ℕ, zero, suc, Bool, true, false, cond, Some, List, [], ◌∷◌, ◌++◌, length, take, drop, filter, get_or, sum_by, refl, ap, sym, subst, ◌∙◌, arith, length-append}
+use Rattle.std.proofs.Common.{◌≡◌, ◌<◌, ◌≤◌, ◌+◌, ◌*◌, ℕ, Bool, true, false, cond, List, [], ◌∷◌, ◌++◌, length, take, drop, filter, get_or, sum_by, Vec, Global, refl, ap, sym, ◌∙◌, arith, length-append}
 use Rattle.std.specs.List.{list_all}
-use Rattle.std.proofs.lemmas.List.{append-nil, take_more}
+use Rattle.std.proofs.lemmas.Bool.{and_parts}
+use Rattle.std.proofs.lemmas.List.{append-nil, take-append-drop, take_all, take_more}
 use Rattle.std.proofs.lemmas.List.Elements.{filter-append, filter_more}
-use Rattle.std.proofs.lemmas.List.Sums.{sum_by-append, sum_by-cons}
-use Rattle.std.proofs.lemmas.Option.{slice_get-get_or}
+use Rattle.std.proofs.lemmas.List.Folds.{list_all-append}
+use Rattle.std.proofs.lemmas.List.Sums.{sum_by-append, sum_by_push}
+use Rattle.std.proofs.lemmas.Nat.{column_fits}
+use Rattle.osbase.specs.declared.marks.Mark.{Mark}
 use Rattle.osbase.specs.History.{History}
-use Rattle.osplan.specs.View.{View}
-use Rattle.osplan.proofs.Tests.{passes-at}
+use Rattle.osplan.specs.declared.plans.Core.{Core}
+use Rattle.osstate.specs.Does.{Effects, HasRoom}
+use Rattle.osstate.specs.State.{KernelState}
+use Rattle.osstate.proofs.Effecting.{as_effect, then, unprinted}
 use Rattle.osact.specs.Acts.{Acts, does, for_each}
+use Rattle.osact.proofs.Remarking.{unmoved}
 
--- What all pass, the one at a place in an equal list passes.
-pub passes-there : {X : Type 0} (p : X → Bool) (due items : List X) (i : ℕ) (d x : X) → list_all p due ≡ true → items ≡ due → i < length items → x ≡ get_or items i d → p x ≡ true
-passes-there p due items i d x all same within is =
-    passes-at p items i x (subst (λ xs. list_all p xs ≡ true) (sym same) all) (slice_get-get_or items i d within ∙ ap (λ y. Some y) (sym is))
+-- ---- how far a loop over a list has come
 
--- Past the last one all are done.
-pub whole : {X : Type 0} (xs : List X) (i : ℕ) → length xs ≤ i → take i xs ≡ xs
-whole [] zero h = refl
-whole [] (suc i) h = refl
-whole (x ∷ xs) zero h = absurd (omega (arith, h))
-whole (x ∷ xs) (suc i) h = ap (λ ys. x ∷ ys) (whole xs i (omega (arith, h)))
+-- Those before the next one, those up to it, and all.
+pub record IsNext {X : Type 0} (before after all : List X) (x : X) : Type 0 where
+  pub more : after ≡ before ++ x ∷ []
+  pub rest : List X
+  pub is : all ≡ after ++ rest
 
--- Those that pass a test, with one more of them, and how much they come to.
-module _ {X : Type 0} (p : X → Bool) (xs : List X) (i : ℕ) (d x : X) (within : i < length xs) (is : x ≡ get_or xs i d) where
-  kept-more : (b : Bool) → p x ≡ b → filter p (take (i + 1) xs) ≡ filter p (take i xs) ++ cond b (x ∷ []) []
-  kept-more b test = filter_more p xs i d within ∙ ap (λ y. filter p (take i xs) ++ cond (p y) (y ∷ []) []) (sym is) ∙ ap (λ b. filter p (take i xs) ++ cond b (x ∷ []) []) test
+pub next-at : {X : Type 0} (xs : List X) (i : ℕ) (d : X) → i < length xs → IsNext (take i xs) (take (i + 1) xs) xs (get_or xs i d)
+next-at xs i d within = record { more = take_more xs i d within; rest = drop (i + 1) xs; is = sym (take-append-drop (i + 1) xs) }
 
-  pub kept-sum : (f : X → ℕ) → p x ≡ true → sum_by f (filter p (take (i + 1) xs)) ≡ sum_by f (filter p (take i xs)) + f x
-  kept-sum f on =
-      ap (sum_by f) (kept-more true on) ∙ sum_by-append f (filter p (take i xs)) (x ∷ [])
-      ∙ ap (λ n. sum_by f (filter p (take i xs)) + n) (let one : sum_by f (x ∷ []) ≡ f x = sum_by-cons f x [] ∙ omega arith in one)
+-- The same of those that pass a test: the next one of all is the next of these, or is left out.
+module _ {X : Type 0} (p : X → Bool) (xs : List X) (i : ℕ) (d : X) (within : i < length xs) where
+  kept : (b : Bool) → p (get_or xs i d) ≡ b → filter p (take (i + 1) xs) ≡ filter p (take i xs) ++ cond b (get_or xs i d ∷ []) []
+  kept b test = filter_more p xs i d within ∙ ap (λ (c : Bool). filter p (take i xs) ++ cond c (get_or xs i d ∷ []) []) test
 
-  pub kept-length : p x ≡ true → length (filter p (take (i + 1) xs)) ≡ length (filter p (take i xs)) + 1
-  kept-length on = ap length (kept-more true on) ∙ length-append (filter p (take i xs)) (x ∷ [])
+  pub next-kept : p (get_or xs i d) ≡ true → IsNext (filter p (take i xs)) (filter p (take (i + 1) xs)) (filter p xs) (get_or xs i d)
+  next-kept on = record {
+    more = kept true on;
+    rest = filter p (drop (i + 1) xs);
+    is = ap (filter p) (sym (take-append-drop (i + 1) xs)) ∙ filter-append p (take (i + 1) xs) (drop (i + 1) xs);
+  }
 
-  pub left-out : p x ≡ false → filter p (take (i + 1) xs) ≡ filter p (take i xs)
-  left-out off = kept-more false off ∙ append-nil (filter p (take i xs))
+  pub left-out : p (get_or xs i d) ≡ false → filter p (take (i + 1) xs) ≡ filter p (take i xs)
+  left-out off = kept false off ∙ append-nil (filter p (take i xs))
 
--- What an `each` does that goes over a list and does one thing for each element.
+-- ---- an `each` that goes over a list and does one thing for each element
+
 module _ {X : Type 0} (one : X → History → History) (each : List X → History → History) (none : (h : History) → each [] h ≡ h) (more : (x : X) (xs : List X) (h : History) → each (x ∷ xs) h ≡ each xs (one x h)) where
   each-append : (xs : List X) (x : X) (h : History) → each (xs ++ x ∷ []) h ≡ one x (each xs h)
   each-append [] x h = more x [] h ∙ none (one x h) ∙ ap (one x) (sym (none h))
@@ -49,35 +54,53 @@ module _ {X : Type 0} (one : X → History → History) (each : List X → Histo
   next-done xs i d x h within is = ap (λ ys. each ys h) (take_more xs i d within ∙ ap (λ y. take i xs ++ y ∷ []) (sym is)) ∙ each-append (take i xs) x h
 
   pub all-done : (xs : List X) (i : ℕ) (h : History) → length xs ≤ i → each (take i xs) h ≡ each xs h
-  all-done xs i h past = ap (λ ys. each ys h) (whole xs i past)
+  all-done xs i h past = ap (λ ys. each ys h) (take_all i xs past)
 
--- So it is of acts for each of a list, and for each that passes a test.
-module _ {X : Type 0} (f : X → Acts) (v : View) where
-  abbrev one : X → History → History
-  one x h = does (f x) v h
+-- ---- a loop that acts for each element
 
-  abbrev each : List X → History → History
-  each xs h = does (for_each f xs) v h
+-- Each of these acted, by at most so many entries and marks, and at most so many envelopes joined the outbox.
+pub record InTurn {X : Type 0} (f : X → Acts) (posted : Core → X → ℕ) (entries marks : ℕ) (done : List X) (old now : KernelState) (old_vec vec : Vec Mark Global) : Type 0 where
+  pub effects : Effects (entries * length done) (marks * length done) (does (for_each f done)) old now old_vec vec
+  pub outbox : length now.border.outbox ≤ length old.border.outbox + sum_by (posted old.view.own) done
 
-  pub next-act : (xs : List X) (i : ℕ) (d x : X) (h : History) → i < length xs → x ≡ get_or xs i d → each (take (i + 1) xs) h ≡ one x (each (take i xs) h)
-  next-act = next-done one each (λ h. refl) (λ x xs h. refl)
+pub none-acted : {X : Type 0} {f : X → Acts} {posted : Core → X → ℕ} {entries marks : ℕ} {old : KernelState} {old_vec : Vec Mark Global} → InTurn f posted entries marks [] old old old_vec old_vec
+none-acted = record { effects = as_effect {f = λ v h. h} (λ v h stands. refl) (omega arith) (omega arith) (unprinted unmoved); outbox = omega arith }
 
-  pub next-kept : (p : X → Bool) (xs : List X) (i : ℕ) (d x : X) (h : History) → i < length xs → x ≡ get_or xs i d → p x ≡ true → each (filter p (take (i + 1) xs)) h ≡ one x (each (filter p (take i xs)) h)
-  next-kept p xs i d x h within is on = ap (λ ys. each ys h) (kept-more p xs i d x within is true on) ∙ each-append one each (λ h. refl) (λ x xs h. refl) (filter p (take i xs)) x h
+module _ {X : Type 0} {f : X → Acts} {posted : Core → X → ℕ} {entries marks : ℕ} {before after all : List X} {x : X} {old now : KernelState} {old_vec vec : Vec Mark Global} (next : IsNext before after all x) (done : InTurn f posted entries marks before old now old_vec vec) where
+  longer : length after ≡ length before + 1
+  longer = ap length next.more ∙ length-append before (x ∷ [])
 
--- The first ones come to no more than all.
-split : {X : Type 0} (xs : List X) (i : ℕ) → take i xs ++ drop i xs ≡ xs
-split [] zero = refl
-split [] (suc i) = refl
-split (x ∷ xs) zero = refl
-split (x ∷ xs) (suc i) = ap (λ ys. x ∷ ys) (split xs i)
+  -- There is room for one more, and there are places for what it adds to the outbox.
+  pub room-left : HasRoom (entries * length all) (marks * length all) old old_vec → HasRoom entries marks now vec
+  room-left room =
+      let within : length before < length all = omega (arith, longer, ap length next.is, length-append after next.rest) in
+      record {
+        count = omega (arith, column_fits entries (length before) entries (length all) within (omega arith), room.count, done.effects.stays.entries);
+        place = omega (arith, column_fits marks (length before) marks (length all) within (omega arith), room.place, done.effects.len, done.effects.capacity);
+      }
 
-module _ {X : Type 0} (p : X → Bool) (xs : List X) (i : ℕ) where
-  parts : filter p xs ≡ filter p (take i xs) ++ filter p (drop i xs)
-  parts = ap (filter p) (sym (split xs i)) ∙ filter-append p (take i xs) (drop i xs)
+  summed : sum_by (posted old.view.own) after ≡ sum_by (posted old.view.own) before + posted old.view.own x
+  summed = ap (sum_by (posted old.view.own)) next.more ∙ sum_by_push (posted old.view.own) before x
 
-  pub kept-sum-le : (f : X → ℕ) → sum_by f (filter p (take i xs)) ≤ sum_by f (filter p xs)
-  kept-sum-le f = omega (arith, ap (sum_by f) parts, sum_by-append f (filter p (take i xs)) (filter p (drop i xs)))
+  pub places-left : {most : ℕ} → length old.border.outbox + sum_by (posted old.view.own) all ≤ most → length now.border.outbox + posted now.view.own x ≤ most
+  places-left places =
+      rw (done.effects.stays.view) (omega (arith, summed, ap (sum_by (posted old.view.own)) next.is, sum_by-append (posted old.view.own) after next.rest, done.outbox, places))
 
-  pub kept-length-le : length (filter p (take i xs)) ≤ length (filter p xs)
-  kept-length-le = omega (arith, ap length parts, length-append (filter p (take i xs)) (filter p (drop i xs)))
+  -- What all pass, it passes.
+  pub still-passes : (p : Core → X → Bool) → list_all (p old.view.own) all ≡ true → p now.view.own x ≡ true
+  still-passes p each =
+      let q = p old.view.own in
+      let first = and_parts (list_all q after) (list_all q next.rest) (sym (list_all-append q after next.rest) ∙ ap (list_all q) (sym next.is) ∙ each) in
+      let last = and_parts (list_all q before) (list_all q (x ∷ [])) (sym (list_all-append q before (x ∷ [])) ∙ ap (list_all q) (sym next.more) ∙ first.0) in
+      rw (done.effects.stays.view) ((and_parts (q x) true last.1).0)
+
+  -- Then it acts too.
+  pub one-acted : {then_now : KernelState} {then_vec : Vec Mark Global} → Effects entries marks (does (f x)) now then_now vec then_vec → length then_now.border.outbox ≤ length now.border.outbox + posted now.view.own x → InTurn f posted entries marks after old then_now old_vec then_vec
+  one-acted one joined =
+      let within : length before < length after = omega (arith, longer) in
+      record {
+        effects =
+            as_effect (λ v h stands. ap (λ ys. does (for_each f ys) v h) next.more ∙ each-append (λ y k. does (f y) v k) (λ ys k. does (for_each f ys) v k) (λ k. refl) (λ y ys k. refl) before x h)
+            (column_fits entries (length before) entries (length after) within (omega arith)) (column_fits marks (length before) marks (length after) within (omega arith)) (then done.effects one);
+        outbox = omega (arith, rw (done.effects.stays.view) at joined, done.outbox, summed);
+      }

@@ -1,10 +1,11 @@
 -- How many envelopes join the outbox at a count: no more than the counter's alarms and tables may add to it.
-use Rattle.std.proofs.Common.{◌≡◌, ◌≤◌, ◌+◌, ◌&&◌, ◌||◌, ℕ, suc, Bool, true, false, not, cond, count_by, nat_eq, Option, Some, None, is_none, option_and_then, List, [], ◌∷◌, filter, length, map, sum_by, refl, ap, sym, ◌∙◌, arith}
+use Rattle.std.proofs.Common.{◌≡◌, ◌≤◌, ◌+◌, ◌&&◌, ◌||◌, ℕ, suc, Bool, true, false, not, cond, count_by, Option, Some, None, is_none, option_and_then, List, [], ◌∷◌, filter, length, map, sum_by, refl, ap, sym, ◌∙◌, arith}
 use Rattle.std.specs.List.{list_all, slice_get}
 use Rattle.std.specs.Option.{option_map_or}
 use Rattle.std.proofs.lemmas.Bool.{and_parts, cond-true, false≢true}
 use Rattle.std.proofs.lemmas.List.Filters.{sum_by-filter_both}
 use Rattle.std.proofs.lemmas.List.Sums.{sum_by-cons}
+use Rattle.std.proofs.lemmas.Option.{option_and_then_some}
 use Rattle.osbase.specs.declared.references.AlarmRef.{AlarmRef}
 use Rattle.osbase.specs.declared.references.CounterRef.{CounterRef}
 use Rattle.osbase.specs.declared.references.TableRef.{TableRef}
@@ -16,7 +17,7 @@ use Rattle.osplan.specs.declared.plans.ExpiryPoint.{ExpiryPoint}
 use Rattle.osplan.specs.declared.plans.Table.{Table}
 use Rattle.osbase.specs.History.{same_core}
 use Rattle.osplan.specs.Clocked.{are_clocks_within}
-use Rattle.osplan.specs.Objects.{greatest_of, greatest_posted, is_posting, posted_at, posted_at_once}
+use Rattle.osplan.specs.Objects.{greatest_posted, is_posting, posted_at, posted_at_once}
 use Rattle.osplan.specs.View.{own_alarm, own_table}
 use Rattle.osplan.proofs.Clocked.{clock-parts}
 use Rattle.osplan.proofs.Tests.{length-filter-le}
@@ -27,8 +28,8 @@ use Rattle.ostable.proofs.Portions.{sum-of-plans}
 use Rattle.ostable.specs.declared.tables.DueTable.{DueTable}
 use Rattle.ostable.specs.Waiting.{ends_alone, repeats, with_next}
 use Rattle.osdue.specs.Advancing.{posted_at_point, posted_by, posted_for}
-use Rattle.osdue.specs.Passing.{due_point, first_point, if_at_once, posted_by_end, posted_by_point, posted_by_table}
-use Rattle.osdue.proofs.Actions.{posted-within}
+use Rattle.osdue.specs.Passing.{due_point, first_point, point_of, posted_by_end, posted_by_point, posted_by_table}
+use Rattle.osdue.proofs.Actions.{first-there, posted-within}
 
 -- ---- sums
 
@@ -50,17 +51,17 @@ due-posted core c s due is = omega (arith, ap (sum_by (posted_for core)) is, fil
 
 -- ---- tables
 
-point-le : (core : Core) (points : List ExpiryPoint) (n : ℕ) (o : Option ExpiryPoint) → slice_get points n ≡ o → posted_by_point core o ≤ greatest_of (map (posted_at core) points)
-point-le core points n None e = omega arith
-point-le core points n (Some point) e = posted-within core points n point e
+-- So many, if there is a point.
+at-most : (core : Core) (o : Option ExpiryPoint) (most : ℕ) → ((point : ExpiryPoint) → o ≡ Some point → posted_at core point ≤ most) → posted_by_point core o ≤ most
+at-most core None most each = omega arith
+at-most core (Some point) most each = each point refl
+
+point-le : (core : Core) (s : TableRef) (n : ℕ) (point : ExpiryPoint) → point_of core s n ≡ Some point → posted_at core point ≤ posted_at_point core s
+point-le core s n point is = option_and_then_some (λ (table : Table). slice_get table.points n) (own_table core s) point is (λ table own there. rw (own) (posted-within core table.points n point there))
 
 due-le : (core : Core) (d : DueTable) → posted_by_point core (due_point core d) ≤ posted_at_point core d.table
-due-le core d = by d.due.point (own_table core d.table)
-  where
-    by : (number : Option ℕ) (o : Option Table) → posted_by_point core (option_and_then (λ (n : ℕ). option_and_then (λ (table : Table). slice_get table.points n) o) number) ≤ option_map_or (greatest_posted core) o 0
-    by None o = omega arith
-    by (Some n) None = omega arith
-    by (Some n) (Some table) = point-le core table.points n (slice_get table.points n) refl
+due-le core d =
+    at-most core (due_point core d) (posted_at_point core d.table) (λ point due. option_and_then_some (point_of core d.table) d.due.point point due (λ n at there. point-le core d.table n point there))
 
 none-posted : (core : Core) (d : DueTable) → is_none d.due.point ≡ true → posted_by_point core (due_point core d) ≡ 0
 none-posted core d none = by d.due.point none
@@ -70,19 +71,7 @@ none-posted core d none = by d.due.point none
     by (Some n) e = absurd (false≢true e)
 
 first-le : (core : Core) (s : TableRef) → posted_by_point core (first_point core s) ≤ posted_at_point core s
-first-le core s = by (own_table core s)
-  where
-    at : (point : ExpiryPoint) (most : ℕ) (b : Bool) → posted_at core point ≤ most → posted_by_point core (cond b (Some point) None) ≤ most
-    at point most true h = h
-    at point most false h = omega arith
-
-    there : (table : Table) (o : Option ExpiryPoint) → slice_get table.points 0 ≡ o → posted_by_point core (option_and_then if_at_once o) ≤ greatest_posted core table
-    there table None e = omega arith
-    there table (Some point) e = at point (greatest_posted core table) (nat_eq point.offset 0) (posted-within core table.points 0 point e)
-
-    by : (o : Option Table) → posted_by_point core (option_and_then if_at_once (option_and_then (λ (table : Table). slice_get table.points 0) o)) ≤ option_map_or (greatest_posted core) o 0
-    by None = omega arith
-    by (Some table) = there table (slice_get table.points 0) refl
+first-le core s = at-most core (first_point core s) (posted_at_point core s) (λ point first. point-le core s 0 point (first-there core s point first))
 
 -- At one count a table posts one of its points, and the one that begins in its place one of its own.
 table-posted : (core : Core) (d : DueTable) → ends_alone core d ≡ true → posted_by_table core d ≤ with_next (posted_at_point core) d

@@ -23,12 +23,20 @@ abbrev pub is_activation : RemoteCall → Bool
 is_activation (RemoteCall.ActivateTask t) = true
 is_activation call = false
 
+-- An activation of a task, or, if that is not what is asked for, a setting of events.
+abbrev pub is_of_kind : Bool → RemoteCall → Bool
+is_of_kind true action = is_activation action
+is_of_kind false action = not (is_activation action)
+
 -- Those of a point's actions that activate a task, and those that set events, in their order.
+abbrev pub of_kind : Bool → List RemoteCall → List RemoteCall
+of_kind activating actions = filter (is_of_kind activating) actions
+
 abbrev pub activations_of : List RemoteCall → List RemoteCall
-activations_of actions = filter is_activation actions
+activations_of actions = of_kind true actions
 
 abbrev pub settings_of : List RemoteCall → List RemoteCall
-settings_of actions = filter (λ (action : RemoteCall). not (is_activation action)) actions
+settings_of actions = of_kind false actions
 
 abbrev pub acts_each : List RemoteCall → Acts
 acts_each actions = for_each (λ (action : RemoteCall). acts action) actions
@@ -39,8 +47,7 @@ does_point s point =
     one_then (Prints (Mark.ExpiryPoint s point.offset)) (both (acts_each (activations_of point.actions)) (acts_each (settings_of point.actions)))
 
 abbrev pub reaches : TableRef → Option ExpiryPoint → Acts
-reaches s None = nothing
-reaches s (Some point) = does_point s point
+reaches s point = option_map_or (does_point s) point nothing
 
 -- ---- which point
 

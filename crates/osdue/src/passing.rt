@@ -8,7 +8,7 @@ ghost use Rattle.osplan.specs.Objects.{is_own_object, is_posting, may_act, poste
 ghost use Rattle.ostable.specs.Waiting.{are_own, repeats};
 ghost use Rattle.osstate.specs.Does.{Effects, HasRoom};
 ghost use Rattle.osact.specs.Acts.{does};
-ghost use Rattle.osdue.specs.Passing.{acts_each, activations_of, begins, does_point, due_point, ends, first_point, is_activation, is_known_point, passes, posted_by_end, posted_by_point, posted_by_table, reaches, settings_of, stops};
+ghost use Rattle.osdue.specs.Passing.{acts_each, begins, does_point, due_point, ends, first_point, is_activation, is_known_point, is_of_kind, of_kind, passes, posted_by_end, posted_by_point, posted_by_table, reaches, stops};
 
 use crate::expiring::act;
 use osbase::{Mark, RemoteCall, TableRef};
@@ -175,53 +175,42 @@ fn do_point<const P: usize, const J: usize, const OUT: usize>(
     ensures outbox { length state.new.border.outbox ≤ length state.old.border.outbox + posted_at state.old.view.own point.now }
 {
     let offset = point.offset;
+    let actions = point.actions.as_slice();
     state.print(Mark::ExpiryPoint { table, offset }, marks);
-    activate_each(state, point.actions.as_slice(), marks);
-    set_each(state, point.actions.as_slice(), marks);
+    act_each(state, actions, true, marks);
+    act_each(state, actions, false, marks);
+}
+
+// Those of the actions that activate a task, or those that set events.
+fn act_each<const P: usize, const J: usize, const OUT: usize>(
+    state: &mut CoreState<'_, P, J, OUT>,
+    actions: &[RemoteCall],
+    activating: bool,
+    marks: &mut Vec<Mark>,
+)
+    requires known { IsTrue (list_all (may_act state.old.view.own) actions.now) }
+    requires live { is_before_live state.old.progress.phase ≡ false }
+    requires outbox { length state.old.border.outbox + count_by (is_posting state.old.view.own) (of_kind activating actions.now) ≤ OUT }
+    requires room { HasRoom (2 * length (of_kind activating actions.now)) (2 * length (of_kind activating actions.now)) state.old marks.old }
+    ensures effects { Effects (2 * length (of_kind activating actions.now)) (2 * length (of_kind activating actions.now)) (does (acts_each (of_kind activating actions.now))) state.old state.new marks.old marks.new }
+    ensures outbox { length state.new.border.outbox ≤ length state.old.border.outbox + count_by (is_posting state.old.view.own) (of_kind activating actions.now) }
+{
+    for action in actions {
+        if is_of_kind(action, activating) {
+            act(state, *action, marks);
+        }
+    }
+}
+
+// An activation, or, if those are not wanted, a setting of events.
+fn is_of_kind(action: &RemoteCall, activating: bool) -> bool
+    ensures { result ≡ is_of_kind activating action.now }
+{
+    is_activation(action) == activating
 }
 
 fn is_activation(action: &RemoteCall) -> bool
     ensures { result ≡ is_activation action.now }
 {
     matches!(action, RemoteCall::ActivateTask(_))
-}
-
-// Those of the actions that activate a task.
-fn activate_each<const P: usize, const J: usize, const OUT: usize>(
-    state: &mut CoreState<'_, P, J, OUT>,
-    actions: &[RemoteCall],
-    marks: &mut Vec<Mark>,
-)
-    requires known { IsTrue (list_all (may_act state.old.view.own) actions.now) }
-    requires live { is_before_live state.old.progress.phase ≡ false }
-    requires outbox { length state.old.border.outbox + count_by (is_posting state.old.view.own) (activations_of actions.now) ≤ OUT }
-    requires room { HasRoom (2 * length (activations_of actions.now)) (2 * length (activations_of actions.now)) state.old marks.old }
-    ensures effects { Effects (2 * length (activations_of actions.now)) (2 * length (activations_of actions.now)) (does (acts_each (activations_of actions.now))) state.old state.new marks.old marks.new }
-    ensures outbox { length state.new.border.outbox ≤ length state.old.border.outbox + count_by (is_posting state.old.view.own) (activations_of actions.now) }
-{
-    for action in actions {
-        if is_activation(action) {
-            act(state, *action, marks);
-        }
-    }
-}
-
-// Those that set events.
-fn set_each<const P: usize, const J: usize, const OUT: usize>(
-    state: &mut CoreState<'_, P, J, OUT>,
-    actions: &[RemoteCall],
-    marks: &mut Vec<Mark>,
-)
-    requires known { IsTrue (list_all (may_act state.old.view.own) actions.now) }
-    requires live { is_before_live state.old.progress.phase ≡ false }
-    requires outbox { length state.old.border.outbox + count_by (is_posting state.old.view.own) (settings_of actions.now) ≤ OUT }
-    requires room { HasRoom (2 * length (settings_of actions.now)) (2 * length (settings_of actions.now)) state.old marks.old }
-    ensures effects { Effects (2 * length (settings_of actions.now)) (2 * length (settings_of actions.now)) (does (acts_each (settings_of actions.now))) state.old state.new marks.old marks.new }
-    ensures outbox { length state.new.border.outbox ≤ length state.old.border.outbox + count_by (is_posting state.old.view.own) (settings_of actions.now) }
-{
-    for action in actions {
-        if !is_activation(action) {
-            act(state, *action, marks);
-        }
-    }
 }

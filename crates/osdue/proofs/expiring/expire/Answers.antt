@@ -1,13 +1,10 @@
-use Rattle.std.proofs.Common.{◌∷◌, ap, sym, ◌∙◌, lit≤, option_map}
-use Rattle.osbase.specs.declared.marks.Mark.TheVariants as Mark
-use Rattle.osbase.specs.History.{Printed}
-use Rattle.osbase.specs.declared.messages.RemoteCall.{RemoteCall}
+use Rattle.std.proofs.Common.{ap, sym, ◌∙◌, lit≤, option_map}
 use Rattle.osplan.specs.declared.plans.Alarm.{Alarm}
 use Rattle.osplan.specs.View.{own_alarm}
 use Rattle.osstate.specs.State.{KernelState}
 use Rattle.osstate.proofs.Effecting.{as_effect, then}
 use Rattle.osact.specs.Acts.{Acts, does, nothing}
-use Rattle.osdue.specs.Expiring.{acts, expires_by}
+use Rattle.osdue.specs.Expiring.{expires_by}
 use Rattle.osdue.proofs.Owned.{by-action}
 use Rattle.osdue.proofs.expiring.expire.Goals as goal
 
