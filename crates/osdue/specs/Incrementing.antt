@@ -5,6 +5,7 @@ use Rattle.osbase.specs.declared.statuses.Status.TheVariants.{EOk, EOsCore, EOsI
 use Rattle.osbase.specs.declared.statuses.ServiceId.TheVariants as ServiceId
 use Rattle.osbase.specs.declared.references.CounterRef.{CounterRef}
 use Rattle.osbase.specs.declared.references.Runner.{Runner}
+use Rattle.oscript.specs.declared.Op.{Op}
 use Rattle.osplan.specs.declared.plans.Core.{Core}
 use Rattle.osplan.specs.declared.plans.Counter.{Counter}
 use Rattle.osplan.specs.View.{own_counter}
@@ -31,3 +32,8 @@ counts_and_returns r (Some c) = both (counts c) (returns r ServiceId.IncrementCo
 -- [AUTOSAR SWS OS 4.x, SWS_Os_00286]
 abbrev pub increments : Runner → Option CounterRef → Acts
 increments r target = look (λ s. answers r ServiceId.IncrementCounter (incrementing_checks s target) (counts_and_returns r target))
+
+-- The operation that is this service.
+abbrev pub increment_acts : Runner → Op → Option Acts
+increment_acts r (Op.IncrementCounter target) = Some (increments r target)
+increment_acts r op = None

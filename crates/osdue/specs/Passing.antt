@@ -9,6 +9,7 @@ use Rattle.osplan.specs.declared.plans.Core.{Core}
 use Rattle.osplan.specs.declared.plans.ExpiryPoint.{ExpiryPoint}
 use Rattle.osplan.specs.declared.plans.Table.{Table}
 use Rattle.osbase.specs.declared.messages.RemoteCall.{RemoteCall}
+use Rattle.oscript.specs.Calls.{is_activation}
 use Rattle.osplan.specs.Objects.{posted_at}
 use Rattle.osplan.specs.View.{own_table}
 use Rattle.ostable.specs.declared.tables.DueTable.{DueTable}
@@ -18,10 +19,6 @@ use Rattle.osact.specs.Acts.{Acts, Notes, Prints, both, for_each, look, nothing,
 use Rattle.osdue.specs.Expiring.{acts}
 
 -- ---- a point
-
-abbrev pub is_activation : RemoteCall → Bool
-is_activation (RemoteCall.ActivateTask t) = true
-is_activation call = false
 
 -- An activation of a task, or, if that is not what is asked for, a setting of events.
 abbrev pub is_of_kind : Bool → RemoteCall → Bool

@@ -10,4 +10,4 @@ pub mod incrementing;
 mod passing;
 
 pub use advancing::advance;
-pub use incrementing::increment_counter;
+pub use incrementing::operate;

@@ -8,10 +8,11 @@ ghost use Rattle.osplan.specs.Objects.{is_own_object, is_posting, may_act, poste
 ghost use Rattle.ostable.specs.Waiting.{are_own, repeats};
 ghost use Rattle.osstate.specs.Does.{Effects, HasRoom};
 ghost use Rattle.osact.specs.Acts.{does};
-ghost use Rattle.osdue.specs.Passing.{acts_each, begins, does_point, due_point, ends, first_point, is_activation, is_known_point, is_of_kind, of_kind, passes, posted_by_end, posted_by_point, posted_by_table, reaches, stops};
+ghost use Rattle.osdue.specs.Passing.{acts_each, begins, does_point, due_point, ends, first_point, is_known_point, is_of_kind, of_kind, passes, posted_by_end, posted_by_point, posted_by_table, reaches, stops};
 
 use crate::expiring::act;
 use osbase::{Mark, RemoteCall, TableRef};
+use oscript::is_activation;
 use osplan::{ExpiryPoint, Table};
 use osstate::CoreState;
 use ostable::DueTable;
@@ -206,11 +207,5 @@ fn act_each<const P: usize, const J: usize, const OUT: usize>(
 fn is_of_kind(action: &RemoteCall, activating: bool) -> bool
     ensures { result ≡ is_of_kind activating action.now }
 {
-    is_activation(action) == activating
-}
-
-fn is_activation(action: &RemoteCall) -> bool
-    ensures { result ≡ is_activation action.now }
-{
-    matches!(action, RemoteCall::ActivateTask(_))
+    is_activation(*action) == activating
 }

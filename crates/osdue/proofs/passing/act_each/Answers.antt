@@ -1,8 +1,7 @@
 use Rattle.std.proofs.Common.{◌≡◌, ◌<◌, IsTrue, false, get_or, length, rules, ap, sym, ◌∙◌}
 use Rattle.osbase.specs.History.{same_core}
 use Rattle.std.proofs.lemmas.List.{take_all}
-use Rattle.osbase.specs.declared.messages.RemoteCall.{RemoteCall}
-use Rattle.osbase.specs.declared.messages.RemoteCall.TheVariants as Remote
+use Rattle.oscript.specs.Calls.{any_action}
 use Rattle.osplan.specs.Objects.{may_act}
 use Rattle.osplan.proofs.Tests.{all-filter}
 use Rattle.osstate.specs.Does.{HasRoom}
@@ -13,14 +12,10 @@ use Rattle.osdue.proofs.InTurn.{left-out, next-kept, one-acted, places-left, roo
 use Rattle.osdue.proofs.passing.act_each.Goals as goal
 use Rattle.osdue.proofs.passing.act_each.Goals.{then-is_of_kind, else-is_of_kind}
 
--- what stands past the last one
-abbrev blank : RemoteCall
-blank = Remote.ActivateTask (record { core = record { number = 0 }; index = 0 })
-
 pub act-requires : goal.act-requires
 act-requires g c =
-    let a = get_or c.args.actions.now c.loop-action.action-index blank in
-    let next = next-kept (is_of_kind c.args.activating) c.args.actions.now c.loop-action.action-index blank c.loop-action-test.true (sym c.is_of_kind.ensures ∙ c.if-is_of_kind.true) in
+    let a = get_or c.args.actions.now c.loop-action.action-index any_action in
+    let next = next-kept (is_of_kind c.args.activating) c.args.actions.now c.loop-action.action-index any_action c.loop-action-test.true (sym c.is_of_kind.ensures ∙ c.if-is_of_kind.true) in
     let known : IsTrue (is_known_call c.loop-action.state.view.own a) =
     known-call c.loop-action.state.view.own a (still-passes next c.loop-action.invariant may_act (all-filter (may_act c.args.state.now.view.own) (is_of_kind c.args.activating) c.args.actions.now c.requires.known)) in
     let place : (same_core (core_of_call a) c.loop-action.state.view.own.id ≡ false → length c.loop-action.state.border.outbox < g.row.OUT) = place-left _ _ _ (places-left next c.loop-action.invariant c.requires.outbox) in
@@ -30,10 +25,10 @@ act-requires g c =
 pub loop-action-preserved : goal.loop-action-preserved
 loop-action-preserved g c = elim c.if-is_of_kind.branch [
   | then-is_of_kind w ↦
-      let next = next-kept (is_of_kind c.args.activating) c.args.actions.now c.loop-action.action-index blank c.loop-action-test.true (sym c.is_of_kind.ensures ∙ w.if-is_of_kind.true) in
+      let next = next-kept (is_of_kind c.args.activating) c.args.actions.now c.loop-action.action-index any_action c.loop-action-test.true (sym c.is_of_kind.ensures ∙ w.if-is_of_kind.true) in
       rw (w.state-is, w.marks-is) (one-acted next c.loop-action.invariant w.act.ensures.effects (joined _ _ _ (λ same. ap (λ s. length s.outbox) (w.act.ensures.here same)) w.act.ensures.outbox))
   | else-is_of_kind w ↦
-      let same = left-out (is_of_kind c.args.activating) c.args.actions.now c.loop-action.action-index blank c.loop-action-test.true (sym c.is_of_kind.ensures ∙ w.if-is_of_kind.false) in
+      let same = left-out (is_of_kind c.args.activating) c.args.actions.now c.loop-action.action-index any_action c.loop-action-test.true (sym c.is_of_kind.ensures ∙ w.if-is_of_kind.false) in
       rw (w.state-is, w.marks-is, same) c.loop-action.invariant
 ]
 
