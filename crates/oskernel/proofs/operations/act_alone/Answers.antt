@@ -1,30 +1,40 @@
-use Rattle.std.proofs.Common.{refl, rules, lit≤, SFits, w64}
-use Rattle.std.proofs.lemmas.Int.{to_z-of_z}
+use Rattle.std.proofs.Common.{◌≡◌, ℕ, Bool, true, false, Option, Some, None, is_some, unwrap_or, refl, arith, Vec, Global}
+use Rattle.osbase.specs.declared.marks.Mark.{Mark}
+use Rattle.osstate.specs.Does.{Effects}
+use Rattle.osstate.specs.State.{KernelState}
 use Rattle.osstate.proofs.Effecting.{as_effect, unprinted}
+use Rattle.osact.specs.Acts.{Acts, does, nothing}
 use Rattle.osact.proofs.Remarking.{unmoved}
+use Rattle.ostaskcall.specs.Tasks.{task_acts}
+use Rattle.osalarmcall.specs.Counters.{counter_acts}
+use Rattle.ostablecall.specs.Tables.{table_acts}
+use Rattle.oscall.specs.Chaining.{chain_acts}
+use Rattle.oscall.specs.Variables.{script_acts}
+use Rattle.osdue.specs.Incrementing.{increment_acts}
 use Rattle.oskernel.proofs.operations.act_alone.Goals as goal
 
-pub returns-in-Set : goal.returns-in-Set
-returns-in-Set g c =
-    let number : SFits w64 c.in-Set.number = search rules in
-    rw c.in-Set.is (as_effect (λ v h stands. refl) (lit≤ tt) (lit≤ tt) (simp to_z-of_z at c.set.ensures))
+module _ {n m : ℕ} {s s' : KernelState} {x x' : Vec Mark Global} {known : Bool} (o : Option Acts) (is : known ≡ is_some o) where
+  -- A family that does not know the operation has changed nothing, and the next one is asked.
+  next : (rest : Acts) {t : KernelState} {y : Vec Mark Global} → known ≡ false → (t ≡ s) × (y ≡ x) → Effects n m (does rest) t s' y x' → Effects n m (does (unwrap_or o rest)) s s' x x'
+  next rest {t} {y} absent same e = by o is
+    where
+      by : (p : Option Acts) → known ≡ is_some p → Effects n m (does (unwrap_or p rest)) s s' x x'
+      by None i = rw (← same.0, ← same.1) e
+      by (Some acts) i = cc
 
-pub returns-in-Add : goal.returns-in-Add
-returns-in-Add g c =
-    let number : SFits w64 c.in-Add.number = search rules in
-    rw c.in-Add.is (as_effect (λ v h stands. refl) (lit≤ tt) (lit≤ tt) (simp to_z-of_z at c.add.ensures))
+  -- The last one knows it, or nothing happens.
+  last : (known ≡ true → Effects n m (does (unwrap_or o nothing)) s s' x x') → (known ≡ false → (s' ≡ s) × (x' ≡ x)) → Effects n m (does (unwrap_or o nothing)) s s' x x'
+  last done others = by o is done
+    where
+      by : (p : Option Acts) → known ≡ is_some p → (known ≡ true → Effects n m (does (unwrap_or p nothing)) s s' x x') → Effects n m (does (unwrap_or p nothing)) s s' x x'
+      by None i e = rw ((others i).0, (others i).1) (as_effect {f = λ v h. h} (λ v h stands. refl) (omega arith) (omega arith) (unprinted unmoved))
+      by (Some acts) i e = e i
 
-pub returns-in-Work : goal.returns-in-Work
-returns-in-Work g c = rw c.in-Work.is (as_effect (λ v h stands. refl) (lit≤ tt) (lit≤ tt) (unprinted c.complete.ensures.remarks))
-
-pub returns-in-Jump : goal.returns-in-Jump
-returns-in-Jump g c = rw c.in-Jump.is (as_effect (λ v h stands. refl) (lit≤ tt) (lit≤ tt) (unprinted c.complete-in-Jump.ensures.remarks))
-
-pub returns-in-JumpIfZero : goal.returns-in-JumpIfZero
-returns-in-JumpIfZero g c = rw c.in-JumpIfZero.is (as_effect (λ v h stands. refl) (lit≤ tt) (lit≤ tt) (unprinted c.complete-in-JumpIfZero.ensures.remarks))
-
-pub returns-in-WaitEvent : goal.returns-in-WaitEvent
-returns-in-WaitEvent g c = rw c.in-WaitEvent.is (as_effect (λ v h stands. refl) (lit≤ tt) (lit≤ tt) c.wait_event.ensures)
-
-pub returns-in-ActivateTask : goal.returns-in-ActivateTask
-returns-in-ActivateTask g c = as_effect {f = λ v h. h} (λ v h stands. search (rules, c.in-ActivateTask.is)) (lit≤ tt) (lit≤ tt) (unprinted unmoved)
+pub returns : goal.returns
+returns g c =
+    next (script_acts c.args.runner c.args.op) c.operate.ensures.known _ c.if-operate.false (c.operate.ensures.others c.if-operate.false)
+    (next (task_acts c.args.runner c.args.op) c.operate-2.ensures.known _ c.if-operate-2.false (c.operate-2.ensures.others c.if-operate-2.false)
+    (next (chain_acts c.args.runner c.args.op) c.operate-3.ensures.known _ c.if-operate-3.false (c.operate-3.ensures.others c.if-operate-3.false)
+    (next (counter_acts c.args.runner c.args.op) c.operate-4.ensures.known _ c.if-operate-4.false (c.operate-4.ensures.others c.if-operate-4.false)
+    (next (increment_acts c.args.runner c.args.op) c.operate-5.ensures.known _ c.if-operate-5.false (c.operate-5.ensures.others c.if-operate-5.false)
+    (last (table_acts c.args.runner c.args.op) c.operate-6.ensures.known c.operate-6.ensures.effects c.operate-6.ensures.others)))))

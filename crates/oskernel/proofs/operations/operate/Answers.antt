@@ -1,19 +1,15 @@
-use Rattle.std.proofs.Common.{◌≡◌, ◌<◌, length, arith, Option, Some, None, option_and_then, List, IfSome, IsTrue, true, rules, ap, sym, subst, lit≤}
-use Rattle.std.specs.List.{list_all}
-use Rattle.std.proofs.lemmas.Bool.{and_parts}
+use Rattle.std.proofs.Common.{◌≡◌, ◌<◌, length, arith, Option, Some, None, List, IfSome, IsTrue, true, rules, ap, sym, lit≤}
 use Rattle.osbase.specs.declared.histories.Sent.{Sent}
 use Rattle.osbase.specs.declared.messages.RemoteCall.{RemoteCall}
-use Rattle.osbase.specs.declared.objects.Object.{Object}
 use Rattle.osbase.specs.declared.statuses.ServiceId.{ServiceId}
-use Rattle.osbase.specs.Objects.{object_of_call}
 use Rattle.oscript.specs.declared.Op.{Op}
 use Rattle.oscript.specs.Calls.{call_of_op}
-use Rattle.oscript.proofs.Acting.{called-object}
 use Rattle.osplan.specs.declared.plans.Core.{Core}
 use Rattle.osplan.specs.Objects.{may_name}
 use Rattle.osstate.specs.Sound.{has_objects_of}
 use Rattle.osstate.proofs.Effecting.{as_effect}
 use Rattle.osact.specs.Acts.{does}
+use Rattle.osact.proofs.Called.{called-passes}
 use Rattle.oscall.specs.Border.{is_known_call}
 use Rattle.oskernel.specs.Operations.{operates_by}
 use Rattle.oskernel.proofs.operations.operate.Goals as goal
@@ -21,8 +17,7 @@ use Rattle.oskernel.proofs.operations.operate.Goals as goal
 -- What is asked for is an object that the operation names.
 known-call : (core : Core) (op : Op) (id : ServiceId) (target : Option RemoteCall) → Some (id, target) ≡ call_of_op op → has_objects_of core op ≡ true → IfSome target (λ call. IsTrue (is_known_call core call))
 known-call core op id None is known = tt
-known-call core op id (Some call) is known =
-    (and_parts (may_name core (object_of_call call)) true (subst (λ (objects : List Object). list_all (may_name core) objects ≡ true) (called-object op call (ap (option_and_then (λ (entry : ServiceId × Option RemoteCall). entry.1)) (sym is))) known)).0
+known-call core op id (Some call) is known = called-passes (may_name core) op id call (sym is) known
 
 pub call-requires : goal.call-requires
 call-requires g c =
