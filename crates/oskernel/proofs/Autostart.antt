@@ -1,73 +1,85 @@
--- Autostart, task by task.
-use Rattle.std.proofs.Common.{◌≡◌, ℕ, zero, suc, ◌+◌, ◌≤◌, ◌<◌, Bool, true, false, cond, Option, Some, List, [], ◌∷◌, ◌++◌, length, refl, ap, sym, subst, ◌∙◌, arith, nat_le, get_or}
+-- What starts by itself: a task has a place for its first job, and an alarm's and a table's times are within their counter's.
+use Rattle.std.proofs.Common.{◌≡◌, ℕ, zero, suc, ◌+◌, ◌≤◌, ◌<◌, Bool, true, false, cond, Option, Some, None, List, [], ◌∷◌, ◌++◌, length, refl, ap, sym, subst, ◌∙◌, arith, nat_le}
 use Rattle.std.specs.List.{slice_get, list_all}
-use Rattle.std.proofs.lemmas.Bool.{false_from_ne_true, leb-true, and_parts}
-use Rattle.osbase.specs.declared.references.CoreId.{CoreId}
-use Rattle.osbase.specs.declared.references.TaskRef.{TaskRef}
+use Rattle.std.specs.Option.{option_map_or}
+use Rattle.std.proofs.lemmas.Bool.{false_from_ne_true, leb-true}
+use Rattle.osbase.specs.declared.references.TableRef.{TableRef}
 use Rattle.osbase.specs.declared.references.Runner.{Runner}
 use Rattle.osbase.specs.declared.items.Agreement.{Agreement}
-use Rattle.osbase.specs.declared.histories.Job.{Job}
-use Rattle.osbase.specs.History.{History, same_runner, same_core, job_count}
-use Rattle.osplan.specs.declared.plans.Core.{Core}
-use Rattle.osplan.specs.declared.plans.Task.{Task}
-use Rattle.osplan.specs.View.{View}
-use Rattle.osstate.specs.State.{KernelState}
-use Rattle.osstate.specs.Sound.{activation_limit}
+use Rattle.osbase.specs.History.{History, TableStarted, job_count, marks_of, same_runner}
 use Rattle.osbase.proofs.Same.{same_runner-true, same_core-refl}
+use Rattle.osplan.specs.declared.plans.Alarm.{Alarm}
+use Rattle.osplan.specs.declared.plans.AlarmStart.{AlarmStart}
+use Rattle.osplan.specs.declared.plans.Core.{Core}
+use Rattle.osplan.specs.declared.plans.Table.{Table}
+use Rattle.osplan.specs.declared.plans.TableStart.{TableStart}
+use Rattle.osplan.specs.declared.plans.Task.{Task}
+use Rattle.osplan.specs.Clocked.{are_clocks_within}
+use Rattle.osplan.specs.View.{View, own_table}
+use Rattle.osplan.proofs.Tests.{passes-at}
+use Rattle.osplan.proofs.Timing.{own-counter-there, own-table-attached, own-table-within, table-start-bounds}
+use Rattle.osstate.specs.Readings.{task_ref}
+use Rattle.osstate.specs.Sound.{activation_limit}
+use Rattle.osstate.specs.State.{KernelState}
 use Rattle.osstate.proofs.JobLists.{job_count-append}
-use Rattle.osact.specs.Acts.{does}
-use Rattle.ostaskcall.specs.Tasks.{activates}
-use Rattle.oskernel.specs.Step.{starts_if}
-use Rattle.oskernel.proofs.Numbered.{stands-at}
+use Rattle.osclock.specs.Clocks.{alarm_ref}
+use Rattle.ostable.specs.Tables.{table_ref}
+use Rattle.osact.specs.Acts.{does, nothing, notes}
+use Rattle.osact.proofs.Remarking.{silent-if}
+use Rattle.osalarmcall.specs.Alarms.{sets_alarm}
+use Rattle.oskernel.specs.Step.{autostarts_alarm, autostarts_table, starts_if, starts_in}
+use Rattle.oskernel.specs.Taking.{have_places}
 
-abbrev pub ref_at : CoreId → ℕ → TaskRef
-ref_at core n = record { core = core; index = n }
-
-abbrev pub activate_if_auto : View → Option Agreement → TaskRef × Task → History → History
-activate_if_auto v agreement p h = does (starts_if agreement p.1.auto (activates p.0)) v h
-
--- a task that has no job yet may have one
-pub place-for-first : (own : Core) (js : List Job) (i : ℕ) (t : Task) → list_all (λ (u : Task). nat_le 1 u.activations) own.tasks ≡ true → slice_get own.tasks i ≡ Some t → job_count (Runner.Task (ref_at own.id i)) js ≡ 0 → job_count (Runner.Task (ref_at own.id i)) js < activation_limit own (Runner.Task (ref_at own.id i))
-place-for-first own js i t some e none =
-    let limit : activation_limit own (Runner.Task (ref_at own.id i)) ≡ t.activations = rw (same_core-refl own.id, e) in
-    omega (arith, limit, none, at_least own.tasks i t some e)
+-- Where there is no job yet each task may have one.
+pub first-places : (s : KernelState) → list_all (λ (t : Task). nat_le 1 t.activations) s.view.own.tasks ≡ true → s.tasks.jobs ≡ [] → have_places 0 s
+first-places s some none k from within =
+    let own = s.view.own in
+    let t = find own.tasks k within in
+    let limit : activation_limit own (Runner.Task (task_ref own k)) ≡ t.0.activations = rw (same_core-refl own.id, t.1) in
+    omega (arith, limit, ap (job_count (Runner.Task (task_ref own k))) none, leb-true 1 t.0.activations (passes-at (λ (t : Task). nat_le 1 t.activations) own.tasks k t.0 some t.1))
   where
-    at_least : (xs : List Task) (i : ℕ) (t : Task) → list_all (λ (u : Task). nat_le 1 u.activations) xs ≡ true → slice_get xs i ≡ Some t → 1 ≤ t.activations
-    at_least [] i t all e = cc
-    at_least (x ∷ xs) zero t all e =
-        let same : x ≡ t = cc in
-        subst (λ (u : Task). 1 ≤ u.activations) same (leb-true 1 x.activations (and_parts (nat_le 1 x.activations) _ all).0)
-    at_least (x ∷ xs) (suc i) t all e = at_least xs i t (and_parts (nat_le 1 x.activations) _ all).1 e
+    find : (ts : List Task) (k : ℕ) → k < length ts → (t : Task) × (slice_get ts k ≡ Some t)
+    find [] k within = absurd (omega (arith, within))
+    find (t ∷ ts) zero within = (t, refl)
+    find (t ∷ ts) (suc k) within = find ts k (omega (arith, within))
 
-abbrev index_of : Runner → ℕ
-index_of (Runner.Task t) = t.index
-index_of (Runner.Isr i) = 0
-
--- the later tasks still have no job
-pub later-none : (core : CoreId) (js : List Job) (i k : ℕ) (j : Job) → j.runner ≡ Runner.Task (ref_at core i) → i < k → job_count (Runner.Task (ref_at core k)) js ≡ 0 → job_count (Runner.Task (ref_at core k)) (js ++ j ∷ []) ≡ 0
-later-none core js i k j is later none =
-    job_count-append (Runner.Task (ref_at core k)) js j
-    ∙ ap (λ (b : Bool). cond b (suc (job_count (Runner.Task (ref_at core k)) js)) (job_count (Runner.Task (ref_at core k)) js)) other
-    ∙ none
+-- A job of the task before leaves the places of the others.
+pub later-places : (old new : KernelState) (index stamp : ℕ) → new.view ≡ old.view → new.tasks.jobs ≡ old.tasks.jobs ++ record { runner = Runner.Task (task_ref old.view.own index); stamp = stamp } ∷ [] → have_places index old → have_places (index + 1) new
+later-places old new index stamp view jobs places k from within =
+    let own = old.view.own in
+    let inside : k < length own.tasks = omega (arith, within, ap (λ v. length v.own.tasks) view) in
+    let here : job_count (Runner.Task (task_ref own k)) new.tasks.jobs ≡ job_count (Runner.Task (task_ref own k)) old.tasks.jobs =
+    ap (job_count (Runner.Task (task_ref own k))) jobs
+    ∙ job_count-append (Runner.Task (task_ref own k)) old.tasks.jobs _
+    ∙ ap (λ (b : Bool). cond b (suc (job_count (Runner.Task (task_ref own k)) old.tasks.jobs)) (job_count (Runner.Task (task_ref own k)) old.tasks.jobs)) (other own k from) in
+    subst (λ v. job_count (Runner.Task (task_ref v.own k)) new.tasks.jobs < activation_limit v.own (Runner.Task (task_ref v.own k))) (sym view)
+    (omega (arith, here, places k (omega (arith, from)) inside))
   where
-    same : same_runner j.runner (Runner.Task (ref_at core k)) ≡ true → i ≡ k
-    same e = ap index_of (sym is ∙ same_runner-true j.runner (Runner.Task (ref_at core k)) e)
+    index_of : Runner → ℕ
+    index_of (Runner.Task t) = t.index
+    index_of (Runner.Isr i) = 0
 
-    other : same_runner j.runner (Runner.Task (ref_at core k)) ≡ false
-    other = false_from_ne_true (same_runner j.runner (Runner.Task (ref_at core k))) (λ e. let is_same : i ≡ k = same e in absurd (omega arith))
+    other : (own : Core) (k : ℕ) → index + 1 ≤ k → same_runner (Runner.Task (task_ref own index)) (Runner.Task (task_ref own k)) ≡ false
+    other own k from = false_from_ne_true _ (λ e. let same : index ≡ k = ap index_of (same_runner-true (Runner.Task (task_ref own index)) (Runner.Task (task_ref own k)) e) in absurd (omega (arith, from, same)))
 
-pub still-none : (core : CoreId) (old_jobs new_jobs : List Job) (i index k : ℕ) (b : Bool) (stamp : ℕ) → index ≡ i → new_jobs ≡ cond b (old_jobs ++ record { runner = Runner.Task (ref_at core index); stamp = stamp } ∷ []) old_jobs → i + 1 ≤ k → ((n : ℕ) → i ≤ n → job_count (Runner.Task (ref_at core n)) old_jobs ≡ 0) → job_count (Runner.Task (ref_at core k)) new_jobs ≡ 0
-still-none core old_jobs new_jobs i index k true stamp same is later none =
-    ap (job_count (Runner.Task (ref_at core k))) is
-    ∙ later-none core old_jobs index k (record { runner = Runner.Task (ref_at core index); stamp = stamp }) refl (omega (arith, same, later)) (none k (omega (arith, later)))
-still-none core old_jobs new_jobs i index k false stamp same is later none =
-    ap (job_count (Runner.Task (ref_at core k))) is ∙ none k (omega (arith, later))
+-- An alarm and a table print nothing.
+pub quiet-alarm : (agreement : Option Agreement) (core : Core) (n : ℕ) (alarm : Alarm) (v : View) (h : History) → marks_of (does (autostarts_alarm agreement core n alarm) v h) ≡ marks_of h
+quiet-alarm agreement core n alarm v h = by alarm.auto
+  where
+    by : (o : Option AlarmStart) → marks_of (does (option_map_or (λ (x : AlarmStart). starts_if agreement x.modes (sets_alarm (alarm_ref core n) x.start x.cycle)) o nothing) v h) ≡ marks_of h
+    by None = refl
+    by (Some x) = silent-if (starts_in agreement x.modes) _ h refl
 
--- in the loop over the tasks: the next one has a place for its first job
-pub next-place : (old now : KernelState) (tasks : List Task) (core : CoreId) (index place : ℕ) (t : Task) → now.view ≡ old.view → tasks ≡ old.view.own.tasks → core ≡ old.view.own.id → list_all (λ (u : Task). nat_le 1 u.activations) old.view.own.tasks ≡ true → index ≡ place → place < length tasks → t ≡ get_or tasks place t → ((k : ℕ) → place ≤ k → job_count (Runner.Task (ref_at core k)) now.tasks.jobs ≡ 0) → job_count (Runner.Task (ref_at core index)) now.tasks.jobs < activation_limit now.view.own (Runner.Task (ref_at core index))
-next-place old now tasks core index place t same_view same_tasks same_core some same_index within is none =
-    let own : Runner.Task (ref_at core index) ≡ Runner.Task (ref_at old.view.own.id place) = ap (λ (c : CoreId). Runner.Task (ref_at c index)) same_core ∙ ap (λ (n : ℕ). Runner.Task (ref_at old.view.own.id n)) same_index in
-    let none_here : job_count (Runner.Task (ref_at old.view.own.id place)) now.tasks.jobs ≡ 0 = subst (λ (c : CoreId). job_count (Runner.Task (ref_at c place)) now.tasks.jobs ≡ 0) same_core (none place (omega arith)) in
-    let base = place-for-first old.view.own now.tasks.jobs place t some (stands-at tasks old.view.own.tasks place t same_tasks within is) none_here in
-    subst (λ (v : View). job_count (Runner.Task (ref_at core index)) now.tasks.jobs < activation_limit v.own (Runner.Task (ref_at core index))) (sym same_view)
-    (subst (λ (r : Runner). job_count r now.tasks.jobs < activation_limit old.view.own r) (sym own) base)
+pub quiet-table : (agreement : Option Agreement) (core : Core) (n : ℕ) (table : Table) (v : View) (h : History) → marks_of (does (autostarts_table agreement core n table) v h) ≡ marks_of h
+quiet-table agreement core n table v h = by table.auto
+  where
+    by : (o : Option TableStart) → marks_of (does (option_map_or (λ (x : TableStart). starts_if agreement x.modes (notes (TableStarted (table_ref core n) x.offset))) o nothing) v h) ≡ marks_of h
+    by None = refl
+    by (Some x) = silent-if (starts_in agreement x.modes) _ h refl
+
+-- An automatic table's offset is within a turn.
+pub offset-within : (core : Core) (s : TableRef) (x : Table) (auto : TableStart) → are_clocks_within core ≡ true → own_table core s ≡ Some x → x.auto ≡ Some auto → auto.offset ≤ 1000000001
+offset-within core s x auto within own is =
+    let counter = own-counter-there core x.counter within (own-table-attached core s x within own) in
+    let bounds = table-start-bounds core x counter.counter counter.found auto (own-table-within core s x within own) is in
+    omega (arith, bounds.1, counter.most)

@@ -10,7 +10,7 @@ use Rattle.osbase.specs.History.{Entry, History, Took, Printed, Noted, Opened, Q
 use Rattle.osplan.specs.View.{View}
 use Rattle.osact.proofs.Kept.{anybody, is_local, nobody, none-awaited}
 use Rattle.osstate.specs.State.{state_of}
-use Rattle.oskernel.specs.Admission.{is_settled}
+use Rattle.oskernel.specs.Free.{is_settled}
 use Rattle.oskernel.specs.Step.{after}
 use Rattle.oskernel.proofs.Carried.{is_replied, NamesAllow}
 use Rattle.oskernel.proofs.Holding.{Holds, holds-after}

@@ -1,52 +1,38 @@
 -- What a core does at an item it does to every history that reads the same.
-use Rattle.std.proofs.Common.{◌≡◌, ◌&&◌, ◌||◌, ℕ, Bool, true, false, cond, Option, Some, None, is_none, option_map, List, [], ◌∷◌, map, refl, subst, sym, ℤ, ◌+◌}
+use Rattle.std.proofs.Common.{◌≡◌, ◌&&◌, ℕ, ◌+◌, Bool, true, false, cond, Option, Some, None, option_and_then, List, [], ◌∷◌, refl, subst, sym, ◌∙◌}
 use Rattle.std.specs.List.{enumerate_from, list_all, slice_get}
 use Rattle.std.specs.Option.{option_map_or}
 use Rattle.std.proofs.lemmas.Bool.{and_from, and_parts, or_right}
-use Rattle.osbase.specs.declared.statuses.Status.{Status}
-use Rattle.osbase.specs.declared.references.AlarmRef.{AlarmRef}
 use Rattle.osbase.specs.declared.references.CoreId.{CoreId}
-use Rattle.osbase.specs.declared.references.CounterRef.{CounterRef}
-use Rattle.osbase.specs.declared.references.TableRef.{TableRef}
 use Rattle.osbase.specs.declared.references.TaskRef.{TaskRef}
 use Rattle.osbase.specs.declared.references.Runner.{Runner}
 use Rattle.osbase.specs.declared.messages.Message.{Message}
-use Rattle.osbase.specs.declared.messages.RemoteCall.{RemoteCall}
-use Rattle.osbase.specs.declared.objects.Object.{Object}
 use Rattle.osbase.specs.declared.items.Agreement.{Agreement}
 use Rattle.osbase.specs.declared.items.Item.{Item}
 use Rattle.osbase.specs.declared.items.Stimulus.{Stimulus}
-use Rattle.osbase.specs.declared.marks.Mark.{Mark}
 use Rattle.osbase.specs.declared.histories.Awaited.{Awaited}
 use Rattle.osbase.specs.declared.histories.Job.{Job}
-use Rattle.osbase.specs.declared.histories.OpenCall.{OpenCall}
-use Rattle.osbase.specs.declared.histories.Phase.{Phase}
-use Rattle.osbase.specs.History.{History, Printed, Took, current_task, open_call, same_job}
-use Rattle.osbase.specs.Marks.{core_of_runner, names_only}
-use Rattle.osbase.specs.Objects.{object_of_call}
-use Rattle.osbase.specs.Phases.{is_scheduling}
+use Rattle.osbase.specs.History.{History, Took, current_task, same_job}
+use Rattle.osbase.specs.Marks.{core_of_runner}
 use Rattle.oscript.specs.declared.Op.{Op}
 use Rattle.oscript.specs.declared.Action.TheVariants.{Perform, End}
 use Rattle.oscript.specs.Rows.{objects_of}
-use Rattle.osplan.specs.declared.plans.Alarm.{Alarm}
-use Rattle.osplan.specs.declared.plans.AlarmStart.{AlarmStart}
 use Rattle.osplan.specs.declared.plans.Core.{Core}
 use Rattle.osplan.specs.declared.plans.Counter.{Counter}
-use Rattle.osplan.specs.declared.plans.Table.{Table}
-use Rattle.osplan.specs.declared.plans.TableStart.{TableStart}
-use Rattle.osplan.specs.declared.plans.Task.{Task}
 use Rattle.osplan.specs.Objects.{core_actions}
 use Rattle.osplan.specs.View.{View}
-use Rattle.osstate.specs.Readings.{best_job, numbered_alarms, numbered_counters, numbered_tables, phase_at, running, script_of, task_refs}
-use Rattle.osact.specs.Acts.{Acts, does}
-use Rattle.osact.specs.Seen.{Seen}
-use Rattle.osact.proofs.Kept.{AreAllowed, IsKept, anybody, for_each-ok, is_within, kept-by, seen_as}
+use Rattle.osstate.specs.Readings.{best_job, running, script_of}
+use Rattle.osstate.specs.State.{state_of}
+use Rattle.osact.specs.Acts.{Acts, does, for_each, nothing}
+use Rattle.osact.specs.Seen.{Seen, seen_of}
+use Rattle.osact.proofs.Kept.{AreAllowed, IsKept, anybody, is_within, kept-by, seen_as}
 use Rattle.ostaskcall.proofs.Allowed.{ends_unasked-ok}
 use Rattle.oscall.specs.Border.{core_of_call}
 use Rattle.oscall.proofs.Allowed.{resumes-ok, serves_action-ok, serves_request-ok}
-use Rattle.osdue.proofs.Allowed.{ActionsAllow, IsSeen, counts-ok}
+use Rattle.osdue.proofs.Allowed.{ActionsAllow, IsSeen, counts-ok, seen-is}
 use Rattle.oskernel.proofs.Operated.{IsAllowed, operates-ok}
-use Rattle.oskernel.specs.Step.{after, autostarts, closes, counts_each, dispatches, effect, enters, gate_mark, goes_on, goes_to, leaves, performs, resumes_with, sets_by_itself, sets_each, starts, starts_by_itself, starts_each}
+use Rattle.oskernel.specs.Free.{may_dispatch}
+use Rattle.oskernel.specs.Step.{after, counts_if_hardware, dispatches, effect, enters, enters_from, goes_to, performs, resumes_with, starts}
 
 -- A request comes from a core that may be answered, and the call that it brings, or an action, is for an object that marks
 -- may name.
@@ -63,62 +49,60 @@ pub record NamesAllow (v : View) (may : CoreId → Bool) : Type 0 where
 
 -- Where every core may be asked and answered, nothing is demanded.
 pub allow-anybody : (v : View) → NamesAllow v anybody
-allow-anybody v = record { scripts = λ r n op e. each (λ (object : Object). object.place.core) (objects_of op); actions = each (λ (call : RemoteCall). (object_of_call call).place.core) (core_actions v.own) }
+allow-anybody v = record { scripts = λ r n op e. each (objects_of op) _; actions = each (core_actions v.own) _ }
   where
-    each : {A : Type 0} (core_of : A → CoreId) (xs : List A) → list_all (λ (x : A). is_within v anybody (core_of x)) xs ≡ true
-    each core_of [] = refl
-    each core_of (x ∷ xs) = and_from _ _ (or_right _ true refl) (each core_of xs)
+    each : {A : Type 0} (xs : List A) (core_of : A → CoreId) → list_all (λ (x : A). is_within v anybody (core_of x)) xs ≡ true
+    each [] core_of = refl
+    each (x ∷ xs) core_of = and_from _ _ (or_right _ true refl) (each xs core_of)
 
 pub replied-anybody : (item : Item) → is_replied anybody anybody item ≡ true
 replied-anybody (Item.Received from number (Message.Request call)) = refl
 replied-anybody (Item.Received from number (Message.Action call)) = refl
 replied-anybody item = refl
 
-abbrev pub runner_of : Option Job → Option Runner
-runner_of o = option_map (λ (j : Job). j.runner) o
-
--- The best job is the running one.
-abbrev pub is_going : Option Job → Option Job → Bool
-is_going best runs = option_map_or (λ (j : Job). option_map_or (same_job j) runs false) best false
-
--- The readings that steer dispatch are the same; of a job only its runner, and whether the best one runs.
-pub record SteersSame (v other : View) (h k : History) : Type 0 where
-  pub phase : phase_at v h ≡ phase_at other k
-  pub awaits : open_call h ≡ open_call k
-  pub current : current_task h ≡ current_task k
-  pub best : runner_of (best_job v h) ≡ runner_of (best_job other k)
-  pub stays : is_going (best_job v h) (running v h) ≡ is_going (best_job other k) (running other k)
-
-pub steers-itself : (v : View) (h : History) → SteersSame v v h h
-steers-itself v h = record { phase = refl; awaits = refl; current = refl; best = refl; stays = refl }
+-- ---- who acts
 
 -- Whatever is there passes the test.
-abbrev pub passes : {A : Type 0} → (A → Bool) → Option A → Bool
-passes test o = option_map_or test o true
+abbrev pub passes : {A : Type 0} → Option A → (A → Bool) → Bool
+passes o test = option_map_or test o true
 
-abbrev pub passes_job : (CoreId → Bool) → Option Job → Bool
-passes_job names o = passes (λ (j : Job). names (core_of_runner j.runner)) o
+-- The runner that dispatch goes to, if any: the best job's, unless that one runs.
+abbrev pub next_job : Option Job → Option Job → Option Runner
+next_job best runs = option_and_then (λ (j : Job). cond (option_map_or (same_job j) runs false) None (Some j.runner)) best
 
--- Marks may name the task that a core leaves, and the runner that it goes to.
-pub record NamesActing (names : CoreId → Bool) (v : View) (h : History) : Type 0 where
-  pub current : passes (λ (t : TaskRef). names t.core) (current_task h) ≡ true
-  pub best : passes_job names (best_job v h) ≡ true
-
-each-anybody : {A : Type 0} (o : Option A) → passes (λ (x : A). true) o ≡ true
-each-anybody None = refl
-each-anybody (Some x) = refl
-
-pub acting-anybody : (v : View) (h : History) → NamesActing anybody v h
-acting-anybody v h = record { current = each-anybody (current_task h); best = each-anybody (best_job v h) }
+abbrev pub next_of : View → History → Option Runner
+next_of v h = cond (may_dispatch (state_of v h)) (next_job (best_job v h) (running v h)) None
 
 -- What a core reads is its own, and marks may name the runner that it goes on with and the one whose call is open.
 pub record IsActing (v : View) (names : CoreId → Bool) (s : Seen) : Type 0 where
   pub seen : IsSeen v s
-  pub running : passes (λ (r : Runner). names (core_of_runner r)) s.running ≡ true
-  pub awaits : passes (λ (call : OpenCall). names (core_of_runner call.runner)) s.awaits ≡ true
+  pub running : passes s.running (λ r. names (core_of_runner r)) ≡ true
+  pub awaits : passes s.awaits (λ call. names (core_of_runner call.runner)) ≡ true
 
-pub acts-anybody : (v : View) (s : Seen) → IsSeen v s → IsActing v anybody s
-acts-anybody v s seen = record { seen = seen; running = each-anybody s.running; awaits = each-anybody s.awaits }
+-- And so they may the task that it leaves, and the runner that it goes to.
+pub record NamesActing (names : CoreId → Bool) (v : View) (h : History) : Type 0 where
+  pub acts : IsActing v names (seen_of v h)
+  pub current : passes (current_task h) (λ t. names t.core) ≡ true
+  pub next : passes (next_of v h) (λ r. names (core_of_runner r)) ≡ true
+
+always : {A : Type 0} (o : Option A) → passes o (λ x. true) ≡ true
+always None = refl
+always (Some x) = refl
+
+pub acting-anybody : (v : View) (h : History) → NamesActing anybody v h
+acting-anybody v h = record { acts = record { seen = seen-is v h; running = always _; awaits = always _ }; current = always _; next = always _ }
+
+-- Dispatch by what is read: the task that a core leaves, and the runner that it goes to.
+abbrev goes : Option TaskRef → Option Runner → History → History
+goes current next h = option_map_or (λ (r : Runner). enters_from current r h) next h
+
+dispatches-is : (v : View) (h : History) → dispatches v h ≡ goes (current_task h) (next_of v h) h
+dispatches-is v h = by (may_dispatch (state_of v h)) (best_job v h)
+  where
+    by : (b : Bool) (o : Option Job) → cond b (goes_to v o h) h ≡ goes (current_task h) (cond b (next_job o (running v h)) None) h
+    by false o = refl
+    by true None = refl
+    by true (Some j) = elim (option_map_or (same_job j) (running v h) false) as (λ b. cond b h (enters j.runner h) ≡ goes (current_task h) (cond b None (Some j.runner)) h) [ true ↦ refl | false ↦ refl ]
 
 -- ---- what follows from an item
 
@@ -126,119 +110,71 @@ module _ (v : View) (may replies names : CoreId → Bool) (allowed : NamesAllow 
   abbrev Allowed : Acts → Type 0
   Allowed = AreAllowed v may replies names (IsActing v names)
 
-  -- What starts by itself.
-  refs-named : {A : Type 0} {R : Type 0} (core_of : R → CoreId) (ref : ℕ → R) → ((n : ℕ) → names (core_of (ref n)) ≡ true) → (n : ℕ) (xs : List A) → list_all (λ (p : R × A). names (core_of p.0)) (map (λ (p : ℕ × A). let q : R × A = (ref p.0, p.1) in q) (enumerate_from n xs)) ≡ true
-  refs-named core_of ref each n [] = refl
-  refs-named core_of ref each n (x ∷ xs) = and_from _ _ (each n) (refs-named core_of ref each (n + 1) xs)
+  in_turn-ok : {A : Type 0} (f : ℕ → A → Acts) → ((n : ℕ) (x : A) → Allowed (f n x)) → (n : ℕ) (xs : List A) → Allowed (for_each (λ (p : ℕ × A). f p.0 p.1) (enumerate_from n xs))
+  in_turn-ok f each n [] = tt
+  in_turn-ok f each n (x ∷ xs) = (each n x, in_turn-ok f each (n + 1) xs)
 
-  autostarts-ok : (agreement : Option Agreement) → Allowed (autostarts agreement (task_refs v.own))
-  autostarts-ok agreement =
-      for_each-ok v may replies names (IsActing v names) _ (λ (p : TaskRef × Task). names p.0.core) (λ p n. (λ e. (n, tt), λ e. tt)) (task_refs v.own) (refs-named (λ (t : TaskRef). t.core) _ (λ n. own_named) 0 v.own.tasks)
+  if-some : {A : Type 0} (o : Option A) (test : A → Bool) (f : A → Acts) → passes o test ≡ true → ((x : A) → test x ≡ true → Allowed (f x)) → Allowed (option_map_or f o nothing)
+  if-some None test f n each = tt
+  if-some (Some x) test f n each = each x n
 
-  any-of : {A : Type 0} (xs : List A) → list_all (λ (x : A). true) xs ≡ true
-  any-of [] = refl
-  any-of (x ∷ xs) = any-of xs
-
-  sets_each-ok : (agreement : Option Agreement) (ps : List (AlarmRef × Alarm)) → Allowed (sets_each agreement ps)
-  sets_each-ok agreement ps = for_each-ok v may replies names (IsActing v names) _ (λ p. true) (λ p any. by p.0 p.1.auto) ps (any-of ps)
-    where
-      by : (a : AlarmRef) (auto : Option AlarmStart) → Allowed (sets_by_itself agreement a auto)
-      by a None = tt
-      by a (Some x) = (λ e. (refl, tt), λ e. tt)
-
-  starts_each-ok : (agreement : Option Agreement) (ps : List (TableRef × Table)) → Allowed (starts_each agreement ps)
-  starts_each-ok agreement ps = for_each-ok v may replies names (IsActing v names) _ (λ p. true) (λ p any. by p.0 p.1.auto) ps (any-of ps)
-    where
-      by : (s : TableRef) (auto : Option TableStart) → Allowed (starts_by_itself agreement s auto)
-      by s None = tt
-      by s (Some x) = (λ e. (refl, tt), λ e. tt)
-
-  gate-ok : (agreement : Agreement) → names_only names (gate_mark agreement) ≡ true
-  gate-ok Agreement.Conflict = refl
-  gate-ok agreement = refl
-
-  counts_each-ok : (ps : List (CounterRef × Counter)) → Allowed (counts_each ps)
-  counts_each-ok ps =
-      for_each-ok v may replies names (IsActing v names) _ (λ p. true)
-      (λ p any. (λ e. tt, λ e. counts-ok v may replies names (IsActing v names) (λ s acting. acting.seen) named own_named allowed.actions p.0)) ps (any-of ps)
+  starts-ok : (agreement : Option Agreement) → Allowed (starts agreement v.own)
+  starts-ok agreement = (
+    in_turn-ok _ (λ n task. (λ e. (own_named, tt), λ e. tt)) 0 v.own.tasks,
+    (
+      in_turn-ok _ (λ n alarm. if-some alarm.auto _ _ (always alarm.auto) (λ x any. (λ e. (refl, tt), λ e. tt))) 0 v.own.alarms,
+      in_turn-ok _ (λ n table. if-some table.auto _ _ (always table.auto) (λ x any. (λ e. (refl, tt), λ e. tt))) 0 v.own.tables,
+    ),
+  )
 
   performs-ok : (r : Runner) → names (core_of_runner r) ≡ true → (o : Option Op) → ((op : Op) → o ≡ Some op → IsAllowed v may op) → Allowed (performs r (option_map_or Perform o End))
   performs-ok r n None permitted = ends_unasked-ok v may replies names (IsActing v names) r n
   performs-ok r n (Some op) permitted = operates-ok v may replies names (IsActing v names) (λ s acting. acting.seen) allowed.actions named own_named op r n (permitted op refl)
 
-  goes_on-ok : (o : Option Runner) → passes (λ (r : Runner). names (core_of_runner r)) o ≡ true → Allowed (goes_on o)
-  goes_on-ok None n = tt
-  goes_on-ok (Some r) n = λ s acting.
-      performs-ok r n (slice_get (script_of s.core r) (s.row r).frame.pc)
-      (λ op found. allowed.scripts r (s.row r).frame.pc op (subst (λ (core : Core). slice_get (script_of core r) (s.row r).frame.pc ≡ Some op) acting.seen.core found))
-
-  closes-ok : (o : Option OpenCall) (s : Status) (value : Option ℤ) → passes (λ (call : OpenCall). names (core_of_runner call.runner)) o ≡ true → Allowed (closes o s value)
-  closes-ok None s value n = tt
-  closes-ok (Some call) s value n = by call.awaits
-    where
-      by : (awaits : Awaited) → Allowed (resumes_with call.runner awaits s value)
-      by (Awaited.Reply id core) = resumes-ok v may replies names (IsActing v names) (λ q acting. acting.seen.id) named call.runner id s value n
-      by awaits = tt
-
   effect-ok : (item : Item) → is_replied replies names item ≡ true → Allowed (effect item)
   effect-ok (Item.Began core s) m = (refl, tt)
-  effect-ok (Item.Pass1 agreement) m = (gate-ok agreement, tt)
-  effect-ok (Item.Pass2 cores) m = λ s acting.
-      subst (λ (core : Core). Allowed (starts s.agreement core)) (sym acting.seen.core)
-      (autostarts-ok s.agreement, (sets_each-ok s.agreement (numbered_alarms v.own), starts_each-ok s.agreement (numbered_tables v.own)))
-  effect-ok (Item.Stim Stimulus.Op) m = λ s acting. goes_on-ok s.running acting.running
-  effect-ok (Item.Stim Stimulus.Tick) m = ((refl, tt), λ s acting. counts_each-ok (numbered_counters s.core))
+  effect-ok (Item.Pass1 Agreement.Conflict) m = (refl, tt)
+  effect-ok (Item.Pass1 agreement) m = (refl, tt)
+  effect-ok (Item.Pass2 cores) m = λ s acting. subst (λ core. Allowed (starts s.agreement core)) (sym acting.seen.core) (starts-ok s.agreement)
+  effect-ok (Item.Stim Stimulus.Op) m = λ s acting. if-some s.running _ _ acting.running (λ r n q seen.
+      performs-ok r n (slice_get (script_of q.core r) (q.row r).frame.pc)
+      (λ op found. allowed.scripts r (q.row r).frame.pc op (subst (λ core. slice_get (script_of core r) (q.row r).frame.pc ≡ Some op) seen.seen.core found)))
+  effect-ok (Item.Stim Stimulus.Tick) m = ((refl, tt), λ s acting. in_turn-ok (counts_if_hardware s.core) (counts-each s.core) 0 s.core.counters)
+    where
+      counts-each : (core : Core) (n : ℕ) (counter : Counter) → Allowed (counts_if_hardware core n counter)
+      counts-each core n counter = (λ e. tt, λ e. counts-ok v may replies names (IsActing v names) (λ s acting. acting.seen) named own_named allowed.actions _)
   effect-ok (Item.Stim (Stimulus.Irq isr)) m = tt
   effect-ok (Item.Received from number (Message.Request call)) m =
       let parts = and_parts (replies from) (names (core_of_call call)) m in
       serves_request-ok v may replies names (IsActing v names) (λ s acting. acting.seen.id) named from call parts.1 parts.0
   effect-ok (Item.Received from number (Message.Action call)) m = serves_action-ok v may replies names (IsActing v names) (λ s acting. acting.seen.id) named from call m
-  effect-ok (Item.Received from number (Message.Reply status value)) m = λ s acting. closes-ok s.awaits status value acting.awaits
+  effect-ok (Item.Received from number (Message.Reply status value)) m = λ s acting. if-some s.awaits _ _ acting.awaits (λ call n. by call.runner n call.awaits)
+    where
+      by : (r : Runner) → names (core_of_runner r) ≡ true → (awaits : Awaited) → Allowed (resumes_with r awaits status value)
+      by r n (Awaited.Reply id core) = resumes-ok v may replies names (IsActing v names) (λ s acting. acting.seen.id) named r id status value n
+      by r n awaits = tt
   effect-ok item m = tt
 
   -- ---- dispatch, and the whole step
 
-  module _ (master : Bool) (ids : List CoreId) (R : History → History → Type 0) (kept : IsKept v master ids may replies names (IsActing v names) R) (steers : (h k : History) → R h k → SteersSame v (seen_as v master ids) h k) (acting : (h k : History) → R h k → NamesActing names v h) where
-    abbrev other : View
-    other = seen_as v master ids
+  module _ (master : Bool) (ids : List CoreId) (R : History → History → Type 0) (kept : IsKept v master ids may replies names (IsActing v names) R) (steers : (h k : History) → R h k → (current_task h ≡ current_task k) × (next_of v h ≡ next_of (seen_as v master ids) k)) (acting : (h k : History) → R h k → NamesActing names v h) where
+    goes-carried : (current : Option TaskRef) (next : Option Runner) (h k : History) → passes current (λ t. names t.core) ≡ true → passes next (λ r. names (core_of_runner r)) ≡ true → R h k → R (goes current next h) (goes current next k)
+    goes-carried current None h k left n p = p
+    goes-carried None (Some (Runner.Task t)) h k left n p = kept.holds.local _ h k n p
+    goes-carried (Some u) (Some (Runner.Task t)) h k left n p = kept.holds.local _ _ _ n (kept.holds.local _ h k left p)
+    goes-carried current (Some (Runner.Isr i)) h k left n p = kept.holds.local _ h k n p
 
-    either : (b : Bool) (h h' k k' : History) → R h k → R h' k' → R (cond b h h') (cond b k k')
-    either true h h' k k' p q = p
-    either false h h' k k' p q = q
-
-    printed : (m : Mark) (h k : History) → names_only names m ≡ true → R h k → R (Printed m ∷ h) (Printed m ∷ k)
-    printed m h k n p = kept.holds.local (Printed m) h k n p
-
-    leaves-carried : (o : Option TaskRef) (h k : History) → passes (λ (t : TaskRef). names t.core) o ≡ true → R h k → R (leaves o h) (leaves o k)
-    leaves-carried None h k n p = p
-    leaves-carried (Some t) h k n p = printed _ h k n p
-
-    enters-carried : (r : Runner) (h k : History) → names (core_of_runner r) ≡ true → R h k → R (enters r h) (enters r k)
-    enters-carried (Runner.Task t) h k n p =
-        printed _ _ _ n
-        (subst (λ (o : Option TaskRef). R (leaves (current_task h) h) (leaves o k)) (steers h k p).current (leaves-carried (current_task h) h k (acting h k p).current p))
-    enters-carried (Runner.Isr i) h k n p = printed _ h k n p
-
-    goes_to-carried : (o o' : Option Job) (h k : History) → passes_job names o ≡ true → runner_of o ≡ runner_of o' → is_going o (running v h) ≡ is_going o' (running other k) → R h k → R (goes_to v o h) (goes_to other o' k)
-    goes_to-carried None None h k n e f p = p
-    goes_to-carried None (Some i) h k n e f p = cc
-    goes_to-carried (Some j) None h k n e f p = cc
-    goes_to-carried (Some j) (Some i) h k n e f p =
-        let same : j.runner ≡ i.runner = cc in
-        subst (λ (b : Bool). R (goes_to v (Some j) h) (cond b k (enters i.runner k))) f
-        (subst (λ (r : Runner). R (goes_to v (Some j) h) (cond (is_going (Some j) (running v h)) k (enters r k))) same
-        (either (is_going (Some j) (running v h)) h (enters j.runner h) k (enters j.runner k) p (enters-carried j.runner h k n p)))
-
-    dispatches-carried : (h k : History) → R h k → R (dispatches v h) (dispatches other k)
+    dispatches-carried : (h k : History) → R h k → R (dispatches v h) (dispatches (seen_as v master ids) k)
     dispatches-carried h k p =
         let same = steers h k p in
-        subst (λ (o : Phase). R (dispatches v h) (cond (is_scheduling o && is_none (open_call k)) (goes_to other (best_job other k) k) k)) same.phase
-        (subst (λ (o : Option OpenCall). R (dispatches v h) (cond (is_scheduling (phase_at v h) && is_none o) (goes_to other (best_job other k) k) k)) same.awaits
-        (either (is_scheduling (phase_at v h) && is_none (open_call h)) (goes_to v (best_job v h) h) h (goes_to other (best_job other k) k) k (goes_to-carried (best_job v h) (best_job other k) h k (acting h k p).best same.best same.stays p) p))
+        let acts = acting h k p in
+        subst (λ (d : History). R d (dispatches (seen_as v master ids) k)) (sym (dispatches-is v h))
+        (subst (R (goes (current_task h) (next_of v h) h)) ((λ i. goes (same.0 i) (same.1 i) k) ∙ sym (dispatches-is (seen_as v master ids) k))
+        (goes-carried (current_task h) (next_of v h) h k acts.current acts.next p))
 
     -- Two items that are taken, with the same effect.
-    pub after-carried : (h k : History) (item item' : Item) → is_replied replies names item ≡ true → effect item ≡ effect item' → R (Took item ∷ h) (Took item' ∷ k) → R (after v h item) (after other k item')
+    pub after-carried : (h k : History) (item item' : Item) → is_replied replies names item ≡ true → effect item ≡ effect item' → R (Took item ∷ h) (Took item' ∷ k) → R (after v h item) (after (seen_as v master ids) k item')
     after-carried h k item item' m same p =
-        dispatches-carried (does (effect item) v (Took item ∷ h)) (does (effect item') other (Took item' ∷ k))
-        (subst (λ (x : Acts). R (does (effect item) v (Took item ∷ h)) (does x other (Took item' ∷ k))) same
+        dispatches-carried (does (effect item) v (Took item ∷ h)) (does (effect item') (seen_as v master ids) (Took item' ∷ k))
+        (subst (λ (x : Acts). R (does (effect item) v (Took item ∷ h)) (does x (seen_as v master ids) (Took item' ∷ k))) same
         (kept-by v may replies names (IsActing v names) master ids R kept (effect item) (effect-ok item m) (Took item ∷ h) (Took item' ∷ k) p))

@@ -7,15 +7,14 @@ use Rattle.osbase.specs.declared.messages.Message.{Message}
 use Rattle.osbase.specs.declared.items.Item.{Item}
 use Rattle.osbase.specs.declared.marks.Mark.{Mark}
 use Rattle.osbase.specs.declared.histories.OpenCall.{OpenCall}
-use Rattle.osbase.specs.History.{Entry, History, Note, Took, Printed, Noted, Opened}
+use Rattle.osbase.specs.History.{Entry, History, Note, current_task, Took, Printed, Noted, Opened}
 use Rattle.osplan.specs.View.{View}
 use Rattle.osstate.specs.Readings.{knows_started}
 use Rattle.osact.specs.Acts.{Sends, act}
 use Rattle.osact.specs.Seen.{seen_of}
 use Rattle.osact.proofs.Kept.{IsKept, anybody, is_local, is_within, may_await}
-use Rattle.osdue.proofs.Allowed.{seen-is}
 use Rattle.oskernel.specs.Step.{after}
-use Rattle.oskernel.proofs.Carried.{IsActing, NamesActing, NamesAllow, acting-anybody, acts-anybody, after-carried, allow-anybody, is_replied, replied-anybody, steers-itself}
+use Rattle.oskernel.proofs.Carried.{IsActing, NamesActing, NamesAllow, acting-anybody, after-carried, allow-anybody, is_replied, next_of, replied-anybody}
 
 -- Each kind of entry that follows from an item keeps it: one of the core itself, an envelope to a core that may be
 -- asked, a reply to one that may be answered, and a call that is open there.
@@ -26,7 +25,7 @@ pub record Holds (may replies names : CoreId → Bool) (P : History → Type 0) 
   pub opened : (call : OpenCall) (h : History) → may_await may call.awaits ≡ true → P h → P (Noted (Opened call) ∷ h)
 
 -- Where marks may name objects of the own core, of those that may be asked, and who acts, it holds after an item.
-module _ (v : View) (may replies names : CoreId → Bool) (P : History → Type 0) (holds : Holds may replies names P) (allowed : NamesAllow v may) (named : (core : CoreId) → is_within v may core ≡ true → names core ≡ true) (own_named : names v.own.id ≡ true) (acting : (h : History) → P h → NamesActing names v h) (sees : (h : History) → P h → IsActing v names (seen_of v h)) where
+module _ (v : View) (may replies names : CoreId → Bool) (P : History → Type 0) (holds : Holds may replies names P) (allowed : NamesAllow v may) (named : (core : CoreId) → is_within v may core ≡ true → names core ≡ true) (own_named : names v.own.id ≡ true) (acting : (h : History) → P h → NamesActing names v h) where
   -- One history, which has it.
   record Same (h k : History) : Type 0 where
     pub same : h ≡ k
@@ -46,16 +45,16 @@ module _ (v : View) (may replies names : CoreId → Bool) (P : History → Type 
     };
     started = λ core h k m p. ap (λ (n : History). knows_started n core) p.same;
     reads = λ h k p. ap (seen_of v) p.same;
-    seen = λ h k p. subst (λ (n : History). IsActing v names (seen_of v n)) (sym p.same) (sees k p.has);
+    seen = λ h k p. subst (λ (n : History). IsActing v names (seen_of v n)) (sym p.same) (acting k p.has).acts;
   }
 
   pub holds-named : (h : History) (item : Item) → is_replied replies names item ≡ true → P (Took item ∷ h) → P (after v h item)
   holds-named h item m p =
-      (after-carried v may replies names allowed named own_named v.is_master v.cores Same kept (λ h k p. rw p.same (steers-itself v k)) (λ h k p. rw p.same (acting k p.has)) h h item item m refl (record { same = refl; has = p })).has
+      (after-carried v may replies names allowed named own_named v.is_master v.cores Same kept (λ h k p. (ap current_task p.same, ap (next_of v) p.same)) (λ h k p. rw p.same (acting k p.has)) h h item item m refl (record { same = refl; has = p })).has
 
 -- So it does where marks may name whatever there is.
 pub holds-after : (v : View) (may replies : CoreId → Bool) (P : History → Type 0) → Holds may replies anybody P → NamesAllow v may → (h : History) (item : Item) → is_replied replies anybody item ≡ true → P (Took item ∷ h) → P (after v h item)
-holds-after v may replies P holds allowed = holds-named v may replies anybody P holds allowed (λ core m. refl) refl (λ h p. acting-anybody v h) (λ h p. acts-anybody v (seen_of v h) (seen-is v h))
+holds-after v may replies P holds allowed = holds-named v may replies anybody P holds allowed (λ core m. refl) refl (λ h p. acting-anybody v h)
 
 -- What every mark and every note keeps, whichever services there are.
 pub kept_after : (P : History → Type 0) → ((m : Mark) (h : History) → P h → P (Printed m ∷ h)) → ((n : Note) (h : History) → P h → P (Noted n ∷ h)) → (v : View) (h : History) (item : Item) → P (Took item ∷ h) → P (after v h item)

@@ -5,6 +5,7 @@ pub mod Autostart
 pub mod Ticking
 pub mod Operated
 pub mod Carried
+pub mod JobLists
 pub mod Holding
 pub mod Stages
 pub mod Calm
@@ -12,4 +13,3 @@ pub mod Own
 pub mod Scripts
 pub mod Among
 pub mod Stepping
-pub mod Starting

@@ -1,62 +1,71 @@
--- What is done for each object of a core in index order, when it is done for those before a place.
-use Rattle.std.proofs.Common.{◌≡◌, ℕ, zero, suc, ◌+◌, ◌<◌, ◌≤◌, Option, Some, List, [], ◌∷◌, length, take, refl, ap, sym, subst, ◌∙◌, arith, map, get_or}
-use Rattle.std.specs.List.{slice_get, enumerate_from}
-use Rattle.std.proofs.lemmas.Option.{get_or_from_slice_get, slice_get-get_or, slice_get_within}
-use Rattle.osbase.specs.declared.references.CoreId.{CoreId}
-use Rattle.osbase.specs.History.{History}
+-- A loop over a core's objects of one kind, in index order: those before a place have acted.
+use Rattle.std.proofs.Common.{◌≡◌, ℕ, ◌+◌, ◌<◌, ◌≤◌, Some, List, [], ◌∷◌, length, take, refl, ap, sym, ◌∙◌, arith, get_or, Vec, Global}
+use Rattle.std.specs.List.{enumerate_from, slice_get}
+use Rattle.std.proofs.lemmas.List.FromFn.{get_or-enumerate_from, length-enumerate_from}
+use Rattle.std.proofs.lemmas.Option.{slice_get-get_or}
+use Rattle.osbase.specs.declared.marks.Mark.{Mark}
+use Rattle.osbase.specs.History.{History, marks_of}
 use Rattle.osplan.specs.declared.plans.Core.{Core}
 use Rattle.osplan.specs.View.{View}
-use Rattle.osstate.specs.Readings.{numbered}
-use Rattle.osdue.proofs.InTurn.{all-done, next-done}
+use Rattle.osstate.specs.Does.{Effects, Remarks}
+use Rattle.osstate.specs.State.{KernelState, Stands}
+use Rattle.osstate.proofs.Effecting.{as_effect, then}
+use Rattle.osact.specs.Acts.{Acts, does, for_each}
+use Rattle.osact.proofs.Remarking.{as_remarks, remarks-then}
+use Rattle.osdue.proofs.InTurn.{next-act, whole}
+use Rattle.oskernel.specs.Step.{in_turn}
 
--- the objects with their references, and the one at a place
-module _ {R A : Type 0} (ref : ℕ → R) where
-  abbrev pairs : ℕ → List A → List (R × A)
-  pairs n xs = map (λ (p : ℕ × A). let q : R × A = (ref p.0, p.1) in q) (enumerate_from n xs)
+module _ {A : Type 0} (acts : Core → ℕ → A → Acts) (objects : Core → List A) where
+  abbrev pub acted : ℕ → View → History → History
+  acted place v h = does (for_each (λ (p : ℕ × A). acts v.own p.0 p.1) (take place (enumerate_from 0 (objects v.own)))) v h
 
-  pairs-at : (n i : ℕ) (x : A) (xs : List A) → slice_get xs i ≡ Some x → slice_get (pairs n xs) i ≡ Some (ref (n + i), x)
-  pairs-at n i x [] e = cc
-  pairs-at n zero x (y ∷ ys) e =
-      let same : y ≡ x = cc in
-      ap (λ (z : A). Some (ref n, z)) same ∙ ap (λ (m : ℕ). Some (ref m, x)) (let here : n ≡ n + 0 = omega arith in here)
-  pairs-at n (suc i) x (y ∷ ys) e =
-      pairs-at (n + 1) i x ys e ∙ ap (λ (m : ℕ). Some (ref m, x)) (let next : (n + 1) + i ≡ n + suc i = omega arith in next)
+  abbrev pub act_all : View → History → History
+  act_all v h = does (in_turn (acts v.own) (objects v.own)) v h
 
-  pairs-length : (n : ℕ) (xs : List A) → length (pairs n xs) ≡ length xs
-  pairs-length n [] = refl
-  pairs-length n (x ∷ xs) = ap suc (pairs-length (n + 1) xs)
+  -- The next one stands at its place.
+  pub object-at : (old now : KernelState) (xs : List A) (index place : ℕ) (x : A) → xs ≡ objects old.view.own → now.view ≡ old.view → index ≡ place → place < length xs → x ≡ get_or xs place x → slice_get (objects now.view.own) index ≡ Some x
+  object-at old now xs index place x same view at within is =
+      (λ i. slice_get (objects (view i).own) (at i)) ∙ ap (λ (ys : List A). slice_get ys place) (sym same) ∙ slice_get-get_or xs place x within ∙ ap (λ (y : A). Some y) (sym is)
 
--- The element that a loop is at stands at its place of an equal list.
-pub stands-at : {A : Type 0} (xs ys : List A) (place : ℕ) (x : A) → xs ≡ ys → place < length xs → x ≡ get_or xs place x → slice_get ys place ≡ Some x
-stands-at {A = A} xs ys place x same within is = subst (λ (zs : List A). slice_get zs place ≡ Some x) same (slice_get-get_or xs place x within ∙ ap (λ (y : A). Some y) (sym is))
+  -- In a loop over a list of the objects, at a place.
+  module _ {old : KernelState} (xs : List A) (place : ℕ) (same : xs ≡ objects old.view.own) where
+    here : (v : View) (h : History) → Stands v h old → xs ≡ objects v.own
+    here v h stands = same ∙ ap (λ (s : KernelState). objects s.view.own) stands.is
 
--- In a loop over a core's objects of one kind.
-module _ {R A : Type 0} (at : CoreId → ℕ → R) (objects : Core → List A) where
-  -- The next one is the core's.
-  pub next-own : (find : Core → R → Option A) (own : Core) → ((place : ℕ) → place < length (objects own) → find own (at own.id place) ≡ slice_get (objects own) place) → (xs : List A) (core : CoreId) (index place : ℕ) (x : A) → xs ≡ objects own → core ≡ own.id → index ≡ place → place < length xs → x ≡ get_or xs place x → find own (at core index) ≡ Some x
-  next-own find own found xs core index place x same_list same_core same_index within is =
-      ap (find own) (ap (λ (c : CoreId). at c index) same_core ∙ ap (at own.id) same_index)
-      ∙ found place (subst (λ (ys : List A). place < length ys) same_list within)
-      ∙ stands-at xs (objects own) place x same_list within is
+    -- Past the last one all have acted.
+    past-last : length xs ≤ place → (v : View) (h : History) → Stands v h old → act_all v h ≡ acted place v h
+    past-last past v h stands =
+        ap (λ (ps : List (ℕ × A)). does (for_each (λ (p : ℕ × A). acts v.own p.0 p.1) ps) v h)
+        (sym (whole (enumerate_from 0 (objects v.own)) place (omega (arith, past, ap length (here v h stands), length-enumerate_from 0 (objects v.own)))))
 
-  module _ (step : R × A → History → History) (each : List (R × A) → History → History) (none : (h : History) → each [] h ≡ h) (one : (p : R × A) (ps : List (R × A)) (h : History) → each (p ∷ ps) h ≡ each ps (step p h)) (v old : View) (view_is : old ≡ v) (h : History) (xs : List A) (same_list : xs ≡ objects old.own) where
-    abbrev pub refs : List (R × A)
-    refs = numbered (at v.own.id) (objects v.own)
+    pub all-acted : {now : KernelState} {vec vec' : Vec Mark Global} {m n m' n' : ℕ} → length xs ≤ place → m ≤ m' → n ≤ n' → Effects m n (acted place) old now vec vec' → Effects m' n' act_all old now vec vec'
+    all-acted past few short before = as_effect (past-last past) few short before
 
-    here : xs ≡ objects v.own
-    here = same_list ∙ ap (λ (w : View). objects w.own) view_is
+    module _ (x : A) (within : place < length xs) (is : x ≡ get_or xs place x) where
+      -- It acts as well.
+      module _ {f : View → History → History} (means : (v : View) (h : History) → old.view ≡ v → f v h ≡ does (acts v.own place x) v h) where
+        one-act : (v : View) (h : History) → Stands v h old → acted (place + 1) v h ≡ f v (acted place v h)
+        one-act v h stands =
+            let there = here v h stands in
+            let inside : place < length (objects v.own) = omega (arith, within, ap length there) in
+            let zero : 0 + place ≡ place = omega arith in
+            let found : (place, x) ≡ get_or (enumerate_from 0 (objects v.own)) place (place, x) = sym (get_or-enumerate_from 0 (objects v.own) place (place, x) inside ∙ λ i. (zero i, (sym (is ∙ ap (λ (ys : List A). get_or ys place x) there)) i)) in
+            next-act (λ (p : ℕ × A). acts v.own p.0 p.1) v (enumerate_from 0 (objects v.own)) place (place, x) (place, x) h (omega (arith, inside, length-enumerate_from 0 (objects v.own))) found
+            ∙ sym (means v (acted place v h) (ap (λ (s : KernelState). s.view) stands.is))
 
-    -- It is done for one more.
-    pub next-object : (core : CoreId) (index place : ℕ) (x : A) → core ≡ old.own.id → index ≡ place → place < length xs → x ≡ get_or xs place x → each (take (place + 1) refs) h ≡ step (at core index, x) (each (take place refs) h)
-    next-object core index place x same_core same_index within is =
-        let zero : 0 + place ≡ place = omega arith in
-        let there : slice_get refs place ≡ Some (at v.own.id place, x) = pairs-at (at v.own.id) 0 place x (objects v.own) (stands-at xs (objects v.own) place x here within is) ∙ ap (λ (m : ℕ). Some (at v.own.id m, x)) zero in
-        let own : at v.own.id place ≡ at core index = ap (λ (c : CoreId). at c place) (sym (same_core ∙ ap (λ (w : View). w.own.id) view_is)) ∙ ap (at core) (sym same_index) in
-        next-done step each none one refs place (at v.own.id place, x) (at v.own.id place, x) h (slice_get_within refs place (at v.own.id place, x) there) (sym (get_or_from_slice_get refs place (at v.own.id place, x) (at v.own.id place, x) there))
-        ∙ ap (λ (r : R). step (r, x) (each (take place refs) h)) own
+        pub one-more : {now next : KernelState} {vec vec' vec'' : Vec Mark Global} {a b m n m' n' : ℕ} → m + a ≤ m' → n + b ≤ n' → Effects m n (acted place) old now vec vec' → Effects a b f now next vec' vec'' → Effects m' n' (acted (place + 1)) old next vec vec''
+        one-more few short before one = as_effect one-act few short (then before one)
 
-    -- Past the last one it is done for all.
-    pub all-objects : (place : ℕ) → length xs ≤ place → each (take place refs) h ≡ each refs h
-    all-objects place past =
-        let count : length refs ≡ length (objects v.own) = pairs-length (at v.own.id) 0 (objects v.own) in
-        all-done step each none one refs place h (omega (arith, past, count, ap length here))
+  -- The same where nothing is printed.
+  module _ (quiet : (core : Core) (n : ℕ) (x : A) (v : View) (h : History) → marks_of (does (acts core n x) v h) ≡ marks_of h) where
+    quiet-each : (ps : List (ℕ × A)) (v : View) (h : History) → marks_of (does (for_each (λ (p : ℕ × A). acts v.own p.0 p.1) ps) v h) ≡ marks_of h
+    quiet-each [] v h = refl
+    quiet-each (p ∷ ps) v h = quiet-each ps v (does (acts v.own p.0 p.1) v h) ∙ quiet v.own p.0 p.1 v h
+
+    module _ {old now : KernelState} {m m' : ℕ} (xs : List A) (place : ℕ) (same : xs ≡ objects old.view.own) where
+      pub all-noted : length xs ≤ place → m ≤ m' → Remarks m (acted place) old now → Remarks m' act_all old now
+      all-noted past few before = as_remarks (past-last xs place same past) (λ v h. quiet-each (enumerate_from 0 (objects v.own)) v h) few before
+
+      pub one-noted : {next : KernelState} {a : ℕ} {f : View → History → History} (x : A) → place < length xs → x ≡ get_or xs place x → ((v : View) (h : History) → old.view ≡ v → f v h ≡ does (acts v.own place x) v h) → m + a ≤ m'
+          → Remarks m (acted place) old now → Remarks a f now next → Remarks m' (acted (place + 1)) old next
+      one-noted x within is means few before one = as_remarks (one-act xs place same x within is means) (λ v h. quiet-each (take (place + 1) (enumerate_from 0 (objects v.own))) v h) few (remarks-then before one)

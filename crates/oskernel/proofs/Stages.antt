@@ -10,7 +10,8 @@ use Rattle.osbase.proofs.Phasing.{stands_in-is}
 use Rattle.osplan.specs.View.{View}
 use Rattle.osstate.specs.Readings.{next_start, phase_at}
 use Rattle.osstate.specs.State.{state_of}
-use Rattle.oskernel.specs.Admission.{admits, are_started_cores, is_agreement, is_settled, is_start_answer}
+use Rattle.oskernel.specs.Admission.{admits, are_started_cores, is_agreement, is_start_answer}
+use Rattle.oskernel.specs.Free.{is_settled}
 use Rattle.oskernel.specs.Step.{after, history_from, outbox_size, solo_from, takes}
 
 -- An envelope goes, or comes.

@@ -1,23 +1,23 @@
 -- What a core that names no object of another core does at an item, it does alone.
-use Rattle.std.proofs.Common.{◌≡◌, ◌||◌, ℕ, Bool, true, false, Option, Some, None, option_map, List, ◌∷◌, refl, sym, ap, ◌∙◌}
+use Rattle.std.proofs.Common.{◌≡◌, ◌&&◌, ◌||◌, ℕ, Bool, true, false, cond, Option, Some, None, is_none, option_map, List, ◌∷◌, refl, sym, ap, ◌∙◌}
 use Rattle.std.proofs.lemmas.Bool.{false≢true}
 use Rattle.osbase.specs.declared.references.CoreId.{CoreId}
 use Rattle.osbase.specs.declared.items.CoreSet.{CoreSet}
 use Rattle.osbase.specs.declared.items.Item.{Item}
 use Rattle.osbase.specs.declared.items.Stimulus.{Stimulus}
 use Rattle.osbase.specs.declared.histories.Job.{Job}
+use Rattle.osbase.specs.Phases.{is_scheduling}
 use Rattle.osbase.specs.Sets.{has_core}
-use Rattle.osbase.specs.History.{Entry, History, Took, Printed, Noted, same_core}
+use Rattle.osbase.specs.History.{Entry, History, Took, Printed, Noted, current_task, same_core}
 use Rattle.osbase.proofs.Same.{same_core-true}
 use Rattle.osplan.specs.View.{View}
 use Rattle.osstate.specs.Readings.{best_job, knows_started, running}
 use Rattle.osact.specs.Seen.{seen_of}
 use Rattle.osact.proofs.Kept.{IsKept, anybody, is_local, is_within, nobody, none-awaited, seen_as}
 use Rattle.osact.proofs.SeenSame.{ReadsSame, seen-same}
-use Rattle.osdue.proofs.Allowed.{seen-is}
 use Rattle.oskernel.specs.Step.{after, effect}
 use Rattle.oskernel.proofs.Among.{agreement-same, among, base_of, best-later, count-same, counts-same, current-same, delay, later, open-same, phase-same, rows-same, running-later, settings-same, stamp-later, tables-same}
-use Rattle.oskernel.proofs.Carried.{IsActing, NamesAllow, SteersSame, acting-anybody, acts-anybody, after-carried, is_going, is_replied, runner_of}
+use Rattle.oskernel.proofs.Carried.{IsActing, NamesAllow, acting-anybody, after-carried, is_replied, next_job, next_of}
 
 -- What the core alone sees.
 abbrev pub alone_view : View → List CoreId → View
@@ -36,28 +36,22 @@ module _ (v : View) (ids : List CoreId) (s : CoreSet) where
     pub same : h ≡ here k
     pub started : knows_started h v.core ≡ knows_started k v.core
 
-  later-runner : (d : ℕ) (o : Option Job) → runner_of (option_map (later d) o) ≡ runner_of o
+  later-runner : (d : ℕ) (o : Option Job) → option_map (λ (j : Job). j.runner) (option_map (later d) o) ≡ option_map (λ (j : Job). j.runner) o
   later-runner d None = refl
   later-runner d (Some j) = refl
 
-  later-going : (d : ℕ) (o p : Option Job) → is_going (option_map (later d) o) (option_map (later d) p) ≡ is_going o p
-  later-going d None p = refl
-  later-going d (Some j) None = refl
-  later-going d (Some j) (Some i) = stamp-later d j.stamp i.stamp
+  later-next : (d : ℕ) (o p : Option Job) → next_job (option_map (later d) o) (option_map (later d) p) ≡ next_job o p
+  later-next d None p = refl
+  later-next d (Some j) None = refl
+  later-next d (Some j) (Some i) = ap (λ (b : Bool). cond b None (Some j.runner)) (stamp-later d j.stamp i.stamp)
 
-  steers-here : (k : History) → SteersSame v self (here k) k
-  steers-here k = record {
-    phase = phase-same s v.is_master k;
-    awaits = open-same s v.is_master k;
-    current = current-same s v.is_master k;
-    best = ap runner_of (best-later v s v.is_master k) ∙ later-runner (delay v.is_master) (best_job self k);
-    stays = ap (λ (o : Option Job). is_going o (running v (here k))) (best-later v s v.is_master k)
-        ∙ ap (is_going (option_map (later (delay v.is_master)) (best_job self k))) (running-later v s v.is_master k)
-        ∙ later-going (delay v.is_master) (best_job self k) (running self k);
-  }
+  next-here : (k : History) → next_of v (here k) ≡ next_of self k
+  next-here k =
+      let next = (λ i. next_job (best-later v s v.is_master k i) (running-later v s v.is_master k i)) ∙ later-next (delay v.is_master) (best_job self k) (running self k) in
+      λ i. cond (is_scheduling (phase-same s v.is_master k i) && is_none (open-same s v.is_master k i)) (next i) None
 
-  steers : (h k : History) → Along h k → SteersSame v self h k
-  steers h k p = rw p.same (steers-here k)
+  steers : (h k : History) → Along h k → (current_task h ≡ current_task k) × (next_of v h ≡ next_of self k)
+  steers h k p = (ap current_task p.same ∙ current-same s v.is_master k, ap (next_of v) p.same ∙ next-here k)
 
   reads-here : (k : History) → ReadsSame v (here k) k
   reads-here k = record {
@@ -67,7 +61,7 @@ module _ (v : View) (ids : List CoreId) (s : CoreSet) where
     settings = λ c a. settings-same c a s v.is_master k;
     tables = λ c t. tables-same c t s v.is_master k;
     agreement = agreement-same s v.is_master k;
-    running = ap runner_of (running-later v s v.is_master k) ∙ later-runner (delay v.is_master) (running v k);
+    running = (λ i. option_map (λ (j : Job). j.runner) (running-later v s v.is_master k i)) ∙ later-runner (delay v.is_master) (running v k);
     awaits = open-same s v.is_master k;
   }
 
@@ -94,7 +88,7 @@ module _ (v : View) (ids : List CoreId) (s : CoreSet) where
     };
     started = own_started;
     reads = λ h k p. ap (seen_of v) p.same ∙ seen-same v (here k) k (reads-here k) true ids;
-    seen = λ h k p. acts-anybody v (seen_of v h) (seen-is v h);
+    seen = λ h k p. (acting-anybody v h).acts;
   }
 
   module _ (allowed : NamesAllow v nobody) where

@@ -19,7 +19,8 @@ use Rattle.osstate.specs.State.{KernelState}
 use Rattle.osstate.specs.Sound.{is_posted, is_sender_known}
 use Rattle.oscript.specs.Calls.{is_action}
 use Rattle.oscall.specs.Border.{is_served}
-use Rattle.oskernel.specs.Admission.{admits, is_awaited, is_empty, is_front_for, is_reply_to, is_settled}
+use Rattle.oskernel.specs.Admission.{admits, is_awaited, is_front_for, is_reply_to}
+use Rattle.oskernel.specs.Free.{is_empty, is_settled}
 use Rattle.oskernel.specs.Taking.{is_acting, is_answered, is_filling, is_going_on, is_known, is_second_gate}
 use Rattle.oskernel.proofs.Phases.{scheduling_past}
 

@@ -1,36 +1,20 @@
 -- A tick, counter by counter.
-use Rattle.std.proofs.Common.{◌≡◌, ℕ, zero, suc, ◌+◌, ◌≤◌, true, cond, List, [], ◌∷◌, ◌++◌, length, filter, take, refl, ap, ◌∙◌, arith, sum_by, add-one}
+use Rattle.std.proofs.Common.{◌≡◌, ℕ, zero, suc, ◌+◌, ◌≤◌, true, List, [], ◌∷◌, ◌++◌, length, filter, refl, ap, ◌∙◌, arith, sum_by, add-one}
 use Rattle.std.proofs.lemmas.List.Sums.{length-filter, sum_by-cons, sum_by-le-sum_by, sum_by_push}
 use Rattle.osbase.specs.declared.references.AlarmRef.{AlarmRef}
-use Rattle.osbase.specs.declared.references.CoreId.{CoreId}
 use Rattle.osbase.specs.declared.references.CounterRef.{CounterRef}
 use Rattle.osbase.specs.declared.references.TableRef.{TableRef}
-use Rattle.osbase.specs.History.{History}
 use Rattle.osbase.specs.Sets.{numbers_from}
 use Rattle.osplan.specs.declared.plans.Core.{Core}
-use Rattle.osplan.specs.declared.plans.Counter.{Counter}
 use Rattle.osplan.specs.Objects.{greatest_posted, posted_at_once}
-use Rattle.osplan.specs.View.{View}
 use Rattle.osclock.specs.Clocks.{alarm_refs, attached_to, counter_ref}
 use Rattle.osclock.proofs.Portions.{attached-portions}
-use Rattle.osstate.specs.Readings.{numbered_counters}
+use Rattle.osstate.specs.State.{KernelState}
 use Rattle.ostable.specs.Tables.{table_refs, timed_by}
 use Rattle.ostable.proofs.Portions.{sum-of-plans, timed-portions}
 use Rattle.ostable.proofs.Sums.{sum-both}
-use Rattle.osdue.specs.Advancing.{counts, posted_at_point, posted_by, posted_for, posts_by}
+use Rattle.osdue.specs.Advancing.{posted_at_point, posted_by, posted_for, posts_by}
 use Rattle.osdue.proofs.Postings.{sum-of-alarms}
-use Rattle.osact.specs.Acts.{does}
-use Rattle.oskernel.specs.Step.{counts_each, counts_if_hardware}
-
-abbrev pub clock_at : CoreId → ℕ → CounterRef
-clock_at core n = record { core = core; index = n }
-
--- The counters before this place went on, and no other.
-abbrev pub counts_to : ℕ → View → History → History
-counts_to n v h = does (counts_each (take n (numbered_counters v.own))) v h
-
-abbrev pub count_if_hardware : View → CounterRef × Counter → History → History
-count_if_hardware v p h = does (counts_if_hardware p) v h
 
 -- ---- how much the counters before a place come to
 
@@ -56,6 +40,19 @@ tables_at core n = length (timed_by core (counter_ref core n))
 
 abbrev pub posted_at : Core → ℕ → ℕ
 posted_at core n = posted_by core (counter_ref core n)
+
+-- So it is of the counter with this reference, in a state of the same core.
+pub record Amounts (own : Core) (place : ℕ) (now : KernelState) (c : CounterRef) : Type 0 where
+  pub alarms : length (attached_to now.view.own c) ≡ alarms_at own place
+  pub tables : length (timed_by now.view.own c) ≡ tables_at own place
+  pub posted : posted_by now.view.own c ≡ posted_at own place
+
+pub amounts : (old : KernelState) (place : ℕ) (now : KernelState) (c : CounterRef) → now.view ≡ old.view → c ≡ counter_ref old.view.own place → Amounts old.view.own place now c
+amounts old place now c view here = record {
+  alarms = λ i. length (attached_to (view i).own (here i));
+  tables = λ i. length (timed_by (view i).own (here i));
+  posted = λ i. posted_by (view i).own (here i);
+}
 
 -- In all they are at most those of the core.
 filter-every : (xs : List AlarmRef) → length (filter (λ a. true) xs) ≡ length xs

@@ -27,6 +27,7 @@ use Rattle.osstate.specs.State.{KernelState}
 use Rattle.osact.specs.Checks.{is_ok_status}
 use Rattle.oscript.specs.Calls.{is_action}
 use Rattle.oscall.specs.Border.{is_served}
+use Rattle.oskernel.specs.Free.{is_settled}
 
 -- `StartCore` answers E_OS_ID exactly for a core that is not configured, and else E_OK, or E_OS_STATE for one
 -- that was started already. [AUTOSAR SWS OS 4.x, StartCore; E_OS_STATE before StartOS]
@@ -62,14 +63,6 @@ are_started_cores v cores = has_core cores v.core && list_all (λ id. not (has_c
 abbrev pub is_front_for : CoreId → List Sent → Bool
 is_front_for core [] = false
 is_front_for core (s ∷ ss) = same_core s.to core
-
-abbrev pub is_empty : List Sent → Bool
-is_empty [] = true
-is_empty (s ∷ ss) = false
-
--- No call is open, and nothing waits in the outbox. [own]
-abbrev pub is_settled : KernelState → Bool
-is_settled s = is_none s.border.open_call && is_empty s.border.outbox
 
 -- The service whose E_OK comes with a value. [OSEK/VDX OS 2.2.3, section 13.6.3.2]
 abbrev pub answers_value : ServiceId → Bool

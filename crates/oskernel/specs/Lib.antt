@@ -1,3 +1,4 @@
+pub mod Free
 pub mod Admission
 pub mod Operations
 pub mod Step

@@ -1,13 +1,10 @@
 -- A core's step: which item may be taken, what follows from it, and a core by itself.
-use Rattle.std.specs.Prelude.{ℕ, ℤ, ◌==◌, ◌&&◌, Bool, false, if◌then◌else◌, Option, Some, None, is_none, List, [], ◌∷◌}
-use Rattle.std.specs.List.{list_any}
+use Rattle.std.specs.Prelude.{ℕ, ℤ, ◌==◌, Bool, false, if◌then◌else◌, Option, Some, None, List, [], ◌∷◌}
+use Rattle.std.specs.List.{enumerate_from, list_any}
 use Rattle.std.specs.Option.{option_map_or}
 use Rattle.osbase.specs.declared.statuses.Status.{Status}
 use Rattle.osbase.specs.declared.references.CoreId.{CoreId}
 use Rattle.osbase.specs.declared.references.ModeId.{ModeId}
-use Rattle.osbase.specs.declared.references.AlarmRef.{AlarmRef}
-use Rattle.osbase.specs.declared.references.TableRef.{TableRef}
-use Rattle.osbase.specs.declared.references.CounterRef.{CounterRef}
 use Rattle.osbase.specs.declared.references.TaskRef.{TaskRef}
 use Rattle.osbase.specs.declared.references.Runner.{Runner}
 use Rattle.osbase.specs.declared.messages.Message.{Message}
@@ -18,8 +15,7 @@ use Rattle.osbase.specs.declared.marks.Mark.{Mark}
 use Rattle.osbase.specs.declared.histories.Job.{Job}
 use Rattle.osbase.specs.declared.histories.OpenCall.{OpenCall}
 use Rattle.osbase.specs.declared.histories.Awaited.{Awaited}
-use Rattle.osbase.specs.History.{History, Printed, TableStarted, Took, same_job, open_call, current_task}
-use Rattle.osbase.specs.Phases.{is_scheduling}
+use Rattle.osbase.specs.History.{History, Printed, TableStarted, Took, same_job, current_task}
 use Rattle.oscript.specs.declared.Action.{Action}
 use Rattle.oscript.specs.declared.Action.TheVariants.{Perform, End}
 use Rattle.oscript.specs.Frames.{action_at}
@@ -31,7 +27,9 @@ use Rattle.osplan.specs.declared.plans.Counter.{Counter}
 use Rattle.osplan.specs.declared.plans.Task.{Task}
 use Rattle.osplan.specs.declared.plans.Core.{Core}
 use Rattle.osplan.specs.View.{View}
-use Rattle.osstate.specs.Readings.{script_of, best_job, numbered_alarms, numbered_counters, numbered_tables, phase_at, running, task_refs}
+use Rattle.osclock.specs.Clocks.{alarm_ref, counter_ref}
+use Rattle.ostable.specs.Tables.{table_ref}
+use Rattle.osstate.specs.Readings.{script_of, best_job, running, task_ref}
 use Rattle.osstate.specs.State.{state_of}
 use Rattle.osact.specs.Acts.{Acts, both, does, for_each, look, notes, nothing, prints, when}
 use Rattle.osalarmcall.specs.Alarms.{sets_alarm}
@@ -41,6 +39,7 @@ use Rattle.oscall.specs.Border.{serves_request, serves_action}
 use Rattle.oscall.specs.Chaining.{resumes}
 use Rattle.oskernel.specs.Operations.{operates}
 use Rattle.oskernel.specs.Admission.{takes_in}
+use Rattle.oskernel.specs.Free.{may_dispatch}
 
 -- An item may be taken where the state may take it to which the history leads. `places` is how many envelopes the outbox
 -- may hold. [own]
@@ -64,30 +63,26 @@ starts_in other modes = false
 abbrev pub starts_if : Option Agreement → List ModeId → Acts → Acts
 starts_if agreement modes x = when (starts_in agreement modes) x nothing
 
--- The tasks are activated, in index order.
-abbrev pub autostarts : Option Agreement → List (TaskRef × Task) → Acts
-autostarts agreement tasks = for_each (λ p. starts_if agreement p.1.auto (activates p.0)) tasks
+-- Acts for each of a core's objects of one kind, in index order.
+abbrev pub in_turn : {A : Type 0} → (ℕ → A → Acts) → List A → Acts
+in_turn f xs = for_each (λ p. f p.0 p.1) (enumerate_from 0 xs)
 
--- The alarms are set, in index order. [AUTOSAR SWS OS 4.x, OsAlarmAutostart]
-abbrev pub sets_by_itself : Option Agreement → AlarmRef → Option AlarmStart → Acts
-sets_by_itself agreement a None = nothing
-sets_by_itself agreement a (Some x) = starts_if agreement x.modes (sets_alarm a x.start x.cycle)
+-- What one object does: a task is activated, an alarm is set, and a schedule table is started.
+-- [AUTOSAR SWS OS 4.x, OsAlarmAutostart, OsScheduleTableAutostart]
+abbrev pub autostarts_task : Option Agreement → Core → ℕ → Task → Acts
+autostarts_task agreement core n task = starts_if agreement task.auto (activates (task_ref core n))
 
-abbrev pub sets_each : Option Agreement → List (AlarmRef × Alarm) → Acts
-sets_each agreement alarms = for_each (λ p. sets_by_itself agreement p.0 p.1.auto) alarms
+abbrev pub autostarts_alarm : Option Agreement → Core → ℕ → Alarm → Acts
+autostarts_alarm agreement core n alarm = option_map_or (λ (x : AlarmStart). starts_if agreement x.modes (sets_alarm (alarm_ref core n) x.start x.cycle)) alarm.auto nothing
 
--- The schedule tables are started, in index order. [AUTOSAR SWS OS 4.x, OsScheduleTableAutostart]
-abbrev pub starts_by_itself : Option Agreement → TableRef → Option TableStart → Acts
-starts_by_itself agreement s None = nothing
-starts_by_itself agreement s (Some x) = starts_if agreement x.modes (notes (TableStarted s x.offset))
-
-abbrev pub starts_each : Option Agreement → List (TableRef × Table) → Acts
-starts_each agreement tables = for_each (λ p. starts_by_itself agreement p.0 p.1.auto) tables
+abbrev pub autostarts_table : Option Agreement → Core → ℕ → Table → Acts
+autostarts_table agreement core n table = option_map_or (λ (x : TableStart). starts_if agreement x.modes (notes (TableStarted (table_ref core n) x.offset))) table.auto nothing
 
 -- First the tasks, then the alarms, and then the tables. [own]
 abbrev pub starts : Option Agreement → Core → Acts
 starts agreement core =
-    both (autostarts agreement (task_refs core)) (both (sets_each agreement (numbered_alarms core)) (starts_each agreement (numbered_tables core)))
+    both (in_turn (autostarts_task agreement core) core.tasks)
+    (both (in_turn (autostarts_alarm agreement core) core.alarms) (in_turn (autostarts_table agreement core) core.tables))
 
 -- The stimulus `op`: one operation of the running job, or its end; with nothing running it does nothing. [own]
 abbrev pub performs : Runner → Action → Acts
@@ -95,19 +90,15 @@ performs r (Perform op) = operates r op
 performs r End = ends_unasked r
 
 abbrev pub goes_on : Option Runner → Acts
-goes_on None = nothing
-goes_on (Some r) = look (λ s. performs r (action_at (script_of s.core r) (s.row r).frame))
+goes_on running = option_map_or (λ (r : Runner). look (λ s. performs r (action_at (script_of s.core r) (s.row r).frame))) running nothing
 
 -- The stimulus `tick`: its line, and then each hardware counter of the core goes on by one, in index order, and what is due by it
 -- acts. [OSEK/VDX OS 2.2.3, section 9.1; AUTOSAR SWS OS 4.x, OsCounterType; the order: own]
-abbrev pub counts_if_hardware : CounterRef × Counter → Acts
-counts_if_hardware p = when p.1.software nothing (counts p.0)
-
-abbrev pub counts_each : List (CounterRef × Counter) → Acts
-counts_each counters = for_each counts_if_hardware counters
+abbrev pub counts_if_hardware : Core → ℕ → Counter → Acts
+counts_if_hardware core n counter = when counter.software nothing (counts (counter_ref core n))
 
 abbrev pub ticks : Acts
-ticks = both (prints Mark.Tick) (look (λ s. counts_each (numbered_counters s.core)))
+ticks = both (prints Mark.Tick) (look (λ s. in_turn (counts_if_hardware s.core) s.core.counters))
 
 -- A stimulus. An interrupt cannot be taken yet.
 abbrev pub stimulates : Stimulus → Acts
@@ -121,8 +112,7 @@ resumes_with r (Awaited.Reply service core) status value = resumes r service sta
 resumes_with r awaited status value = nothing
 
 abbrev pub closes : Option OpenCall → Status → Option ℤ → Acts
-closes None status value = nothing
-closes (Some call) status value = resumes_with call.runner call.awaits status value
+closes awaits status value = option_map_or (λ (call : OpenCall). resumes_with call.runner call.awaits status value) awaits nothing
 
 -- A message of another core.
 abbrev pub receives : CoreId → Message → Acts
@@ -146,20 +136,21 @@ abbrev pub leaves : Option TaskRef → History → History
 leaves None h = h
 leaves (Some t) h = Printed (Mark.PostTaskHook t) ∷ h
 
+abbrev pub enters_from : Option TaskRef → Runner → History → History
+enters_from current (Runner.Task t) h = Printed (Mark.PreTaskHook t) ∷ leaves current h
+enters_from current (Runner.Isr i) h = Printed (Mark.IsrEntered i) ∷ h
+
 abbrev pub enters : Runner → History → History
-enters (Runner.Task t) h = Printed (Mark.PreTaskHook t) ∷ leaves (current_task h) h
-enters (Runner.Isr i) h = Printed (Mark.IsrEntered i) ∷ h
+enters r h = enters_from (current_task h) r h
 
 -- Going to the best job: nothing if it is the running one. [OSEK/VDX OS 2.2.3, section 4.4 and 4.6]
 abbrev pub goes_to : View → Option Job → History → History
 goes_to v None h = h
 goes_to v (Some j) h = if option_map_or (same_job j) (running v h) false then h else enters j.runner h
 
--- Dispatch comes at the end of an item where the core schedules, unless a call is open.
--- [OSEK/VDX OS 2.2.3, section 4.6; that a core waits for a reply is this project's own]
+-- Dispatch comes at the end of an item where the core may dispatch. [OSEK/VDX OS 2.2.3, section 4.6]
 abbrev pub dispatches : View → History → History
-dispatches v h =
-    if is_scheduling (phase_at v h) && is_none (open_call h) then goes_to v (best_job v h) h else h
+dispatches v h = if may_dispatch (state_of v h) then goes_to v (best_job v h) h else h
 
 -- The history after an item: the item, what follows from it, and dispatch. [own]
 abbrev pub after : View → History → Item → History

@@ -1,10 +1,14 @@
 -- What an admitted item says of the state before it is taken.
-use Rattle.std.specs.Prelude.{◌≡◌, ℕ, ◌+◌, ◌≤◌, Bool, true, false, Option, Some, None, is_some}
+use Rattle.std.specs.Prelude.{◌≡◌, ℕ, ◌+◌, ◌<◌, ◌≤◌, length, Bool, true, false, Option, Some, None, is_some}
 use Rattle.osbase.specs.declared.items.Agreement.{Agreement}
 use Rattle.osbase.specs.declared.items.Item.{Item}
 use Rattle.osbase.specs.declared.references.ModeId.{ModeId}
 use Rattle.osbase.specs.declared.messages.Message.{Message}
+use Rattle.osbase.specs.declared.references.Runner.TheVariants as Runner
+use Rattle.osbase.specs.History.{job_count}
 use Rattle.osbase.specs.Runs.{is_stimulus}
+use Rattle.osstate.specs.Readings.{task_ref}
+use Rattle.osstate.specs.Sound.{activation_limit}
 use Rattle.osstate.specs.State.{KernelState}
 use Rattle.oscall.specs.Border.{is_served}
 
@@ -23,6 +27,10 @@ is_second_gate item = false
 abbrev pub agreement_on : Option ModeId → Agreement
 agreement_on (Some m) = Agreement.Mode m
 agreement_on None = Agreement.NoMode
+
+-- Each task from this index on may have one job more.
+abbrev pub have_places : ℕ → KernelState → Type 0
+have_places index s = (k : ℕ) → index ≤ k → k < length s.view.own.tasks → job_count (Runner.Task (task_ref s.view.own k)) s.tasks.jobs < activation_limit s.view.own (Runner.Task (task_ref s.view.own k))
 
 -- A request asks for a place in the outbox.
 abbrev pub is_request : Message → Bool

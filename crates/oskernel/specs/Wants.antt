@@ -1,14 +1,14 @@
 -- What a core's own turn would do: the first rule that applies. [own]
-use Rattle.std.specs.Prelude.{if◌then◌else◌, is_none, Option, Some, None, List, [], ◌∷◌}
+use Rattle.std.specs.Prelude.{if◌then◌else◌, Option, Some, None, List, [], ◌∷◌}
 use Rattle.osbase.specs.declared.references.CoreId.{CoreId}
 use Rattle.osbase.specs.declared.messages.Envelope.{Envelope}
-use Rattle.osbase.specs.declared.histories.OpenCall.{OpenCall}
 use Rattle.osbase.specs.declared.histories.Sent.{Sent}
 use Rattle.osbase.specs.declared.histories.Phase.{Phase}
 use Rattle.osbase.specs.History.{History}
 use Rattle.osplan.specs.View.{View}
 use Rattle.osstate.specs.Readings.{next_start}
 use Rattle.osstate.specs.State.{KernelState, state_of}
+use Rattle.oskernel.specs.Free.{is_free}
 use Rattle.oskernel.specs.declared.wants.Want.{Want}
 use Rattle.oskernel.specs.declared.wants.Want.TheVariants.{Start, Enter, Ready, Post, GoOn, Nothing}
 
@@ -22,13 +22,13 @@ post_or want [] = want
 post_or want (s ∷ ss) = Post s.to
 
 -- A core that waits for a reply does not go on.
-abbrev pub go_on_unless : Option OpenCall → Want
-go_on_unless open_call = if is_none open_call then GoOn else Nothing
+abbrev pub go_on_if_free : KernelState → Want
+go_on_if_free s = if is_free s then GoOn else Nothing
 
 abbrev pub want_from : Phase → KernelState → Want
 want_from Phase.Boot s = start_or_enter (next_start s.view s.progress.began)
 want_from Phase.BetweenGates s = Ready
-want_from Phase.Live s = post_or (go_on_unless s.border.open_call) s.border.outbox
+want_from Phase.Live s = post_or (go_on_if_free s) s.border.outbox
 want_from Phase.Drained s = post_or Nothing s.border.outbox
 want_from Phase.Closing s = post_or Nothing s.border.outbox
 want_from Phase.Off s = Nothing

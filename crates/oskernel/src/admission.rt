@@ -8,8 +8,9 @@ ghost use Rattle.osbase.specs.Sets.{core_ids, has_core};
 ghost use Rattle.osplan.specs.View.{is_configured};
 ghost use Rattle.osstate.specs.Readings.{next_start};
 ghost use Rattle.oscall.specs.Border.{is_served};
-ghost use Rattle.oskernel.specs.Admission.{admits, answers_value, are_started_cores, is_agreement, is_awaited, is_for, is_front_for, is_next_from, is_reply_to, is_settled, is_start_answer, is_started_now_or_before, is_unknown_core};
+ghost use Rattle.oskernel.specs.Admission.{admits, answers_value, are_started_cores, is_agreement, is_awaited, is_for, is_front_for, is_next_from, is_reply_to, is_start_answer, is_started_now_or_before, is_unknown_core};
 
+use crate::free::is_settled;
 use osact::is_ok;
 use osbase::{
     Agreement, Awaited, CORE_NUMBERS, CoreId, CoreSet, Item, Message, ModeId, OpenCall, Phase,
@@ -81,15 +82,6 @@ fn is_known_stimulus(stimulus: Stimulus) -> bool
         Stimulus::Tick => true,
         Stimulus::Irq(_) => false,
     }
-}
-
-// No call is open, and nothing waits in the outbox.
-fn is_settled<const P: usize, const J: usize, const OUT: usize>(
-    state: &CoreState<'_, P, J, OUT>,
-) -> bool
-    ensures { result ≡ is_settled state.now }
-{
-    both(state.awaited_call().is_none(), state.is_outbox_empty())
 }
 
 fn is_front<const P: usize, const J: usize, const OUT: usize>(

@@ -12,12 +12,13 @@ ghost use Rattle.osstate.specs.Does.{Adds, Does, Reads};
 ghost use Rattle.oskernel.specs.declared.kernel.TheConstants.{STEP_MARKS};
 ghost use Rattle.osplan.specs.Objects.{posted_at_once};
 ghost use Rattle.oskernel.specs.Step.{after, takes};
-ghost use Rattle.oskernel.specs.Wants.{front_of, go_on_unless, post_or as front_or, want_in, want_of};
+ghost use Rattle.oskernel.specs.Wants.{front_of, go_on_if_free, post_or as front_or, want_in, want_of};
 ghost use Rattle.oskernel.specs.Admission.{takes_in};
 
 use crate::admission::is_admitted;
-use crate::effects;
+use crate::free::is_free;
 use crate::wants::{Want, start_or_enter};
+use crate::{dispatching, effects};
 use osbase::{CoreId, Envelope, Item, Mark, Phase};
 use osplan::Config;
 use osstate::CoreState;
@@ -91,9 +92,9 @@ impl<'a, const P: usize, const J: usize, const OUT: usize> Kernel<'a, P, J, OUT>
 
     // A core that waits for a reply does not go on.
     fn go_on(&self) -> Want
-        ensures { result ≡ go_on_unless self.now.border.open_call }
+        ensures { result ≡ go_on_if_free self.now }
     {
-        if self.state.awaited_call().is_none() {
+        if is_free(&self.state) {
             Want::GoOn
         } else {
             Want::Nothing
@@ -141,6 +142,6 @@ impl<'a, const P: usize, const J: usize, const OUT: usize> Kernel<'a, P, J, OUT>
         ensures does { Does (λ v h. after v h item) self.old self.new marks.old.items marks.new.items }
     {
         effects::take(&mut self.state, &item, marks);
-        effects::dispatch(&mut self.state, marks);
+        dispatching::dispatch(&mut self.state, marks);
     }
 }

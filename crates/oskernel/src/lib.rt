@@ -2,9 +2,12 @@
 #![tactic(auto)]
 
 mod admission;
+mod dispatching;
 mod effects;
+mod free;
 pub mod kernel;
 mod operations;
+mod starting;
 mod ticks;
 pub mod wants;
 

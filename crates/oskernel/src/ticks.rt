@@ -7,9 +7,9 @@ ghost use Rattle.osclock.specs.Clocks.{attached_to};
 ghost use Rattle.ostable.specs.Tables.{timed_by};
 ghost use Rattle.osplan.specs.Objects.{is_own_object, posted_at_once};
 ghost use Rattle.osstate.specs.Does.{Effects, HasRoom, service_entries, service_marks};
-ghost use Rattle.osact.specs.Acts.{does};
-ghost use Rattle.osdue.specs.Advancing.{posted_by};
-ghost use Rattle.oskernel.specs.Step.{counts_if_hardware, ticks};
+ghost use Rattle.osact.specs.Acts.{does, nothing, when};
+ghost use Rattle.osdue.specs.Advancing.{counts, posted_by};
+ghost use Rattle.oskernel.specs.Step.{ticks};
 
 use osbase::{CounterRef, Mark};
 use osplan::Counter;
@@ -49,7 +49,7 @@ fn count_by_tick<const P: usize, const J: usize, const OUT: usize>(
     requires live { is_before_live state.old.progress.phase ≡ false }
     requires outbox { length state.old.border.outbox + posted_by state.old.view.own reference ≤ OUT }
     requires room { HasRoom (suc (3 * length (attached_to state.old.view.own reference) + 38 * length (timed_by state.old.view.own reference))) (3 * length (attached_to state.old.view.own reference) + 36 * length (timed_by state.old.view.own reference)) state.old marks.old }
-    ensures effects { Effects (suc (3 * length (attached_to state.old.view.own reference) + 38 * length (timed_by state.old.view.own reference))) (3 * length (attached_to state.old.view.own reference) + 36 * length (timed_by state.old.view.own reference)) (does (counts_if_hardware (reference, counter.now))) state.old state.new marks.old marks.new }
+    ensures effects { Effects (suc (3 * length (attached_to state.old.view.own reference) + 38 * length (timed_by state.old.view.own reference))) (3 * length (attached_to state.old.view.own reference) + 36 * length (timed_by state.old.view.own reference)) (does (when counter.now.software nothing (counts reference))) state.old state.new marks.old marks.new }
     ensures outbox { length state.new.border.outbox ≤ length state.old.border.outbox + posted_by state.old.view.own reference }
 {
     if !counter.software {

@@ -2,10 +2,9 @@ use Rattle.std.proofs.Common.{Option, ap, sym, ◌∙◌, lit≤}
 use Rattle.osbase.specs.declared.histories.Awaited.{Awaited}
 use Rattle.osbase.specs.declared.histories.OpenCall.{OpenCall}
 use Rattle.osstate.specs.State.{KernelState}
-use Rattle.osstate.proofs.Effecting.{as_effect, unprinted}
+use Rattle.osstate.proofs.Effecting.{as_effect}
 use Rattle.osstate.proofs.ReadLemmas.{read}
-use Rattle.osact.specs.Acts.{does, nothing}
-use Rattle.osact.proofs.Remarking.{unmoved}
+use Rattle.osact.specs.Acts.{does}
 use Rattle.oscall.specs.Chaining.{resumes}
 use Rattle.oskernel.specs.Step.{closes, resumes_with}
 use Rattle.oskernel.proofs.effects.close.Goals as goal

@@ -5,7 +5,7 @@ use Rattle.osstate.proofs.Effecting.{as_effect, then, unprinted}
 use Rattle.osstate.proofs.ReadLemmas.{read}
 use Rattle.osact.specs.Acts.{does}
 use Rattle.oskernel.specs.Step.{starts}
-use Rattle.oskernel.proofs.effects.start.Goals as goal
+use Rattle.oskernel.proofs.starting.start.Goals as goal
 
 pub returns : goal.returns
 returns g c =

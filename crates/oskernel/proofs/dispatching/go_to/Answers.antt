@@ -7,7 +7,7 @@ use Rattle.osstate.proofs.Effecting.{as_effect}
 use Rattle.osstate.proofs.ReadLemmas.{read}
 use Rattle.osbase.specs.declared.histories.Job.{Job}
 use Rattle.osbase.specs.History.{same_job}
-use Rattle.oskernel.proofs.effects.go_to.Goals as goal
+use Rattle.oskernel.proofs.dispatching.go_to.Goals as goal
 
 pub returns-then-not-is_running : goal.returns-then-not-is_running
 returns-then-not-is_running g c =

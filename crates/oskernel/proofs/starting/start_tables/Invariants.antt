@@ -1,0 +1,13 @@
+use Rattle.std.proofs.Common.{◌≡◌, Some}
+use Rattle.osplan.specs.declared.plans.Core.{Core}
+use Rattle.osstate.specs.Does.{Remarks}
+use Rattle.oskernel.specs.Step.{autostarts_table}
+use Rattle.oskernel.specs.Taking.{agreement_on}
+use Rattle.oskernel.proofs.Numbered.{acted}
+use Rattle.oskernel.proofs.starting.start_tables.Given as goal
+
+abbrev pub invariant-loop-table : goal.invariant-loop-table
+invariant-loop-table g l = record {
+  place : l.index ≡ l.table-index;
+  effects : Remarks l.table-index (acted (autostarts_table (Some (agreement_on l.mode))) (λ (core : Core). core.tables) l.table-index) l.initial.state l.state;
+}

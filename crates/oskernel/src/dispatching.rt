@@ -1,0 +1,97 @@
+//! Dispatch.
+
+ghost use Rattle.std.specs.Prelude.{◌≡◌, ◌==◌, IfSome, IsTrue, false};
+ghost use Rattle.std.specs.Option.{option_map_or};
+ghost use Rattle.osbase.specs.History.{current_task, same_job};
+ghost use Rattle.osjobs.specs.Priorities.{is_own_runner};
+ghost use Rattle.osstate.specs.Does.{Effects, HasRoom};
+ghost use Rattle.osstate.specs.Queries.{running_in};
+ghost use Rattle.oskernel.specs.Step.{dispatches, enters, goes_to, leaves};
+
+use crate::free::may_dispatch;
+use osbase::{Job, Mark, Runner, TaskRef};
+use osstate::CoreState;
+
+/// Dispatch, where the core schedules and no call is open.
+pub(crate) fn dispatch<const P: usize, const J: usize, const OUT: usize>(
+    state: &mut CoreState<'_, P, J, OUT>,
+    marks: &mut Vec<Mark>,
+)
+    requires { HasRoom 2 2 state.old marks.old }
+    ensures { Effects 2 2 (λ v h. dispatches v h) state.old state.new marks.old marks.new }
+{
+    if may_dispatch(state) {
+        let running = state.running_job();
+        let best = state.best_job(running);
+        go_to(state, running, best, marks);
+    }
+}
+
+// Going to the best job: nothing if it is the running one (OSEK/VDX OS 2.2.3, section 4.4 and 4.6).
+fn go_to<const P: usize, const J: usize, const OUT: usize>(
+    state: &mut CoreState<'_, P, J, OUT>,
+    running: Option<Job>,
+    best: Option<Job>,
+    marks: &mut Vec<Mark>,
+)
+    requires running { running ≡ running_in state.old }
+    requires own { IfSome best (λ job. IsTrue (is_own_runner state.old.view.own job.runner)) }
+    requires room { HasRoom 2 2 state.old marks.old }
+    ensures { Effects 2 2 (λ v h. goes_to v best h) state.old state.new marks.old marks.new }
+{
+    if let Some(job) = best {
+        if !is_running(running, job) {
+            enter(state, job.runner, marks);
+        }
+    }
+}
+
+fn is_running(running: Option<Job>, job: Job) -> bool
+    ensures { result ≡ option_map_or (same_job job) running false }
+{
+    match running {
+        Some(running) => job.stamp == running.stamp,
+        None => false,
+    }
+}
+
+// PostTaskHook of the current task, if there is one, and PreTaskHook of the runner's
+// (OSEK/VDX OS 2.2.3, section 11.5).
+fn enter<const P: usize, const J: usize, const OUT: usize>(
+    state: &mut CoreState<'_, P, J, OUT>,
+    runner: Runner,
+    marks: &mut Vec<Mark>,
+)
+    requires own { IsTrue (is_own_runner state.old.view.own runner) }
+    requires room { HasRoom 2 2 state.old marks.old }
+    ensures { Effects 2 2 (λ v h. enters runner h) state.old state.new marks.old marks.new }
+{
+    match runner {
+        Runner::Task(task) => enter_task(state, task, marks),
+        Runner::Isr(isr) => state.print(Mark::IsrEntered(isr), marks),
+    }
+}
+
+fn enter_task<const P: usize, const J: usize, const OUT: usize>(
+    state: &mut CoreState<'_, P, J, OUT>,
+    task: TaskRef,
+    marks: &mut Vec<Mark>,
+)
+    requires { HasRoom 2 2 state.old marks.old }
+    ensures { Effects 2 2 (λ v h. enters (Runner.Task task) h) state.old state.new marks.old marks.new }
+{
+    leave_current(state, marks);
+    state.enter(task, marks);
+}
+
+fn leave_current<const P: usize, const J: usize, const OUT: usize>(
+    state: &mut CoreState<'_, P, J, OUT>,
+    marks: &mut Vec<Mark>,
+)
+    requires { HasRoom 1 1 state.old marks.old }
+    ensures { Effects 1 1 (λ v h. leaves (current_task h) h) state.old state.new marks.old marks.new }
+{
+    if let Some(current) = state.current() {
+        state.leave(current, marks);
+    }
+}
