@@ -1,1 +1,2 @@
+mod Each
 mod Locks

@@ -7,16 +7,17 @@ use Rattle.std.proofs.lemmas.Bool.{both_ways, eq-eqb, ne_eqb, cond-true, cond-fa
 use prog.Atomic.{either}
 use Rattle.osbase.specs.declared.references.CoreId.{CoreId}
 use Rattle.osbase.specs.declared.references.SpinlockId.{SpinlockId}
-use Rattle.osseat.specs.Histories.{Continues}
+use Rattle.osseat.specs.Histories.{Continues, entry}
 use Rattle.osseat.specs.Runs.{AreIdle}
 use Rattle.osseat.specs.Views.{IsStep}
 use Rattle.osseat.proofs.Steps.{continues}
 use Rattle.osspin.specs.declared.calls.TheConstants.{SPINLOCKS}
 use Rattle.osspin.specs.declared.calls.SpinAction.{SpinAction}
 use Rattle.osspin.specs.declared.calls.SpinAction.TheVariants.{Take, Free, Look}
+use Rattle.osspin.specs.declared.calls.SpinCall.{SpinCall}
 use Rattle.osspin.specs.declared.calls.SpinReply.{SpinReply}
 use Rattle.osspin.specs.declared.calls.SpinReply.TheVariants.{Answered, Seen}
-use Rattle.osspin.specs.Spins.{IsRefusedTry, free_call, holder_of, holders_after, is_free, is_held_by, lock_after, lock_reply, look_call, spin_call, spinlocks, try_take_call}
+use Rattle.osspin.specs.Spins.{IsRefusedTry, free_call, holder_of, holders_after, is_free, is_held_by, lock_after, lock_reply, look_call, spin_call, spin_reply, spinlocks, try_take_call}
 use Rattle.osspin.specs.Words.{FitsByte, Stands, answer, answer_to, word_of}
 
 if_fits : (b : Bool) (x y : Option CoreId) → FitsByte x → FitsByte y → FitsByte (if b then x else y)
@@ -94,7 +95,11 @@ take_steps core lock lt small = steps core lock Take (λ n. either (n == 0) (wor
 pub free_steps : (core : CoreId) (lock : SpinlockId) → lock.index < SPINLOCKS → core.number < 256 → IsStep spinlocks Stands answer core (spin_call lock Free) lock.index (λ n. either (n == word_of (Some core)) 0 n)
 free_steps core lock lt small = steps core lock Free (λ n. either (n == word_of (Some core)) 0 n) lt small (frees core) (free_replies core)
 
--- the three calls of one caller
+-- a call of one caller, and each of the three
+pub goes_on : (holders new : List (Option CoreId)) (core : CoreId) (call : SpinCall) (reply : SpinReply) → reply ≡ spin_reply core call holders
+    → new ≡ holders_after core call holders → Continues spinlocks holders (entry core call reply) new
+goes_on holders new core call reply answer after = continues spinlocks holders new (entry core call reply) answer (sym after)
+
 pub takes_on : (holders new : List (Option CoreId)) (core : CoreId) (lock : SpinlockId) (taken : Bool) → taken ≡ is_free (holder_of holders lock)
     → new ≡ holders_after core (spin_call lock Take) holders → Continues spinlocks holders (try_take_call core lock taken) new
 takes_on holders new core lock taken answer after = continues spinlocks holders new (try_take_call core lock taken) (ap Answered answer) (sym after)

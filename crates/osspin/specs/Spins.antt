@@ -1,5 +1,5 @@
 -- One spinlock, and all of them.
-use Rattle.std.specs.Prelude.{◌≡◌, Bool, true, false, if◌then◌else◌, Option, Some, None, List, replicate, slice_index_or, slice_set}
+use Rattle.std.specs.Prelude.{◌≡◌, ◌==◌, Bool, true, false, if◌then◌else◌, Option, Some, None, List, [], ◌∷◌, replicate, slice_index_or, slice_set}
 use Rattle.osbase.specs.declared.references.CoreId.{CoreId}
 use Rattle.osbase.specs.declared.references.SpinlockId.{SpinlockId}
 use Rattle.osbase.specs.History.{same_core}
@@ -37,6 +37,10 @@ lock_reply core Take holder = Answered (is_free holder)
 lock_reply core Free holder = Answered (is_held_by core holder)
 lock_reply core Look holder = Seen holder
 
+-- One lock by itself, free at first. [own]
+abbrev pub one_lock : Object Unit (Option CoreId) SpinAction SpinReply
+one_lock = record { first = λ about. None; after = lock_after; reply = lock_reply }
+
 -- Who holds a lock, by the holders of all.
 abbrev pub holder_of : List (Option CoreId) → SpinlockId → Option CoreId
 holder_of holders lock = slice_index_or holders lock.index None
@@ -54,19 +58,28 @@ spin_reply core call holders = lock_reply core call.action (holder_of holders ca
 abbrev pub spinlocks : Object Unit (List (Option CoreId)) SpinCall SpinReply
 spinlocks = record { first = λ about. no_holders; after = holders_after; reply = spin_reply }
 
+-- A call of the spinlocks, with its answer.
+abbrev pub SpinEntry : Type 0
+SpinEntry = Entry SpinCall SpinReply
+
 abbrev pub spin_call : SpinlockId → SpinAction → SpinCall
 spin_call lock action = record { lock = lock; action = action }
 
+-- The calls of one spinlock, in order.
+abbrev pub calls_on : SpinlockId → List SpinEntry → List (Entry SpinAction SpinReply)
+calls_on lock [] = []
+calls_on lock (e ∷ es) = if e.call.lock.index == lock.index then entry e.core e.call.action e.reply ∷ calls_on lock es else calls_on lock es
+
 -- The three calls of a core, each with its answer.
-abbrev pub try_take_call : CoreId → SpinlockId → Bool → Entry SpinCall SpinReply
+abbrev pub try_take_call : CoreId → SpinlockId → Bool → SpinEntry
 try_take_call core lock taken = entry core (spin_call lock Take) (Answered taken)
 
-abbrev pub free_call : CoreId → SpinlockId → Bool → Entry SpinCall SpinReply
+abbrev pub free_call : CoreId → SpinlockId → Bool → SpinEntry
 free_call core lock freed = entry core (spin_call lock Free) (Answered freed)
 
-abbrev pub look_call : CoreId → SpinlockId → Option CoreId → Entry SpinCall SpinReply
+abbrev pub look_call : CoreId → SpinlockId → Option CoreId → SpinEntry
 look_call core lock holder = entry core (spin_call lock Look) (Seen holder)
 
 -- A try that was refused. It changes nothing.
-abbrev pub IsRefusedTry : Entry SpinCall SpinReply → Type 0
+abbrev pub IsRefusedTry : SpinEntry → Type 0
 IsRefusedTry e = (e.call.action ≡ Take) × (e.reply ≡ Answered false)

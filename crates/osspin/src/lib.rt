@@ -5,6 +5,7 @@
 
 pub mod bank;
 pub mod calls;
+pub mod laws;
 pub mod list;
 
 pub use bank::{SpinBank, SpinSeat};

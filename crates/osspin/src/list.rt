@@ -1,10 +1,10 @@
 //! The spinlocks of a listed run, in which one thread plays all cores.
 
 ghost use Rattle.std.specs.Prelude.{◌≡◌, ◌<◌};
-ghost use Rattle.osseat.specs.Histories.{Continues};
-ghost use Rattle.osspin.specs.Spins.{free_call, holder_of, holders_after, is_free, is_held_by, look_call, no_holders, spin_call, spinlocks, try_take_call};
+ghost use Rattle.osseat.specs.Histories.{Continues, entry};
+ghost use Rattle.osspin.specs.Spins.{free_call, holder_of, holders_after, is_free, is_held_by, lock_after, lock_reply, look_call, no_holders, spin_call, spin_reply, spinlocks, try_take_call};
 
-use crate::calls::{SPINLOCKS, SpinAction};
+use crate::calls::{SPINLOCKS, SpinAction, SpinCall, SpinReply};
 use osbase::{CoreId, SpinlockId};
 use std::marker::Model;
 
@@ -79,6 +79,77 @@ impl SpinList {
         ensures replays { (core : CoreId) → Continues spinlocks self.now (look_call core lock result) self.now }
     {
         self.holders[usize::from(lock.index)]
+    }
+
+    /// What a call is answered now. Nothing changes. A spinlock past the last is free.
+    pub fn reply(&self, core: CoreId, call: SpinCall) -> SpinReply
+        ensures { result ≡ spin_reply core call self.now }
+    {
+        lock_reply(core, call.action, self.holder(call.lock))
+    }
+
+    /// Any of the three calls, of any spinlock. One of a spinlock past the last changes nothing.
+    #[tactic(auto, using(crate::proofs::Locks::goes_on))]
+    pub fn call(&mut self, core: CoreId, call: SpinCall) -> SpinReply
+        ensures answer { result ≡ spin_reply core call self.old }
+        ensures after { self.new ≡ holders_after core call self.old }
+        ensures replays { Continues spinlocks self.old (entry core call result) self.new }
+    {
+        let reply = self.reply(core, call);
+        self.change(core, call);
+        reply
+    }
+
+    // What a call changes: nothing where there is no such spinlock.
+    fn change(&mut self, core: CoreId, call: SpinCall)
+        ensures { self.new ≡ holders_after core call self.old }
+    {
+        let index = usize::from(call.lock.index);
+        if let Some(holder) = self.holders.get(index) {
+            let holder = *holder;
+            self.holders[index] = lock_after(core, call.action, holder);
+        }
+    }
+
+    // The core that holds the spinlock, if there is such a spinlock.
+    fn holder(&self, lock: SpinlockId) -> Option<CoreId>
+        ensures { result ≡ holder_of self.now lock }
+    {
+        match self.holders.get(usize::from(lock.index)) {
+            Some(holder) => *holder,
+            None => None,
+        }
+    }
+}
+
+// Who holds one lock after a call.
+fn lock_after(core: CoreId, action: SpinAction, holder: Option<CoreId>) -> Option<CoreId>
+    ensures { result ≡ lock_after core action holder }
+{
+    match action {
+        SpinAction::Take => match holder {
+            Some(_) => holder,
+            None => Some(core),
+        },
+        SpinAction::Free => {
+            if is_held_by(core, holder) {
+                None
+            } else {
+                holder
+            }
+        }
+        SpinAction::Look => holder,
+    }
+}
+
+// What a call of one lock is answered.
+fn lock_reply(core: CoreId, action: SpinAction, holder: Option<CoreId>) -> SpinReply
+    ensures { result ≡ lock_reply core action holder }
+{
+    match action {
+        SpinAction::Take => SpinReply::Answered(holder.is_none()),
+        SpinAction::Free => SpinReply::Answered(is_held_by(core, holder)),
+        SpinAction::Look => SpinReply::Seen(holder),
     }
 }
 

@@ -232,3 +232,28 @@ fn the_listed_spinlocks_answer_alike(rt: HostRuntime) -> Result<(), Fail> {
     assert!(rt; locks.look(lock) == Some(a) && locks.free(a, lock) && locks.look(lock).is_none());
     Ok(())
 }
+
+#[test]
+fn any_call_of_the_listed_spinlocks_is_answered(rt: HostRuntime) -> Result<(), Fail> {
+    let mut locks = SpinList::new();
+    let (a, b) = (CoreId { number: 0 }, CoreId { number: 5 });
+    let lock = SpinlockId { index: 15 };
+    let take = call_of(lock, SpinAction::Take);
+    let (free, look) = (
+        call_of(lock, SpinAction::Free),
+        call_of(lock, SpinAction::Look),
+    );
+    assert!(rt; locks.reply(a, take) == SpinReply::Answered(true));
+    assert!(rt; locks.call(a, take) == SpinReply::Answered(true));
+    assert!(rt; locks.call(b, take) == SpinReply::Answered(false));
+    assert!(rt; locks.call(b, look) == SpinReply::Seen(Some(a)));
+    assert!(rt; locks.call(a, free) == SpinReply::Answered(true) && locks.look(lock).is_none());
+    let past = call_of(SpinlockId { index: 16 }, SpinAction::Take);
+    assert!(rt; locks.call(a, past) == SpinReply::Answered(true));
+    assert!(rt; locks.call(b, past) == SpinReply::Answered(true));
+    Ok(())
+}
+
+fn call_of(lock: SpinlockId, action: SpinAction) -> SpinCall {
+    SpinCall { lock, action }
+}
