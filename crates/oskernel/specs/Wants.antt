@@ -1,4 +1,4 @@
--- What a core's own turn would do: the first rule that applies. [own]
+-- What a core's own turn would do: the first rule that applies; and what its look at the board waits for. [own]
 use Rattle.std.specs.Prelude.{if◌then◌else◌, Option, Some, None, List, [], ◌∷◌}
 use Rattle.osbase.specs.declared.references.CoreId.{CoreId}
 use Rattle.osbase.specs.declared.messages.Envelope.{Envelope}
@@ -11,6 +11,7 @@ use Rattle.osstate.specs.State.{KernelState, state_of}
 use Rattle.oskernel.specs.Free.{is_free}
 use Rattle.oskernel.specs.declared.wants.Want.{Want}
 use Rattle.oskernel.specs.declared.wants.Want.TheVariants.{Start, Enter, Ready, Post, GoOn, Nothing}
+use Rattle.oskernel.specs.declared.wants.Watch.{Watch}
 
 abbrev pub start_or_enter : Option CoreId → Want
 start_or_enter (Some core) = Start core
@@ -41,6 +42,28 @@ want_in s = want_from s.progress.phase s
 
 abbrev pub want_of : View → History → Want
 want_of v h = want_in (state_of v h)
+
+-- A live core watches for a shutdown of all cores, unless a call is open. [own]
+abbrev pub watch_if_free : KernelState → Watch
+watch_if_free s = if is_free s then Watch.Halt else Watch.Nothing
+
+-- What its look at the board waits for.
+abbrev pub watch_from : Phase → KernelState → Watch
+watch_from Phase.Off s = Watch.On
+watch_from Phase.FirstGate s = Watch.FirstGate
+watch_from Phase.SecondGate s = Watch.SecondGate
+watch_from Phase.Live s = watch_if_free s
+watch_from Phase.Drained s = Watch.PassEnd
+watch_from Phase.Closing s = Watch.Last
+watch_from Phase.Boot s = Watch.Nothing
+watch_from Phase.BetweenGates s = Watch.Nothing
+watch_from Phase.Ended s = Watch.Nothing
+
+abbrev pub watch_in : KernelState → Watch
+watch_in s = watch_from s.progress.phase s
+
+abbrev pub watch_of : View → History → Watch
+watch_of v h = watch_in (state_of v h)
 
 -- The front of the outbox, with the core that it is for. [own]
 abbrev pub front_of : List Sent → Option (CoreId × Envelope)

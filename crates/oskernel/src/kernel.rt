@@ -12,12 +12,12 @@ ghost use Rattle.osstate.specs.Does.{Adds, Does, Reads};
 ghost use Rattle.oskernel.specs.declared.kernel.TheConstants.{STEP_MARKS};
 ghost use Rattle.osplan.specs.Objects.{posted_at_once};
 ghost use Rattle.oskernel.specs.Step.{after, takes};
-ghost use Rattle.oskernel.specs.Wants.{front_of, go_on_if_free, post_or as front_or, want_in, want_of};
+ghost use Rattle.oskernel.specs.Wants.{front_of, go_on_if_free, post_or as front_or, want_in, want_of, watch_if_free, watch_in, watch_of};
 ghost use Rattle.oskernel.specs.Admission.{takes_in};
 
 use crate::admission::is_admitted;
 use crate::free::is_free;
-use crate::wants::{Want, start_or_enter};
+use crate::wants::{Want, Watch, start_or_enter};
 use crate::{dispatching, effects};
 use osbase::{CoreId, Envelope, Item, Mark, Phase};
 use osplan::Config;
@@ -108,6 +108,35 @@ impl<'a, const P: usize, const J: usize, const OUT: usize> Kernel<'a, P, J, OUT>
         match self.state.front() {
             Some(sent) => Want::Post(sent.to),
             None => want,
+        }
+    }
+
+    /// What the core's look at the board waits for.
+    pub fn watch(&self) -> Watch
+        ensures state { result ≡ watch_in self.now }
+        ensures reads { Reads (λ v h. watch_of v h) self.now result }
+    {
+        match self.state.phase() {
+            Phase::Off => Watch::On,
+            Phase::FirstGate => Watch::FirstGate,
+            Phase::SecondGate => Watch::SecondGate,
+            Phase::Live => self.watch_halt(),
+            Phase::Drained => Watch::PassEnd,
+            Phase::Closing => Watch::Last,
+            Phase::Boot => Watch::Nothing,
+            Phase::BetweenGates => Watch::Nothing,
+            Phase::Ended => Watch::Nothing,
+        }
+    }
+
+    // A live core watches for a shutdown of all cores, unless a call is open.
+    fn watch_halt(&self) -> Watch
+        ensures { result ≡ watch_if_free self.now }
+    {
+        if is_free(&self.state) {
+            Watch::Halt
+        } else {
+            Watch::Nothing
         }
     }
 

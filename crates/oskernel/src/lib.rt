@@ -12,4 +12,4 @@ mod ticks;
 pub mod wants;
 
 pub use kernel::{Kernel, STEP_MARKS};
-pub use wants::Want;
+pub use wants::{Want, Watch};

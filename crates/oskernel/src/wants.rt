@@ -1,4 +1,4 @@
-//! What a core's own turn would do.
+//! What a core's own turn would do, and what its look at the board waits for.
 
 ghost use Rattle.std.specs.Prelude.{◌≡◌};
 ghost use Rattle.oskernel.specs.Wants.{start_or_enter as next_or_enter};
@@ -18,6 +18,25 @@ pub enum Want {
     Post(CoreId),
     /// Takes its next stimulus, or drains if there is none.
     GoOn,
+    /// Nothing.
+    Nothing,
+}
+
+/// What a core's look at the board waits for.
+#[derive(Clone, Copy, Debug, PartialEq, Eq)]
+pub enum Watch {
+    /// That it is started.
+    On,
+    /// That all started cores have entered StartOS.
+    FirstGate,
+    /// That all started cores are ready.
+    SecondGate,
+    /// That a shutdown of all cores is asked for.
+    Halt,
+    /// That all started cores have drained.
+    PassEnd,
+    /// The end, and who asked for a shutdown of all cores.
+    Last,
     /// Nothing.
     Nothing,
 }
