@@ -11,25 +11,26 @@ use Rattle.osbase.specs.declared.items.Stimulus.{Stimulus}
 use Rattle.osbase.specs.declared.turns.Choice.{Choice}
 use Rattle.osbase.specs.declared.turns.CoreStimuli.{CoreStimuli}
 use Rattle.osbase.specs.declared.turns.TheConstants.{CORES}
-use Rattle.osbase.specs.declared.histories.Phase.{Phase}
 use Rattle.osbase.specs.History.{History, posted, received_count}
 use Rattle.osbase.specs.Runs.{stimuli_of}
-use Rattle.osmail.specs.Mail.{Mail, box_of, has_room as room_in, oldest_of}
+use Rattle.osmail.specs.Mail.{box_of, has_room as room_in, oldest_of}
 use Rattle.osplan.specs.declared.plans.Plan.{Plan}
 use Rattle.osplan.specs.View.{View, view_of}
-use Rattle.osstate.specs.Readings.{phase_at}
 use Rattle.osstate.specs.State.{KernelState, state_of}
 use Rattle.oskernel.specs.Step.{history_from}
-use Rattle.oskernel.specs.Wants.{want_in}
+use Rattle.oskernel.specs.declared.wants.Watch.{Watch}
+use Rattle.oskernel.specs.Wants.{want_in, watch_in, watch_of}
 use Rattle.osboard.specs.declared.calls.BoardState.{BoardState}
 use Rattle.osworld.specs.declared.seats.Seat.{Seat}
 use Rattle.osboard.specs.Boards.{board_reply}
+use Rattle.osspin.specs.Spins.{spin_reply}
+use Rattle.osworld.specs.declared.answering.Between.{Between}
 use Rattle.osworld.specs.declared.asks.Ask.{Ask}
-use Rattle.osworld.specs.declared.asks.Ask.TheVariants.{OfBoard, Room, Oldest}
+use Rattle.osworld.specs.declared.asks.Ask.TheVariants.{OfBoard, OfSpins, Room, Oldest}
 use Rattle.osworld.specs.declared.asks.Answer.{Answer}
-use Rattle.osworld.specs.declared.asks.Answer.TheVariants.{Replied, HasRoom, Found}
-use Rattle.osworld.specs.Asking.{asked, asked_by, comes_to, named_by}
-use Rattle.osworld.specs.World.{World, answer_in, board_in, has_room, history_in, items_in, next_in, next_stimulus, stimulus_count}
+use Rattle.osworld.specs.declared.asks.Answer.TheVariants.{Replied, Spun, HasRoom, Found}
+use Rattle.osworld.specs.Asking.{asked, asked_by, comes_to, named_by, spin_call_of}
+use Rattle.osworld.specs.World.{World, answer_in, board_in, has_room, history_in, holders_in, items_in, next_in, next_stimulus, stimulus_count}
 use Rattle.osworld.specs.Answering.{answer_by, next_by}
 use Rattle.osworld.specs.Playing.{IsMail, lists_of}
 use Rattle.osworld.proofs.Listed.{is_seat_of, list_of}
@@ -50,8 +51,8 @@ list_of-beyond id (s ∷ ss) e = by (is_seat_of id s) refl (list_of-beyond id ss
 room-agrees : (r n cap : ℕ) → r ≤ n → nat_lt n (r + cap) ≡ nat_lt (n - r) cap
 room-agrees r n cap le = grind (arith, nat_tests)
 
-module _ (plan : Plan) (w : World) (core : CoreId) (known : core.number < CORES) (mail : Mail) (m : IsMail plan w mail) (board : BoardState) (shown : board ≡ board_in plan w) (seats : List Seat) (lists : w.items ≡ lists_of seats) where
-  room-same : (to : CoreId) → has_room plan w core to ≡ (nat_lt to.number CORES && room_in mail core to)
+module _ (plan : Plan) (w : World) (core : CoreId) (known : core.number < CORES) (between : Between) (m : IsMail plan w between.mail) (shown : between.board ≡ board_in plan w) (held : between.spins ≡ holders_in w) (seats : List Seat) (lists : w.items ≡ lists_of seats) where
+  room-same : (to : CoreId) → has_room plan w core to ≡ (nat_lt to.number CORES && room_in between.mail core to)
   room-same to = by (nat_lt to.number CORES) refl
     where
       sends : List Envelope
@@ -60,17 +61,17 @@ module _ (plan : Plan) (w : World) (core : CoreId) (known : core.number < CORES)
       taken : ℕ
       taken = received_count core (history_in plan w to)
 
-      by : (b : Bool) → nat_lt to.number CORES ≡ b → (b && nat_lt (length sends) (taken + plan.cap)) ≡ (b && nat_lt (length (box_of mail core to)) mail.cap)
+      by : (b : Bool) → nat_lt to.number CORES ≡ b → (b && nat_lt (length sends) (taken + plan.cap)) ≡ (b && nat_lt (length (box_of between.mail core to)) between.mail.cap)
       by true e =
           room-agrees taken (length sends) plan.cap (m.order core to)
           ∙ ap (λ (n : ℕ). nat_lt n plan.cap) (sym (ap (λ (xs : List Envelope). length xs) (m.boxes core to known (ltb-true to.number CORES e)) ∙ length-drop taken sends))
-          ∙ ap (λ (n : ℕ). nat_lt (length (box_of mail core to)) n) (sym m.cap)
+          ∙ ap (λ (n : ℕ). nat_lt (length (box_of between.mail core to)) n) (sym m.cap)
       by false e = refl
 
-  oldest-same : (from : CoreId) → slice_get (posted core (history_in plan w from)) (received_count from (history_in plan w core)) ≡ cond (nat_lt from.number CORES) (oldest_of mail from core) None
+  oldest-same : (from : CoreId) → slice_get (posted core (history_in plan w from)) (received_count from (history_in plan w core)) ≡ cond (nat_lt from.number CORES) (oldest_of between.mail from core) None
   oldest-same from = by (nat_lt from.number CORES) refl
     where
-      by : (b : Bool) → nat_lt from.number CORES ≡ b → slice_get (posted core (history_in plan w from)) (received_count from (history_in plan w core)) ≡ cond b (oldest_of mail from core) None
+      by : (b : Bool) → nat_lt from.number CORES ≡ b → slice_get (posted core (history_in plan w from)) (received_count from (history_in plan w core)) ≡ cond b (oldest_of between.mail from core) None
       by true e =
           sym (front-drop (received_count from (history_in plan w core)) (posted core (history_in plan w from)))
           ∙ ap (λ (xs : List Envelope). slice_get xs 0) (sym (m.boxes from core (ltb-true from.number CORES e) known))
@@ -78,21 +79,22 @@ module _ (plan : Plan) (w : World) (core : CoreId) (known : core.number < CORES)
           ap (λ (o : Option (CoreId × List Item)). slice_get (posted core (history_from (view_of plan from) [] (option_map_or (λ (p : CoreId × List Item). p.1) o []))) (received_count from (history_in plan w core)))
           (ap (list_of from) lists ∙ list_of-beyond from seats e)
 
-  answer-agrees : (ask : Ask) → answer_in plan w core ask ≡ answer_by board mail core ask
+  answer-agrees : (ask : Ask) → answer_in plan w core ask ≡ answer_by between core ask
   answer-agrees (OfBoard call) = ap (λ (b : BoardState). Replied (board_reply core call b)) (sym shown)
+  answer-agrees (OfSpins wish) = ap (λ (holders : List (Option CoreId)). Spun (spin_reply core (spin_call_of wish) holders)) (sym held)
   answer-agrees (Room to) = ap HasRoom (room-same to)
   answer-agrees (Oldest from) = ap Found (oldest-same from)
   answer-agrees ask = refl
 
-  comes-agrees : (phase : Phase) (o : Option Ask) → comes_to core phase (answer_in plan w core) o ≡ comes_to core phase (answer_by board mail core) o
-  comes-agrees phase None = refl
-  comes-agrees phase (Some ask) = ap (λ (answer : Answer). option_map (λ (item : Item). (ask, item)) (named_by core phase ask answer)) (answer-agrees ask)
+  comes-agrees : (watch : Watch) (o : Option Ask) → comes_to core watch (answer_in plan w core) o ≡ comes_to core watch (answer_by between core) o
+  comes-agrees watch None = refl
+  comes-agrees watch (Some ask) = ap (λ (answer : Answer). option_map (λ (item : Item). (ask, item)) (named_by core watch ask answer)) (answer-agrees ask)
 
-  pub next-agrees : (stimuli : List CoreStimuli) (left : List Stimulus) → left ≡ drop (stimulus_count (items_in w core)) (stimuli_of stimuli core) → (kernel : KernelState) → kernel ≡ state_of (view_of plan core) (history_in plan w core) → (choice : Choice) → next_in plan stimuli w core choice ≡ next_by plan board mail core left kernel choice
+  pub next-agrees : (stimuli : List CoreStimuli) (left : List Stimulus) → left ≡ drop (stimulus_count (items_in w core)) (stimuli_of stimuli core) → (kernel : KernelState) → kernel ≡ state_of (view_of plan core) (history_in plan w core) → (choice : Choice) → next_in plan stimuli w core choice ≡ next_by plan between core left kernel choice
   next-agrees stimuli left kept kernel stands choice =
-      comes-agrees (phase_at v h) (asked v h (next_stimulus stimuli w core) choice)
-      ∙ ap (λ (next : Option Stimulus). comes_to core (phase_at v h) (answer_by board mail core) (asked v h next choice)) (sym (front-drop (stimulus_count (items_in w core)) (stimuli_of stimuli core)) ∙ ap (λ (xs : List Stimulus). slice_get xs 0) (sym kept))
-      ∙ ap (λ (s : KernelState). comes_to core s.progress.phase (answer_by board mail core) (asked_by v (want_in s) s.progress.phase (slice_get left 0) choice)) (sym stands)
+      comes-agrees (watch_of v h) (asked v h (next_stimulus stimuli w core) choice)
+      ∙ ap (λ (next : Option Stimulus). comes_to core (watch_of v h) (answer_by between core) (asked v h next choice)) (sym (front-drop (stimulus_count (items_in w core)) (stimuli_of stimuli core)) ∙ ap (λ (xs : List Stimulus). slice_get xs 0) (sym kept))
+      ∙ ap (λ (s : KernelState). comes_to core (watch_in s) (answer_by between core) (asked_by v (want_in s) (watch_in s) (slice_get left 0) choice)) (sym stands)
     where
       v : View
       v = view_of plan core

@@ -37,7 +37,8 @@ use Rattle.oskernel.proofs.Stepping.{alone_view}
 use Rattle.ostrace.specs.Trace.{line_end, line_of, lines_of, title_of}
 use Rattle.ostrace.proofs.Named.{lines-same}
 use Rattle.osworld.specs.Sound.{alone_block, alone_items, alone_report, ArePrintedAlone, IsAlone, own_agreement}
-use Rattle.osboard.specs.Boards.{BoardEntry, with_core}
+use Rattle.osboard.specs.Boards.{with_core}
+use Rattle.osworld.specs.Asking.{Calls}
 use Rattle.osworld.specs.Fits.{Fits, FitsBy, IsBeginning, has_drained, history_by, items_of}
 use Rattle.osworld.proofs.Ahead.{boot_items, Goes, goes-alone, solo-alone}
 use Rattle.osworld.proofs.Beginnings.{begins-all_pass, begins-flat_map}
@@ -71,7 +72,7 @@ only-known v low =
 
 -- ---- the configuration alone
 
-module _ (plan : Plan) (stimuli : List CoreStimuli) (lists : List (CoreId × List Item)) (calls : List BoardEntry) (fits : FitsBy plan stimuli lists calls) (limits : IsTrue (is_within_limits plan)) (known : AreKnown stimuli) (id : CoreId) (core : Core) (found : core_of plan id ≡ Some core) (separate : is_separate_core plan core ≡ true) where
+module _ (plan : Plan) (stimuli : List CoreStimuli) (lists : List (CoreId × List Item)) (calls : Calls) (fits : FitsBy plan stimuli lists calls) (limits : IsTrue (is_within_limits plan)) (known : AreKnown stimuli) (id : CoreId) (core : Core) (found : core_of plan id ≡ Some core) (separate : is_separate_core plan core ≡ true) where
   abbrev v : View
   v = view_of plan id
 
@@ -153,7 +154,7 @@ module _ (plan : Plan) (stimuli : List CoreStimuli) (lists : List (CoreId × Lis
     no_mail = takes-no-mail v allowed (items_of lists id) [] (fits.cores id).alone (record { closed = refl; empty = refl }) replies
 
     no_conflict : AreAgreed (items_of lists id)
-    no_conflict = never-conflict plan m agreed configured calls fits.board (items_of lists) (λ d. (fits.cores d).alone) fits.answers id
+    no_conflict = (never-conflict plan m agreed configured calls fits.board (items_of lists) (λ d. (fits.cores d).alone) fits.answers id).0
 
     abbrev listed : List Stimulus
     listed = stimuli_of stimuli id

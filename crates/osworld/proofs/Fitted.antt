@@ -19,13 +19,14 @@ use Rattle.oskernel.specs.Step.{after, history_from, takes, outbox_size}
 use Rattle.osseat.specs.Histories.{IsLegal, calls_by, entry}
 use Rattle.osseat.proofs.Steps.{calls_by-append, calls_by-hit, calls_by-miss, legal_snoc}
 use Rattle.osboard.specs.Boards.{BoardEntry, board_reply, first_board, one_board}
+use Rattle.osspin.specs.Spins.{SpinEntry, no_holders, spin_reply, spinlocks}
 use Rattle.osworld.specs.declared.asks.Ask.{Ask}
-use Rattle.osworld.specs.declared.asks.Ask.TheVariants.{OfBoard}
+use Rattle.osworld.specs.declared.asks.Ask.TheVariants.{OfBoard, OfSpins}
 use Rattle.osworld.specs.declared.asks.Answer.{Answer}
-use Rattle.osworld.specs.declared.asks.Answer.TheVariants.{Replied}
-use Rattle.osworld.specs.Asking.{told_by}
+use Rattle.osworld.specs.declared.asks.Answer.TheVariants.{Replied, Spun}
+use Rattle.osworld.specs.Asking.{Calls, calls_of, joined, no_calls, spin_call_of, told_by}
 use Rattle.osworld.specs.Fits.{FitsBy, ids_of, AreAnswered, Fits, FitsCore, Leads, has_drained, IsBeginning, is_drain, stimuli_in}
-use Rattle.osworld.specs.World.{World, answer_in, appends, board_in, first_world, history_in, items_in, next_stimulus, stimulus_count, world}
+use Rattle.osworld.specs.World.{World, answer_in, appends, board_in, first_world, history_in, holders_in, items_in, next_stimulus, stimulus_count, world}
 use Rattle.osworld.proofs.Beginnings.{begins-longer, begins-next, begins-through, begins-whole}
 use Rattle.osworld.proofs.Listed.{items_by, list_of-same, list_of-other, history_from-push}
 use Rattle.osworld.proofs.Streams.{is_from, is_post_to}
@@ -38,25 +39,45 @@ use Rattle.osworld.proofs.Fitting.{IsNext, IsOwnAsk, asks-own, envelope_in, foll
 abbrev WorldFits : Plan → List CoreStimuli → World → Type 0
 WorldFits plan stimuli w = FitsBy plan stimuli w.items w.calls
 
--- a core's calls of the board, and one more
-answered-push : (v : View) (h : History) (is : List Item) (es : List BoardEntry) (ask : Ask) (answer : Answer) (i : Item) → AreAnswered v h is es → Leads v (history_from v h is) ask answer i → AreAnswered v h (is ++ i ∷ []) (es ++ told_by v.core ask answer)
-answered-push v h [] es ask answer i none leads = (ask, answer, leads, [], ap (λ (xs : List BoardEntry). xs ++ told_by v.core ask answer) none ∙ sym (append-nil (told_by v.core ask answer)), refl)
+-- ---- calls
+
+abbrev calls_from : List BoardEntry → List SpinEntry → Calls
+calls_from board spins = record { board = board; spins = spins }
+
+joined-none : (a : Calls) → joined a no_calls ≡ a
+joined-none a = ap (λ (board : List BoardEntry). calls_from board (a.spins ++ [])) (append-nil a.board) ∙ ap (λ (spins : List SpinEntry). calls_from a.board spins) (append-nil a.spins)
+
+joined-joined : (a b c : Calls) → joined (joined a b) c ≡ joined a (joined b c)
+joined-joined a b c =
+    ap (λ (board : List BoardEntry). calls_from board ((a.spins ++ b.spins) ++ c.spins)) (append_assoc a.board b.board c.board)
+    ∙ ap (λ (spins : List SpinEntry). calls_from (a.board ++ (b.board ++ c.board)) spins) (append_assoc a.spins b.spins c.spins)
+
+calls_of-joined : (id : CoreId) (a b : Calls) → calls_of id (joined a b) ≡ joined (calls_of id a) (calls_of id b)
+calls_of-joined id a b =
+    ap (λ (board : List BoardEntry). calls_from board (calls_by id (a.spins ++ b.spins))) (calls_by-append id a.board b.board)
+    ∙ ap (λ (spins : List SpinEntry). calls_from (calls_by id a.board ++ calls_by id b.board) spins) (calls_by-append id a.spins b.spins)
+
+-- a core's calls, and one more
+answered-push : (v : View) (h : History) (is : List Item) (es : Calls) (ask : Ask) (answer : Answer) (i : Item) → AreAnswered v h is es → Leads v (history_from v h is) ask answer i → AreAnswered v h (is ++ i ∷ []) (joined es (told_by v.core ask answer))
+answered-push v h [] es ask answer i none leads = (ask, answer, leads, no_calls, ap (λ (xs : Calls). joined xs (told_by v.core ask answer)) none ∙ sym (joined-none (told_by v.core ask answer)), refl)
 answered-push v h (j ∷ is) es ask answer i all leads = (
   all.0,
   all.1,
   all.2,
-  all.3 ++ told_by v.core ask answer,
-  ap (λ (xs : List BoardEntry). xs ++ told_by v.core ask answer) all.4 ∙ append_assoc (told_by v.core all.0 all.1) all.3 (told_by v.core ask answer),
+  joined all.3 (told_by v.core ask answer),
+  ap (λ (xs : Calls). joined xs (told_by v.core ask answer)) all.4 ∙ joined-joined (told_by v.core all.0 all.1) all.3 (told_by v.core ask answer),
   answered-push v (after v h j) is all.3 ask answer i all.5 leads,
 )
 
 -- the call of a turn is of the core whose turn it is
-told-own : (core : CoreId) (ask : Ask) (answer : Answer) → calls_by core (told_by core ask answer) ≡ told_by core ask answer
-told-own core (OfBoard call) (Replied reply) = calls_by-hit core (entry core call reply) refl
+told-own : (core : CoreId) (ask : Ask) (answer : Answer) → calls_of core (told_by core ask answer) ≡ told_by core ask answer
+told-own core (OfBoard call) (Replied reply) = ap (λ (board : List BoardEntry). calls_from board []) (calls_by-hit core (entry core call reply) refl)
+told-own core (OfSpins wish) (Spun reply) = ap (λ (spins : List SpinEntry). calls_from [] spins) (calls_by-hit core (entry core (spin_call_of wish) reply) refl)
 told-own core ask answer = refl
 
-told-other : (id core : CoreId) (ask : Ask) (answer : Answer) → same_core core id ≡ false → calls_by id (told_by core ask answer) ≡ []
-told-other id core (OfBoard call) (Replied reply) other = calls_by-miss id (entry core call reply) (λ e. false≢true (sym other ∙ eq-eqb core.number id.number (sym e)))
+told-other : (id core : CoreId) (ask : Ask) (answer : Answer) → same_core core id ≡ false → calls_of id (told_by core ask answer) ≡ no_calls
+told-other id core (OfBoard call) (Replied reply) other = ap (λ (board : List BoardEntry). calls_from board []) (calls_by-miss id (entry core call reply) (λ e. false≢true (sym other ∙ eq-eqb core.number id.number (sym e))))
+told-other id core (OfSpins wish) (Spun reply) other = ap (λ (spins : List SpinEntry). calls_from [] spins) (calls_by-miss id (entry core (spin_call_of wish) reply) (λ e. false≢true (sym other ∙ eq-eqb core.number id.number (sym e))))
 told-other id core ask answer other = refl
 
 -- an item from another core is what that one posted next
@@ -180,35 +201,40 @@ module _ (plan : Plan) (stimuli : List CoreStimuli) (w : World) (fits : WorldFit
       by true false is here = longer (same_core core from && is_post_to item to)
       by false b is here = longer (same_core core from && is_post_to item to)
 
-  abbrev calls : List BoardEntry
+  abbrev calls : Calls
   calls = told_by core ask (answer_in plan w core ask)
 
-  board-on : (ask : Ask) → IsLegal one_board plan.master (w.calls ++ told_by core ask (answer_in plan w core ask))
-  board-on (OfBoard call) = legal_snoc one_board (first_board plan.master) w.calls (entry core call (board_reply core call (board_in plan w))) fits.board refl
-  board-on ask = subst (λ (es : List BoardEntry). IsLegal one_board plan.master es) (sym (append-nil w.calls)) fits.board
+  board-on : (ask : Ask) → IsLegal one_board plan.master (w.calls.board ++ (told_by core ask (answer_in plan w core ask)).board)
+  board-on (OfBoard call) = legal_snoc one_board (first_board plan.master) w.calls.board (entry core call (board_reply core call (board_in plan w))) fits.board refl
+  board-on ask = subst (λ (es : List BoardEntry). IsLegal one_board plan.master es) (sym (append-nil w.calls.board)) fits.board
 
-  answers-on : (id : CoreId) → AreAnswered (view_of plan id) [] (items_in next id) (calls_by id next.calls)
-  answers-on id = subst (λ (es : List BoardEntry). AreAnswered (view_of plan id) [] (items_in next id) es) (sym (calls_by-append id w.calls calls)) (by (same_core core id) refl)
+  spins-on : (ask : Ask) → IsLegal spinlocks tt (w.calls.spins ++ (told_by core ask (answer_in plan w core ask)).spins)
+  spins-on (OfSpins wish) = legal_snoc spinlocks no_holders w.calls.spins (entry core (spin_call_of wish) (spin_reply core (spin_call_of wish) (holders_in w))) fits.spins refl
+  spins-on ask = subst (λ (es : List SpinEntry). IsLegal spinlocks tt es) (sym (append-nil w.calls.spins)) fits.spins
+
+  answers-on : (id : CoreId) → AreAnswered (view_of plan id) [] (items_in next id) (calls_of id next.calls)
+  answers-on id = subst (λ (es : Calls). AreAnswered (view_of plan id) [] (items_in next id) es) (sym (calls_of-joined id w.calls calls)) (by (same_core core id) refl)
     where
-      by : (b : Bool) → same_core core id ≡ b → AreAnswered (view_of plan id) [] (items_in next id) (calls_by id w.calls ++ calls_by id calls)
+      by : (b : Bool) → same_core core id ≡ b → AreAnswered (view_of plan id) [] (items_in next id) (joined (calls_of id w.calls) (calls_of id calls))
       by true e =
-          subst (λ (c : CoreId). AreAnswered (view_of plan c) [] (items_in next c) (calls_by c w.calls ++ calls_by c calls)) (same_core-true core id e)
-          (subst (λ (xs : List Item). AreAnswered (view_of plan core) [] xs (calls_by core w.calls ++ calls_by core calls)) (sym items-same)
-          (subst (λ (es : List BoardEntry). AreAnswered (view_of plan core) [] (items_in w core ++ item ∷ []) (calls_by core w.calls ++ es)) (sym (told-own core ask (answer_in plan w core ask)))
-          (answered-push (view_of plan core) [] (items_in w core) (calls_by core w.calls) ask (answer_in plan w core ask) item (fits.answers core) (record { choice = turn.choice; next = next_stimulus stimuli w core; asks = turn.asks; names = turn.names }))))
+          subst (λ (c : CoreId). AreAnswered (view_of plan c) [] (items_in next c) (joined (calls_of c w.calls) (calls_of c calls))) (same_core-true core id e)
+          (subst (λ (xs : List Item). AreAnswered (view_of plan core) [] xs (joined (calls_of core w.calls) (calls_of core calls))) (sym items-same)
+          (subst (λ (es : Calls). AreAnswered (view_of plan core) [] (items_in w core ++ item ∷ []) (joined (calls_of core w.calls) es)) (sym (told-own core ask (answer_in plan w core ask)))
+          (answered-push (view_of plan core) [] (items_in w core) (calls_of core w.calls) ask (answer_in plan w core ask) item (fits.answers core) (record { choice = turn.choice; next = next_stimulus stimuli w core; asks = turn.asks; names = turn.names }))))
       by false e =
-          subst (λ (xs : List Item). AreAnswered (view_of plan id) [] xs (calls_by id w.calls ++ calls_by id calls)) (sym (items-other id e))
-          (subst (λ (es : List BoardEntry). AreAnswered (view_of plan id) [] (items_in w id) es) (sym (ap (λ (es : List BoardEntry). calls_by id w.calls ++ es) (told-other id core ask (answer_in plan w core ask) e) ∙ append-nil (calls_by id w.calls))) (fits.answers id))
+          subst (λ (xs : List Item). AreAnswered (view_of plan id) [] xs (joined (calls_of id w.calls) (calls_of id calls))) (sym (items-other id e))
+          (subst (λ (es : Calls). AreAnswered (view_of plan id) [] (items_in w id) es) (sym (ap (λ (es : Calls). joined (calls_of id w.calls) es) (told-other id core ask (answer_in plan w core ask) e) ∙ joined-none (calls_of id w.calls))) (fits.answers id))
 
   fits_on : WorldFits plan stimuli next
-  fits_on = record { cores = cores-on; streams = streams-on; board = board-on ask; answers = answers-on }
+  fits_on = record { cores = cores-on; streams = streams-on; board = board-on ask; spins = spins-on ask; answers = answers-on }
 
 first-fits : (plan : Plan) (stimuli : List CoreStimuli) → WorldFits plan stimuli (first_world plan)
 first-fits plan stimuli = record {
   cores = λ id. subst (FitsCore plan stimuli id) (sym (nothing_of plan id (ids_of plan))) (record { alone = refl; begins = (stimuli_of stimuli id, refl); drains = λ drained. absurd (false≢true drained) });
   streams = λ from to. subst (λ (h : History). IsBeginning (received from h) (posted to (history_in plan (first_world plan) from))) (sym (no_history plan to)) (posted to (history_in plan (first_world plan) from), refl);
   board = tt;
-  answers = λ id. subst (λ (xs : List Item). AreAnswered (view_of plan id) [] xs []) (sym (nothing_of plan id (ids_of plan))) refl;
+  spins = tt;
+  answers = λ id. subst (λ (xs : List Item). AreAnswered (view_of plan id) [] xs no_calls) (sym (nothing_of plan id (ids_of plan))) refl;
 }
 
 -- every world fits

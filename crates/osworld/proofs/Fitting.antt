@@ -1,29 +1,29 @@
 -- Every world fits: what a turn names fits what the cores and the board came to.
-use Rattle.std.proofs.Common.{◌≡◌, suc, Bool, true, false, ◌||◌, cond, Option, Some, None, List, [], ◌∷◌, ◌++◌, length, refl, ap, subst, ◌∙◌, arith, length-append}
+use Rattle.std.proofs.Common.{◌≡◌, suc, Bool, true, false, ◌||◌, cond, Option, Some, None, List, [], ◌∷◌, ◌++◌, length, refl, ap, ◌∙◌, arith, length-append}
 use Rattle.std.specs.List.{slice_get}
-use Rattle.std.proofs.lemmas.Option.{same_Some}
 use Rattle.osbase.specs.declared.references.CoreId.{CoreId}
 use Rattle.osbase.specs.declared.messages.Envelope.{Envelope}
 use Rattle.osbase.specs.declared.items.Item.{Item}
 use Rattle.osbase.specs.declared.items.Stimulus.{Stimulus}
 use Rattle.osbase.specs.declared.turns.Choice.{Choice}
 use Rattle.osbase.specs.declared.turns.CoreStimuli.{CoreStimuli}
-use Rattle.osbase.specs.declared.histories.Phase.{Phase}
 use Rattle.osbase.specs.History.{History, Took, Printed, Noted, posted, received, received_count, same_core}
 use Rattle.osbase.specs.Runs.{stimuli_of}
 use Rattle.osplan.specs.declared.plans.Plan.{Plan}
 use Rattle.osplan.specs.View.{View, is_configured, view_of}
 use Rattle.oskernel.specs.declared.wants.Want.{Want}
+use Rattle.oskernel.specs.declared.wants.Watch.{Watch}
 use Rattle.oskernel.specs.Step.{after, history_from, solo_from, takes, outbox_size}
-use Rattle.osboard.specs.declared.calls.BoardCall.TheVariants.{AskHalt, Drain, Enter, Look, Start}
-use Rattle.osboard.specs.Boards.{agreement_in}
+use Rattle.osboard.specs.declared.calls.BoardCall.TheVariants.{AskHalt, Drain, Enter, Look, LookHalt, Start}
+use Rattle.osspin.specs.Spins.{spin_reply}
 use Rattle.osworld.specs.declared.asks.Ask.{Ask}
-use Rattle.osworld.specs.declared.asks.Ask.TheVariants.{OfBoard, Room, Oldest, StartUnknown, TakeStimulus}
+use Rattle.osworld.specs.declared.asks.Ask.TheVariants.{OfBoard, OfSpins, Room, Oldest, StartUnknown, TakeStimulus}
 use Rattle.osworld.specs.declared.asks.Answer.TheVariants.{HasRoom, Found}
-use Rattle.osworld.specs.Asking.{asked_by, look_asked, named_by, passing}
-use Rattle.osworld.specs.World.{World, answer_in, board_in, has_room, history_in, items_in, next_stimulus, stimulus_count}
+use Rattle.osworld.specs.Asking.{asked_by, look_asked, named_by, spin_call_of}
+use Rattle.osworld.specs.World.{World, answer_in, board_in, has_room, history_in, holders_in, items_in, next_stimulus, stimulus_count}
 use Rattle.osworld.specs.Fits.{has_drained, is_drain, stimuli_in}
 use Rattle.oskernel.proofs.Holding.{quiet_after}
+use Rattle.osworld.proofs.Leading.{halted-item, is-item, passing-item, spun-item}
 use Rattle.osworld.proofs.Streams.{is_from}
 
 -- What is known of an item that a turn of this core names.
@@ -34,62 +34,54 @@ IsNext plan stimuli w id (Item.Received from number m) = slice_get (posted id (h
 IsNext plan stimuli w id item = Unit {0}
 
 -- What a core's turn asks is its own: it starts a configured core, tells its own mode, and takes or misses its next stimulus.
+-- None asks for a shutdown of all cores.
 abbrev pub IsOwnAsk : View → Option Stimulus → Option Ask → Type 0
 IsOwnAsk v next (Some (OfBoard (Start k))) = is_configured v k ≡ true
 IsOwnAsk v next (Some (OfBoard (Enter mode))) = mode ≡ v.own.mode
 IsOwnAsk v next (Some (OfBoard Drain)) = next ≡ None
+IsOwnAsk v next (Some (OfBoard (AskHalt status))) = ⊥
 IsOwnAsk v next (Some (TakeStimulus s)) = next ≡ Some s
 IsOwnAsk v next o = Unit {0}
 
-pub asks-own : (v : View) (want : Want) (phase : Phase) (next : Option Stimulus) (choice : Choice) → IsOwnAsk v next (asked_by v want phase next choice)
-asks-own v (Want.Start k) phase next Choice.Own = by (is_configured v k) refl
+pub asks-own : (v : View) (want : Want) (watch : Watch) (next : Option Stimulus) (choice : Choice) → IsOwnAsk v next (asked_by v want watch next choice)
+asks-own v (Want.Start k) watch next Choice.Own = by (is_configured v k) refl
   where
     by : (b : Bool) → is_configured v k ≡ b → IsOwnAsk v next (Some (cond b (OfBoard (Start k)) (StartUnknown k)))
     by true e = e
     by false e = tt
-asks-own v Want.Enter phase next Choice.Own = refl
-asks-own v Want.GoOn phase (Some s) Choice.Own = refl
-asks-own v Want.GoOn phase None Choice.Own = refl
-asks-own v want phase next Choice.Look = looks phase
+asks-own v Want.Enter watch next Choice.Own = refl
+asks-own v Want.GoOn watch (Some s) Choice.Own = refl
+asks-own v Want.GoOn watch None Choice.Own = refl
+asks-own v want watch next Choice.Look = looks watch
   where
-    looks : (phase : Phase) → IsOwnAsk v next (look_asked phase)
-    looks Phase.Off = tt
-    looks phase = tt
-asks-own v want phase next choice = tt
-
--- An open gate leads to one item.
-pub opens : (b : Bool) (i j : Item) → cond b (Some i) None ≡ Some j → (b ≡ true) × (i ≡ j)
-opens true i j e = (refl, same_Some _ _ e)
-opens false i j e = cc
+    looks : (watch : Watch) → IsOwnAsk v next (Some (look_asked watch))
+    looks Watch.Halt = tt
+    looks Watch.Last = tt
+    looks watch = tt
+asks-own v want watch next choice = tt
 
 module _ (plan : Plan) (stimuli : List CoreStimuli) (w : World) (id : CoreId) where
   is : (j i : Item) → Some j ≡ Some i → IsNext plan stimuli w id j → IsNext plan stimuli w id i
-  is j i e next = subst (IsNext plan stimuli w id) (same_Some _ _ e) next
+  is j i e next = is-item (IsNext plan stimuli w id) j i next e
 
-  passes : (phase : Phase) (i : Item) → passing id (board_in plan w).view phase ≡ Some i → IsNext plan stimuli w id i
-  passes Phase.Off i e = is Item.On i (ap Some (opens _ _ _ e).1) tt
-  passes Phase.FirstGate i e = is (Item.Pass1 (agreement_in (board_in plan w).view.modes)) i (ap Some (opens _ _ _ e).1) tt
-  passes Phase.SecondGate i e = is (Item.Pass2 (board_in plan w).view.started) i (ap Some (opens _ _ _ e).1) tt
-  passes Phase.Drained i e = is Item.PassEnd i (ap Some (opens _ _ _ e).1) tt
-  passes phase i e = cc
-
-  pub follows : (phase : Phase) (ask : Ask) (i : Item) → IsOwnAsk (view_of plan id) (next_stimulus stimuli w id) (Some ask) → named_by id phase ask (answer_in plan w id ask) ≡ Some i → IsNext plan stimuli w id i
-  follows phase (OfBoard Look) i own e = passes phase i e
-  follows phase (OfBoard Drain) i own e = is Item.Drained i e own
-  follows phase (OfBoard (AskHalt status)) i own e = cc
-  follows phase (OfBoard call) i own e = is _ i e tt
-  follows phase (Room to) i own e = by (has_room plan w id to) e
+  pub follows : (watch : Watch) (ask : Ask) (i : Item) → IsOwnAsk (view_of plan id) (next_stimulus stimuli w id) (Some ask) → named_by id watch ask (answer_in plan w id ask) ≡ Some i → IsNext plan stimuli w id i
+  follows watch (OfBoard Look) i own e = passing-item (IsNext plan stimuli w id) tt (λ agreement. tt) (λ cores. tt) tt id (board_in plan w).view watch i e
+  follows watch (OfBoard Drain) i own e = is Item.Drained i e own
+  follows watch (OfBoard LookHalt) i own e = halted-item (IsNext plan stimuli w id) (λ asked. tt) (λ core status. tt) watch (board_in plan w).halt i e
+  follows watch (OfBoard call) i own e = is _ i e tt
+  follows watch (OfSpins wish) i own e = spun-item (IsNext plan stimuli w id) (λ l. tt) (λ l taken. tt) (λ l. tt) wish (spin_reply id (spin_call_of wish) (holders_in w)) i e
+  follows watch (Room to) i own e = by (has_room plan w id to) e
     where
-      by : (b : Bool) → named_by id phase (Room to) (HasRoom b) ≡ Some i → IsNext plan stimuli w id i
+      by : (b : Bool) → named_by id watch (Room to) (HasRoom b) ≡ Some i → IsNext plan stimuli w id i
       by true e = is (Item.Posted to) i e tt
       by false e = cc
-  follows phase (Oldest from) i own e = by (slice_get (posted id (history_in plan w from)) (received_count from (history_in plan w id))) refl e
+  follows watch (Oldest from) i own e = by (slice_get (posted id (history_in plan w from)) (received_count from (history_in plan w id))) refl e
     where
-      by : (o : Option Envelope) → slice_get (posted id (history_in plan w from)) (received_count from (history_in plan w id)) ≡ o → named_by id phase (Oldest from) (Found o) ≡ Some i → IsNext plan stimuli w id i
+      by : (o : Option Envelope) → slice_get (posted id (history_in plan w from)) (received_count from (history_in plan w id)) ≡ o → named_by id watch (Oldest from) (Found o) ≡ Some i → IsNext plan stimuli w id i
       by (Some x) at e = is (Item.Received from x.number x.message) i e at
       by None at e = cc
-  follows phase (StartUnknown k) i own e = is _ i e tt
-  follows phase (TakeStimulus s) i own e = is (Item.Stim s) i e own
+  follows watch (StartUnknown k) i own e = is _ i e tt
+  follows watch (TakeStimulus s) i own e = is (Item.Stim s) i e own
 
 -- A list's stimuli, and one more item.
 pub stimuli_in-push : (items : List Item) (item : Item) → stimuli_in (items ++ item ∷ []) ≡ stimuli_in items ++ stimuli_in (item ∷ [])

@@ -11,6 +11,7 @@ pub mod Turned
 pub mod Places
 pub mod Played
 pub mod Started
+pub mod Leading
 pub mod Fitting
 pub mod Fitted
 pub mod Ending

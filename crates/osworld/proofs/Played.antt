@@ -5,9 +5,8 @@ use Rattle.std.proofs.lemmas.List.{take_more, take_all}
 use Rattle.osbase.specs.declared.references.CoreId.{CoreId}
 use Rattle.osbase.specs.declared.turns.Choice.{Choice}
 use Rattle.osbase.specs.declared.turns.CoreStimuli.{CoreStimuli}
-use Rattle.osmail.specs.Mail.{Mail}
 use Rattle.osplan.specs.declared.plans.Plan.{Plan}
-use Rattle.osboard.specs.declared.calls.BoardState.{BoardState}
+use Rattle.osworld.specs.declared.answering.Between.{Between}
 use Rattle.osworld.specs.declared.seats.Seat.{Seat}
 use Rattle.osworld.specs.World.{World, turn, world_from, item_total, is_unchanged}
 use Rattle.osworld.specs.Runs.{AppendsAt}
@@ -39,9 +38,9 @@ changed-on a b c first second ab bc is_first is_second = by (nat_eq a b) (nat_eq
     by false false e f = rw (is_first, is_second, e, f) (grind (arith, nat_tests, e, f))
 
 -- turns, and turns after them
-pub played-append : (plan : Plan) (stimuli : List CoreStimuli) (w : World) (ts us : Turns) (first second : Bool) (seats seats' : List Seat) (mail mail' : Mail) (board board' : BoardState) → IsPlayed plan stimuli w ts first seats mail board
-    → ((v : World) → Plays plan stimuli v seats mail board → IsPlayed plan stimuli v us second seats' mail' board') → IsPlayed plan stimuli w (ts ++ us) (second || first) seats' mail' board'
-played-append plan stimuli w ts us first second seats seats' mail mail' board board' before next =
+pub played-append : (plan : Plan) (stimuli : List CoreStimuli) (w : World) (ts us : Turns) (first second : Bool) (seats seats' : List Seat) (between between' : Between) → IsPlayed plan stimuli w ts first seats between
+    → ((v : World) → Plays plan stimuli v seats between → IsPlayed plan stimuli v us second seats' between') → IsPlayed plan stimuli w (ts ++ us) (second || first) seats' between'
+played-append plan stimuli w ts us first second seats seats' between between' before next =
     let then = next (world_from plan stimuli w ts) before.plays in
     let joined = world_from-append plan stimuli w ts us in
     record {
@@ -50,25 +49,25 @@ played-append plan stimuli w ts us first second seats seats' mail mail' board bo
           (world_from-grows plan stimuli w ts) (world_from-grows plan stimuli (world_from plan stimuli w ts) us) before.tells then.tells);
     }
 
-pub played-more : (plan plan' : Plan) → plan' ≡ plan → (stimuli : List CoreStimuli) (w : World) (turns : Turns) (i : ℕ) (d : CoreId × Choice) (first second : Bool) (seats seats' : List Seat) (mail mail' : Mail) (board board' : BoardState) → i < length turns → IsPlayed plan stimuli w (take i turns) first seats mail board
-    → ((v : World) → Plays plan' stimuli v seats mail board → IsPlayed plan' stimuli v (get_or turns i d ∷ []) second seats' mail' board') → IsPlayed plan stimuli w (take (i + 1) turns) (second || first) seats' mail' board'
-played-more plan plan' same stimuli w turns i d first second seats seats' mail mail' board board' lt before next =
-    subst (λ (ts : Turns). IsPlayed plan stimuli w ts (second || first) seats' mail' board')
+pub played-more : (plan plan' : Plan) → plan' ≡ plan → (stimuli : List CoreStimuli) (w : World) (turns : Turns) (i : ℕ) (d : CoreId × Choice) (first second : Bool) (seats seats' : List Seat) (between between' : Between) → i < length turns → IsPlayed plan stimuli w (take i turns) first seats between
+    → ((v : World) → Plays plan' stimuli v seats between → IsPlayed plan' stimuli v (get_or turns i d ∷ []) second seats' between') → IsPlayed plan stimuli w (take (i + 1) turns) (second || first) seats' between'
+played-more plan plan' same stimuli w turns i d first second seats seats' between between' lt before next =
+    subst (λ (ts : Turns). IsPlayed plan stimuli w ts (second || first) seats' between')
     (sym (take_more turns i d lt))
-    (played-append plan stimuli w (take i turns) (get_or turns i d ∷ []) first second seats seats' mail mail' board board' before
-    (subst (λ (p : Plan). (v : World) → Plays p stimuli v seats mail board → IsPlayed p stimuli v (get_or turns i d ∷ []) second seats' mail' board') same next))
+    (played-append plan stimuli w (take i turns) (get_or turns i d ∷ []) first second seats seats' between between' before
+    (subst (λ (p : Plan). (v : World) → Plays p stimuli v seats between → IsPlayed p stimuli v (get_or turns i d ∷ []) second seats' between') same next))
 
-pub cut-before : (plan plan' : Plan) → plan' ≡ plan → (stimuli : List CoreStimuli) (w : World) (turns : Turns) (i : ℕ) (d : CoreId × Choice) (changed : Bool) (seats seats' : List Seat) (mail mail' : Mail) (board board' : BoardState) → i < length turns → IsPlayed plan stimuli w (take i turns) changed seats mail board
-    → ((v : World) → Plays plan' stimuli v seats mail board → IsCutShort plan' stimuli v (get_or turns i d ∷ []) seats' mail' board') → IsCutShort plan stimuli w turns seats' mail' board'
-cut-before plan plan' same stimuli w turns i d changed seats seats' mail mail' board board' lt before stops = by cut.before cut.within cut.appends cut.plays
+pub cut-before : (plan plan' : Plan) → plan' ≡ plan → (stimuli : List CoreStimuli) (w : World) (turns : Turns) (i : ℕ) (d : CoreId × Choice) (changed : Bool) (seats seats' : List Seat) (between between' : Between) → i < length turns → IsPlayed plan stimuli w (take i turns) changed seats between
+    → ((v : World) → Plays plan' stimuli v seats between → IsCutShort plan' stimuli v (get_or turns i d ∷ []) seats' between') → IsCutShort plan stimuli w turns seats' between'
+cut-before plan plan' same stimuli w turns i d changed seats seats' between between' lt before stops = by cut.before cut.within cut.appends cut.plays
   where
     here : World
     here = world_from plan stimuli w (take i turns)
 
-    cut : IsCutShort plan stimuli here (get_or turns i d ∷ []) seats' mail' board'
-    cut = subst (λ (p : Plan). (v : World) → Plays p stimuli v seats mail board → IsCutShort p stimuli v (get_or turns i d ∷ []) seats' mail' board') same stops here before.plays
+    cut : IsCutShort plan stimuli here (get_or turns i d ∷ []) seats' between'
+    cut = subst (λ (p : Plan). (v : World) → Plays p stimuli v seats between → IsCutShort p stimuli v (get_or turns i d ∷ []) seats' between') same stops here before.plays
 
-    by : (n : ℕ) → n < 1 → AppendsAt plan stimuli here (get_or turns i d ∷ []) n → Plays plan stimuli (world_from plan stimuli here (take n (get_or turns i d ∷ []))) seats' mail' board' → IsCutShort plan stimuli w turns seats' mail' board'
+    by : (n : ℕ) → n < 1 → AppendsAt plan stimuli here (get_or turns i d ∷ []) n → Plays plan stimuli (world_from plan stimuli here (take n (get_or turns i d ∷ []))) seats' between' → IsCutShort plan stimuli w turns seats' between'
     by zero first appends plays = record {
       before = i;
       within = lt;
@@ -77,8 +76,8 @@ cut-before plan plan' same stimuli w turns i d changed seats seats' mail mail' b
     }
     by (suc n) later appends plays = absurd (omega (arith, later))
 
-pub played-all : (plan : Plan) (stimuli : List CoreStimuli) (w : World) (turns : Turns) (i : ℕ) (changed : Bool) (seats : List Seat) (mail : Mail) (board : BoardState) → length turns ≤ i → IsPlayed plan stimuli w (take i turns) changed seats mail board → IsPlayed plan stimuli w turns changed seats mail board
-played-all plan stimuli w turns i changed seats mail board le played = subst (λ (ts : Turns). IsPlayed plan stimuli w ts changed seats mail board) (take_all i turns le) played
+pub played-all : (plan : Plan) (stimuli : List CoreStimuli) (w : World) (turns : Turns) (i : ℕ) (changed : Bool) (seats : List Seat) (between : Between) → length turns ≤ i → IsPlayed plan stimuli w (take i turns) changed seats between → IsPlayed plan stimuli w turns changed seats between
+played-all plan stimuli w turns i changed seats between le played = subst (λ (ts : Turns). IsPlayed plan stimuli w ts changed seats between) (take_all i turns le) played
 
-pub played-none : (plan : Plan) (stimuli : List CoreStimuli) (w : World) (seats : List Seat) (mail : Mail) (board : BoardState) → Plays plan stimuli w seats mail board → IsPlayed plan stimuli w [] false seats mail board
-played-none plan stimuli w seats mail board plays = record { plays = plays; tells = grind (arith, nat_tests) }
+pub played-none : (plan : Plan) (stimuli : List CoreStimuli) (w : World) (seats : List Seat) (between : Between) → Plays plan stimuli w seats between → IsPlayed plan stimuli w [] false seats between
+played-none plan stimuli w seats between plays = record { plays = plays; tells = grind (arith, nat_tests) }

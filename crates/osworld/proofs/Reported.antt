@@ -10,12 +10,11 @@ use Rattle.osbase.specs.declared.turns.Choice.{Choice}
 use Rattle.osbase.specs.declared.turns.CoreStimuli.{CoreStimuli}
 use Rattle.osbase.specs.declared.turns.Report.{Report}
 use Rattle.osbase.specs.Runs.{AreKnown}
-use Rattle.osmail.specs.Mail.{Mail}
+use Rattle.osworld.specs.declared.answering.Between.{Between}
 use Rattle.osplan.specs.declared.plans.Plan.{Plan}
 use Rattle.osplan.specs.Limits.{is_within_limits}
 use Rattle.osplan.specs.View.{view_of}
 use Rattle.osstate.specs.State.{KernelState}
-use Rattle.osboard.specs.declared.calls.BoardState.{BoardState}
 use Rattle.osworld.specs.declared.seats.Seat.{Seat}
 use Rattle.osworld.specs.Fits.{Fits, ids_of}
 use Rattle.osworld.specs.Sound.{IsOwn, lists_in, report_by}
@@ -61,8 +60,8 @@ each-own plan stimuli (s ∷ ss) seated =
     )
 
 -- turns from the beginning
-pub reports-played : (plan : Plan) → IsTrue (is_within_limits plan) → (stimuli : List CoreStimuli) → AreKnown stimuli → (turns : List (CoreId × Choice)) (seats : List Seat) (mail : Mail) (board : BoardState) → Plays plan stimuli (world plan stimuli turns) seats mail board → AreReports plan stimuli turns (map report_of seats)
-reports-played plan limits stimuli known turns seats mail board plays =
+pub reports-played : (plan : Plan) → IsTrue (is_within_limits plan) → (stimuli : List CoreStimuli) → AreKnown stimuli → (turns : List (CoreId × Choice)) (seats : List Seat) (between : Between) → Plays plan stimuli (world plan stimuli turns) seats between → AreReports plan stimuli turns (map report_of seats)
+reports-played plan limits stimuli known turns seats between plays =
     let lists : lists_in (map report_of seats) ≡ (world plan stimuli turns).items = map-map (λ (r : Report). (r.core, r.items)) report_of seats ∙ sym plays.lists in
     let fits : Fits plan stimuli (lists_in (map report_of seats)) = subst (Fits plan stimuli) (sym lists) (world_fits plan stimuli turns) in
     record {
@@ -76,13 +75,13 @@ reports-played plan limits stimuli known turns seats mail board plays =
     }
 
 -- turns that were played from the beginning, and turns before which memory was wanting
-module _ (plan plan' : Plan) (same : plan' ≡ plan) (limits : IsTrue (is_within_limits plan)) (stimuli : List CoreStimuli) (known : AreKnown stimuli) (turns : List (CoreId × Choice)) (seats seats' : List Seat) (mail mail' : Mail) (board board' : BoardState) (begun : Plays plan stimuli (first_world plan) seats mail board) where
-  pub reported-played : (changed : Bool) → ((w : World) → Plays plan' stimuli w seats mail board → IsPlayed plan' stimuli w turns changed seats' mail' board') → AreReports plan stimuli turns (map report_of seats')
+module _ (plan plan' : Plan) (same : plan' ≡ plan) (limits : IsTrue (is_within_limits plan)) (stimuli : List CoreStimuli) (known : AreKnown stimuli) (turns : List (CoreId × Choice)) (seats seats' : List Seat) (between between' : Between) (begun : Plays plan stimuli (first_world plan) seats between) where
+  pub reported-played : (changed : Bool) → ((w : World) → Plays plan' stimuli w seats between → IsPlayed plan' stimuli w turns changed seats' between') → AreReports plan stimuli turns (map report_of seats')
   reported-played changed played =
-      reports-played plan limits stimuli known turns seats' mail' board'
-      (subst (λ (p : Plan). (w : World) → Plays p stimuli w seats mail board → IsPlayed p stimuli w turns changed seats' mail' board') same played (first_world plan) begun).plays
+      reports-played plan limits stimuli known turns seats' between'
+      (subst (λ (p : Plan). (w : World) → Plays p stimuli w seats between → IsPlayed p stimuli w turns changed seats' between') same played (first_world plan) begun).plays
 
-  pub reported-cut : ((w : World) → Plays plan' stimuli w seats mail board → IsCutShort plan' stimuli w turns seats' mail' board') → (before : ℕ) × (before < length turns) × AppendsAt plan stimuli (first_world plan) turns before × AreReports plan stimuli (take before turns) (map report_of seats')
+  pub reported-cut : ((w : World) → Plays plan' stimuli w seats between → IsCutShort plan' stimuli w turns seats' between') → (before : ℕ) × (before < length turns) × AppendsAt plan stimuli (first_world plan) turns before × AreReports plan stimuli (take before turns) (map report_of seats')
   reported-cut cut =
-      let short = subst (λ (p : Plan). (w : World) → Plays p stimuli w seats mail board → IsCutShort p stimuli w turns seats' mail' board') same cut (first_world plan) begun in
-      (short.before, short.within, short.appends, reports-played plan limits stimuli known (take short.before turns) seats' mail' board' short.plays)
+      let short = subst (λ (p : Plan). (w : World) → Plays p stimuli w seats between → IsCutShort p stimuli w turns seats' between') same cut (first_world plan) begun in
+      (short.before, short.within, short.appends, reports-played plan limits stimuli known (take short.before turns) seats' between' short.plays)

@@ -1,4 +1,4 @@
--- The seats, the mailboxes and the board before the first turn.
+-- The seats, and what stands between the cores, before the first turn.
 use Rattle.std.proofs.Common.{◌≡◌, ℕ, ◌+◌, ◌*◌, ◌<◌, ◌≤◌, Bool, true, false, cond, Some, is_some, List, [], ◌∷◌, ◌++◌, map, take, drop, refl, sym, ap, ◌∙◌, arith, filter, append-nil}
 use Rattle.std.specs.List.{All}
 use Rattle.std.specs.Option.{option_map_or}
@@ -20,8 +20,9 @@ use Rattle.osbase.proofs.Tables.{table-at}
 use Rattle.osstate.specs.State.{state_of}
 use Rattle.oskernel.specs.Step.{history_from}
 use Rattle.osworld.specs.declared.seats.Seat.{Seat}
-use Rattle.osboard.specs.declared.calls.BoardState.{BoardState}
 use Rattle.osboard.specs.Boards.{first_board}
+use Rattle.osspin.specs.Spins.{no_holders}
+use Rattle.osworld.specs.declared.answering.Between.{Between}
 use Rattle.osworld.specs.Fits.{ids_of}
 use Rattle.osworld.specs.World.{first_world, history_in}
 use Rattle.osworld.specs.Playing.{IsMail, IsSeated, lists_of, Plays}
@@ -94,12 +95,13 @@ module _ (plan : Plan) where
   })
 
 -- all 16 numbers were looked at
-pub started-all : (plan : Plan) (stimuli : List CoreStimuli) (seats : List Seat) (n : ℕ) (mail : Mail) (board : BoardState) → All (IsSeated plan stimuli) seats → lists_of seats ≡ lists_below plan n → 16 ≤ n → n ≤ 16 → mail ≡ empty_mail plan.cap → board ≡ first_board plan.master → Plays plan stimuli (first_world plan) seats mail board
-started-all plan stimuli seats n mail board seated lists low high is_mail is_board = record {
+pub started-all : (plan : Plan) (stimuli : List CoreStimuli) (seats : List Seat) (n : ℕ) (between : Between) → All (IsSeated plan stimuli) seats → lists_of seats ≡ lists_below plan n → 16 ≤ n → n ≤ 16 → between.mail ≡ empty_mail plan.cap → between.board ≡ first_board plan.master → between.spins ≡ no_holders → Plays plan stimuli (first_world plan) seats between
+started-all plan stimuli seats n between seated lists low high is_mail is_board is_free = record {
   seated = seated;
   lists = let whole : n ≡ 16 = omega arith in sym (lists ∙ ap (lists_below plan) whole);
-  carries = no_mail plan mail is_mail;
+  carries = no_mail plan between.mail is_mail;
   shown = is_board;
+  held = is_free;
 }
 
 -- one seat more

@@ -10,34 +10,38 @@ use Rattle.osbase.specs.declared.turns.Choice.{Choice}
 use Rattle.osbase.specs.declared.turns.CoreStimuli.{CoreStimuli}
 use Rattle.osbase.specs.History.{History}
 use Rattle.osbase.specs.Runs.{stimuli_of}
-use Rattle.osmail.specs.Mail.{Mail}
 use Rattle.osplan.specs.declared.plans.Plan.{Plan}
 use Rattle.osplan.specs.View.{View, view_of}
 use Rattle.osstate.specs.State.{KernelState, state_of}
 use Rattle.osstate.specs.Does.{Does, Tracks}
 use Rattle.oskernel.specs.Step.{after, solo, takes, outbox_size}
 use Rattle.oskernel.specs.Wants.{front_of}
-use Rattle.osboard.specs.declared.calls.BoardState.{BoardState}
 use Rattle.osworld.specs.declared.seats.Seat.{Seat}
 use Rattle.osseat.specs.Histories.{entry, state_after}
 use Rattle.osseat.proofs.Steps.{after_snoc}
 use Rattle.osboard.specs.Boards.{board_reply, first_board, one_board}
+use Rattle.osspin.specs.Spins.{no_holders, spin_reply, spinlocks}
+use Rattle.osworld.specs.declared.answering.Between.{Between}
 use Rattle.osworld.specs.declared.asks.Ask.{Ask}
-use Rattle.osworld.specs.declared.asks.Ask.TheVariants.{OfBoard}
-use Rattle.osworld.specs.Asking.{told_by}
+use Rattle.osworld.specs.declared.asks.Ask.TheVariants.{OfBoard, OfSpins}
+use Rattle.osworld.specs.Asking.{spin_call_of, told_by}
 use Rattle.osworld.specs.Fits.{history_by}
-use Rattle.osworld.specs.World.{World, answer_in, appends, board_in, history_in, items_in, next_in, stimulus_count, turn, turn_by, with_item, item_total}
-use Rattle.osworld.specs.Answering.{carried, IsPlaced, left_after, next_by, told}
+use Rattle.osworld.specs.World.{World, answer_in, appends, board_in, history_in, holders_in, items_in, next_in, stimulus_count, turn, turn_by, with_item, item_total}
+use Rattle.osworld.specs.Answering.{board_told, carried, IsPlaced, left_after, next_by, settled, spins_told}
 use Rattle.osworld.specs.Playing.{IsMail, IsSeated, lists_of, Plays}
 use Rattle.osworld.proofs.Listed.{is_seat_of, items_by, list_of, list_of-nobody, list_of-seat, lists_of-set, history_from-push, total-push}
 use Rattle.osworld.proofs.Carrying.{carries_on}
 use Rattle.osworld.proofs.Fitting.{solo-push}
 use Rattle.osworld.proofs.Agreed.{next-agrees}
 
--- the board after one more call
-told-on : (core : CoreId) (plan : Plan) (w : World) (ask : Ask) → told core ask (board_in plan w) ≡ state_after one_board (first_board plan.master) (w.calls ++ told_by core ask (answer_in plan w core ask))
-told-on core plan w (OfBoard call) = sym (after_snoc one_board (first_board plan.master) w.calls (entry core call (board_reply core call (board_in plan w))))
-told-on core plan w ask = ap (state_after one_board (first_board plan.master)) (sym (append-nil w.calls))
+-- the board and the spinlocks after one more call
+board-told : (core : CoreId) (plan : Plan) (w : World) (ask : Ask) → board_told core ask (board_in plan w) ≡ state_after one_board (first_board plan.master) (w.calls.board ++ (told_by core ask (answer_in plan w core ask)).board)
+board-told core plan w (OfBoard call) = sym (after_snoc one_board (first_board plan.master) w.calls.board (entry core call (board_reply core call (board_in plan w))))
+board-told core plan w ask = ap (state_after one_board (first_board plan.master)) (sym (append-nil w.calls.board))
+
+spins-told : (core : CoreId) (plan : Plan) (w : World) (ask : Ask) → spins_told core ask (holders_in w) ≡ state_after spinlocks no_holders (w.calls.spins ++ (told_by core ask (answer_in plan w core ask)).spins)
+spins-told core plan w (OfSpins wish) = sym (after_snoc spinlocks no_holders w.calls.spins (entry core (spin_call_of wish) (spin_reply core (spin_call_of wish) (holders_in w))))
+spins-told core plan w ask = ap (state_after spinlocks no_holders) (sym (append-nil w.calls.spins))
 
 -- the stimuli that are left after one more item
 stimulus_count-push : (items : List Item) (item : Item) → stimulus_count (items ++ item ∷ []) ≡ stimulus_count items + stimulus_count (item ∷ [])
@@ -81,9 +85,9 @@ turn-nobody plan stimuli w seats core choice lists past =
     ap (λ (o : Option (CoreId × List Item)). cond (is_some o) (turn_by plan w core (next_in plan stimuli w core choice)) w) (ap (list_of core) lists ∙ list_of-nobody core seats past)
 
 -- the turn of a seat
-module _ (plan : Plan) (stimuli : List CoreStimuli) (w : World) (seats : List Seat) (mail : Mail) (board : BoardState) (plays : Plays plan stimuli w seats mail board) (choice : Choice) (at : ℕ) (seat : Seat) (here : at ≡ position_or_len (is_seat_of seat.id) seats) (within : at < length seats) (is : get_or seats at seat ≡ seat) where
+module _ (plan : Plan) (stimuli : List CoreStimuli) (w : World) (seats : List Seat) (between : Between) (plays : Plays plan stimuli w seats between) (choice : Choice) (at : ℕ) (seat : Seat) (here : at ≡ position_or_len (is_seat_of seat.id) seats) (within : at < length seats) (is : get_or seats at seat ≡ seat) where
   abbrev named_here : Option (Ask × Item)
-  named_here = next_by plan board mail seat.id seat.stimuli.now seat.kernel choice
+  named_here = next_by plan between seat.id seat.stimuli.now seat.kernel choice
 
   abbrev past : History
   past = history_by plan seat.id seat.items.items
@@ -109,7 +113,7 @@ module _ (plan : Plan) (stimuli : List CoreStimuli) (w : World) (seats : List Se
   turns : turn plan stimuli w (seat.id, choice) ≡ turn_by plan w seat.id named_here
   turns =
       ap (λ (o : Option (CoreId × List Item)). cond (is_some o) (turn_by plan w seat.id (next_in plan stimuli w seat.id choice)) w) listed
-      ∙ ap (turn_by plan w seat.id) (next-agrees plan w seat.id seat.known mail plays.carries board plays.shown seats plays.lists stimuli seat.stimuli.now left seat.kernel kernel choice)
+      ∙ ap (turn_by plan w seat.id) (next-agrees plan w seat.id seat.known between plays.carries plays.shown plays.held seats plays.lists stimuli seat.stimuli.now left seat.kernel kernel choice)
 
   pub turn-nothing : named_here ≡ None → turn plan stimuli w (seat.id, choice) ≡ w
   turn-nothing nothing = turns ∙ ap (turn_by plan w seat.id) nothing
@@ -129,7 +133,7 @@ module _ (plan : Plan) (stimuli : List CoreStimuli) (w : World) (seats : List Se
         ap item_total (by_taking ∙ ap (λ (b : Bool). cond b (appends plan w seat.id ask item) w) taken)
         ∙ total-push seat.id item w.items (seat.id, seat.items.items) listed
 
-    module _ (new : Seat) (took : Took seat new item) (placed : IsPlaced mail seat.id item) where
+    module _ (new : Seat) (took : Took seat new item) (placed : IsPlaced between.mail seat.id item) where
       seats-on : takes outbox_size (view_of plan seat.id) past item ≡ true → All (IsSeated plan stimuli) (set seats at new)
       seats-on taken = All-set (IsSeated plan stimuli) seats at new (seated-on plan stimuli seat new item seated taken took) plays.seated
 
@@ -138,16 +142,19 @@ module _ (plan : Plan) (stimuli : List CoreStimuli) (w : World) (seats : List Se
           ap (with_item seat.id item) plays.lists
           ∙ lists_of-set seat.id item seats at new seat here within (took.id ∙ ap (λ (s : Seat). s.id) (sym is)) (took.items ∙ ap (λ (s : Seat). s.items.items ++ item ∷ []) (sym is))
 
-      carries-on : IsMail plan (appends plan w seat.id ask item) (carried seat.id (front_of seat.kernel.border.outbox) item mail)
+      carries-on : IsMail plan (appends plan w seat.id ask item) (carried seat.id (front_of seat.kernel.border.outbox) item between.mail)
       carries-on =
-          subst (λ (s : KernelState). IsMail plan (appends plan w seat.id ask item) (carried seat.id (front_of s.border.outbox) item mail)) (sym kernel)
-          (carries_on plan w seat.id ask item (seat.id, seat.items.items) listed mail plays.carries seat.known placed)
+          subst (λ (s : KernelState). IsMail plan (appends plan w seat.id ask item) (carried seat.id (front_of s.border.outbox) item between.mail)) (sym kernel)
+          (carries_on plan w seat.id ask item (seat.id, seat.items.items) listed between.mail plays.carries seat.known placed)
 
-      board-on : told seat.id ask board ≡ board_in plan (appends plan w seat.id ask item)
-      board-on = ap (told seat.id ask) plays.shown ∙ told-on seat.id plan w ask
+      board-on : board_told seat.id ask between.board ≡ board_in plan (appends plan w seat.id ask item)
+      board-on = ap (board_told seat.id ask) plays.shown ∙ board-told seat.id plan w ask
 
-      pub turn-taken : takes outbox_size (view_of plan seat.id) past item ≡ true → Plays plan stimuli (turn plan stimuli w (seat.id, choice)) (set seats at new) (carried seat.id (front_of seat.kernel.border.outbox) item mail) (told seat.id ask board)
+      spins-on : spins_told seat.id ask between.spins ≡ holders_in (appends plan w seat.id ask item)
+      spins-on = ap (spins_told seat.id ask) plays.held ∙ spins-told seat.id plan w ask
+
+      pub turn-taken : takes outbox_size (view_of plan seat.id) past item ≡ true → Plays plan stimuli (turn plan stimuli w (seat.id, choice)) (set seats at new) (settled seat.id ask (front_of seat.kernel.border.outbox) item between)
       turn-taken taken =
-          subst (λ (next : World). Plays plan stimuli next (set seats at new) (carried seat.id (front_of seat.kernel.border.outbox) item mail) (told seat.id ask board))
+          subst (λ (next : World). Plays plan stimuli next (set seats at new) (settled seat.id ask (front_of seat.kernel.border.outbox) item between))
           (sym (by_taking ∙ ap (λ (b : Bool). cond b (appends plan w seat.id ask item) w) taken))
-          (record { seated = seats-on taken; lists = lists-on; carries = carries-on; shown = board-on })
+          (record { seated = seats-on taken; lists = lists-on; carries = carries-on; shown = board-on; held = spins-on })

@@ -7,8 +7,8 @@ use Rattle.osbase.specs.declared.turns.CoreStimuli.{CoreStimuli}
 use Rattle.osplan.specs.declared.plans.Plan.{Plan}
 use Rattle.osbase.specs.History.{History}
 use Rattle.osplan.specs.View.{View, view_of}
-use Rattle.osstate.specs.Readings.{phase_at}
 use Rattle.oskernel.specs.Step.{takes, outbox_size}
+use Rattle.oskernel.specs.Wants.{watch_of}
 use Rattle.osworld.specs.declared.asks.Ask.{Ask}
 use Rattle.osworld.specs.Asking.{asked, comes_to, named}
 use Rattle.osworld.specs.World.{World, answer_in, appends, history_in, next_in, next_stimulus, turn, turn_by, world_from}
@@ -40,7 +40,7 @@ module _ (plan : Plan) (stimuli : List CoreStimuli) (P : World → Type 0) (keep
       named_keeps p listed ask asks None names = has
       named_keeps p listed ask asks (Some item) names = item_keeps p listed ask asks item names (takes outbox_size view past item) refl
 
-      asked_keeps : (p : CoreId × List Item) → list_of t.0 w.items ≡ Some p → (o : Option Ask) → asked view past (next_stimulus stimuli w t.0) t.1 ≡ o → P (turn_by plan w t.0 (comes_to t.0 (phase_at view past) (answer_in plan w t.0) o))
+      asked_keeps : (p : CoreId × List Item) → list_of t.0 w.items ≡ Some p → (o : Option Ask) → asked view past (next_stimulus stimuli w t.0) t.1 ≡ o → P (turn_by plan w t.0 (comes_to t.0 (watch_of view past) (answer_in plan w t.0) o))
       asked_keeps p listed None asks = has
       asked_keeps p listed (Some ask) asks = named_keeps p listed ask asks (named view past ask (answer_in plan w t.0 ask)) refl
 

@@ -1,6 +1,6 @@
--- What a turn names and changes, said of what a listed run holds in memory: the cores' kernels, the mailboxes and
--- the board. It is what the world's definition names where memory holds what that definition reads off the items. Who
--- reads what a run promises needs none of it. [own]
+-- What a turn names and changes, said of what a listed run holds in memory: the cores' kernels, and what stands between
+-- them, the mailboxes, the board and the spinlocks. It is what the world's definition names where memory holds what that
+-- definition reads off the items. Who reads what a run promises needs none of it. [own]
 use Rattle.std.specs.Prelude.{◌<◌, ◌&&◌, nat_lt, if◌then◌else◌, IsTrue, Option, None, IsSome, List, drop, slice_get}
 use Rattle.std.specs.Option.{option_map_or}
 use Rattle.osbase.specs.declared.references.CoreId.{CoreId}
@@ -13,25 +13,28 @@ use Rattle.osmail.specs.Mail.{Mail, has_room, oldest_of, after_send, after_take}
 use Rattle.osplan.specs.declared.plans.Plan.{Plan}
 use Rattle.osplan.specs.View.{view_of}
 use Rattle.osstate.specs.State.{KernelState}
-use Rattle.oskernel.specs.Wants.{want_in}
+use Rattle.oskernel.specs.Wants.{want_in, watch_in}
 use Rattle.osboard.specs.declared.calls.BoardState.{BoardState}
 use Rattle.osboard.specs.Boards.{board_after, board_reply}
+use Rattle.osspin.specs.Spins.{holders_after, spin_reply}
 use Rattle.osworld.specs.declared.asks.Ask.{Ask}
-use Rattle.osworld.specs.declared.asks.Ask.TheVariants.{OfBoard, Room, Oldest}
+use Rattle.osworld.specs.declared.asks.Ask.TheVariants.{OfBoard, OfSpins, Room, Oldest}
 use Rattle.osworld.specs.declared.asks.Answer.{Answer}
-use Rattle.osworld.specs.declared.asks.Answer.TheVariants.{Replied, HasRoom, Found, Unasked}
-use Rattle.osworld.specs.Asking.{asked_by, comes_to}
+use Rattle.osworld.specs.declared.asks.Answer.TheVariants.{Replied, Spun, HasRoom, Found, Unasked}
+use Rattle.osworld.specs.declared.answering.Between.{Between}
+use Rattle.osworld.specs.Asking.{asked_by, comes_to, spin_call_of}
 
 -- What a core's turn is answered, what it asks, and the item that it names.
-abbrev pub answer_by : BoardState → Mail → CoreId → Ask → Answer
-answer_by board mail id (OfBoard call) = Replied (board_reply id call board)
-answer_by board mail id (Room to) = HasRoom (nat_lt to.number CORES && has_room mail id to)
-answer_by board mail id (Oldest from) = Found (if nat_lt from.number CORES then oldest_of mail from id else None)
-answer_by board mail id ask = Unasked
+abbrev pub answer_by : Between → CoreId → Ask → Answer
+answer_by between id (OfBoard call) = Replied (board_reply id call between.board)
+answer_by between id (OfSpins wish) = Spun (spin_reply id (spin_call_of wish) between.spins)
+answer_by between id (Room to) = HasRoom (nat_lt to.number CORES && has_room between.mail id to)
+answer_by between id (Oldest from) = Found (if nat_lt from.number CORES then oldest_of between.mail from id else None)
+answer_by between id ask = Unasked
 
-abbrev pub next_by : Plan → BoardState → Mail → CoreId → List Stimulus → KernelState → Choice → Option (Ask × Item)
-next_by plan board mail id stimuli s choice =
-    comes_to id s.progress.phase (answer_by board mail id) (asked_by (view_of plan id) (want_in s) s.progress.phase (slice_get stimuli 0) choice)
+abbrev pub next_by : Plan → Between → CoreId → List Stimulus → KernelState → Choice → Option (Ask × Item)
+next_by plan between id stimuli s choice =
+    comes_to id (watch_in s) (answer_by between id) (asked_by (view_of plan id) (want_in s) (watch_in s) (slice_get stimuli 0) choice)
 
 -- The mailbox that an item uses is there, with room for what is posted, and with something to be received.
 abbrev pub IsPlaced : Mail → CoreId → Item → Type 0
@@ -39,16 +42,27 @@ IsPlaced mail id (Item.Posted to) = (to.number < CORES) × IsTrue (has_room mail
 IsPlaced mail id (Item.Received from number message) = (from.number < CORES) × IsSome (oldest_of mail from id)
 IsPlaced mail id item = Unit {0}
 
--- The board after the turn.
-abbrev pub told : CoreId → Ask → BoardState → BoardState
-told core (OfBoard call) board = board_after core call board
-told core ask board = board
+-- The board and the spinlocks after the turn.
+abbrev pub board_told : CoreId → Ask → BoardState → BoardState
+board_told core (OfBoard call) board = board_after core call board
+board_told core ask board = board
+
+abbrev pub spins_told : CoreId → Ask → List (Option CoreId) → List (Option CoreId)
+spins_told core (OfSpins wish) holders = holders_after core (spin_call_of wish) holders
+spins_told core ask holders = holders
 
 -- The mailboxes after it: a post puts the outbox's front into one, and what is received leaves one.
 abbrev pub carried : CoreId → Option (CoreId × Envelope) → Item → Mail → Mail
 carried core front (Item.Posted to) mail = option_map_or (λ (f : CoreId × Envelope). after_send mail core to f.1) front mail
 carried core front (Item.Received from number message) mail = after_take mail from core
 carried core front item mail = mail
+
+-- What the turn told, and all that it changed.
+abbrev pub told : CoreId → Ask → Between → Between
+told core ask between = record { mail = between.mail; board = board_told core ask between.board; spins = spins_told core ask between.spins }
+
+abbrev pub settled : CoreId → Ask → Option (CoreId × Envelope) → Item → Between → Between
+settled core ask front item between = record (told core ask between) { mail = carried core front item between.mail }
 
 -- The stimuli that are left after it.
 abbrev pub left_after : Item → List Stimulus → List Stimulus

@@ -13,11 +13,12 @@ use Rattle.osplan.specs.declared.plans.Plan.{Plan}
 use Rattle.osplan.specs.View.{View, core_of, view_of}
 use Rattle.osbase.specs.Sets.{core_ids}
 use Rattle.oskernel.specs.Step.{after, history_from, solo}
-use Rattle.osseat.specs.Histories.{IsLegal, calls_by}
-use Rattle.osboard.specs.Boards.{BoardEntry, one_board}
+use Rattle.osseat.specs.Histories.{IsLegal}
+use Rattle.osboard.specs.Boards.{one_board}
+use Rattle.osspin.specs.Spins.{spinlocks}
 use Rattle.osworld.specs.declared.asks.Ask.{Ask}
 use Rattle.osworld.specs.declared.asks.Answer.{Answer}
-use Rattle.osworld.specs.Asking.{asked, named, told_by}
+use Rattle.osworld.specs.Asking.{Calls, asked, calls_of, joined, named, no_calls, told_by}
 
 -- The configured cores, ascending. [own]
 abbrev pub ids_of : Plan → List CoreId
@@ -62,21 +63,23 @@ pub record Leads (v : View) (h : History) (ask : Ask) (answer : Answer) (item : 
   pub asks : asked v h next choice ≡ Some ask
   pub names : named v h ask answer ≡ Some item
 
--- To each of these items in turn an answer leads, and those of the board are these calls, in order.
-abbrev pub AreAnswered : View → History → List Item → List BoardEntry → Type 0
-AreAnswered v h [] calls = calls ≡ []
+-- To each of these items in turn an answer leads, and those of the board and the spinlocks are these calls, in order.
+abbrev pub AreAnswered : View → History → List Item → Calls → Type 0
+AreAnswered v h [] calls = calls ≡ no_calls
 AreAnswered v h (i ∷ is) calls =
     (ask : Ask) × (answer : Answer) × Leads v h ask answer i
-    × (rest : List BoardEntry) × (calls ≡ told_by v.core ask answer ++ rest) × AreAnswered v (after v h i) is rest
+    × (rest : Calls) × (calls ≡ joined (told_by v.core ask answer) rest) × AreAnswered v (after v h i) is rest
 
--- The lists fit by this one history of the board: each core's items do; what one core received from another begins what
--- that one posted; the history is legal, and in it each core's calls stand once each, in its order.
-pub record FitsBy (plan : Plan) (stimuli : List CoreStimuli) (lists : List (CoreId × List Item)) (calls : List BoardEntry) : Type 0 where
+-- The lists fit by one history of the board and one of the spinlocks: each core's items do; what one core received from
+-- another begins what that one posted; the histories are legal, and in them each core's calls stand once each, in its
+-- order.
+pub record FitsBy (plan : Plan) (stimuli : List CoreStimuli) (lists : List (CoreId × List Item)) (calls : Calls) : Type 0 where
   pub cores : (id : CoreId) → FitsCore plan stimuli id (items_of lists id)
   pub streams : (from to : CoreId) → IsBeginning (received from (history_by plan to (items_of lists to))) (posted to (history_by plan from (items_of lists from)))
-  pub board : IsLegal one_board plan.master calls
-  pub answers : (id : CoreId) → AreAnswered (view_of plan id) [] (items_of lists id) (calls_by id calls)
+  pub board : IsLegal one_board plan.master calls.board
+  pub spins : IsLegal spinlocks tt calls.spins
+  pub answers : (id : CoreId) → AreAnswered (view_of plan id) [] (items_of lists id) (calls_of id calls)
 
--- The lists fit: there is such a history.
+-- The lists fit: there are such histories.
 abbrev pub Fits : Plan → List CoreStimuli → List (CoreId × List Item) → Type 0
-Fits plan stimuli lists = (calls : List BoardEntry) × FitsBy plan stimuli lists calls
+Fits plan stimuli lists = (calls : Calls) × FitsBy plan stimuli lists calls

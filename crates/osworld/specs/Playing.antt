@@ -15,16 +15,17 @@ use Rattle.osplan.specs.declared.plans.Plan.{Plan}
 use Rattle.osplan.specs.View.{view_of}
 use Rattle.osstate.specs.Does.{Tracks}
 use Rattle.oskernel.specs.Step.{solo}
-use Rattle.osboard.specs.declared.calls.BoardState.{BoardState}
+use Rattle.oskernel.specs.Wants.{watch_in}
 use Rattle.osworld.specs.declared.asks.Ask.{Ask}
 use Rattle.osworld.specs.declared.asks.Answer.{Answer}
+use Rattle.osworld.specs.declared.answering.Between.{Between}
 use Rattle.osworld.specs.declared.seats.Seat.{Seat}
 use Rattle.osworld.specs.declared.worlds.World.{World as Run}
 use Rattle.osworld.specs.Answering.{next_by}
 use Rattle.osworld.specs.Asking.{leads_to}
 use Rattle.osworld.specs.Fits.{history_by}
 use Rattle.osworld.specs.Runs.{AppendsAt, HasAtLeast, default_turns, is_default, is_ended_phase, round_of}
-use Rattle.osworld.specs.World.{World, board_in, first_world, history_in, is_unchanged, stimulus_count, world, world_from}
+use Rattle.osworld.specs.World.{World, board_in, first_world, history_in, holders_in, is_unchanged, stimulus_count, world, world_from}
 
 -- The report of a seat.
 abbrev pub report_of : Seat → Report
@@ -55,66 +56,67 @@ pub record IsMail (plan : Plan) (w : World) (mail : Mail) : Type 0 where
   pub boxes : (from to : CoreId) → from.number < CORES → to.number < CORES → box_of mail from to ≡ waiting plan w from to
   pub order : (from to : CoreId) → received_count from (history_in plan w to) ≤ length (posted to (history_in plan w from))
 
--- The seats, the mailboxes and the board stand for this world.
-pub record Plays (plan : Plan) (stimuli : List CoreStimuli) (w : World) (seats : List Seat) (mail : Mail) (board : BoardState) : Type 0 where
+-- The seats, the mailboxes, the board and the spinlocks stand for this world.
+pub record Plays (plan : Plan) (stimuli : List CoreStimuli) (w : World) (seats : List Seat) (between : Between) : Type 0 where
   pub seated : All (IsSeated plan stimuli) seats
   pub lists : w.items ≡ lists_of seats
-  pub carries : IsMail plan w mail
-  pub shown : board ≡ board_in plan w
+  pub carries : IsMail plan w between.mail
+  pub shown : between.board ≡ board_in plan w
+  pub held : between.spins ≡ holders_in w
 
 -- The run in memory stands for this world.
 abbrev pub StandsFor : List CoreStimuli → World → Run → Type 0
-StandsFor stimuli w run = Plays run.config.now stimuli w run.seats.items run.mail run.board
+StandsFor stimuli w run = Plays run.config.now stimuli w run.seats.items run.between
 
 -- Turns of a run are the world's turns, and the answer says whether one of them appended an item.
-pub record IsPlayed (plan : Plan) (stimuli : List CoreStimuli) (w : World) (turns : List (CoreId × Choice)) (changed : Bool) (seats : List Seat) (mail : Mail) (board : BoardState) : Type 0 where
-  pub plays : Plays plan stimuli (world_from plan stimuli w turns) seats mail board
+pub record IsPlayed (plan : Plan) (stimuli : List CoreStimuli) (w : World) (turns : List (CoreId × Choice)) (changed : Bool) (seats : List Seat) (between : Between) : Type 0 where
+  pub plays : Plays plan stimuli (world_from plan stimuli w turns) seats between
   pub tells : changed ≡ not (is_unchanged w (world_from plan stimuli w turns))
 
 -- Memory was wanting before a turn that appends an item, and those before it were played.
-pub record IsCutShort (plan : Plan) (stimuli : List CoreStimuli) (w : World) (turns : List (CoreId × Choice)) (seats : List Seat) (mail : Mail) (board : BoardState) : Type 0 where
+pub record IsCutShort (plan : Plan) (stimuli : List CoreStimuli) (w : World) (turns : List (CoreId × Choice)) (seats : List Seat) (between : Between) : Type 0 where
   pub before : ℕ
   pub within : before < length turns
   pub appends : AppendsAt plan stimuli w turns before
-  pub plays : Plays plan stimuli (world_from plan stimuli w (take before turns)) seats mail board
+  pub plays : Plays plan stimuli (world_from plan stimuli w (take before turns)) seats between
 
 -- A run was begun and nothing is played yet.
-abbrev pub IsBegun : Plan → List Seat → Mail → BoardState → Type 0
-IsBegun plan seats mail board = (stimuli : List CoreStimuli) × Plays plan stimuli (first_world plan) seats mail board
+abbrev pub IsBegun : Plan → List Seat → Between → Type 0
+IsBegun plan seats between = (stimuli : List CoreStimuli) × Plays plan stimuli (first_world plan) seats between
 
 -- The turns are one round of the default schedule.
 abbrev pub IsRound : Plan → List (CoreId × Choice) → Type 0
 IsRound plan turns = turns ≡ round_of plan
 
 -- The default schedule was played: it has so many rounds.
-pub record IsDefaultPlayed (plan : Plan) (stimuli : List CoreStimuli) (rounds : ℕ) (seats : List Seat) (mail : Mail) (board : BoardState) : Type 0 where
+pub record IsDefaultPlayed (plan : Plan) (stimuli : List CoreStimuli) (rounds : ℕ) (seats : List Seat) (between : Between) : Type 0 where
   pub least : IsTrue (is_default plan stimuli rounds)
-  pub plays : Plays plan stimuli (world plan stimuli (default_turns plan rounds)) seats mail board
+  pub plays : Plays plan stimuli (world plan stimuli (default_turns plan rounds)) seats between
 
 -- Memory was wanting before a turn of the default schedule.
-pub record IsDefaultCutShort (plan : Plan) (stimuli : List CoreStimuli) (seats : List Seat) (mail : Mail) (board : BoardState) : Type 0 where
+pub record IsDefaultCutShort (plan : Plan) (stimuli : List CoreStimuli) (seats : List Seat) (between : Between) : Type 0 where
   pub rounds : ℕ
   pub goes_on : HasAtLeast plan stimuli rounds
-  pub cut : IsCutShort plan stimuli (first_world plan) (default_turns plan rounds) seats mail board
+  pub cut : IsCutShort plan stimuli (first_world plan) (default_turns plan rounds) seats between
 
 -- A turn of the core that sits at this place asks this, and leads on by this answer.
-pub record IsAnswered (plan : Plan) (seats : List Seat) (mail : Mail) (board : BoardState) (at : ℕ) (core : CoreId) (choice : Choice) (ask : Ask) (answer : Answer) : Type 0 where
+pub record IsAnswered (plan : Plan) (seats : List Seat) (between : Between) (at : ℕ) (core : CoreId) (choice : Choice) (ask : Ask) (answer : Answer) : Type 0 where
   pub place : position (λ (s : Seat). same_core s.id core) seats ≡ Some at
-  pub leads : (seat : Seat) → slice_get seats at ≡ Some seat → next_by plan board mail seat.id seat.stimuli.now seat.kernel choice ≡ leads_to seat.id seat.kernel.progress.phase ask answer
+  pub leads : (seat : Seat) → slice_get seats at ≡ Some seat → next_by plan between seat.id seat.stimuli.now seat.kernel choice ≡ leads_to seat.id (watch_in seat.kernel) ask answer
 
 -- What a function that plays turns does, whatever world the run stood for.
 abbrev pub PlaysTurns : List (CoreId × Choice) → Run → Bool → Run → Type 0
 PlaysTurns turns old changed new =
-    (stimuli : List CoreStimuli) (w : World) → StandsFor stimuli w old → IsPlayed old.config.now stimuli w turns changed new.seats.items new.mail new.board
+    (stimuli : List CoreStimuli) (w : World) → StandsFor stimuli w old → IsPlayed old.config.now stimuli w turns changed new.seats.items new.between
 
 abbrev pub StopsShort : List (CoreId × Choice) → Run → Run → Type 0
 StopsShort turns old new =
-    (stimuli : List CoreStimuli) (w : World) → StandsFor stimuli w old → IsCutShort old.config.now stimuli w turns new.seats.items new.mail new.board
+    (stimuli : List CoreStimuli) (w : World) → StandsFor stimuli w old → IsCutShort old.config.now stimuli w turns new.seats.items new.between
 
 abbrev pub PlaysDefault : Run → ℕ → Run → Type 0
 PlaysDefault old rounds new =
-    (stimuli : List CoreStimuli) → StandsFor stimuli (first_world old.config.now) old → IsDefaultPlayed old.config.now stimuli rounds new.seats.items new.mail new.board
+    (stimuli : List CoreStimuli) → StandsFor stimuli (first_world old.config.now) old → IsDefaultPlayed old.config.now stimuli rounds new.seats.items new.between
 
 abbrev pub StopsDefaultShort : Run → Run → Type 0
 StopsDefaultShort old new =
-    (stimuli : List CoreStimuli) → StandsFor stimuli (first_world old.config.now) old → IsDefaultCutShort old.config.now stimuli new.seats.items new.mail new.board
+    (stimuli : List CoreStimuli) → StandsFor stimuli (first_world old.config.now) old → IsDefaultCutShort old.config.now stimuli new.seats.items new.between

@@ -1,5 +1,5 @@
--- The world: all cores of a configuration, turn by turn. It is the cores' item lists and the board's calls,
--- and nothing else: where a core stands is read off its own items.
+-- The world: all cores of a configuration, turn by turn. It is the cores' item lists and the calls of the board and the
+-- spinlocks, and nothing else: where a core stands is read off its own items.
 use Rattle.std.specs.Prelude.{ℕ, suc, ◌+◌, ◌==◌, ◌&&◌, nat_lt, Bool, if◌then◌else◌, Option, Some, None, is_some, List, [], ◌∷◌, ◌++◌, length, map, find, slice_get, sum_by}
 use Rattle.osbase.specs.declared.references.CoreId.{CoreId}
 use Rattle.osbase.specs.declared.items.Item.{Item}
@@ -11,26 +11,28 @@ use Rattle.osbase.specs.Runs.{stimuli_of}
 use Rattle.osbase.specs.declared.turns.TheConstants.{CORES}
 use Rattle.osplan.specs.declared.plans.Plan.{Plan}
 use Rattle.osplan.specs.View.{view_of}
-use Rattle.osstate.specs.Readings.{phase_at}
 use Rattle.oskernel.specs.Step.{takes, outbox_size}
+use Rattle.oskernel.specs.Wants.{watch_of}
 use Rattle.osseat.specs.Histories.{state_after}
 use Rattle.osboard.specs.declared.calls.BoardState.{BoardState}
-use Rattle.osboard.specs.Boards.{BoardEntry, board_reply, first_board, one_board}
+use Rattle.osboard.specs.Boards.{board_reply, first_board, one_board}
+use Rattle.osspin.specs.Spins.{no_holders, spin_reply, spinlocks}
 use Rattle.osworld.specs.declared.asks.Ask.{Ask}
-use Rattle.osworld.specs.declared.asks.Ask.TheVariants.{OfBoard, Room, Oldest}
+use Rattle.osworld.specs.declared.asks.Ask.TheVariants.{OfBoard, OfSpins, Room, Oldest}
 use Rattle.osworld.specs.declared.asks.Answer.{Answer}
-use Rattle.osworld.specs.declared.asks.Answer.TheVariants.{Replied, HasRoom, Found, Unasked}
-use Rattle.osworld.specs.Asking.{asked, comes_to, told_by}
+use Rattle.osworld.specs.declared.asks.Answer.TheVariants.{Replied, Spun, HasRoom, Found, Unasked}
+use Rattle.osworld.specs.Asking.{Calls, asked, comes_to, joined, no_calls, spin_call_of, told_by}
 use Rattle.osworld.specs.Fits.{history_by, ids_of, items_of}
 
--- The items of each configured core, the oldest first, and the calls of the board that became items. [own]
+-- The items of each configured core, the oldest first, and the calls of the board and the spinlocks that became items.
+-- [own]
 pub record World : Type 0 where
   pub items : List (CoreId × List Item)
-  pub calls : List BoardEntry
+  pub calls : Calls
 
 -- At first no configured core has taken anything. [own]
 abbrev pub first_world : Plan → World
-first_world plan = record { items = map (λ (id : CoreId). (id, [])) (ids_of plan); calls = [] }
+first_world plan = record { items = map (λ (id : CoreId). (id, [])) (ids_of plan); calls = no_calls }
 
 -- The items of a core, and where it stands.
 abbrev pub items_in : World → CoreId → List Item
@@ -40,7 +42,11 @@ abbrev pub history_in : Plan → World → CoreId → History
 history_in plan w id = history_by plan id (items_in w id)
 
 abbrev pub board_in : Plan → World → BoardState
-board_in plan w = state_after one_board (first_board plan.master) w.calls
+board_in plan w = state_after one_board (first_board plan.master) w.calls.board
+
+-- Who holds each spinlock.
+abbrev pub holders_in : World → List (Option CoreId)
+holders_in w = state_after spinlocks no_holders w.calls.spins
 
 -- The front of the outbox is sent where fewer than `cap` envelopes stand in that mailbox: those posted to it
 -- and not received from it. No core is numbered 16 or above, and no mailbox is for one. [own]
@@ -55,10 +61,11 @@ stimulus_count [] = 0
 stimulus_count (Item.Stim s ∷ items) = suc (stimulus_count items)
 stimulus_count (item ∷ items) = stimulus_count items
 
--- What a core's turn is answered: the board's reply; whether there is room; the oldest envelope from the other core
--- that is not received yet. [own]
+-- What a core's turn is answered: the board's or a spinlock's reply; whether there is room; the oldest envelope from the
+-- other core that is not received yet. [own]
 abbrev pub answer_in : Plan → World → CoreId → Ask → Answer
 answer_in plan w id (OfBoard call) = Replied (board_reply id call (board_in plan w))
+answer_in plan w id (OfSpins wish) = Spun (spin_reply id (spin_call_of wish) (holders_in w))
 answer_in plan w id (Room to) = HasRoom (has_room plan w id to)
 answer_in plan w id (Oldest from) = Found (slice_get (posted id (history_in plan w from)) (received_count from (history_in plan w id)))
 answer_in plan w id ask = Unasked
@@ -70,9 +77,9 @@ next_stimulus stimuli w id = slice_get (stimuli_of stimuli id) (stimulus_count (
 abbrev pub next_in : Plan → List CoreStimuli → World → CoreId → Choice → Option (Ask × Item)
 next_in plan stimuli w id choice =
     let h = history_in plan w id in
-    comes_to id (phase_at (view_of plan id) h) (answer_in plan w id) (asked (view_of plan id) h (next_stimulus stimuli w id) choice)
+    comes_to id (watch_of (view_of plan id) h) (answer_in plan w id) (asked (view_of plan id) h (next_stimulus stimuli w id) choice)
 
--- The item is appended to its core's list, and the call of the board, if its turn asked one, to the board's.
+-- The item is appended to its core's list, and the call that its turn asked, if it asked one, to the others.
 abbrev pub with_item : CoreId → Item → List (CoreId × List Item) → List (CoreId × List Item)
 with_item id item [] = []
 with_item id item (p ∷ ps) = if same_core p.0 id then (p.0, p.1 ++ item ∷ []) ∷ ps else p ∷ with_item id item ps
@@ -80,7 +87,7 @@ with_item id item (p ∷ ps) = if same_core p.0 id then (p.0, p.1 ++ item ∷ []
 abbrev pub appends : Plan → World → CoreId → Ask → Item → World
 appends plan w id ask item = record {
   items = with_item id item w.items;
-  calls = w.calls ++ told_by id ask (answer_in plan w id ask);
+  calls = joined w.calls (told_by id ask (answer_in plan w id ask));
 }
 
 -- A turn appends the one item that it names, if the core takes it, or changes nothing. [own]

@@ -1,14 +1,19 @@
 //! What a turn is answered, and what it changes beside the core that takes its item.
 
-ghost use Rattle.std.specs.Prelude.{◌≡◌, ◌<◌, ◌&&◌, nat_lt, if◌then◌else◌, None, IfNone, IfSome};
+ghost use Rattle.std.specs.Prelude.{◌≡◌, ◌<◌, ◌≤◌, ◌&&◌, nat_lt, if◌then◌else◌, None, IfNone, IfOk, IfSome};
 ghost use Rattle.osbase.specs.declared.turns.TheConstants.{CORES};
-ghost use Rattle.osmail.specs.Mail.{has_room, oldest_of};
+ghost use Rattle.osmail.specs.Mail.{empty_mail, has_room, oldest_of};
+ghost use Rattle.osboard.specs.Boards.{first_board};
+ghost use Rattle.osspin.specs.Spins.{no_holders};
 ghost use Rattle.osworld.specs.Answering.{answer_by, carried, IsPlaced, told};
 
 use crate::asks::{Answer, Ask};
 use osbase::{CORES, CoreId, Envelope, Item};
 use osboard::BoardList;
 use osmail::ListMail;
+use osplan::Plan;
+use osspin::SpinList;
+use std::alloc::{AllocError, Global};
 
 /// How many envelopes a mailbox may hold at most, whatever the configuration says.
 pub const MAILBOX: usize = 16;
@@ -16,21 +21,79 @@ pub const MAILBOX: usize = 16;
 /// The mailboxes of a listed run.
 pub type Mailboxes = ListMail<MAILBOX>;
 
-/// What a core's turn is answered: none where it serves a core from which there is no envelope, as most turns do.
-/// Nothing changes yet.
-pub fn answer_to(board: &BoardList, mail: &Mailboxes, id: CoreId, ask: Ask) -> Option<Answer>
-    requires { id.number < CORES }
-    ensures answer { IfSome result (λ answer. answer ≡ answer_by board.now mail.now id ask) }
-    ensures none { IfNone result (answer_by board.now mail.now id ask ≡ Answer.Found None) }
-{
-    match ask {
-        Ask::OfBoard(call) => Some(Answer::Replied(board.reply(id, call))),
-        Ask::Room(to) => Some(Answer::HasRoom(has_room(mail, id, to))),
-        Ask::Oldest(from) => {
-            let envelope = oldest(mail, id, from)?;
-            Some(Answer::Found(Some(envelope)))
+/// What the cores of a listed run share: the mailboxes between them, the board and the spinlocks.
+#[derive(Drop)]
+pub struct Between {
+    pub mail: Mailboxes,
+    pub board: BoardList,
+    pub spins: SpinList,
+}
+
+impl Between {
+    /// Nothing was sent, the master alone is started, and no core holds a spinlock.
+    pub fn new(alloc: Global, plan: &Plan) -> Result<Self, AllocError>
+        requires some { 1 ≤ plan.now.cap }
+        requires fits { plan.now.cap ≤ MAILBOX }
+        ensures mail { IfOk result (λ between. between.mail ≡ empty_mail plan.now.cap) }
+        ensures board { IfOk result (λ between. between.board ≡ first_board plan.now.master) }
+        ensures spins { IfOk result (λ between. between.spins ≡ no_holders) }
+    {
+        Ok(Between {
+            mail: Mailboxes::new(alloc, plan.cap as usize)?,
+            board: BoardList::new(plan.master),
+            spins: SpinList::new(),
+        })
+    }
+
+    /// What a core's turn is answered: none where it serves a core from which there is no envelope, as most turns
+    /// do. Nothing changes yet.
+    pub fn answer_to(&self, id: CoreId, ask: Ask) -> Option<Answer>
+        requires { id.number < CORES }
+        ensures answer { IfSome result (λ answer. answer ≡ answer_by self.now id ask) }
+        ensures none { IfNone result (answer_by self.now id ask ≡ Answer.Found None) }
+    {
+        match ask {
+            Ask::OfBoard(call) => Some(Answer::Replied(self.board.reply(id, call))),
+            Ask::OfSpins(wish) => Some(Answer::Spun(self.spins.reply(id, wish.call()))),
+            Ask::Room(to) => Some(Answer::HasRoom(has_room(&self.mail, id, to))),
+            Ask::Oldest(from) => {
+                let envelope = oldest(&self.mail, id, from)?;
+                Some(Answer::Found(Some(envelope)))
+            }
+            Ask::StartUnknown(_) | Ask::TakeStimulus(_) => Some(Answer::Unasked),
         }
-        Ask::StartUnknown(_) | Ask::TakeStimulus(_) => Some(Answer::Unasked),
+    }
+
+    /// Tells the board or the spinlocks what a turn asked of them.
+    pub fn tell(&mut self, core: CoreId, ask: Ask)
+        ensures { self.new ≡ told core ask self.old }
+    {
+        match ask {
+            Ask::OfBoard(call) => {
+                let _ = self.board.call(core, call);
+            }
+            Ask::OfSpins(wish) => {
+                let _ = self.spins.call(core, wish.call());
+            }
+            _ => {}
+        }
+    }
+
+    /// Carries the envelope of the item that a core takes: the outbox's front into a mailbox, or out of one.
+    pub fn carry(&mut self, core: CoreId, front: Option<(CoreId, Envelope)>, item: &Item)
+        requires core { core.number < CORES }
+        requires placed { IsPlaced self.old.mail core item.now }
+        ensures { self.new ≡ record self.old { mail = carried core front item.now self.old.mail } }
+    {
+        match (*item, front) {
+            (Item::Posted(to), Some((_, envelope))) => {
+                let _ = self.mail.send(core, to, envelope);
+            }
+            (Item::Received { from, .. }, _) => {
+                let _ = self.mail.take(core, from);
+            }
+            (_, _) => {}
+        }
     }
 }
 
@@ -55,31 +118,5 @@ fn oldest(mail: &Mailboxes, id: CoreId, from: CoreId) -> Option<Envelope>
         mail.oldest(id, from)
     } else {
         None
-    }
-}
-
-/// Tells the board what a turn asked of it.
-pub fn tell(board: &mut BoardList, core: CoreId, ask: Ask)
-    ensures { board.new ≡ told core ask board.old }
-{
-    if let Ask::OfBoard(call) = ask {
-        let _ = board.call(core, call);
-    }
-}
-
-/// Carries the envelope of the item that a core takes: the outbox's front into a mailbox, or out of one.
-pub fn carry(mail: &mut Mailboxes, core: CoreId, front: Option<(CoreId, Envelope)>, item: &Item)
-    requires core { core.number < CORES }
-    requires placed { IsPlaced mail.old core item.now }
-    ensures { mail.new ≡ carried core front item.now mail.old }
-{
-    match (*item, front) {
-        (Item::Posted(to), Some((_, envelope))) => {
-            let _ = mail.send(core, to, envelope);
-        }
-        (Item::Received { from, .. }, _) => {
-            let _ = mail.take(core, from);
-        }
-        (_, _) => {}
     }
 }

@@ -3,18 +3,50 @@
 ghost use Rattle.std.specs.Prelude.{◌≡◌};
 ghost use Rattle.osbase.specs.declared.references.CoreId.{CoreId as CoreIdValue};
 ghost use Rattle.osplan.specs.View.{is_configured, view_of};
-ghost use Rattle.osworld.specs.Asking.{going_on, look_asked, named_by, own_asked, passing, replied, starting};
+ghost use Rattle.osworld.specs.Asking.{going_on, halted, look_asked, named_by, own_asked, passing, replied, spin_call_of, spun, starting};
 
-use osbase::{CoreId, Envelope, Item, Phase, Status, Stimulus};
+use osbase::{CoreId, Envelope, Item, SpinlockId, Status, Stimulus};
 use osboard::{BoardCall, BoardReply, BoardView};
-use oskernel::Want;
+use oskernel::{Want, Watch};
 use osplan::{CoreMode, Plan};
+use osspin::{SpinAction, SpinCall, SpinReply};
+
+/// What a core asks of a spinlock.
+#[derive(Clone, Copy)]
+pub enum SpinWish {
+    /// GetSpinlock, tried once more: it goes on once it took the spinlock.
+    Get(SpinlockId),
+    /// TryToGetSpinlock: it goes on by either answer.
+    Try(SpinlockId),
+    /// The spinlock is given back.
+    Free(SpinlockId),
+}
+
+impl SpinWish {
+    /// The call of the spinlocks that it is.
+    pub fn call(self) -> SpinCall
+        ensures { result ≡ spin_call_of self }
+    {
+        match self {
+            SpinWish::Get(lock) | SpinWish::Try(lock) => SpinCall {
+                lock,
+                action: SpinAction::Take,
+            },
+            SpinWish::Free(lock) => SpinCall {
+                lock,
+                action: SpinAction::Free,
+            },
+        }
+    }
+}
 
 /// What a turn asks.
 #[derive(Clone, Copy)]
 pub enum Ask {
     /// A call of the board.
     OfBoard(BoardCall),
+    /// A call of the spinlocks.
+    OfSpins(SpinWish),
     /// Room for the front of the outbox in the mailbox for that core.
     Room(CoreId),
     /// The oldest envelope from that core.
@@ -30,6 +62,8 @@ pub enum Ask {
 pub enum Answer {
     /// The board's reply.
     Replied(BoardReply),
+    /// The spinlock's reply.
+    Spun(SpinReply),
     /// Whether the mailbox has room.
     HasRoom(bool),
     /// The oldest envelope, if there is one.
@@ -89,27 +123,25 @@ fn going_on(next: Option<Stimulus>) -> Ask
     }
 }
 
-/// What a look asks in this phase: none where nothing is waited for.
-pub fn look_asked(phase: Phase) -> Option<Ask>
-    ensures { result ≡ look_asked phase }
+/// What a look asks: each loads one word of the board.
+pub fn look_asked(watch: Watch) -> Ask
+    ensures { result ≡ look_asked watch }
 {
-    match phase {
-        Phase::Off | Phase::FirstGate | Phase::SecondGate | Phase::Drained => {
-            Some(Ask::OfBoard(BoardCall::Look))
-        }
-        Phase::Closing => Some(Ask::OfBoard(BoardCall::LookHalt)),
-        _ => None,
+    match watch {
+        Watch::Halt | Watch::Last => Ask::OfBoard(BoardCall::LookHalt),
+        _ => Ask::OfBoard(BoardCall::Look),
     }
 }
 
-/// The item to which the answer leads a core in this phase: none where it leads to none, as at a gate that is still
-/// closed. It is a call of its own: put in the place of the call, the item is put together byte by byte.
+/// The item to which the answer leads a core that watches for this: none where it leads to none, as at a gate that
+/// is still closed. It is a call of its own: put in the place of the call, the item is put together byte by byte.
 #[inline(never)]
-pub fn named(id: CoreId, phase: Phase, ask: Ask, answer: &Answer) -> Option<Item>
-    ensures { result ≡ named_by id phase ask answer.now }
+pub fn named(id: CoreId, watch: Watch, ask: Ask, answer: &Answer) -> Option<Item>
+    ensures { result ≡ named_by id watch ask answer.now }
 {
     match (ask, answer) {
-        (Ask::OfBoard(call), Answer::Replied(reply)) => replied(id, phase, call, reply),
+        (Ask::OfBoard(call), Answer::Replied(reply)) => replied(id, watch, call, reply),
+        (Ask::OfSpins(wish), Answer::Spun(reply)) => spun(wish, *reply),
         (Ask::Room(to), Answer::HasRoom(true)) => Some(Item::Posted(to)),
         (Ask::Oldest(from), Answer::Found(Some(envelope))) => Some(Item::Received {
             from,
@@ -125,8 +157,8 @@ pub fn named(id: CoreId, phase: Phase, ask: Ask, answer: &Answer) -> Option<Item
     }
 }
 
-fn replied(id: CoreId, phase: Phase, call: BoardCall, reply: &BoardReply) -> Option<Item>
-    ensures { result ≡ replied id phase call reply.now }
+fn replied(id: CoreId, watch: Watch, call: BoardCall, reply: &BoardReply) -> Option<Item>
+    ensures { result ≡ replied id watch call reply.now }
 {
     match (call, reply) {
         (BoardCall::Start(core), BoardReply::Started(status)) => Some(Item::Began {
@@ -136,21 +168,51 @@ fn replied(id: CoreId, phase: Phase, call: BoardCall, reply: &BoardReply) -> Opt
         (BoardCall::Enter(_), BoardReply::Acknowledged) => Some(Item::Entered),
         (BoardCall::MakeReady, BoardReply::Acknowledged) => Some(Item::Readied),
         (BoardCall::Drain, BoardReply::Acknowledged) => Some(Item::Drained),
-        (BoardCall::Look, BoardReply::Shown(view)) => passing(id, view, phase),
-        (BoardCall::LookHalt, BoardReply::Halting(halt)) => Some(Item::Last(*halt)),
+        (BoardCall::Look, BoardReply::Shown(view)) => passing(id, view, watch),
+        (BoardCall::AskHalt(_), BoardReply::Decided((core, status))) => Some(Item::Halt {
+            core: *core,
+            status: *status,
+        }),
+        (BoardCall::LookHalt, BoardReply::Halting(halt)) => halted(watch, *halt),
         (_, _) => None,
     }
 }
 
 // A gate opens where all started cores have come to it (AUTOSAR SWS OS 4.x, SWS_Os_00579 and SWS_Os_00580).
-fn passing(id: CoreId, view: &BoardView, phase: Phase) -> Option<Item>
-    ensures { result ≡ passing id view.now phase }
+fn passing(id: CoreId, view: &BoardView, watch: Watch) -> Option<Item>
+    ensures { result ≡ passing id view.now watch }
 {
-    match phase {
-        Phase::Off if view.started.contains(id) => Some(Item::On),
-        Phase::FirstGate if view.have_all_entered() => Some(Item::Pass1(view.agreement())),
-        Phase::SecondGate if view.are_all_ready() => Some(Item::Pass2(view.started)),
-        Phase::Drained if view.have_all_drained() => Some(Item::PassEnd),
+    match watch {
+        Watch::On if view.started.contains(id) => Some(Item::On),
+        Watch::FirstGate if view.have_all_entered() => Some(Item::Pass1(view.agreement())),
+        Watch::SecondGate if view.are_all_ready() => Some(Item::Pass2(view.started)),
+        Watch::PassEnd if view.have_all_drained() => Some(Item::PassEnd),
         _ => None,
+    }
+}
+
+// A core halts where a shutdown of all cores was asked for, and at its end learns whether one was (AUTOSAR SWS OS
+// 4.x, ShutdownAllCores).
+fn halted(watch: Watch, halt: Option<(CoreId, Status)>) -> Option<Item>
+    ensures { result ≡ halted watch halt }
+{
+    match (watch, halt) {
+        (Watch::Last, halt) => Some(Item::Last(halt)),
+        (Watch::Halt, Some((core, status))) => Some(Item::Halt { core, status }),
+        (_, _) => None,
+    }
+}
+
+// GetSpinlock goes on once it took the spinlock, TryToGetSpinlock by either answer (AUTOSAR SWS OS 4.x).
+fn spun(wish: SpinWish, reply: SpinReply) -> Option<Item>
+    ensures { result ≡ spun wish reply }
+{
+    match (wish, reply) {
+        (SpinWish::Get(lock), SpinReply::Answered(true)) => Some(Item::Granted(lock)),
+        (SpinWish::Try(spinlock), SpinReply::Answered(taken)) => {
+            Some(Item::Tried { spinlock, taken })
+        }
+        (SpinWish::Free(lock), SpinReply::Answered(true)) => Some(Item::Freed(lock)),
+        (_, _) => None,
     }
 }

@@ -1,4 +1,4 @@
-//! The world of a listed run: cores, mailboxes and the board, turn by turn.
+//! The world of a listed run: cores and what they share, turn by turn.
 #![tactic(auto)]
 
 mod answering;
@@ -8,7 +8,7 @@ pub mod runs;
 mod seats;
 mod worlds;
 
-pub use asks::{Answer, Ask, look_asked, named, own_asked};
+pub use asks::{Answer, Ask, SpinWish, look_asked, named, own_asked};
 pub use ends::have_all_ended;
 pub use osbase::Report;
 pub use runs::{RunFault, default_schedule, run_default, run_world};

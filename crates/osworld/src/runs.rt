@@ -103,7 +103,7 @@ pub fn default_schedule(
 // Plays whole rounds up to the end of the default schedule, and says how many.
 fn play_rounds(world: &mut World, round: &[Turn]) -> Result<u64, AllocError>
     requires round { IsRound world.old.config.now round.now }
-    requires begun { IsBegun world.old.config.now world.old.seats.items world.old.mail world.old.board }
+    requires begun { IsBegun world.old.config.now world.old.seats.items world.old.between }
     ensures reports { world.new.reports ≡ world.old.reports }
     ensures len { vec_len world.new.seats ≡ vec_len world.old.seats }
     ensures ok { IfOk result (λ rounds. PlaysDefault world.old rounds world.new) }
@@ -132,7 +132,7 @@ fn repeated(alloc: Global, round: &[Turn], rounds: u64) -> Result<Schedule, Allo
 // The world before the first turn.
 fn begin<'a>(alloc: Global, config: &'a Config, stimuli: &'a Stimuli) -> Result<World<'a>, RunFault>
     ensures config { IfOk result (λ world. world.config.now ≡ config.now) }
-    ensures plays { IfOk result (λ world. Plays config.now stimuli.now (first_world config.now) world.seats.items world.mail world.board) }
+    ensures plays { IfOk result (λ world. Plays config.now stimuli.now (first_world config.now) world.seats.items world.between) }
     ensures reports { IfOk result (λ world. world.reports.items ≡ []) }
     ensures room { IfOk result (λ world. vec_len world.seats ≤ vec_capacity world.reports) }
     ensures nothing { IfErr result (λ fault. fault ≡ RunFault.NotBegun) }

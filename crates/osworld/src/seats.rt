@@ -10,18 +10,17 @@ ghost use Rattle.oskernel.specs.Admission.{takes_in};
 ghost use Rattle.oskernel.specs.Step.{after};
 ghost use Rattle.osbase.specs.Runs.{stimuli_of};
 ghost use Rattle.osworld.specs.Runs.{is_ended_phase};
-ghost use Rattle.oskernel.specs.Wants.{want_in};
-ghost use Rattle.osworld.specs.Asking.{asked_by, leads_to};
+ghost use Rattle.oskernel.specs.Wants.{want_in, watch_in};
+ghost use Rattle.osworld.specs.Asking.{asked_by, leads_to, named_by};
 ghost use Rattle.osworld.specs.Answering.{answer_by, left_after, next_by};
 ghost use Rattle.oskernel.specs.declared.kernel.TheConstants.{STEP_MARKS};
 
-use crate::answering::{Mailboxes, answer_to};
-use crate::asks::{Answer, Ask, look_asked, own_asked};
+use crate::answering::Between;
+use crate::asks::{Answer, Ask, look_asked, named, own_asked};
 use osbase::{
     CORES, Choice, CoreId, CoreStimuli, Envelope, Item, List, Mark, Phase, Report, Stimulus,
     stimuli_for,
 };
-use osboard::BoardList;
 use oskernel::{Kernel, STEP_MARKS};
 use osplan::{Config, Core, Plan};
 use std::alloc::{AllocError, Global};
@@ -68,25 +67,26 @@ impl<'a> Seat<'a> {
 
     /// What a turn of this core asks and is answered: none where it asks nothing, or serves a core from which there is
     /// no envelope, as most turns do.
-    pub fn answered(
-        &self,
-        plan: &Plan,
-        board: &BoardList,
-        mail: &Mailboxes,
-        choice: Choice,
-    ) -> Option<(Ask, Answer)>
-        ensures answer { IfSome result (λ t. t.1 ≡ answer_by board.now mail.now self.now.id t.0) }
-        ensures leads { IfSome result (λ t. next_by plan.now board.now mail.now self.now.id self.now.stimuli.now self.now.kernel choice ≡ leads_to self.now.id self.now.kernel.progress.phase t.0 t.1) }
-        ensures none { IfNone result (next_by plan.now board.now mail.now self.now.id self.now.stimuli.now self.now.kernel choice ≡ None) }
+    pub fn answered(&self, plan: &Plan, between: &Between, choice: Choice) -> Option<(Ask, Answer)>
+        ensures answer { IfSome result (λ t. t.1 ≡ answer_by between.now self.now.id t.0) }
+        ensures leads { IfSome result (λ t. next_by plan.now between.now self.now.id self.now.stimuli.now self.now.kernel choice ≡ leads_to self.now.id (watch_in self.now.kernel) t.0 t.1) }
+        ensures none { IfNone result (next_by plan.now between.now self.now.id self.now.stimuli.now self.now.kernel choice ≡ None) }
     {
         let ask = self.asked(plan, choice)?;
-        let answer = answer_to(board, mail, self.id, ask)?;
+        let answer = between.answer_to(self.id, ask)?;
         Some((ask, answer))
+    }
+
+    /// The item to which the answer leads the core: none where it leads to none.
+    pub fn named(&self, ask: Ask, answer: &Answer) -> Option<Item>
+        ensures { result ≡ named_by self.now.id (watch_in self.now.kernel) ask answer.now }
+    {
+        named(self.id, self.kernel.watch(), ask, answer)
     }
 
     // What a turn asks. What the core wants is asked of the kernel for its own turn alone.
     fn asked(&self, plan: &Plan, choice: Choice) -> Option<Ask>
-        ensures { result ≡ asked_by (view_of plan.now self.now.id) (want_in self.now.kernel) self.now.kernel.progress.phase (slice_get self.now.stimuli.now 0) choice }
+        ensures { result ≡ asked_by (view_of plan.now self.now.id) (want_in self.now.kernel) (watch_in self.now.kernel) (slice_get self.now.stimuli.now 0) choice }
     {
         match choice {
             Choice::Own => {
@@ -94,7 +94,7 @@ impl<'a> Seat<'a> {
                 own_asked(plan, self.id, self.kernel.want(), next)
             }
             Choice::Serve(from) => Some(Ask::Oldest(from)),
-            Choice::Look => look_asked(self.kernel.phase()),
+            Choice::Look => Some(look_asked(self.kernel.watch())),
         }
     }
 

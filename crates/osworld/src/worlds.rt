@@ -1,4 +1,4 @@
-//! The world of a listed run: its cores, mailboxes and board, turn by turn.
+//! The world of a listed run: its cores and what stands between them, turn by turn.
 
 ghost use Rattle.std.specs.Prelude.{IsTrue, ◌≡◌, ◌+◌, ◌<◌, ◌≤◌, ◌∷◌, [], Some, IfSome, IfOk, OnErr, vec_len, vec_capacity, map, not, ◌||◌, position, slice_get};
 ghost use Rattle.std.specs.List.{list_all};
@@ -14,24 +14,22 @@ ghost use Rattle.osworld.specs.Answering.{answer_by};
 ghost use Rattle.osworld.specs.World.{first_world};
 ghost use Rattle.osworld.specs.Runs.{is_ended_phase};
 
-use crate::answering::{Mailboxes, carry, tell};
-use crate::asks::{Answer, Ask, named};
+use crate::answering::Between;
+use crate::asks::{Answer, Ask};
 use crate::seats::Seat;
 use osbase::{CORE_NUMBERS, CORES, Choice, CoreId, CoreStimuli, Item, Report, Turn};
-use osboard::BoardList;
 use osplan::Config;
 use std::alloc::{AllocError, Global};
 
-/// The cores of a configuration in ascending order, the mailboxes between them and the board. A turn finds its
-/// core's seat by the table of places, without going over the seats.
+/// The cores of a configuration in ascending order, and what stands between them. A turn finds its core's seat by the
+/// table of places, without going over the seats.
 #[derive(Drop)]
 pub struct World<'a> {
     config: &'a Config,
     seats: Vec<Seat<'a>>,
     places: [Option<usize>; CORES],
     reports: Vec<Report>,
-    mail: Mailboxes,
-    board: BoardList,
+    between: Between,
     ghost placed: { (core : CoreIdValue) → core.number < CORES → slice_get places core.number ≡ Some (position (λ (s : SeatValue). same_core s.id core) seats.items) } by { Prim.hlevel props },
 }
 
@@ -45,7 +43,7 @@ impl<'a> World<'a> {
         stimuli: &'a [CoreStimuli],
     ) -> Result<Self, AllocError>
         ensures config { IfOk result (λ world. world.config.now ≡ config.now) }
-        ensures plays { IfOk result (λ world. Plays config.now stimuli.now (first_world config.now) world.seats.items world.mail world.board) }
+        ensures plays { IfOk result (λ world. Plays config.now stimuli.now (first_world config.now) world.seats.items world.between) }
         ensures reports { IfOk result (λ world. world.reports.items ≡ []) }
         ensures room { IfOk result (λ world. vec_len world.seats ≤ vec_capacity world.reports) }
         ensures limits { IsTrue (is_within_limits config.now) }
@@ -63,8 +61,7 @@ impl<'a> World<'a> {
             reports: Vec::with_capacity(alloc, seats.len())?,
             places: places_of(seats.as_slice()),
             seats,
-            mail: Mailboxes::new(alloc, plan.cap as usize)?,
-            board: BoardList::new(plan.master),
+            between: Between::new(alloc, plan)?,
         })
     }
 
@@ -96,7 +93,7 @@ impl<'a> World<'a> {
             return Ok(false);
         };
         let seat = &self.seats[at];
-        match seat.answered(self.config.plan(), &self.board, &self.mail, choice) {
+        match seat.answered(self.config.plan(), &self.between, choice) {
             Some((ask, answer)) => self.go_on(at, ask, &answer),
             None => Ok(false),
         }
@@ -107,32 +104,32 @@ impl<'a> World<'a> {
     #[inline(never)]
     fn go_on(&mut self, at: usize, ask: Ask, answer: &Answer) -> Result<bool, AllocError>
         requires at { at < vec_len self.old.seats }
-        requires answer { (seat : SeatValue) → slice_get self.old.seats.items at ≡ Some seat → answer.now ≡ answer_by self.old.board self.old.mail seat.id ask }
+        requires answer { (seat : SeatValue) → slice_get self.old.seats.items at ≡ Some seat → answer.now ≡ answer_by self.old.between seat.id ask }
         ensures config { self.new.config ≡ self.old.config }
         ensures reports { self.new.reports ≡ self.old.reports }
         ensures len { vec_len self.new.seats ≡ vec_len self.old.seats }
-        ensures ok { IfOk result (λ changed. (core : CoreIdValue) (choice : ChoiceValue) → IsAnswered self.old.config.now self.old.seats.items self.old.mail self.old.board at core choice ask answer.now → PlaysTurns ((core, choice) ∷ []) self.old changed self.new) }
-        ensures err { OnErr result ((core : CoreIdValue) (choice : ChoiceValue) → IsAnswered self.old.config.now self.old.seats.items self.old.mail self.old.board at core choice ask answer.now → StopsShort ((core, choice) ∷ []) self.old self.new) }
+        ensures ok { IfOk result (λ changed. (core : CoreIdValue) (choice : ChoiceValue) → IsAnswered self.old.config.now self.old.seats.items self.old.between at core choice ask answer.now → PlaysTurns ((core, choice) ∷ []) self.old changed self.new) }
+        ensures err { OnErr result ((core : CoreIdValue) (choice : ChoiceValue) → IsAnswered self.old.config.now self.old.seats.items self.old.between at core choice ask answer.now → StopsShort ((core, choice) ∷ []) self.old self.new) }
     {
         let seat = &mut self.seats[at];
-        let Some(item) = named(seat.id, seat.kernel.phase(), ask, answer) else {
+        let Some(item) = seat.named(ask, answer) else {
             return Ok(false);
         };
         if !seat.kernel.may_take(&item) {
             return Ok(false);
         }
         seat.make_room()?;
-        tell(&mut self.board, seat.id, ask);
-        carry(&mut self.mail, seat.id, seat.kernel.front(), &item);
+        self.between.tell(seat.id, ask);
+        self.between.carry(seat.id, seat.kernel.front(), &item);
         seat.take(item);
         Ok(true)
     }
 
     /// Whether every started core has ended.
     pub fn is_over(&self) -> bool
-        ensures { result ≡ list_all (λ (s : SeatValue). not (has_core self.now.board.view.started s.id) || is_ended_phase s.kernel.progress.phase) self.now.seats.items }
+        ensures { result ≡ list_all (λ (s : SeatValue). not (has_core self.now.between.board.view.started s.id) || is_ended_phase s.kernel.progress.phase) self.now.seats.items }
     {
-        let started = self.board.look().started;
+        let started = self.between.board.look().started;
         self.seats
             .iter()
             .all(|seat| !started.contains(seat.id) || seat.has_ended())

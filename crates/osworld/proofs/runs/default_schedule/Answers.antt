@@ -7,19 +7,19 @@ pub play_rounds-requires-clause-round : goal.play_rounds-requires-clause-round
 play_rounds-requires-clause-round c = c.as_slice.ensures.value ∙ c.in-Ok.ensures ∙ ap round_of (c.plan.ensures.value ∙ sym c.in_ok-world.ensures.config)
 
 pub play_rounds-requires-clause-begun : goal.play_rounds-requires-clause-begun
-play_rounds-requires-clause-begun c = begun-there c.args.config.now c.in_ok-world.world.config.now c.in_ok-world.ensures.config c.args.stimuli.now _ _ _ c.in_ok-world.ensures.plays
+play_rounds-requires-clause-begun c = begun-there c.args.config.now c.in_ok-world.world.config.now c.in_ok-world.ensures.config c.args.stimuli.now _ _ c.in_ok-world.ensures.plays
 
 pub returns-in-Ok-repeated : goal.returns-in-Ok-repeated
 returns-in-Ok-repeated c = record {
-  default = default-scheduled c.args.config.now c.in_ok-world.world.config.now c.in_ok-world.ensures.config c.args.stimuli.now _ _ _ _ _ _ c.in_ok-world.ensures.plays c.in-Ok-play_rounds.rounds c.in-Ok-repeated.schedule
+  default = default-scheduled c.args.config.now c.in_ok-world.world.config.now c.in_ok-world.ensures.config c.args.stimuli.now _ _ _ _ c.in_ok-world.ensures.plays c.in-Ok-play_rounds.rounds c.in-Ok-repeated.schedule
       (c.in-Ok-repeated.ensures ∙ ap (rounds c.in-Ok-play_rounds.rounds) (c.as_slice-2.ensures.value ∙ c.in-Ok.ensures ∙ ap round_of c.plan.ensures.value)) c.in-Ok-play_rounds.ensures.ok;
   broken_off = tt;
 }
 
 pub returns-in_default-play_rounds-clause-broken_off : goal.returns-in_default-play_rounds-clause-broken_off
 returns-in_default-play_rounds-clause-broken_off c =
-    inl (default-broken_off c.args.config.now c.in_ok-world.world.config.now c.in_ok-world.ensures.config c.args.stimuli.now _ _ _ _ _ _ c.in_ok-world.ensures.plays c.plan.ensures.limits c.requires c.in_default-play_rounds.ensures.err c.finish.result c.finish.ensures)
+    inl (default-broken_off c.args.config.now c.in_ok-world.world.config.now c.in_ok-world.ensures.config c.args.stimuli.now _ _ _ _ c.in_ok-world.ensures.plays c.plan.ensures.limits c.requires c.in_default-play_rounds.ensures.err c.finish.result c.finish.ensures)
 
 pub returns-clause-broken_off : goal.returns-clause-broken_off
 returns-clause-broken_off c =
-    inr (rw (c.finish-in-Err.ensures) (default-reported c.args.config.now c.in_ok-world.world.config.now c.in_ok-world.ensures.config c.args.stimuli.now _ _ _ _ _ _ c.in_ok-world.ensures.plays c.plan.ensures.limits c.requires c.in-Ok-play_rounds.rounds c.in-Ok-play_rounds.ensures.ok))
+    inr (rw (c.finish-in-Err.ensures) (default-reported c.args.config.now c.in_ok-world.world.config.now c.in_ok-world.ensures.config c.args.stimuli.now _ _ _ _ c.in_ok-world.ensures.plays c.plan.ensures.limits c.requires c.in-Ok-play_rounds.rounds c.in-Ok-play_rounds.ensures.ok))

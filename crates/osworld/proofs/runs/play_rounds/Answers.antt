@@ -5,20 +5,20 @@ use Rattle.osworld.proofs.Default.{default-cut, default-played, round-cut, round
 use Rattle.osworld.proofs.runs.play_rounds.Goals as goal
 
 pub loop-rounds-init : goal.loop-rounds-init
-loop-rounds-init c = (refl, refl, refl, λ stimuli plays. underway-first c.args.world.now.config.now stimuli c.args.world.now.seats.items c.args.world.now.mail c.args.world.now.board plays)
+loop-rounds-init c = (refl, refl, refl, λ stimuli plays. underway-first c.args.world.now.config.now stimuli c.args.world.now.seats.items c.args.world.now.between plays)
 
 pub returns-in_err-changed-clause-err : goal.returns-in_err-changed-clause-err
 returns-in_err-changed-clause-err c =
     on_err c.from_residual.result (λ stimuli plays.
     let underway = c.loop-rounds.invariant.3 stimuli plays in
-    default-cut c.args.world.now.config.now stimuli c.loop-rounds.rounds _ _ _ underway _ _ _
-    (round-cut c.args.world.now.config.now c.loop-rounds.world.config.now (ap (λ (b : Bor Plan). b.now) c.loop-rounds.invariant.0) stimuli c.args.round.now c.requires.round _ _ _ _ _ _ _ underway.plays (c.in_err-changed.ensures.err stimuli)))
+    default-cut c.args.world.now.config.now stimuli c.loop-rounds.rounds _ _ underway _ _
+    (round-cut c.args.world.now.config.now c.loop-rounds.world.config.now (ap (λ (b : Bor Plan). b.now) c.loop-rounds.invariant.0) stimuli c.args.round.now c.requires.round _ _ _ _ _ underway.plays (c.in_err-changed.ensures.err stimuli)))
 
 pub returns-then-either-clause-ok : goal.returns-then-either-clause-ok
 returns-then-either-clause-ok c stimuli plays =
     let underway = c.loop-rounds.invariant.3 stimuli plays in
-    default-played c.args.world.now.config.now stimuli c.loop-rounds.rounds _ _ _ underway c.in_ok-changed.changed c.is_over.result _ _ _
-    (round-played c.args.world.now.config.now c.loop-rounds.world.config.now (ap (λ (b : Bor Plan). b.now) c.loop-rounds.invariant.0) stimuli c.args.round.now c.requires.round _ _ _ _ _ _ _ underway.plays c.in_ok-changed.changed (c.in_ok-changed.ensures.ok stimuli))
+    default-played c.args.world.now.config.now stimuli c.loop-rounds.rounds _ _ underway c.in_ok-changed.changed c.is_over.result _ _
+    (round-played c.args.world.now.config.now c.loop-rounds.world.config.now (ap (λ (b : Bor Plan). b.now) c.loop-rounds.invariant.0) stimuli c.args.round.now c.requires.round _ _ _ _ _ underway.plays c.in_ok-changed.changed (c.in_ok-changed.ensures.ok stimuli))
     c.is_over.ensures (sym c.either.ensures ∙ c.if-either.true)
 
 pub loop-rounds-preserved : goal.loop-rounds-preserved
@@ -28,12 +28,12 @@ loop-rounds-preserved c = (
   c.in_ok-changed.ensures.len ∙ c.loop-rounds.invariant.2,
   λ stimuli plays.
       let underway = c.loop-rounds.invariant.3 stimuli plays in
-      underway-on c.args.world.now.config.now stimuli c.loop-rounds.rounds _ _ _ underway c.in_ok-changed.changed c.is_over.result _ _ _
-      (round-played c.args.world.now.config.now c.loop-rounds.world.config.now (ap (λ (b : Bor Plan). b.now) c.loop-rounds.invariant.0) stimuli c.args.round.now c.requires.round _ _ _ _ _ _ _ underway.plays c.in_ok-changed.changed (c.in_ok-changed.ensures.ok stimuli))
+      underway-on c.args.world.now.config.now stimuli c.loop-rounds.rounds _ _ underway c.in_ok-changed.changed c.is_over.result _ _
+      (round-played c.args.world.now.config.now c.loop-rounds.world.config.now (ap (λ (b : Bor Plan). b.now) c.loop-rounds.invariant.0) stimuli c.args.round.now c.requires.round _ _ _ _ _ underway.plays c.in_ok-changed.changed (c.in_ok-changed.ensures.ok stimuli))
       c.is_over.ensures (sym c.either.ensures ∙ c.if-either.false),
 )
 
 pub unreachable-requires : goal.unreachable-requires
 unreachable-requires c =
     let many : 2 ^ 63 ≤ c.loop-rounds.rounds = omega (arith, c.loop-rounds-test.false) in
-    too_many c.args.world.now.config.now c.requires.begun.0 c.loop-rounds.rounds _ _ _ (c.loop-rounds.invariant.3 c.requires.begun.0 c.requires.begun.1) many
+    too_many c.args.world.now.config.now c.requires.begun.0 c.loop-rounds.rounds _ _ (c.loop-rounds.invariant.3 c.requires.begun.0 c.requires.begun.1) many

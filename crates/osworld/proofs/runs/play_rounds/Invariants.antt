@@ -8,4 +8,4 @@ use Rattle.osworld.proofs.runs.play_rounds.Given as goal
 abbrev pub invariant-loop-rounds : goal.invariant-loop-rounds
 invariant-loop-rounds l =
     (l.world.config ≡ l.fn.world.config) × (l.world.reports ≡ l.fn.world.reports) × (vec_len l.world.seats ≡ vec_len l.fn.world.seats)
-    × ((stimuli : List CoreStimuli) → Plays l.fn.world.config.now stimuli (first_world l.fn.world.config.now) l.fn.world.seats.items l.fn.world.mail l.fn.world.board → IsUnderway l.fn.world.config.now stimuli l.rounds l.world.seats.items l.world.mail l.world.board)
+    × ((stimuli : List CoreStimuli) → Plays l.fn.world.config.now stimuli (first_world l.fn.world.config.now) l.fn.world.seats.items l.fn.world.between → IsUnderway l.fn.world.config.now stimuli l.rounds l.world.seats.items l.world.between)

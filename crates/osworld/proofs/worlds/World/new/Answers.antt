@@ -23,9 +23,10 @@ loop-number-preserved c =
 
 pub returns-clause-plays : goal.returns-clause-plays
 returns-clause-plays c =
-    started-all c.args.config.now c.args.stimuli.now c.loop-number.seats.items c.loop-number.number c.in_ok-new.field-0 c.new-3.result c.loop-number.invariant.0 c.loop-number.invariant.1 c.loop-number-test.false c.loop-number.auto.number-end
-    (c.in_ok-new.ensures ∙ ap (λ (p : Plan). empty_mail p.cap) c.plan-plan.ensures.value)
-    (c.new-3.ensures ∙ ap (λ (p : Plan). first_board p.master) c.plan-plan.ensures.value)
+    started-all c.args.config.now c.args.stimuli.now c.loop-number.seats.items c.loop-number.number c.in_ok-new.field-0 c.loop-number.invariant.0 c.loop-number.invariant.1 c.loop-number-test.false c.loop-number.auto.number-end
+    (c.in_ok-new.ensures.mail ∙ ap (λ (p : Plan). empty_mail p.cap) c.plan-plan.ensures.value)
+    (c.in_ok-new.ensures.board ∙ ap (λ (p : Plan). first_board p.master) c.plan-plan.ensures.value)
+    c.in_ok-new.ensures.spins
 
 pub invariant_of-result : goal.invariant_of-result
 invariant_of-result c = record {
