@@ -1,4 +1,5 @@
 -- What a core does at an item it does to every history that reads the same.
+use native.Mathlib.Omega.{arith}
 use Rattle.std.proofs.Common.{◌≡◌, ◌&&◌, ℕ, ◌+◌, Bool, true, false, cond, Option, Some, None, option_and_then, List, [], ◌∷◌, refl, subst, sym, ◌∙◌}
 use Rattle.std.specs.List.{enumerate_from, list_all, slice_get}
 use Rattle.std.specs.Option.{option_map_or}
@@ -56,9 +57,7 @@ allow-anybody v = record { scripts = λ r n op e. each (objects_of op) _; action
     each (x ∷ xs) core_of = and_from _ _ (or_right _ true refl) (each xs core_of)
 
 pub replied-anybody : (item : Item) → is_replied anybody anybody item ≡ true
-replied-anybody (Item.Received from number (Message.Request call)) = refl
-replied-anybody (Item.Received from number (Message.Action call)) = refl
-replied-anybody item = refl
+replied-anybody item = grind arith
 
 -- ---- who acts
 
@@ -86,8 +85,7 @@ pub record NamesActing (names : CoreId → Bool) (v : View) (h : History) : Type
   pub next : passes (next_of v h) (λ r. names (core_of_runner r)) ≡ true
 
 always : {A : Type 0} (o : Option A) → passes o (λ x. true) ≡ true
-always None = refl
-always (Some x) = refl
+always o = grind arith
 
 pub acting-anybody : (v : View) (h : History) → NamesActing anybody v h
 acting-anybody v h = record { acts = record { seen = seen-is v h; running = always _; awaits = always _ }; current = always _; next = always _ }
@@ -100,9 +98,7 @@ dispatches-is : (v : View) (h : History) → dispatches v h ≡ goes (current_ta
 dispatches-is v h = by (may_dispatch (state_of v h)) (best_job v h)
   where
     by : (b : Bool) (o : Option Job) → cond b (goes_to v o h) h ≡ goes (current_task h) (cond b (next_job o (running v h)) None) h
-    by false o = refl
-    by true None = refl
-    by true (Some j) = elim (option_map_or (same_job j) (running v h) false) as (λ b. cond b h (enters j.runner h) ≡ goes (current_task h) (cond b None (Some j.runner)) h) [ true ↦ refl | false ↦ refl ]
+    by b o = grind arith
 
 -- ---- what follows from an item
 
@@ -121,10 +117,7 @@ module _ (v : View) (may replies names : CoreId → Bool) (allowed : NamesAllow 
   starts-ok : (agreement : Option Agreement) → Allowed (starts agreement v.own)
   starts-ok agreement = (
     in_turn-ok _ (λ n task. (λ e. (own_named, tt), λ e. tt)) 0 v.own.tasks,
-    (
-      in_turn-ok _ (λ n alarm. if-some alarm.auto _ _ (always alarm.auto) (λ x any. (λ e. (refl, tt), λ e. tt))) 0 v.own.alarms,
-      in_turn-ok _ (λ n table. if-some table.auto _ _ (always table.auto) (λ x any. (λ e. (refl, tt), λ e. tt))) 0 v.own.tables,
-    ),
+    (in_turn-ok _ (λ n alarm. if-some alarm.auto _ _ (always alarm.auto) (λ x any. (λ e. (refl, tt), λ e. tt))) 0 v.own.alarms, in_turn-ok _ (λ n table. if-some table.auto _ _ (always table.auto) (λ x any. (λ e. (refl, tt), λ e. tt))) 0 v.own.tables),
   )
 
   performs-ok : (r : Runner) → names (core_of_runner r) ≡ true → (o : Option Op) → ((op : Op) → o ≡ Some op → IsAllowed v may op) → Allowed (performs r (option_map_or Perform o End))
@@ -133,8 +126,7 @@ module _ (v : View) (may replies names : CoreId → Bool) (allowed : NamesAllow 
 
   effect-ok : (item : Item) → is_replied replies names item ≡ true → Allowed (effect item)
   effect-ok (Item.Began core s) m = (refl, tt)
-  effect-ok (Item.Pass1 Agreement.Conflict) m = (refl, tt)
-  effect-ok (Item.Pass1 agreement) m = (refl, tt)
+  effect-ok (Item.Pass1 agreement) m = (grind arith, tt)
   effect-ok (Item.Pass2 cores) m = λ s acting. subst (λ core. Allowed (starts s.agreement core)) (sym acting.seen.core) (starts-ok s.agreement)
   effect-ok (Item.Stim Stimulus.Op) m = λ s acting. if-some s.running _ _ acting.running (λ r n q seen.
       performs-ok r n (slice_get (script_of q.core r) (q.row r).frame.pc)

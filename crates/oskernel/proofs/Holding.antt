@@ -12,7 +12,7 @@ use Rattle.osplan.specs.View.{View}
 use Rattle.osstate.specs.Readings.{knows_started}
 use Rattle.osact.specs.Acts.{Sends, act}
 use Rattle.osact.specs.Seen.{seen_of}
-use Rattle.osact.proofs.Kept.{IsKept, anybody, is_local, is_within, may_await}
+use Rattle.osact.proofs.Kept.{IsKept, anybody, is_local, is_within, may_await, nobody, none-awaited}
 use Rattle.oskernel.specs.Step.{after}
 use Rattle.oskernel.proofs.Carried.{IsActing, NamesActing, NamesAllow, acting-anybody, after-carried, allow-anybody, is_replied, next_of, replied-anybody}
 
@@ -23,6 +23,15 @@ pub record Holds (may replies names : CoreId → Bool) (P : History → Type 0) 
   pub asked : (core : CoreId) (message : Message) (h : History) → may core ≡ true → P h → P (act (Sends core message) h)
   pub replied : (core : CoreId) (s : Status) (value : Option ℤ) (h : History) → replies core ≡ true → P h → P (act (Sends core (Message.Reply s value)) h)
   pub opened : (call : OpenCall) (h : History) → may_await may call.awaits ≡ true → P h → P (Noted (Opened call) ∷ h)
+
+-- Where nobody is asked or answered, only entries of the core itself follow.
+pub holds-local : (names : CoreId → Bool) (P : History → Type 0) → ((e : Entry) (h : History) → is_local names e ≡ true → P h → P (e ∷ h)) → Holds nobody nobody names P
+holds-local names P local = record {
+  local = local;
+  asked = λ core message h m p. absurd (false≢true m);
+  replied = λ core s value h m p. absurd (false≢true m);
+  opened = λ call h m p. absurd (none-awaited call.awaits m);
+}
 
 -- Where marks may name objects of the own core, of those that may be asked, and who acts, it holds after an item.
 module _ (v : View) (may replies names : CoreId → Bool) (P : History → Type 0) (holds : Holds may replies names P) (allowed : NamesAllow v may) (named : (core : CoreId) → is_within v may core ≡ true → names core ≡ true) (own_named : names v.own.id ≡ true) (acting : (h : History) → P h → NamesActing names v h) where

@@ -1,4 +1,5 @@
 -- What a core that names no object of another core does at an item, it does alone.
+use native.Mathlib.Omega.{arith}
 use Rattle.std.proofs.Common.{◌≡◌, ◌&&◌, ◌||◌, ℕ, Bool, true, false, cond, Option, Some, None, is_none, option_map, List, ◌∷◌, refl, sym, ap, ◌∙◌}
 use Rattle.std.proofs.lemmas.Bool.{false≢true}
 use Rattle.osbase.specs.declared.references.CoreId.{CoreId}
@@ -37,13 +38,10 @@ module _ (v : View) (ids : List CoreId) (s : CoreSet) where
     pub started : knows_started h v.core ≡ knows_started k v.core
 
   later-runner : (d : ℕ) (o : Option Job) → option_map (λ (j : Job). j.runner) (option_map (later d) o) ≡ option_map (λ (j : Job). j.runner) o
-  later-runner d None = refl
-  later-runner d (Some j) = refl
+  later-runner d o = grind arith
 
   later-next : (d : ℕ) (o p : Option Job) → next_job (option_map (later d) o) (option_map (later d) p) ≡ next_job o p
-  later-next d None p = refl
-  later-next d (Some j) None = refl
-  later-next d (Some j) (Some i) = ap (λ (b : Bool). cond b None (Some j.runner)) (stamp-later d j.stamp i.stamp)
+  later-next d o p = grind (arith, stamp-later d)
 
   next-here : (k : History) → next_of v (here k) ≡ next_of self k
   next-here k =
