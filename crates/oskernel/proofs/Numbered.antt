@@ -1,6 +1,7 @@
 -- A loop over a core's objects of one kind, in index order: those before a place have acted.
 use Rattle.std.proofs.Common.{◌≡◌, ℕ, ◌+◌, ◌<◌, ◌≤◌, Some, List, [], ◌∷◌, length, take, refl, ap, sym, ◌∙◌, arith, get_or, Vec, Global}
 use Rattle.std.specs.List.{enumerate_from, slice_get}
+use Rattle.std.proofs.lemmas.List.{take_all}
 use Rattle.std.proofs.lemmas.List.FromFn.{get_or-enumerate_from, length-enumerate_from}
 use Rattle.std.proofs.lemmas.Option.{slice_get-get_or}
 use Rattle.osbase.specs.declared.marks.Mark.{Mark}
@@ -12,7 +13,7 @@ use Rattle.osstate.specs.State.{KernelState, Stands}
 use Rattle.osstate.proofs.Effecting.{as_effect, then}
 use Rattle.osact.specs.Acts.{Acts, does, for_each}
 use Rattle.osact.proofs.Remarking.{as_remarks, remarks-then}
-use Rattle.osdue.proofs.InTurn.{next-act, whole}
+use Rattle.osdue.proofs.InTurn.{next-done}
 use Rattle.oskernel.specs.Step.{in_turn}
 
 module _ {A : Type 0} (acts : Core → ℕ → A → Acts) (objects : Core → List A) where
@@ -36,7 +37,7 @@ module _ {A : Type 0} (acts : Core → ℕ → A → Acts) (objects : Core → L
     past-last : length xs ≤ place → (v : View) (h : History) → Stands v h old → act_all v h ≡ acted place v h
     past-last past v h stands =
         ap (λ (ps : List (ℕ × A)). does (for_each (λ (p : ℕ × A). acts v.own p.0 p.1) ps) v h)
-        (sym (whole (enumerate_from 0 (objects v.own)) place (omega (arith, past, ap length (here v h stands), length-enumerate_from 0 (objects v.own)))))
+        (sym (take_all place (enumerate_from 0 (objects v.own)) (omega (arith, past, ap length (here v h stands), length-enumerate_from 0 (objects v.own)))))
 
     pub all-acted : {now : KernelState} {vec vec' : Vec Mark Global} {m n m' n' : ℕ} → length xs ≤ place → m ≤ m' → n ≤ n' → Effects m n (acted place) old now vec vec' → Effects m' n' act_all old now vec vec'
     all-acted past few short before = as_effect (past-last past) few short before
@@ -50,7 +51,7 @@ module _ {A : Type 0} (acts : Core → ℕ → A → Acts) (objects : Core → L
             let inside : place < length (objects v.own) = omega (arith, within, ap length there) in
             let zero : 0 + place ≡ place = omega arith in
             let found : (place, x) ≡ get_or (enumerate_from 0 (objects v.own)) place (place, x) = sym (get_or-enumerate_from 0 (objects v.own) place (place, x) inside ∙ λ i. (zero i, (sym (is ∙ ap (λ (ys : List A). get_or ys place x) there)) i)) in
-            next-act (λ (p : ℕ × A). acts v.own p.0 p.1) v (enumerate_from 0 (objects v.own)) place (place, x) (place, x) h (omega (arith, inside, length-enumerate_from 0 (objects v.own))) found
+            next-done (λ (p : ℕ × A) (k : History). does (acts v.own p.0 p.1) v k) (λ (ps : List (ℕ × A)) (k : History). does (for_each (λ (p : ℕ × A). acts v.own p.0 p.1) ps) v k) (λ k. refl) (λ p ps k. refl) (enumerate_from 0 (objects v.own)) place (place, x) (place, x) h (omega (arith, inside, length-enumerate_from 0 (objects v.own))) found
             ∙ sym (means v (acted place v h) (ap (λ (s : KernelState). s.view) stands.is))
 
         pub one-more : {now next : KernelState} {vec vec' vec'' : Vec Mark Global} {a b m n m' n' : ℕ} → m + a ≤ m' → n + b ≤ n' → Effects m n (acted place) old now vec vec' → Effects a b f now next vec' vec'' → Effects m' n' (acted (place + 1)) old next vec vec''
