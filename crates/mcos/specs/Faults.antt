@@ -6,12 +6,14 @@ use Rattle.ostrace.specs.Trace.{line_end, spaced}
 use Rattle.mcos.specs.declared.faults.Fault.{Fault}
 use Rattle.mcos.specs.declared.faults.Fault.TheVariants.{Text, NoMemoryToRun, WriteFailed, Unreadable}
 
+-- The printed number of a fault. Of a text's fault it is that of `osplan/specs/Fault.antt`. [own]
 abbrev pub fault_number : Fault → ℕ
 fault_number (Text fault) = conf_fault_number fault
 fault_number NoMemoryToRun = 16
 fault_number WriteFailed = 19
 fault_number Unreadable = 21
 
+-- The printed word of a fault. Of a text's fault it is that of `osplan/specs/Fault.antt`. [own]
 abbrev pub fault_name : Fault → List ℕ
 fault_name (Text fault) = conf_fault_name fault
 fault_name NoMemoryToRun = codes "NoMemory"

@@ -45,13 +45,15 @@ pub record IsWithin (max first cycle : ℕ) : Type 0 where
 abbrev pub sets_alarm : AlarmRef → ℕ → ℕ → Acts
 sets_alarm a first cycle = notes (AlarmSet a first cycle)
 
--- [OSEK/VDX OS 2.2.3, section 13.6.3.3]
+-- SetRelAlarm, where the alarm stands: the alarm is not in use, and its counter admits the increment and the cycle. It is due first
+-- after as many counts as the increment says. [OSEK/VDX OS 2.2.3, section 13.6.3.3]
 abbrev pub relative_setting : AlarmRef → ℕ → ℕ → Seen → Service
 relative_setting a increment cycle s =
     without_value (setting_checks s a (is_setting (is_increment increment) cycle s.core a)) (sets_alarm a increment cycle)
 
--- It is due when its counter has this value: the present one after a full turn. [OSEK/VDX OS 2.2.3, section 13.6.3.4; the full
--- turn: own]
+-- SetAbsAlarm, where the alarm stands: the alarm is not in use, the start is a value of its counter, and that admits the cycle. It is
+-- due first when its counter has this value: the present one after a full turn. [OSEK/VDX OS 2.2.3, section 13.6.3.4; the full turn:
+-- own]
 abbrev pub absolute_setting : AlarmRef → ℕ → ℕ → Seen → Service
 absolute_setting a start cycle s =
     without_value (setting_checks s a (is_setting (is_start start) cycle s.core a)) (sets_alarm a (s.counts_to a start) cycle)
@@ -60,10 +62,11 @@ absolute_setting a start cycle s =
 abbrev pub use_checks : Seen → AlarmRef → List Check
 use_checks s a = (not (s.is_in_use a), EOsNofunc) ∷ []
 
--- [OSEK/VDX OS 2.2.3, section 13.6.3.5]
+-- CancelAlarm, where the alarm stands: the alarm is in use, and then no longer. [OSEK/VDX OS 2.2.3, section 13.6.3.5]
 abbrev pub cancellation : AlarmRef → Seen → Service
 cancellation a s = without_value (use_checks s a) (notes (AlarmCancelled a))
 
--- The value is the number of counts that are left. [OSEK/VDX OS 2.2.3, section 13.6.3.2]
+-- GetAlarm, where the alarm stands: the alarm is in use, and the value is the number of counts that are left.
+-- [OSEK/VDX OS 2.2.3, section 13.6.3.2]
 abbrev pub inquiry : AlarmRef → Seen → Service
 inquiry a s = record { checks = use_checks s a; effect = nothing; value = option_map pos (s.counts_left a) }

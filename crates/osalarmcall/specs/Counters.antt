@@ -14,7 +14,7 @@ use Rattle.osact.specs.Service.{Service, serves_own}
 abbrev pub value_inquiry : CounterRef → Seen → Service
 value_inquiry c s = record { checks = []; effect = nothing; value = Some (pos (s.value c)) }
 
--- [AUTOSAR SWS OS 4.x, SWS_Os_00376 and SWS_Os_00377]
+-- GetCounterValue, for a counter of the own core. [AUTOSAR SWS OS 4.x, SWS_Os_00376 and SWS_Os_00377]
 abbrev pub gets_value : Runner → Option CounterRef → Acts
 gets_value r target = serves_own r ServiceId.GetCounterValue value_inquiry (λ core. own_of counter_object core target)
 

@@ -78,6 +78,7 @@ is_due max setting = option_map_or (λ (x : AlarmSetting). is_in_turn max x && i
 abbrev pub will_be_due : AlarmSetting → Bool
 will_be_due setting = nat_lt 0 setting.cycle || nat_lt setting.counts setting.first
 
+-- If an alarm is set without a cycle, it is in use until the count at which it is due. Its line `alarm A` follows that count.
 abbrev pub is_in_use : ℕ → Option AlarmSetting → Bool
 is_in_use max setting = option_map_or (λ (x : AlarmSetting). is_in_turn max x && will_be_due x) setting false
 
@@ -103,14 +104,17 @@ pub data TableState : Type 0 where
   NextOf : TableRef → TableState
   Running : TableRun → TableState
 
+-- A table is started: its first period begins after so many counts.
 abbrev pub started_after : ℕ → TableState
 started_after wait = Running (record { wait = wait; counts = 0 })
 
+-- The table's counter is incremented. A table that runs counts this; another one does not.
 abbrev pub counted_once : TableState → TableState
 counted_once (Running run) = Running (record run { counts = suc run.counts })
 counted_once state = state
 
--- The state of a table, by its counter: the last entry that concerns it tells. [AUTOSAR SWS OS 4.x, section 7.3]
+-- What an entry does to the state of a table, which goes by this counter. If one table waits for another, that is the state of the one
+-- that waits; the other's stays. [AUTOSAR SWS OS 4.x, section 7.3]
 abbrev pub table_after : CounterRef → TableRef → Entry → TableState → TableState
 table_after c s (Noted (TableStarted t wait)) state = if same_table t s then started_after wait else state
 table_after c s (Noted (TableQuit t)) state = if same_table t s then Stopped else state
@@ -118,6 +122,8 @@ table_after c s (Noted (TableNext t u)) state = if same_table u s then NextOf t 
 table_after c s (Noted (Counted d)) state = if same_counter d c then counted_once state else state
 table_after c s e state = state
 
+-- The state of a table: by the last entry that starts it, stops it or lets it wait. Without one it is stopped. If it runs, its state
+-- has the counts since. [AUTOSAR SWS OS 4.x, section 7.3]
 abbrev pub table_state : CounterRef → TableRef → History → TableState
 table_state c s [] = Stopped
 table_state c s (e ∷ h) = table_after c s e (table_state c s h)

@@ -76,6 +76,7 @@ halt_after core Look halt = halt
 halt_after core (AskHalt status) halt = Some (first_asked halt (core, status))
 halt_after core LookHalt halt = halt
 
+-- The board after a call of this core: what the call does to the sets, and to who asked first for a shutdown of all cores.
 abbrev pub board_after : CoreId → BoardCall → BoardState → BoardState
 board_after core call board = record { view = view_after core call board.view; halt = halt_after core call board.halt }
 
@@ -83,6 +84,8 @@ board_after core call board = record { view = view_after core call board.view; h
 abbrev pub start_answer : BoardView → CoreId → Status
 start_answer view k = if has_core view.started k then EOsState else EOk
 
+-- What the board answers a call of this core: a start has a status, a look shows the sets, and of a shutdown of all cores the answer is
+-- who asked for it first. Other calls are acknowledged.
 abbrev pub board_reply : CoreId → BoardCall → BoardState → BoardReply
 board_reply core (Start k) board = Started (start_answer board.view k)
 board_reply core (Enter mode) board = Acknowledged
@@ -92,6 +95,8 @@ board_reply core Look board = Shown board.view
 board_reply core (AskHalt status) board = Decided (first_asked board.halt (core, status))
 board_reply core LookHalt board = Halting board.halt
 
+-- One board for all cores, on which a shutdown of all cores can be asked for: how it is at first, what a call does to it, and what the
+-- call is answered. [own]
 abbrev pub one_board : Object CoreId BoardState BoardCall BoardReply
 one_board = record { first = first_board; after = board_after; reply = board_reply }
 

@@ -9,15 +9,15 @@ use Rattle.osshape.specs.declared.declarations.Declaration.{Declaration}
 use Rattle.oscheck.specs.Operation.{is_operation_known, op_of}
 pub use Rattle.oscript.specs.Calls.{any_action}
 
--- The action that a text means. One that is not in good form, or whose name has no task, stands for none that is used.
+-- The action that a text means. If it is not in form, or its name has no task, it stands for one that is not used.
 abbrev pub action_of : List Declaration → List ℕ → RemoteCall
 action_of objects text = unwrap_or (action_of_op (op_of objects text)) any_action
 
--- The name of an action in good form is that of a task. A text in another form, of another operation too, has no names,
+-- The name of an action in form is that of a task. Any other text has no names.
 abbrev pub is_action_known : List Declaration → List ℕ → Bool
 is_action_known objects text = not (is_action text) || is_operation_known objects text
 
--- and no masks.
+-- Each mask of an action in form is in its range. Any other text has no masks.
 abbrev pub is_action_masked : List ℕ → Bool
 is_action_masked text = not (is_action text) || has_masks text
 

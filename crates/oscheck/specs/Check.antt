@@ -195,7 +195,7 @@ is_table_masked table = list_all is_point_masked table.points
 abbrev pub is_core_masked : CoreText → Bool
 is_core_masked core = list_all is_task_masked core.tasks && list_all is_alarm_masked core.alarms && list_all is_table_masked core.tables
 
--- Each mask in an operation or an action in good form is in its range.
+-- Each mask in an operation or an action in form is in its range.
 abbrev pub are_masks : ConfigText → Bool
 are_masks t = list_all is_core_masked t.cores
 
@@ -210,14 +210,14 @@ are_timed t = list_all (is_core_timed (declarations t.cores)) t.cores
 
 -- ---- scripts
 
--- Each operation of the script is in good form, and lets the job go on within the script.
+-- Each operation of the script is in form and in range, and lets the job go on within the script.
 abbrev pub is_script : List Declaration → List ℕ → Bool
 is_script objects script = list_all is_operation (operations_of script) && is_jumping_within (map (op_of objects) (operations_of script))
 
 abbrev pub is_task_script : List Declaration → TaskText → Bool
 is_task_script objects task = is_script objects task.script
 
--- The alarm's action is in good form.
+-- The alarm's action is in form.
 abbrev pub is_alarm_acting : AlarmText → Bool
 is_alarm_acting alarm = is_action alarm.action
 
@@ -237,5 +237,6 @@ are_operations t = list_all (is_core_script (declarations t.cores)) t.cores
 
 -- ---- the table, in ascending order of faults
 
+-- The tests of a configuration's text. Each holds if the text has not that fault, whatever other faults it has. [own]
 abbrev pub tests_of : ConfigText → Tests
 tests_of t = (Limit, is_text_within t) ∷ (DuplicateName, is_each_once t) ∷ (UnknownName, are_known t) ∷ (WrongCore, are_near t) ∷ (BadMask, are_masks t) ∷ (BadTable, are_timed t) ∷ (BadScript, are_operations t) ∷ []

@@ -13,14 +13,15 @@ operations_of script = parts_of 59 script
 
 -- ---- operations
 
--- Each name of an operation in good form is that of an object of its kind.
+-- Each name of an operation in form is that of an object of its kind.
 abbrev pub is_operation_known : List Declaration → List ℕ → Bool
 is_operation_known objects text = is_known (place_of objects) text
 
+-- The operation is in form and in range.
 abbrev pub is_operation : List ℕ → Bool
 is_operation text = is_formed text
 
--- The operation that a text means. One that is not in good form, or whose names have no objects, stands for none that is used.
+-- The operation that a text means. If it is not in form and in range, or its names have no objects, it stands for one that is not used.
 abbrev pub op_of : List Declaration → List ℕ → Op
 op_of objects text = unwrap_or (op_meant (place_of objects) text) Work
 

@@ -533,7 +533,7 @@ pub fn are_timed(text: &ConfigText, objects: &Objects) -> bool
 
 // The fault of a text without those, some name of which names nothing or what it may not name, some mask of which is
 // out of its range, the points of some table of which do not come in order, or some script or action of which is not in
-// good form.
+// form and in range.
 fn fault_of_names(text: &ConfigText, objects: &Objects) -> ConfFault
     requires objects { objects.now.declared ≡ declarations text.now.cores }
     requires checked { (is_text_within text.now && is_each_once text.now) ≡ true }

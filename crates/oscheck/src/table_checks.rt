@@ -270,7 +270,7 @@ fn is_table_masked(table: &TableText) -> bool
     table.points.as_slice().iter().all(is_point_masked)
 }
 
-/// Whether each mask in an action in good form is in its range.
+/// Whether each mask in an action in form is in its range.
 pub fn are_tables_masked(tables: &[TableText]) -> bool
     ensures { result ≡ list_all is_table_masked tables.now }
 {

@@ -66,6 +66,8 @@ counter_by core c h = counter_at (max_of core c) (counts_of c h)
 abbrev pub alarm_by : Core → AlarmRef → History → Alarm
 alarm_by core a h = option_map_or (λ (x : AlarmValue). alarm_at (max_of core x.counter) (counts_of x.counter h) (alarm_of x.counter a h)) (own_alarm core a) unset
 
+-- After a history: the value of each counter of the core, when each of its alarms is due next, if it is in use, and the alarms of each
+-- counter, in index order.
 abbrev pub clocks_of : Core → History → ClockState
 clocks_of core h = record {
   counters = map (λ (n : ℕ). counter_by core (counter_ref core n) h) (numbers_from 0 (length core.counters));

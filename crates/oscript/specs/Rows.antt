@@ -285,7 +285,8 @@ has_event arg = true
 abbrev pub has_masks : Op → Bool
 has_masks op = list_all has_event (form_of_op op).1
 
--- The operation may name no object of another core. [own]
+-- The operation may name no object of another core: GetResource, ReleaseResource, GetEvent, GetCounterValue, and the five services of
+-- schedule tables. [own]
 abbrev pub names_own_only : Op → Bool
 names_own_only (Op.GetResource target) = true
 names_own_only (Op.ReleaseResource target) = true

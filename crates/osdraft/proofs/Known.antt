@@ -97,7 +97,7 @@ near-script objects id (task ∷ tasks) formed =
     ap (λ b. b && list_all (λ (task : Task). list_all (limits.stays_on id) task.script) (map (task_plan objects) tasks)) (near-ops objects id (operations_of task.script) operations)
     ∙ ap (λ b. is_script_near objects id task.script && b) (near-script objects id tasks parts.1)
 
--- The plan's scripts stay on their cores where the text's do, if these are in good form, and so do the counters of its alarms
+-- The plan's scripts stay on their cores where the text's do, if these are in form and in range, and so do the counters of its alarms
 -- and tables.
 pub near_kept : (objects : List Declaration) (cores : List CoreText) → list_all (is_core_script objects) cores ≡ true → list_all limits.is_core_near (map (core_plan objects) cores) ≡ list_all (is_core_near objects) cores
 near_kept objects [] formed = refl

@@ -127,19 +127,24 @@ plan_of t = record {
 
 -- ---- a text's faults, in ascending order: past the first or the second nothing more is judged
 
+-- If the data have not the shape of a configuration, that is their only fault. Otherwise they have those of its tests that fail. [own]
 abbrev pub faults_of_data : Data → List ConfFault
 faults_of_data d = option_map_or (λ t. failing (tests_of t)) (config_shape d) (Shape ∷ [])
 
+-- The faults of a text. If it is no JSON, that is its only fault. [own]
 abbrev pub faults_of : List ℕ → List ConfFault
 faults_of text = option_map_or faults_of_data (read text) (NotJson ∷ [])
 
+-- The least fault that a text has. [own]
 abbrev pub IsLeastFault : ConfFault → List ℕ → Type 0
 IsLeastFault fault text = IsLeast fault (faults_of text)
 
 -- ---- the configuration of a text without a fault
 
+-- The plan of a text of the shape of a configuration, if none of its tests fails. [own]
 abbrev pub config_of_shape : ConfigText → Option Plan
 config_of_shape t = if_faultless (failing (tests_of t)) (plan_of t)
 
+-- The configuration that a text means, if it has no fault. [own]
 abbrev pub config_of : List ℕ → Option Plan
 config_of text = option_and_then config_of_shape (option_and_then config_shape (read text))

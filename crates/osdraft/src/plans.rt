@@ -164,7 +164,7 @@ fn counters_of<'e>(
     read_each(alloc, &Planner { objects }, counters)
 }
 
-/// The action that a text means; None where it is not in good form, or its name or its mask not what it has to be.
+/// The action that a text means; None where it is not in form, or its name or its mask not what it has to be.
 pub fn action_meant(objects: &Objects, text: &str) -> Option<RemoteCall>
     ensures { result ≡ known_action objects.now.declared text.now }
 {
@@ -319,7 +319,7 @@ fn near_cores_of<'e>(
 
 /// The plan of a text. `Unfit` where a script has more operations than it may have, a name names nothing, or what it may
 /// not name, a mask is out of its range, the points of a table do not come in order or have delays that its counter does
-/// not admit, an operation or an action is not in good form, or an operation goes on outside of its script.
+/// not admit, an operation or an action is not in form and in range, or an operation goes on outside of its script.
 pub fn plan_of<'e>(
     alloc: Global,
     text: &'e ConfigText<'e>,

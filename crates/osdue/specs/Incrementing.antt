@@ -29,7 +29,7 @@ abbrev pub counts_and_returns : Runner → Option CounterRef → Acts
 counts_and_returns r None = nothing
 counts_and_returns r (Some c) = both (counts c) (returns r ServiceId.IncrementCounter EOk None)
 
--- [AUTOSAR SWS OS 4.x, SWS_Os_00286]
+-- IncrementCounter, for a software counter of the own core: the counter is incremented. [AUTOSAR SWS OS 4.x, SWS_Os_00286]
 abbrev pub increments : Runner → Option CounterRef → Acts
 increments r target = look (λ s. answers r ServiceId.IncrementCounter (incrementing_checks s target) (counts_and_returns r target))
 

@@ -97,12 +97,15 @@ pass_each due = for_each passes due
 
 -- ---- how many envelopes join the outbox, at most
 
+-- Of a point, if there is one: an envelope for each of its actions on another core's task.
 abbrev pub posted_by_point : Core → Option ExpiryPoint → ℕ
 posted_by_point core point = option_map_or (posted_at core) point 0
 
+-- Of the end of a period: if another period begins there, of the table that waits or of this one, what its point of offset 0 posts.
 abbrev pub posted_by_end : Core → TableRef → Option TableRef → ℕ
 posted_by_end core s (Some next) = posted_by_point core (first_point core next)
 posted_by_end core s None = if repeats core s then posted_by_point core (first_point core s) else 0
 
+-- Of a table that is due: what the point posts that is due and, if its period ends, what that end posts.
 abbrev pub posted_by_table : Core → DueTable → ℕ
 posted_by_table core d = posted_by_point core (due_point core d) + (if d.due.ends then posted_by_end core d.table d.next else 0)

@@ -82,7 +82,7 @@ form-action text = by (op_meant place_of_any text) refl
 pub meant_action : (place : ObjectKind → List ℕ → Option Place) (text : List ℕ) (op : Op) → op_meant place text ≡ Some op → is_action_op op ≡ is_action text
 meant_action place text op e = formed-action place text op e ∙ sym (form-action text)
 
--- An action is in good form.
+-- An action is in form and in range.
 formed-by : (o : Option (Verb × List (Arg (List ℕ)))) → option_map_or is_action_form o false ≡ true → is_some o ≡ true
 formed-by None e = absurd (true≢false (sym e))
 formed-by (Some form) e = refl

@@ -117,13 +117,13 @@ module _ (place : ObjectKind → List ℕ → Option Place) where
   pub named-alike : (text : List ℕ) (op : Op) → op_meant place text ≡ Some op → (other : Op) × (op_named place text ≡ Some other) × AreAlike op other
   named-alike text op e = by-words text (words_of text) refl op e
 
-  -- One in good form that means none names none.
+  -- One in form and in range that means none names none.
   named-none : (text : List ℕ) → is_formed text ≡ true → op_meant place text ≡ None → op_named place text ≡ None
   named-none text formed e =
       let unknown : is_known place text ≡ false = formed-known place text formed ∙ ap is_some e in
       none-of (op_named place text) (or_parts (is_some (op_named place text)) _ (known_named place text ∙ unknown)).0
 
-  -- So of a text in good form the same holds of both, if it holds of operations that are alike.
+  -- So of a text in form and in range the same holds of both, if it holds of operations that are alike.
   pub named-same : {X : Type 0} (f : Op → X) → ((a b : Op) → AreAlike a b → f a ≡ f b) → (text : List ℕ) → is_formed text ≡ true → f (unwrap_or (op_meant place text) Work) ≡ f (unwrap_or (op_named place text) Work)
   named-same f keeps text formed = by (op_meant place text) refl
     where

@@ -1,4 +1,4 @@
--- Whether names have their places, where a text is in good form but for the ranges of its numbers.
+-- Whether names have their places, where a text is in form.
 use Rattle.std.proofs.Common.{◌≡◌, ℕ, ◌||◌, not, Bool, true, false, Option, Some, None, is_some, find, map, option_map, option_and_then, unwrap_or, List, [], ◌∷◌, refl, sym, ap, ◌∙◌}
 use Rattle.std.specs.Option.{option_map_or}
 use Rattle.std.specs.Str.{bytes_eq}
@@ -70,7 +70,7 @@ words-named place (word ∷ words) = by (verb_of word)
 pub known_named : (place : ObjectKind → List ℕ → Option Place) (text : List ℕ) → (is_some (op_named place text) || not (is_some (op_named place_of_any text))) ≡ is_known place text
 known_named place text = words-named place (words_of text)
 
--- ---- a text in good form is one without regard to ranges, with the same names
+-- ---- a text in form and in range is one in form, with the same names
 
 module _ (place : ObjectKind → List ℕ → Option Place) where
   -- a word as an argument of a kind, as one without regard to its range, and whether its name has a place
@@ -112,7 +112,7 @@ module _ (place : ObjectKind → List ℕ → Option Place) where
       ∙ ap (λ o. option_map_or (λ args. is_some (resolve_args place args)) o true) loose.1
       ∙ loose.2 ∙ ap (λ (f : Verb × List (Arg (List ℕ))). is_some (resolve_args place f.1)) m.2
 
-  -- The names of a text in good form are known where they have places.
+  -- The names of a text in form and in range are known where they have places.
   pub form-known : (text : List ℕ) (form : Verb × List (Arg (List ℕ))) → form_of text ≡ Some form → is_known place text ≡ is_some (resolve_args place form.1)
   form-known text form e = words-known (words_of text) form e
 

@@ -86,7 +86,7 @@ module _ (place : ObjectKind → List ℕ → Option Place) where
   pub no_first : (text : List ℕ) → find (λ v. is_first (word_of v) (words_of text)) VERBS ≡ None → op_meant place text ≡ None
   no_first text none = by-none text (words_of text) refl none
 
--- ---- where every name has a place, a text in good form means an operation
+-- ---- where every name has a place, a text in form and in range means an operation
 
 kept : {A : Type 0} (f : A → Arg (List ℕ)) → ((a : A) → is_some (resolve_arg place_of_any (f a)) ≡ true) → (o : Option A) → is_some (option_and_then (resolve_arg place_of_any) (option_map f o)) ≡ is_some (option_map f o)
 kept f all None = refl

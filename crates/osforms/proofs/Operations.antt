@@ -83,7 +83,7 @@ module _ (place : ObjectKind → List ℕ → Option Place) where
   pub meant-in-form : (text : List ℕ) (op : Op) → op_meant place text ≡ Some op → is_in_form op ≡ true
   meant-in-form text op e = let m = meant-form place text op e in rw (m.verb_is, m.args_are) m.fit
 
-  -- A text that means an operation is in good form, and its names are known.
+  -- A text that means an operation is in form and in range, and its names are known.
   pub meant-known : (text : List ℕ) (op : Op) → op_meant place text ≡ Some op → (is_formed text ≡ true) × (is_known place text ≡ true)
   meant-known text op e =
       let m = meant-form place text op e in

@@ -9,6 +9,6 @@ use Rattle.osforms.specs.Operation.{op_meant, place_of_any}
 abbrev pub is_action_op : Op → Bool
 is_action_op op = is_some (action_of_op op)
 
--- The text is that of an action, in good form, whatever its name stands for.
+-- The text is that of an action, in form, whatever its name stands for.
 abbrev pub is_action : List ℕ → Bool
 is_action text = option_map_or is_action_op (op_meant place_of_any text) false

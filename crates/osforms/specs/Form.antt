@@ -60,7 +60,9 @@ abbrev pub form_of_words : List (List ℕ) → Option (Verb × List (Arg (List �
 form_of_words [] = None
 form_of_words (word ∷ words) = option_and_then (form_of_verb words) (verb_of word)
 
--- What an operation's text says, where it is in good form.
+-- What an operation's text says, if it is in form and in range. It is in form if it has the word of a verb and as many arguments as
+-- that has, each of its kind, where a `Number` may be any decimal one. It is in range if each `Number` is also within its bounds. For
+-- both a mask may be any decimal number; it stands as 0 if it is out of its own range.
 abbrev pub form_of : List ℕ → Option (Verb × List (Arg (List ℕ)))
 form_of text = form_of_words (words_of text)
 

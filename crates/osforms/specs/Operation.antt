@@ -32,7 +32,7 @@ resolve_args place (a ∷ args) = and_then_rest (resolve_arg place a) (resolve_a
 abbrev pub resolved : (ObjectKind → List ℕ → Option Place) → Verb × List (Arg (List ℕ)) → Option (Verb × List (Arg Place))
 resolved place form = option_map (λ args. (form.0, args)) (resolve_args place form.1)
 
--- The operation that a text means, where it is in good form and its names have places.
+-- The operation that a text means, if it is in form and in range and its names have places.
 abbrev pub op_meant : (ObjectKind → List ℕ → Option Place) → List ℕ → Option Op
 op_meant place text = option_map op_of (option_and_then (resolved place) (form_of text))
 
@@ -62,11 +62,11 @@ two_of two = two.0 ∷ two.1 ∷ []
 abbrev pub verb_meant : (ObjectKind → List ℕ → Option Place) → List (List ℕ) → Verb → Option Op
 verb_meant place words verb = option_map (λ args. op_of (verb, args)) (args_meant place (kinds_of verb) words)
 
--- Every name has the same place, where all that is asked is whether a text is in good form.
+-- Every name has the same place, so that a text is judged whatever its names stand for.
 abbrev pub place_of_any : ObjectKind → List ℕ → Option Place
 place_of_any kind name = if is_name name then Some (record { core = record { number = 0 }; index = 0 }) else None
 
--- The text is in good form, and its numbers are in their ranges.
+-- The text is in form and in range.
 abbrev pub is_formed : List ℕ → Bool
 is_formed text = is_some (form_of text)
 
@@ -78,7 +78,7 @@ abbrev pub unranged : Kind → Kind
 unranged (Kind.Number low high) = Kind.Mask
 unranged kind = kind
 
--- The words as arguments of the verb, whatever its numbers are.
+-- The words as arguments of the verb, if they are in form, whatever its numbers are.
 abbrev pub read_args : List (List ℕ) → Verb → Option (List (Arg (List ℕ)))
 read_args words verb = args_of (map unranged (kinds_of verb)) words
 
@@ -91,14 +91,16 @@ of_first ask none (word ∷ words) = option_map_or (ask words) (verb_of word) no
 abbrev pub is_verb_known : (ObjectKind → List ℕ → Option Place) → List (List ℕ) → Verb → Bool
 is_verb_known place words verb = option_map_or (λ args. is_some (resolve_args place args)) (read_args words verb) true
 
--- Each name of a text has its place.
+-- Each name of a text in form has its place. Another text has no names.
 abbrev pub is_known : (ObjectKind → List ℕ → Option Place) → List ℕ → Bool
 is_known place text = of_first (is_verb_known place) true (words_of text)
 
+-- The operation that a verb and the words of its arguments name, with 0 for each number.
 abbrev pub verb_named : (ObjectKind → List ℕ → Option Place) → List (List ℕ) → Verb → Option Op
 verb_named place words verb = option_map (λ args. op_of (verb, args)) (option_and_then (resolve_args place) (read_args words verb))
 
--- The operation that a text names, where its names have places: the one that it means, but with 0 for each number.
+-- The operation that a text in form names, if its names have places, with 0 for each number. If the text is in range too, it is but for
+-- these the operation that the text means.
 abbrev pub op_named : (ObjectKind → List ℕ → Option Place) → List ℕ → Option Op
 op_named place text = of_first (verb_named place) None (words_of text)
 

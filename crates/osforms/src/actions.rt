@@ -7,7 +7,7 @@ use crate::parsing::op_meant;
 use crate::places::AnyName;
 use oscript::action_of_op;
 
-/// Whether a text is an action in good form: an operation that activates a task or sets events of one, whose name is no
+/// Whether a text is an action in form: an operation that activates a task or sets events of one, whose name is no
 /// `?`. Whether there is such a task is not asked (AUTOSAR SWS OS 4.x, OsAlarmAction).
 pub fn is_action(text: &str) -> bool
     ensures { result ≡ is_action text.now }

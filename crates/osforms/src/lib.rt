@@ -1,4 +1,4 @@
-//! Operations as texts: an operation in good form, what its names stand for, and its text again.
+//! Operations as texts: an operation in form, what its names stand for, and its text again.
 //!
 //! The grammar is the table of rows (`oscript`): no operation is known here. What a text says is a form,
 //! whose names are looked up by whoever knows the objects (`Places`), and written by whoever knows their

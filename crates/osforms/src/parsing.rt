@@ -1,4 +1,4 @@
-//! Reading: operations in good form, with the places of their names.
+//! Reading: operations in form, with the places of their names.
 
 ghost use Rattle.std.specs.Prelude.{◌≡◌, ◌∷◌, [], find, map, option_map, List};
 ghost use Rattle.oscript.specs.declared.rows.Kind.{Kind};
@@ -158,7 +158,7 @@ fn verb_meant<P: Places>(places: &P, verb: Verb, rest: Option<&str>) -> Option<O
     }
 }
 
-/// The operation that a text means; None where it is not in good form, as an empty one, or where a name in it
+/// The operation that a text means; None if it is not in form and in range, as an empty one, or if a name in it
 /// has no place.
 pub fn op_meant<P: Places>(places: &P, text: &str) -> Option<Op>
     ensures { result ≡ op_meant (P.place places.now) text.now }
@@ -205,8 +205,8 @@ fn verb_named<P: Places>(places: &P, verb: Verb, rest: Option<&str>) -> Option<O
 }
 
 /// The operation that a text names: the one that it means, but with 0 for each number, be that in its range or not. So its
-/// names and its masks can be judged whatever its numbers are. None where the text is not in good form, or where a name
-/// in it has no place.
+/// names and its masks can be judged whatever its numbers are. None if the text is not in form, or if a name in it
+/// has no place.
 pub fn op_named<P: Places>(places: &P, text: &str) -> Option<Op>
     ensures { result ≡ op_named (P.place places.now) text.now }
 {
@@ -219,16 +219,16 @@ pub fn op_named<P: Places>(places: &P, text: &str) -> Option<Op>
     }
 }
 
-/// Whether each name of a text has its place, where the text is in good form but for the ranges of its numbers. A
-/// text in another form has no names.
+/// Whether each name of a text has its place, if the text is in form, whatever its numbers are. A text that is not
+/// in form has no names.
 pub fn is_known<P: Places>(places: &P, text: &str) -> bool
     ensures { result ≡ is_known (P.place places.now) text.now }
 {
     op_named(places, text).is_some() || op_named(&AnyName, text).is_none()
 }
 
-/// Whether each mask of a text is in its range, where the text is in good form but for the ranges of its numbers. A text
-/// in another form has no masks.
+/// Whether each mask of a text is in its range, if the text is in form, whatever its numbers are. A text that is not in
+/// form has no masks.
 pub fn has_masks(text: &str) -> bool
     ensures { result ≡ has_masks text.now }
 {

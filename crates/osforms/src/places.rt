@@ -18,7 +18,7 @@ pub trait Places {
         ensures in_form { IfSome result (λ _. is_name name.now ≡ true) };
 }
 
-// Gives every name a place, so that it is only asked whether a text is in good form.
+// Gives every name a place, so that a text is judged whatever its names stand for.
 #[derive(Clone, Copy, Debug)]
 pub struct AnyName;
 

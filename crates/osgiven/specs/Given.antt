@@ -109,6 +109,7 @@ schedule_tests plan d = (Limit, has_words_within 1000000 d) ∷ (BadSchedule, is
 
 -- ---- the faults and the meaning of a text
 
+-- If a text is no JSON, that is its only fault. Otherwise it has those whose tests fail, in ascending order.
 abbrev pub faults_by : (Data → Tests) → Option Data → List ConfFault
 faults_by tests None = NotJson ∷ []
 faults_by tests (Some d) = failing (tests d)
@@ -119,11 +120,14 @@ stimuli_faults plan text = faults_by (stimuli_tests plan) (read text)
 abbrev pub schedule_faults : Plan → List ℕ → List ConfFault
 schedule_faults plan text = faults_by (schedule_tests plan) (read text)
 
+-- What the data mean, if no test of them fails.
 abbrev pub meaning_by : {A : Type 0} → (Data → Tests) → (Data → Option A) → Data → Option A
 meaning_by tests mean d = option_and_then (if_faultless (failing (tests d))) (mean d)
 
+-- The stimuli that a text means for a configuration, if it has no fault. [own]
 abbrev pub stimuli_meant : Plan → List ℕ → Option (List CoreStimuli)
 stimuli_meant plan text = option_and_then (meaning_by (stimuli_tests plan) (stimuli_of_data plan)) (read text)
 
+-- The schedule that a text means for a configuration, if it has no fault: its turns in order. [own]
 abbrev pub schedule_meant : Plan → List ℕ → Option (List (CoreId × Choice))
 schedule_meant plan text = option_and_then (meaning_by (schedule_tests plan) (schedule_of_data plan)) (read text)

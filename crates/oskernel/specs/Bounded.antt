@@ -7,7 +7,8 @@ use Rattle.osplan.specs.Objects.{posted_at_once}
 abbrev pub step_entries : ℕ
 step_entries = 1024
 
--- The outbox has places for all that the core's alarms may post at once, and 8 more; and no step added more entries than it may.
+-- The outbox has places for all that the core's alarms and schedule tables may post at once, and 8 more. The history has no more entries
+-- than its steps may have added.
 pub record IsBounded (places : ℕ) (s : KernelState) : Type 0 where
   pub outbox : 8 + posted_at_once s.view.own ≤ places
   pub entries : s.progress.entries ≤ step_entries * s.progress.items

@@ -37,9 +37,11 @@ want_from Phase.FirstGate s = Nothing
 want_from Phase.SecondGate s = Nothing
 want_from Phase.Ended s = Nothing
 
+-- What the core's own turn would do. If a call is open, a live core does nothing but post. [own]
 abbrev pub want_in : KernelState → Want
 want_in s = want_from s.progress.phase s
 
+-- The same of a history: it is asked of its state.
 abbrev pub want_of : View → History → Want
 want_of v h = want_in (state_of v h)
 
@@ -47,7 +49,7 @@ want_of v h = want_in (state_of v h)
 abbrev pub watch_if_free : KernelState → Watch
 watch_if_free s = if is_free s then Watch.Halt else Watch.Nothing
 
--- What its look at the board waits for.
+-- What its look at the board waits for: to be started, a gate, a shutdown of all cores, the end, or nothing.
 abbrev pub watch_from : Phase → KernelState → Watch
 watch_from Phase.Off s = Watch.On
 watch_from Phase.FirstGate s = Watch.FirstGate
@@ -62,6 +64,7 @@ watch_from Phase.Ended s = Watch.Nothing
 abbrev pub watch_in : KernelState → Watch
 watch_in s = watch_from s.progress.phase s
 
+-- The same of a history: it is asked of its state.
 abbrev pub watch_of : View → History → Watch
 watch_of v h = watch_in (state_of v h)
 

@@ -266,11 +266,11 @@ same_number None other = false
 same_number (Some n) None = false
 same_number (Some n) (Some m) = n == m
 
--- The number is one of these.
+-- The number is there, and is one of these. It is asked of the numbers of cores, those of a text and those of a configuration.
 abbrev pub has_number : List (Option ℕ) → Option ℕ → Bool
 has_number numbers number = list_any (λ other. same_number other number) numbers
 
--- No number of the list is one of those after it.
+-- No number of the list is one of those after it: no two cores have one number.
 abbrev pub are_numbers_distinct : List (Option ℕ) → Bool
 are_numbers_distinct [] = true
 are_numbers_distinct (number ∷ numbers) = not (has_number numbers number) && are_numbers_distinct numbers

@@ -116,7 +116,7 @@ is_separate_core plan core =
     && not (names_object (is_off core.id) core)
     && not (is_named_elsewhere plan core.id)
 
--- The configured core of this number is separate. [own]
+-- The configured core of this number is separate: no other core has a say in what it prints. [own]
 abbrev pub is_separate : Plan → CoreId → Bool
 is_separate plan id = option_map_or (is_separate_core plan) (core_of plan id) false
 

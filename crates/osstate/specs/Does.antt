@@ -50,8 +50,8 @@ pub record StaysInItem (most : ℕ) (old new : KernelState) : Type 0 where
   pub entries : new.progress.entries ≤ old.progress.entries + most
 
 -- What one item adds at most, and what one service or a tick does: the worst are a tick and IncrementCounter, with all alarms and
--- schedule tables of a core. A function of a service asks for this room and promises no more, so that a later service changes no
--- bound. [own]
+-- schedule tables of a core. A function that does any service of a family asks for this room and promises no more, so that a later
+-- service changes no bound. A function of a single service may ask for less. [own]
 abbrev pub item_entries : ℕ
 item_entries = 1000
 

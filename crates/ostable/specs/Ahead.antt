@@ -33,12 +33,14 @@ points_until t count = length (filter (λ (point : ExpiryPoint). nat_le point.of
 abbrev pub ahead_in : TablePlan → ℕ → Ahead
 ahead_in t count = record { next = points_until t count; distance = count_of_next t (points_until t count) - count }
 
--- While the table waits for its first period, the first point comes next.
+-- What comes next of a table that runs, and after how many counts: a point or, past the last one, the end of the period. While the
+-- table waits for its first period, the first point comes next.
 abbrev pub ahead_at : TablePlan → TableRun → Ahead
 ahead_at t run =
     if nat_lt run.counts run.wait then record { next = 0; distance = (run.wait - run.counts) + count_of_next t 0 }
     else ahead_in t ((run.counts - run.wait) % t.duration)
 
+-- What the code keeps of a table: that it is stopped, for which table it waits or, if it runs, what comes next.
 abbrev pub table_at : TablePlan → TableState → Table
 table_at t Stopped = Table.Stopped
 table_at t (NextOf s) = Table.NextOf s

@@ -21,18 +21,20 @@ due_point t state = option_and_then (λ (due : Due). due.point) (due_at t state)
 abbrev pub is_end : TablePlan → TableState → Bool
 is_end t state = option_map_or (λ (due : Due). due.ends) (due_at t state) false
 
--- What is due at each count of a table that was started so, for as long as it runs: one that does not repeat is stopped where its first
--- period ends. [AUTOSAR SWS OS 4.x, section 7.3.3]
+-- The times of a table, as the standard has them. It was started to begin after `wait` counts, and there were `counts` counts since.
+-- This holds of each table of a configuration within its limits, for as long as it runs: if it does not repeat, it is stopped where
+-- its first period ends. [AUTOSAR SWS OS 4.x, section 7.3.3]
 pub record IsPeriodic (t : TablePlan) (wait counts : ℕ) : Type 0 where
-  -- a point of an offset from 1 to the duration, so many counts into each period;
+  -- A point of offset 1 or more is due exactly if the counts are the wait, some whole durations and its offset together.
   pub points : (n : ℕ) (point : ExpiryPoint) → slice_get t.points n ≡ Some point → 1 ≤ point.offset
       → (due_point t (running_for wait counts) ≡ Some n) ↔ ((p : ℕ) × (counts ≡ wait + p * t.duration + point.offset))
-  -- one of offset 0, where the first period begins: with a later period it is done where the one before ends;
+  -- A point of offset 0 is due exactly where the first period begins. In a later period it is done where the one before ends.
   pub first : (n : ℕ) (point : ExpiryPoint) → slice_get t.points n ≡ Some point → point.offset ≡ 0 → (due_point t (running_for wait counts) ≡ Some n) ↔ (counts ≡ wait)
-  -- and the end of a period, a duration after it began
+  -- A period ends a duration after it began.
   pub ends : IsTrue (is_end t (running_for wait counts)) ↔ ((p : ℕ) × (counts ≡ wait + (p + 1) * t.duration))
 
--- An entry that starts the table, stops it or lets it wait.
+-- The entry starts the table, stops it or lets it wait. Without such an entry a table that runs goes on with each
+-- count of its counter.
 abbrev pub concerns : TableRef → Entry → Bool
 concerns s (Noted (TableStarted t wait)) = same_table t s
 concerns s (Noted (TableQuit t)) = same_table t s

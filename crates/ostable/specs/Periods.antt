@@ -8,7 +8,8 @@ abbrev pub counts_run : TableRun → Option ℕ
 counts_run run = if nat_lt run.counts run.wait then None else Some (run.counts - run.wait)
 
 -- Which count of a period this is, of periods of this duration: count 0 where the first one begins, and for each period the counts from
--- 1 to its duration, at which it ends. [AUTOSAR SWS OS 4.x, section 7.3.3]
+-- 1 to its duration, at which it ends. So the end of a period is a count of that period, and not of the next one.
+-- [AUTOSAR SWS OS 4.x, section 7.3.3]
 abbrev pub count_in_period : ℕ → ℕ → ℕ
 count_in_period duration zero = 0
 count_in_period duration (suc n) = suc (n % duration)

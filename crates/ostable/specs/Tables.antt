@@ -51,6 +51,7 @@ state_by core s h = option_map_or (λ (t : TablePlan). table_state t.counter s h
 abbrev pub table_by : Core → TableRef → History → Table
 table_by core s h = option_map_or (λ (t : TablePlan). table_at t (table_state t.counter s h)) (own_table core s) Table.Stopped
 
+-- After a history: the state of each table of the core, of one that runs what comes next, and the tables of each counter, in index order.
 abbrev pub tables_of : Core → History → TableStates
 tables_of core h = record {
   tables = map (λ (n : ℕ). table_by core (table_ref core n) h) (numbers_from 0 (length core.tables));

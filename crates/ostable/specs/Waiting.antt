@@ -32,7 +32,8 @@ abbrev pub is_next_by_counter : Core → Entry → Bool
 is_next_by_counter core (Noted (TableNext s u)) = are_of_one_counter core s u
 is_next_by_counter core e = true
 
--- What a table that is due adds up to, together with the one that begins in its place.
+-- A number of a table that is due, together with that of the table that begins in its place. If tables wait only for those of their own
+-- counter, the sum over all tables that are due counts no table twice. So there are places for what they post.
 abbrev pub with_next : (TableRef → ℕ) → DueTable → ℕ
 with_next f d = f d.table + option_map_or f d.next 0
 

@@ -56,6 +56,7 @@ starting_checks s t is_admitted = (not (is_table_stopped s t), EOsState) ∷ (no
 abbrev pub starts_table : TableRef → ℕ → Acts
 starts_table t wait = notes (TableStarted t wait)
 
+-- The table is stopped, and its counter admits the offset. The first period begins after as many counts.
 -- [AUTOSAR SWS OS 4.x, SWS_Os_00278]
 abbrev pub relative_start : ℕ → TableRef → Seen → Service
 relative_start offset t s = without_value (starting_checks s t (suits (is_offset s.core offset) s.core t)) (starts_table t offset)
@@ -85,7 +86,7 @@ switch p s =
 abbrev pub stop : TableRef → Seen → Service
 stop t s = without_value ((is_table_stopped s t, EOsNofunc) ∷ []) (both (quits_next t) (notes (TableQuit t)))
 
--- [AUTOSAR SWS OS 4.x, SWS_Os_00289 to SWS_Os_00291]
+-- The value is the number of the table's status. [AUTOSAR SWS OS 4.x, SWS_Os_00289 to SWS_Os_00291]
 abbrev pub status_inquiry : TableRef → Seen → Service
 status_inquiry t s = record { checks = []; effect = nothing; value = Some (pos (number_of (status_of (s.table t)))) }
 
@@ -101,28 +102,29 @@ own_pair core from to =
 
 -- ---- the services; where there is no such table, E_OS_ID. [AUTOSAR SWS OS 4.x, SWS_Os_00275]
 
--- [AUTOSAR SWS OS 4.x, SWS_Os_00278]
+-- StartScheduleTableRel, for a table of the own core. [AUTOSAR SWS OS 4.x, SWS_Os_00278]
 abbrev pub starts_table_relative : Runner → Option TableRef → ℕ → Acts
 starts_table_relative r target offset = serves_own r ServiceId.StartScheduleTableRel (relative_start offset) (λ core. own_of table_object core target)
 
--- [AUTOSAR SWS OS 4.x, SWS_Os_00351]
+-- StartScheduleTableAbs, for a table of the own core. [AUTOSAR SWS OS 4.x, SWS_Os_00351]
 abbrev pub starts_table_absolute : Runner → Option TableRef → ℕ → Acts
 starts_table_absolute r target start = serves_own r ServiceId.StartScheduleTableAbs (absolute_start start) (λ core. own_of table_object core target)
 
--- [AUTOSAR SWS OS 4.x, SWS_Os_00284]
+-- NextScheduleTable, for two tables of the own core that go by one counter. [AUTOSAR SWS OS 4.x, SWS_Os_00284]
 abbrev pub switches_tables : Runner → Option TableRef → Option TableRef → Acts
 switches_tables r from to = serves_own r ServiceId.NextScheduleTable switch (λ core. own_pair core from to)
 
--- [AUTOSAR SWS OS 4.x, SWS_Os_00281]
+-- StopScheduleTable, for a table of the own core. [AUTOSAR SWS OS 4.x, SWS_Os_00281]
 abbrev pub stops_table : Runner → Option TableRef → Acts
 stops_table r target = serves_own r ServiceId.StopScheduleTable stop (λ core. own_of table_object core target)
 
--- [AUTOSAR SWS OS 4.x, SWS_Os_00289 to SWS_Os_00291]
+-- GetScheduleTableStatus, for a table of the own core. [AUTOSAR SWS OS 4.x, SWS_Os_00289 to SWS_Os_00291]
 abbrev pub gets_table_status : Runner → Option TableRef → Acts
 gets_table_status r target = serves_own r ServiceId.GetScheduleTableStatus status_inquiry (λ core. own_of table_object core target)
 
 -- ---- the operations that are these services
 
+-- The table of the family: what an operation does for a runner, if it is one of these services.
 abbrev pub table_acts : Runner → Op → Option Acts
 table_acts r (Op.StartScheduleTableRel target offset) = Some (starts_table_relative r target offset)
 table_acts r (Op.StartScheduleTableAbs target start) = Some (starts_table_absolute r target start)

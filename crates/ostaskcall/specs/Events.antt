@@ -37,6 +37,7 @@ setting t mask s = without_value (event_checks s t) (sets_events t mask)
 abbrev pub reading : TaskRef → Seen → Service
 reading t s = record { checks = event_checks s t; effect = nothing; value = Some (pos (s.row (Runner.Task t)).events.set) }
 
+-- GetEvent, for a task of the own core: it is extended and not suspended. The value is the mask of its events that are set.
 -- [OSEK/VDX OS 2.2.3, section 13.5.3.3]
 abbrev pub gets_event : Runner → Option TaskRef → Acts
 gets_event r target = serves_own r ServiceId.GetEvent reading (λ core. own_of task_object core target)
@@ -54,10 +55,11 @@ clears (Runner.Isr i) mask = nothing
 abbrev pub clears_and_returns : Runner → ℕ → Acts
 clears_and_returns r mask = both (clears r mask) (returns r ServiceId.ClearEvent EOk None)
 
--- [OSEK/VDX OS 2.2.3, section 13.5.3.2]
+-- ClearEvent: a job of an extended task clears these events of its task. [OSEK/VDX OS 2.2.3, section 13.5.3.2]
 abbrev pub clears_event : Runner → ℕ → Acts
 clears_event r mask = look (λ s. answers r ServiceId.ClearEvent (clearing_checks s r) (clears_and_returns r mask))
 
+-- What WaitEvent checks: that a task calls, that it is extended, and that its job holds no resource.
 abbrev pub waiting_checks : Seen → Runner → List Check
 waiting_checks s r = clearing_checks s r ++ holding_checks s r
 
@@ -73,6 +75,7 @@ abbrev pub goes_on_or_waits : Runner → ℕ → Acts
 goes_on_or_waits r mask = look (λ s.
     when (have_common mask (s.row r).events.set) (returns r ServiceId.WaitEvent EOk None) (begins_to_wait r mask))
 
+-- WaitEvent: a job of an extended task that holds no resource waits for one of these events. If one is set, it goes on at once.
 -- [OSEK/VDX OS 2.2.3, section 13.5.3.4]
 abbrev pub waits_event : Runner → ℕ → Acts
 waits_event r mask = look (λ s. answers r ServiceId.WaitEvent (waiting_checks s r) (goes_on_or_waits r mask))

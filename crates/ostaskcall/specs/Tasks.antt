@@ -50,6 +50,7 @@ schedules r = look (λ s. answers r ServiceId.Schedule (task_checks s r) (return
 
 -- ---- the operations that are services of tasks, resources and events
 
+-- The table of the family: what an operation does for a runner, if it is one of these services.
 abbrev pub task_acts : Runner → Op → Option Acts
 task_acts r Op.TerminateTask = Some (terminates r)
 task_acts r Op.Schedule = Some (schedules r)

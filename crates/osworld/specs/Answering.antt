@@ -24,7 +24,7 @@ use Rattle.osworld.specs.declared.asks.Answer.TheVariants.{Replied, Spun, HasRoo
 use Rattle.osworld.specs.declared.answering.Between.{Between}
 use Rattle.osworld.specs.Asking.{asked_by, comes_to, spin_call_of}
 
--- What a core's turn is answered, what it asks, and the item that it names.
+-- What a core's turn is answered by what a run holds in memory between its cores: the mailboxes, the board and the spinlocks.
 abbrev pub answer_by : Between → CoreId → Ask → Answer
 answer_by between id (OfBoard call) = Replied (board_reply id call between.board)
 answer_by between id (OfSpins wish) = Spun (spin_reply id (spin_call_of wish) between.spins)
@@ -32,6 +32,7 @@ answer_by between id (Room to) = HasRoom (nat_lt to.number CORES && has_room bet
 answer_by between id (Oldest from) = Found (if nat_lt from.number CORES then oldest_of between.mail from id else None)
 answer_by between id ask = Unasked
 
+-- What the turn asks, by the state of the core's kernel, and the item to which that answer leads.
 abbrev pub next_by : Plan → Between → CoreId → List Stimulus → KernelState → Choice → Option (Ask × Item)
 next_by plan between id stimuli s choice =
     comes_to id (watch_in s) (answer_by between id) (asked_by (view_of plan id) (want_in s) (watch_in s) (slice_get stimuli 0) choice)
@@ -57,10 +58,11 @@ carried core front (Item.Posted to) mail = option_map_or (λ (f : CoreId × Enve
 carried core front (Item.Received from number message) mail = after_take mail from core
 carried core front item mail = mail
 
--- What the turn told, and all that it changed.
+-- What the run holds between its cores after the turn's call of the board or of a spinlock, if it made one. The mailboxes stay.
 abbrev pub told : CoreId → Ask → Between → Between
 told core ask between = record { mail = between.mail; board = board_told core ask between.board; spins = spins_told core ask between.spins }
 
+-- What it holds after the whole turn: its item changes the mailboxes, too.
 abbrev pub settled : CoreId → Ask → Option (CoreId × Envelope) → Item → Between → Between
 settled core ask front item between = record (told core ask between) { mail = carried core front item between.mail }
 

@@ -24,8 +24,8 @@ use Rattle.osworld.specs.declared.asks.Answer.TheVariants.{Replied, Spun, HasRoo
 use Rattle.osworld.specs.Asking.{Calls, asked, comes_to, joined, no_calls, spin_call_of, told_by}
 use Rattle.osworld.specs.Fits.{history_by, ids_of, items_of}
 
--- The items of each configured core, the oldest first, and the calls of the board and the spinlocks that became items.
--- [own]
+-- All cores after some turns: the items of each configured core, the oldest first, and the calls of the board and the spinlocks that
+-- became items. Nothing else is kept: where a core stands is read off its own items. [own]
 pub record World : Type 0 where
   pub items : List (CoreId × List Item)
   pub calls : Calls

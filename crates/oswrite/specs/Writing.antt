@@ -133,7 +133,8 @@ core_data plan core = object
     (member (codes "tables") (list_data (table_data plan) core.tables)
     (member (codes "tasks") (list_data (task_data plan) core.tasks) no_members)))))))
 
--- A configuration: the size of a mailbox, its cores, the master core and the version, 1.
+-- A configuration, with every member of its text, in ascending order of names: the size of a mailbox, its cores, the master core and
+-- the version, 1. [own]
 abbrev pub config_data : Plan → Data
 config_data plan = object
     (member (codes "cap") (whole_data plan.cap)

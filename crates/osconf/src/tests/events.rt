@@ -134,7 +134,7 @@ const JUDGED: &[Judged] = &[
             ),
         ],
     },
-    // An operation in good form has the faults of its names and of its masks; the smallest fault of the text is told.
+    // An operation in form has the faults of its names and of its masks; the smallest fault of the text is told.
     Judged {
         texts: &[TWO_CORES],
         values: &[

@@ -12,7 +12,7 @@ const SCRIPT: &str =
 const DISORDER: &str =
     r#"{"cores":[{"id":0,"tasks":[{"name":"A","prio":1,"script":"@"}],"counters":[{"name":"K","max":9}],"tables":[{"name":"P","counter":"K","duration":1,"points":[{"offset":1,"actions":["ActivateTask A"]},{"offset":0,"actions":["ActivateTask A"]}]}]},{"id":1,"counters":[{"name":"Q","max":9}],"tables":[{"name":"Z","counter":"Q","duration":1,"points":[{"offset":0,"actions":["ActivateTask A"]}]}]}]}"#;
 
-// The same, with an alarm whose action is in no good form.
+// The same, with an alarm whose action is not in form.
 const INACTION: &str =
     r#"{"cores":[{"id":0,"tasks":[{"name":"A","prio":1,"script":"@"}],"counters":[{"name":"K","max":9}],"alarms":[{"name":"L","counter":"K","action":"SetEvent A"}],"tables":[{"name":"P","counter":"K","duration":1,"points":[{"offset":0,"actions":["ActivateTask A"]}]}]},{"id":1,"counters":[{"name":"Q","max":9}],"tables":[{"name":"Z","counter":"Q","duration":1,"points":[{"offset":0,"actions":["ActivateTask A"]}]}]}]}"#;
 
@@ -249,7 +249,7 @@ const JUDGED: &[Judged] = &[
             ),
         ],
     },
-    // An action without a good form beside them.
+    // An action that is not in form beside them.
     Judged {
         texts: &[INACTION],
         values: &[
