@@ -16,7 +16,7 @@ use Rattle.osplan.specs.declared.plans.Plan.{Plan}
 use Rattle.osplan.specs.declared.plans.Table.{Table}
 use Rattle.osbase.specs.declared.messages.RemoteCall.{RemoteCall}
 use Rattle.osplan.specs.Clocked.{is_alarm_attached, is_table_attached}
-use Rattle.osplan.specs.Limits.{alarm_sizes, is_action_known, is_alarm_known, is_alarm_near, is_core_known, is_core_mode, is_core_timed, is_mode, is_object, is_table_known, is_table_near, is_table_timed, is_task_known, table_sizes}
+use Rattle.osplan.specs.Limits.{alarm_sizes, is_action_known, is_alarm_known, is_alarm_near, is_core_known, is_core_timed, is_mode, is_object, is_table_known, is_table_near, is_table_timed, is_task_known, table_sizes}
 use Rattle.osplan.specs.Objects.{alarm_modes, core_actions, has_index, may_act, may_name, table_actions, table_modes}
 use Rattle.osplan.specs.View.{core_of, counter_in, own_counter}
 use Rattle.osplan.proofs.Tests.{all-append, all-both, all-flat, all-weaker, map-where}
@@ -46,7 +46,7 @@ module _ (plan : Plan) (core : Core) (found : core_of plan core.id ≡ Some core
   known-parts known =
       let tables = and_parts _ (list_all (is_table_known plan) core.tables) known in
       let alarms = and_parts _ (list_all (is_alarm_known plan) core.alarms) tables.0 in
-      record { tasks = (and_parts (is_core_mode plan core.mode) _ alarms.0).1; alarms = alarms.1; tables = tables.1 }
+      record { tasks = (and_parts _ (list_all (is_task_known plan) core.tasks) alarms.0).1; alarms = alarms.1; tables = tables.1 }
 
   acts-each : (actions : List RemoteCall) → list_all (is_action_known plan) actions ≡ true → list_all (may_act core) actions ≡ true
   acts-each =
