@@ -27,7 +27,7 @@ use Rattle.osshape.specs.declared.shapes.CoreText.{CoreText}
 use Rattle.osshape.specs.declared.table_shapes.PointText.{PointText}
 use Rattle.osshape.specs.declared.table_shapes.TableText.{TableText}
 use Rattle.oscheck.specs.Action.{action_of, any_action, is_action_known}
-use Rattle.oscheck.specs.Check.{alarm_modes, is_alarm_acting, is_alarm_known, is_core_known, is_core_script, is_mode_name, is_point_acting, is_point_known, is_table_acting, is_table_known, is_task_known, is_task_script, table_modes}
+use Rattle.oscheck.specs.Check.{alarm_modes, is_alarm_acting, is_alarm_known, is_core_known, is_core_script, is_mode_name, is_point_acting, is_point_known, is_table_acting, is_table_known, table_modes}
 use Rattle.osshape.specs.Declarations.{has_name, id_of, is_alone, place_alone, place_of, names_of}
 use Rattle.osdraft.specs.Meaning.{alarm_plan, core_plan, point_plan, table_plan}
 use Rattle.oscheck.specs.Posted.{greatest_posted, is_posting, posted_at, posted_at_once}
@@ -123,7 +123,7 @@ module _ (objects : List Declaration) (apart : are_distinct (names_of objects) �
   posted-same known acts =
       let knows = and_parts _ (list_all (is_table_known objects) core.tables) known in
       let does = and_parts _ (list_all is_table_acting core.tables) acts in
-      let alarms = all-both (is_alarm_known objects) is_alarm_acting core.alarms (and_parts (list_all (is_task_known objects) core.tasks) _ knows.0).1 (and_parts (list_all (is_task_script objects) core.tasks) _ does.0).1 in
+      let alarms = all-both (is_alarm_known objects) is_alarm_acting core.alarms (and_parts _ (list_all (is_alarm_known objects) core.alarms) knows.0).1 (and_parts _ (list_all is_alarm_acting core.alarms) does.0).1 in
       let tables = all-both (is_table_known objects) is_table_acting core.tables knows.1 does.1 in
       rw (
         count-same (λ (alarm : AlarmText). is_posting objects (id_of core) alarm.action) (λ (alarm : Alarm). plans.is_posting planned alarm.action) (alarm_plan objects (id_of core)) (λ (alarm : AlarmText). is_alarm_known objects alarm && is_alarm_acting alarm) alarm-same core.alarms alarms,
