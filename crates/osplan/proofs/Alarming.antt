@@ -1,5 +1,5 @@
 -- Of a configured core: what it may name of what a configuration names, and its alarms with the counters that they go by.
-use Rattle.std.proofs.Common.{◌≡◌, Bool, true, false, not, ◌&&◌, ◌||◌, Some, Option, List, flat_map, map, slice_get, option_and_then, refl, ap, sym, subst, ◌∙◌}
+use Rattle.std.proofs.Common.{◌≡◌, Bool, true, false, not, ◌&&◌, ◌||◌, Some, Option, List, flat_map, map, slice_get, option_and_then, refl, ap, sym, subst, ◌∙◌, arith}
 use Rattle.std.specs.List.{list_all}
 use Rattle.std.specs.Option.{option_map_or}
 use Rattle.std.proofs.lemmas.Bool.{and_parts, and_from}
@@ -43,10 +43,7 @@ module _ (plan : Plan) (core : Core) (found : core_of plan core.id ≡ Some core
     pub tables : list_all (is_table_known plan) core.tables ≡ true
 
   pub known-parts : is_core_known plan core ≡ true → KnownParts
-  known-parts known =
-      let tables = and_parts _ (list_all (is_table_known plan) core.tables) known in
-      let alarms = and_parts _ (list_all (is_alarm_known plan) core.alarms) tables.0 in
-      record { tasks = (and_parts _ (list_all (is_task_known plan) core.tasks) alarms.0).1; alarms = alarms.1; tables = tables.1 }
+  known-parts known = record { tasks = grind arith; alarms = grind arith; tables = grind arith }
 
   acts-each : (actions : List RemoteCall) → list_all (is_action_known plan) actions ≡ true → list_all (may_act core) actions ≡ true
   acts-each =
