@@ -1,35 +1,33 @@
 -- A text with more objects than a configuration may have is past its limits.
-use Rattle.std.proofs.Common.{◌≡◌, nat_le, true, false, Some, List, length, map, refl, ap, sym, ◌∙◌, sum_by}
+use Rattle.std.proofs.Common.{◌≡◌, nat_le, true, false, Some, List, length, map, refl, ap, sym, ◌∙◌}
 use Rattle.std.specs.List.{list_all}
 use Rattle.std.proofs.lemmas.Bool.{and_from, and_parts, false_from_ne_true, false≢true}
 use Rattle.std.proofs.lemmas.List.{length-map}
 use Rattle.std.proofs.lemmas.List.Folds.{list_all-map}
-use Rattle.osplan.specs.Limits.{is_between, is_core_by, is_task_numbered, is_ceiling, is_counter_within, is_alarm_within, is_table_within, are_alarms_within, are_counters_within, are_tables_within, jobs_of, most_posted}
+use Rattle.osplan.specs.Limits.{count_in, is_between, is_core_by, is_task_numbered, most_of}
+use Rattle.osbase.specs.declared.objects.ObjectKind.{ObjectKind}
 use Rattle.osplan.specs.declared.faults.ConfFault.TheVariants.{Limit}
+use Rattle.osplan.specs.declared.plans.TheConstants.{KINDS}
 use Rattle.osplan.proofs.Tests.{all-weaker}
+use Rattle.osplan.proofs.Within.{few-of}
 use Rattle.osshape.specs.declared.shapes.ConfigText.{ConfigText}
 use Rattle.osshape.specs.declared.shapes.CoreText.{CoreText}
 use Rattle.osshape.specs.declared.declarations.Declaration.{Declaration}
-use Rattle.oscheck.specs.Check.{alarm_sizes, are_scripts_short, core_sizes, counter_sizes, is_text_numbered, is_text_within, table_sizes, task_sizes, tests_of}
+use Rattle.oscheck.specs.Check.{are_scripts_short, core_sizes, is_text_numbered, is_text_within, tests_of}
 use Rattle.osshape.specs.Declarations.{declarations}
+use Rattle.osshape.specs.Shape.{objects_in}
 use Rattle.oscheck.specs.Few.{are_objects_few, is_core_few}
+use Rattle.osshape.proofs.Lists.{list_all-every}
 use Rattle.oscheck.proofs.Counting.{within_split}
 use Rattle.osread.specs.Faults.{failing, first_fault}
 
+-- a text has sizes of as many objects of a kind as it has objects
+sizes-counted : (objects : List Declaration) (core : CoreText) (kind : ObjectKind) → count_in kind (core_sizes objects core) ≡ length (objects_in kind core)
+sizes-counted objects core ObjectKind.Task = simp length-map
+sizes-counted objects core kind = simp length-map
+
 core-few : (objects : List Declaration) (core : CoreText) → is_core_by is_task_numbered (core_sizes objects core) ≡ true → is_core_few core ≡ true
-core-few objects core h =
-    let s = core_sizes objects core in
-    let posted = and_parts _ (nat_le s.posted most_posted) h in
-    let tables = and_parts _ (are_tables_within s.tables) posted.0 in
-    let alarms = and_parts _ (are_alarms_within s.alarms) tables.0 in
-    let counters = and_parts _ (are_counters_within s.counters) alarms.0 in
-    let ceilings = and_parts _ (list_all is_ceiling s.resources) counters.0 in
-    let resources = and_parts _ (nat_le (length s.resources) 16) ceilings.0 in
-    let sum = and_parts _ (nat_le (sum_by jobs_of s.tasks) 64) resources.0 in
-    let tasks = and_parts _ (list_all is_task_numbered s.tasks) sum.0 in
-    let few = and_parts _ (nat_le (length s.tasks) 32) tasks.0 in
-    rw (sym (length-map core.tasks task_sizes), sym (length-map core.counters counter_sizes), sym (length-map core.alarms (alarm_sizes objects)), sym (length-map core.tables (table_sizes objects)))
-    (and_from _ _ (and_from _ _ (and_from _ _ (and_from _ _ few.1 (ap (λ n. nat_le n 16) (sym (length-map core.resources (λ resource. resource.ceiling))) ∙ resources.1)) (and_parts _ (list_all is_counter_within s.counters) counters.1).0) (and_parts _ (list_all is_alarm_within s.alarms) alarms.1).0) (and_parts _ (list_all is_table_within s.tables) tables.1).0)
+core-few objects core h = list_all-every (λ (kind : ObjectKind). nat_le (length (objects_in kind core)) (most_of kind)) (λ kind. ap (λ n. nat_le n (most_of kind)) (sym (sizes-counted objects core kind)) ∙ few-of is_task_numbered (core_sizes objects core) h kind) KINDS
 
 numbered-few : (t : ConfigText) → is_text_numbered t ≡ true → are_objects_few t ≡ true
 numbered-few t h =

@@ -203,6 +203,7 @@ fn are_cores_within(objects: &Objects, cores: &[CoreText]) -> bool
     1 <= cores.len() && cores.len() <= CORES && are_cores_numbered(objects, cores)
 }
 
+#[tactic(auto, using(crate::proofs::Numbers::mapped))]
 fn is_core_few(core: &CoreText) -> bool
     ensures { result ≡ is_core_few core.now }
 {

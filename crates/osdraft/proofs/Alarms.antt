@@ -1,5 +1,5 @@
 -- The plan of an alarm, which is made while its names and its action are judged.
-use Rattle.std.proofs.Common.{◌≡◌, ℕ, ◌&&◌, ◌||◌, not, Bool, true, false, cond, List, [], ◌∷◌, Option, Some, None, is_some, option_map, unwrap_or, refl, sym, ap, ◌∙◌}
+use Rattle.std.proofs.Common.{◌≡◌, ℕ, ◌&&◌, ◌||◌, not, Bool, true, false, cond, List, [], ◌∷◌, Option, Some, None, is_some, option_map, unwrap_or, refl, sym, ap, ◌∙◌, arith}
 use Rattle.std.specs.List.{list_all}
 use Rattle.std.proofs.lemmas.Bool.{and_parts, true≢false}
 use Rattle.osbase.specs.declared.messages.RemoteCall.{RemoteCall}
@@ -114,23 +114,13 @@ pub record Made {X : Type 0} (k m f : Bool) (a b : X) : Type 0 where
   pub same : a ≡ b
 
 pub made : {X : Type 0} (k m f : Bool) (a b : X) → value_if (k && m && f) a ≡ Some b → Made k m f a b
-made true true true a b e = record { known = refl; masked = refl; acting = refl; same = cc }
-made true true false a b e = cc
-made true false f a b e = cc
-made false m f a b e = cc
+made k m f a b e = record { known = grind (arith, e); masked = grind (arith, e); acting = grind (arith, e); same = grind (arith, e) }
 
 pub not-made : {X Y : Type 0} (p k s m f : Bool) (a : Y) (x : X) → value_if (k && m && f) a ≡ None → value_if ((p && k && s) && m && f) x ≡ None
-not-made false k s m f a x e = refl
-not-made true false s m f a x e = refl
-not-made true true false m f a x e = refl
-not-made true true true true true a x e = cc
-not-made true true true true false a x e = refl
-not-made true true true false f a x e = refl
+not-made p k s m f a x e = grind (arith, e)
 
 pub last-fails : {X : Type 0} (p k m f : Bool) (x : X) → value_if ((p && k && false) && m && f) x ≡ None
-last-fails false k m f x = refl
-last-fails true false m f x = refl
-last-fails true true m f x = refl
+last-fails p k m f x = grind arith
 
 module _ (objects : List Declaration) (id : CoreId) (alarm : AlarmText) where
   pub alarm_made : (place : Place) (action : RemoteCall) → place_of objects ObjectKind.Counter alarm.counter ≡ Some place → known_action objects alarm.action ≡ Some action → list_all is_mode_name (alarm_modes alarm) ≡ true

@@ -1,5 +1,5 @@
 -- The plan of a text, which is made while its names and operations are judged.
-use Rattle.std.proofs.Common.{◌≡◌, ℕ, ◌&&◌, Bool, true, false, cond, List, [], ◌∷◌, map, Some, None, is_some, option_map, option_and_then, refl, sym, ap, ◌∙◌}
+use Rattle.std.proofs.Common.{◌≡◌, ℕ, ◌&&◌, Bool, true, false, cond, List, [], ◌∷◌, map, Some, None, is_some, option_map, option_and_then, refl, sym, ap, ◌∙◌, arith}
 use Rattle.std.specs.List.{list_all}
 use Rattle.std.proofs.lemmas.Bool.{and_parts, true≢false}
 use Rattle.std.proofs.lemmas.List.Folds.{list_all-map}
@@ -55,16 +55,7 @@ each_made f (x ∷ xs) = ap (option_map (λ ys. f x ∷ ys)) (each_made f xs)
 
 both-pass : {Y : Type 0} (a b c d e f : Bool) (y : Y) (ys : List Y)
     → option_and_then (λ z. option_map (λ zs. z ∷ zs) (value_if (d && e && f) ys)) (value_if (a && b && c) y) ≡ value_if ((a && d) && (b && e) && (c && f)) (y ∷ ys)
-both-pass true true true true true true y ys = refl
-both-pass true true true true true false y ys = refl
-both-pass true true true true false f y ys = refl
-both-pass true true true false e f y ys = refl
-both-pass true true false true true f y ys = refl
-both-pass true true false true false f y ys = refl
-both-pass true true false false e f y ys = refl
-both-pass true false c true e f y ys = refl
-both-pass true false c false e f y ys = refl
-both-pass false b c d e f y ys = refl
+both-pass a b c d e f y ys = grind arith
 
 pub each_if : {X Y : Type 0} (p q r : X → Bool) (f : X → Y) (xs : List X) → each (λ x. value_if (p x && q x && r x) (f x)) xs ≡ value_if (list_all p xs && list_all q xs && list_all r xs) (map f xs)
 each_if p q r f [] = refl
@@ -73,8 +64,7 @@ each_if p q r f (x ∷ xs) =
     ∙ both-pass (p x) (q x) (r x) (list_all p xs) (list_all q xs) (list_all r xs) (f x) (map f xs)
 
 pub few_if : {X : Type 0} (few p q r : Bool) (x : X) → cond few (value_if (p && q && r) x) None ≡ value_if (few && p && q && r) x
-few_if true p q r x = refl
-few_if false p q r x = refl
+few_if few p q r x = grind arith
 
 -- ---- scripts
 
@@ -113,11 +103,7 @@ near_kept objects (core ∷ cores) formed =
 
 with-near : {X : Type 0} (readable near masked script : Bool) (x y : X) (stays : X → Bool) → (script ≡ true → stays x ≡ near) → value_if (readable && masked && script) x ≡ Some y
     → value_if (readable && near && masked && script) x ≡ value_if (stays y) y
-with-near true true true true x y stays kept e = let same : x ≡ y = cc in ap (λ b. value_if b x) (sym (kept refl)) ∙ ap (λ z. value_if (stays z) z) same
-with-near true false true true x y stays kept e = let same : x ≡ y = cc in ap (λ b. value_if b x) (sym (kept refl)) ∙ ap (λ z. value_if (stays z) z) same
-with-near false near masked script x y stays kept e = cc
-with-near true near false script x y stays kept e = cc
-with-near true near true false x y stays kept e = cc
+with-near readable near masked script x y stays kept e = grind (arith, kept, e)
 
 -- What is planned has such a text's plan if it stays on its cores,
 pub near_if : (objects : List Declaration) (cores : List CoreText) (planned : List Core) → value_if (list_all (is_core_readable objects) cores && list_all is_core_masked cores && list_all (is_core_script objects) cores) (map (core_plan objects) cores) ≡ Some planned

@@ -1,6 +1,6 @@
 -- The counters that a text names are those of a configuration that has the text's counters.
 use Rattle.std.proofs.Common.{inl, inr, ◌≡◌, ℕ, suc, ◌+◌, ◌≤◌, Bool, true, false, List, [], ◌∷◌, ◌++◌, length, map, Option, Some, None, is_some, option_map, refl, sym, ap, subst, ◌∙◌, arith}
-use Rattle.std.specs.List.{list_all, enumerate_from, find, slice_get, AllByRecursion}
+use Rattle.std.specs.List.{list_all, enumerate_from, find, flat_map, slice_get, AllByRecursion}
 use Rattle.std.proofs.lemmas.Bool.{and_parts, cases_Bool, leb-true, true≢false}
 use Rattle.std.proofs.lemmas.List.{length-map}
 use Rattle.std.proofs.lemmas.Option.{slice_get-map}
@@ -11,15 +11,18 @@ use Rattle.osbase.specs.declared.references.CoreId.{CoreId}
 use Rattle.osbase.specs.declared.references.CounterRef.{CounterRef}
 use Rattle.osplan.specs.declared.plans.Core.{Core}
 use Rattle.osplan.specs.declared.plans.Plan.{Plan}
+use Rattle.osplan.specs.declared.plans.TheConstants.{KINDS}
 use Rattle.osplan.specs.Expressible.{are_distinct}
 use Rattle.osplan.specs.Limits as limits
 use Rattle.osplan.specs.Limits.{CounterSizes, are_counters_within, is_counter_within}
 use Rattle.osplan.specs.View.{core_of, counter_in}
 use Rattle.osshape.specs.declared.shapes.CoreText.{CoreText}
 use Rattle.osshape.specs.declared.shapes.CounterText.{CounterText}
+use Rattle.osshape.specs.declared.shapes.Named.{Named}
 use Rattle.osshape.specs.declared.declarations.Declaration.{Declaration}
 use Rattle.oscheck.specs.Check.{counter_sizes}
-use Rattle.osshape.specs.Declarations.{byte_of, id_of, task_declaration, resource_declaration, counter_declaration, alarm_declaration, table_declaration, declared_tasks, declared_resources, declared_counters, declared_alarms, declared_tables, declared_by, declarations, has_name, is_alone, place_of, counter_ref, counter_declared, declared_sizes, names_of}
+use Rattle.osshape.specs.Declarations.{byte_of, id_of, declaration, declared_of, declared_by, declarations, has_name, is_alone, place_of, counter_ref, counter_declared, declared_sizes, names_of}
+use Rattle.osshape.specs.Shape.{numbered, objects_in}
 use Rattle.osdraft.proofs.Numbers.{byte-small}
 use Rattle.osshape.proofs.Alone.{alone}
 
@@ -46,9 +49,9 @@ both-sized plan [] back f b = b
 both-sized plan (d ∷ front) back f b = (f.0, both-sized plan front back f.1 b)
 
 -- no other object has numbers
-unsized : {X : Type 0} (plan : Plan) (declare : ℕ × X → Declaration) → ((p : ℕ × X) → IsSized plan (declare p) (declare p).kind) → (n : ℕ) (xs : List X) → AreSized plan (map declare (enumerate_from n xs))
-unsized plan declare each n [] = tt
-unsized plan declare each n (x ∷ xs) = (each (n, x), unsized plan declare each (n + 1) xs)
+unsized : (plan : Plan) (core : CoreText) (kind : ObjectKind) → ((d : Declaration) → IsSized plan d kind) → (n : ℕ) (objects : List Named) → AreSized plan (map (declaration core kind) (enumerate_from n objects))
+unsized plan core kind each n [] = tt
+unsized plan core kind each n (object ∷ objects) = (each (declaration core kind (n, object)), unsized plan core kind each (n + 1) objects)
 
 module _ (plan : Plan) (text : CoreText) (has : HasCounters plan text) where
   few : length text.counters ≤ 8
@@ -62,7 +65,7 @@ module _ (plan : Plan) (text : CoreText) (has : HasCounters plan text) where
       (sym (slice_get-map limits.counter_sizes has.core.counters n) ∙ ap (λ (sizes : List CounterSizes). slice_get sizes n) has.same ∙ slice_get-map counter_sizes text.counters n ∙ ap (option_map counter_sizes) is)
 
   counters-sized : (n : ℕ) (counters : List CounterText) → ((k : ℕ) → slice_get text.counters (n + k) ≡ slice_get counters k) → n + length counters ≤ 8 → list_all is_counter_within (map counter_sizes counters) ≡ true
-      → AreSized plan (map (counter_declaration text) (enumerate_from n counters))
+      → AreSized plan (map (declaration text ObjectKind.Counter) (enumerate_from n (map numbered counters)))
   counters-sized n [] at low within = tt
   counters-sized n (counter ∷ counters) at low within =
       let parts = and_parts (is_counter_within (counter_sizes counter)) (list_all is_counter_within (map counter_sizes counters)) within in
@@ -71,20 +74,20 @@ module _ (plan : Plan) (text : CoreText) (has : HasCounters plan text) where
       let next = λ (k : ℕ). let index : n + 1 + k ≡ n + suc k = omega arith in ap (slice_get text.counters) index ∙ at (suc k) in
       ((counter-sized n counter here (omega arith), parts.0), counters-sized (n + 1) counters next (omega arith) parts.1)
 
-  objects-sized : AreSized plan (declared_by text)
-  objects-sized =
-      let all = (and_parts _ (list_all is_counter_within (map counter_sizes text.counters)) has.within).1 in
+  kind-sized : (kind : ObjectKind) → AreSized plan (declared_of text kind)
+  kind-sized ObjectKind.Counter =
       let at = λ (k : ℕ). let index : 0 + k ≡ k = omega arith in ap (slice_get text.counters) index in
       let fits = few in
-      let counters = counters-sized 0 text.counters at (omega arith) all in
-      let first = both-sized plan (declared_tasks text) (declared_resources text) (unsized plan (task_declaration text) (λ p. tt) 0 text.tasks) (unsized plan (resource_declaration text) (λ p. tt) 0 text.resources) in
-      let next = both-sized plan (declared_tasks text ++ declared_resources text) (declared_counters text) first counters in
-      let last = both-sized plan (declared_tasks text ++ declared_resources text ++ declared_counters text) (declared_alarms text) next (unsized plan (alarm_declaration text) (λ p. tt) 0 text.alarms) in
-      both-sized plan (declared_tasks text ++ declared_resources text ++ declared_counters text ++ declared_alarms text) (declared_tables text) last (unsized plan (table_declaration text) (λ p. tt) 0 text.tables)
+      counters-sized 0 text.counters at (omega arith) (and_parts _ (list_all is_counter_within (map counter_sizes text.counters)) has.within).1
+  kind-sized kind = unsized plan text kind (λ d. tt) 0 (objects_in kind text)
+
+  kinds-sized : (kinds : List ObjectKind) → AreSized plan (flat_map (declared_of text) kinds)
+  kinds-sized [] = tt
+  kinds-sized (kind ∷ kinds) = both-sized plan (declared_of text kind) (flat_map (declared_of text) kinds) (kind-sized kind) (kinds-sized kinds)
 
 all-sized : (plan : Plan) (cores : List CoreText) → AllByRecursion (HasCounters plan) cores → AreSized plan (declarations cores)
 all-sized plan [] has = tt
-all-sized plan (core ∷ cores) has = both-sized plan (declared_by core) (declarations cores) (objects-sized plan core has.0) (all-sized plan cores has.1)
+all-sized plan (core ∷ cores) has = both-sized plan (declared_by core) (declarations cores) (kinds-sized plan core has.0 KINDS) (all-sized plan cores has.1)
 
 -- ---- the counter of a name
 

@@ -12,7 +12,7 @@ use Rattle.osplan.specs.declared.plans.Table.{Table}
 use Rattle.osplan.specs.declared.plans.TableStart.{TableStart}
 use Rattle.osplan.specs.Expressible.{are_distinct}
 use Rattle.osplan.specs.Limits as limits
-use Rattle.osplan.specs.Limits.{CounterSizes, PointSizes, TableSizes, are_ascending, are_numbers_distinct, first_offset, is_alarm_within, is_between, is_ceiling, is_counter_within, is_point_within, is_start, is_table_start, is_table_start_within, is_table_timed, is_table_within, is_task_within, is_timed_by, is_within, last_offset, number_of}
+use Rattle.osplan.specs.Limits.{CounterSizes, PointSizes, TableSizes, are_ascending, are_numbers_distinct, is_alarm_within, is_between, is_ceiling, is_counter_within, is_point_within, is_start, is_table_start_within, is_table_timed, is_table_within, is_task_within, is_timed_by, is_within, last_offset, number_of}
 use Rattle.osplan.specs.View.{counter_in}
 use Rattle.osplan.proofs.Tests.{all-both}
 use Rattle.osshape.specs.declared.shapes.AlarmStartText.{AlarmStartText}

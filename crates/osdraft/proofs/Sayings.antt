@@ -1,13 +1,16 @@
 -- What a text without a fault means can be said by a text.
 use Rattle.std.proofs.Common.{◌≡◌, ℕ, ◌+◌, ◌&&◌, ◌||◌, not, true, option_map, List, [], ◌∷◌, ◌++◌, map, Option, Some, None, unwrap_or, refl, sym, ap, ◌∙◌}
-use Rattle.std.specs.List.{list_all, enumerate_from, flat_map}
+use Rattle.std.specs.List.{list_all, flat_map}
 use Rattle.std.specs.Option.{option_map_or}
 use Rattle.std.proofs.lemmas.Bool.{and_parts, and_from}
 use Rattle.std.proofs.lemmas.List.{map-append}
+use Rattle.std.proofs.lemmas.List.Folds.{list_all-map}
+use Rattle.std.proofs.lemmas.Simd.{map-map}
 use Rattle.oscript.specs.declared.Op.{Op}
 use Rattle.oscript.specs.declared.Op.TheVariants.{Work}
 use Rattle.oscript.specs.Rows as rows
 use Rattle.oscript.specs.Rows.{is_in_form}
+use Rattle.osbase.specs.declared.objects.ObjectKind.{ObjectKind}
 use Rattle.osbase.specs.declared.references.CoreId.{CoreId}
 use Rattle.osforms.specs.Action.{is_action}
 use Rattle.osforms.specs.Operation.{op_meant, has_masks}
@@ -22,6 +25,7 @@ use Rattle.osplan.specs.declared.plans.TableStart.{TableStart}
 use Rattle.osplan.specs.declared.plans.Task.{Task}
 use Rattle.osplan.specs.Expressible as said
 use Rattle.osplan.specs.Limits.{are_numbers_distinct}
+use Rattle.osplan.specs.Objects.{names_in}
 use Rattle.osbase.specs.Names.{is_name}
 use Rattle.osplan.specs.Expressible.{mode_name, is_only_mode}
 use Rattle.osshape.specs.declared.shapes.AlarmStartText.{AlarmStartText}
@@ -29,6 +33,7 @@ use Rattle.osshape.specs.declared.shapes.AlarmText.{AlarmText}
 use Rattle.osshape.specs.declared.shapes.ConfigText.{ConfigText}
 use Rattle.osshape.specs.declared.shapes.CoreText.{CoreText}
 use Rattle.osshape.specs.declared.shapes.CounterText.{CounterText}
+use Rattle.osshape.specs.declared.shapes.Named.{Named}
 use Rattle.osshape.specs.declared.shapes.ResourceText.{ResourceText}
 use Rattle.osshape.specs.declared.shapes.TaskText.{TaskText}
 use Rattle.osread.specs.Faults.{failing}
@@ -38,52 +43,25 @@ use Rattle.osshape.specs.declared.table_shapes.TableText.{TableText}
 use Rattle.osshape.specs.declared.declarations.Declaration.{Declaration}
 use Rattle.oscheck.specs.Action.{action_of, is_action_masked}
 use Rattle.oscheck.specs.Check.{numbers_of, is_task_masked, is_alarm_masked, is_point_masked, is_table_masked, is_core_masked, is_task_script, is_alarm_acting, is_point_acting, is_table_acting, is_core_script, tests_of}
-use Rattle.osshape.specs.Declarations.{id_of, task_declaration, resource_declaration, counter_declaration, alarm_declaration, table_declaration, declared_tasks, declared_resources, declared_counters, declared_alarms, declared_tables, declared_by, declarations, place_of}
+use Rattle.osshape.specs.Declarations.{id_of, declared_by, declarations, place_of}
 use Rattle.oscheck.specs.Operation.{is_operation, op_of, operations_of}
 use Rattle.osdraft.specs.Meaning.{only_mode, task_plan, resource_plan, counter_plan, start_plan, alarm_plan, point_plan, table_start_plan, table_plan, core_plan, plan_of}
+use Rattle.osplan.proofs.EveryKind.{every-kind}
 use Rattle.osplan.proofs.Tests.{all-both, all-flat}
 use Rattle.osdraft.proofs.Alarms.{action-keeps}
 use Rattle.osshape.proofs.Lists.{list_all-by, list_all-total}
-use Rattle.osshape.specs.Shape.{has_named_tasks, has_named_resources, has_named_counters, has_named_alarms, has_named_tables, has_named_objects}
+use Rattle.osshape.specs.Shape.{has_named_objects, numbered, objects_in, unnumbered}
+use Rattle.osshape.proofs.Naming.{names-declared}
 use Rattle.osdraft.proofs.Bounds.{faultless}
 
 -- ---- the names of a text are those of its plan
 
-tasks-named : (objects : List Declaration) (core : CoreText) (n : ℕ) (tasks : List TaskText)
-    → map (λ (task : Task). task.name) (map (task_plan objects) tasks) ≡ map (λ (d : Declaration). d.name) (map (task_declaration core) (enumerate_from n tasks))
-tasks-named objects core n [] = refl
-tasks-named objects core n (task ∷ tasks) = ap (λ names. task.name ∷ names) (tasks-named objects core (n + 1) tasks)
+kind-named : (objects : List Declaration) (core : CoreText) (kind : ObjectKind) → names_in kind (core_plan objects core) ≡ map (λ (named : Named). named.name) (objects_in kind core)
+kind-named objects core ObjectKind.Task = simp map-map
+kind-named objects core kind = simp map-map
 
-resources-named : (core : CoreText) (n : ℕ) (resources : List ResourceText)
-    → map (λ (resource : Resource). resource.name) (map resource_plan resources) ≡ map (λ (d : Declaration). d.name) (map (resource_declaration core) (enumerate_from n resources))
-resources-named core n [] = refl
-resources-named core n (resource ∷ resources) = ap (λ names. resource.name ∷ names) (resources-named core (n + 1) resources)
-
-counters-named : (core : CoreText) (n : ℕ) (counters : List CounterText)
-    → map (λ (counter : Counter). counter.name) (map counter_plan counters) ≡ map (λ (d : Declaration). d.name) (map (counter_declaration core) (enumerate_from n counters))
-counters-named core n [] = refl
-counters-named core n (counter ∷ counters) = ap (λ names. counter.name ∷ names) (counters-named core (n + 1) counters)
-
-alarms-named : (objects : List Declaration) (core : CoreText) (n : ℕ) (alarms : List AlarmText)
-    → map (λ (alarm : Alarm). alarm.name) (map (alarm_plan objects (id_of core)) alarms) ≡ map (λ (d : Declaration). d.name) (map (alarm_declaration core) (enumerate_from n alarms))
-alarms-named objects core n [] = refl
-alarms-named objects core n (alarm ∷ alarms) = ap (λ names. alarm.name ∷ names) (alarms-named objects core (n + 1) alarms)
-
-tables-named : (objects : List Declaration) (core : CoreText) (n : ℕ) (tables : List TableText)
-    → map (λ (table : Table). table.name) (map (table_plan objects (id_of core)) tables) ≡ map (λ (d : Declaration). d.name) (map (table_declaration core) (enumerate_from n tables))
-tables-named objects core n [] = refl
-tables-named objects core n (table ∷ tables) = ap (λ names. table.name ∷ names) (tables-named objects core (n + 1) tables)
-
-abbrev names : List Declaration → List (List ℕ)
-names objects = map (λ (d : Declaration). d.name) objects
-
-objects-named : (objects : List Declaration) (core : CoreText) → said.object_names (core_plan objects core) ≡ names (declared_by core)
-objects-named objects core =
-    rw (tasks-named objects core 0 core.tasks, resources-named core 0 core.resources, counters-named core 0 core.counters, alarms-named objects core 0 core.alarms, tables-named objects core 0 core.tables)
-    (ap (λ first. first ++ names (declared_counters core) ++ names (declared_alarms core) ++ names (declared_tables core)) (sym (map-append (λ (d : Declaration). d.name) (declared_tasks core) (declared_resources core)))
-    ∙ ap (λ first. first ++ names (declared_alarms core) ++ names (declared_tables core)) (sym (map-append (λ (d : Declaration). d.name) (declared_tasks core ++ declared_resources core) (declared_counters core)))
-    ∙ ap (λ first. first ++ names (declared_tables core)) (sym (map-append (λ (d : Declaration). d.name) (declared_tasks core ++ declared_resources core ++ declared_counters core) (declared_alarms core)))
-    ∙ sym (map-append (λ (d : Declaration). d.name) (declared_tasks core ++ declared_resources core ++ declared_counters core ++ declared_alarms core) (declared_tables core)))
+objects-named : (objects : List Declaration) (core : CoreText) → said.object_names (core_plan objects core) ≡ map (λ (d : Declaration). d.name) (declared_by core)
+objects-named objects core = sym (names-declared (core_plan objects core) core (kind-named objects core))
 
 names-kept : (objects : List Declaration) (cores : List CoreText) → flat_map said.object_names (map (core_plan objects) cores) ≡ map (λ (d : Declaration). d.name) (declarations cores)
 names-kept objects [] = refl
@@ -153,22 +131,24 @@ core-said : (objects : List Declaration) (core : CoreText) → (has_named_object
 core-said objects core h =
     let parts = and_parts (has_named_objects core && is_core_masked core) (is_core_script objects core) h in
     let first = and_parts (has_named_objects core) (is_core_masked core) parts.0 in
-    let every = and_parts (has_named_tasks core && has_named_resources core && has_named_counters core && has_named_alarms core) (has_named_tables core) first.0 in
-    let all = and_parts (has_named_tasks core && has_named_resources core && has_named_counters core) (has_named_alarms core) every.0 in
-    let counted = and_parts (has_named_tasks core && has_named_resources core) (has_named_counters core) all.0 in
+    let every = every-kind (λ (kind : ObjectKind). list_all (λ (named : Named). is_name named.name) (objects_in kind core)) first.0 in
     let table_masks = and_parts _ (list_all is_table_masked core.tables) first.1 in
     let masks = and_parts (list_all is_task_masked core.tasks) (list_all is_alarm_masked core.alarms) table_masks.0 in
     let table_acts = and_parts _ (list_all is_table_acting core.tables) parts.1 in
     let scripts = and_parts (list_all (is_task_script objects) core.tasks) (list_all is_alarm_acting core.alarms) table_acts.0 in
-    let named = and_parts (has_named_tasks core) (has_named_resources core) counted.0 in
-    let masked = all-both (λ (task : TaskText). is_name task.name) is_task_masked core.tasks named.0 masks.0 in
+    let named = sym (list_all-map (λ (named : Named). is_name named.name) (λ (task : TaskText). unnumbered task.name) core.tasks) ∙ every ObjectKind.Task in
+    let alarms_named = sym (list_all-map (λ (named : Named). is_name named.name) (λ (alarm : AlarmText). unnumbered alarm.name) core.alarms) ∙ every ObjectKind.Alarm in
+    let tables_named = sym (list_all-map (λ (named : Named). is_name named.name) (λ (table : TableText). unnumbered table.name) core.tables) ∙ every ObjectKind.Table in
+    let resources_named = sym (list_all-map (λ (named : Named). is_name named.name) (λ (resource : ResourceText). unnumbered resource.name) core.resources) ∙ every ObjectKind.Resource in
+    let counters_named = sym (list_all-map (λ (named : Named). is_name named.name) numbered core.counters) ∙ every ObjectKind.Counter in
+    let masked = all-both (λ (task : TaskText). is_name task.name) is_task_masked core.tasks named masks.0 in
     let tasks = all-both (λ (task : TaskText). is_name task.name && is_task_masked task) (is_task_script objects) core.tasks masked scripts.0 in
-    let acting = all-both (λ (alarm : AlarmText). is_name alarm.name && is_alarm_masked alarm) is_alarm_acting core.alarms (all-both (λ (alarm : AlarmText). is_name alarm.name) is_alarm_masked core.alarms all.1 masks.1) scripts.1 in
+    let acting = all-both (λ (alarm : AlarmText). is_name alarm.name && is_alarm_masked alarm) is_alarm_acting core.alarms (all-both (λ (alarm : AlarmText). is_name alarm.name) is_alarm_masked core.alarms alarms_named masks.1) scripts.1 in
     let alarms = list_all-by (λ (alarm : AlarmText). is_name alarm.name && is_alarm_masked alarm && is_alarm_acting alarm) said.is_alarm_expressible (alarm_plan objects (id_of core)) (alarm-said objects (id_of core)) core.alarms acting in
-    let table_acting = all-both (λ (table : TableText). is_name table.name && is_table_masked table) is_table_acting core.tables (all-both (λ (table : TableText). is_name table.name) is_table_masked core.tables every.1 table_masks.1) table_acts.1 in
+    let table_acting = all-both (λ (table : TableText). is_name table.name && is_table_masked table) is_table_acting core.tables (all-both (λ (table : TableText). is_name table.name) is_table_masked core.tables tables_named table_masks.1) table_acts.1 in
     let tables = list_all-by (λ (table : TableText). is_name table.name && is_table_masked table && is_table_acting table) said.is_table_expressible (table_plan objects (id_of core)) (table-said objects (id_of core)) core.tables table_acting in
-    let resources = list_all-by (λ (resource : ResourceText). is_name resource.name) said.is_resource_expressible resource_plan (λ resource e. e) core.resources named.1 in
-    let counters = list_all-by (λ (counter : CounterText). is_name counter.name) said.is_counter_expressible counter_plan (λ counter e. e) core.counters counted.1 in
+    let resources = list_all-by (λ (resource : ResourceText). is_name resource.name) said.is_resource_expressible resource_plan (λ resource e. e) core.resources resources_named in
+    let counters = list_all-by (λ (counter : CounterText). is_name counter.name) said.is_counter_expressible counter_plan (λ counter e. e) core.counters counters_named in
     and_from _ _ (and_from _ _ (and_from _ _ (and_from _ _ (and_from _ _ (list_all-by (λ (task : TaskText). is_name task.name && is_task_masked task && is_task_script objects task) said.is_task_expressible (task_plan objects) (task-said objects) core.tasks tasks) resources) counters) alarms) tables) refl
 
 pub expressible-of : (t : ConfigText) → list_all has_named_objects t.cores ≡ true → failing (tests_of t) ≡ [] → said.is_expressible (plan_of t) ≡ true

@@ -1,5 +1,5 @@
 -- The configuration that a text means posts as many envelopes at once as the text.
-use Rattle.std.proofs.Common.{◌≡◌, ℕ, ◌+◌, ◌&&◌, Bool, true, false, cond, count_by, sum_by, List, [], ◌∷◌, map, Option, Some, None, is_some, option_map, option_and_then, unwrap_or, refl, sym, ap, ◌∙◌}
+use Rattle.std.proofs.Common.{◌≡◌, ℕ, ◌+◌, ◌&&◌, Bool, true, false, cond, count_by, sum_by, List, [], ◌∷◌, map, Option, Some, None, is_some, option_map, option_and_then, unwrap_or, refl, sym, ap, ◌∙◌, arith}
 use Rattle.std.specs.List.{find, list_all}
 use Rattle.std.proofs.lemmas.Bool.{and_parts}
 use Rattle.std.proofs.lemmas.List.Sums.{sum_by-cons}
@@ -27,7 +27,7 @@ use Rattle.osshape.specs.declared.shapes.CoreText.{CoreText}
 use Rattle.osshape.specs.declared.table_shapes.PointText.{PointText}
 use Rattle.osshape.specs.declared.table_shapes.TableText.{TableText}
 use Rattle.oscheck.specs.Action.{action_of, any_action, is_action_known}
-use Rattle.oscheck.specs.Check.{alarm_modes, is_alarm_acting, is_alarm_known, is_core_known, is_core_script, is_mode_name, is_point_acting, is_point_known, is_table_acting, is_table_known, is_task_known, is_task_script, table_modes}
+use Rattle.oscheck.specs.Check.{alarm_modes, is_alarm_acting, is_alarm_known, is_core_known, is_core_script, is_mode_name, is_point_acting, is_point_known, is_table_acting, is_table_known, table_modes}
 use Rattle.osshape.specs.Declarations.{has_name, id_of, is_alone, place_alone, place_of, names_of}
 use Rattle.osdraft.specs.Meaning.{alarm_plan, core_plan, point_plan, table_plan}
 use Rattle.oscheck.specs.Posted.{greatest_posted, is_posting, posted_at, posted_at_once}
@@ -119,12 +119,21 @@ module _ (objects : List Declaration) (apart : are_distinct (names_of objects) �
       (map-same (plans.posted_at planned) (point_plan objects) (posted_at objects (id_of core)) (λ (point : PointText). is_point_known objects point && is_point_acting point) point-same table.points
       (all-both (is_point_known objects) is_point_acting table.points points parts.1))
 
+  -- What acts by itself, of what a core has.
+  record ActingParts : Type 0 where
+    alarms : list_all (is_alarm_known objects) core.alarms ≡ true
+    alarms_act : list_all is_alarm_acting core.alarms ≡ true
+    tables : list_all (is_table_known objects) core.tables ≡ true
+    tables_act : list_all is_table_acting core.tables ≡ true
+
+  acting-parts : is_core_known objects core ≡ true → is_core_script objects core ≡ true → ActingParts
+  acting-parts known acts = record { alarms = grind arith; alarms_act = grind arith; tables = grind arith; tables_act = grind arith }
+
   pub posted-same : is_core_known objects core ≡ true → is_core_script objects core ≡ true → plans.posted_at_once planned ≡ posted_at_once objects core
   posted-same known acts =
-      let knows = and_parts _ (list_all (is_table_known objects) core.tables) known in
-      let does = and_parts _ (list_all is_table_acting core.tables) acts in
-      let alarms = all-both (is_alarm_known objects) is_alarm_acting core.alarms (and_parts (list_all (is_task_known objects) core.tasks) _ knows.0).1 (and_parts (list_all (is_task_script objects) core.tasks) _ does.0).1 in
-      let tables = all-both (is_table_known objects) is_table_acting core.tables knows.1 does.1 in
+      let parts = acting-parts known acts in
+      let alarms = all-both (is_alarm_known objects) is_alarm_acting core.alarms parts.alarms parts.alarms_act in
+      let tables = all-both (is_table_known objects) is_table_acting core.tables parts.tables parts.tables_act in
       rw (
         count-same (λ (alarm : AlarmText). is_posting objects (id_of core) alarm.action) (λ (alarm : Alarm). plans.is_posting planned alarm.action) (alarm_plan objects (id_of core)) (λ (alarm : AlarmText). is_alarm_known objects alarm && is_alarm_acting alarm) alarm-same core.alarms alarms,
         sum-same (greatest_posted objects (id_of core)) (plans.greatest_posted planned) (table_plan objects (id_of core)) (λ (table : TableText). is_table_known objects table && is_table_acting table) table-same core.tables tables,

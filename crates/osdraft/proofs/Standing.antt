@@ -1,5 +1,5 @@
 -- The objects that a text declares are objects of its plan.
-use Rattle.std.proofs.Common.{◌≡◌, ℕ, suc, ◌+◌, ◌≤◌, Bool, true, false, not, cond, List, [], ◌∷◌, ◌++◌, length, map, Option, Some, None, option_and_then, refl, sym, ap, ◌∙◌, arith}
+use Rattle.std.proofs.Common.{◌≡◌, ℕ, suc, ◌+◌, ◌≤◌, Bool, true, false, not, cond, List, [], ◌∷◌, length, map, Option, Some, None, option_and_then, refl, sym, ap, ◌∙◌, arith}
 use Rattle.std.specs.List.{list_all, enumerate_from, find, AllByRecursion}
 use Rattle.std.proofs.lemmas.Bool.{and_parts, and_from, or_parts, not-true, le-leb}
 use Rattle.std.proofs.lemmas.List.{length-map}
@@ -13,16 +13,16 @@ use Rattle.osbase.specs.History.{same_core}
 use Rattle.osbase.proofs.Same.{same_core-comm, same_core-refl}
 use Rattle.osplan.specs.declared.plans.Core.{Core}
 use Rattle.osplan.specs.Limits.{number_of, numbers_of, has_number, are_numbers_distinct, is_object}
-use Rattle.osplan.proofs.Tests.{find-passes}
-use Rattle.osshape.specs.declared.shapes.AlarmText.{AlarmText}
+use Rattle.osplan.specs.Objects.{object_count}
+use Rattle.osplan.specs.declared.plans.TheConstants.{KINDS}
+use Rattle.osplan.proofs.Tests.{all-flat, find-passes}
 use Rattle.osshape.specs.declared.shapes.ConfigText.{ConfigText}
 use Rattle.osshape.specs.declared.shapes.CoreText.{CoreText}
-use Rattle.osshape.specs.declared.shapes.CounterText.{CounterText}
-use Rattle.osshape.specs.declared.shapes.ResourceText.{ResourceText}
-use Rattle.osshape.specs.declared.shapes.TaskText.{TaskText}
-use Rattle.osshape.specs.declared.table_shapes.TableText.{TableText}
+use Rattle.osshape.specs.declared.shapes.Named.{Named}
 use Rattle.osshape.specs.declared.declarations.Declaration.{Declaration}
-use Rattle.osshape.specs.Declarations.{byte_of, task_declaration, resource_declaration, counter_declaration, alarm_declaration, table_declaration, declared_tasks, declared_resources, declared_counters, declared_alarms, declared_tables, declared_by, declarations, has_name, place_in, place_of}
+use Rattle.osshape.specs.Declarations.{byte_of, declaration, declared_of, declared_by, declarations, has_name, place_in, place_of}
+use Rattle.osshape.specs.Shape.{objects_in}
+use Rattle.osshape.proofs.Lists.{list_all-every}
 use Rattle.osdraft.specs.Meaning.{core_plan, plan_of}
 use Rattle.osdraft.proofs.Numbers.{byte-at_most}
 
@@ -55,49 +55,20 @@ module _ (t : ConfigText) where
   abbrev planned : CoreText → Core
   planned core = core_plan (declarations t.cores) core
 
-  tasks-there : (core : CoreText) (n : ℕ) (tasks : List TaskText) → IsFound (plan_of t).cores (planned core) → n + length tasks ≤ length core.tasks → list_all is_there (map (task_declaration core) (enumerate_from n tasks)) ≡ true
-  tasks-there core n [] found within = refl
-  tasks-there core n (task ∷ tasks) found within =
-      let below : byte_of (Some n) ≤ n = byte-at_most n in
-      let count : length (planned core).tasks ≡ length core.tasks = length-map core.tasks _ in
-      and_from _ _ (rw found (rw count (le-leb (suc (byte_of (Some n))) (length core.tasks) (omega arith)))) (tasks-there core (n + 1) tasks found (omega arith))
+  as-many : (core : CoreText) (kind : ObjectKind) → length (objects_in kind core) ≡ object_count kind (planned core)
+  as-many core ObjectKind.Task = simp length-map
+  as-many core kind = simp length-map
 
-  resources-there : (core : CoreText) (n : ℕ) (resources : List ResourceText) → IsFound (plan_of t).cores (planned core) → n + length resources ≤ length core.resources
-      → list_all is_there (map (resource_declaration core) (enumerate_from n resources)) ≡ true
-  resources-there core n [] found within = refl
-  resources-there core n (resource ∷ resources) found within =
+  each-there : (core : CoreText) (kind : ObjectKind) (n : ℕ) (objects : List Named) → IsFound (plan_of t).cores (planned core) → n + length objects ≤ object_count kind (planned core) → list_all is_there (map (declaration core kind) (enumerate_from n objects)) ≡ true
+  each-there core kind n [] found within = refl
+  each-there core kind n (object ∷ objects) found within =
       let below : byte_of (Some n) ≤ n = byte-at_most n in
-      let count : length (planned core).resources ≡ length core.resources = length-map core.resources _ in
-      and_from _ _ (rw found (rw count (le-leb (suc (byte_of (Some n))) (length core.resources) (omega arith)))) (resources-there core (n + 1) resources found (omega arith))
-
-  counters-there : (core : CoreText) (n : ℕ) (counters : List CounterText) → IsFound (plan_of t).cores (planned core) → n + length counters ≤ length core.counters
-      → list_all is_there (map (counter_declaration core) (enumerate_from n counters)) ≡ true
-  counters-there core n [] found within = refl
-  counters-there core n (counter ∷ counters) found within =
-      let below : byte_of (Some n) ≤ n = byte-at_most n in
-      let count : length (planned core).counters ≡ length core.counters = length-map core.counters _ in
-      and_from _ _ (rw found (rw count (le-leb (suc (byte_of (Some n))) (length core.counters) (omega arith)))) (counters-there core (n + 1) counters found (omega arith))
-
-  alarms-there : (core : CoreText) (n : ℕ) (alarms : List AlarmText) → IsFound (plan_of t).cores (planned core) → n + length alarms ≤ length core.alarms → list_all is_there (map (alarm_declaration core) (enumerate_from n alarms)) ≡ true
-  alarms-there core n [] found within = refl
-  alarms-there core n (alarm ∷ alarms) found within =
-      let below : byte_of (Some n) ≤ n = byte-at_most n in
-      let count : length (planned core).alarms ≡ length core.alarms = length-map core.alarms _ in
-      and_from _ _ (rw found (rw count (le-leb (suc (byte_of (Some n))) (length core.alarms) (omega arith)))) (alarms-there core (n + 1) alarms found (omega arith))
-
-  tables-there : (core : CoreText) (n : ℕ) (tables : List TableText) → IsFound (plan_of t).cores (planned core) → n + length tables ≤ length core.tables → list_all is_there (map (table_declaration core) (enumerate_from n tables)) ≡ true
-  tables-there core n [] found within = refl
-  tables-there core n (table ∷ tables) found within =
-      let below : byte_of (Some n) ≤ n = byte-at_most n in
-      let count : length (planned core).tables ≡ length core.tables = length-map core.tables _ in
-      and_from _ _ (rw found (rw count (le-leb (suc (byte_of (Some n))) (length core.tables) (omega arith)))) (tables-there core (n + 1) tables found (omega arith))
+      and_from _ _ (rw found (le-leb (suc (byte_of (Some n))) (object_count kind (planned core)) (omega arith))) (each-there core kind (n + 1) objects found (omega arith))
 
   objects-there : (core : CoreText) → IsFound (plan_of t).cores (planned core) → list_all is_there (declared_by core) ≡ true
   objects-there core found =
-      let first = list_all-append is_there (declared_tasks core) (declared_resources core) ∙ and_from _ _ (tasks-there core 0 core.tasks found (omega arith)) (resources-there core 0 core.resources found (omega arith)) in
-      let next = list_all-append is_there (declared_tasks core ++ declared_resources core) (declared_counters core) ∙ and_from _ _ first (counters-there core 0 core.counters found (omega arith)) in
-      let last = list_all-append is_there (declared_tasks core ++ declared_resources core ++ declared_counters core) (declared_alarms core) ∙ and_from _ _ next (alarms-there core 0 core.alarms found (omega arith)) in
-      list_all-append is_there (declared_tasks core ++ declared_resources core ++ declared_counters core ++ declared_alarms core) (declared_tables core) ∙ and_from _ _ last (tables-there core 0 core.tables found (omega arith))
+      all-flat is_there (declared_of core) KINDS
+      (list_all-every (λ (kind : ObjectKind). list_all is_there (declared_of core kind)) (λ kind. let many = as-many core kind in each-there core kind 0 (objects_in kind core) found (omega arith)) KINDS)
 
   all-there : (cores : List CoreText) → AllByRecursion (IsFound (plan_of t).cores) (map planned cores) → list_all is_there (declarations cores) ≡ true
   all-there [] found = refl

@@ -1,5 +1,5 @@
 -- Of a configured core: what it may name of what a configuration names, and its alarms with the counters that they go by.
-use Rattle.std.proofs.Common.{◌≡◌, Bool, true, false, not, ◌&&◌, ◌||◌, Some, Option, List, flat_map, map, slice_get, option_and_then, refl, ap, sym, subst, ◌∙◌}
+use Rattle.std.proofs.Common.{◌≡◌, Bool, true, false, not, ◌&&◌, ◌||◌, Some, Option, List, flat_map, map, slice_get, option_and_then, refl, ap, sym, subst, ◌∙◌, arith}
 use Rattle.std.specs.List.{list_all}
 use Rattle.std.specs.Option.{option_map_or}
 use Rattle.std.proofs.lemmas.Bool.{and_parts, and_from}
@@ -16,7 +16,7 @@ use Rattle.osplan.specs.declared.plans.Plan.{Plan}
 use Rattle.osplan.specs.declared.plans.Table.{Table}
 use Rattle.osbase.specs.declared.messages.RemoteCall.{RemoteCall}
 use Rattle.osplan.specs.Clocked.{is_alarm_attached, is_table_attached}
-use Rattle.osplan.specs.Limits.{alarm_sizes, is_action_known, is_alarm_known, is_alarm_near, is_core_known, is_core_mode, is_core_timed, is_mode, is_object, is_table_known, is_table_near, is_table_timed, is_task_known, table_sizes}
+use Rattle.osplan.specs.Limits.{alarm_sizes, is_action_known, is_alarm_known, is_alarm_near, is_core_known, is_core_timed, is_mode, is_object, is_table_known, is_table_near, is_table_timed, is_task_known, table_sizes}
 use Rattle.osplan.specs.Objects.{alarm_modes, core_actions, has_index, may_act, may_name, table_actions, table_modes}
 use Rattle.osplan.specs.View.{core_of, counter_in, own_counter}
 use Rattle.osplan.proofs.Tests.{all-append, all-both, all-flat, all-weaker, map-where}
@@ -43,10 +43,7 @@ module _ (plan : Plan) (core : Core) (found : core_of plan core.id ≡ Some core
     pub tables : list_all (is_table_known plan) core.tables ≡ true
 
   pub known-parts : is_core_known plan core ≡ true → KnownParts
-  known-parts known =
-      let tables = and_parts _ (list_all (is_table_known plan) core.tables) known in
-      let alarms = and_parts _ (list_all (is_alarm_known plan) core.alarms) tables.0 in
-      record { tasks = (and_parts (is_core_mode plan core.mode) _ alarms.0).1; alarms = alarms.1; tables = tables.1 }
+  known-parts known = record { tasks = grind arith; alarms = grind arith; tables = grind arith }
 
   acts-each : (actions : List RemoteCall) → list_all (is_action_known plan) actions ≡ true → list_all (may_act core) actions ≡ true
   acts-each =

@@ -8,3 +8,4 @@ pub mod Starting
 pub mod Reached
 pub mod Separating
 pub mod Cutting
+pub mod EveryKind

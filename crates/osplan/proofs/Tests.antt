@@ -5,7 +5,7 @@ use Rattle.std.specs.Option.{option_copied}
 use Rattle.std.specs.Borrow.{Bor}
 use Rattle.std.proofs.lemmas.Bool.{and_parts, and_from, eqb-true, lt-ltb, not-true, not_from_false, or_left, or_parts, or_right}
 use Rattle.std.proofs.lemmas.List.{nil_from_length}
-use Rattle.std.proofs.lemmas.Option.{slice_get_within}
+use Rattle.std.proofs.lemmas.Option.{slice_get-map, slice_get_within}
 use Rattle.std.proofs.lemmas.List.Folds.{list_all-append, list_any-append}
 
 pub all-weaker : {X : Type 0} (p q : X → Bool) → ((x : X) → p x ≡ true → q x ≡ true) → (xs : List X) → list_all p xs ≡ true → list_all q xs ≡ true
@@ -155,3 +155,6 @@ some-at (x ∷ xs) (suc i) inside = some-at xs i (omega (arith, inside))
 pub found-inside : {X : Type 0} (b : Bool) (xs : List X) (i : ℕ) (x : X) → cond b (slice_get xs i) None ≡ Some x → (b && nat_lt i (length xs)) ≡ true
 found-inside true xs i x e = lt-ltb i (length xs) (slice_get_within xs i x e)
 found-inside false xs i x e = cc
+
+-- an element of a list that is made of another
+pub ruleset get_mapped = (slice_get-map)

@@ -1,19 +1,24 @@
 -- What the tests of a configuration say, by name, and what a kernel needs of a core.
-use Rattle.std.proofs.Common.{◌≡◌, ℕ, ◌+◌, ◌≤◌, true, nat_eq, nat_le, nat_lt, [], length, map, Some, is_some, IsTrue, sym, ◌∙◌, arith, sum_by}
+use Rattle.std.proofs.Common.{◌≡◌, ℕ, ◌+◌, ◌≤◌, Bool, true, nat_eq, nat_le, nat_lt, List, [], length, map, Some, is_some, IsTrue, sym, ◌∙◌, arith, sum_by}
 use Rattle.std.specs.List.{list_all}
 use Rattle.std.proofs.lemmas.Bool.{and_parts, leb-true, le-leb, lt-ltb}
 use Rattle.std.proofs.lemmas.List.{length-map}
 use Rattle.std.proofs.lemmas.List.Folds.{fold-map, list_all-map}
 use Rattle.osbase.specs.declared.references.CoreId.{CoreId}
+use Rattle.osbase.specs.declared.objects.ObjectKind.{ObjectKind}
 use Rattle.osbase.specs.History.{same_core}
+use Rattle.osbase.specs.Names.{is_name}
 use Rattle.osplan.specs.declared.plans.Plan.{Plan}
+use Rattle.osplan.specs.declared.plans.Alarm.{Alarm}
 use Rattle.osplan.specs.declared.plans.Core.{Core}
+use Rattle.osplan.specs.declared.plans.Counter.{Counter}
 use Rattle.osplan.specs.declared.plans.Resource.{Resource}
+use Rattle.osplan.specs.declared.plans.Table.{Table}
 use Rattle.osplan.specs.declared.plans.Task.{Task}
-use Rattle.osplan.specs.Objects.{posted_at_once}
+use Rattle.osplan.specs.Objects.{alarm_modes, names_in, object_count, posted_at_once, table_actions, table_modes}
 use Rattle.osplan.specs.View.{core_of, counter_in}
-use Rattle.osplan.specs.Limits.{TaskSizes, is_between, jobs_of, task_sizes, counter_sizes, core_sizes, sizes_of, is_task_within, is_counter_within, are_counters_within, are_alarms_within, alarm_sizes, is_alarm_within, are_tables_within, is_table_within, table_sizes, is_alarm_near, is_core_timed, is_table_near, stays_on, is_core_within, is_within, is_ceiling, ceiling_of, is_core_known, is_core_near, numbers_of, are_numbers_distinct, is_within_limits}
-use Rattle.osplan.specs.Expressible.{are_mode_name, is_in_only_mode, are_distinct, declared_names, is_task_expressible, is_resource_expressible, is_counter_expressible, is_alarm_expressible, is_table_expressible, is_core_expressible, is_expressible}
+use Rattle.osplan.specs.Limits.{CoreSizes, TaskSizes, count_in, most_of, is_between, is_core_by, jobs_of, task_sizes, counter_sizes, core_sizes, sizes_of, is_task_within, is_counter_within, are_counters_within, are_alarms_within, alarm_sizes, is_alarm_within, are_tables_within, is_table_within, table_sizes, is_alarm_near, is_core_timed, is_table_near, stays_on, is_core_within, is_within, is_ceiling, ceiling_of, is_core_known, is_core_near, numbers_of, are_numbers_distinct, is_within_limits}
+use Rattle.osplan.specs.Expressible.{are_mode_name, is_in_only_mode, is_only_mode, is_script_expressible, is_action_expressible, are_distinct, declared_names, is_task_expressible, is_resource_expressible, is_counter_expressible, is_alarm_expressible, is_table_expressible, is_core_expressible, is_expressible}
 use Rattle.osplan.proofs.Tests.{all-weaker, find-passes, none-from}
 
 -- ---- the parts of both tests
@@ -84,6 +89,20 @@ core-text-parts core h =
       isrs = none-from core.isrs isrs.1;
     }
 
+-- An object that a text can say has a name in form,
+formed : {X : Type 0} (name : X → List ℕ) (p : X → Bool) → ((x : X) → p x ≡ true → is_name (name x) ≡ true) → (xs : List X) → list_all p xs ≡ true → list_all is_name (map name xs) ≡ true
+formed name p each xs all = list_all-map is_name name xs ∙ all-weaker p (λ x. is_name (name x)) each xs all
+
+-- of whichever kind it is.
+pub names-formed : (core : Core) → CoreTextParts core → (kind : ObjectKind) → list_all is_name (names_in kind core) ≡ true
+names-formed core said ObjectKind.Task = formed (λ (task : Task). task.name) is_task_expressible (λ task h. (and_parts (is_name task.name) _ (and_parts _ (is_script_expressible task.script) h).0).0) core.tasks said.tasks
+names-formed core said ObjectKind.Resource = formed (λ (resource : Resource). resource.name) is_resource_expressible (λ resource h. h) core.resources said.resources
+names-formed core said ObjectKind.Counter = formed (λ (counter : Counter). counter.name) is_counter_expressible (λ counter h. h) core.counters said.counters
+names-formed core said ObjectKind.Alarm =
+    formed (λ (alarm : Alarm). alarm.name) is_alarm_expressible (λ alarm h. (and_parts (is_name alarm.name) (is_action_expressible alarm.action) (and_parts _ (list_all is_only_mode (alarm_modes alarm)) h).0).0) core.alarms said.alarms
+names-formed core said ObjectKind.Table =
+    formed (λ (table : Table). table.name) is_table_expressible (λ table h. (and_parts (is_name table.name) (list_all is_action_expressible (table_actions table)) (and_parts _ (list_all is_only_mode (table_modes table)) h).0).0) core.tables said.tables
+
 -- ---- what a kernel needs
 
 -- The core has its place among the flags of all cores; its tasks, their jobs, its resources, counters, alarms and tables have room, and so
@@ -100,6 +119,15 @@ pub record FitsKernel (core : Core) : Type 0 where
   pub alarms : length core.alarms ≤ 32
   pub tables : length core.tables ≤ 8
   pub posted : posted_at_once core ≤ 56
+
+-- Of no kind are there more objects than a byte can count.
+pub few-objects : (core : Core) → FitsKernel core → (kind : ObjectKind) → object_count kind core ≤ 255
+few-objects core fits ObjectKind.Task = omega arith
+few-objects core fits kind = omega arith
+
+-- The sizes of a core within its limits are of no more objects of a kind than there may be.
+pub few-of : (test : TaskSizes → Bool) (s : CoreSizes) → is_core_by test s ≡ true → (kind : ObjectKind) → nat_le (count_in kind s) (most_of kind) ≡ true
+few-of test s h kind = grind arith
 
 pub between : (low high n : ℕ) → is_between low high (Some n) ≡ true → (low ≤ n) × (n ≤ high)
 between low high n h = let parts = and_parts (nat_le low n) (nat_le n high) h in (leb-true low n parts.0, leb-true n high parts.1)

@@ -1,10 +1,11 @@
 -- What a text can say of a configuration so far, beside its limits: names in form and all different, one mode, scripts whose
 -- arguments are of their kinds, whose masks have events and that stay within themselves, actions likewise, and no ISR. [own]
 -- Each is a test, so that a literal configuration passes it by computation.
-use Rattle.std.specs.Prelude.{ℕ, ◌==◌, ◌&&◌, nat_le, Bool, true, false, not, List, [], ◌∷◌, ◌++◌, length, map, codes}
+use Rattle.std.specs.Prelude.{ℕ, ◌==◌, ◌&&◌, nat_le, Bool, true, false, not, List, [], ◌∷◌, ◌++◌, length, codes}
 use Rattle.std.specs.List.{list_all, list_any, flat_map}
 use Rattle.std.specs.Option.{option_map_or}
 use Rattle.std.specs.Str.{bytes_eq}
+use Rattle.osbase.specs.declared.objects.ObjectKind.{ObjectKind}
 use Rattle.osbase.specs.declared.references.ModeId.{ModeId}
 use Rattle.osbase.specs.declared.messages.RemoteCall.{RemoteCall}
 use Rattle.osbase.specs.Names.{is_name}
@@ -21,7 +22,8 @@ use Rattle.osplan.specs.declared.plans.Table.{Table}
 use Rattle.osplan.specs.declared.plans.Task.{Task}
 use Rattle.osplan.specs.declared.plans.CoreMode.{CoreMode}
 use Rattle.osplan.specs.declared.plans.CoreMode.TheVariants.{Named, DontCare}
-use Rattle.osplan.specs.Objects.{alarm_modes, table_actions, table_modes}
+use Rattle.osplan.specs.declared.plans.TheConstants.{KINDS}
+use Rattle.osplan.specs.Objects.{alarm_modes, names_in, table_actions, table_modes}
 
 -- The name of the only mode.
 abbrev pub mode_name : List ℕ
@@ -44,12 +46,9 @@ abbrev pub are_distinct : List (List ℕ) → Bool
 are_distinct [] = true
 are_distinct (name ∷ names) = not (list_any (λ later. bytes_eq later name) names) && are_distinct names
 
--- The names of a core's objects: tasks, then resources, counters, alarms and tables. No other kind can be configured yet.
+-- The names of a core's objects, kind by kind. No ISR can be configured yet.
 abbrev pub object_names : Core → List (List ℕ)
-object_names core =
-    map (λ (task : Task). task.name) core.tasks ++ map (λ (resource : Resource). resource.name) core.resources
-    ++ map (λ (counter : Counter). counter.name) core.counters ++ map (λ (alarm : Alarm). alarm.name) core.alarms
-    ++ map (λ (table : Table). table.name) core.tables
+object_names core = flat_map (λ (kind : ObjectKind). names_in kind core) KINDS
 
 -- Every name that a configuration declares: those of its modes, and those of its objects core by core.
 abbrev pub declared_names : Plan → List (List ℕ)

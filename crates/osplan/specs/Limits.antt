@@ -9,6 +9,7 @@ use Rattle.osbase.specs.declared.references.CounterRef.{CounterRef}
 use Rattle.osbase.specs.declared.references.ModeId.{ModeId}
 use Rattle.osbase.specs.declared.messages.RemoteCall.{RemoteCall}
 use Rattle.osbase.specs.declared.objects.Object.{Object}
+use Rattle.osbase.specs.declared.objects.ObjectKind.{ObjectKind}
 use Rattle.osbase.specs.Objects.{counter_object, object_of_call}
 use Rattle.oscript.specs.declared.Op.{Op}
 use Rattle.oscript.specs.Calls.{is_action}
@@ -75,25 +76,25 @@ pub record Sizes : Type 0 where
   pub cap : Option ℕ
   pub cores : List CoreSizes
 
+-- How many objects of a kind the sizes of a core are of.
+abbrev pub count_in : ObjectKind → CoreSizes → ℕ
+count_in ObjectKind.Task s = length s.tasks
+count_in ObjectKind.Resource s = length s.resources
+count_in ObjectKind.Counter s = length s.counters
+count_in ObjectKind.Alarm s = length s.alarms
+count_in ObjectKind.Table s = length s.tables
+
 -- ---- how many there may be at most, of each kind on a core, and of cores [own]
 
 abbrev pub most_cores : ℕ
 most_cores = 8
 
-abbrev pub most_tasks : ℕ
-most_tasks = 32
-
-abbrev pub most_resources : ℕ
-most_resources = 16
-
-abbrev pub most_counters : ℕ
-most_counters = 8
-
-abbrev pub most_alarms : ℕ
-most_alarms = 32
-
-abbrev pub most_tables : ℕ
-most_tables = 8
+abbrev pub most_of : ObjectKind → ℕ
+most_of ObjectKind.Task = 32
+most_of ObjectKind.Resource = 16
+most_of ObjectKind.Counter = 8
+most_of ObjectKind.Alarm = 32
+most_of ObjectKind.Table = 8
 
 -- Envelopes that alarms and tables add to a core's outbox at once.
 abbrev pub most_posted : ℕ
@@ -138,7 +139,7 @@ is_counter_within s = is_between 1 1000000000 s.max && is_between 1 (unwrap_or s
 
 -- And there are not too many. [own]
 abbrev pub are_counters_within : List CounterSizes → Bool
-are_counters_within counters = nat_le (length counters) most_counters && list_all is_counter_within counters
+are_counters_within counters = nat_le (length counters) (most_of ObjectKind.Counter) && list_all is_counter_within counters
 
 -- An alarm's cycle: 0 where it is due once, or the counter's least cycle to its greatest value [OSEK/VDX OS 2.2.3, section 13.6.3.3].
 abbrev pub is_cycle : CounterSizes → Option ℕ → Bool
@@ -158,7 +159,7 @@ abbrev pub is_alarm_within : Option StartSizes → Bool
 is_alarm_within auto = option_map_or is_start_within auto true
 
 abbrev pub are_alarms_within : List (Option StartSizes) → Bool
-are_alarms_within alarms = nat_le (length alarms) most_alarms && list_all is_alarm_within alarms
+are_alarms_within alarms = nat_le (length alarms) (most_of ObjectKind.Alarm) && list_all is_alarm_within alarms
 
 -- The offset of the table's first point; 0 where it has none.
 abbrev pub first_offset : List PointSizes → ℕ
@@ -184,7 +185,7 @@ is_table_within s =
     && option_map_or (is_table_start_within s) s.auto true
 
 abbrev pub are_tables_within : List TableSizes → Bool
-are_tables_within tables = nat_le (length tables) most_tables && list_all is_table_within tables
+are_tables_within tables = nat_le (length tables) (most_of ObjectKind.Table) && list_all is_table_within tables
 
 -- How many jobs of the task there may be at once; 0 where that number is not there, with which no task is within its limits.
 abbrev pub jobs_of : TaskSizes → ℕ
@@ -195,8 +196,8 @@ jobs_of s = unwrap_or s.activations 0
 abbrev pub is_core_by : (TaskSizes → Bool) → CoreSizes → Bool
 is_core_by test s =
     is_between 0 7 s.number && list_all is_start s.start
-    && nat_le (length s.tasks) most_tasks && list_all test s.tasks && nat_le (sum_by jobs_of s.tasks) 64
-    && nat_le (length s.resources) most_resources && list_all is_ceiling s.resources
+    && nat_le (length s.tasks) (most_of ObjectKind.Task) && list_all test s.tasks && nat_le (sum_by jobs_of s.tasks) 64
+    && nat_le (length s.resources) (most_of ObjectKind.Resource) && list_all is_ceiling s.resources
     && are_counters_within s.counters && are_alarms_within s.alarms && are_tables_within s.tables && nat_le s.posted most_posted
 
 -- The whole: 1 to 8 application modes, mailboxes of 1 to 16 envelopes, 1 to 8 cores. [own]

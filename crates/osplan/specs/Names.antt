@@ -1,5 +1,5 @@
 -- The names of modes and objects, by their places. What the configuration lacks has the empty name. [own]
-use Rattle.std.specs.Prelude.{ℕ, List, [], slice_get}
+use Rattle.std.specs.Prelude.{ℕ, List, [], slice_get, unwrap_or}
 use Rattle.std.specs.Option.{option_map_or}
 use Rattle.osbase.specs.declared.objects.ObjectKind.{ObjectKind}
 use Rattle.osbase.specs.declared.objects.Place.{Place}
@@ -11,14 +11,10 @@ use Rattle.osbase.specs.declared.references.Runner.{Runner}
 use Rattle.osbase.specs.declared.references.TableRef.{TableRef}
 use Rattle.osbase.specs.declared.references.TaskRef.{TaskRef}
 use Rattle.osbase.specs.Objects.{alarm_place, resource_place, table_place, task_place}
-use Rattle.osplan.specs.declared.plans.Alarm.{Alarm}
 use Rattle.osplan.specs.declared.plans.Core.{Core}
-use Rattle.osplan.specs.declared.plans.Counter.{Counter}
 use Rattle.osplan.specs.declared.plans.Isr.{Isr}
 use Rattle.osplan.specs.declared.plans.Plan.{Plan}
-use Rattle.osplan.specs.declared.plans.Resource.{Resource}
-use Rattle.osplan.specs.declared.plans.Table.{Table}
-use Rattle.osplan.specs.declared.plans.Task.{Task}
+use Rattle.osplan.specs.Objects.{names_in}
 use Rattle.osplan.specs.View.{core_of}
 
 abbrev pub name_of_mode : Plan → ModeId → List ℕ
@@ -28,11 +24,7 @@ name_of_mode plan mode = option_map_or (λ (name : List ℕ). name) (slice_get p
 
 -- The name of a core's object of a kind.
 abbrev pub name_in : ObjectKind → Core → ℕ → List ℕ
-name_in ObjectKind.Task core index = option_map_or (λ (task : Task). task.name) (slice_get core.tasks index) []
-name_in ObjectKind.Resource core index = option_map_or (λ (resource : Resource). resource.name) (slice_get core.resources index) []
-name_in ObjectKind.Counter core index = option_map_or (λ (counter : Counter). counter.name) (slice_get core.counters index) []
-name_in ObjectKind.Alarm core index = option_map_or (λ (alarm : Alarm). alarm.name) (slice_get core.alarms index) []
-name_in ObjectKind.Table core index = option_map_or (λ (table : Table). table.name) (slice_get core.tables index) []
+name_in kind core index = unwrap_or (slice_get (names_in kind core) index) []
 
 abbrev pub name_of : Plan → ObjectKind → Place → List ℕ
 name_of plan kind place = option_map_or (λ (core : Core). name_in kind core place.index) (core_of plan place.core) []

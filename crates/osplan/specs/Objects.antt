@@ -12,9 +12,12 @@ use Rattle.oscript.specs.Calls.{is_action}
 use Rattle.osplan.specs.declared.plans.Alarm.{Alarm as AlarmValue}
 use Rattle.osplan.specs.declared.plans.AlarmStart.{AlarmStart}
 use Rattle.osplan.specs.declared.plans.Core.{Core}
+use Rattle.osplan.specs.declared.plans.Counter.{Counter as CounterValue}
 use Rattle.osplan.specs.declared.plans.ExpiryPoint.{ExpiryPoint}
+use Rattle.osplan.specs.declared.plans.Resource.{Resource as ResourceValue}
 use Rattle.osplan.specs.declared.plans.Table.{Table as TableValue}
 use Rattle.osplan.specs.declared.plans.TableStart.{TableStart}
+use Rattle.osplan.specs.declared.plans.Task.{Task as TaskValue}
 
 -- How many objects of a kind a core has.
 abbrev pub object_count : ObjectKind → Core → ℕ
@@ -23,6 +26,14 @@ object_count Resource core = length core.resources
 object_count Counter core = length core.counters
 object_count Alarm core = length core.alarms
 object_count Table core = length core.tables
+
+-- The names of a core's objects of a kind, in their order. What is said of the objects of every kind goes over these. [own]
+abbrev pub names_in : ObjectKind → Core → List (List ℕ)
+names_in Task core = map (λ (task : TaskValue). task.name) core.tasks
+names_in Resource core = map (λ (resource : ResourceValue). resource.name) core.resources
+names_in Counter core = map (λ (counter : CounterValue). counter.name) core.counters
+names_in Alarm core = map (λ (alarm : AlarmValue). alarm.name) core.alarms
+names_in Table core = map (λ (table : TableValue). table.name) core.tables
 
 -- The core has so many objects of the kind that one stands at the object's index.
 abbrev pub has_index : Core → Object → Bool

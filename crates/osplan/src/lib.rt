@@ -12,7 +12,7 @@ pub mod separate;
 
 pub use faults::ConfFault;
 pub use plans::{
-    Alarm, AlarmStart, Config, Core, CoreMode, Counter, ExpiryPoint, Isr, Plan, Resource, Table,
-    TableStart, Task,
+    Alarm, AlarmStart, Config, Core, CoreMode, Counter, ExpiryPoint, Isr, KINDS, Plan, Resource,
+    Table, TableStart, Task,
 };
 pub use separate::{Standing, cut, is_separate, standing_of, stays_on};

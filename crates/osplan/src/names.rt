@@ -12,29 +12,7 @@ impl Core {
     fn name_in(&self, kind: ObjectKind, index: u8) -> &str
         ensures { result.now ≡ name_in kind self.now index }
     {
-        let index = usize::from(index);
-        match kind {
-            ObjectKind::Task => match self.tasks.as_slice().get(index) {
-                Some(task) => task.name.as_str(),
-                None => "",
-            },
-            ObjectKind::Resource => match self.resources.as_slice().get(index) {
-                Some(resource) => resource.name.as_str(),
-                None => "",
-            },
-            ObjectKind::Counter => match self.counters.as_slice().get(index) {
-                Some(counter) => counter.name.as_str(),
-                None => "",
-            },
-            ObjectKind::Alarm => match self.alarms.as_slice().get(index) {
-                Some(alarm) => alarm.name.as_str(),
-                None => "",
-            },
-            ObjectKind::Table => match self.tables.as_slice().get(index) {
-                Some(table) => table.name.as_str(),
-                None => "",
-            },
-        }
+        self.name_at(kind, usize::from(index)).unwrap_or("")
     }
 }
 

@@ -1,8 +1,8 @@
 //! The parts of a configuration, and the configuration that keeps its limits.
 
-ghost use Rattle.std.specs.Prelude.{◌≡◌, ◌↔◌, IsTrue, Option, option_copied};
+ghost use Rattle.std.specs.Prelude.{◌≡◌, ◌↔◌, IsTrue, Option, option_copied, slice_get};
 ghost use Rattle.std.specs.List.{list_all};
-ghost use Rattle.osplan.specs.Objects.{is_own_object, object_count};
+ghost use Rattle.osplan.specs.Objects.{is_own_object, names_in, object_count};
 ghost use Rattle.osplan.specs.View.{core_of};
 ghost use Rattle.osplan.specs.Limits.{is_alarm_near, is_core_near, is_table_near, is_within_limits, stays_on};
 ghost use Rattle.osplan.specs.Expressible.{is_expressible};
@@ -191,6 +191,15 @@ impl Config {
     }
 }
 
+/// The kinds of a core's objects, in the order in which a configuration names them.
+pub const KINDS: [ObjectKind; 5] = [
+    ObjectKind::Task,
+    ObjectKind::Resource,
+    ObjectKind::Counter,
+    ObjectKind::Alarm,
+    ObjectKind::Table,
+];
+
 fn is_script_near(id: CoreId, task: &Task) -> bool
     ensures { result ≡ list_all (stays_on id) task.now.script }
 {
@@ -262,6 +271,35 @@ impl Core {
             ObjectKind::Counter => self.counters.len(),
             ObjectKind::Alarm => self.alarms.len(),
             ObjectKind::Table => self.tables.len(),
+        }
+    }
+
+    /// The name of the core's object of this kind and index, if there is one.
+    #[tactic(auto, using(crate::proofs::Tests::get_mapped))]
+    pub(crate) fn name_at(&self, kind: ObjectKind, index: usize) -> Option<&str>
+        ensures { option_copied result ≡ slice_get (names_in kind self.now) index }
+    {
+        match kind {
+            ObjectKind::Task => match self.tasks.as_slice().get(index) {
+                Some(task) => Some(task.name.as_str()),
+                None => None,
+            },
+            ObjectKind::Resource => match self.resources.as_slice().get(index) {
+                Some(resource) => Some(resource.name.as_str()),
+                None => None,
+            },
+            ObjectKind::Counter => match self.counters.as_slice().get(index) {
+                Some(counter) => Some(counter.name.as_str()),
+                None => None,
+            },
+            ObjectKind::Alarm => match self.alarms.as_slice().get(index) {
+                Some(alarm) => Some(alarm.name.as_str()),
+                None => None,
+            },
+            ObjectKind::Table => match self.tables.as_slice().get(index) {
+                Some(table) => Some(table.name.as_str()),
+                None => None,
+            },
         }
     }
 }

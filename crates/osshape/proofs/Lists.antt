@@ -8,9 +8,12 @@ use Rattle.osplan.proofs.Tests.{all-weaker}
 pub list_all-by : {X Y : Type 0} (p : X → Bool) (q : Y → Bool) (f : X → Y) → ((x : X) → p x ≡ true → q (f x) ≡ true) → (xs : List X) → list_all p xs ≡ true → list_all q (map f xs) ≡ true
 list_all-by p q f each xs h = list_all-map q f xs ∙ all-weaker p (λ x. q (f x)) each xs h
 
+pub list_all-every : {X : Type 0} (p : X → Bool) → ((x : X) → p x ≡ true) → (xs : List X) → list_all p xs ≡ true
+list_all-every p each [] = refl
+list_all-every p each (x ∷ xs) = and_from _ _ (each x) (list_all-every p each xs)
+
 pub list_all-total : {X Y : Type 0} (q : Y → Bool) (f : X → Y) → ((x : X) → q (f x) ≡ true) → (xs : List X) → list_all q (map f xs) ≡ true
-list_all-total q f each [] = refl
-list_all-total q f each (x ∷ xs) = and_from _ _ (each x) (list_all-total q f each xs)
+list_all-total q f each xs = list_all-map q f xs ∙ list_all-every (λ x. q (f x)) each xs
 
 pub list_any-by : {X Y : Type 0} (p : X → Bool) (q : Y → Bool) (f : X → Y) → ((x : X) → p x ≡ true → q (f x) ≡ true) → (xs : List X) → list_any p xs ≡ true → list_any q (map f xs) ≡ true
 list_any-by p q f each [] h = absurd (true≢false (sym h))
@@ -29,3 +32,6 @@ map-back f g p back (x ∷ xs) a = let parts = and_parts (p x) (list_all p xs) a
 pub map-same : {X Y Z : Type 0} (f : Y → Z) (g : X → Y) (h : X → Z) (p : X → Bool) → ((x : X) → p x ≡ true → f (g x) ≡ h x) → (xs : List X) → list_all p xs ≡ true → map f (map g xs) ≡ map h xs
 map-same f g h p same [] a = refl
 map-same f g h p same (x ∷ xs) a = let parts = and_parts (p x) (list_all p xs) a in rw (same x parts.0, map-same f g h p same xs parts.1) refl
+
+-- a test of each element of a list that is made of another
+pub ruleset mapped = (list_all-map)

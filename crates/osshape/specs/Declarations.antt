@@ -1,22 +1,20 @@
 -- The objects that a configuration's text declares, in one list, and what a name stands for by it. [own]
-use Rattle.std.specs.Prelude.{ℕ, ◌==◌, ◌&&◌, nat_le, Bool, not, Option, Some, None, option_and_then, option_map, unwrap_or, if◌then◌else◌, List, ◌∷◌, ◌++◌, map, find, count_by}
+use Rattle.std.specs.Prelude.{ℕ, ◌==◌, ◌&&◌, nat_le, Bool, not, Option, Some, None, option_and_then, option_map, unwrap_or, if◌then◌else◌, List, ◌∷◌, map, find, count_by}
 use Rattle.std.specs.List.{enumerate_from, flat_map}
 use Rattle.std.specs.Str.{bytes_eq}
 use Rattle.osbase.specs.Objects.{counter_of, same_kind}
 use Rattle.osbase.specs.declared.references.CoreId.{CoreId}
 use Rattle.osbase.specs.declared.references.CounterRef.{CounterRef}
 use Rattle.osbase.specs.declared.objects.ObjectKind.{ObjectKind}
-use Rattle.osbase.specs.declared.objects.ObjectKind.TheVariants.{Task, Resource, Counter, Alarm, Table}
+use Rattle.osbase.specs.declared.objects.ObjectKind.TheVariants.{Counter}
 use Rattle.osbase.specs.declared.objects.Place.{Place}
+use Rattle.osplan.specs.declared.plans.TheConstants.{KINDS}
 use Rattle.osplan.specs.Expressible.{mode_name}
 use Rattle.osplan.specs.Limits.{CounterSizes}
-use Rattle.osshape.specs.declared.shapes.AlarmText.{AlarmText}
 use Rattle.osshape.specs.declared.shapes.CoreText.{CoreText}
-use Rattle.osshape.specs.declared.shapes.CounterText.{CounterText}
-use Rattle.osshape.specs.declared.shapes.ResourceText.{ResourceText}
-use Rattle.osshape.specs.declared.shapes.TaskText.{TaskText}
-use Rattle.osshape.specs.declared.table_shapes.TableText.{TableText}
+use Rattle.osshape.specs.declared.shapes.Named.{Named}
 use Rattle.osshape.specs.declared.declarations.Declaration.{Declaration}
+use Rattle.osshape.specs.Shape.{objects_in}
 
 -- A number as a byte: 0 where it is no byte, which no text without a fault has.
 abbrev pub byte_of : Option ℕ → ℕ
@@ -36,44 +34,16 @@ id_of core = number_id core.id
 
 -- ---- the list
 
--- The task of a core at an index.
-abbrev pub task_declaration : CoreText → ℕ × TaskText → Declaration
-task_declaration core p = record { name = p.1.name; kind = Task; core = id_of core; index = p.0; max = None; min = None }
+-- The object of a kind of a core, at an index.
+abbrev pub declaration : CoreText → ObjectKind → ℕ × Named → Declaration
+declaration core kind p = record { name = p.1.name; kind = kind; core = id_of core; index = p.0; max = p.1.max; min = p.1.min }
 
-abbrev pub declared_tasks : CoreText → List Declaration
-declared_tasks core = map (task_declaration core) (enumerate_from 0 core.tasks)
+abbrev pub declared_of : CoreText → ObjectKind → List Declaration
+declared_of core kind = map (declaration core kind) (enumerate_from 0 (objects_in kind core))
 
--- The resource of a core at an index.
-abbrev pub resource_declaration : CoreText → ℕ × ResourceText → Declaration
-resource_declaration core p = record { name = p.1.name; kind = Resource; core = id_of core; index = p.0; max = None; min = None }
-
-abbrev pub declared_resources : CoreText → List Declaration
-declared_resources core = map (resource_declaration core) (enumerate_from 0 core.resources)
-
--- The counter of a core at an index, with its numbers.
-abbrev pub counter_declaration : CoreText → ℕ × CounterText → Declaration
-counter_declaration core p = record { name = p.1.name; kind = Counter; core = id_of core; index = p.0; max = p.1.max; min = p.1.min }
-
-abbrev pub declared_counters : CoreText → List Declaration
-declared_counters core = map (counter_declaration core) (enumerate_from 0 core.counters)
-
--- The alarm of a core at an index.
-abbrev pub alarm_declaration : CoreText → ℕ × AlarmText → Declaration
-alarm_declaration core p = record { name = p.1.name; kind = Alarm; core = id_of core; index = p.0; max = None; min = None }
-
-abbrev pub declared_alarms : CoreText → List Declaration
-declared_alarms core = map (alarm_declaration core) (enumerate_from 0 core.alarms)
-
--- The schedule table of a core at an index.
-abbrev pub table_declaration : CoreText → ℕ × TableText → Declaration
-table_declaration core p = record { name = p.1.name; kind = Table; core = id_of core; index = p.0; max = None; min = None }
-
-abbrev pub declared_tables : CoreText → List Declaration
-declared_tables core = map (table_declaration core) (enumerate_from 0 core.tables)
-
--- A core declares its tasks, then its resources, its counters, its alarms and its tables, in their order. No other kind can be configured yet.
+-- A core declares its objects kind by kind, in their order.
 abbrev pub declared_by : CoreText → List Declaration
-declared_by core = declared_tasks core ++ declared_resources core ++ declared_counters core ++ declared_alarms core ++ declared_tables core
+declared_by core = flat_map (declared_of core) KINDS
 
 -- All objects, core by core.
 abbrev pub declarations : List CoreText → List Declaration

@@ -1,7 +1,9 @@
 -- The shape of a configuration: the members and their types, before any limit or name is judged. [own]
-use Rattle.std.specs.Prelude.{◌&&◌, Bool, true, false, Option, Some, None, [], ◌∷◌, codes}
+use Rattle.std.specs.Prelude.{ℕ, Bool, true, false, Option, Some, None, List, [], ◌∷◌, codes, map}
 use Rattle.std.specs.List.{list_all}
+use Rattle.osbase.specs.declared.objects.ObjectKind.{ObjectKind}
 use Rattle.osbase.specs.Names.{is_name}
+use Rattle.osplan.specs.declared.plans.TheConstants.{KINDS}
 use Rattle.serde_json.specs.Data.{Data}
 use Rattle.serde_json.specs.Find.{as_bool, as_str}
 use Rattle.osshape.specs.declared.shapes.AlarmStartText.{AlarmStartText}
@@ -9,6 +11,7 @@ use Rattle.osshape.specs.declared.shapes.AlarmText.{AlarmText}
 use Rattle.osshape.specs.declared.shapes.ConfigText.{ConfigText}
 use Rattle.osshape.specs.declared.shapes.CoreText.{CoreText}
 use Rattle.osshape.specs.declared.shapes.CounterText.{CounterText}
+use Rattle.osshape.specs.declared.shapes.Named.{Named}
 use Rattle.osshape.specs.declared.shapes.ResourceText.{ResourceText}
 use Rattle.osshape.specs.declared.shapes.TaskText.{TaskText}
 use Rattle.osshape.specs.declared.table_shapes.PointText.{PointText}
@@ -120,23 +123,23 @@ config_shape d = do
   cores ← member_of (each_of core_shape) (codes "cores") d
   Some (record { version = version; cap = cap; master = master; cores = cores })
 
--- ---- names in form
+-- ---- the objects of a core
 
-abbrev pub has_named_tasks : CoreText → Bool
-has_named_tasks core = list_all (λ (task : TaskText). is_name task.name) core.tasks
+-- An object without numbers.
+abbrev pub unnumbered : List ℕ → Named
+unnumbered name = record { name = name; max = None; min = None }
 
-abbrev pub has_named_resources : CoreText → Bool
-has_named_resources core = list_all (λ (resource : ResourceText). is_name resource.name) core.resources
+abbrev pub numbered : CounterText → Named
+numbered counter = record { name = counter.name; max = counter.max; min = counter.min }
 
-abbrev pub has_named_counters : CoreText → Bool
-has_named_counters core = list_all (λ (counter : CounterText). is_name counter.name) core.counters
-
-abbrev pub has_named_alarms : CoreText → Bool
-has_named_alarms core = list_all (λ (alarm : AlarmText). is_name alarm.name) core.alarms
-
-abbrev pub has_named_tables : CoreText → Bool
-has_named_tables core = list_all (λ (table : TableText). is_name table.name) core.tables
+-- What a core's text has of each object of a kind, in their order. What is said of the objects of every kind goes over these.
+abbrev pub objects_in : ObjectKind → CoreText → List Named
+objects_in ObjectKind.Task core = map (λ (task : TaskText). unnumbered task.name) core.tasks
+objects_in ObjectKind.Resource core = map (λ (resource : ResourceText). unnumbered resource.name) core.resources
+objects_in ObjectKind.Counter core = map numbered core.counters
+objects_in ObjectKind.Alarm core = map (λ (alarm : AlarmText). unnumbered alarm.name) core.alarms
+objects_in ObjectKind.Table core = map (λ (table : TableText). unnumbered table.name) core.tables
 
 -- Each object of the core has a name in form, as in every shape.
 abbrev pub has_named_objects : CoreText → Bool
-has_named_objects core = has_named_tasks core && has_named_resources core && has_named_counters core && has_named_alarms core && has_named_tables core
+has_named_objects core = list_all (λ (kind : ObjectKind). list_all (λ (named : Named). is_name named.name) (objects_in kind core)) KINDS

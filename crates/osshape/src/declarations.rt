@@ -1,14 +1,12 @@
 //! The objects that a configuration's text declares, in one list.
 
-ghost use Rattle.std.specs.Prelude.{◌≡◌, ◌++◌, ℕ, None, IfOk, OnOk, map};
+ghost use Rattle.std.specs.Prelude.{◌≡◌, ◌++◌, IfOk, OnOk, map};
 ghost use Rattle.std.specs.List.{enumerate_from};
-ghost use Rattle.osshape.specs.declared.declarations.Declaration.{Declaration};
-ghost use Rattle.osshape.specs.declared.shapes.CoreText.{CoreText};
-ghost use Rattle.osshape.specs.Declarations.{alarm_declaration, byte_of, counter_declaration, declarations, declared_by, id_of, number_id, resource_declaration, table_declaration, task_declaration, word_of};
+ghost use Rattle.osshape.specs.Declarations.{byte_of, declaration, declarations, declared_by, number_id, word_of};
 
-use crate::shapes::{AlarmText, CoreText, CounterText, ResourceText, TaskText};
-use crate::table_shapes::TableText;
+use crate::shapes::{CoreText, Named};
 use osbase::{CoreId, List, ObjectKind};
+use osplan::KINDS;
 use osread::{Text, Whole};
 use std::alloc::{AllocError, Global};
 
@@ -60,104 +58,40 @@ pub fn number_id(number: Whole) -> CoreId
     }
 }
 
-/// What a core's text has under a name.
-trait Declared<'t> {
-    /// The object of a core at an index.
-    ghost declaration: { CoreText → ℕ × Self → Declaration };
-
-    /// The object of a core at an index.
-    fn declaration(&self, core: &CoreText<'t>, index: usize) -> Declaration<'t>
-        ensures { result ≡ declaration core.now (index, self.now) };
-}
-
-// An object without numbers.
-fn unnumbered<'t>(
-    name: &Text<'t>,
-    kind: ObjectKind,
-    core: &CoreText<'t>,
-    index: usize,
-) -> Declaration<'t>
-    ensures { result ≡ record { name = name.now; kind = kind; core = id_of core.now; index = index; max = None; min = None } }
-{
-    Declaration {
-        name: Text::of(name.as_str()),
-        kind,
-        core: number_id(core.id),
-        index,
-        max: None,
-        min: None,
-    }
-}
-
-impl<'t> Declared<'t> for TaskText<'t> {
-    ghost declaration = { task_declaration };
-
-    fn declaration(&self, core: &CoreText<'t>, index: usize) -> Declaration<'t> {
-        unnumbered(&self.name, ObjectKind::Task, core, index)
-    }
-}
-
-impl<'t> Declared<'t> for ResourceText<'t> {
-    ghost declaration = { resource_declaration };
-
-    fn declaration(&self, core: &CoreText<'t>, index: usize) -> Declaration<'t> {
-        unnumbered(&self.name, ObjectKind::Resource, core, index)
-    }
-}
-
-impl<'t> Declared<'t> for AlarmText<'t> {
-    ghost declaration = { alarm_declaration };
-
-    fn declaration(&self, core: &CoreText<'t>, index: usize) -> Declaration<'t> {
-        unnumbered(&self.name, ObjectKind::Alarm, core, index)
-    }
-}
-
-impl<'t> Declared<'t> for TableText<'t> {
-    ghost declaration = { table_declaration };
-
-    fn declaration(&self, core: &CoreText<'t>, index: usize) -> Declaration<'t> {
-        unnumbered(&self.name, ObjectKind::Table, core, index)
-    }
-}
-
-impl<'t> Declared<'t> for CounterText<'t> {
-    ghost declaration = { counter_declaration };
-
-    fn declaration(&self, core: &CoreText<'t>, index: usize) -> Declaration<'t> {
-        Declaration {
-            max: self.max,
-            min: self.min,
-            ..unnumbered(&self.name, ObjectKind::Counter, core, index)
-        }
-    }
-}
-
 // The objects of one kind, in their order.
-fn declare_each<'t, T: Declared<'t>>(
+fn declare_each<'t>(
     declared: &mut List<Declaration<'t>>,
     core: &CoreText<'t>,
-    objects: &[T],
+    kind: ObjectKind,
+    objects: &[Named<'t>],
 ) -> Result<(), AllocError>
-    ensures { OnOk result (declared.new ≡ declared.old ++ map (T.declaration core.now) (enumerate_from 0 objects.now)) }
+    ensures { OnOk result (declared.new ≡ declared.old ++ map (declaration core.now kind) (enumerate_from 0 objects.now)) }
 {
     for (index, object) in objects.iter().enumerate() {
-        declared.push(object.declaration(core, index))?;
+        declared.push(Declaration {
+            name: Text::of(object.name.as_str()),
+            kind,
+            core: number_id(core.id),
+            index,
+            max: object.max,
+            min: object.min,
+        })?;
     }
     Ok(())
 }
 
 fn declare<'t>(
+    alloc: Global,
     declared: &mut List<Declaration<'t>>,
     core: &'t CoreText<'t>,
 ) -> Result<(), AllocError>
     ensures { OnOk result (declared.new ≡ declared.old ++ declared_by core.now) }
 {
-    declare_each(declared, core, core.tasks.as_slice())?;
-    declare_each(declared, core, core.resources.as_slice())?;
-    declare_each(declared, core, core.counters.as_slice())?;
-    declare_each(declared, core, core.alarms.as_slice())?;
-    declare_each(declared, core, core.tables.as_slice())
+    for kind in KINDS.iter() {
+        let objects = core.objects(alloc, *kind)?;
+        declare_each(declared, core, *kind, objects.as_slice())?;
+    }
+    Ok(())
 }
 
 /// The objects of these cores.
@@ -169,7 +103,7 @@ pub fn declarations_of<'t>(
 {
     let mut declared = List::new(alloc);
     for core in cores {
-        declare(&mut declared, core)?;
+        declare(alloc, &mut declared, core)?;
     }
     Ok(declared)
 }

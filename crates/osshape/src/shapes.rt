@@ -1,22 +1,23 @@
 //! The shape of a configuration: its members and their types. Limits and names are judged later. Texts are
 //! borrowed from the value that is read.
 
-ghost use Rattle.std.specs.Prelude.{[], IfOk, IsTrue, true};
+ghost use Rattle.std.specs.Prelude.{◌≡◌, [], IfOk, IsTrue, map, true};
 ghost use Rattle.std.specs.List.{list_all};
 ghost use Rattle.osbase.specs.Names.{is_name};
 ghost use Rattle.osread.specs.Json.{each_of, member_or};
 ghost use Rattle.osread.specs.Reading.{Gives};
 ghost use Rattle.serde_json.specs.View.{view};
-ghost use Rattle.osshape.specs.Shape.{task_shape, resource_shape, counter_shape, alarm_start_shape, alarm_shape, core_shape, config_shape, has_named_objects};
+ghost use Rattle.osshape.specs.Shape.{task_shape, resource_shape, counter_shape, alarm_start_shape, alarm_shape, core_shape, config_shape, has_named_objects, numbered, objects_in, unnumbered};
+ghost use Rattle.osshape.specs.declared.shapes.Named.{Named as NamedValue};
 
 use crate::table_shapes::{TableReader, TableText};
-use osbase::List;
+use osbase::{List, ObjectKind};
 use osread::{
     BoolReader, JsonReader, ListOf, NameReader, OrNull, Refusal, Text, TextReader, Whole,
     WholeReader, at, at_or, only_members,
 };
 use serde_json::Value;
-use std::alloc::Global;
+use std::alloc::{AllocError, Global};
 
 /// A task as a text has it.
 #[derive(Debug, Drop)]
@@ -73,6 +74,109 @@ pub struct CoreText<'v> {
     pub counters: List<CounterText<'v>>,
     pub alarms: List<AlarmText<'v>>,
     pub tables: List<TableText<'v>>,
+}
+
+/// What a text has of an object of any kind: its name, and of a counter the greatest value and the least cycle.
+#[derive(Debug, Drop)]
+pub struct Named<'v> {
+    pub name: Text<'v>,
+    pub max: Whole,
+    pub min: Whole,
+}
+
+/// What a core's text has under a name.
+trait Declared<'v> {
+    ghost named: { Self → NamedValue };
+
+    fn named(&self) -> Named<'v>
+        ensures { result ≡ named self.now };
+}
+
+// An object without numbers.
+fn unnumbered<'v>(name: &Text<'v>) -> Named<'v>
+    ensures { result ≡ unnumbered name.now }
+{
+    Named {
+        name: Text::of(name.as_str()),
+        max: None,
+        min: None,
+    }
+}
+
+impl<'v> Declared<'v> for TaskText<'v> {
+    ghost named = { λ task. unnumbered task.name };
+
+    fn named(&self) -> Named<'v> {
+        unnumbered(&self.name)
+    }
+}
+
+impl<'v> Declared<'v> for ResourceText<'v> {
+    ghost named = { λ resource. unnumbered resource.name };
+
+    fn named(&self) -> Named<'v> {
+        unnumbered(&self.name)
+    }
+}
+
+impl<'v> Declared<'v> for CounterText<'v> {
+    ghost named = { numbered };
+
+    fn named(&self) -> Named<'v> {
+        Named {
+            name: Text::of(self.name.as_str()),
+            max: self.max,
+            min: self.min,
+        }
+    }
+}
+
+impl<'v> Declared<'v> for AlarmText<'v> {
+    ghost named = { λ alarm. unnumbered alarm.name };
+
+    fn named(&self) -> Named<'v> {
+        unnumbered(&self.name)
+    }
+}
+
+impl<'v> Declared<'v> for TableText<'v> {
+    ghost named = { λ table. unnumbered table.name };
+
+    fn named(&self) -> Named<'v> {
+        unnumbered(&self.name)
+    }
+}
+
+fn each_named<'v, T: Declared<'v>>(
+    alloc: Global,
+    objects: &List<T>,
+) -> Result<List<Named<'v>>, AllocError>
+    ensures { IfOk result (λ each. each ≡ map T.named objects.now) }
+{
+    let mut each = List::new(alloc);
+    for object in objects.as_slice() {
+        each.push(object.named())?;
+    }
+    Ok(each)
+}
+
+impl<'v> CoreText<'v> {
+    /// What the text has of each of the core's objects of a kind, in their order.
+    pub(crate) fn objects(
+        &self,
+        alloc: Global,
+        kind: ObjectKind,
+    ) -> Result<List<Named<'v>>, AllocError>
+        ensures { IfOk result (λ objects. objects ≡ objects_in kind self.now) }
+    {
+        match kind {
+            ObjectKind::Task => each_named(alloc, &self.tasks),
+            ObjectKind::Resource => each_named(alloc, &self.resources),
+            ObjectKind::Counter => each_named(alloc, &self.counters),
+            ObjectKind::Alarm => each_named(alloc, &self.alarms),
+            ObjectKind::Table => each_named(alloc, &self.tables),
+        }
+    }
 }
 
 /// A configuration as a text has it.
@@ -230,7 +334,7 @@ impl<'v> JsonReader<'v, CoreText<'v>> for CoreReader {
 
     ghost passes = { λ _ core. has_named_objects core };
 
-    #[tactic(auto, unfolding(crate::specs::Shape::core_shape))]
+    #[tactic(auto, unfolding(crate::specs::Shape::core_shape), using(crate::proofs::Lists::mapped))]
     fn read(&self, alloc: Global, value: &'v Value) -> Result<CoreText<'v>, Refusal> {
         only_members(
             value,

@@ -1,84 +1,90 @@
 -- The data of a configuration has no float, and does not nest deeply.
-use Rattle.std.proofs.Common.{◌≡◌, ℕ, ◌≤◌, false, Option, Some, None, List, [], ◌∷◌, map, refl, arith}
-use Rattle.serde_json.specs.Data.{Data, depth, items_depth}
+use Rattle.std.proofs.Common.{◌≡◌, ℕ, ◌-◌, ◌≤◌, ◌&&◌, Bool, true, false, not, nat_lt, Option, Some, None, List, [], ◌∷◌, map, refl, ap, arith}
+use Rattle.std.specs.List.{list_all}
+use Rattle.std.specs.Option.{option_map_or}
+use Rattle.std.proofs.lemmas.Bool.{and_parts, ltb-true, not-true}
+use Rattle.serde_json.specs.Data.{Data, Items, Members, null, boolean, number, string, array, object, no_items, item, no_members, member, depth, items_depth, members_depth}
 use Rattle.serde_json.specs.View.{items_of}
-use Rattle.serde_json.specs.Written.{has_float, items_have_float}
-use Rattle.osplan.specs.declared.plans.Alarm.{Alarm}
-use Rattle.osplan.specs.declared.plans.AlarmStart.{AlarmStart}
+use Rattle.serde_json.specs.Written.{has_float, items_have_float, members_have_float}
 use Rattle.osplan.specs.declared.plans.Plan.{Plan}
-use Rattle.osplan.specs.declared.plans.Core.{Core}
-use Rattle.osplan.specs.declared.plans.ExpiryPoint.{ExpiryPoint}
-use Rattle.osplan.specs.declared.plans.Table.{Table}
-use Rattle.osplan.specs.declared.plans.TableStart.{TableStart}
-use Rattle.osplan.specs.declared.plans.Task.{Task}
-use Rattle.oswrite.specs.Writing.{id_data, mode_data, auto_data, alarm_data, action_data, point_data, table_auto_data, table_data, counter_data, resource_data, task_data, core_data, config_data}
+use Rattle.oswrite.specs.Writing.{config_data, or_null_data}
 
-no-item-float : {X : Type 0} (f : X → Data) → ((x : X) → has_float (f x) ≡ false) → (xs : List X) → items_have_float (items_of (map f xs)) ≡ false
-no-item-float f none [] = refl
-no-item-float f none (x ∷ xs) = rw (none x, no-item-float f none xs) refl
+-- ---- data without floats that nests no deeper than a number says
 
-task-float : (plan : Plan) (task : Task) → has_float (task_data plan task) ≡ false
-task-float plan task = rw (no-item-float (mode_data plan) (λ m. refl) task.auto) refl
+abbrev mutual
+  pub is_plain : ℕ → Data → Bool
+  is_plain n null = true
+  is_plain n (boolean b) = true
+  is_plain n (number k) = not (has_float (number k))
+  is_plain n (string s) = true
+  is_plain n (array ds) = nat_lt 0 n && are_plain (n - 1) ds
+  is_plain n (object ms) = nat_lt 0 n && has_plain (n - 1) ms
 
-auto-float : (plan : Plan) (auto : Option AlarmStart) → has_float (auto_data plan auto) ≡ false
-auto-float plan None = refl
-auto-float plan (Some auto) = rw (no-item-float (mode_data plan) (λ m. refl) auto.modes) refl
+  pub are_plain : ℕ → Items → Bool
+  are_plain n no_items = true
+  are_plain n (item d ds) = is_plain n d && are_plain n ds
 
-alarm-float : (plan : Plan) (alarm : Alarm) → has_float (alarm_data plan alarm) ≡ false
-alarm-float plan alarm = rw (auto-float plan alarm.auto) refl
+  pub has_plain : ℕ → Members → Bool
+  has_plain n no_members = true
+  has_plain n (member k d ms) = is_plain n d && has_plain n ms
 
-point-float : (plan : Plan) (point : ExpiryPoint) → has_float (point_data plan point) ≡ false
-point-float plan point = rw (no-item-float (action_data plan) (λ action. refl) point.actions) refl
+mutual
+  plain-float : (n : ℕ) (d : Data) → is_plain n d ≡ true → has_float d ≡ false
+  plain-float n null h = refl
+  plain-float n (boolean b) h = refl
+  plain-float n (number k) h = not-true (has_float (number k)) h
+  plain-float n (string s) h = refl
+  plain-float n (array ds) h = items-float (n - 1) ds (and_parts (nat_lt 0 n) (are_plain (n - 1) ds) h).1
+  plain-float n (object ms) h = members-float (n - 1) ms (and_parts (nat_lt 0 n) (has_plain (n - 1) ms) h).1
 
-table-auto-float : (plan : Plan) (auto : Option TableStart) → has_float (table_auto_data plan auto) ≡ false
-table-auto-float plan None = refl
-table-auto-float plan (Some auto) = rw (no-item-float (mode_data plan) (λ m. refl) auto.modes) refl
+  items-float : (n : ℕ) (ds : Items) → are_plain n ds ≡ true → items_have_float ds ≡ false
+  items-float n no_items h = refl
+  items-float n (item d ds) h = let parts = and_parts (is_plain n d) (are_plain n ds) h in rw (plain-float n d parts.0) (items-float n ds parts.1)
 
-table-float : (plan : Plan) (table : Table) → has_float (table_data plan table) ≡ false
-table-float plan table = rw (table-auto-float plan table.auto, no-item-float (point_data plan) (point-float plan) table.points) refl
+  members-float : (n : ℕ) (ms : Members) → has_plain n ms ≡ true → members_have_float ms ≡ false
+  members-float n no_members h = refl
+  members-float n (member k d ms) h = let parts = and_parts (is_plain n d) (has_plain n ms) h in rw (plain-float n d parts.0) (members-float n ms parts.1)
 
-core-float : (plan : Plan) (core : Core) → has_float (core_data plan core) ≡ false
-core-float plan core = rw (no-item-float (alarm_data plan) (alarm-float plan) core.alarms, no-item-float counter_data (λ counter. refl) core.counters, no-item-float resource_data (λ resource. refl) core.resources, no-item-float id_data (λ id. refl) core.start, no-item-float (table_data plan) (table-float plan) core.tables, no-item-float (task_data plan) (task-float plan) core.tasks) refl
+mutual
+  plain-depth : (n : ℕ) (d : Data) → is_plain n d ≡ true → depth d ≤ n
+  plain-depth n null h = omega arith
+  plain-depth n (boolean b) h = omega arith
+  plain-depth n (number k) h = omega arith
+  plain-depth n (string s) h = omega arith
+  plain-depth n (array ds) h = let parts = and_parts (nat_lt 0 n) (are_plain (n - 1) ds) h in omega (arith, ltb-true 0 n parts.0, items-depth (n - 1) ds parts.1)
+  plain-depth n (object ms) h = let parts = and_parts (nat_lt 0 n) (has_plain (n - 1) ms) h in omega (arith, ltb-true 0 n parts.0, members-depth (n - 1) ms parts.1)
+
+  items-depth : (n : ℕ) (ds : Items) → are_plain n ds ≡ true → items_depth ds ≤ n
+  items-depth n no_items h = omega arith
+  items-depth n (item d ds) h = let parts = and_parts (is_plain n d) (are_plain n ds) h in omega (arith, plain-depth n d parts.0, items-depth n ds parts.1)
+
+  members-depth : (n : ℕ) (ms : Members) → has_plain n ms ≡ true → members_depth ms ≤ n
+  members-depth n no_members h = omega arith
+  members-depth n (member k d ms) h = let parts = and_parts (is_plain n d) (has_plain n ms) h in omega (arith, plain-depth n d parts.0, members-depth n ms parts.1)
+
+-- ---- what data is made of
+
+list-plain : {X : Type 0} (n : ℕ) (f : X → Data) (xs : List X) → are_plain n (items_of (map f xs)) ≡ list_all (λ (x : X). is_plain n (f x)) xs
+list-plain n f [] = refl
+list-plain n f (x ∷ xs) = ap (λ b. is_plain n (f x) && b) (list-plain n f xs)
+
+null-plain : {X : Type 0} (n : ℕ) (f : X → Data) (o : Option X) → is_plain n (or_null_data f o) ≡ option_map_or (λ (x : X). is_plain n (f x)) o true
+null-plain n f None = refl
+null-plain n f (Some x) = refl
+
+always : {X : Type 0} (xs : List X) → list_all (λ (x : X). true) xs ≡ true
+always [] = refl
+always (x ∷ xs) = always xs
+
+either : {X : Type 0} (o : Option X) → option_map_or (λ (x : X). true) o true ≡ true
+either None = refl
+either (Some x) = refl
+
+plain : (plan : Plan) → is_plain 127 (config_data plan) ≡ true
+plain plan = simp (list-plain, null-plain, always, either)
 
 pub config-float : (plan : Plan) → has_float (config_data plan) ≡ false
-config-float plan = rw (no-item-float (core_data plan) (core-float plan) plan.cores) refl
-
-items-depth : {X : Type 0} (f : X → Data) (n : ℕ) → ((x : X) → depth (f x) ≤ n) → (xs : List X) → items_depth (items_of (map f xs)) ≤ n
-items-depth f n low [] = omega arith
-items-depth f n low (x ∷ xs) = let first : depth (f x) ≤ n = low x in let rest : items_depth (items_of (map f xs)) ≤ n = items-depth f n low xs in omega arith
-
-task-depth : (plan : Plan) (task : Task) → depth (task_data plan task) ≤ 2
-task-depth plan task = let auto : items_depth (items_of (map (mode_data plan) task.auto)) ≤ 0 = items-depth (mode_data plan) 0 (λ m. omega arith) task.auto in omega arith
-
-auto-depth : (plan : Plan) (auto : Option AlarmStart) → depth (auto_data plan auto) ≤ 2
-auto-depth plan None = omega arith
-auto-depth plan (Some auto) = let modes : items_depth (items_of (map (mode_data plan) auto.modes)) ≤ 0 = items-depth (mode_data plan) 0 (λ m. omega arith) auto.modes in omega arith
-
-alarm-depth : (plan : Plan) (alarm : Alarm) → depth (alarm_data plan alarm) ≤ 3
-alarm-depth plan alarm = let auto : depth (auto_data plan alarm.auto) ≤ 2 = auto-depth plan alarm.auto in omega arith
-
-point-depth : (plan : Plan) (point : ExpiryPoint) → depth (point_data plan point) ≤ 2
-point-depth plan point = let actions : items_depth (items_of (map (action_data plan) point.actions)) ≤ 0 = items-depth (action_data plan) 0 (λ action. omega arith) point.actions in omega arith
-
-table-auto-depth : (plan : Plan) (auto : Option TableStart) → depth (table_auto_data plan auto) ≤ 2
-table-auto-depth plan None = omega arith
-table-auto-depth plan (Some auto) = let modes : items_depth (items_of (map (mode_data plan) auto.modes)) ≤ 0 = items-depth (mode_data plan) 0 (λ m. omega arith) auto.modes in omega arith
-
-table-depth : (plan : Plan) (table : Table) → depth (table_data plan table) ≤ 4
-table-depth plan table =
-    let auto : depth (table_auto_data plan table.auto) ≤ 2 = table-auto-depth plan table.auto in
-    let points : items_depth (items_of (map (point_data plan) table.points)) ≤ 2 = items-depth (point_data plan) 2 (point-depth plan) table.points in
-    omega arith
-
-core-depth : (plan : Plan) (core : Core) → depth (core_data plan core) ≤ 6
-core-depth plan core =
-    let alarms : items_depth (items_of (map (alarm_data plan) core.alarms)) ≤ 3 = items-depth (alarm_data plan) 3 (alarm-depth plan) core.alarms in
-    let counters : items_depth (items_of (map counter_data core.counters)) ≤ 1 = items-depth counter_data 1 (λ counter. omega arith) core.counters in
-    let resources : items_depth (items_of (map resource_data core.resources)) ≤ 1 = items-depth resource_data 1 (λ resource. omega arith) core.resources in
-    let start : items_depth (items_of (map id_data core.start)) ≤ 0 = items-depth id_data 0 (λ id. omega arith) core.start in
-    let tables : items_depth (items_of (map (table_data plan) core.tables)) ≤ 4 = items-depth (table_data plan) 4 (table-depth plan) core.tables in
-    let tasks : items_depth (items_of (map (task_data plan) core.tasks)) ≤ 2 = items-depth (task_data plan) 2 (task-depth plan) core.tasks in
-    omega arith
+config-float plan = plain-float 127 (config_data plan) (plain plan)
 
 pub config-depth : (plan : Plan) → depth (config_data plan) ≤ 127
-config-depth plan = let cores : items_depth (items_of (map (core_data plan) plan.cores)) ≤ 6 = items-depth (core_data plan) 6 (core-depth plan) plan.cores in omega arith
+config-depth plan = plain-depth 127 (config_data plan) (plain plan)

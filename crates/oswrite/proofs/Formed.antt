@@ -1,29 +1,28 @@
 -- What the place of an object finds in a configuration.
-use Rattle.std.proofs.Common.{◌≡◌, ℕ, zero, suc, ◌<◌, ◌≤◌, true, false, nat_lt, List, [], ◌∷◌, length, Option, Some, None, IsTrue, refl, sym, ap, ◌∙◌, arith}
+use Rattle.std.proofs.Common.{◌≡◌, ℕ, zero, suc, ◌<◌, ◌≤◌, true, false, nat_lt, List, [], ◌∷◌, length, Option, Some, None, option_map, unwrap_or, IsTrue, refl, sym, ap, ◌∙◌, arith}
 use Rattle.std.specs.List.{list_all, slice_get}
 use Rattle.std.specs.Option.{option_map_or}
-use Rattle.std.proofs.lemmas.Bool.{and_parts, true≢false, ltb-true}
+use Rattle.std.proofs.lemmas.Bool.{true≢false, ltb-true}
+use Rattle.std.proofs.lemmas.List.Folds.{list_all-map}
+use Rattle.std.proofs.lemmas.Option.{slice_get-map}
 use Rattle.osbase.specs.declared.objects.ObjectKind.{ObjectKind}
 use Rattle.osbase.specs.declared.objects.Object.{Object}
 use Rattle.osbase.specs.History.{same_core}
 use Rattle.osbase.specs.Names.{is_name}
-use Rattle.osplan.specs.declared.plans.Alarm.{Alarm}
 use Rattle.osplan.specs.declared.plans.Plan.{Plan}
 use Rattle.osplan.specs.declared.plans.Core.{Core}
-use Rattle.osplan.specs.declared.plans.Counter.{Counter}
-use Rattle.osplan.specs.declared.plans.Resource.{Resource}
-use Rattle.osplan.specs.declared.plans.Table.{Table}
-use Rattle.osplan.specs.declared.plans.Task.{Task}
-use Rattle.osplan.specs.Objects.{alarm_modes, object_count, table_actions, table_modes}
+use Rattle.osplan.specs.Objects.{object_count}
 use Rattle.osplan.specs.View.{core_of}
 use Rattle.osplan.specs.Limits.{is_object, is_within_limits}
-use Rattle.osplan.specs.Expressible.{is_script_expressible, is_task_expressible, is_resource_expressible, is_counter_expressible, is_action_expressible, is_alarm_expressible, is_table_expressible, is_only_mode, is_core_expressible, is_expressible}
+use Rattle.osplan.specs.Expressible.{is_core_expressible, is_expressible}
 use Rattle.osplan.proofs.Tests.{find-passes, passes-at}
-use Rattle.osplan.proofs.Within.{CoreTextParts, FitsKernel, core-fits, core-text-parts, text-parts}
+use Rattle.osplan.proofs.Within.{CoreTextParts, FitsKernel, core-fits, core-text-parts, few-objects, names-formed, text-parts}
 use Rattle.osplan.specs.Names.{name_in, name_of}
+use Rattle.osshape.specs.declared.shapes.Named.{Named as ObjectText}
 use Rattle.osshape.specs.Declarations.{declared_by}
+use Rattle.osshape.specs.Shape.{objects_in}
 use Rattle.oswrite.proofs.Said.{core_said}
-use Rattle.oswrite.proofs.Placed.{Stands, declared_at, task-stands, resource-stands, counter-stands, alarm-stands, table-stands}
+use Rattle.oswrite.proofs.Placed.{Stands, as-many, declared_at, kind-named, object-stands}
 
 get-some : {X : Type 0} (xs : List X) (i : ℕ) → i < length xs → (x : X) × (slice_get xs i ≡ Some x)
 get-some [] i lt = absurd (omega arith)
@@ -40,71 +39,20 @@ pub record Named (plan : Plan) (core : Core) (kind : ObjectKind) (index : ℕ) (
   pub low : index ≤ 255
 
 name-at : (plan : Plan) (core : Core) → CoreTextParts core → FitsKernel core → (kind : ObjectKind) (index : ℕ) → index < object_count kind core → (name : List ℕ) × Named plan core kind index name
-name-at plan core said fits ObjectKind.Task index within =
-    let task = get-some core.tasks index within in
-    let few : length core.tasks ≤ 32 = fits.tasks in
-    let sayable : is_task_expressible task.0 ≡ true = passes-at is_task_expressible core.tasks index task.0 said.tasks task.1 in (
-      task.0.name,
+name-at plan core said fits kind index within =
+    let objects = objects_in kind (core_said plan core) in
+    let named = kind-named plan core kind in
+    let many = as-many plan core kind in
+    let few = few-objects core fits kind in
+    let object = get-some objects index (omega arith) in
+    let formed : list_all (λ (o : ObjectText). is_name o.name) objects ≡ true = sym (list_all-map is_name (λ (o : ObjectText). o.name) objects) ∙ ap (list_all is_name) (sym named) ∙ names-formed core said kind in (
+      object.0.name,
       record {
-        name_is = ap (λ (o : Option Task). option_map_or (λ (t : Task). t.name) o []) task.1;
-        in_form = (and_parts (is_name task.0.name) _ (and_parts _ (is_script_expressible task.0.script) sayable).0).0;
-        max = None;
-        min = None;
-        declared = task-stands plan core index task.0 task.1;
-        low = omega arith;
-      },
-    )
-name-at plan core said fits ObjectKind.Resource index within =
-    let resource = get-some core.resources index within in
-    let few : length core.resources ≤ 16 = fits.resources in (
-      resource.0.name,
-      record {
-        name_is = ap (λ (o : Option Resource). option_map_or (λ (r : Resource). r.name) o []) resource.1;
-        in_form = passes-at is_resource_expressible core.resources index resource.0 said.resources resource.1;
-        max = None;
-        min = None;
-        declared = resource-stands plan core index resource.0 resource.1;
-        low = omega arith;
-      },
-    )
-name-at plan core said fits ObjectKind.Counter index within =
-    let counter = get-some core.counters index within in
-    let few : length core.counters ≤ 8 = fits.counters in (
-      counter.0.name,
-      record {
-        name_is = ap (λ (o : Option Counter). option_map_or (λ (c : Counter). c.name) o []) counter.1;
-        in_form = passes-at is_counter_expressible core.counters index counter.0 said.counters counter.1;
-        max = Some counter.0.max;
-        min = Some counter.0.min;
-        declared = counter-stands plan core index counter.0 counter.1;
-        low = omega arith;
-      },
-    )
-name-at plan core said fits ObjectKind.Alarm index within =
-    let alarm = get-some core.alarms index within in
-    let few : length core.alarms ≤ 32 = fits.alarms in
-    let sayable : is_alarm_expressible alarm.0 ≡ true = passes-at is_alarm_expressible core.alarms index alarm.0 said.alarms alarm.1 in (
-      alarm.0.name,
-      record {
-        name_is = ap (λ (o : Option Alarm). option_map_or (λ (a : Alarm). a.name) o []) alarm.1;
-        in_form = (and_parts (is_name alarm.0.name) (is_action_expressible alarm.0.action) (and_parts _ (list_all is_only_mode (alarm_modes alarm.0)) sayable).0).0;
-        max = None;
-        min = None;
-        declared = alarm-stands plan core index alarm.0 alarm.1;
-        low = omega arith;
-      },
-    )
-name-at plan core said fits ObjectKind.Table index within =
-    let table = get-some core.tables index within in
-    let few : length core.tables ≤ 8 = fits.tables in
-    let sayable : is_table_expressible table.0 ≡ true = passes-at is_table_expressible core.tables index table.0 said.tables table.1 in (
-      table.0.name,
-      record {
-        name_is = ap (λ (o : Option Table). option_map_or (λ (t : Table). t.name) o []) table.1;
-        in_form = (and_parts (is_name table.0.name) (list_all is_action_expressible (table_actions table.0)) (and_parts _ (list_all is_only_mode (table_modes table.0)) sayable).0).0;
-        max = None;
-        min = None;
-        declared = table-stands plan core index table.0 table.1;
+        name_is = ap (λ (names : List (List ℕ)). unwrap_or (slice_get names index) []) named ∙ ap (λ (o : Option (List ℕ)). unwrap_or o []) (slice_get-map (λ (o : ObjectText). o.name) objects index) ∙ ap (λ (o : Option ObjectText). unwrap_or (option_map (λ (o : ObjectText). o.name) o) []) object.1;
+        in_form = passes-at (λ (o : ObjectText). is_name o.name) objects index object.0 formed object.1;
+        max = object.0.max;
+        min = object.0.min;
+        declared = object-stands plan core kind index object.0 object.1;
         low = omega arith;
       },
     )

@@ -1,28 +1,31 @@
 -- An object's name stands for the object, since no other has it.
-use Rattle.std.proofs.Common.{◌≡◌, ℕ, zero, suc, ◌+◌, ◌≤◌, ◌⊎◌, Bool, true, false, not, cond, List, [], ◌∷◌, ◌++◌, map, Option, Some, None, option_and_then, inl, inr, refl, sym, ap, ◌∙◌, subst, arith}
+use Rattle.std.proofs.Common.{◌≡◌, ℕ, zero, suc, ◌+◌, ◌≤◌, ◌⊎◌, Bool, true, false, not, cond, List, [], ◌∷◌, ◌++◌, length, map, Option, Some, option_and_then, inl, inr, refl, sym, ap, ◌∙◌, subst, arith}
 use Rattle.std.specs.List.{list_any, enumerate_from, find, flat_map, slice_get}
 use Rattle.std.specs.Str.{bytes_eq}
-use Rattle.std.proofs.lemmas.Bool.{and_parts, not-true, or_left, or_right, true≢false, eqb-true, cases_Bool}
-use Rattle.std.proofs.lemmas.List.{map-append}
+use Rattle.std.proofs.lemmas.Bool.{and_parts, not-true, or_cases, or_left, or_right, true≢false, eqb-true, cases_Bool}
+use Rattle.std.proofs.lemmas.List.{length-map, map-append}
+use Rattle.std.proofs.lemmas.Simd.{map-map}
 use Rattle.std.proofs.lemmas.Slice.Eq.{bytes_eq-Decides}
 use Rattle.osbase.specs.declared.objects.ObjectKind.{ObjectKind}
 use Rattle.osbase.specs.declared.objects.Place.{Place}
 use Rattle.osbase.specs.History.{same_core}
-use Rattle.osbase.proofs.Same.{same_kind-self}
-use Rattle.osplan.specs.declared.plans.Alarm.{Alarm}
+use Rattle.osbase.specs.Objects.{same_kind}
+use Rattle.osbase.proofs.Same.{same_kind-self, same_kind-true}
 use Rattle.osplan.specs.declared.plans.Plan.{Plan}
 use Rattle.osplan.specs.declared.plans.Core.{Core}
-use Rattle.osplan.specs.declared.plans.Counter.{Counter}
-use Rattle.osplan.specs.declared.plans.Resource.{Resource}
-use Rattle.osplan.specs.declared.plans.Table.{Table}
-use Rattle.osplan.specs.declared.plans.Task.{Task}
+use Rattle.osplan.specs.declared.plans.TheConstants.{KINDS}
 use Rattle.osplan.specs.Expressible.{are_distinct, object_names}
+use Rattle.osplan.specs.Objects.{names_in, object_count}
+use Rattle.osplan.proofs.EveryKind.{kind-there}
 use Rattle.osplan.proofs.Tests.{any-mapped, find-holds}
 use Rattle.osshape.specs.declared.shapes.CoreText.{CoreText}
+use Rattle.osshape.specs.declared.shapes.Named.{Named}
 use Rattle.osshape.specs.declared.declarations.Declaration.{Declaration}
-use Rattle.osshape.specs.Declarations.{byte_of, id_of, task_declaration, resource_declaration, counter_declaration, alarm_declaration, table_declaration, declared_tasks, declared_resources, declared_counters, declared_alarms, declared_tables, declared_by, declarations, has_name, place_in, place_of}
+use Rattle.osshape.specs.Declarations.{byte_of, id_of, declaration, declared_of, declared_by, declarations, has_name, place_in, place_of}
+use Rattle.osshape.specs.Shape.{objects_in}
+use Rattle.osshape.proofs.Naming.{names-declared}
 use Rattle.osdraft.proofs.Numbers.{byte-small}
-use Rattle.oswrite.proofs.Said.{task_said, resource_said, counter_said, alarm_said, table_said, core_said}
+use Rattle.oswrite.proofs.Said.{core_said}
 
 abbrev pub names : List Declaration → List (List ℕ)
 names objects = map (λ (d : Declaration). d.name) objects
@@ -63,52 +66,34 @@ stands-back [] back d among = among
 stands-back (x ∷ front) back d among = inr (stands-back front back d among)
 
 -- what is declared of an element stands at the element's place
-stands-at : {X Y : Type 0} (declare : ℕ × Y → Declaration) (said : X → Y) (n : ℕ) (xs : List X) (i : ℕ) (x : X) → slice_get xs i ≡ Some x → Stands (map declare (enumerate_from n (map said xs))) (declare (n + i, said x))
-stands-at declare said n [] i x is = cc
-stands-at declare said n (y ∷ ys) zero x is =
+stands-at : {X : Type 0} (declare : ℕ × X → Declaration) (n : ℕ) (xs : List X) (i : ℕ) (x : X) → slice_get xs i ≡ Some x → Stands (map declare (enumerate_from n xs)) (declare (n + i, x))
+stands-at declare n [] i x is = cc
+stands-at declare n (y ∷ ys) zero x is =
     let same : y ≡ x = cc in
     let index : n ≡ n + 0 = omega arith in
-    inl (ap (λ z. declare (n, said z)) same ∙ ap (λ k. declare (k, said x)) index)
-stands-at declare said n (y ∷ ys) (suc i) x is =
+    inl (ap (λ z. declare (n, z)) same ∙ ap (λ k. declare (k, x)) index)
+stands-at declare n (y ∷ ys) (suc i) x is =
     let index : n + 1 + i ≡ n + suc i = omega arith in
-    inr (subst (λ k. Stands (map declare (enumerate_from (n + 1) (map said ys))) (declare (k, said x))) index (stands-at declare said (n + 1) ys i x is))
+    inr (subst (λ k. Stands (map declare (enumerate_from (n + 1) ys)) (declare (k, x))) index (stands-at declare (n + 1) ys i x is))
 
-stands-first : {X Y : Type 0} (declare : ℕ × Y → Declaration) (said : X → Y) (xs : List X) (i : ℕ) (x : X) → slice_get xs i ≡ Some x → Stands (map declare (enumerate_from 0 (map said xs))) (declare (i, said x))
-stands-first declare said xs i x is =
-    let index : 0 + i ≡ i = omega arith in
-    subst (λ k. Stands (map declare (enumerate_from 0 (map said xs))) (declare (k, said x))) index (stands-at declare said 0 xs i x is)
+-- and what is declared of one kind stands among all kinds
+stands-among : (text : CoreText) (kinds : List ObjectKind) (kind : ObjectKind) (d : Declaration) → list_any (λ (k : ObjectKind). same_kind k kind) kinds ≡ true → Stands (declared_of text kind) d → Stands (flat_map (declared_of text) kinds) d
+stands-among text [] kind d there among = absurd (true≢false (sym there))
+stands-among text (k ∷ kinds) kind d there among =
+    elim (or_cases (same_kind k kind) (list_any (λ (k : ObjectKind). same_kind k kind) kinds) there) as (λ _. Stands (flat_map (declared_of text) (k ∷ kinds)) d) [
+      | inl here ↦ stands-front (declared_of text k) (flat_map (declared_of text) kinds) d (subst (λ (k : ObjectKind). Stands (declared_of text k) d) (sym (same_kind-true k kind here)) among)
+      | inr later ↦ stands-back (declared_of text k) (flat_map (declared_of text) kinds) d (stands-among text kinds kind d later among)
+    ]
 
 module _ (plan : Plan) where
   -- ---- the names that a text declares are the configuration's
 
-  tasks-named : (core : CoreText) (n : ℕ) (tasks : List Task) → names (map (task_declaration core) (enumerate_from n (map (task_said plan) tasks))) ≡ map (λ (task : Task). task.name) tasks
-  tasks-named core n [] = refl
-  tasks-named core n (task ∷ tasks) = ap (λ rest. task.name ∷ rest) (tasks-named core (n + 1) tasks)
-
-  resources-named : (core : CoreText) (n : ℕ) (resources : List Resource) → names (map (resource_declaration core) (enumerate_from n (map resource_said resources))) ≡ map (λ (resource : Resource). resource.name) resources
-  resources-named core n [] = refl
-  resources-named core n (resource ∷ resources) = ap (λ rest. resource.name ∷ rest) (resources-named core (n + 1) resources)
-
-  counters-named : (core : CoreText) (n : ℕ) (counters : List Counter) → names (map (counter_declaration core) (enumerate_from n (map counter_said counters))) ≡ map (λ (counter : Counter). counter.name) counters
-  counters-named core n [] = refl
-  counters-named core n (counter ∷ counters) = ap (λ rest. counter.name ∷ rest) (counters-named core (n + 1) counters)
-
-  alarms-named : (core : CoreText) (n : ℕ) (alarms : List Alarm) → names (map (alarm_declaration core) (enumerate_from n (map (alarm_said plan) alarms))) ≡ map (λ (alarm : Alarm). alarm.name) alarms
-  alarms-named core n [] = refl
-  alarms-named core n (alarm ∷ alarms) = ap (λ rest. alarm.name ∷ rest) (alarms-named core (n + 1) alarms)
-
-  tables-named : (core : CoreText) (n : ℕ) (tables : List Table) → names (map (table_declaration core) (enumerate_from n (map (table_said plan) tables))) ≡ map (λ (table : Table). table.name) tables
-  tables-named core n [] = refl
-  tables-named core n (table ∷ tables) = ap (λ rest. table.name ∷ rest) (tables-named core (n + 1) tables)
+  pub kind-named : (core : Core) (kind : ObjectKind) → names_in kind core ≡ map (λ (named : Named). named.name) (objects_in kind (core_said plan core))
+  kind-named core ObjectKind.Task = simp map-map
+  kind-named core kind = simp map-map
 
   objects-named : (core : Core) → names (declared_by (core_said plan core)) ≡ object_names core
-  objects-named core =
-      let text = core_said plan core in
-      rw (← tasks-named text 0 core.tasks, ← resources-named text 0 core.resources, ← counters-named text 0 core.counters, ← alarms-named text 0 core.alarms, ← tables-named text 0 core.tables)
-      (map-append (λ (d : Declaration). d.name) (declared_tasks text ++ declared_resources text ++ declared_counters text ++ declared_alarms text) (declared_tables text)
-      ∙ ap (λ first. first ++ names (declared_tables text)) (map-append (λ (d : Declaration). d.name) (declared_tasks text ++ declared_resources text ++ declared_counters text) (declared_alarms text))
-      ∙ ap (λ first. first ++ names (declared_alarms text) ++ names (declared_tables text)) (map-append (λ (d : Declaration). d.name) (declared_tasks text ++ declared_resources text) (declared_counters text))
-      ∙ ap (λ first. first ++ names (declared_counters text) ++ names (declared_alarms text) ++ names (declared_tables text)) (map-append (λ (d : Declaration). d.name) (declared_tasks text) (declared_resources text)))
+  objects-named core = names-declared core (core_said plan core) (kind-named core)
 
   pub names-said : (cores : List Core) → names (declarations (map (core_said plan) cores)) ≡ flat_map object_names cores
   names-said [] = refl
@@ -121,39 +106,16 @@ module _ (plan : Plan) where
   abbrev pub declared_at : Core → ObjectKind → List ℕ → ℕ → Option ℕ → Option ℕ → Declaration
   declared_at core kind name index max min = record { name = name; kind = kind; core = id_of (core_said plan core); index = index; max = max; min = min }
 
-  -- what one of the first three kinds declares
-  stands-early : (text : CoreText) (d : Declaration) → Stands (declared_tasks text ++ declared_resources text ++ declared_counters text) d → Stands (declared_by text) d
-  stands-early text d among =
-      stands-front (declared_tasks text ++ declared_resources text ++ declared_counters text ++ declared_alarms text) (declared_tables text) d
-      (stands-front (declared_tasks text ++ declared_resources text ++ declared_counters text) (declared_alarms text) d among)
+  pub as-many : (core : Core) (kind : ObjectKind) → length (objects_in kind (core_said plan core)) ≡ object_count kind core
+  as-many core ObjectKind.Task = simp length-map
+  as-many core kind = simp length-map
 
-  pub task-stands : (core : Core) (i : ℕ) (task : Task) → slice_get core.tasks i ≡ Some task → Stands (declared_by (core_said plan core)) (declared_at core ObjectKind.Task task.name i None None)
-  task-stands core i task is =
+  pub object-stands : (core : Core) (kind : ObjectKind) (i : ℕ) (object : Named) → slice_get (objects_in kind (core_said plan core)) i ≡ Some object → Stands (declared_by (core_said plan core)) (declared_at core kind object.name i object.max object.min)
+  object-stands core kind i object is =
       let text = core_said plan core in
-      stands-early text _ (stands-front (declared_tasks text ++ declared_resources text) (declared_counters text) _
-      (stands-front (declared_tasks text) (declared_resources text) _ (stands-first (task_declaration text) (task_said plan) core.tasks i task is)))
-
-  pub resource-stands : (core : Core) (i : ℕ) (resource : Resource) → slice_get core.resources i ≡ Some resource → Stands (declared_by (core_said plan core)) (declared_at core ObjectKind.Resource resource.name i None None)
-  resource-stands core i resource is =
-      let text = core_said plan core in
-      stands-early text _ (stands-front (declared_tasks text ++ declared_resources text) (declared_counters text) _
-      (stands-back (declared_tasks text) (declared_resources text) _ (stands-first (resource_declaration text) resource_said core.resources i resource is)))
-
-  pub counter-stands : (core : Core) (i : ℕ) (counter : Counter) → slice_get core.counters i ≡ Some counter → Stands (declared_by (core_said plan core)) (declared_at core ObjectKind.Counter counter.name i (Some counter.max) (Some counter.min))
-  counter-stands core i counter is =
-      let text = core_said plan core in
-      stands-early text _ (stands-back (declared_tasks text ++ declared_resources text) (declared_counters text) _ (stands-first (counter_declaration text) counter_said core.counters i counter is))
-
-  pub alarm-stands : (core : Core) (i : ℕ) (alarm : Alarm) → slice_get core.alarms i ≡ Some alarm → Stands (declared_by (core_said plan core)) (declared_at core ObjectKind.Alarm alarm.name i None None)
-  alarm-stands core i alarm is =
-      let text = core_said plan core in
-      stands-front (declared_tasks text ++ declared_resources text ++ declared_counters text ++ declared_alarms text) (declared_tables text) _
-      (stands-back (declared_tasks text ++ declared_resources text ++ declared_counters text) (declared_alarms text) _ (stands-first (alarm_declaration text) (alarm_said plan) core.alarms i alarm is))
-
-  pub table-stands : (core : Core) (i : ℕ) (table : Table) → slice_get core.tables i ≡ Some table → Stands (declared_by (core_said plan core)) (declared_at core ObjectKind.Table table.name i None None)
-  table-stands core i table is =
-      let text = core_said plan core in
-      stands-back (declared_tasks text ++ declared_resources text ++ declared_counters text ++ declared_alarms text) (declared_tables text) _ (stands-first (table_declaration text) (table_said plan) core.tables i table is)
+      let index : 0 + i ≡ i = omega arith in
+      stands-among text KINDS kind _ (kind-there kind)
+      (subst (λ k. Stands (declared_of text kind) (declaration text kind (k, object))) index (stands-at (declaration text kind) 0 (objects_in kind text) i object is))
 
   in-cores-if : (core : Core) (rest : List Declaration) (found : Core) (others : Option Core) (d : Declaration) (b : Bool) → cond b (Some core) others ≡ Some found → Stands (declared_by (core_said plan found)) d
       → (others ≡ Some found → Stands rest d) → Stands (declared_by (core_said plan core) ++ rest) d

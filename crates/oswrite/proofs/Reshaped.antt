@@ -32,7 +32,7 @@ use Rattle.osshape.specs.Shape.{task_shape, resource_shape, counter_shape, alarm
 use Rattle.osplan.specs.Names.{name_of_mode}
 use Rattle.osplan.proofs.Tests.{all-both}
 use Rattle.osplan.proofs.Within.{limit-parts, text-parts, core-text-parts}
-use Rattle.oswrite.specs.Writing.{id_data, mode_data, task_data, resource_data, counter_data, start_data, auto_data, alarm_data, action_data, point_data, table_start_data, table_auto_data, table_data, core_data, config_data}
+use Rattle.oswrite.specs.Writing.{id_data, mode_data, task_data, resource_data, counter_data, start_data, or_null_data, alarm_data, action_data, point_data, table_start_data, table_data, core_data, config_data}
 use Rattle.osread.proofs.Contents.{elements-items_of}
 use Rattle.oswrite.proofs.Formed.{found}
 use Rattle.oswrite.proofs.Said.{task_said, resource_said, counter_said, start_said, counter_name, action_said, alarm_said, point_said, table_start_said, table_said, core_said, config_said}
@@ -92,7 +92,7 @@ module _ (plan : Plan) (inside : IsTrue (limits.is_within_limits plan)) (sayable
   unfolding alarm_start_shape
   start-shape auto h = rw (each-items name_of (mode_data plan) (name_of_mode plan) is_only_mode mode-shape auto.modes h) refl
 
-  auto-shape : (auto : Option AlarmStart) → list_all is_only_mode (option_map_or (λ (auto : AlarmStart). auto.modes) auto []) ≡ true → or_null alarm_start_shape (auto_data plan auto) ≡ Some (option_map (start_said plan) auto)
+  auto-shape : (auto : Option AlarmStart) → list_all is_only_mode (option_map_or (λ (auto : AlarmStart). auto.modes) auto []) ≡ true → or_null alarm_start_shape (or_null_data (start_data plan) auto) ≡ Some (option_map (start_said plan) auto)
   auto-shape None h = refl
   auto-shape (Some auto) h = rw (start-shape auto h) refl
 
@@ -117,7 +117,7 @@ module _ (plan : Plan) (inside : IsTrue (limits.is_within_limits plan)) (sayable
   unfolding table_start_shape
   table-start-shape auto h = rw (each-items name_of (mode_data plan) (name_of_mode plan) is_only_mode mode-shape auto.modes h) refl
 
-  table-auto-shape : (auto : Option TableStart) → list_all is_only_mode (option_map_or (λ (auto : TableStart). auto.modes) auto []) ≡ true → or_null table_start_shape (table_auto_data plan auto) ≡ Some (option_map (table_start_said plan) auto)
+  table-auto-shape : (auto : Option TableStart) → list_all is_only_mode (option_map_or (λ (auto : TableStart). auto.modes) auto []) ≡ true → or_null table_start_shape (or_null_data (table_start_data plan) auto) ≡ Some (option_map (table_start_said plan) auto)
   table-auto-shape None h = refl
   table-auto-shape (Some auto) h = rw (table-start-shape auto h) refl
 

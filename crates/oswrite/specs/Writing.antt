@@ -42,6 +42,11 @@ whole_data n = number (unsigned n)
 abbrev pub list_data : {X : Type 0} → (X → Data) → List X → Data
 list_data f xs = array (items_of (map f xs))
 
+-- What may be left out, and is null then.
+abbrev pub or_null_data : {X : Type 0} → (X → Data) → Option X → Data
+or_null_data f None = null
+or_null_data f (Some x) = f x
+
 abbrev pub id_data : CoreId → Data
 id_data id = whole_data id.number
 
@@ -74,22 +79,18 @@ counter_data counter = object
     (member (codes "name") (string counter.name)
     (member (codes "software") (boolean counter.software) no_members))))
 
--- How an alarm is set by itself: its cycle, in which modes, and when it is first due; null where it is not.
+-- How an alarm is set by itself: its cycle, in which modes, and when it is first due.
 abbrev pub start_data : Plan → AlarmStart → Data
 start_data plan auto = object
     (member (codes "cycle") (whole_data auto.cycle)
     (member (codes "modes") (list_data (mode_data plan) auto.modes)
     (member (codes "start") (whole_data auto.start) no_members)))
 
-abbrev pub auto_data : Plan → Option AlarmStart → Data
-auto_data plan None = null
-auto_data plan (Some auto) = start_data plan auto
-
--- An alarm: its action, how it is set by itself, its counter's name and its own. The action has the text of its operation.
+-- An alarm: its action, how it is set by itself, null where it is not, its counter's name and its own. The action has the text of its operation.
 abbrev pub alarm_data : Plan → Alarm → Data
 alarm_data plan alarm = object
     (member (codes "action") (string (op_text plan (op_of_call alarm.action)))
-    (member (codes "auto") (auto_data plan alarm.auto)
+    (member (codes "auto") (or_null_data (start_data plan) alarm.auto)
     (member (codes "counter") (string (name_of plan ObjectKind.Counter (counter_place alarm.counter)))
     (member (codes "name") (string alarm.name) no_members))))
 
@@ -102,20 +103,16 @@ point_data plan point = object
     (member (codes "actions") (list_data (action_data plan) point.actions)
     (member (codes "offset") (whole_data point.offset) no_members))
 
--- How a schedule table is started by itself: in which modes, and after how many counts; null where it is not.
+-- How a schedule table is started by itself: in which modes, and after how many counts.
 abbrev pub table_start_data : Plan → TableStart → Data
 table_start_data plan auto = object
     (member (codes "modes") (list_data (mode_data plan) auto.modes)
     (member (codes "offset") (whole_data auto.offset) no_members))
 
-abbrev pub table_auto_data : Plan → Option TableStart → Data
-table_auto_data plan None = null
-table_auto_data plan (Some auto) = table_start_data plan auto
-
--- A schedule table: how it is started by itself, its counter's name, its duration, its own name, its points, and whether it repeats.
+-- A schedule table: how it is started by itself, null where it is not, its counter's name, its duration, its own name, its points, and whether it repeats.
 abbrev pub table_data : Plan → Table → Data
 table_data plan table = object
-    (member (codes "auto") (table_auto_data plan table.auto)
+    (member (codes "auto") (or_null_data (table_start_data plan) table.auto)
     (member (codes "counter") (string (name_of plan ObjectKind.Counter (counter_place table.counter)))
     (member (codes "duration") (whole_data table.duration)
     (member (codes "name") (string table.name)

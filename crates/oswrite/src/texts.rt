@@ -4,7 +4,7 @@ ghost use Rattle.std.specs.Prelude.{◌≡◌, IfOk, Some, string_bytes};
 ghost use Rattle.serde_json.specs.Data.{Data};
 ghost use Rattle.serde_json.specs.View.{view};
 ghost use Rattle.osdraft.specs.Meaning.{config_of};
-ghost use Rattle.oswrite.specs.Writing.{script_text, id_data, mode_data, list_data, start_data, auto_data, alarm_data, action_data, point_data, table_start_data, table_auto_data, table_data, counter_data, resource_data, task_data, core_data, config_data, config_text};
+ghost use Rattle.oswrite.specs.Writing.{script_text, id_data, mode_data, list_data, start_data, or_null_data, alarm_data, action_data, point_data, table_start_data, table_data, counter_data, resource_data, task_data, core_data, config_data, config_text};
 
 use osbase::{CoreId, ModeId, ObjectKind, Place, Reference, RemoteCall};
 use oscript::{Op, op_of_call};
@@ -35,6 +35,19 @@ fn list_value<T, W: Writer<T>>(
         values.push(writer.value(alloc, element)?)?;
     }
     Ok(Value::Array(values))
+}
+
+fn or_null_value<T, W: Writer<T>>(
+    alloc: Global,
+    writer: &W,
+    element: &Option<T>,
+) -> Result<Value, AllocError>
+    ensures { IfOk result (λ value. view value ≡ or_null_data (W.written writer.now) element.now) }
+{
+    match element {
+        Some(element) => writer.value(alloc, element),
+        None => Ok(Value::Null),
+    }
 }
 
 // Writes the parts of a plan, by the names of its modes and objects.
@@ -134,25 +147,12 @@ impl Writer<AlarmStart> for PlanWriter<'_> {
     }
 }
 
-fn auto_value(
-    alloc: Global,
-    writer: &PlanWriter,
-    auto: &Option<AlarmStart>,
-) -> Result<Value, AllocError>
-    ensures { IfOk result (λ value. view value ≡ auto_data writer.now.plan.now auto.now) }
-{
-    match auto {
-        Some(auto) => writer.value(alloc, auto),
-        None => Ok(Value::Null),
-    }
-}
-
 impl Writer<Alarm> for PlanWriter<'_> {
     ghost written = { λ writer. alarm_data writer.plan.now };
 
     fn value(&self, alloc: Global, alarm: &Alarm) -> Result<Value, AllocError> {
         let action = op_text(alloc, self, op_of_call(alarm.action))?;
-        let auto = auto_value(alloc, self, &alarm.auto)?;
+        let auto = or_null_value(alloc, self, &alarm.auto)?;
         let counter = self
             .plan
             .name_of(ObjectKind::Counter, alarm.counter.place());
@@ -197,24 +197,11 @@ impl Writer<TableStart> for PlanWriter<'_> {
     }
 }
 
-fn table_auto_value(
-    alloc: Global,
-    writer: &PlanWriter,
-    auto: &Option<TableStart>,
-) -> Result<Value, AllocError>
-    ensures { IfOk result (λ value. view value ≡ table_auto_data writer.now.plan.now auto.now) }
-{
-    match auto {
-        Some(auto) => writer.value(alloc, auto),
-        None => Ok(Value::Null),
-    }
-}
-
 impl Writer<Table> for PlanWriter<'_> {
     ghost written = { λ writer. table_data writer.plan.now };
 
     fn value(&self, alloc: Global, table: &Table) -> Result<Value, AllocError> {
-        let auto = table_auto_value(alloc, self, &table.auto)?;
+        let auto = or_null_value(alloc, self, &table.auto)?;
         let counter = self
             .plan
             .name_of(ObjectKind::Counter, table.counter.place());
