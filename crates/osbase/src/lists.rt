@@ -19,6 +19,16 @@ impl<T> Model for List<T> {
     ghost view = { λ l. l.items.items };
 }
 
+impl<T: Clone + Drop> Clone for List<T> {
+    ghost is_clone = { λ list copy. ((x y : T) → T.is_clone x y → y ≡ x) → copy ≡ list };
+
+    fn clone(&self) -> Result<Self, AllocError> {
+        Ok(List {
+            items: self.items.clone()?,
+        })
+    }
+}
+
 impl<T> List<T> {
     /// The empty list, which takes no memory.
     pub fn new(alloc: Global) -> Self
@@ -72,6 +82,16 @@ impl Model for Name {
     ghost Value = { Items ℕ };
 
     ghost view = { λ n. string_bytes n.text };
+}
+
+impl Clone for Name {
+    ghost is_clone = { λ name copy. copy ≡ name };
+
+    fn clone(&self) -> Result<Self, AllocError> {
+        Ok(Name {
+            text: self.text.clone()?,
+        })
+    }
 }
 
 impl Name {

@@ -1,7 +1,8 @@
 //! The tests of a configuration's text, one for each fault past its shape, in ascending order.
 
-ghost use Rattle.std.specs.Prelude.{◌≡◌, ◌==◌, ◌&&◌, ◌<◌, ◌^◌, true, false, Some, is_some, length, map, sum_by};
-ghost use Rattle.std.specs.List.{list_all, slice_split};
+ghost use Rattle.std.specs.Prelude.{◌≡◌, ◌&&◌, ◌<◌, ◌^◌, true, false, Some, is_some, length, map, sum_by};
+ghost use Rattle.std.specs.List.{list_all};
+ghost use Rattle.osbase.specs.History.{same_core};
 ghost use Rattle.osbase.specs.declared.objects.ObjectKind.TheVariants.{Counter as CounterKind};
 ghost use Rattle.osshape.specs.declared.shapes.AlarmText.{AlarmText as Alarm};
 ghost use Rattle.osshape.specs.declared.shapes.CoreText.{CoreText as Core};
@@ -9,13 +10,13 @@ ghost use Rattle.osshape.specs.declared.shapes.CounterText.{CounterText as Count
 ghost use Rattle.osshape.specs.declared.shapes.ResourceText.{ResourceText as Resource};
 ghost use Rattle.osshape.specs.declared.shapes.TaskText.{TaskText as Task};
 ghost use Rattle.osforms.specs.Operation.{has_masks};
-ghost use Rattle.osplan.specs.Limits.{are_alarms_within, are_counters_within, are_numbers_distinct, has_number, is_alarm_within, is_between, is_ceiling, is_core_by, is_counter_within, is_cycle, is_start, is_start_within, is_task_numbered, jobs_of, most_activations, most_cores, same_number};
+ghost use Rattle.osplan.specs.Limits.{are_alarms_within, are_counters_within, are_numbers_distinct, has_number, is_alarm_within, is_between, is_ceiling, is_core_by, is_counter_within, is_start, is_start_within, is_task_numbered, jobs_of, most_activations, most_cores, same_number};
 ghost use Rattle.osread.specs.Faults.{failing, first_fault};
 ghost use Rattle.oscheck.specs.Action.{is_action_known, is_action_masked};
-ghost use Rattle.osshape.specs.Declarations.{declarations, declared_sizes, place_of};
-ghost use Rattle.oscheck.specs.Operation.{is_operation_known};
+ghost use Rattle.osshape.specs.Declarations.{counter_ref, declarations, place_of};
+ghost use Rattle.oscheck.specs.Operation.{operations_of};
 ghost use Rattle.oscheck.specs.Few.{are_objects_few, is_core_few};
-ghost use Rattle.oscheck.specs.Check.{are_masks, are_near, are_readable, are_scripts_short, is_core_short, is_script_short, is_text_numbered, is_core_masked, is_core_near, is_operation_near, is_script_near, task_sizes, counter_sizes, start_sizes, alarm_sizes, bare_sizes, core_sizes, sizes_of, numbers_of, is_text_within, is_each_once, are_operations_known, is_mode_name, alarm_modes, is_task_known, is_alarm_known, is_alarm_near, is_core_known, is_task_masked, is_alarm_masked, is_core_timed, are_timed, are_known, are_operations, tests_of};
+ghost use Rattle.oscheck.specs.Check.{are_masks, are_near, are_readable, are_scripts_short, is_core_short, is_text_numbered, is_core_masked, is_core_near, is_operation_near, is_script_near, task_sizes, counter_sizes, start_sizes, alarm_sizes, bare_sizes, core_sizes, sizes_of, numbers_of, is_text_within, is_each_once, are_operations_known, is_mode_name, alarm_modes, is_task_known, is_alarm_known, is_alarm_near, is_core_known, is_task_masked, is_alarm_masked, are_timed, are_known, are_operations, tests_of};
 
 use crate::table_checks::{
     TABLES, are_posted_few, are_tables_known, are_tables_masked, are_tables_near, are_tables_timed,
@@ -26,8 +27,8 @@ use osforms::{Places, has_masks, is_action, is_known, op_named};
 use osplan::{ConfFault, stays_on};
 use osread::{Text, Whole, part_count};
 use osshape::{
-    AlarmStartText, AlarmText, ConfigText, CoreText, CounterText, Declaration, MODE, Objects,
-    ResourceText, TaskText, number_id,
+    AlarmStartText, AlarmText, ConfigText, CoreText, CounterText, MODE, Objects, ResourceText,
+    TaskText, number_id,
 };
 
 /// The most jobs of all a core's tasks at once.
@@ -84,17 +85,11 @@ fn are_tasks_numbered(tasks: &[TaskText]) -> bool
     tasks.iter().all(is_task_numbered)
 }
 
-fn jobs_of(task: &TaskText) -> u64
-    ensures { result ≡ jobs_of (task_sizes task.now) }
-{
-    task.activations.unwrap_or(0)
-}
-
 fn jobs_of_all(tasks: &[TaskText]) -> u64
     requires { sum_by (λ (task : Task). jobs_of (task_sizes task)) tasks.now < 2 ^ 64 }
     ensures { result ≡ sum_by (λ (task : Task). jobs_of (task_sizes task)) tasks.now }
 {
-    tasks.iter().map(jobs_of).sum()
+    tasks.iter().map(|task| task.activations.unwrap_or(0)).sum()
 }
 
 fn are_ceilings_within(resources: &[ResourceText]) -> bool
@@ -124,19 +119,14 @@ fn are_counters_within(counters: &[CounterText]) -> bool
     counters.len() <= COUNTERS && is_each_counter_within(counters)
 }
 
-fn is_cycle(counter: &Declaration, cycle: Whole) -> bool
-    ensures { result ≡ is_cycle (declared_sizes counter.now) cycle }
-{
-    let (least, greatest) = (counter.min.unwrap_or(0), counter.max.unwrap_or(0));
-    is_between(0, 0, cycle) || is_between(least, greatest, cycle)
-}
-
 fn is_start_within(objects: &Objects, counter: &str, auto: &AlarmStartText) -> bool
     ensures { result ≡ is_start_within (start_sizes objects.now.declared counter.now auto.now) }
 {
     match objects.counter(counter) {
         Some(counter) => {
-            is_between(1, counter.max.unwrap_or(0), auto.start) && is_cycle(counter, auto.cycle)
+            let (least, greatest) = (counter.min.unwrap_or(0), counter.max.unwrap_or(0));
+            is_between(1, greatest, auto.start)
+                && (is_between(0, 0, auto.cycle) || is_between(least, greatest, auto.cycle))
         }
         None => true,
     }
@@ -239,16 +229,10 @@ pub fn is_numbered(text: &ConfigText, objects: &Objects) -> bool
         && are_cores_within(objects, text.cores.as_slice())
 }
 
-fn is_script_short(task: &TaskText) -> bool
-    ensures { result ≡ is_script_short task.now }
-{
-    part_count(task.script.as_str(), b';') <= OPERATIONS
-}
-
 fn is_core_short(core: &CoreText) -> bool
     ensures { result ≡ is_core_short core.now }
 {
-    core.tasks.as_slice().iter().all(is_script_short)
+    core.tasks.as_slice().iter().all(|task| part_count(task.script.as_str(), b';') <= OPERATIONS)
 }
 
 fn are_scripts_short(text: &ConfigText) -> bool
@@ -297,37 +281,17 @@ pub fn is_each_once(text: &ConfigText, objects: &Objects) -> bool
     are_numbers_distinct(text.cores.as_slice()) && objects.are_named_apart()
 }
 
-fn is_operation_known(objects: &Objects, text: &str) -> bool
-    ensures { result ≡ is_operation_known objects.now.declared text.now }
-{
-    is_known(objects, text)
-}
-
-fn are_parts_known(objects: &Objects, script: &str) -> bool
-    ensures { result ≡ list_all (is_operation_known objects.now.declared) (slice_split (λ b. b == 59) script.now) }
-{
-    script
-        .split(';')
-        .all(|text| is_operation_known(objects, text))
-}
-
 fn are_operations_known(objects: &Objects, script: &str) -> bool
     ensures { result ≡ are_operations_known objects.now.declared script.now }
 {
-    script.is_empty() || are_parts_known(objects, script)
-}
-
-fn is_mode_name(name: &str) -> bool
-    ensures { result ≡ is_mode_name name.now }
-{
-    name == MODE
+    script.is_empty() || script.split(';').all(|text| is_known(objects, text))
 }
 
 /// Whether each name is the only mode's.
 pub fn are_mode_names(names: &[Text]) -> bool
     ensures { result ≡ list_all is_mode_name names.now }
 {
-    names.iter().all(|name| is_mode_name(name.as_str()))
+    names.iter().all(|name| name.as_str() == MODE)
 }
 
 fn is_task_known(objects: &Objects, task: &TaskText) -> bool
@@ -409,18 +373,13 @@ fn is_operation_near(objects: &Objects, id: CoreId, text: &str) -> bool
     }
 }
 
-fn are_parts_near(objects: &Objects, id: CoreId, script: &str) -> bool
-    ensures { result ≡ list_all (is_operation_near objects.now.declared id) (slice_split (λ b. b == 59) script.now) }
-{
-    script
-        .split(';')
-        .all(|text| is_operation_near(objects, id, text))
-}
-
 fn is_script_near(objects: &Objects, id: CoreId, script: &str) -> bool
     ensures { result ≡ is_script_near objects.now.declared id script.now }
 {
-    script.is_empty() || are_parts_near(objects, id, script)
+    script.is_empty()
+        || script
+            .split(';')
+            .all(|text| is_operation_near(objects, id, text))
 }
 
 fn are_scripts_near(objects: &Objects, id: CoreId, tasks: &[TaskText]) -> bool
@@ -431,10 +390,11 @@ fn are_scripts_near(objects: &Objects, id: CoreId, tasks: &[TaskText]) -> bool
         .all(|task| is_script_near(objects, id, task.script.as_str()))
 }
 
-fn is_alarm_near(objects: &Objects, id: CoreId, alarm: &AlarmText) -> bool
-    ensures { result ≡ is_alarm_near objects.now.declared id alarm.now }
+// Whether the counter of this name, if there is one, stands on this core.
+pub(crate) fn is_counter_near(objects: &Objects, id: CoreId, name: &str) -> bool
+    ensures { result ≡ same_core (counter_ref objects.now.declared id name.now).core id }
 {
-    match objects.place(ObjectKind::Counter, alarm.counter.as_str()) {
+    match objects.place(ObjectKind::Counter, name) {
         Some(place) => place.core.number == id.number,
         None => true,
     }
@@ -443,7 +403,7 @@ fn is_alarm_near(objects: &Objects, id: CoreId, alarm: &AlarmText) -> bool
 fn are_alarms_near(objects: &Objects, id: CoreId, alarms: &[AlarmText]) -> bool
     ensures { result ≡ list_all (is_alarm_near objects.now.declared id) alarms.now }
 {
-    alarms.iter().all(|alarm| is_alarm_near(objects, id, alarm))
+    alarms.iter().all(|alarm| is_counter_near(objects, id, alarm.counter.as_str()))
 }
 
 fn is_core_near(objects: &Objects, core: &CoreText) -> bool
@@ -465,16 +425,10 @@ fn are_near(text: &ConfigText, objects: &Objects) -> bool
         .all(|core| is_core_near(objects, core))
 }
 
-fn are_parts_masked(script: &str) -> bool
-    ensures { result ≡ list_all has_masks (slice_split (λ b. b == 59) script.now) }
+fn is_script_masked(script: &str) -> bool
+    ensures { result ≡ list_all has_masks (operations_of script.now) }
 {
-    script.split(';').all(|text| has_masks(text))
-}
-
-fn is_task_masked(task: &TaskText) -> bool
-    ensures { result ≡ is_task_masked task.now }
-{
-    task.script.as_str().is_empty() || are_parts_masked(task.script.as_str())
+    script.is_empty() || script.split(';').all(|text| has_masks(text))
 }
 
 pub(crate) fn is_action_masked(text: &str) -> bool
@@ -483,22 +437,20 @@ pub(crate) fn is_action_masked(text: &str) -> bool
     !is_action(text) || has_masks(text)
 }
 
-fn is_alarm_masked(alarm: &AlarmText) -> bool
-    ensures { result ≡ is_alarm_masked alarm.now }
-{
-    is_action_masked(alarm.action.as_str())
-}
-
 fn are_tasks_masked(tasks: &[TaskText]) -> bool
     ensures { result ≡ list_all is_task_masked tasks.now }
 {
-    tasks.iter().all(is_task_masked)
+    tasks
+        .iter()
+        .all(|task| is_script_masked(task.script.as_str()))
 }
 
 fn are_alarms_masked(alarms: &[AlarmText]) -> bool
     ensures { result ≡ list_all is_alarm_masked alarms.now }
 {
-    alarms.iter().all(is_alarm_masked)
+    alarms
+        .iter()
+        .all(|alarm| is_action_masked(alarm.action.as_str()))
 }
 
 fn is_core_masked(core: &CoreText) -> bool
@@ -515,12 +467,6 @@ fn are_masks(text: &ConfigText) -> bool
     text.cores.as_slice().iter().all(is_core_masked)
 }
 
-fn is_core_timed(objects: &Objects, core: &CoreText) -> bool
-    ensures { result ≡ is_core_timed objects.now.declared core.now }
-{
-    are_tables_timed(objects, core.tables.as_slice())
-}
-
 /// Whether the points of each table come in order, with delays that its counter admits.
 pub fn are_timed(text: &ConfigText, objects: &Objects) -> bool
     requires objects { objects.now.declared ≡ declarations text.now.cores }
@@ -529,7 +475,7 @@ pub fn are_timed(text: &ConfigText, objects: &Objects) -> bool
     text.cores
         .as_slice()
         .iter()
-        .all(|core| is_core_timed(objects, core))
+        .all(|core| are_tables_timed(objects, core.tables.as_slice()))
 }
 
 // The fault of a text without those, some name of which names nothing or what it may not name, some mask of which is

@@ -5,17 +5,19 @@ ghost use Rattle.std.specs.List.{list_all};
 ghost use Rattle.std.specs.Option.{option_map_or};
 ghost use Rattle.osshape.specs.declared.table_shapes.PointText.{PointText as Point};
 ghost use Rattle.osshape.specs.declared.table_shapes.TableText.{TableText as Table};
-ghost use Rattle.osplan.specs.Limits.{are_alarms_within, are_ascending, are_tables_within, delays, first_offset, is_before, is_delay, is_final, is_initial, is_point_within, is_table_start_within, is_table_timed, is_table_within, is_timed_by, last_offset, most_posted};
+ghost use Rattle.osplan.specs.Limits.{are_alarms_within, are_ascending, are_tables_within, delays, first_offset, is_before, is_delay, is_final, is_point_within, is_table_start_within, is_table_timed, is_table_within, is_timed_by, last_offset, most_posted};
 ghost use Rattle.oscheck.specs.Action.{is_action_known, is_action_masked};
 ghost use Rattle.osshape.specs.Declarations.{declared_sizes, place_alone};
 ghost use Rattle.oscheck.specs.Posted.{greatest_posted, is_posting, posted_at, posted_by_alarms, posted_by_tables, posted_at_once};
 ghost use Rattle.oscheck.specs.Check.{alarm_sizes, is_mode_name, is_point_known, is_point_masked, is_table_known, is_table_masked, is_table_near, point_sizes, table_modes, table_sizes, table_times};
 
-use crate::checks::{are_mode_names, is_action_known, is_action_masked, is_between, is_counter};
+use crate::checks::{
+    are_mode_names, is_action_known, is_action_masked, is_between, is_counter, is_counter_near,
+};
 use osbase::{CoreId, ObjectKind, Place};
 use oscript::action_of_op;
 use osforms::{Places, op_meant};
-use osread::{Text, Whole};
+use osread::Whole;
 use osshape::{AlarmText, CoreText, Declaration, Objects, PointText, TableText, number_id};
 
 /// The most schedule tables of a core.
@@ -78,16 +80,10 @@ fn is_auto_within(objects: &Objects, table: &TableText) -> bool
     }
 }
 
-fn is_point_within(point: &PointText) -> bool
-    ensures { result ≡ is_point_within (point_sizes point.now) }
-{
-    1 <= point.actions.len() && point.actions.len() <= ACTIONS
-}
-
 fn is_each_point_within(points: &[PointText]) -> bool
     ensures { result ≡ list_all (λ (point : Point). is_point_within (point_sizes point)) points.now }
 {
-    points.iter().all(is_point_within)
+    points.iter().all(|point| 1 <= point.actions.len() && point.actions.len() <= ACTIONS)
 }
 
 #[tactic(auto, using(crate::proofs::Numbers::mapped))]
@@ -199,10 +195,12 @@ pub fn are_posted_few(objects: &Objects, core: &CoreText) -> bool
     by_alarms + by_tables <= POSTED
 }
 
-fn are_actions_known(objects: &Objects, actions: &[Text]) -> bool
-    ensures { result ≡ list_all (is_action_known objects.now.declared) actions.now }
+fn is_point_known(objects: &Objects, point: &PointText) -> bool
+    ensures { result ≡ is_point_known objects.now.declared point.now }
 {
-    actions
+    point
+        .actions
+        .as_slice()
         .iter()
         .all(|text| is_action_known(objects, text.as_str()))
 }
@@ -210,7 +208,7 @@ fn are_actions_known(objects: &Objects, actions: &[Text]) -> bool
 fn are_points_known(objects: &Objects, points: &[PointText]) -> bool
     ensures { result ≡ list_all (is_point_known objects.now.declared) points.now }
 {
-    points.iter().all(|point| are_actions_known(objects, point.actions.as_slice()))
+    points.iter().all(|point| is_point_known(objects, point))
 }
 
 /// Whether each mode in which the table is started by itself is the only one.
@@ -238,20 +236,11 @@ pub fn are_tables_known(objects: &Objects, tables: &[TableText]) -> bool
     tables.iter().all(|table| is_table_known(objects, table))
 }
 
-fn is_table_near(objects: &Objects, id: CoreId, table: &TableText) -> bool
-    ensures { result ≡ is_table_near objects.now.declared id table.now }
-{
-    match objects.place(ObjectKind::Counter, table.counter.as_str()) {
-        Some(place) => place.core.number == id.number,
-        None => true,
-    }
-}
-
 /// Whether the tables' counters, those that there are, stand on this core.
 pub fn are_tables_near(objects: &Objects, id: CoreId, tables: &[TableText]) -> bool
     ensures { result ≡ list_all (is_table_near objects.now.declared id) tables.now }
 {
-    tables.iter().all(|table| is_table_near(objects, id, table))
+    tables.iter().all(|table| is_counter_near(objects, id, table.counter.as_str()))
 }
 
 fn is_point_masked(point: &PointText) -> bool
@@ -326,12 +315,6 @@ fn are_delays(counter: &Declaration, points: &[PointText]) -> bool
     true
 }
 
-fn is_initial(counter: &Declaration, offset: u64) -> bool
-    ensures { result ≡ is_initial (declared_sizes counter.now) offset }
-{
-    offset == 0 || is_delay(counter, offset)
-}
-
 fn is_final(counter: &Declaration, table: &TableText) -> bool
     ensures { result ≡ is_final (table_times table.now) (declared_sizes counter.now) }
 {
@@ -344,7 +327,8 @@ fn is_timed_by(counter: &Declaration, table: &TableText) -> bool
     ensures { result ≡ is_timed_by (table_times table.now) (declared_sizes counter.now) }
 {
     let points = table.points.as_slice();
-    is_initial(counter, first_offset(points))
+    let first = first_offset(points);
+    (first == 0 || is_delay(counter, first))
         && are_delays(counter, points)
         && is_final(counter, table)
 }

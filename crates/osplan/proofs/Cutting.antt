@@ -16,12 +16,9 @@ use Rattle.oscript.specs.Calls.{is_action}
 use Rattle.oscript.specs.Rows.{objects_of}
 use Rattle.osplan.specs.declared.plans.Plan.{Plan}
 use Rattle.osplan.specs.declared.plans.Core.{Core}
-use Rattle.osplan.specs.declared.plans.Counter.{Counter}
 use Rattle.osplan.specs.declared.plans.Task.{Task}
 use Rattle.osplan.specs.declared.plans.CoreMode.{CoreMode}
 use Rattle.osplan.specs.declared.plans.CoreMode.TheVariants.{Named, DontCare}
-use Rattle.osplan.specs.declared.plans.Isr.{Isr}
-use Rattle.osplan.specs.declared.plans.Resource.{Resource}
 use Rattle.osplan.specs.declared.plans.Alarm.{Alarm}
 use Rattle.osplan.specs.declared.plans.Table.{Table}
 use Rattle.osbase.specs.declared.messages.RemoteCall.{RemoteCall}
@@ -39,11 +36,6 @@ use Rattle.osplan.proofs.Separating.{SeparateParts, any-acting, separate-parts}
 agree-self : (mode : CoreMode) → agree mode mode ≡ true
 agree-self (Named m) = eq-eqb m.index m.index refl
 agree-self DontCare = refl
-
--- a core is its parts
-pub core-parts : (core : Core) (start : List CoreId) (tasks : List Task) (resources : List Resource) (isrs : List Isr) (counters : List Counter) (alarms : List Alarm) (tables : List Table) → start ≡ core.start → tasks ≡ core.tasks → resources ≡ core.resources → isrs ≡ core.isrs → counters ≡ core.counters → alarms ≡ core.alarms → tables ≡ core.tables
-    → (let copy : Core = record { id = core.id; mode = core.mode; start = start; tasks = tasks; resources = resources; isrs = isrs; counters = counters; alarms = alarms; tables = tables } in copy ≡ core)
-core-parts core start tasks resources isrs counters alarms tables a b c d e f g = rw (a, b, c, d, e, f, g) refl
 
 -- ---- names
 
@@ -207,7 +199,6 @@ module _ (plan : Plan) (id : CoreId) (core : Core) (found : core_of plan id ≡ 
 
 -- What a cut needs of the core's own configuration.
 pub record IsWhole (plan : Plan) (id : CoreId) (core : Core) : Type 0 where
-  pub expressible_core : is_core_expressible core ≡ true
   pub limits : is_within_limits (alone_of plan id core) ≡ true
   pub expressible : is_expressible (alone_of plan id core) ≡ true
   pub separate : is_separate (alone_of plan id core) id ≡ true
@@ -222,7 +213,6 @@ whole-alone plan id core limits expressible found separate =
     let parts = separate-parts plan core separate in
     let same = same_core-true core.id id (find-holds (λ (c : Core). same_core c.id id) plan.cores core found) in
     record {
-      expressible_core = mine;
       limits = plan-alone plan id core found same inside within (pick (is_core_known plan) inside.known) (pick is_core_near inside.near) (pick (is_core_timed plan) inside.timed) parts;
       expressible = expressible-alone plan id core found same said mine (pick (λ (c : Core). are_distinct (object_names c)) (each-distinct plan.cores (distinct-back plan.modes (flat_map object_names plan.cores) said.names)));
       separate = separate-alone plan id core found same parts;

@@ -52,8 +52,8 @@ module _ (test : Object → Bool) where
       ∙ ap (λ (b : Bool). b || list_any acts (flat_map table_actions core.tables)) (any-mapped acts (λ (alarm : Alarm). alarm.action) core.alarms)
       ∙ ap (λ (b : Bool). list_any (λ (alarm : Alarm). acts alarm.action) core.alarms || b) (any-flat acts table_actions core.tables)
 
-  pub any-pointed : (core : Core) → acts_on test core ≡ (list_any (λ (alarm : Alarm). acts alarm.action) core.alarms || list_any (λ (table : Table). list_any (λ (point : ExpiryPoint). list_any acts point.actions) table.points) core.tables)
-  any-pointed core =
+  pub any_pointed : (core : Core) → acts_on test core ≡ (list_any (λ (alarm : Alarm). acts alarm.action) core.alarms || list_any (λ (table : Table). list_any (λ (point : ExpiryPoint). list_any acts point.actions) table.points) core.tables)
+  any_pointed core =
       any-acting core
       ∙ ap (λ (b : Bool). list_any (λ (alarm : Alarm). acts alarm.action) core.alarms || b)
       (any-by (λ (table : Table). list_any acts (table_actions table)) (λ (table : Table). list_any (λ (point : ExpiryPoint). list_any acts point.actions) table.points)

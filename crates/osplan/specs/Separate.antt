@@ -16,6 +16,8 @@ use Rattle.osplan.specs.declared.plans.Task.{Task}
 use Rattle.osplan.specs.declared.plans.CoreMode.{CoreMode}
 use Rattle.osplan.specs.declared.plans.CoreMode.TheVariants.{Named, DontCare}
 use Rattle.osplan.specs.declared.separate.Standing.{Standing}
+use Rattle.osplan.specs.declared.sides.Side.{Side}
+use Rattle.osplan.specs.declared.sides.Side.TheVariants.{On, Off}
 use Rattle.osplan.specs.Objects.{core_actions}
 use Rattle.osplan.specs.View.{core_of}
 
@@ -75,6 +77,11 @@ is_on id object = same_core object.place.core id
 -- It stands on another.
 abbrev pub is_off : CoreId → Object → Bool
 is_off id object = not (is_on id object)
+
+-- It stands on the side that is asked for.
+abbrev pub is_at : Side → Object → Bool
+is_at (On id) object = is_on id object
+is_at (Off id) object = is_off id object
 
 -- The operation names an object that passes the test. The invalid identifier names nothing.
 abbrev pub op_names : (Object → Bool) → Op → Bool

@@ -4,15 +4,19 @@
 //! core, and a text can say it: the layers above test none of these again.
 #![tactic(auto)]
 
+mod cuts;
 pub mod faults;
 mod names;
 pub mod own;
 pub mod plans;
 pub mod separate;
+mod sides;
 
+pub use cuts::cut;
 pub use faults::ConfFault;
 pub use plans::{
     Alarm, AlarmStart, Config, Core, CoreMode, Counter, ExpiryPoint, Isr, KINDS, Plan, Resource,
     Table, TableStart, Task,
 };
-pub use separate::{Standing, cut, is_separate, standing_of, stays_on};
+pub use separate::{Standing, is_separate, standing_of};
+pub use sides::stays_on;

@@ -8,13 +8,13 @@ ghost use Rattle.osplan.specs.Limits.{is_alarm_near, is_core_near, is_table_near
 ghost use Rattle.osplan.specs.Expressible.{is_expressible};
 ghost use Rattle.osplan.specs.declared.plans.Task.{Task as TaskValue};
 
-use crate::separate::{is_on, stays_on};
+use crate::sides::{is_on, stays_on};
 use osbase::{CoreId, CounterRef, List, ModeId, Name, Object, ObjectKind, Reference, RemoteCall};
 use oscript::Script;
 use std::marker::Model;
 
 /// A task (OSEK/VDX OS 2.2.3, section 4).
-#[derive(Debug, Drop)]
+#[derive(Clone, Debug, Drop)]
 pub struct Task {
     pub name: Name,
     /// The static priority, 0 to 31.
@@ -32,7 +32,7 @@ pub struct Task {
 }
 
 /// A resource (OSEK/VDX OS 2.2.3, section 8).
-#[derive(Debug, Drop)]
+#[derive(Clone, Debug, Drop)]
 pub struct Resource {
     pub name: Name,
     /// The ceiling priority, 0 to 31: whoever holds the resource has at least this priority.
@@ -40,7 +40,7 @@ pub struct Resource {
 }
 
 /// A category 2 ISR (AUTOSAR SWS OS 4.x, OsIsr). None can be configured yet.
-#[derive(Debug, Drop)]
+#[derive(Clone, Debug, Drop)]
 pub struct Isr {
     pub name: Name,
     /// The level, 1 to 16: an ISR interrupts those of a lower one.
@@ -51,7 +51,7 @@ pub struct Isr {
 }
 
 /// A counter (AUTOSAR SWS OS 4.x, OsCounter).
-#[derive(Debug, Drop)]
+#[derive(Clone, Debug, Drop)]
 pub struct Counter {
     pub name: Name,
     /// The greatest value, 1 to 1,000,000,000 (OsCounterMaxAllowedValue).
@@ -64,7 +64,7 @@ pub struct Counter {
 
 /// How an alarm is set by itself: in these application modes, first due after so many counts, and again after each
 /// cycle (AUTOSAR SWS OS 4.x, OsAlarmAutostart).
-#[derive(Debug, Drop)]
+#[derive(Clone, Debug, Drop)]
 pub struct AlarmStart {
     pub modes: List<ModeId>,
     /// 1 to the counter's greatest value.
@@ -74,7 +74,7 @@ pub struct AlarmStart {
 }
 
 /// An alarm (OSEK/VDX OS 2.2.3, section 9.2).
-#[derive(Debug, Drop)]
+#[derive(Clone, Debug, Drop)]
 pub struct Alarm {
     pub name: Name,
     /// The counter, one of its own core.
@@ -85,7 +85,7 @@ pub struct Alarm {
 }
 
 /// What a schedule table does so many counts after its period begins (AUTOSAR SWS OS 4.x, OsScheduleTableExpiryPoint).
-#[derive(Debug, Drop)]
+#[derive(Clone, Debug, Drop)]
 pub struct ExpiryPoint {
     /// 0 to the table's duration, greater than that of the point before.
     pub offset: u32,
@@ -95,7 +95,7 @@ pub struct ExpiryPoint {
 
 /// How a schedule table is started by itself: in these application modes, its first period after so many counts
 /// (AUTOSAR SWS OS 4.x, OsScheduleTableAutostart).
-#[derive(Debug, Drop)]
+#[derive(Clone, Debug, Drop)]
 pub struct TableStart {
     pub modes: List<ModeId>,
     /// 1 to the counter's greatest value less the offset of the first point.
@@ -103,7 +103,7 @@ pub struct TableStart {
 }
 
 /// A schedule table (AUTOSAR SWS OS 4.x, OsScheduleTable).
-#[derive(Debug, Drop)]
+#[derive(Clone, Debug, Drop)]
 pub struct Table {
     pub name: Name,
     /// The counter, one of its own core.
@@ -125,7 +125,7 @@ pub enum CoreMode {
 }
 
 /// A core and its objects, each kind in the order of the configuration.
-#[derive(Debug, Drop)]
+#[derive(Clone, Debug, Drop)]
 pub struct Core {
     pub id: CoreId,
     pub mode: CoreMode,
@@ -206,12 +206,6 @@ fn is_script_near(id: CoreId, task: &Task) -> bool
     task.script.as_slice().iter().all(|op| stays_on(id, *op))
 }
 
-fn is_alarm_near(id: CoreId, alarm: &Alarm) -> bool
-    ensures { result ≡ is_alarm_near id alarm.now }
-{
-    is_on(id, alarm.counter.object())
-}
-
 fn are_scripts_near(core: &Core) -> bool
     ensures { result ≡ list_all (λ (task : TaskValue). list_all (stays_on core.now.id) task.script) core.now.tasks }
 {
@@ -227,13 +221,7 @@ fn are_alarms_near(core: &Core) -> bool
     core.alarms
         .as_slice()
         .iter()
-        .all(|alarm| is_alarm_near(core.id, alarm))
-}
-
-fn is_table_near(id: CoreId, table: &Table) -> bool
-    ensures { result ≡ is_table_near id table.now }
-{
-    is_on(id, table.counter.object())
+        .all(|alarm| is_on(core.id, alarm.counter.object()))
 }
 
 fn are_tables_near(core: &Core) -> bool
@@ -242,7 +230,7 @@ fn are_tables_near(core: &Core) -> bool
     core.tables
         .as_slice()
         .iter()
-        .all(|table| is_table_near(core.id, table))
+        .all(|table| is_on(core.id, table.counter.object()))
 }
 
 impl Core {

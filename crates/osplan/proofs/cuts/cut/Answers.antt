@@ -9,16 +9,13 @@ use Rattle.osplan.specs.Limits.{is_within_limits}
 use Rattle.osplan.specs.Expressible.{is_expressible}
 use Rattle.osplan.specs.Separate.{is_separate_core}
 use Rattle.osplan.proofs.Cutting.{IsWhole, whole-alone}
-use Rattle.osplan.proofs.separate.cut.Goals as goal
+use Rattle.osplan.proofs.cuts.cut.Goals as goal
 
 -- the configured core that was found and tested
 whole : (plan config : Plan) (id : CoreId) (o : Option (Bor Core)) (own : Bor Core) (separate : Bool) → plan ≡ config → IsTrue (is_within_limits config) → IsTrue (is_expressible config)
     → option_copied o ≡ core_of plan id → o ≡ Some own → separate ≡ is_separate_core plan own.now → separate ≡ true → IsWhole plan id own.now
 whole plan config id o own separate same limits expressible found is test passes =
     whole-alone plan id own.now (rw same limits) (rw same expressible) (sym found ∙ ap option_copied is) (sym test ∙ passes)
-
-pub alone-requires : goal.alone-requires
-alone-requires c = (whole c.plan-plan.result.now c.args.config.now c.args.core c.core.result c.in-Some.own c.is_separate_core.result c.plan-plan.ensures.value c.plan-plan.ensures.limits c.plan-plan.ensures.expressible c.core.ensures c.in-Some.is c.is_separate_core.ensures c.if-not-is_separate_core.false).expressible_core
 
 pub new-requires-clause-limits : goal.new-requires-clause-limits
 new-requires-clause-limits c = rw c.in_ok-alone.ensures ((whole c.plan-plan.result.now c.args.config.now c.args.core c.core.result c.in-Some.own c.is_separate_core.result c.plan-plan.ensures.value c.plan-plan.ensures.limits c.plan-plan.ensures.expressible c.core.ensures c.in-Some.is c.is_separate_core.ensures c.if-not-is_separate_core.false).limits)

@@ -1,0 +1,143 @@
+//! What scripts, alarms and tables name: objects of one core, or of another.
+
+ghost use Rattle.std.specs.Prelude.{◌≡◌, false};
+ghost use Rattle.std.specs.List.{list_any};
+ghost use Rattle.std.specs.Option.{option_map_or};
+ghost use Rattle.osbase.specs.Objects.{object_of_call};
+ghost use Rattle.osplan.specs.Limits.{stays_on};
+ghost use Rattle.osplan.specs.declared.plans.Alarm.{Alarm as AlarmValue};
+ghost use Rattle.osplan.specs.declared.plans.ExpiryPoint.{ExpiryPoint as PointValue};
+ghost use Rattle.osplan.specs.declared.plans.Isr.{Isr as IsrValue};
+ghost use Rattle.osplan.specs.declared.plans.Table.{Table as TableValue};
+ghost use Rattle.osplan.specs.declared.plans.Task.{Task as TaskValue};
+ghost use Rattle.osplan.specs.Separate.{acts_on, is_at, is_on, names_object, op_names};
+
+use crate::plans::{Core, Table};
+use osbase::{CoreId, Object, Reference, RemoteCall};
+use oscript::Op;
+
+/// Whether the object stands on this core.
+pub fn is_on(id: CoreId, object: Object) -> bool
+    ensures { result ≡ is_on id object }
+{
+    object.place.core.number == id.number
+}
+
+/// The objects that stand on a core, or those that do not.
+#[derive(Clone, Copy)]
+pub enum Side {
+    On(CoreId),
+    Off(CoreId),
+}
+
+impl Side {
+    fn has(self, object: Object) -> bool
+        ensures { result ≡ is_at self object }
+    {
+        match self {
+            Side::On(id) => is_on(id, object),
+            Side::Off(id) => !is_on(id, object),
+        }
+    }
+
+    fn has_present(self, object: Option<Object>) -> bool
+        ensures { result ≡ option_map_or (is_at self) object false }
+    {
+        match object {
+            Some(object) => self.has(object),
+            None => false,
+        }
+    }
+
+    fn has_any(self, objects: &[Option<Object>]) -> bool
+        ensures { result ≡ list_any (λ object. option_map_or (is_at self) object false) objects.now }
+    {
+        objects.iter().any(|object| self.has_present(*object))
+    }
+
+    fn is_named_by_op(self, op: Op) -> bool
+        ensures { result ≡ op_names (is_at self) op }
+    {
+        self.has_any(&op.objects())
+    }
+
+    fn is_named_by_script(self, script: &[Op]) -> bool
+        ensures { result ≡ list_any (op_names (is_at self)) script.now }
+    {
+        script.iter().any(|op| self.is_named_by_op(*op))
+    }
+
+    fn is_named_by_task(self, core: &Core) -> bool
+        ensures { result ≡ list_any (λ (task : TaskValue). list_any (op_names (is_at self)) task.script) core.now.tasks }
+    {
+        core.tasks
+            .as_slice()
+            .iter()
+            .any(|task| self.is_named_by_script(task.script.as_slice()))
+    }
+
+    fn is_named_by_isr(self, core: &Core) -> bool
+        ensures { result ≡ list_any (λ (isr : IsrValue). list_any (op_names (is_at self)) isr.script) core.now.isrs }
+    {
+        core.isrs
+            .as_slice()
+            .iter()
+            .any(|isr| self.is_named_by_script(isr.script.as_slice()))
+    }
+
+    fn is_called_by(self, actions: &[RemoteCall]) -> bool
+        ensures { result ≡ list_any (λ action. is_at self (object_of_call action)) actions.now }
+    {
+        actions.iter().any(|action| self.has(action.object()))
+    }
+
+    fn is_called_by_alarm(self, core: &Core) -> bool
+        ensures { result ≡ list_any (λ (alarm : AlarmValue). is_at self (object_of_call alarm.action)) core.now.alarms }
+    {
+        core.alarms
+            .as_slice()
+            .iter()
+            .any(|alarm| self.has(alarm.action.object()))
+    }
+
+    fn is_called_by_point(self, table: &Table) -> bool
+        ensures { result ≡ list_any (λ (point : PointValue). list_any (λ action. is_at self (object_of_call action)) point.actions) table.now.points }
+    {
+        table
+            .points
+            .as_slice()
+            .iter()
+            .any(|point| self.is_called_by(point.actions.as_slice()))
+    }
+
+    fn is_called_by_table(self, core: &Core) -> bool
+        ensures { result ≡ list_any (λ (table : TableValue). list_any (λ (point : PointValue). list_any (λ action. is_at self (object_of_call action)) point.actions) table.points) core.now.tables }
+    {
+        core.tables
+            .as_slice()
+            .iter()
+            .any(|table| self.is_called_by_point(table))
+    }
+
+    // Whether an alarm or a schedule table acts on such an object.
+    #[tactic(auto, using(crate::proofs::Separating::any_pointed))]
+    fn is_acted_on(self, core: &Core) -> bool
+        ensures { result ≡ acts_on (is_at self) core.now }
+    {
+        self.is_called_by_alarm(core) || self.is_called_by_table(core)
+    }
+
+    /// Whether a script, an alarm or a table of the core names such an object.
+    pub fn is_named_by(self, core: &Core) -> bool
+        ensures { result ≡ names_object (is_at self) core.now }
+    {
+        self.is_named_by_task(core) || self.is_named_by_isr(core) || self.is_acted_on(core)
+    }
+}
+
+/// Whether the operation names no object of another core, where it may name the core's own alone.
+pub fn stays_on(id: CoreId, op: Op) -> bool
+    ensures { result ≡ stays_on id op }
+{
+    !(op.names_own_only() && Side::Off(id).is_named_by_op(op))
+}
