@@ -1,5 +1,5 @@
 -- A service on what a script names, which is found or not.
-use Rattle.std.proofs.Common.{◌≡◌, ℕ, ◌+◌, ◌≤◌, Option, Some, None, option_map, ap, sym, ◌∙◌, arith, Vec, Global}
+use Rattle.std.proofs.Common.{◌≡◌, ℕ, ◌+◌, ◌≤◌, Option, Some, None, option_map, ap, sym, ◌∙◌, Vec, Global}
 use Rattle.osbase.specs.declared.statuses.ServiceId.{ServiceId}
 use Rattle.osbase.specs.declared.statuses.Status.TheVariants.{EOsId}
 use Rattle.osbase.specs.declared.references.Runner.{Runner}
@@ -17,14 +17,14 @@ use Rattle.osact.specs.Service.{Service, answers_with, carries_out, returns_with
 
 module _ {A : Type 0} (make : A → Seen → Service) (named : Core → Option A) (r : Runner) (id : ServiceId) (answer : Answer) where
   -- It has its effect, and returns.
-  pub served : {n m : ℕ} {s s' s'' : KernelState} {x x' x'' : Vec Mark Global} (a : A) → Some a ≡ named s.view.own → Reads (answers_with (make a)) s answer
-      → Effects n m (does (carries_out (make a))) s s' x x' → Effects 3 2 (does (returns r id answer.status answer.value)) s' s'' x' x''
-      → Effects (n + 3) (m + 2) (does (serves_own r id make named)) s s'' x x''
-  served a is reads effect returned =
+  pub served : {n m p q : ℕ} {s s' s'' : KernelState} {x x' x'' : Vec Mark Global} (a : A) → Some a ≡ named s.view.own → Reads (answers_with (make a)) s answer
+      → Effects n m (does (carries_out (make a))) s s' x x' → Effects 3 2 (does (returns r id answer.status answer.value)) s' s'' x' x'' → n + 3 ≤ p → m + 2 ≤ q
+      → Effects p q (does (serves_own r id make named)) s s'' x x''
+  served a is reads effect returned room place =
       as_effect {f = λ v h. does (returns r id answer.status answer.value) v (does (carries_out (make a)) v h)} (λ v h stands.
       ap (λ (o : Option A). does (serves_if r id (option_map (λ y. make y (seen_of v h)) o)) v h) (sym (read (λ (k : KernelState). named k.view.own) is stands))
       ∙ ap (λ (b : Answer). does (returns_with r id b) v (does (carries_out (make a)) v h)) (sym (reads v h stands)))
-      (omega arith) (omega arith) (then effect returned)
+      room place (then effect returned)
 
   -- With E_OS_ID it returns at once.
   pub unserved : {n m : ℕ} {s s' : KernelState} {x x' : Vec Mark Global} → None ≡ named s.view.own → answer ≡ record { status = EOsId; value = None }

@@ -5,3 +5,4 @@ pub mod Callers
 pub mod Named
 pub mod Returning
 pub mod Service
+pub mod Terms

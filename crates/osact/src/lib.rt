@@ -5,6 +5,8 @@
 
 pub mod naming;
 pub mod returning;
+pub mod steps;
 
 pub use naming::own_of;
 pub use returning::{Answer, accept, ask, finish, is_ok, refuse, report, without_value};
+pub use steps::Step;

@@ -1,10 +1,10 @@
 //! How a service returns to its caller.
 
-ghost use Rattle.std.specs.Prelude.{◌≡◌, ◌<◌, None, IsTrue, length};
+ghost use Rattle.std.specs.Prelude.{◌≡◌, ◌<◌, None, length};
 ghost use Rattle.osbase.specs.declared.statuses.Status.TheVariants.{EOk};
 ghost use Rattle.osbase.specs.declared.turns.TheConstants.{CORES};
-ghost use Rattle.osjobs.specs.Priorities.{is_own_runner};
 ghost use Rattle.osstate.specs.Does.{Effects, HasRoom};
+ghost use Rattle.osact.specs.Terms.{MayAct};
 ghost use Rattle.osact.specs.Acts.{does};
 ghost use Rattle.osact.specs.Checks.{is_ok_status};
 ghost use Rattle.osact.specs.Returning.{asks, reports, returns};
@@ -59,8 +59,7 @@ pub fn finish<const P: usize, const J: usize, const OUT: usize>(
     answer: Answer,
     marks: &mut Vec<Mark>,
 )
-    requires own { IsTrue (is_own_runner state.old.view.own runner) }
-    requires room { HasRoom 3 2 state.old marks.old }
+    requires { MayAct 3 2 state.old runner marks.old }
     ensures { Effects 3 2 (does (returns runner service answer.status answer.value)) state.old state.new marks.old marks.new }
 {
     let mark = Mark::ServiceReturned {
@@ -82,8 +81,7 @@ pub fn refuse<const P: usize, const J: usize, const OUT: usize>(
     status: Status,
     marks: &mut Vec<Mark>,
 )
-    requires own { IsTrue (is_own_runner state.old.view.own runner) }
-    requires room { HasRoom 3 2 state.old marks.old }
+    requires { MayAct 3 2 state.old runner marks.old }
     ensures { Effects 3 2 (does (returns runner service status None)) state.old state.new marks.old marks.new }
 {
     finish(state, runner, service, without_value(status), marks);
@@ -96,8 +94,7 @@ pub fn accept<const P: usize, const J: usize, const OUT: usize>(
     service: ServiceId,
     marks: &mut Vec<Mark>,
 )
-    requires own { IsTrue (is_own_runner state.old.view.own runner) }
-    requires room { HasRoom 3 2 state.old marks.old }
+    requires { MayAct 3 2 state.old runner marks.old }
     ensures { Effects 3 2 (does (returns runner service EOk None)) state.old state.new marks.old marks.new }
 {
     finish(state, runner, service, without_value(Status::EOk), marks);
@@ -113,10 +110,9 @@ pub fn ask<const P: usize, const J: usize, const OUT: usize>(
     call: RemoteCall,
     marks: &mut Vec<Mark>,
 )
-    requires own { IsTrue (is_own_runner state.old.view.own runner) }
     requires receiver { core.number < CORES }
     requires outbox { length state.old.border.outbox < OUT }
-    requires room { HasRoom 3 1 state.old marks.old }
+    requires acts { MayAct 3 1 state.old runner marks.old }
     ensures { Effects 3 1 (does (asks runner service core call)) state.old state.new marks.old marks.new }
 {
     state.print(Mark::CallQueued { core, call }, marks);

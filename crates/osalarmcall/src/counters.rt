@@ -1,15 +1,15 @@
 //! The services of counters.
 
-ghost use Rattle.std.specs.Prelude.{◌≡◌, IsTrue, true, false, is_some, unwrap_or};
+ghost use Rattle.std.specs.Prelude.{IsTrue};
 ghost use Rattle.osbase.specs.Objects.{counter_object};
 ghost use Rattle.osplan.specs.Objects.{is_own_object};
-ghost use Rattle.osjobs.specs.Priorities.{is_own_runner};
-ghost use Rattle.osstate.specs.Does.{Effects, HasRoom, Reads, service_entries, service_marks};
-ghost use Rattle.osact.specs.Acts.{does, nothing};
+ghost use Rattle.osstate.specs.Does.{Effects, Reads, service_entries, service_marks};
+ghost use Rattle.osact.specs.Terms.{MayAct, Offered};
+ghost use Rattle.osact.specs.Acts.{does};
 ghost use Rattle.osact.specs.Service.{answers_with};
 ghost use Rattle.osalarmcall.specs.Counters.{counter_acts, gets_value, value_inquiry};
 
-use osact::{Answer, finish, own_of, without_value};
+use osact::{Answer, Step, finish, own_of, without_value};
 use osbase::{CounterRef, Mark, Runner, ServiceId, Status};
 use oscript::Op;
 use osstate::CoreState;
@@ -37,9 +37,8 @@ fn get_counter_value<const P: usize, const J: usize, const OUT: usize>(
     target: Option<CounterRef>,
     marks: &mut Vec<Mark>,
 )
-    requires own { IsTrue (is_own_runner state.old.view.own runner) }
-    requires room { HasRoom 3 2 state.old marks.old }
-    ensures { Effects 3 2 (does (gets_value runner target)) state.old state.new marks.old marks.new }
+    requires { MayAct service_entries service_marks state.old runner marks.old }
+    ensures { Effects service_entries service_marks (does (gets_value runner target)) state.old state.new marks.old marks.new }
 {
     let answer = match own_of(state, target) {
         Some(counter) => read_value(state, counter),
@@ -52,17 +51,14 @@ fn get_counter_value<const P: usize, const J: usize, const OUT: usize>(
 /// is yes. Else nothing changes.
 pub fn operate<const P: usize, const J: usize, const OUT: usize>(
     state: &mut CoreState<'_, P, J, OUT>,
-    runner: Runner,
-    op: Op,
+    step: Step,
     marks: &mut Vec<Mark>,
 ) -> bool
-    requires own { IsTrue (is_own_runner state.old.view.own runner) }
-    requires room { HasRoom service_entries service_marks state.old marks.old }
-    ensures known { result ≡ is_some (counter_acts runner op) }
-    ensures effects { result ≡ true → Effects service_entries service_marks (does (unwrap_or (counter_acts runner op) nothing)) state.old state.new marks.old marks.new }
-    ensures others { result ≡ false → (state.new ≡ state.old) × (marks.new ≡ marks.old) }
+    requires { MayAct service_entries service_marks state.old step.runner marks.old }
+    ensures { Offered (counter_acts step.runner step.op) result state.old state.new marks.old marks.new }
 {
-    match op {
+    let runner = step.runner;
+    match step.op {
         Op::GetCounterValue(target, _) => {
             get_counter_value(state, runner, target, marks);
             true

@@ -1,10 +1,9 @@
 //! Services on objects that may stand on another core, and what a core does for another one.
 
-ghost use Rattle.std.specs.Prelude.{◌≡◌, ◌<◌, Some, IfSome, IsTrue, false, length};
+ghost use Rattle.std.specs.Prelude.{◌≡◌, ◌<◌, IfSome, IsTrue, false};
 ghost use Rattle.osbase.specs.declared.turns.TheConstants.{CORES};
-ghost use Rattle.osbase.specs.Phases.{is_before_live};
-ghost use Rattle.osjobs.specs.Priorities.{is_own_runner};
-ghost use Rattle.osstate.specs.Does.{Effects, HasRoom, Reads, service_entries, service_marks};
+ghost use Rattle.osstate.specs.Does.{Effects, Reads, service_entries, service_marks};
+ghost use Rattle.osact.specs.Terms.{MayBegin, MayPost, MayServe};
 ghost use Rattle.osact.specs.Acts.{both, does, prints};
 ghost use Rattle.osact.specs.Checks.{is_ok_status};
 ghost use Rattle.osact.specs.Service.{answers_with, carries_out};
@@ -25,8 +24,7 @@ pub fn serve<const P: usize, const J: usize, const OUT: usize>(
     marks: &mut Vec<Mark>,
 ) -> Answer
     requires served { IsTrue (is_served state.old.view call) }
-    requires live { is_before_live state.old.progress.phase ≡ false }
-    requires room { HasRoom 2 2 state.old marks.old }
+    requires begins { MayBegin 2 2 state.old marks.old }
     ensures answer { Reads (answers_with (service_of call)) state.old result }
     ensures effects { Effects 2 2 (does (carries_out (service_of call))) state.old state.new marks.old marks.new }
     ensures refused { is_ok_status result.status ≡ false → Effects 0 0 (does (carries_out (service_of call))) state.old state.new marks.old marks.new }
@@ -60,11 +58,8 @@ pub fn call<const P: usize, const J: usize, const OUT: usize>(
     target: Option<RemoteCall>,
     marks: &mut Vec<Mark>,
 )
-    requires own { IsTrue (is_own_runner state.old.view.own runner) }
     requires known { IfSome target (λ call. IsTrue (is_known_call state.old.view.own call)) }
-    requires live { is_before_live state.old.progress.phase ≡ false }
-    requires outbox { length state.old.border.outbox < OUT }
-    requires room { HasRoom service_entries service_marks state.old marks.old }
+    requires serves { MayServe 1 OUT state.old runner marks.old }
     ensures { Effects service_entries service_marks (does (calls runner service target)) state.old state.new marks.old marks.new }
 {
     let Some(call) = target else {
@@ -72,7 +67,7 @@ pub fn call<const P: usize, const J: usize, const OUT: usize>(
     };
     let core = call.object().place.core;
     if state.knows_started(core) {
-        cross(state, runner, service, core, call, marks);
+        cross(state, runner, service, call, marks);
     } else {
         refuse(state, runner, service, Status::EOsCore, marks);
     }
@@ -83,19 +78,15 @@ fn cross<const P: usize, const J: usize, const OUT: usize>(
     state: &mut CoreState<'_, P, J, OUT>,
     runner: Runner,
     service: ServiceId,
-    core: CoreId,
     call: RemoteCall,
     marks: &mut Vec<Mark>,
 )
-    requires own { IsTrue (is_own_runner state.old.view.own runner) }
-    requires core { core ≡ core_of_call call }
     requires known { IsTrue (is_known_call state.old.view.own call) }
-    requires live { is_before_live state.old.progress.phase ≡ false }
-    requires receiver { core.number < CORES }
-    requires outbox { length state.old.border.outbox < OUT }
-    requires room { HasRoom service_entries service_marks state.old marks.old }
+    requires receiver { (core_of_call call).number < CORES }
+    requires serves { MayServe 1 OUT state.old runner marks.old }
     ensures { Effects service_entries service_marks (does (crosses runner service call)) state.old state.new marks.old marks.new }
 {
+    let core = call.object().place.core;
     if !state.is_own(core) {
         return ask(state, runner, service, core, call, marks);
     }
@@ -111,8 +102,7 @@ fn serve_for<const P: usize, const J: usize, const OUT: usize>(
     marks: &mut Vec<Mark>,
 ) -> Answer
     requires served { IsTrue (is_served state.old.view call) }
-    requires live { is_before_live state.old.progress.phase ≡ false }
-    requires room { HasRoom 3 3 state.old marks.old }
+    requires begins { MayBegin 3 3 state.old marks.old }
     ensures answer { Reads (answers_with (service_of call)) state.old result }
     ensures effects { Effects 3 3 (does (both (carries_out (service_of call)) (prints (MarkValue.CallServed from call result.status result.value)))) state.old state.new marks.old marks.new }
     ensures border { state.new.border ≡ state.old.border }
@@ -136,10 +126,8 @@ pub fn serve_request<const P: usize, const J: usize, const OUT: usize>(
     marks: &mut Vec<Mark>,
 )
     requires served { IsTrue (is_served state.old.view call) }
-    requires live { is_before_live state.old.progress.phase ≡ false }
     requires sender { from.number < CORES }
-    requires outbox { length state.old.border.outbox < OUT }
-    requires room { HasRoom service_entries service_marks state.old marks.old }
+    requires posts { MayPost 1 OUT service_entries service_marks state.old marks.old }
     ensures { Effects service_entries service_marks (does (serves_request from call)) state.old state.new marks.old marks.new }
 {
     let answer = serve_for(state, from, call, marks);
@@ -160,8 +148,7 @@ pub fn serve_action<const P: usize, const J: usize, const OUT: usize>(
     marks: &mut Vec<Mark>,
 )
     requires served { IsTrue (is_served state.old.view call) }
-    requires live { is_before_live state.old.progress.phase ≡ false }
-    requires room { HasRoom service_entries service_marks state.old marks.old }
+    requires begins { MayBegin service_entries service_marks state.old marks.old }
     ensures { Effects service_entries service_marks (does (serves_action from call)) state.old state.new marks.old marks.new }
 {
     let answer = serve_for(state, from, call, marks);

@@ -1,20 +1,20 @@
 //! ChainTask.
 
-ghost use Rattle.std.specs.Prelude.{◌≡◌, ◌<◌, ◌&&◌, IfSome, IsTrue, true, false, is_some, length, not, unwrap_or};
+ghost use Rattle.std.specs.Prelude.{◌≡◌, ◌<◌, ◌&&◌, IsTrue, false, not};
 ghost use Rattle.osbase.specs.declared.turns.TheConstants.{CORES};
 ghost use Rattle.osbase.specs.History.{same_runner};
 ghost use Rattle.osbase.specs.Objects.{task_object};
 ghost use Rattle.osbase.specs.Phases.{is_before_live};
 ghost use Rattle.osplan.specs.Objects.{may_name};
 ghost use Rattle.osjobs.specs.Priorities.{is_own_runner};
-ghost use Rattle.osstate.specs.Does.{Effects, HasRoom, Reads, service_entries, service_marks};
+ghost use Rattle.osstate.specs.Does.{Effects, Reads, service_entries, service_marks};
 ghost use Rattle.osstate.specs.Queries.{is_at_limit_in};
-ghost use Rattle.osstate.specs.Sound.{has_objects_of};
-ghost use Rattle.osact.specs.Acts.{does, nothing};
+ghost use Rattle.osact.specs.Terms.{MayAct, MayOperate, MayServe, Offered};
+ghost use Rattle.osact.specs.Acts.{does};
 ghost use Rattle.osact.specs.Seen.{seen_of};
 ghost use Rattle.oscall.specs.Chaining.{chain_acts, chains, chains_across, chains_here, chains_if, chains_to, ends_caller, exceeds_limit, resumes};
 
-use osact::{Answer, ask, finish, is_ok, refuse};
+use osact::{Answer, Step, ask, finish, is_ok, refuse};
 use osbase::{Mark, RemoteCall, Runner, ServiceId, Status, TaskRef};
 use oscript::Op;
 use osstate::CoreState;
@@ -31,12 +31,8 @@ fn chain<const P: usize, const J: usize, const OUT: usize>(
     target: Option<TaskRef>,
     marks: &mut Vec<Mark>,
 )
-    requires own { IsTrue (is_own_runner state.old.view.own runner) }
-    requires known { IfSome target (λ task. IsTrue (may_name state.old.view.own (task_object task))) }
-    requires live { is_before_live state.old.progress.phase ≡ false }
-    requires outbox { length state.old.border.outbox < OUT }
-    requires room { HasRoom 3 3 state.old marks.old }
-    ensures { Effects 3 3 (does (chains runner target)) state.old state.new marks.old marks.new }
+    requires { MayOperate 1 OUT state.old runner (Op.ChainTask target) marks.old }
+    ensures { Effects service_entries service_marks (does (chains runner target)) state.old state.new marks.old marks.new }
 {
     match runner {
         Runner::Task(caller) => chain_if(state, caller, target, marks),
@@ -54,20 +50,14 @@ fn chain<const P: usize, const J: usize, const OUT: usize>(
 /// is yes. Else nothing changes.
 pub fn operate<const P: usize, const J: usize, const OUT: usize>(
     state: &mut CoreState<'_, P, J, OUT>,
-    runner: Runner,
-    op: Op,
+    step: Step,
     marks: &mut Vec<Mark>,
 ) -> bool
-    requires own { IsTrue (is_own_runner state.old.view.own runner) }
-    requires known { IsTrue (has_objects_of state.old.view.own op) }
-    requires live { is_before_live state.old.progress.phase ≡ false }
-    requires outbox { length state.old.border.outbox < OUT }
-    requires room { HasRoom service_entries service_marks state.old marks.old }
-    ensures known { result ≡ is_some (chain_acts runner op) }
-    ensures effects { result ≡ true → Effects service_entries service_marks (does (unwrap_or (chain_acts runner op) nothing)) state.old state.new marks.old marks.new }
-    ensures others { result ≡ false → (state.new ≡ state.old) × (marks.new ≡ marks.old) }
+    requires { MayOperate 1 OUT state.old step.runner step.op marks.old }
+    ensures { Offered (chain_acts step.runner step.op) result state.old state.new marks.old marks.new }
 {
-    match op {
+    let runner = step.runner;
+    match step.op {
         Op::ChainTask(target) => {
             chain(state, runner, target, marks);
             true
@@ -83,22 +73,13 @@ fn chain_if<const P: usize, const J: usize, const OUT: usize>(
     target: Option<TaskRef>,
     marks: &mut Vec<Mark>,
 )
-    requires own { IsTrue (is_own_runner state.old.view.own (Runner.Task caller)) }
-    requires known { IfSome target (λ task. IsTrue (may_name state.old.view.own (task_object task))) }
-    requires live { is_before_live state.old.progress.phase ≡ false }
-    requires outbox { length state.old.border.outbox < OUT }
-    requires room { HasRoom 3 3 state.old marks.old }
-    ensures { Effects 3 3 (does (chains_if (Runner.Task caller) target)) state.old state.new marks.old marks.new }
+    requires { MayOperate 1 OUT state.old (Runner.Task caller) (Op.ChainTask target) marks.old }
+    ensures { Effects service_entries service_marks (does (chains_if (Runner.Task caller) target)) state.old state.new marks.old marks.new }
 {
+    let runner = Runner::Task(caller);
     match target {
         Some(task) => chain_across(state, caller, task, marks),
-        None => refuse(
-            state,
-            Runner::Task(caller),
-            ServiceId::ChainTask,
-            Status::EOsId,
-            marks,
-        ),
+        None => refuse(state, runner, ServiceId::ChainTask, Status::EOsId, marks),
     }
 }
 
@@ -109,12 +90,9 @@ fn chain_across<const P: usize, const J: usize, const OUT: usize>(
     task: TaskRef,
     marks: &mut Vec<Mark>,
 )
-    requires own { IsTrue (is_own_runner state.old.view.own (Runner.Task caller)) }
     requires known { IsTrue (may_name state.old.view.own (task_object task)) }
-    requires live { is_before_live state.old.progress.phase ≡ false }
-    requires outbox { length state.old.border.outbox < OUT }
-    requires room { HasRoom 3 3 state.old marks.old }
-    ensures { Effects 3 3 (does (chains_across (Runner.Task caller) task)) state.old state.new marks.old marks.new }
+    requires serves { MayServe 1 OUT state.old (Runner.Task caller) marks.old }
+    ensures { Effects service_entries service_marks (does (chains_across (Runner.Task caller) task)) state.old state.new marks.old marks.new }
 {
     let runner = Runner::Task(caller);
     if !state.knows_started(task.core) {
@@ -135,13 +113,10 @@ fn chain_to<const P: usize, const J: usize, const OUT: usize>(
     task: TaskRef,
     marks: &mut Vec<Mark>,
 )
-    requires own { IsTrue (is_own_runner state.old.view.own (Runner.Task caller)) }
     requires known { IsTrue (may_name state.old.view.own (task_object task)) }
-    requires live { is_before_live state.old.progress.phase ≡ false }
     requires receiver { task.core.number < CORES }
-    requires outbox { length state.old.border.outbox < OUT }
-    requires room { HasRoom 3 3 state.old marks.old }
-    ensures { Effects 3 3 (does (chains_to (Runner.Task caller) task)) state.old state.new marks.old marks.new }
+    requires serves { MayServe 1 OUT state.old (Runner.Task caller) marks.old }
+    ensures { Effects service_entries service_marks (does (chains_to (Runner.Task caller) task)) state.old state.new marks.old marks.new }
 {
     if state.is_own(task.core) {
         return chain_here(state, caller, task, marks);
@@ -158,11 +133,10 @@ fn chain_here<const P: usize, const J: usize, const OUT: usize>(
     task: TaskRef,
     marks: &mut Vec<Mark>,
 )
-    requires own { IsTrue (is_own_runner state.old.view.own (Runner.Task caller)) }
     requires target { IsTrue (is_own_runner state.old.view.own (Runner.Task task)) }
     requires live { is_before_live state.old.progress.phase ≡ false }
-    requires room { HasRoom 3 3 state.old marks.old }
-    ensures { Effects 3 3 (does (chains_here (Runner.Task caller) task)) state.old state.new marks.old marks.new }
+    requires acts { MayAct service_entries service_marks state.old (Runner.Task caller) marks.old }
+    ensures { Effects service_entries service_marks (does (chains_here (Runner.Task caller) task)) state.old state.new marks.old marks.new }
 {
     if exceeds_limit(state, caller, task) {
         let runner = Runner::Task(caller);
@@ -201,8 +175,7 @@ pub fn resume<const P: usize, const J: usize, const OUT: usize>(
     answer: Answer,
     marks: &mut Vec<Mark>,
 )
-    requires own { IsTrue (is_own_runner state.old.view.own runner) }
-    requires room { HasRoom 3 2 state.old marks.old }
+    requires { MayAct 3 2 state.old runner marks.old }
     ensures { Effects 3 2 (does (resumes runner service answer.status answer.value)) state.old state.new marks.old marks.new }
 {
     if ends_caller(service, answer.status) {

@@ -1,11 +1,12 @@
 //! The operations of a script that are no services: those that work on its variables, jumps, and work.
 
-ghost use Rattle.std.specs.Prelude.{◌≡◌, IsTrue, true, false, is_some, unwrap_or};
-ghost use Rattle.osjobs.specs.Priorities.{is_own_runner};
-ghost use Rattle.osstate.specs.Does.{Effects, HasRoom, service_entries, service_marks};
-ghost use Rattle.osact.specs.Acts.{does, nothing};
+ghost use Rattle.std.specs.Prelude.{◌≡◌};
+ghost use Rattle.osstate.specs.Does.{Effects, service_entries, service_marks};
+ghost use Rattle.osact.specs.Terms.{MayAct, Offered};
+ghost use Rattle.osact.specs.Acts.{does};
 ghost use Rattle.oscall.specs.Variables.{adds, adds_variable, script_acts, sets, stores_status, sum_of};
 
+use osact::Step;
 use osbase::{Mark, Runner, Status, Variable};
 use oscript::Op;
 use osstate::CoreState;
@@ -18,9 +19,8 @@ fn set<const P: usize, const J: usize, const OUT: usize>(
     value: i64,
     marks: &mut Vec<Mark>,
 )
-    requires own { IsTrue (is_own_runner state.old.view.own runner) }
-    requires room { HasRoom 2 1 state.old marks.old }
-    ensures { Effects 2 1 (does (sets runner variable value)) state.old state.new marks.old marks.new }
+    requires { MayAct service_entries service_marks state.old runner marks.old }
+    ensures { Effects service_entries service_marks (does (sets runner variable value)) state.old state.new marks.old marks.new }
 {
     let mark = Mark::VariableSet {
         runner,
@@ -46,9 +46,8 @@ fn add<const P: usize, const J: usize, const OUT: usize>(
     number: i64,
     marks: &mut Vec<Mark>,
 )
-    requires own { IsTrue (is_own_runner state.old.view.own runner) }
-    requires room { HasRoom 2 1 state.old marks.old }
-    ensures { Effects 2 1 (does (adds runner variable number)) state.old state.new marks.old marks.new }
+    requires { MayAct service_entries service_marks state.old runner marks.old }
+    ensures { Effects service_entries service_marks (does (adds runner variable number)) state.old state.new marks.old marks.new }
 {
     let frame = state.frame(runner);
     let value = sum(frame.value(variable), number);
@@ -63,9 +62,8 @@ fn add_variable<const P: usize, const J: usize, const OUT: usize>(
     other: Variable,
     marks: &mut Vec<Mark>,
 )
-    requires own { IsTrue (is_own_runner state.old.view.own runner) }
-    requires room { HasRoom 2 1 state.old marks.old }
-    ensures { Effects 2 1 (does (adds_variable runner variable other)) state.old state.new marks.old marks.new }
+    requires { MayAct service_entries service_marks state.old runner marks.old }
+    ensures { Effects service_entries service_marks (does (adds_variable runner variable other)) state.old state.new marks.old marks.new }
 {
     let frame = state.frame(runner);
     let value = sum(frame.value(variable), frame.value(other));
@@ -79,9 +77,8 @@ fn store_status<const P: usize, const J: usize, const OUT: usize>(
     variable: Variable,
     marks: &mut Vec<Mark>,
 )
-    requires own { IsTrue (is_own_runner state.old.view.own runner) }
-    requires room { HasRoom 2 1 state.old marks.old }
-    ensures { Effects 2 1 (does (stores_status runner variable)) state.old state.new marks.old marks.new }
+    requires { MayAct service_entries service_marks state.old runner marks.old }
+    ensures { Effects service_entries service_marks (does (stores_status runner variable)) state.old state.new marks.old marks.new }
 {
     let frame = state.frame(runner);
     let number = i64::from(frame.status.number());
@@ -92,17 +89,14 @@ fn store_status<const P: usize, const J: usize, const OUT: usize>(
 /// is yes. Else nothing changes.
 pub fn operate<const P: usize, const J: usize, const OUT: usize>(
     state: &mut CoreState<'_, P, J, OUT>,
-    runner: Runner,
-    op: Op,
+    step: Step,
     marks: &mut Vec<Mark>,
 ) -> bool
-    requires own { IsTrue (is_own_runner state.old.view.own runner) }
-    requires room { HasRoom service_entries service_marks state.old marks.old }
-    ensures known { result ≡ is_some (script_acts runner op) }
-    ensures effects { result ≡ true → Effects service_entries service_marks (does (unwrap_or (script_acts runner op) nothing)) state.old state.new marks.old marks.new }
-    ensures others { result ≡ false → (state.new ≡ state.old) × (marks.new ≡ marks.old) }
+    requires { MayAct service_entries service_marks state.old step.runner marks.old }
+    ensures { Offered (script_acts step.runner step.op) result state.old state.new marks.old marks.new }
 {
-    match op {
+    let runner = step.runner;
+    match step.op {
         Op::Work => {
             state.complete(runner, Status::EOk, None);
             true

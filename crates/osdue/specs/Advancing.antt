@@ -1,5 +1,5 @@
 -- What a count of a counter leads to, and how many envelopes join the outbox by it at most.
-use Rattle.std.specs.Prelude.{ℕ, ◌+◌, if◌then◌else◌, Bool, false, sum_by}
+use Rattle.std.specs.Prelude.{ℕ, ◌+◌, ◌*◌, if◌then◌else◌, Bool, false, length, suc, sum_by}
 use Rattle.std.specs.Option.{option_map_or}
 use Rattle.osbase.specs.declared.references.AlarmRef.{AlarmRef}
 use Rattle.osbase.specs.declared.references.CounterRef.{CounterRef}
@@ -36,3 +36,10 @@ posted_at_point core s = option_map_or (greatest_posted core) (own_table core s)
 -- At one count.
 abbrev pub posted_by : Core → CounterRef → ℕ
 posted_by core c = sum_by (posted_for core) (attached_to core c) + sum_by (posted_at_point core) (timed_by core c)
+
+-- How many entries and marks a count of this counter adds at most: its own note, and what each alarm and each table of it adds. [own]
+abbrev pub count_entries : Core → CounterRef → ℕ
+count_entries core c = suc (3 * length (attached_to core c) + 38 * length (timed_by core c))
+
+abbrev pub count_marks : Core → CounterRef → ℕ
+count_marks core c = 3 * length (attached_to core c) + 36 * length (timed_by core c)

@@ -1,17 +1,15 @@
 //! What is due when a counter goes on.
 
-ghost use Rattle.std.specs.Prelude.{◌≡◌, ◌≤◌, ◌+◌, ◌*◌, IsTrue, false, length, suc, sum_by};
+ghost use Rattle.std.specs.Prelude.{◌≤◌, ◌+◌, ◌*◌, IsTrue, length, sum_by};
 ghost use Rattle.std.specs.List.{list_all};
 ghost use Rattle.osbase.specs.declared.references.AlarmRef.{AlarmRef as AlarmRefValue};
 ghost use Rattle.osbase.specs.Objects.{alarm_object, counter_object};
-ghost use Rattle.osbase.specs.Phases.{is_before_live};
 ghost use Rattle.osplan.specs.Objects.{is_own_object};
-ghost use Rattle.osclock.specs.Clocks.{attached_to};
-ghost use Rattle.ostable.specs.Tables.{timed_by};
 ghost use Rattle.ostable.specs.Waiting.{are_own};
-ghost use Rattle.osstate.specs.Does.{Effects, HasRoom};
+ghost use Rattle.osstate.specs.Does.{Effects};
+ghost use Rattle.osact.specs.Terms.{MayPost};
 ghost use Rattle.osact.specs.Acts.{does};
-ghost use Rattle.osdue.specs.Advancing.{counts, posted_by, posted_for};
+ghost use Rattle.osdue.specs.Advancing.{count_entries, count_marks, counts, posted_by, posted_for};
 ghost use Rattle.osdue.specs.Expiring.{expire_each};
 ghost use Rattle.osdue.specs.Passing.{pass_each, posted_by_table};
 
@@ -30,10 +28,8 @@ pub fn advance<const P: usize, const J: usize, const OUT: usize>(
     marks: &mut Vec<Mark>,
 )
     requires own { IsTrue (is_own_object state.old.view.own (counter_object counter)) }
-    requires live { is_before_live state.old.progress.phase ≡ false }
-    requires outbox { length state.old.border.outbox + posted_by state.old.view.own counter ≤ OUT }
-    requires room { HasRoom (suc (3 * length (attached_to state.old.view.own counter) + 38 * length (timed_by state.old.view.own counter))) (3 * length (attached_to state.old.view.own counter) + 36 * length (timed_by state.old.view.own counter)) state.old marks.old }
-    ensures effects { Effects (suc (3 * length (attached_to state.old.view.own counter) + 38 * length (timed_by state.old.view.own counter))) (3 * length (attached_to state.old.view.own counter) + 36 * length (timed_by state.old.view.own counter)) (does (counts counter)) state.old state.new marks.old marks.new }
+    requires posts { MayPost (posted_by state.old.view.own counter) OUT (count_entries state.old.view.own counter) (count_marks state.old.view.own counter) state.old marks.old }
+    ensures effects { Effects (count_entries state.old.view.own counter) (count_marks state.old.view.own counter) (does (counts counter)) state.old state.new marks.old marks.new }
     ensures outbox { length state.new.border.outbox ≤ length state.old.border.outbox + posted_by state.old.view.own counter }
 {
     let alarms = state.due_next(counter);
@@ -51,9 +47,7 @@ fn expire_each<const P: usize, const J: usize, const OUT: usize>(
     marks: &mut Vec<Mark>,
 )
     requires own { IsTrue (list_all (λ (a : AlarmRefValue). is_own_object state.old.view.own (alarm_object a)) due.now) }
-    requires live { is_before_live state.old.progress.phase ≡ false }
-    requires outbox { length state.old.border.outbox + sum_by (posted_for state.old.view.own) due.now ≤ OUT }
-    requires room { HasRoom (3 * length due.now) (3 * length due.now) state.old marks.old }
+    requires posts { MayPost (sum_by (posted_for state.old.view.own) due.now) OUT (3 * length due.now) (3 * length due.now) state.old marks.old }
     ensures effects { Effects (3 * length due.now) (3 * length due.now) (does (expire_each due.now)) state.old state.new marks.old marks.new }
     ensures outbox { length state.new.border.outbox ≤ length state.old.border.outbox + sum_by (posted_for state.old.view.own) due.now }
 {
@@ -68,9 +62,7 @@ fn pass_each<const P: usize, const J: usize, const OUT: usize>(
     marks: &mut Vec<Mark>,
 )
     requires own { IsTrue (list_all (are_own state.old.view.own) due.now) }
-    requires live { is_before_live state.old.progress.phase ≡ false }
-    requires outbox { length state.old.border.outbox + sum_by (posted_by_table state.old.view.own) due.now ≤ OUT }
-    requires room { HasRoom (38 * length due.now) (36 * length due.now) state.old marks.old }
+    requires posts { MayPost (sum_by (posted_by_table state.old.view.own) due.now) OUT (38 * length due.now) (36 * length due.now) state.old marks.old }
     ensures effects { Effects (38 * length due.now) (36 * length due.now) (does (pass_each due.now)) state.old state.new marks.old marks.new }
     ensures outbox { length state.new.border.outbox ≤ length state.old.border.outbox + sum_by (posted_by_table state.old.view.own) due.now }
 {

@@ -1,12 +1,12 @@
 //! What an alarm does when it is due.
 
-ghost use Rattle.std.specs.Prelude.{◌≡◌, ◌<◌, ◌≤◌, ◌+◌, ◌*◌, IsTrue, false, true, length, suc};
+ghost use Rattle.std.specs.Prelude.{◌≡◌, ◌<◌, ◌≤◌, ◌+◌, IsTrue, false, true, length, suc};
 ghost use Rattle.osbase.specs.declared.turns.TheConstants.{CORES};
 ghost use Rattle.osbase.specs.History.{same_core};
 ghost use Rattle.osbase.specs.Objects.{alarm_object};
-ghost use Rattle.osbase.specs.Phases.{is_before_live};
 ghost use Rattle.osplan.specs.Objects.{is_own_object};
 ghost use Rattle.osstate.specs.Does.{Effects, HasRoom};
+ghost use Rattle.osact.specs.Terms.{MayBegin, MayPost};
 ghost use Rattle.osact.specs.Acts.{does};
 ghost use Rattle.oscall.specs.Border.{core_of_call, is_known_call, is_served};
 ghost use Rattle.osdue.specs.Advancing.{posted_for};
@@ -24,9 +24,7 @@ pub(crate) fn expire<const P: usize, const J: usize, const OUT: usize>(
     marks: &mut Vec<Mark>,
 )
     requires own { IsTrue (is_own_object state.old.view.own (alarm_object alarm)) }
-    requires live { is_before_live state.old.progress.phase ≡ false }
-    requires outbox { length state.old.border.outbox + posted_for state.old.view.own alarm ≤ OUT }
-    requires room { HasRoom 3 3 state.old marks.old }
+    requires posts { MayPost (posted_for state.old.view.own alarm) OUT 3 3 state.old marks.old }
     ensures effects { Effects 3 3 (does (expires alarm)) state.old state.new marks.old marks.new }
     ensures outbox { length state.new.border.outbox ≤ length state.old.border.outbox + posted_for state.old.view.own alarm }
 {
@@ -42,9 +40,8 @@ pub(crate) fn act<const P: usize, const J: usize, const OUT: usize>(
     marks: &mut Vec<Mark>,
 )
     requires known { IsTrue (is_known_call state.old.view.own call) }
-    requires live { is_before_live state.old.progress.phase ≡ false }
     requires outbox { same_core (core_of_call call) state.old.view.own.id ≡ false → length state.old.border.outbox < OUT }
-    requires room { HasRoom 2 2 state.old marks.old }
+    requires begins { MayBegin 2 2 state.old marks.old }
     ensures effects { Effects 2 2 (does (acts call)) state.old state.new marks.old marks.new }
     ensures here { same_core (core_of_call call) state.old.view.own.id ≡ true → state.new.border ≡ state.old.border }
     ensures outbox { length state.new.border.outbox ≤ suc (length state.old.border.outbox) }
@@ -66,8 +63,7 @@ fn act_here<const P: usize, const J: usize, const OUT: usize>(
     marks: &mut Vec<Mark>,
 )
     requires served { IsTrue (is_served state.old.view call) }
-    requires live { is_before_live state.old.progress.phase ≡ false }
-    requires room { HasRoom 2 2 state.old marks.old }
+    requires begins { MayBegin 2 2 state.old marks.old }
     ensures effects { Effects 2 2 (does (acts_here call)) state.old state.new marks.old marks.new }
     ensures border { state.new.border ≡ state.old.border }
 {

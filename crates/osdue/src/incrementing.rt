@@ -1,18 +1,15 @@
 //! The service that advances a counter.
 
-ghost use Rattle.std.specs.Prelude.{◌≡◌, ◌+◌, ◌≤◌, [], Some, IfSome, IsTrue, true, false, is_some, unwrap_or};
-ghost use Rattle.osbase.specs.Objects.{counter_object};
-ghost use Rattle.osbase.specs.Phases.{is_before_live};
+ghost use Rattle.std.specs.Prelude.{◌≡◌, Some, IsTrue};
 ghost use Rattle.osplan.specs.Clocked.{are_clocks_within};
-ghost use Rattle.osplan.specs.Objects.{may_name, posted_at_once};
-ghost use Rattle.osjobs.specs.Priorities.{is_own_runner};
-ghost use Rattle.osstate.specs.Does.{Effects, HasRoom, service_entries, service_marks};
-ghost use Rattle.osstate.specs.Sound.{has_objects_of};
-ghost use Rattle.osact.specs.Acts.{does, nothing};
+ghost use Rattle.osplan.specs.Objects.{posted_at_once};
+ghost use Rattle.osstate.specs.Does.{Effects, service_entries, service_marks};
+ghost use Rattle.osact.specs.Terms.{MayOperate, Offered};
+ghost use Rattle.osact.specs.Acts.{does};
 ghost use Rattle.osdue.specs.Incrementing.{increment_acts, increments, is_hardware};
 
 use crate::advancing::advance;
-use osact::{accept, refuse};
+use osact::{Step, accept, refuse};
 use osbase::{CounterRef, Mark, Runner, ServiceId, Status};
 use oscript::Op;
 use osstate::CoreState;
@@ -40,23 +37,13 @@ fn increment_counter<const P: usize, const J: usize, const OUT: usize>(
     target: Option<CounterRef>,
     marks: &mut Vec<Mark>,
 )
-    requires own { IsTrue (is_own_runner state.old.view.own runner) }
-    requires known { IfSome target (λ counter. IsTrue (may_name state.old.view.own (counter_object counter))) }
-    requires live { is_before_live state.old.progress.phase ≡ false }
-    requires outbox { state.old.border.outbox ≡ [] }
-    requires places { 8 + posted_at_once state.old.view.own ≤ OUT }
-    requires room { HasRoom service_entries service_marks state.old marks.old }
+    requires { MayOperate (posted_at_once state.old.view.own) OUT state.old runner (Op.IncrementCounter target) marks.old }
     ensures { Effects service_entries service_marks (does (increments runner target)) state.old state.new marks.old marks.new }
 {
+    let service = ServiceId::IncrementCounter;
     match target {
         Some(counter) => increment(state, runner, counter, marks),
-        None => refuse(
-            state,
-            runner,
-            ServiceId::IncrementCounter,
-            Status::EOsId,
-            marks,
-        ),
+        None => refuse(state, runner, service, Status::EOsId, marks),
     }
 }
 
@@ -66,12 +53,7 @@ fn increment<const P: usize, const J: usize, const OUT: usize>(
     counter: CounterRef,
     marks: &mut Vec<Mark>,
 )
-    requires own { IsTrue (is_own_runner state.old.view.own runner) }
-    requires known { IsTrue (may_name state.old.view.own (counter_object counter)) }
-    requires live { is_before_live state.old.progress.phase ≡ false }
-    requires outbox { state.old.border.outbox ≡ [] }
-    requires places { 8 + posted_at_once state.old.view.own ≤ OUT }
-    requires room { HasRoom service_entries service_marks state.old marks.old }
+    requires { MayOperate (posted_at_once state.old.view.own) OUT state.old runner (Op.IncrementCounter (Some counter)) marks.old }
     ensures { Effects service_entries service_marks (does (increments runner (Some counter))) state.old state.new marks.old marks.new }
 {
     let service = ServiceId::IncrementCounter;
@@ -89,21 +71,14 @@ fn increment<const P: usize, const J: usize, const OUT: usize>(
 /// is yes. Else nothing changes.
 pub fn operate<const P: usize, const J: usize, const OUT: usize>(
     state: &mut CoreState<'_, P, J, OUT>,
-    runner: Runner,
-    op: Op,
+    step: Step,
     marks: &mut Vec<Mark>,
 ) -> bool
-    requires own { IsTrue (is_own_runner state.old.view.own runner) }
-    requires known { IsTrue (has_objects_of state.old.view.own op) }
-    requires live { is_before_live state.old.progress.phase ≡ false }
-    requires outbox { state.old.border.outbox ≡ [] }
-    requires places { 8 + posted_at_once state.old.view.own ≤ OUT }
-    requires room { HasRoom service_entries service_marks state.old marks.old }
-    ensures known { result ≡ is_some (increment_acts runner op) }
-    ensures effects { result ≡ true → Effects service_entries service_marks (does (unwrap_or (increment_acts runner op) nothing)) state.old state.new marks.old marks.new }
-    ensures others { result ≡ false → (state.new ≡ state.old) × (marks.new ≡ marks.old) }
+    requires { MayOperate (posted_at_once state.old.view.own) OUT state.old step.runner step.op marks.old }
+    ensures { Offered (increment_acts step.runner step.op) result state.old state.new marks.old marks.new }
 {
-    match op {
+    let runner = step.runner;
+    match step.op {
         Op::IncrementCounter(target) => {
             increment_counter(state, runner, target, marks);
             true

@@ -1,12 +1,12 @@
 //! What a schedule table does at a count.
 
-ghost use Rattle.std.specs.Prelude.{◌≡◌, ◌≤◌, ◌+◌, ◌*◌, IfSome, IsTrue, count_by, false, length, option_copied, slice_get};
+ghost use Rattle.std.specs.Prelude.{◌≡◌, ◌≤◌, ◌+◌, ◌*◌, IfSome, IsTrue, count_by, length, option_copied, slice_get};
 ghost use Rattle.std.specs.List.{list_all};
 ghost use Rattle.osbase.specs.Objects.{table_object};
-ghost use Rattle.osbase.specs.Phases.{is_before_live};
 ghost use Rattle.osplan.specs.Objects.{is_own_object, is_posting, may_act, posted_at};
 ghost use Rattle.ostable.specs.Waiting.{are_own, repeats};
 ghost use Rattle.osstate.specs.Does.{Effects, HasRoom};
+ghost use Rattle.osact.specs.Terms.{MayPost};
 ghost use Rattle.osact.specs.Acts.{does};
 ghost use Rattle.osdue.specs.Passing.{acts_each, begins, does_point, due_point, ends, first_point, is_known_point, is_of_kind, of_kind, passes, posted_by_end, posted_by_point, posted_by_table, reaches, stops};
 
@@ -24,9 +24,7 @@ pub(crate) fn pass<const P: usize, const J: usize, const OUT: usize>(
     marks: &mut Vec<Mark>,
 )
     requires own { IsTrue (are_own state.old.view.own due) }
-    requires live { is_before_live state.old.progress.phase ≡ false }
-    requires outbox { length state.old.border.outbox + posted_by_table state.old.view.own due ≤ OUT }
-    requires room { HasRoom 38 36 state.old marks.old }
+    requires posts { MayPost (posted_by_table state.old.view.own due) OUT 38 36 state.old marks.old }
     ensures effects { Effects 38 36 (does (passes due)) state.old state.new marks.old marks.new }
     ensures outbox { length state.new.border.outbox ≤ length state.old.border.outbox + posted_by_table state.old.view.own due }
 {
@@ -46,9 +44,7 @@ fn end<const P: usize, const J: usize, const OUT: usize>(
 )
     requires own { IsTrue (is_own_object state.old.view.own (table_object table)) }
     requires next { IfSome next (λ u. IsTrue (is_own_object state.old.view.own (table_object u))) }
-    requires live { is_before_live state.old.progress.phase ≡ false }
-    requires outbox { length state.old.border.outbox + posted_by_end state.old.view.own table next ≤ OUT }
-    requires room { HasRoom 21 19 state.old marks.old }
+    requires posts { MayPost (posted_by_end state.old.view.own table next) OUT 21 19 state.old marks.old }
     ensures effects { Effects 21 19 (does (ends table next)) state.old state.new marks.old marks.new }
     ensures outbox { length state.new.border.outbox ≤ length state.old.border.outbox + posted_by_end state.old.view.own table next }
 {
@@ -95,9 +91,7 @@ fn begin<const P: usize, const J: usize, const OUT: usize>(
     marks: &mut Vec<Mark>,
 )
     requires own { IsTrue (is_own_object state.old.view.own (table_object table)) }
-    requires live { is_before_live state.old.progress.phase ≡ false }
-    requires outbox { length state.old.border.outbox + posted_by_point state.old.view.own (first_point state.old.view.own table) ≤ OUT }
-    requires room { HasRoom 19 18 state.old marks.old }
+    requires posts { MayPost (posted_by_point state.old.view.own (first_point state.old.view.own table)) OUT 19 18 state.old marks.old }
     ensures effects { Effects 19 18 (does (begins table)) state.old state.new marks.old marks.new }
     ensures outbox { length state.new.border.outbox ≤ length state.old.border.outbox + posted_by_point state.old.view.own (first_point state.old.view.own table) }
 {
@@ -150,9 +144,7 @@ fn reach<const P: usize, const J: usize, const OUT: usize>(
     marks: &mut Vec<Mark>,
 )
     requires known { IfSome (option_copied point) (λ x. IsTrue (is_known_point state.old.view.own x)) }
-    requires live { is_before_live state.old.progress.phase ≡ false }
-    requires outbox { length state.old.border.outbox + posted_by_point state.old.view.own (option_copied point) ≤ OUT }
-    requires room { HasRoom 17 17 state.old marks.old }
+    requires posts { MayPost (posted_by_point state.old.view.own (option_copied point)) OUT 17 17 state.old marks.old }
     ensures effects { Effects 17 17 (does (reaches table (option_copied point.entry))) state.old state.new marks.old marks.new }
     ensures outbox { length state.new.border.outbox ≤ length state.old.border.outbox + posted_by_point state.old.view.own (option_copied point.entry) }
 {
@@ -169,9 +161,7 @@ fn do_point<const P: usize, const J: usize, const OUT: usize>(
     marks: &mut Vec<Mark>,
 )
     requires known { IsTrue (is_known_point state.old.view.own point.now) }
-    requires live { is_before_live state.old.progress.phase ≡ false }
-    requires outbox { length state.old.border.outbox + posted_at state.old.view.own point.now ≤ OUT }
-    requires room { HasRoom 17 17 state.old marks.old }
+    requires posts { MayPost (posted_at state.old.view.own point.now) OUT 17 17 state.old marks.old }
     ensures effects { Effects 17 17 (does (does_point table point.now)) state.old state.new marks.old marks.new }
     ensures outbox { length state.new.border.outbox ≤ length state.old.border.outbox + posted_at state.old.view.own point.now }
 {
@@ -190,9 +180,7 @@ fn act_each<const P: usize, const J: usize, const OUT: usize>(
     marks: &mut Vec<Mark>,
 )
     requires known { IsTrue (list_all (may_act state.old.view.own) actions.now) }
-    requires live { is_before_live state.old.progress.phase ≡ false }
-    requires outbox { length state.old.border.outbox + count_by (is_posting state.old.view.own) (of_kind activating actions.now) ≤ OUT }
-    requires room { HasRoom (2 * length (of_kind activating actions.now)) (2 * length (of_kind activating actions.now)) state.old marks.old }
+    requires posts { MayPost (count_by (is_posting state.old.view.own) (of_kind activating actions.now)) OUT (2 * length (of_kind activating actions.now)) (2 * length (of_kind activating actions.now)) state.old marks.old }
     ensures effects { Effects (2 * length (of_kind activating actions.now)) (2 * length (of_kind activating actions.now)) (does (acts_each (of_kind activating actions.now))) state.old state.new marks.old marks.new }
     ensures outbox { length state.new.border.outbox ≤ length state.old.border.outbox + count_by (is_posting state.old.view.own) (of_kind activating actions.now) }
 {

@@ -1,11 +1,12 @@
 //! Dispatch.
 
-ghost use Rattle.std.specs.Prelude.{◌≡◌, ◌==◌, IfSome, IsTrue, false};
+ghost use Rattle.std.specs.Prelude.{◌≡◌, IfSome, IsTrue, false};
 ghost use Rattle.std.specs.Option.{option_map_or};
 ghost use Rattle.osbase.specs.History.{current_task, same_job};
 ghost use Rattle.osjobs.specs.Priorities.{is_own_runner};
 ghost use Rattle.osstate.specs.Does.{Effects, HasRoom};
 ghost use Rattle.osstate.specs.Queries.{running_in};
+ghost use Rattle.osact.specs.Terms.{MayAct};
 ghost use Rattle.oskernel.specs.Step.{dispatches, enters, goes_to, leaves};
 
 use crate::free::may_dispatch;
@@ -62,8 +63,7 @@ fn enter<const P: usize, const J: usize, const OUT: usize>(
     runner: Runner,
     marks: &mut Vec<Mark>,
 )
-    requires own { IsTrue (is_own_runner state.old.view.own runner) }
-    requires room { HasRoom 2 2 state.old marks.old }
+    requires { MayAct 2 2 state.old runner marks.old }
     ensures { Effects 2 2 (λ v h. enters runner h) state.old state.new marks.old marks.new }
 {
     match runner {

@@ -7,9 +7,9 @@ ghost use Rattle.osbase.specs.Phases.{is_before_live, is_past_first_gate};
 ghost use Rattle.osbase.specs.Runs.{is_stimulus};
 ghost use Rattle.osplan.specs.Objects.{posted_at_once};
 ghost use Rattle.osjobs.specs.Jobs.{is_plain};
-ghost use Rattle.osjobs.specs.Priorities.{is_own_runner};
 ghost use Rattle.osstate.specs.Does.{Adds, Does, Effects, HasRoom, item_entries, item_marks, service_entries, service_marks};
 ghost use Rattle.osstate.specs.Sound.{is_first_gate, is_posted, is_sender_known};
+ghost use Rattle.osact.specs.Terms.{MayBegin, MayPost, MayServe};
 ghost use Rattle.osact.specs.Acts.{does, look};
 ghost use Rattle.oskernel.specs.Admission.{admits};
 ghost use Rattle.oskernel.specs.Bounded.{step_entries};
@@ -18,7 +18,7 @@ ghost use Rattle.oskernel.specs.Taking.{TakesItem, is_acting, is_answered, is_fi
 
 use crate::starting::start;
 use crate::ticks::tick;
-use osact::Answer;
+use osact::{Answer, Step};
 use osbase::{Agreement, Awaited, CoreId, Item, Mark, Message, Runner, Status, Stimulus};
 use oscript::Action;
 use osstate::CoreState;
@@ -126,10 +126,7 @@ fn go_on<const P: usize, const J: usize, const OUT: usize>(
     marks: &mut Vec<Mark>,
 )
     requires known { IsTrue (is_stimulus stimulus) }
-    requires live { is_before_live state.old.progress.phase ≡ false }
-    requires outbox { state.old.border.outbox ≡ [] }
-    requires places { 8 + posted_at_once state.old.view.own ≤ OUT }
-    requires room { HasRoom service_entries service_marks state.old marks.old }
+    requires posts { MayPost (1 + posted_at_once state.old.view.own) OUT service_entries service_marks state.old marks.old }
     ensures { Effects service_entries service_marks (does (stimulates stimulus)) state.old state.new marks.old marks.new }
 {
     match stimulus {
@@ -144,10 +141,7 @@ fn go_on_by_one<const P: usize, const J: usize, const OUT: usize>(
     state: &mut CoreState<'_, P, J, OUT>,
     marks: &mut Vec<Mark>,
 )
-    requires live { is_before_live state.old.progress.phase ≡ false }
-    requires outbox { state.old.border.outbox ≡ [] }
-    requires places { 8 + posted_at_once state.old.view.own ≤ OUT }
-    requires room { HasRoom service_entries service_marks state.old marks.old }
+    requires { MayPost (1 + posted_at_once state.old.view.own) OUT service_entries service_marks state.old marks.old }
     ensures { Effects service_entries service_marks (does (look (λ s. goes_on s.running))) state.old state.new marks.old marks.new }
 {
     if let Some(job) = state.running_job() {
@@ -160,15 +154,11 @@ fn perform<const P: usize, const J: usize, const OUT: usize>(
     runner: Runner,
     marks: &mut Vec<Mark>,
 )
-    requires own { IsTrue (is_own_runner state.old.view.own runner) }
-    requires live { is_before_live state.old.progress.phase ≡ false }
-    requires outbox { state.old.border.outbox ≡ [] }
-    requires places { 8 + posted_at_once state.old.view.own ≤ OUT }
-    requires room { HasRoom service_entries service_marks state.old marks.old }
+    requires { MayServe (1 + posted_at_once state.old.view.own) OUT state.old runner marks.old }
     ensures { Effects service_entries service_marks (does (goes_on (Some runner))) state.old state.new marks.old marks.new }
 {
     match state.next_action(runner) {
-        Action::Perform(op) => crate::operations::operate(state, runner, op, marks),
+        Action::Perform(op) => crate::operations::operate(state, Step { runner, op }, marks),
         Action::End => ostaskcall::end_unasked(state, runner, marks),
     }
 }
@@ -180,10 +170,9 @@ fn receive<const P: usize, const J: usize, const OUT: usize>(
     marks: &mut Vec<Mark>,
 )
     requires answered { IsTrue (is_answered state.old message.now) }
-    requires live { is_before_live state.old.progress.phase ≡ false }
     requires sender { from.number < CORES }
     requires outbox { IsTrue (is_request message.now) → length state.old.border.outbox < OUT }
-    requires room { HasRoom service_entries service_marks state.old marks.old }
+    requires begins { MayBegin service_entries service_marks state.old marks.old }
     ensures { Effects service_entries service_marks (does (receives from message.now)) state.old state.new marks.old marks.new }
 {
     match message {

@@ -1,14 +1,12 @@
 //! A tick of a core's hardware counters.
 
-ghost use Rattle.std.specs.Prelude.{◌≡◌, ◌+◌, ◌*◌, ◌≤◌, [], IsTrue, false, length, suc};
+ghost use Rattle.std.specs.Prelude.{◌+◌, ◌≤◌, IsTrue, length};
 ghost use Rattle.osbase.specs.Objects.{counter_object};
-ghost use Rattle.osbase.specs.Phases.{is_before_live};
-ghost use Rattle.osclock.specs.Clocks.{attached_to};
-ghost use Rattle.ostable.specs.Tables.{timed_by};
 ghost use Rattle.osplan.specs.Objects.{is_own_object, posted_at_once};
-ghost use Rattle.osstate.specs.Does.{Effects, HasRoom, service_entries, service_marks};
+ghost use Rattle.osstate.specs.Does.{Effects, service_entries, service_marks};
+ghost use Rattle.osact.specs.Terms.{MayPost};
 ghost use Rattle.osact.specs.Acts.{does, nothing, when};
-ghost use Rattle.osdue.specs.Advancing.{counts, posted_by};
+ghost use Rattle.osdue.specs.Advancing.{count_entries, count_marks, counts, posted_by};
 ghost use Rattle.oskernel.specs.Step.{ticks};
 
 use osbase::{CounterRef, Mark};
@@ -21,10 +19,7 @@ pub(crate) fn tick<const P: usize, const J: usize, const OUT: usize>(
     state: &mut CoreState<'_, P, J, OUT>,
     marks: &mut Vec<Mark>,
 )
-    requires live { is_before_live state.old.progress.phase ≡ false }
-    requires outbox { state.old.border.outbox ≡ [] }
-    requires places { 8 + posted_at_once state.old.view.own ≤ OUT }
-    requires room { HasRoom service_entries service_marks state.old marks.old }
+    requires { MayPost (posted_at_once state.old.view.own) OUT service_entries service_marks state.old marks.old }
     ensures { Effects service_entries service_marks (does ticks) state.old state.new marks.old marks.new }
 {
     state.print(Mark::Tick, marks);
@@ -46,10 +41,8 @@ fn count_by_tick<const P: usize, const J: usize, const OUT: usize>(
     marks: &mut Vec<Mark>,
 )
     requires own { IsTrue (is_own_object state.old.view.own (counter_object reference)) }
-    requires live { is_before_live state.old.progress.phase ≡ false }
-    requires outbox { length state.old.border.outbox + posted_by state.old.view.own reference ≤ OUT }
-    requires room { HasRoom (suc (3 * length (attached_to state.old.view.own reference) + 38 * length (timed_by state.old.view.own reference))) (3 * length (attached_to state.old.view.own reference) + 36 * length (timed_by state.old.view.own reference)) state.old marks.old }
-    ensures effects { Effects (suc (3 * length (attached_to state.old.view.own reference) + 38 * length (timed_by state.old.view.own reference))) (3 * length (attached_to state.old.view.own reference) + 36 * length (timed_by state.old.view.own reference)) (does (when counter.now.software nothing (counts reference))) state.old state.new marks.old marks.new }
+    requires posts { MayPost (posted_by state.old.view.own reference) OUT (count_entries state.old.view.own reference) (count_marks state.old.view.own reference) state.old marks.old }
+    ensures effects { Effects (count_entries state.old.view.own reference) (count_marks state.old.view.own reference) (does (when counter.now.software nothing (counts reference))) state.old state.new marks.old marks.new }
     ensures outbox { length state.new.border.outbox ≤ length state.old.border.outbox + posted_by state.old.view.own reference }
 {
     if !counter.software {

@@ -1,20 +1,20 @@
 //! The services of schedule tables.
 
-ghost use Rattle.std.specs.Prelude.{◌≡◌, ◌<◌, ◌≤◌, ◌+◌, ◌^◌, IfSome, IsTrue, true, false, is_some, map, unwrap_or};
+ghost use Rattle.std.specs.Prelude.{◌≡◌, ◌<◌, ◌≤◌, ◌+◌, ◌^◌, IfSome, IsTrue, map};
 ghost use Rattle.osbase.specs.Counting.{same_counter};
 ghost use Rattle.osbase.specs.Objects.{table_object};
 ghost use Rattle.osplan.specs.Limits.{first_offset, point_sizes};
 ghost use Rattle.osplan.specs.Objects.{is_own_object};
-ghost use Rattle.osjobs.specs.Priorities.{is_own_runner};
 ghost use Rattle.ostable.specs.Waiting.{are_of_one_counter};
-ghost use Rattle.osstate.specs.Does.{Effects, HasRoom, Reads, Remarks, service_entries, service_marks};
-ghost use Rattle.osact.specs.Acts.{does, nothing};
+ghost use Rattle.osstate.specs.Does.{Effects, Reads, Remarks, service_entries, service_marks};
+ghost use Rattle.osact.specs.Terms.{MayAct, Offered};
+ghost use Rattle.osact.specs.Acts.{does};
 ghost use Rattle.osact.specs.Checks.{first_failing, is_ok_status};
 ghost use Rattle.osact.specs.Seen.{seen_of};
 ghost use Rattle.osact.specs.Service.{answers_with, carries_out};
 ghost use Rattle.ostablecall.specs.Tables.{absolute_start, counts_to_start, gets_table_status, is_offset, is_value, own_pair, quits_next, relative_start, starting_checks, starts_table_absolute, starts_table_relative, status_inquiry, stop, stops_table, suits, switch, switches_tables, table_acts};
 
-use osact::{Answer, finish, is_ok, own_of, without_value};
+use osact::{Answer, Step, finish, is_ok, own_of, without_value};
 use osbase::{CounterRef, Mark, Runner, ServiceId, Status, TableRef};
 use oscript::Op;
 use osplan::{Counter, Table};
@@ -203,9 +203,8 @@ fn start_schedule_table_rel<const P: usize, const J: usize, const OUT: usize>(
     offset: u32,
     marks: &mut Vec<Mark>,
 )
-    requires own { IsTrue (is_own_runner state.old.view.own runner) }
-    requires room { HasRoom 4 2 state.old marks.old }
-    ensures { Effects 4 2 (does (starts_table_relative runner target offset)) state.old state.new marks.old marks.new }
+    requires { MayAct service_entries service_marks state.old runner marks.old }
+    ensures { Effects service_entries service_marks (does (starts_table_relative runner target offset)) state.old state.new marks.old marks.new }
 {
     let answer = match own_of(state, target) {
         Some(table) => start_relative(state, table, offset),
@@ -230,9 +229,8 @@ fn start_schedule_table_abs<const P: usize, const J: usize, const OUT: usize>(
     start: u32,
     marks: &mut Vec<Mark>,
 )
-    requires own { IsTrue (is_own_runner state.old.view.own runner) }
-    requires room { HasRoom 4 2 state.old marks.old }
-    ensures { Effects 4 2 (does (starts_table_absolute runner target start)) state.old state.new marks.old marks.new }
+    requires { MayAct service_entries service_marks state.old runner marks.old }
+    ensures { Effects service_entries service_marks (does (starts_table_absolute runner target start)) state.old state.new marks.old marks.new }
 {
     let answer = match own_of(state, target) {
         Some(table) => start_absolute(state, table, start),
@@ -257,9 +255,8 @@ fn next_schedule_table<const P: usize, const J: usize, const OUT: usize>(
     to: Option<TableRef>,
     marks: &mut Vec<Mark>,
 )
-    requires own { IsTrue (is_own_runner state.old.view.own runner) }
-    requires room { HasRoom 5 2 state.old marks.old }
-    ensures { Effects 5 2 (does (switches_tables runner from to)) state.old state.new marks.old marks.new }
+    requires { MayAct service_entries service_marks state.old runner marks.old }
+    ensures { Effects service_entries service_marks (does (switches_tables runner from to)) state.old state.new marks.old marks.new }
 {
     let answer = match own_pair(state, from, to) {
         Some((from, to)) => switch(state, from, to),
@@ -276,9 +273,8 @@ fn stop_schedule_table<const P: usize, const J: usize, const OUT: usize>(
     target: Option<TableRef>,
     marks: &mut Vec<Mark>,
 )
-    requires own { IsTrue (is_own_runner state.old.view.own runner) }
-    requires room { HasRoom 5 2 state.old marks.old }
-    ensures { Effects 5 2 (does (stops_table runner target)) state.old state.new marks.old marks.new }
+    requires { MayAct service_entries service_marks state.old runner marks.old }
+    ensures { Effects service_entries service_marks (does (stops_table runner target)) state.old state.new marks.old marks.new }
 {
     let answer = match own_of(state, target) {
         Some(table) => stop(state, table),
@@ -295,9 +291,8 @@ fn get_schedule_table_status<const P: usize, const J: usize, const OUT: usize>(
     target: Option<TableRef>,
     marks: &mut Vec<Mark>,
 )
-    requires own { IsTrue (is_own_runner state.old.view.own runner) }
-    requires room { HasRoom 3 2 state.old marks.old }
-    ensures { Effects 3 2 (does (gets_table_status runner target)) state.old state.new marks.old marks.new }
+    requires { MayAct service_entries service_marks state.old runner marks.old }
+    ensures { Effects service_entries service_marks (does (gets_table_status runner target)) state.old state.new marks.old marks.new }
 {
     let answer = match own_of(state, target) {
         Some(table) => tell_status(state, table),
@@ -368,17 +363,14 @@ fn is_same_counter(counter: CounterRef, other: CounterRef) -> bool
 /// is yes. Else nothing changes.
 pub fn operate<const P: usize, const J: usize, const OUT: usize>(
     state: &mut CoreState<'_, P, J, OUT>,
-    runner: Runner,
-    op: Op,
+    step: Step,
     marks: &mut Vec<Mark>,
 ) -> bool
-    requires own { IsTrue (is_own_runner state.old.view.own runner) }
-    requires room { HasRoom service_entries service_marks state.old marks.old }
-    ensures known { result ≡ is_some (table_acts runner op) }
-    ensures effects { result ≡ true → Effects service_entries service_marks (does (unwrap_or (table_acts runner op) nothing)) state.old state.new marks.old marks.new }
-    ensures others { result ≡ false → (state.new ≡ state.old) × (marks.new ≡ marks.old) }
+    requires { MayAct service_entries service_marks state.old step.runner marks.old }
+    ensures { Offered (table_acts step.runner step.op) result state.old state.new marks.old marks.new }
 {
-    match op {
+    let runner = step.runner;
+    match step.op {
         Op::StartScheduleTableRel(target, offset) => {
             start_schedule_table_rel(state, runner, target, offset, marks);
             true

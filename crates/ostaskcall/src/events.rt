@@ -2,7 +2,8 @@
 
 ghost use Rattle.std.specs.Prelude.{◌≡◌, IsTrue, false};
 ghost use Rattle.osjobs.specs.Priorities.{is_own_runner};
-ghost use Rattle.osstate.specs.Does.{Effects, HasRoom, Reads};
+ghost use Rattle.osstate.specs.Does.{Effects, Reads, service_entries, service_marks};
+ghost use Rattle.osact.specs.Terms.{MayAct};
 ghost use Rattle.osact.specs.Acts.{does};
 ghost use Rattle.osact.specs.Checks.{first_failing, is_ok_status};
 ghost use Rattle.osact.specs.Seen.{seen_of};
@@ -40,8 +41,7 @@ pub fn set_events<const P: usize, const J: usize, const OUT: usize>(
     mask: u32,
     marks: &mut Vec<Mark>,
 ) -> Answer
-    requires own { IsTrue (is_own_runner state.old.view.own (Runner.Task task)) }
-    requires room { HasRoom 2 2 state.old marks.old }
+    requires { MayAct 2 2 state.old (Runner.Task task) marks.old }
     ensures answer { Reads (answers_with (setting task mask)) state.old result }
     ensures effects { Effects 2 2 (does (carries_out (setting task mask))) state.old state.new marks.old marks.new }
     ensures refused { is_ok_status result.status ≡ false → Effects 0 0 (does (carries_out (setting task mask))) state.old state.new marks.old marks.new }
@@ -61,8 +61,7 @@ fn set_and_release<const P: usize, const J: usize, const OUT: usize>(
     mask: u32,
     marks: &mut Vec<Mark>,
 )
-    requires own { IsTrue (is_own_runner state.old.view.own (Runner.Task task)) }
-    requires room { HasRoom 2 2 state.old marks.old }
+    requires { MayAct 2 2 state.old (Runner.Task task) marks.old }
     ensures effects { Effects 2 2 (does (sets_events task mask)) state.old state.new marks.old marks.new }
     ensures border { state.new.border ≡ state.old.border }
 {
@@ -77,8 +76,7 @@ fn release_from<const P: usize, const J: usize, const OUT: usize>(
     mask: u32,
     marks: &mut Vec<Mark>,
 )
-    requires own { IsTrue (is_own_runner state.old.view.own (Runner.Task task)) }
-    requires room { HasRoom 1 1 state.old marks.old }
+    requires { MayAct 1 1 state.old (Runner.Task task) marks.old }
     ensures effects { Effects 1 1 (does (releases task mask)) state.old state.new marks.old marks.new }
     ensures border { state.new.border ≡ state.old.border }
 {
@@ -115,9 +113,8 @@ pub fn get_event<const P: usize, const J: usize, const OUT: usize>(
     target: Option<TaskRef>,
     marks: &mut Vec<Mark>,
 )
-    requires own { IsTrue (is_own_runner state.old.view.own runner) }
-    requires room { HasRoom 3 2 state.old marks.old }
-    ensures { Effects 3 2 (does (gets_event runner target)) state.old state.new marks.old marks.new }
+    requires { MayAct service_entries service_marks state.old runner marks.old }
+    ensures { Effects service_entries service_marks (does (gets_event runner target)) state.old state.new marks.old marks.new }
 {
     let answer = match own_of(state, target) {
         Some(task) => read_events(state, task),
@@ -153,9 +150,8 @@ pub fn clear_event<const P: usize, const J: usize, const OUT: usize>(
     mask: u32,
     marks: &mut Vec<Mark>,
 )
-    requires own { IsTrue (is_own_runner state.old.view.own runner) }
-    requires room { HasRoom 4 3 state.old marks.old }
-    ensures { Effects 4 3 (does (clears_event runner mask)) state.old state.new marks.old marks.new }
+    requires { MayAct service_entries service_marks state.old runner marks.old }
+    ensures { Effects service_entries service_marks (does (clears_event runner mask)) state.old state.new marks.old marks.new }
 {
     let status = status_of_caller(state, runner);
     if is_ok(status) {
@@ -172,9 +168,8 @@ fn clear<const P: usize, const J: usize, const OUT: usize>(
     mask: u32,
     marks: &mut Vec<Mark>,
 )
-    requires own { IsTrue (is_own_runner state.old.view.own runner) }
-    requires room { HasRoom 4 3 state.old marks.old }
-    ensures { Effects 4 3 (does (clears_and_returns runner mask)) state.old state.new marks.old marks.new }
+    requires { MayAct service_entries service_marks state.old runner marks.old }
+    ensures { Effects service_entries service_marks (does (clears_and_returns runner mask)) state.old state.new marks.old marks.new }
 {
     match runner {
         Runner::Task(task) => {
@@ -209,9 +204,8 @@ pub fn wait_event<const P: usize, const J: usize, const OUT: usize>(
     mask: u32,
     marks: &mut Vec<Mark>,
 )
-    requires own { IsTrue (is_own_runner state.old.view.own runner) }
-    requires room { HasRoom 3 2 state.old marks.old }
-    ensures { Effects 3 2 (does (waits_event runner mask)) state.old state.new marks.old marks.new }
+    requires { MayAct service_entries service_marks state.old runner marks.old }
+    ensures { Effects service_entries service_marks (does (waits_event runner mask)) state.old state.new marks.old marks.new }
 {
     let status = status_of_waiting(state, runner);
     if is_ok(status) {
@@ -228,9 +222,8 @@ fn go_on_or_wait<const P: usize, const J: usize, const OUT: usize>(
     mask: u32,
     marks: &mut Vec<Mark>,
 )
-    requires own { IsTrue (is_own_runner state.old.view.own runner) }
-    requires room { HasRoom 3 2 state.old marks.old }
-    ensures { Effects 3 2 (does (goes_on_or_waits runner mask)) state.old state.new marks.old marks.new }
+    requires { MayAct service_entries service_marks state.old runner marks.old }
+    ensures { Effects service_entries service_marks (does (goes_on_or_waits runner mask)) state.old state.new marks.old marks.new }
 {
     let events = state.events(runner);
     if osevent::have_common(mask, events.set) {
@@ -248,9 +241,8 @@ fn begin_to_wait<const P: usize, const J: usize, const OUT: usize>(
     mask: u32,
     marks: &mut Vec<Mark>,
 )
-    requires own { IsTrue (is_own_runner state.old.view.own runner) }
-    requires room { HasRoom 3 2 state.old marks.old }
-    ensures { Effects 3 2 (does (begins_to_wait runner mask)) state.old state.new marks.old marks.new }
+    requires { MayAct service_entries service_marks state.old runner marks.old }
+    ensures { Effects service_entries service_marks (does (begins_to_wait runner mask)) state.old state.new marks.old marks.new }
 {
     match runner {
         Runner::Task(task) => {

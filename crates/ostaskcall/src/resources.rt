@@ -1,8 +1,9 @@
 //! The services of resources.
 
-ghost use Rattle.std.specs.Prelude.{◌≡◌, IsTrue};
+ghost use Rattle.std.specs.Prelude.{IsTrue};
 ghost use Rattle.osjobs.specs.Priorities.{is_own_runner};
-ghost use Rattle.osstate.specs.Does.{Effects, HasRoom, Reads, service_entries, service_marks};
+ghost use Rattle.osstate.specs.Does.{Effects, Reads, service_entries, service_marks};
+ghost use Rattle.osact.specs.Terms.{MayAct};
 ghost use Rattle.osact.specs.Acts.{does};
 ghost use Rattle.osact.specs.Seen.{seen_of};
 ghost use Rattle.ostaskcall.specs.Resources.{gets_resource, is_below, releases_resource};
@@ -32,8 +33,7 @@ pub fn get_resource<const P: usize, const J: usize, const OUT: usize>(
     target: Option<ResourceRef>,
     marks: &mut Vec<Mark>,
 )
-    requires own { IsTrue (is_own_runner state.old.view.own runner) }
-    requires room { HasRoom service_entries service_marks state.old marks.old }
+    requires { MayAct service_entries service_marks state.old runner marks.old }
     ensures { Effects service_entries service_marks (does (gets_resource runner target)) state.old state.new marks.old marks.new }
 {
     let service = ServiceId::GetResource;
@@ -57,8 +57,7 @@ pub fn release_resource<const P: usize, const J: usize, const OUT: usize>(
     target: Option<ResourceRef>,
     marks: &mut Vec<Mark>,
 )
-    requires own { IsTrue (is_own_runner state.old.view.own runner) }
-    requires room { HasRoom service_entries service_marks state.old marks.old }
+    requires { MayAct service_entries service_marks state.old runner marks.old }
     ensures { Effects service_entries service_marks (does (releases_resource runner target)) state.old state.new marks.old marks.new }
 {
     let service = ServiceId::ReleaseResource;

@@ -1,21 +1,22 @@
 //! The services of tasks.
 
-ghost use Rattle.std.specs.Prelude.{◌≡◌, ◌<◌, IsTrue, true, false, is_some, unwrap_or};
+ghost use Rattle.std.specs.Prelude.{◌≡◌, ◌<◌, IsTrue, false};
 ghost use Rattle.osbase.specs.History.{job_count, without_oldest};
 ghost use Rattle.osbase.specs.Phases.{is_before_live};
 ghost use Rattle.osjobs.specs.Priorities.{is_own_runner};
-ghost use Rattle.osstate.specs.Does.{Effects, HasRoom, Reads, service_entries, service_marks};
+ghost use Rattle.osstate.specs.Does.{Effects, Reads, service_entries, service_marks};
 ghost use Rattle.osstate.specs.Sound.{activation_limit};
-ghost use Rattle.osact.specs.Acts.{does, nothing};
-ghost use Rattle.osact.specs.Checks.{first_failing, is_ok_status};
+ghost use Rattle.osact.specs.Terms.{MayAct, Offered};
+ghost use Rattle.osact.specs.Acts.{does};
 ghost use Rattle.osact.specs.Callers.{holding_checks};
+ghost use Rattle.osact.specs.Checks.{first_failing, is_ok_status};
 ghost use Rattle.osact.specs.Seen.{seen_of};
 ghost use Rattle.osact.specs.Service.{answers_with, carries_out};
 ghost use Rattle.ostaskcall.specs.Tasks.{activation, ends, ends_unasked, schedules, task_acts, task_checks, terminates};
 
 use crate::events::{clear_event, get_event, wait_event};
 use crate::resources::{get_resource, release_resource};
-use osact::{Answer, finish, is_ok, refuse, without_value};
+use osact::{Answer, Step, finish, is_ok, refuse, without_value};
 use osbase::{Mark, Runner, ServiceId, Status, TaskRef};
 use oscript::Op;
 use osstate::CoreState;
@@ -28,9 +29,8 @@ pub fn activate<const P: usize, const J: usize, const OUT: usize>(
     task: TaskRef,
     marks: &mut Vec<Mark>,
 ) -> Answer
-    requires own { IsTrue (is_own_runner state.old.view.own (Runner.Task task)) }
     requires live { is_before_live state.old.progress.phase ≡ false }
-    requires room { HasRoom 1 1 state.old marks.old }
+    requires acts { MayAct 1 1 state.old (Runner.Task task) marks.old }
     ensures answer { Reads (answers_with (activation task)) state.old result }
     ensures effects { Effects 1 1 (does (carries_out (activation task))) state.old state.new marks.old marks.new }
     ensures refused { is_ok_status result.status ≡ false → Effects 0 0 (does (carries_out (activation task))) state.old state.new marks.old marks.new }
@@ -50,8 +50,7 @@ pub fn end_task<const P: usize, const J: usize, const OUT: usize>(
     task: TaskRef,
     marks: &mut Vec<Mark>,
 )
-    requires own { IsTrue (is_own_runner state.old.view.own (Runner.Task task)) }
-    requires room { HasRoom 2 2 state.old marks.old }
+    requires { MayAct 2 2 state.old (Runner.Task task) marks.old }
     ensures effects { Effects 2 2 (does (ends (Runner.Task task))) state.old state.new marks.old marks.new }
     ensures jobs { state.new.tasks.jobs ≡ without_oldest (Runner.Task task) state.old.tasks.jobs }
     ensures below { job_count (Runner.Task task) state.new.tasks.jobs < activation_limit state.new.view.own (Runner.Task task) }
@@ -66,8 +65,7 @@ pub fn end<const P: usize, const J: usize, const OUT: usize>(
     runner: Runner,
     marks: &mut Vec<Mark>,
 )
-    requires own { IsTrue (is_own_runner state.old.view.own runner) }
-    requires room { HasRoom 2 2 state.old marks.old }
+    requires { MayAct 2 2 state.old runner marks.old }
     ensures { Effects 2 2 (does (ends runner)) state.old state.new marks.old marks.new }
 {
     match runner {
@@ -83,9 +81,8 @@ pub fn end_unasked<const P: usize, const J: usize, const OUT: usize>(
     runner: Runner,
     marks: &mut Vec<Mark>,
 )
-    requires own { IsTrue (is_own_runner state.old.view.own runner) }
-    requires room { HasRoom 3 3 state.old marks.old }
-    ensures { Effects 3 3 (does (ends_unasked runner)) state.old state.new marks.old marks.new }
+    requires { MayAct service_entries service_marks state.old runner marks.old }
+    ensures { Effects service_entries service_marks (does (ends_unasked runner)) state.old state.new marks.old marks.new }
 {
     match runner {
         Runner::Task(task) => {
@@ -133,9 +130,8 @@ fn terminate<const P: usize, const J: usize, const OUT: usize>(
     runner: Runner,
     marks: &mut Vec<Mark>,
 )
-    requires own { IsTrue (is_own_runner state.old.view.own runner) }
-    requires room { HasRoom 3 2 state.old marks.old }
-    ensures { Effects 3 2 (does (terminates runner)) state.old state.new marks.old marks.new }
+    requires { MayAct service_entries service_marks state.old runner marks.old }
+    ensures { Effects service_entries service_marks (does (terminates runner)) state.old state.new marks.old marks.new }
 {
     let status = status_of_task(state, runner);
     if is_ok(status) {
@@ -153,9 +149,8 @@ fn schedule<const P: usize, const J: usize, const OUT: usize>(
     runner: Runner,
     marks: &mut Vec<Mark>,
 )
-    requires own { IsTrue (is_own_runner state.old.view.own runner) }
-    requires room { HasRoom 3 2 state.old marks.old }
-    ensures { Effects 3 2 (does (schedules runner)) state.old state.new marks.old marks.new }
+    requires { MayAct service_entries service_marks state.old runner marks.old }
+    ensures { Effects service_entries service_marks (does (schedules runner)) state.old state.new marks.old marks.new }
 {
     let answer = Answer {
         status: status_of_task(state, runner),
@@ -168,17 +163,14 @@ fn schedule<const P: usize, const J: usize, const OUT: usize>(
 /// is yes. Else nothing changes.
 pub fn operate<const P: usize, const J: usize, const OUT: usize>(
     state: &mut CoreState<'_, P, J, OUT>,
-    runner: Runner,
-    op: Op,
+    step: Step,
     marks: &mut Vec<Mark>,
 ) -> bool
-    requires own { IsTrue (is_own_runner state.old.view.own runner) }
-    requires room { HasRoom service_entries service_marks state.old marks.old }
-    ensures known { result ≡ is_some (task_acts runner op) }
-    ensures effects { result ≡ true → Effects service_entries service_marks (does (unwrap_or (task_acts runner op) nothing)) state.old state.new marks.old marks.new }
-    ensures others { result ≡ false → (state.new ≡ state.old) × (marks.new ≡ marks.old) }
+    requires { MayAct service_entries service_marks state.old step.runner marks.old }
+    ensures { Offered (task_acts step.runner step.op) result state.old state.new marks.old marks.new }
 {
-    match op {
+    let runner = step.runner;
+    match step.op {
         Op::TerminateTask => {
             terminate(state, runner, marks);
             true

@@ -14,7 +14,7 @@ returns g c =
     elim c.match-own_of.branch [
       | in-Some w ↦
           served value_inquiry (λ core. own_of counter_object core c.args.target) c.args.runner GetCounterValue c.match-own_of.answer
-          w.in-Some.counter w.in-Some.ensures.value (rw w.answer-is w.read_value-answer.ensures) (unprinted unmoved) c.finish.ensures
+          w.in-Some.counter w.in-Some.ensures.value (rw w.answer-is w.read_value-answer.ensures) (unprinted unmoved) c.finish.ensures (lit≤ tt) (lit≤ tt)
       | in-None w ↦
           unserved value_inquiry (λ core. own_of counter_object core c.args.target) c.args.runner GetCounterValue c.match-own_of.answer
           w.in-None.ensures.value (w.answer-is ∙ w.without_value-answer.ensures) c.finish.ensures (lit≤ tt) (lit≤ tt)

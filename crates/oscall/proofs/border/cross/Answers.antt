@@ -1,4 +1,5 @@
 use Rattle.std.proofs.Common.{◌≡◌, Bool, true, cond, ap, sym, ◌∙◌, lit≤}
+use Rattle.osbase.specs.declared.objects.Object.{Object}
 use Rattle.osstate.specs.Readings.{is_own}
 use Rattle.osstate.specs.State.{KernelState}
 use Rattle.osstate.proofs.Effecting.{as_effect, then}
@@ -14,7 +15,7 @@ use Rattle.oscall.proofs.border.cross.Goals as goal
 pub returns : goal.returns
 returns g c =
     as_effect (λ v h stands.
-    let own : is_own v (core_of_call c.args.call) ≡ true = ap (is_own v) (sym c.requires.core) ∙ sym (read (λ (s : KernelState). is_own s.view c.args.core) c.is_own.ensures.value stands) ∙ c.if-not-is_own.false in
+    let own : is_own v (core_of_call c.args.call) ≡ true = ap (λ (o : Object). is_own v o.place.core) (sym c.object.ensures) ∙ sym (read (λ (s : KernelState). is_own s.view c.object.result.place.core) c.is_own.ensures.value stands) ∙ c.if-not-is_own.false in
     ap (λ (b : Bool). cond b (does (serves c.args.runner c.args.service (service_of c.args.call (seen_of v h))) v h) (does (asks c.args.runner c.args.service (core_of_call c.args.call) c.args.call) v h)) own
     ∙ ap (λ (answer : Answer). does (returns_with c.args.runner c.args.service answer) v (does (carries_out (service_of c.args.call)) v h)) (sym (c.serve-answer.ensures.answer v h stands)))
     (lit≤ tt) (lit≤ tt) (then c.serve-answer.ensures.effects c.finish.ensures)

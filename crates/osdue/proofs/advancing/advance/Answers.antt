@@ -24,11 +24,11 @@ expire_each-requires g c =
     let posted = due-posted c.args.state.now.view.own c.args.counter c.args.state.now.clocks c.due_next-alarms.result.items c.due_next-alarms.ensures.value in
     let own : IsTrue (list_all (λ (a : AlarmRef). is_own_object c.count.new.self.view.own (alarm_object a)) alarms) = rw (c.count.ensures.remarks.stays.view, c.as_slice-due_alarms.ensures.value) c.due_next-alarms.ensures.own in
     let outbox : length c.count.new.self.border.outbox + sum_by (posted_for c.count.new.self.view.own) alarms ≤ g.row.OUT =
-    rw (c.count.ensures.remarks.stays.view, c.as_slice-due_alarms.ensures.value) (omega (arith, same, posted, c.requires.outbox)) in
+    rw (c.count.ensures.remarks.stays.view, c.as_slice-due_alarms.ensures.value) (omega (arith, same, posted, c.requires.posts.outbox)) in
     let room : HasRoom (3 * length alarms) (3 * length alarms) c.count.new.self c.args.marks.now =
     rw (c.as_slice-due_alarms.ensures.value) (record {
-      count = omega (arith, c.due_next-alarms.ensures.few, c.requires.room.count, c.count.ensures.remarks.stays.entries);
-      place = omega (arith, c.due_next-alarms.ensures.few, c.requires.room.place);
+      count = omega (arith, c.due_next-alarms.ensures.few, c.requires.posts.room.count, c.count.ensures.remarks.stays.entries);
+      place = omega (arith, c.due_next-alarms.ensures.few, c.requires.posts.room.place);
     }) in
     search (rules, own, outbox, room)
 
@@ -42,11 +42,11 @@ pass_each-requires g c =
     let both = both-posted c.args.state.now.view.own c.args.counter c.args.state.now.clocks c.due_next-alarms.result.items c.due_tables-tables.result.items c.due_next-alarms.ensures.value tables.ends (tables.once (posted_at_point c.args.state.now.view.own)) in
     let own : IsTrue (list_all (are_own c.expire_each.new.state.view.own) due) = rw (c.expire_each.ensures.effects.stays.view, c.count.ensures.remarks.stays.view, c.as_slice-due_tables.ensures.value) tables.own in
     let outbox : length c.expire_each.new.state.border.outbox + sum_by (posted_by_table c.expire_each.new.state.view.own) due ≤ g.row.OUT =
-    rw (c.expire_each.ensures.effects.stays.view, c.count.ensures.remarks.stays.view, c.as_slice-due_tables.ensures.value) (omega (arith, same, both, joined, c.requires.outbox)) in
+    rw (c.expire_each.ensures.effects.stays.view, c.count.ensures.remarks.stays.view, c.as_slice-due_tables.ensures.value) (omega (arith, same, both, joined, c.requires.posts.outbox)) in
     let room : HasRoom (38 * length due) (36 * length due) c.expire_each.new.state c.expire_each.new.marks =
     rw (c.as_slice-due_tables.ensures.value) (record {
-      count = omega (arith, c.due_next-alarms.ensures.few, tables.few, c.requires.room.count, c.count.ensures.remarks.stays.entries, alarms.stays.entries);
-      place = omega (arith, c.due_next-alarms.ensures.few, tables.few, c.requires.room.place, alarms.len, alarms.capacity);
+      count = omega (arith, c.due_next-alarms.ensures.few, tables.few, c.requires.posts.room.count, c.count.ensures.remarks.stays.entries, alarms.stays.entries);
+      place = omega (arith, c.due_next-alarms.ensures.few, tables.few, c.requires.posts.room.place, alarms.len, alarms.capacity);
     }) in
     search (rules, own, outbox, room)
 

@@ -18,7 +18,7 @@ pub expire-requires : goal.expire-requires
 expire-requires g c =
     let next = next-at c.args.due.now c.loop-alarm.alarm-index blank c.loop-alarm-test.true in
     let own = still-passes next c.loop-alarm.invariant (λ (core : Core) (a : AlarmRef). is_own_object core (alarm_object a)) c.requires.own in
-    search (rules, own, places-left next c.loop-alarm.invariant c.requires.outbox, room-left next c.loop-alarm.invariant c.requires.room)
+    search (rules, own, places-left next c.loop-alarm.invariant c.requires.posts.outbox, room-left next c.loop-alarm.invariant c.requires.posts.room)
 
 pub loop-alarm-preserved : goal.loop-alarm-preserved
 loop-alarm-preserved g c = one-acted (next-at c.args.due.now c.loop-alarm.alarm-index blank c.loop-alarm-test.true) c.loop-alarm.invariant c.expire.ensures.effects c.expire.ensures.outbox

@@ -16,7 +16,7 @@ pub pass-requires : goal.pass-requires
 pass-requires g c =
     let next = next-at c.args.due.now c.loop-table.table-index blank c.loop-table-test.true in
     let own = still-passes next c.loop-table.invariant are_own c.requires.own in
-    search (rules, own, places-left next c.loop-table.invariant c.requires.outbox, room-left next c.loop-table.invariant c.requires.room)
+    search (rules, own, places-left next c.loop-table.invariant c.requires.posts.outbox, room-left next c.loop-table.invariant c.requires.posts.room)
 
 pub loop-table-preserved : goal.loop-table-preserved
 loop-table-preserved g c = one-acted (next-at c.args.due.now c.loop-table.table-index blank c.loop-table-test.true) c.loop-table.invariant c.pass.ensures.effects c.pass.ensures.outbox

@@ -19,18 +19,17 @@ pub advance-requires : goal.advance-requires
 advance-requires g c =
     let few = attached-few c.args.state.now.view.own c.args.counter c.is_hardware.ensures.within in
     let short = timed-few c.args.state.now.view.own c.args.counter c.is_hardware.ensures.within in
-    let empty : length c.args.state.now.border.outbox ≡ 0 = ap length c.requires.outbox in
-    let outbox : length c.args.state.now.border.outbox + posted_by c.args.state.now.view.own c.args.counter ≤ g.row.OUT = omega (arith, empty, posted-fewer c.args.state.now.view.own c.args.counter, c.requires.places) in
-    let count : c.args.state.now.progress.entries + suc (3 * length (attached_to c.args.state.now.view.own c.args.counter) + 38 * length (timed_by c.args.state.now.view.own c.args.counter)) ≤ 2 ^ 63 = omega (arith, few, short, c.requires.room.count) in
-    let place : vec_len c.args.marks.now + (3 * length (attached_to c.args.state.now.view.own c.args.counter) + 36 * length (timed_by c.args.state.now.view.own c.args.counter)) ≤ vec_capacity c.args.marks.now = omega (arith, few, short, c.requires.room.place) in
+    let outbox : length c.args.state.now.border.outbox + posted_by c.args.state.now.view.own c.args.counter ≤ g.row.OUT = omega (arith, posted-fewer c.args.state.now.view.own c.args.counter, c.requires.serves.posts.outbox) in
+    let count : c.args.state.now.progress.entries + suc (3 * length (attached_to c.args.state.now.view.own c.args.counter) + 38 * length (timed_by c.args.state.now.view.own c.args.counter)) ≤ 2 ^ 63 = omega (arith, few, short, c.requires.serves.posts.room.count) in
+    let place : vec_len c.args.marks.now + (3 * length (attached_to c.args.state.now.view.own c.args.counter) + 36 * length (timed_by c.args.state.now.view.own c.args.counter)) ≤ vec_capacity c.args.marks.now = omega (arith, few, short, c.requires.serves.posts.room.place) in
     search (rules, outbox, count, place)
 
 pub accept-requires : goal.accept-requires
 accept-requires g c =
     let few = attached-few c.args.state.now.view.own c.args.counter c.is_hardware.ensures.within in
     let short = timed-few c.args.state.now.view.own c.args.counter c.is_hardware.ensures.within in
-    let count : c.advance.new.state.progress.entries + 3 ≤ 2 ^ 63 = omega (arith, few, short, c.requires.room.count, c.advance.ensures.effects.stays.entries) in
-    let place : vec_len c.advance.new.marks + 2 ≤ vec_capacity c.advance.new.marks = omega (arith, few, short, c.requires.room.place, c.advance.ensures.effects.len, c.advance.ensures.effects.capacity) in
+    let count : c.advance.new.state.progress.entries + 3 ≤ 2 ^ 63 = omega (arith, few, short, c.requires.serves.posts.room.count, c.advance.ensures.effects.stays.entries) in
+    let place : vec_len c.advance.new.marks + 2 ≤ vec_capacity c.advance.new.marks = omega (arith, few, short, c.requires.serves.posts.room.place, c.advance.ensures.effects.len, c.advance.ensures.effects.capacity) in
     search (rules, count, place)
 
 pub returns-then-is_hardware : goal.returns-then-is_hardware

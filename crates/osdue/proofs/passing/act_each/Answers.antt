@@ -18,8 +18,8 @@ act-requires g c =
     let next = next-kept (is_of_kind c.args.activating) c.args.actions.now c.loop-action.action-index any_action c.loop-action-test.true (sym c.is_of_kind.ensures ∙ c.if-is_of_kind.true) in
     let known : IsTrue (is_known_call c.loop-action.state.view.own a) =
     known-call c.loop-action.state.view.own a (still-passes next c.loop-action.invariant may_act (all-filter (may_act c.args.state.now.view.own) (is_of_kind c.args.activating) c.args.actions.now c.requires.known)) in
-    let place : (same_core (core_of_call a) c.loop-action.state.view.own.id ≡ false → length c.loop-action.state.border.outbox < g.row.OUT) = place-left _ _ _ (places-left next c.loop-action.invariant c.requires.outbox) in
-    let room : HasRoom 2 2 c.loop-action.state c.loop-action.marks = room-left next c.loop-action.invariant c.requires.room in
+    let place : (same_core (core_of_call a) c.loop-action.state.view.own.id ≡ false → length c.loop-action.state.border.outbox < g.row.OUT) = place-left _ _ _ (places-left next c.loop-action.invariant c.requires.posts.outbox) in
+    let room : HasRoom 2 2 c.loop-action.state c.loop-action.marks = room-left next c.loop-action.invariant c.requires.posts.room in
     search (rules, known, place, room)
 
 pub loop-action-preserved : goal.loop-action-preserved

@@ -16,11 +16,11 @@ act_each-requires g c =
     let same = ap (λ (s : KernelState). length s.border.outbox) c.print.ensures.state in
     let known : IsTrue (list_all (may_act c.print.new.self.view.own) items) = rw (c.print.ensures.effects.stays.view, c.as_slice-actions.ensures) parts.0 in
     let outbox : length c.print.new.self.border.outbox + count_by (is_posting c.print.new.self.view.own) (of_kind true items) ≤ g.row.OUT =
-    rw (c.print.ensures.effects.stays.view, c.as_slice-actions.ensures) (omega (arith, same, kinds-posted c.args.state.now.view.own c.args.point.now.actions, c.requires.outbox)) in
+    rw (c.print.ensures.effects.stays.view, c.as_slice-actions.ensures) (omega (arith, same, kinds-posted c.args.state.now.view.own c.args.point.now.actions, c.requires.posts.outbox)) in
     let room : HasRoom (2 * length (of_kind true items)) (2 * length (of_kind true items)) c.print.new.self c.print.new.marks =
     rw (c.as_slice-actions.ensures) (record {
-      count = omega (arith, long, parts.1, c.requires.room.count, c.print.ensures.effects.stays.entries);
-      place = omega (arith, long, parts.1, c.requires.room.place, c.print.ensures.effects.len, c.print.ensures.effects.capacity);
+      count = omega (arith, long, parts.1, c.requires.posts.room.count, c.print.ensures.effects.stays.entries);
+      place = omega (arith, long, parts.1, c.requires.posts.room.place, c.print.ensures.effects.len, c.print.ensures.effects.capacity);
     }) in
     search (rules, known, outbox, room)
 
@@ -34,11 +34,11 @@ act_each-requires-2 g c =
     let first = rw (c.as_slice-actions.ensures) at c.act_each.ensures.effects in
     let known : IsTrue (list_all (may_act c.act_each.new.state.view.own) items) = rw (c.act_each.ensures.effects.stays.view, c.print.ensures.effects.stays.view, c.as_slice-actions.ensures) parts.0 in
     let outbox : length c.act_each.new.state.border.outbox + count_by (is_posting c.act_each.new.state.view.own) (of_kind false items) ≤ g.row.OUT =
-    rw (c.act_each.ensures.effects.stays.view, c.print.ensures.effects.stays.view, c.as_slice-actions.ensures) (omega (arith, joined, same, kinds-posted c.args.state.now.view.own c.args.point.now.actions, c.requires.outbox)) in
+    rw (c.act_each.ensures.effects.stays.view, c.print.ensures.effects.stays.view, c.as_slice-actions.ensures) (omega (arith, joined, same, kinds-posted c.args.state.now.view.own c.args.point.now.actions, c.requires.posts.outbox)) in
     let room : HasRoom (2 * length (of_kind false items)) (2 * length (of_kind false items)) c.act_each.new.state c.act_each.new.marks =
     rw (c.as_slice-actions.ensures) (record {
-      count = omega (arith, long, parts.1, c.requires.room.count, c.print.ensures.effects.stays.entries, first.stays.entries);
-      place = omega (arith, long, parts.1, c.requires.room.place, c.print.ensures.effects.len, c.print.ensures.effects.capacity, first.len, first.capacity);
+      count = omega (arith, long, parts.1, c.requires.posts.room.count, c.print.ensures.effects.stays.entries, first.stays.entries);
+      place = omega (arith, long, parts.1, c.requires.posts.room.place, c.print.ensures.effects.len, c.print.ensures.effects.capacity, first.len, first.capacity);
     }) in
     search (rules, known, outbox, room)
 

@@ -1,4 +1,6 @@
-use Rattle.std.proofs.Common.{refl, lit≤}
+use Rattle.std.proofs.Common.{◌≡◌, ◌≤◌, ◌+◌, List, [], length, refl, ap, arith, rules, lit≤}
+use Rattle.osbase.specs.declared.histories.Sent.{Sent}
+use Rattle.osplan.specs.Objects.{posted_at_once}
 use Rattle.osstate.proofs.Effecting.{as_effect}
 use Rattle.oskernel.proofs.effects.follow.Goals as goal
 
@@ -7,3 +9,9 @@ returns-in-Pass2 g c = rw c.in-Pass2.is c.start.ensures
 
 pub returns-in-Began : goal.returns-in-Began
 returns-in-Began g c = rw c.in-Began.is (as_effect (λ v h stands. refl) (lit≤ tt) (lit≤ tt) c.print.ensures.effects)
+
+pub go_on-requires : goal.go_on-requires
+go_on-requires g c =
+    let empty : c.args.state.now.border.outbox ≡ [] = c.requires.empty (rw c.in-Stim.is refl) in
+    let outbox : length c.args.state.now.border.outbox + (1 + posted_at_once c.args.state.now.view.own) ≤ g.row.OUT = omega (arith, ap (λ (xs : List Sent). length xs) empty, c.requires.places) in
+    search (rules, outbox)

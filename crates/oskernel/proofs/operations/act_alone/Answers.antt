@@ -32,9 +32,9 @@ module _ {n m : ℕ} {s s' : KernelState} {x x' : Vec Mark Global} {known : Bool
 
 pub returns : goal.returns
 returns g c =
-    next (script_acts c.args.runner c.args.op) c.operate.ensures.known _ c.if-operate.false (c.operate.ensures.others c.if-operate.false)
-    (next (task_acts c.args.runner c.args.op) c.operate-2.ensures.known _ c.if-operate-2.false (c.operate-2.ensures.others c.if-operate-2.false)
-    (next (chain_acts c.args.runner c.args.op) c.operate-3.ensures.known _ c.if-operate-3.false (c.operate-3.ensures.others c.if-operate-3.false)
-    (next (counter_acts c.args.runner c.args.op) c.operate-4.ensures.known _ c.if-operate-4.false (c.operate-4.ensures.others c.if-operate-4.false)
-    (next (increment_acts c.args.runner c.args.op) c.operate-5.ensures.known _ c.if-operate-5.false (c.operate-5.ensures.others c.if-operate-5.false)
-    (last (table_acts c.args.runner c.args.op) c.operate-6.ensures.known c.operate-6.ensures.effects c.operate-6.ensures.others)))))
+    next (script_acts c.args.step.runner c.args.step.op) c.operate.ensures.known _ c.if-operate.false (c.operate.ensures.others c.if-operate.false)
+    (next (task_acts c.args.step.runner c.args.step.op) c.operate-2.ensures.known _ c.if-operate-2.false (c.operate-2.ensures.others c.if-operate-2.false)
+    (next (chain_acts c.args.step.runner c.args.step.op) c.operate-3.ensures.known _ c.if-operate-3.false (c.operate-3.ensures.others c.if-operate-3.false)
+    (next (counter_acts c.args.step.runner c.args.step.op) c.operate-4.ensures.known _ c.if-operate-4.false (c.operate-4.ensures.others c.if-operate-4.false)
+    (next (increment_acts c.args.step.runner c.args.step.op) c.operate-5.ensures.known _ c.if-operate-5.false (c.operate-5.ensures.others c.if-operate-5.false)
+    (last (table_acts c.args.step.runner c.args.step.op) c.operate-6.ensures.known c.operate-6.ensures.effects c.operate-6.ensures.others)))))

@@ -1,5 +1,4 @@
-use Rattle.std.proofs.Common.{◌≡◌, ◌<◌, length, arith, Option, Some, None, List, IfSome, IsTrue, true, rules, ap, sym, lit≤}
-use Rattle.osbase.specs.declared.histories.Sent.{Sent}
+use Rattle.std.proofs.Common.{◌≡◌, ◌≤◌, ◌+◌, length, arith, Option, Some, None, IfSome, IsTrue, true, rules, ap, sym, lit≤}
 use Rattle.osbase.specs.declared.messages.RemoteCall.{RemoteCall}
 use Rattle.osbase.specs.declared.statuses.ServiceId.{ServiceId}
 use Rattle.oscript.specs.declared.Op.{Op}
@@ -21,12 +20,12 @@ known-call core op id (Some call) is known = called-passes (may_name core) op id
 
 pub call-requires : goal.call-requires
 call-requires g c =
-    let known : IfSome c.in-Some.target (λ call. IsTrue (is_known_call c.args.state.now.view.own call)) = known-call c.args.state.now.view.own c.args.op c.in-Some.service c.in-Some.target c.in-Some.ensures c.requires.known in
-    let place : length c.args.state.now.border.outbox < g.row.OUT = omega (arith, ap (λ (xs : List Sent). length xs) c.requires.outbox, c.requires.places) in
+    let known : IfSome c.in-Some.target (λ call. IsTrue (is_known_call c.args.state.now.view.own call)) = known-call c.args.state.now.view.own c.args.step.op c.in-Some.service c.in-Some.target c.in-Some.ensures c.requires.known in
+    let place : length c.args.state.now.border.outbox + 1 ≤ g.row.OUT = omega (arith, c.requires.serves.posts.outbox) in
     search (rules, known, place)
 
 pub returns-in-Some : goal.returns-in-Some
-returns-in-Some g c = as_effect (λ v h stands. ap (λ o. does (operates_by c.args.runner c.args.op o) v h) (sym c.in-Some.ensures)) (lit≤ tt) (lit≤ tt) c.call.ensures
+returns-in-Some g c = as_effect (λ v h stands. ap (λ o. does (operates_by c.args.step.runner c.args.step.op o) v h) (sym c.in-Some.ensures)) (lit≤ tt) (lit≤ tt) c.call.ensures
 
 pub returns-in-None : goal.returns-in-None
-returns-in-None g c = as_effect (λ v h stands. ap (λ o. does (operates_by c.args.runner c.args.op o) v h) (sym c.in-None.ensures)) (lit≤ tt) (lit≤ tt) c.act_alone.ensures
+returns-in-None g c = as_effect (λ v h stands. ap (λ o. does (operates_by c.args.step.runner c.args.step.op o) v h) (sym c.in-None.ensures)) (lit≤ tt) (lit≤ tt) c.act_alone.ensures

@@ -23,7 +23,7 @@ use Rattle.oskernel.proofs.ticks.tick.Goals as goal
 pub loop-counter-init : goal.loop-counter-init
 loop-counter-init g c = record {
   place = omega arith;
-  outbox = omega (arith, ap (λ (s : KernelState). length s.border.outbox) c.print.ensures.state, ap length c.requires.outbox);
+  outbox = omega arith;
   effects = as_effect {f = λ v h. h} (λ v h stands. refl) (omega arith) (omega arith) (unprinted unmoved);
 }
 
@@ -43,7 +43,7 @@ count_by_tick-requires g c =
     let all_alarms = alarms-within own (place + 1) in
     let all_tables = tables-within own (place + 1) in
     let outbox : length c.loop-counter.state.border.outbox + posted_by c.loop-counter.state.view.own reference ≤ g.row.OUT =
-    omega (arith, c.loop-counter.invariant.outbox, amount.posted, total-more (posted_at own) place, posted-within own (place + 1), places, c.requires.places) in
+    omega (arith, c.loop-counter.invariant.outbox, amount.posted, total-more (posted_at own) place, posted-within own (place + 1), places, ap (λ (s : KernelState). length s.border.outbox) c.print.ensures.state, c.requires.outbox) in
     let count : c.loop-counter.state.progress.entries + suc (3 * length (attached_to c.loop-counter.state.view.own reference) + 38 * length (timed_by c.loop-counter.state.view.own reference)) ≤ 2 ^ 63 =
     omega (arith, amount.alarms, amount.tables, more_alarms, more_tables, all_alarms, all_tables, few, short, c.loop-counter.invariant.effects.stays.entries, c.print.ensures.effects.stays.entries, c.requires.room.count, c.loop-counter-test.true, c.counters-counters.ensures.few) in
     let marks : vec_len c.loop-counter.marks + (3 * length (attached_to c.loop-counter.state.view.own reference) + 36 * length (timed_by c.loop-counter.state.view.own reference)) ≤ vec_capacity c.loop-counter.marks =

@@ -9,7 +9,7 @@ use Rattle.oskernel.proofs.ticks.tick.Given as goal
 abbrev pub invariant-loop-counter : goal.invariant-loop-counter
 invariant-loop-counter g l = record {
   place : l.index ≡ l.counter-index;
-  outbox : length l.state.border.outbox ≤ total (posted_at l.initial.state.view.own) l.counter-index;
+  outbox : length l.state.border.outbox ≤ length l.initial.state.border.outbox + total (posted_at l.initial.state.view.own) l.counter-index;
   effects :
       Effects (l.counter-index + (3 * total (alarms_at l.initial.state.view.own) l.counter-index + 38 * total (tables_at l.initial.state.view.own) l.counter-index))
       (3 * total (alarms_at l.initial.state.view.own) l.counter-index + 36 * total (tables_at l.initial.state.view.own) l.counter-index) (acted counts_if_hardware (λ (core : Core). core.counters) l.counter-index) l.initial.state l.state l.initial.marks l.marks;

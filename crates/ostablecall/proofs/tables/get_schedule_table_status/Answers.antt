@@ -14,7 +14,7 @@ returns g c =
     elim c.match-own_of.branch [
       | in-Some w ↦
           served status_inquiry (λ core. own_of table_object core c.args.target) c.args.runner GetScheduleTableStatus c.match-own_of.answer
-          w.in-Some.table w.in-Some.ensures.value (rw w.answer-is w.tell_status-answer.ensures) (unprinted unmoved) c.finish.ensures
+          w.in-Some.table w.in-Some.ensures.value (rw w.answer-is w.tell_status-answer.ensures) (unprinted unmoved) c.finish.ensures (lit≤ tt) (lit≤ tt)
       | in-None w ↦
           unserved status_inquiry (λ core. own_of table_object core c.args.target) c.args.runner GetScheduleTableStatus c.match-own_of.answer
           w.in-None.ensures.value (w.answer-is ∙ w.without_value-answer.ensures) c.finish.ensures (lit≤ tt) (lit≤ tt)

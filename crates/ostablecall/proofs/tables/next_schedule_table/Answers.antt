@@ -11,7 +11,7 @@ returns g c =
     elim c.match-own_pair.branch [
       | in-Some w ↦
           served switch (λ core. own_pair core c.args.from c.args.to) c.args.runner NextScheduleTable c.match-own_pair.answer
-          (w.in-Some.from, w.in-Some.to) w.in-Some.ensures.value (rw w.answer-is w.switch-answer.ensures.answer) (unprinted w.switch-answer.ensures.effects) (rw w.state-is at c.finish.ensures)
+          (w.in-Some.from, w.in-Some.to) w.in-Some.ensures.value (rw w.answer-is w.switch-answer.ensures.answer) (unprinted w.switch-answer.ensures.effects) (rw w.state-is at c.finish.ensures) (lit≤ tt) (lit≤ tt)
       | in-None w ↦
           unserved switch (λ core. own_pair core c.args.from c.args.to) c.args.runner NextScheduleTable c.match-own_pair.answer
           w.in-None.ensures.value (w.answer-is ∙ w.without_value-answer.ensures) (rw w.state-is at c.finish.ensures) (lit≤ tt) (lit≤ tt)

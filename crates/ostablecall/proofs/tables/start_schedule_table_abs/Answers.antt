@@ -13,7 +13,7 @@ returns g c =
     elim c.match-own_of.branch [
       | in-Some w ↦
           served (absolute_start c.args.start) (λ core. own_of table_object core c.args.target) c.args.runner StartScheduleTableAbs c.match-own_of.answer
-          w.in-Some.table w.in-Some.ensures.value (rw w.answer-is w.start_absolute-answer.ensures.answer) (unprinted w.start_absolute-answer.ensures.effects) (rw w.state-is at c.finish.ensures)
+          w.in-Some.table w.in-Some.ensures.value (rw w.answer-is w.start_absolute-answer.ensures.answer) (unprinted w.start_absolute-answer.ensures.effects) (rw w.state-is at c.finish.ensures) (lit≤ tt) (lit≤ tt)
       | in-None w ↦
           unserved (absolute_start c.args.start) (λ core. own_of table_object core c.args.target) c.args.runner StartScheduleTableAbs c.match-own_of.answer
           w.in-None.ensures.value (w.answer-is ∙ w.without_value-answer.ensures) (rw w.state-is at c.finish.ensures) (lit≤ tt) (lit≤ tt)

@@ -13,7 +13,7 @@ returns g c =
     elim c.match-own_of.branch [
       | in-Some w ↦
           served stop (λ core. own_of table_object core c.args.target) c.args.runner StopScheduleTable c.match-own_of.answer
-          w.in-Some.table w.in-Some.ensures.value (rw w.answer-is w.stop-answer.ensures.answer) (unprinted w.stop-answer.ensures.effects) (rw w.state-is at c.finish.ensures)
+          w.in-Some.table w.in-Some.ensures.value (rw w.answer-is w.stop-answer.ensures.answer) (unprinted w.stop-answer.ensures.effects) (rw w.state-is at c.finish.ensures) (lit≤ tt) (lit≤ tt)
       | in-None w ↦
           unserved stop (λ core. own_of table_object core c.args.target) c.args.runner StopScheduleTable c.match-own_of.answer
           w.in-None.ensures.value (w.answer-is ∙ w.without_value-answer.ensures) (rw w.state-is at c.finish.ensures) (lit≤ tt) (lit≤ tt)

@@ -19,7 +19,7 @@ returns g c =
           served reading (λ core. own_of task_object core c.args.target) c.args.runner GetEvent c.match-own_of.answer {n = 0} {m = 0}
           w.in-Some.task w.in-Some.ensures.value (rw w.answer-is w.read_events-answer.ensures)
           (as_effect {f = λ v h. h} (λ v h stands. either-way (is_ok_status (status_of (reading w.in-Some.task (seen_of v h)))) h) (lit≤ tt) (lit≤ tt) (unprinted unmoved))
-          c.finish.ensures
+          c.finish.ensures (lit≤ tt) (lit≤ tt)
       | in-None w ↦
           unserved reading (λ core. own_of task_object core c.args.target) c.args.runner GetEvent c.match-own_of.answer
           w.in-None.ensures.value (w.answer-is ∙ w.without_value-answer.ensures) c.finish.ensures (lit≤ tt) (lit≤ tt)

@@ -5,7 +5,7 @@ use Rattle.ostaskcall.specs.Tasks.{ends}
 use Rattle.ostaskcall.proofs.tasks.end_unasked.Goals as goal
 
 pub returns-in-Task : goal.returns-in-Task
-returns-in-Task g c = rw c.in-Task.is (then c.print.ensures.effects c.end_task.ensures.effects)
+returns-in-Task g c = rw c.in-Task.is (as_effect (λ v h stands. refl) (lit≤ tt) (lit≤ tt) (then c.print.ensures.effects c.end_task.ensures.effects))
 
 pub returns-in-Isr : goal.returns-in-Isr
 returns-in-Isr g c = as_effect {f = does (ends c.args.runner)} (λ v h stands. rw c.in-Isr.is refl) (lit≤ tt) (lit≤ tt) c.end.ensures
