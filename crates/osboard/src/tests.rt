@@ -36,28 +36,6 @@ fn entry(core: CoreId, call: BoardCall, reply: BoardReply) -> BoardEntry
     Entry { core, call, reply }
 }
 
-// Starts a core, and enters.
-fn arrive(board: &Board, run: &mut Run)
-    requires place { run.old.seat.place ≡ board.now }
-    requires core { run.old.seat.core.number < BOARD_CORES }
-    requires room { vec_len run.old.work.log + 5 ≤ vec_capacity run.old.work.log }
-    requires log { Thinned IsLook run.old.seat.mine run.old.work.log.items }
-    ensures place { run.new.seat.place ≡ run.old.seat.place }
-    ensures core { run.new.seat.core ≡ run.old.seat.core }
-    ensures room { vec_len run.new.work.log + 3 ≤ vec_capacity run.new.work.log }
-    ensures log { Thinned IsLook run.new.seat.mine run.new.work.log.items }
-{
-    let core = run.seat.core();
-    let started = board.start(&mut run.seat, CoreId { number: 1 });
-    let call = BoardCall::Start(CoreId { number: 1 });
-    run.work
-        .log
-        .push_reserved(entry(core, call, BoardReply::Started(started)));
-    let mode = CoreMode::Named(ModeId { index: 7 });
-    board.enter(&mut run.seat, mode);
-    run.work.log.push_reserved(entry(core, BoardCall::Enter(mode), BoardReply::Acknowledged));
-}
-
 fn has_entered(view: &BoardView, core: CoreId) -> bool {
     view.entered.contains(core) && view.modes.members[7]
 }
@@ -88,33 +66,7 @@ fn is_shown_often(board: &Board, seat: &mut BoardSeat) -> bool
     shown
 }
 
-// Passes the gates and asks for a shutdown.
-fn leave(board: &Board, run: &mut Run)
-    requires place { run.old.seat.place ≡ board.now }
-    requires core { run.old.seat.core.number < BOARD_CORES }
-    requires room { vec_len run.old.work.log + 3 ≤ vec_capacity run.old.work.log }
-    requires log { Thinned IsLook run.old.seat.mine run.old.work.log.items }
-    ensures place { run.new.seat.place ≡ run.old.seat.place }
-    ensures core { run.new.seat.core ≡ run.old.seat.core }
-    ensures log { Thinned IsLook run.new.seat.mine run.new.work.log.items }
-{
-    let core = run.seat.core();
-    board.ready(&mut run.seat);
-    run.work.log.push_reserved(entry(core, BoardCall::MakeReady, BoardReply::Acknowledged));
-    board.drain(&mut run.seat);
-    run.work
-        .log
-        .push_reserved(entry(core, BoardCall::Drain, BoardReply::Acknowledged));
-    let decided = board.ask_halt(&mut run.seat, Status::EOsState);
-    let call = BoardCall::AskHalt(Status::EOsState);
-    run.work
-        .log
-        .push_reserved(entry(core, call, BoardReply::Decided(decided)));
-    let halt = board.look_halt(&mut run.seat);
-    run.work.shown = run.work.shown && halt == Some(decided);
-}
-
-// Does all of it, where the core has a place on the board.
+// Where the core has a place on the board: starts a core, enters, looks often, passes the gates and asks for a shutdown.
 fn take_part(board: &Board, alloc: Global, seat: BoardSeat) -> Run
     requires place { seat.place ≡ board.now }
     requires fresh { seat.mine ≡ [] }
@@ -122,17 +74,37 @@ fn take_part(board: &Board, alloc: Global, seat: BoardSeat) -> Run
     ensures core { result.seat.core ≡ seat.core }
     ensures log { Thinned IsLook result.seat.mine result.work.log.items }
 {
+    let core = seat.core();
+    let mode = CoreMode::Named(ModeId { index: 7 });
+    let one = CoreId { number: 1 };
     let work = Work {
         log: Vec::new(alloc),
-        shown: true,
+        shown: false,
     };
     let mut run = Run { seat, work };
-    if usize::from(run.seat.core().number) >= BOARD_CORES || run.work.log.reserve(5).is_err() {
+    if usize::from(core.number) >= BOARD_CORES || run.work.log.reserve(5).is_err() {
         return run;
     }
-    arrive(board, &mut run);
+    let started = board.start(&mut run.seat, one);
+    run.work.log.push_reserved(entry(core, BoardCall::Start(one), BoardReply::Started(started)));
+    board.enter(&mut run.seat, mode);
+    run.work.log.push_reserved(entry(core, BoardCall::Enter(mode), BoardReply::Acknowledged));
     run.work.shown = is_shown_often(board, &mut run.seat);
-    leave(board, &mut run);
+    board.ready(&mut run.seat);
+    run.work.log.push_reserved(entry(core, BoardCall::MakeReady, BoardReply::Acknowledged));
+    board.drain(&mut run.seat);
+    run.work
+        .log
+        .push_reserved(entry(core, BoardCall::Drain, BoardReply::Acknowledged));
+    let status = Status::EOsState;
+    let decided = board.ask_halt(&mut run.seat, status);
+    run.work.log.push_reserved(entry(
+        core,
+        BoardCall::AskHalt(status),
+        BoardReply::Decided(decided),
+    ));
+    let halt = board.look_halt(&mut run.seat);
+    run.work.shown = run.work.shown && halt == Some(decided);
     run
 }
 

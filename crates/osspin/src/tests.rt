@@ -230,14 +230,6 @@ fn the_listed_spinlocks_answer_alike(rt: HostRuntime) -> Result<(), Fail> {
     assert!(rt; locks.look(lock).is_none() && locks.try_take(a, lock));
     assert!(rt; !locks.try_take(b, lock) && !locks.try_take(a, lock) && !locks.free(b, lock));
     assert!(rt; locks.look(lock) == Some(a) && locks.free(a, lock) && locks.look(lock).is_none());
-    Ok(())
-}
-
-#[test]
-fn any_call_of_the_listed_spinlocks_is_answered(rt: HostRuntime) -> Result<(), Fail> {
-    let mut locks = SpinList::new();
-    let (a, b) = (CoreId { number: 0 }, CoreId { number: 5 });
-    let lock = SpinlockId { index: 15 };
     let take = call_of(lock, SpinAction::Take);
     let (free, look) = (
         call_of(lock, SpinAction::Free),

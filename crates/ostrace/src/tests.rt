@@ -7,6 +7,7 @@ use crate::sinks::{MemorySink, WriteFailed, WriteSink};
 use fixture::{FailingSink, bare_config, bare_reports, plan, reports};
 use osbase::Mark;
 use std::alloc::Global;
+use std::process::Abort;
 use std::test::Fail;
 
 // The line that is written for a mark, from memory in which nothing stands.
@@ -16,44 +17,21 @@ fn line(alloc: Global, mark: &Mark) -> Result<Vec<u8>, Fail> {
     Ok(out.bytes)
 }
 
-#[test]
-fn each_kind_of_mark_has_its_line(rt: HostRuntime) -> Result<(), Fail> {
-    for (mark, want) in table::hooks() {
-        assert_eq!(rt;
-            line(rt.alloc(), &mark)?.as_slice(),
-            want.as_bytes(),
-            "{want}"
-        );
-    }
-    for (mark, want) in table::tasks() {
-        assert_eq!(rt;
-            line(rt.alloc(), &mark)?.as_slice(),
-            want.as_bytes(),
-            "{want}"
-        );
-    }
-    for (mark, want) in table::objects() {
-        assert_eq!(rt;
-            line(rt.alloc(), &mark)?.as_slice(),
-            want.as_bytes(),
-            "{want}"
-        );
-    }
-    for (mark, want) in table::calls() {
-        assert_eq!(rt;
-            line(rt.alloc(), &mark)?.as_slice(),
-            want.as_bytes(),
-            "{want}"
-        );
-    }
-    for (mark, want) in table::services() {
-        assert_eq!(rt;
-            line(rt.alloc(), &mark)?.as_slice(),
-            want.as_bytes(),
-            "{want}"
-        );
+// Each mark has its line.
+fn compare(rt: &impl Abort, alloc: Global, lines: &[(Mark, &str)]) -> Result<(), Fail> {
+    for (mark, want) in lines {
+        assert_eq!(rt; line(alloc, mark)?.as_slice(), want.as_bytes(), "{want}");
     }
     Ok(())
+}
+
+#[test]
+fn each_kind_of_mark_has_its_line(rt: HostRuntime) -> Result<(), Fail> {
+    compare(&rt, rt.alloc(), table::hooks().as_slice())?;
+    compare(&rt, rt.alloc(), table::tasks().as_slice())?;
+    compare(&rt, rt.alloc(), table::objects().as_slice())?;
+    compare(&rt, rt.alloc(), table::calls().as_slice())?;
+    compare(&rt, rt.alloc(), table::services().as_slice())
 }
 
 // The text of the fixture's reports.

@@ -1,11 +1,22 @@
 //! A configuration with an object of each kind, two reports, and a sink that fails.
 
-ghost use Rattle.std.specs.Prelude.{◌≡◌, IfOk, IsTrue, Some};
+ghost use Rattle.std.specs.Prelude.{◌≡◌, [], Some};
 
 use crate::sinks::Sink;
-use osbase::{CoreId, CounterRef, List, Mark, ModeId, Name, RemoteCall, Report, Status, TaskRef};
+use osbase::{
+    CoreId, List, Mark, ModeId, Name, Place, Reference, RemoteCall, Report, Status, TaskRef,
+};
 use osplan::{Alarm, Config, Core, CoreMode, Isr, Plan, Table, Task};
 use std::alloc::{AllocError, Global};
+
+pub const ZERO: CoreId = CoreId { number: 0 };
+
+pub const ONE: CoreId = CoreId { number: 1 };
+
+/// A core's first object of a kind.
+pub fn first<R: Reference>(core: CoreId) -> R {
+    R::at(Place { core, index: 0 })
+}
 
 /// Core 0 has the task A, the ISR I1, the alarm L and the table S1; core 1 has the task Blink.
 pub fn plan(alloc: Global) -> Result<Plan, AllocError> {
@@ -13,10 +24,12 @@ pub fn plan(alloc: Global) -> Result<Plan, AllocError> {
     modes.push(Name::new(alloc, "M")?)?;
     let mut cores = List::new(alloc);
     cores.push(full_core(alloc)?)?;
-    cores.push(core(alloc, 1, task(alloc, "Blink")?)?)?;
+    let mut other = bare_core(alloc, ONE);
+    other.tasks.push(task(alloc, "Blink")?)?;
+    cores.push(other)?;
     Ok(Plan {
         cap: 16,
-        master: CoreId { number: 0 },
+        master: ZERO,
         modes,
         cores,
     })
@@ -34,99 +47,12 @@ fn task(alloc: Global, name: &str) -> Result<Task, AllocError> {
     })
 }
 
-fn core(alloc: Global, number: u8, only: Task) -> Result<Core, AllocError> {
-    let mut tasks = List::new(alloc);
-    tasks.push(only)?;
-    Ok(Core {
-        id: CoreId { number },
-        mode: CoreMode::Named(ModeId { index: 0 }),
-        start: List::new(alloc),
-        tasks,
-        resources: List::new(alloc),
-        isrs: List::new(alloc),
-        counters: List::new(alloc),
-        alarms: List::new(alloc),
-        tables: List::new(alloc),
-    })
-}
-
-fn full_core(alloc: Global) -> Result<Core, AllocError> {
-    let mut core = core(alloc, 0, task(alloc, "A")?)?;
-    core.isrs.push(Isr {
-        name: Name::new(alloc, "I1")?,
-        level: 1,
-        budget: 0,
-        script: List::new(alloc),
-    })?;
-    core.alarms.push(Alarm {
-        name: Name::new(alloc, "L")?,
-        counter: CounterRef {
-            core: CoreId { number: 0 },
-            index: 0,
-        },
-        action: RemoteCall::ActivateTask(TaskRef {
-            core: CoreId { number: 0 },
-            index: 0,
-        }),
-        auto: None,
-    })?;
-    core.tables.push(Table {
-        name: Name::new(alloc, "S1")?,
-        counter: CounterRef {
-            core: CoreId { number: 0 },
-            index: 0,
-        },
-        duration: 3,
-        repeating: false,
-        points: List::new(alloc),
-        auto: None,
-    })?;
-    Ok(core)
-}
-
-fn report(alloc: Global, number: u8, marks: List<Mark>) -> Report
-    ensures { result.marks ≡ marks }
+// A core that has no object.
+fn bare_core(alloc: Global, id: CoreId) -> Core
+    ensures { result ≡ record { id = id; mode = CoreMode.Named (record { index = 0 }); start = []; tasks = []; resources = []; isrs = []; counters = []; alarms = []; tables = [] } }
 {
-    Report {
-        core: CoreId { number },
-        items: List::new(alloc),
-        marks,
-        ended: true,
-    }
-}
-
-/// What core 0 does to activate the task of core 1.
-pub fn reports(alloc: Global) -> Result<Vec<Report>, AllocError> {
-    let (zero, one) = (CoreId { number: 0 }, CoreId { number: 1 });
-    let task = TaskRef {
-        core: zero,
-        index: 0,
-    };
-    let blink = TaskRef {
-        core: one,
-        index: 0,
-    };
-    let call = RemoteCall::ActivateTask(blink);
-    let posted = Mark::CallQueued { core: one, call };
-    let served = Mark::CallServed {
-        core: zero,
-        call,
-        status: Status::EOk,
-        value: None,
-    };
-    let first = vec![in alloc; Mark::StartupHook, Mark::Activated(task), posted]?;
-    let second = vec![in alloc; Mark::Activated(blink), served]?;
-    let mut reports = Vec::new(alloc);
-    reports.push(report(alloc, 0, List::from_vec(first)))?;
-    reports.push(report(alloc, 1, List::from_vec(second)))?;
-    Ok(reports)
-}
-
-/// A configuration within the limits, of one core that has no object.
-pub fn bare_config(alloc: Global) -> Result<Config, AllocError> {
-    let modes = List::from_vec(vec![in alloc; Name::new(alloc, "M")?]?);
-    let core = Core {
-        id: CoreId { number: 0 },
+    Core {
+        id,
         mode: CoreMode::Named(ModeId { index: 0 }),
         start: List::new(alloc),
         tasks: List::new(alloc),
@@ -135,11 +61,72 @@ pub fn bare_config(alloc: Global) -> Result<Config, AllocError> {
         counters: List::new(alloc),
         alarms: List::new(alloc),
         tables: List::new(alloc),
+    }
+}
+
+fn full_core(alloc: Global) -> Result<Core, AllocError> {
+    let mut core = bare_core(alloc, ZERO);
+    core.tasks.push(task(alloc, "A")?)?;
+    core.isrs.push(Isr {
+        name: Name::new(alloc, "I1")?,
+        level: 1,
+        budget: 0,
+        script: List::new(alloc),
+    })?;
+    core.alarms.push(Alarm {
+        name: Name::new(alloc, "L")?,
+        counter: first(ZERO),
+        action: RemoteCall::ActivateTask(first(ZERO)),
+        auto: None,
+    })?;
+    core.tables.push(Table {
+        name: Name::new(alloc, "S1")?,
+        counter: first(ZERO),
+        duration: 3,
+        repeating: false,
+        points: List::new(alloc),
+        auto: None,
+    })?;
+    Ok(core)
+}
+
+fn report(alloc: Global, core: CoreId, marks: List<Mark>) -> Report
+    ensures { result.marks ≡ marks }
+{
+    Report {
+        core,
+        items: List::new(alloc),
+        marks,
+        ended: true,
+    }
+}
+
+/// What core 0 does to activate the task of core 1.
+pub fn reports(alloc: Global) -> Result<Vec<Report>, AllocError> {
+    let (task, blink): (TaskRef, TaskRef) = (first(ZERO), first(ONE));
+    let call = RemoteCall::ActivateTask(blink);
+    let posted = Mark::CallQueued { core: ONE, call };
+    let served = Mark::CallServed {
+        core: ZERO,
+        call,
+        status: Status::EOk,
+        value: None,
     };
-    let cores = List::from_vec(vec![in alloc; core]?);
+    let first = vec![in alloc; Mark::StartupHook, Mark::Activated(task), posted]?;
+    let second = vec![in alloc; Mark::Activated(blink), served]?;
+    let mut reports = Vec::new(alloc);
+    reports.push(report(alloc, ZERO, List::from_vec(first)))?;
+    reports.push(report(alloc, ONE, List::from_vec(second)))?;
+    Ok(reports)
+}
+
+/// A configuration within the limits, of one core that has no object.
+pub fn bare_config(alloc: Global) -> Result<Config, AllocError> {
+    let modes = List::from_vec(vec![in alloc; Name::new(alloc, "M")?]?);
+    let cores = List::from_vec(vec![in alloc; bare_core(alloc, ZERO)]?);
     Ok(Config::new(Plan {
         cap: 16,
-        master: CoreId { number: 0 },
+        master: ZERO,
         modes,
         cores,
     }))
@@ -148,7 +135,7 @@ pub fn bare_config(alloc: Global) -> Result<Config, AllocError> {
 /// A report that names no object.
 pub fn bare_reports(alloc: Global) -> Result<Vec<Report>, AllocError> {
     let marks = List::from_vec(vec![in alloc; Mark::StartupHook, Mark::Tick]?);
-    Ok(vec![in alloc; report(alloc, 0, marks)]?)
+    Ok(vec![in alloc; report(alloc, ZERO, marks)]?)
 }
 
 /// Takes at most three bytes a write, and fails after a number of writes.

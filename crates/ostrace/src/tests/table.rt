@@ -1,35 +1,11 @@
 //! Marks, and the lines that the trace's format has for them.
 
+use super::fixture::{ONE, ZERO, first};
 use osbase::{
-    AlarmRef, CoreId, IsrRef, Mark, RemoteCall, Runner, ServiceId, Status, TableRef, TaskRef,
-    Variable,
-};
-
-const ZERO: CoreId = CoreId { number: 0 };
-
-const ONE: CoreId = CoreId { number: 1 };
-
-const TASK: TaskRef = TaskRef {
-    core: ZERO,
-    index: 0,
-};
-
-const OTHER: TaskRef = TaskRef {
-    core: ONE,
-    index: 0,
+    AlarmRef, CoreId, IsrRef, Mark, RemoteCall, Runner, ServiceId, Status, TaskRef, Variable,
 };
 
 const ISR: IsrRef = IsrRef {
-    core: ZERO,
-    index: 0,
-};
-
-const ALARM: AlarmRef = AlarmRef {
-    core: ZERO,
-    index: 0,
-};
-
-const TABLE: TableRef = TableRef {
     core: ZERO,
     index: 0,
 };
@@ -67,27 +43,25 @@ pub fn hooks() -> [(Mark, &'static str); 8] {
 
 /// Lines of tasks and their events.
 pub fn tasks() -> [(Mark, &'static str); 9] {
+    let (task, other): (TaskRef, TaskRef) = (first(ZERO), first(ONE));
     let set = Mark::EventSet {
-        task: TASK,
+        task,
         mask: 4294967295,
     };
-    let cleared = Mark::EventCleared {
-        task: TASK,
-        mask: 1,
-    };
+    let cleared = Mark::EventCleared { task, mask: 1 };
     let awaited = Mark::EventAwaited {
-        task: OTHER,
+        task: other,
         mask: 10,
     };
     [
-        (Mark::Activated(TASK), "act A"),
-        (Mark::Terminated(OTHER), "end Blink"),
-        (Mark::PreTaskHook(TASK), "pre A"),
-        (Mark::PostTaskHook(TASK), "post A"),
+        (Mark::Activated(task), "act A"),
+        (Mark::Terminated(other), "end Blink"),
+        (Mark::PreTaskHook(task), "pre A"),
+        (Mark::PostTaskHook(task), "post A"),
         (set, "ev A 4294967295"),
         (cleared, "clr A 1"),
         (awaited, "wait Blink 10"),
-        (Mark::Released(TASK), "free A"),
+        (Mark::Released(task), "free A"),
         (Mark::Tick, "tick"),
     ]
 }
@@ -95,7 +69,7 @@ pub fn tasks() -> [(Mark, &'static str); 9] {
 /// Lines of ISRs, alarms and schedule tables.
 pub fn objects() -> [(Mark, &'static str); 8] {
     let point = Mark::ExpiryPoint {
-        table: TABLE,
+        table: first(ZERO),
         offset: 0,
     };
     [
@@ -103,10 +77,10 @@ pub fn objects() -> [(Mark, &'static str); 8] {
         (Mark::InterruptLost(ISR), "lost I1"),
         (Mark::IsrEntered(ISR), "enter I1"),
         (Mark::IsrLeft(ISR), "leave I1"),
-        (Mark::AlarmExpired(ALARM), "alarm L"),
+        (Mark::AlarmExpired(first(ZERO)), "alarm L"),
         (point, "point S1 0"),
-        (Mark::TableStopped(TABLE), "stop S1"),
-        (Mark::TableBegun(TABLE), "begin S1"),
+        (Mark::TableStopped(first(ZERO)), "stop S1"),
+        (Mark::TableBegun(first(ZERO)), "begin S1"),
     ]
 }
 
@@ -125,32 +99,30 @@ fn served(call: RemoteCall, status: Status, value: Option<i64>) -> Mark {
 
 /// Lines of calls that go from core to core.
 pub fn calls() -> [(Mark, &'static str); 8] {
-    let set = RemoteCall::SetEvent {
-        task: OTHER,
-        mask: 3,
-    };
+    let (task, alarm): (TaskRef, AlarmRef) = (first(ONE), first(ZERO));
+    let set = RemoteCall::SetEvent { task, mask: 3 };
     let relative = RemoteCall::SetRelAlarm {
-        alarm: ALARM,
+        alarm,
         increment: 2,
         cycle: 0,
     };
     let absolute = RemoteCall::SetAbsAlarm {
-        alarm: ALARM,
+        alarm,
         start: 7,
         cycle: 9,
     };
     let get = RemoteCall::GetAlarm {
-        alarm: ALARM,
+        alarm,
         variable: Variable { index: 7 },
     };
-    let activate = RemoteCall::ActivateTask(OTHER);
+    let activate = RemoteCall::ActivateTask(task);
     [
         (posted(activate), "out 1 ActivateTask Blink"),
         (posted(set), "out 1 SetEvent Blink 3"),
         (posted(relative), "out 1 SetRelAlarm L 2 0"),
         (posted(absolute), "out 1 SetAbsAlarm L 7 9"),
         (
-            posted(RemoteCall::CancelAlarm(ALARM)),
+            posted(RemoteCall::CancelAlarm(alarm)),
             "out 1 CancelAlarm L",
         ),
         (posted(get), "out 1 GetAlarm L v7"),
@@ -184,7 +156,7 @@ fn variable(runner: Runner, value: i64) -> Mark {
 
 /// Lines of what a job's services and operations came to.
 pub fn services() -> [(Mark, &'static str); 5] {
-    let (task, isr) = (Runner::Task(TASK), Runner::Isr(ISR));
+    let (task, isr) = (Runner::Task(first(ZERO)), Runner::Isr(ISR));
     let activated = returned(isr, ServiceId::ActivateTask, Status::EOk, None);
     let value = returned(task, ServiceId::GetCounterValue, Status::EOk, Some(2));
     [
