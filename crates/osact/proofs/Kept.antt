@@ -1,10 +1,12 @@
 -- Once for all acts: what they do to one history they do to every history that reads the same.
 use Rattle.std.proofs.Common.{◌≡◌, ◌||◌, ℤ, Bool, true, false, cond, Option, Some, None, IfSome, option_map, unwrap_or, List, [], ◌∷◌, refl, subst}
 use Rattle.std.specs.List.{list_all}
+use Rattle.std.specs.Option.{option_map_or}
 use Rattle.std.proofs.lemmas.Bool.{and_parts}
 use Rattle.osbase.specs.declared.statuses.Status.{Status}
 use Rattle.osbase.specs.declared.statuses.ServiceId.{ServiceId}
 use Rattle.osbase.specs.declared.references.CoreId.{CoreId}
+use Rattle.osbase.specs.declared.references.CounterRef.{CounterRef}
 use Rattle.osbase.specs.declared.references.Runner.{Runner}
 use Rattle.osbase.specs.declared.messages.RemoteCall.{RemoteCall}
 use Rattle.osbase.specs.declared.messages.Message.{Message}
@@ -15,11 +17,12 @@ use Rattle.osbase.specs.History.{Entry, History, Took, Printed, Noted, Opened, Q
 use Rattle.osbase.specs.Marks.{core_of_runner, names_only}
 use Rattle.osplan.specs.declared.plans.Core.{Core}
 use Rattle.osplan.specs.View.{View}
+use Rattle.ostable.specs.Waiting.{are_own}
 use Rattle.osstate.specs.Readings.{knows_started}
 use Rattle.osact.specs.Acts.{Act, Acts, Prints, Notes, Sends, nothing, one_then, both, when, if_started, look, act, does, for_each}
 use Rattle.osact.specs.Checks.{Check, first_failing, is_ok_status}
 use Rattle.osact.specs.Returning.{answers, asks, reports, returns}
-use Rattle.osact.specs.Seen.{Seen, seen_of}
+use Rattle.osact.specs.Seen.{Seen, is_own, seen_of}
 use Rattle.osact.specs.Service.{Service, answer_of, effect_of, serves, serves_if, serves_own}
 
 -- Which cores one asks, or answers: every one, and none.
@@ -46,14 +49,24 @@ pub none-awaited : (awaited : Awaited) → may_await nobody awaited ≡ true →
 none-awaited (Awaited.Reply service core) e = cc
 none-awaited awaited e = cc
 
--- An act names only objects of cores that pass, asks only those that may be asked, and answers only those that may be answered.
-abbrev pub is_allowed : (CoreId → Bool) → (CoreId → Bool) → (CoreId → Bool) → Act → Bool
-is_allowed may answered names (Prints m) = names_only names m
-is_allowed may answered names (Notes (Opened call)) = may_await may call.awaits
-is_allowed may answered names (Notes (Queued core envelope)) = false
-is_allowed may answered names (Notes n) = true
-is_allowed may answered names (Sends core (Message.Reply status value)) = answered core
-is_allowed may answered names (Sends core message) = may core
+-- What a core may do: which cores it may ask and which it answers, and the cores of whose objects its marks are; among these are its own
+-- and those that it may ask.
+pub record Leave : Type 0 where
+  pub view : View
+  pub may : CoreId → Bool
+  pub answered : CoreId → Bool
+  pub names : CoreId → Bool
+  pub named : (core : CoreId) → is_within view may core ≡ true → names core ≡ true
+  pub own_named : names view.own.id ≡ true
+
+-- An act names only objects of such cores, asks only those that may be asked, and answers only those that may be answered.
+abbrev pub is_allowed : Leave → Act → Bool
+is_allowed l (Prints m) = names_only l.names m
+is_allowed l (Notes (Opened call)) = may_await l.may call.awaits
+is_allowed l (Notes (Queued core envelope)) = false
+is_allowed l (Notes n) = true
+is_allowed l (Sends core (Message.Reply status value)) = l.answered core
+is_allowed l (Sends core message) = l.may core
 
 -- A note of the core itself, or a mark that names only objects of cores that pass: neither an item nor what goes to
 -- another core.
@@ -64,37 +77,44 @@ is_local names (Noted (Opened call)) = false
 is_local names (Noted (Queued core envelope)) = false
 is_local names entry = true
 
+-- What the core reads is its own, and marks may name the runner that it goes on with and the one whose call is open.
+pub record IsSeen (l : Leave) (s : Seen) : Type 0 where
+  pub id : s.id ≡ l.view.core
+  pub core : s.core ≡ l.view.own
+  pub due_tables : (c : CounterRef) → list_all (are_own l.view.own) (s.due_tables c) ≡ true
+  pub running : option_map_or (λ (r : Runner). l.names (core_of_runner r)) s.running true ≡ true
+  pub awaits : option_map_or (λ (call : OpenCall). l.names (core_of_runner call.runner)) s.awaits true ≡ true
+
 -- Each kind of entry that acts may add keeps it: one of the core itself, an envelope to a core that may be asked, a reply to
 -- one that may be answered, and a call that is open there.
-pub record KeepsEntries (may answered names : CoreId → Bool) (R : History → History → Type 0) : Type 0 where
-  pub local : (e : Entry) (h k : History) → is_local names e ≡ true → R h k → R (e ∷ h) (e ∷ k)
-  pub asked : (core : CoreId) (message : Message) (h k : History) → may core ≡ true → R h k → R (act (Sends core message) h) (act (Sends core message) k)
-  pub replied : (core : CoreId) (s : Status) (value : Option ℤ) (h k : History) → answered core ≡ true → R h k → R (act (Sends core (Message.Reply s value)) h) (act (Sends core (Message.Reply s value)) k)
-  pub opened : (call : OpenCall) (h k : History) → may_await may call.awaits ≡ true → R h k → R (Noted (Opened call) ∷ h) (Noted (Opened call) ∷ k)
+pub record KeepsEntries (l : Leave) (R : History → History → Type 0) : Type 0 where
+  pub local : (e : Entry) (h k : History) → is_local l.names e ≡ true → R h k → R (e ∷ h) (e ∷ k)
+  pub asked : (core : CoreId) (message : Message) (h k : History) → l.may core ≡ true → R h k → R (act (Sends core message) h) (act (Sends core message) k)
+  pub replied : (core : CoreId) (s : Status) (value : Option ℤ) (h k : History) → l.answered core ≡ true → R h k → R (act (Sends core (Message.Reply s value)) h) (act (Sends core (Message.Reply s value)) k)
+  pub opened : (call : OpenCall) (h k : History) → may_await l.may call.awaits ≡ true → R h k → R (Noted (Opened call) ∷ h) (Noted (Opened call) ∷ k)
 
--- A relation of histories that they keep, and where it holds the core reads the same; what it reads is as `sees` says. The second
--- history is that of a core that sees another master and other cores.
-pub record IsKept (v : View) (master : Bool) (ids : List CoreId) (may answered names : CoreId → Bool) (sees : Seen → Type 0) (R : History → History → Type 0) : Type 0 where
-  pub named : (core : CoreId) → is_within v may core ≡ true → names core ≡ true
-  pub holds : KeepsEntries may answered names R
-  pub started : (core : CoreId) (h k : History) → is_within v may core ≡ true → R h k → knows_started h core ≡ knows_started k core
-  pub reads : (h k : History) → R h k → seen_of v h ≡ seen_of (seen_as v master ids) k
-  pub seen : (h k : History) → R h k → sees (seen_of v h)
+-- A relation of histories that they keep, and where it holds the core reads the same. The second history is that of a core that sees
+-- another master and other cores.
+pub record IsKept (l : Leave) (master : Bool) (ids : List CoreId) (R : History → History → Type 0) : Type 0 where
+  pub holds : KeepsEntries l R
+  pub started : (core : CoreId) (h k : History) → is_within l.view l.may core ≡ true → R h k → knows_started h core ≡ knows_started k core
+  pub reads : (h k : History) → R h k → seen_of l.view h ≡ seen_of (seen_as l.view master ids) k
+  pub seen : (h k : History) → R h k → IsSeen l (seen_of l.view h)
 
-module _ (v : View) (may answered names : CoreId → Bool) (sees : Seen → Type 0) where
+module _ (l : Leave) where
   -- So is each of these acts, whatever is read.
   abbrev pub AreAllowed : Acts → Type 0
   AreAllowed nothing = Unit {0}
-  AreAllowed (one_then a x) = (is_allowed may answered names a ≡ true) × AreAllowed x
+  AreAllowed (one_then a x) = (is_allowed l a ≡ true) × AreAllowed x
   AreAllowed (both x y) = AreAllowed x × AreAllowed y
   AreAllowed (when b x y) = (b ≡ true → AreAllowed x) × (b ≡ false → AreAllowed y)
-  AreAllowed (if_started core x y) = (is_within v may core ≡ true) × (AreAllowed x × AreAllowed y)
-  AreAllowed (look f) = (s : Seen) → sees s → AreAllowed (f s)
+  AreAllowed (if_started core x y) = (is_within l.view l.may core ≡ true) × (AreAllowed x × AreAllowed y)
+  AreAllowed (look f) = (s : Seen) → IsSeen l s → AreAllowed (f s)
 
   -- ---- the law
 
-  module _ (master : Bool) (ids : List CoreId) (R : History → History → Type 0) (kept : IsKept v master ids may answered names sees R) where
-    one-kept : (a : Act) → is_allowed may answered names a ≡ true → (h k : History) → R h k → R (act a h) (act a k)
+  module _ (master : Bool) (ids : List CoreId) (R : History → History → Type 0) (kept : IsKept l master ids R) where
+    one-kept : (a : Act) → is_allowed l a ≡ true → (h k : History) → R h k → R (act a h) (act a k)
     one-kept (Prints m) ok h k p = kept.holds.local (Printed m) h k ok p
     one-kept (Notes (Opened call)) ok h k p = kept.holds.opened call h k ok p
     one-kept (Notes (Queued core envelope)) ok h k p = cc
@@ -106,22 +126,22 @@ module _ (v : View) (may answered names : CoreId → Bool) (sees : Seen → Type
     either true h h' k k' p q = p refl
     either false h h' k k' p q = q refl
 
-    pub kept-by : (x : Acts) → AreAllowed x → (h k : History) → R h k → R (does x v h) (does x (seen_as v master ids) k)
+    pub kept-by : (x : Acts) → AreAllowed x → (h k : History) → R h k → R (does x l.view h) (does x (seen_as l.view master ids) k)
     kept-by nothing ok h k p = p
     kept-by (one_then a x) ok h k p = kept-by x ok.1 (act a h) (act a k) (one-kept a ok.0 h k p)
-    kept-by (both x y) ok h k p = kept-by y ok.1 (does x v h) (does x (seen_as v master ids) k) (kept-by x ok.0 h k p)
-    kept-by (when b x y) ok h k p = either b (does x v h) (does y v h) (does x (seen_as v master ids) k) (does y (seen_as v master ids) k) (λ e. kept-by x (ok.0 e) h k p) (λ e. kept-by y (ok.1 e) h k p)
+    kept-by (both x y) ok h k p = kept-by y ok.1 (does x l.view h) (does x (seen_as l.view master ids) k) (kept-by x ok.0 h k p)
+    kept-by (when b x y) ok h k p = either b (does x l.view h) (does y l.view h) (does x (seen_as l.view master ids) k) (does y (seen_as l.view master ids) k) (λ e. kept-by x (ok.0 e) h k p) (λ e. kept-by y (ok.1 e) h k p)
     kept-by (if_started core x y) ok h k p =
-        subst (λ (b : Bool). R (cond (knows_started h core) (does x v h) (does y v h)) (cond b (does x (seen_as v master ids) k) (does y (seen_as v master ids) k))) (kept.started core h k ok.0 p)
-        (either (knows_started h core) (does x v h) (does y v h) (does x (seen_as v master ids) k) (does y (seen_as v master ids) k) (λ e. kept-by x ok.1.0 h k p) (λ e. kept-by y ok.1.1 h k p))
+        subst (λ (b : Bool). R (cond (knows_started h core) (does x l.view h) (does y l.view h)) (cond b (does x (seen_as l.view master ids) k) (does y (seen_as l.view master ids) k))) (kept.started core h k ok.0 p)
+        (either (knows_started h core) (does x l.view h) (does y l.view h) (does x (seen_as l.view master ids) k) (does y (seen_as l.view master ids) k) (λ e. kept-by x ok.1.0 h k p) (λ e. kept-by y ok.1.1 h k p))
     kept-by (look f) ok h k p =
-        subst (λ (s : Seen). R (does (f (seen_of v h)) v h) (does (f s) (seen_as v master ids) k)) (kept.reads h k p) (kept-by (f (seen_of v h)) (ok (seen_of v h) (kept.seen h k p)) h k p)
+        subst (λ (s : Seen). R (does (f (seen_of l.view h)) l.view h) (does (f s) (seen_as l.view master ids) k)) (kept.reads h k p) (kept-by (f (seen_of l.view h)) (ok (seen_of l.view h) (kept.seen h k p)) h k p)
 
   -- ---- the parts of a service
 
   -- Marks may name the runner.
   abbrev pub IsNamed : Runner → Type 0
-  IsNamed r = names (core_of_runner r) ≡ true
+  IsNamed r = l.names (core_of_runner r) ≡ true
 
   pub reports-ok : (s : Status) → AreAllowed (reports s)
   reports-ok s = (λ e. tt, λ e. (refl, tt))
@@ -132,8 +152,22 @@ module _ (v : View) (may answered names : CoreId → Bool) (sees : Seen → Type
   pub answers-ok : (r : Runner) (service : ServiceId) (checks : List Check) (effect : Acts) → IsNamed r → (is_ok_status (first_failing checks) ≡ true → AreAllowed effect) → AreAllowed (answers r service checks effect)
   answers-ok r service checks effect n ok = (ok, λ e. returns-ok r service (first_failing checks) None n)
 
-  pub asks-ok : (r : Runner) (service : ServiceId) (core : CoreId) (call : RemoteCall) → names_only names (Mark.CallQueued core call) ≡ true → may core ≡ true → AreAllowed (asks r service core call)
+  pub asks-ok : (r : Runner) (service : ServiceId) (core : CoreId) (call : RemoteCall) → names_only l.names (Mark.CallQueued core call) ≡ true → l.may core ≡ true → AreAllowed (asks r service core call)
   asks-ok r service core call n m = (n, (m, (m, tt)))
+
+  -- What is not the core's own may be asked.
+  pub elsewhere : (s : Seen) → IsSeen l s → (core : CoreId) → is_own s core ≡ false → is_within l.view l.may core ≡ true → l.may core ≡ true
+  elsewhere s seen core other within = rw (← seen.id, other) at within
+
+  -- What follows from what is found, if anything is.
+  pub found-ok : {A : Type 0} (f : A → Acts) (o : Option A) → ((x : A) → o ≡ Some x → AreAllowed (f x)) → AreAllowed (option_map_or f o nothing)
+  found-ok f None each = tt
+  found-ok f (Some x) each = each x refl
+
+  -- What follows from each of a list, and from each of one of which all pass a test.
+  pub each-ok : {A : Type 0} (f : A → Acts) → ((x : A) → AreAllowed (f x)) → (xs : List A) → AreAllowed (for_each f xs)
+  each-ok f each [] = tt
+  each-ok f each (x ∷ xs) = (each x, each-ok f each xs)
 
   pub for_each-ok : {A : Type 0} (f : A → Acts) (test : A → Bool) → ((x : A) → test x ≡ true → AreAllowed (f x)) → (xs : List A) → list_all test xs ≡ true → AreAllowed (for_each f xs)
   for_each-ok f test each [] all = tt
@@ -152,23 +186,9 @@ module _ (v : View) (may answered names : CoreId → Bool) (sees : Seen → Type
   pub serves-ok : (r : Runner) (service : ServiceId) (x : Service) → IsNamed r → AreAllowed x.effect → AreAllowed (serves r service x)
   serves-ok r service x n ok = (effect-ok x ok, returns-ok r service (answer_of x).status (answer_of x).value n)
 
-  pub serves_own-ok : {A : Type 0} (r : Runner) (id : ServiceId) (make : A → Seen → Service) (named : Core → Option A) → IsNamed r → ((x : A) (s : Seen) → sees s → AreAllowed (make x s).effect) → AreAllowed (serves_own r id make named)
+  pub serves_own-ok : {A : Type 0} (r : Runner) (id : ServiceId) (make : A → Seen → Service) (named : Core → Option A) → IsNamed r → ((x : A) (s : Seen) → IsSeen l s → AreAllowed (make x s).effect) → AreAllowed (serves_own r id make named)
   serves_own-ok {A} r id make named n ok s seen = by (named s.core)
     where
       by : (o : Option A) → AreAllowed (serves_if r id (option_map (λ x. make x s) o))
       by None = returns-ok r id Status.EOsId None n
       by (Some x) = serves-ok r id (make x s) n (ok x s seen)
-
-  -- These parts, for a module to open at what it is about.
-  pub record Parts : Type 1 where
-    pub reports-ok : (s : Status) → AreAllowed (reports s)
-    pub returns-ok : (r : Runner) (service : ServiceId) (s : Status) (value : Option ℤ) → IsNamed r → AreAllowed (returns r service s value)
-    pub answers-ok : (r : Runner) (service : ServiceId) (checks : List Check) (effect : Acts) → IsNamed r → (is_ok_status (first_failing checks) ≡ true → AreAllowed effect) → AreAllowed (answers r service checks effect)
-    pub asks-ok : (r : Runner) (service : ServiceId) (core : CoreId) (call : RemoteCall) → names_only names (Mark.CallQueued core call) ≡ true → may core ≡ true → AreAllowed (asks r service core call)
-    pub first-ok : (o : Option Acts) (others : Acts) → IfSome o AreAllowed → AreAllowed others → AreAllowed (unwrap_or o others)
-    pub effect-ok : (x : Service) → AreAllowed x.effect → AreAllowed (effect_of x)
-    pub serves-ok : (r : Runner) (service : ServiceId) (x : Service) → IsNamed r → AreAllowed x.effect → AreAllowed (serves r service x)
-    pub serves_own-ok : {A : Type 0} (r : Runner) (id : ServiceId) (make : A → Seen → Service) (named : Core → Option A) → IsNamed r → ((x : A) (s : Seen) → sees s → AreAllowed (make x s).effect) → AreAllowed (serves_own r id make named)
-
-  pub parts : Parts
-  parts = record { reports-ok = reports-ok; returns-ok = returns-ok; answers-ok = answers-ok; asks-ok = asks-ok; first-ok = first-ok; effect-ok = effect-ok; serves-ok = serves-ok; serves_own-ok = serves_own-ok }

@@ -16,10 +16,10 @@ use Rattle.osbase.specs.declared.marks.Mark.{Mark}
 use Rattle.osbase.specs.declared.histories.Job.{Job}
 use Rattle.osbase.specs.Sets.{numbers_from}
 use Rattle.osbase.specs.declared.turns.TheConstants.{RUNNERS}
-use Rattle.osbase.specs.Counting.{Stopped, alarm_after, alarm_of, counts_after, counts_of, table_after, table_state}
+use Rattle.osbase.specs.Counting.{alarm_after, alarm_of, counts_after, counts_of, table_after, table_state}
 use Rattle.osbase.specs.History.{History, Entry, Took, Printed, agreement_after, agreement_of, better_of, current_after, current_job, current_task, first_greatest, giving_way, giving_way_after, greater, greatest_ceiling, job_count, jobs_after, live_jobs, marks_of, oldest, oldest_of, open_after, open_call, phase_after, phase_of, same_runner, stamped_anew, without_oldest}
 use Rattle.oscript.specs.declared.Op.{Op}
-use Rattle.oscript.specs.Runners.{Row, first_row, row_after, row_of}
+use Rattle.oscript.specs.Runners.{Row, row_after, row_of}
 use Rattle.osplan.specs.declared.plans.Core.{Core}
 use Rattle.osrunner.specs.Rows.{held_in}
 use Rattle.osplan.specs.View.{View}
@@ -46,85 +46,50 @@ same-step : {A : Type 0} (step : Entry → A) → ((a b : CoreSet) → step (Too
 same-step step gate s (Took (Item.Pass2 cores)) = gate s cores
 same-step step gate s e = refl
 
-reads-same : {A : Type 0} (f : History → A) → ((e : Entry) (h k : History) → f h ≡ f k → f (e ∷ h) ≡ f (e ∷ k)) → ((a b : CoreSet) (h : History) → f (Took (Item.Pass2 a) ∷ h) ≡ f (Took (Item.Pass2 b) ∷ h)) → (s : CoreSet) (base k : History) → f base ≡ f [] → f (among s base k) ≡ f k
-reads-same f goes gate s base [] first = first
-reads-same f goes gate s base (e ∷ k) first =
-    same-step (λ (d : Entry). f (d ∷ among s base k)) (λ a b. gate a b (among s base k)) s e
-    ∙ goes e (among s base k) k (reads-same f goes gate s base k first)
+reads-same : {A : Type 0} (f : History → A) → ((e : Entry) (h k : History) → f h ≡ f k → f (e ∷ h) ≡ f (e ∷ k)) → ((a b : CoreSet) (h : History) → f (Took (Item.Pass2 a) ∷ h) ≡ f (Took (Item.Pass2 b) ∷ h)) → f (Took Item.On ∷ []) ≡ f [] → (s : CoreSet) (m : Bool) (k : History) → f (among s (base_of m) k) ≡ f k
+reads-same f goes gate on s true [] = refl
+reads-same f goes gate on s false [] = on
+reads-same f goes gate on s m (e ∷ k) =
+    same-step (λ (d : Entry). f (d ∷ among s (base_of m) k)) (λ a b. gate a b (among s (base_of m) k)) s e
+    ∙ goes e (among s (base_of m) k) k (reads-same f goes gate on s m k)
 
 pub current-same : (s : CoreSet) (m : Bool) (k : History) → current_task (among s (base_of m) k) ≡ current_task k
-current-same s m k = reads-same current_task (λ e h j p. ap (current_after e) p) (λ a b h. refl) s (base_of m) k (by m)
-  where
-    by : (b : Bool) → current_task (base_of b) ≡ None
-    by true = refl
-    by false = refl
+current-same s m k = reads-same current_task (λ e h j p. ap (current_after e) p) (λ a b h. refl) refl s m k
 
 giving_way-same : (s : CoreSet) (m : Bool) (k : History) → giving_way (among s (base_of m) k) ≡ giving_way k
-giving_way-same s m k = reads-same giving_way (λ e h j p. ap (giving_way_after e) p) (λ a b h. refl) s (base_of m) k (by m)
-  where
-    by : (b : Bool) → giving_way (base_of b) ≡ None
-    by true = refl
-    by false = refl
+giving_way-same s m k = reads-same giving_way (λ e h j p. ap (giving_way_after e) p) (λ a b h. refl) refl s m k
 
 each-same : {A : Type 0} (f g : ℕ → A) → ((n : ℕ) → f n ≡ g n) → (ns : List ℕ) → map f ns ≡ map g ns
 each-same f g same [] = refl
 each-same f g same (n ∷ ns) = rw (same n, each-same f g same ns) refl
 
 row-same : (script : List Op) (r : Runner) (s : CoreSet) (m : Bool) (k : History) → row_of script r (among s (base_of m) k) ≡ row_of script r k
-row-same script r s m k = reads-same (row_of script r) (λ e h j p. ap (row_after script r e) p) (λ a b h. refl) s (base_of m) k (by m)
-  where
-    by : (b : Bool) → row_of script r (base_of b) ≡ first_row
-    by true = refl
-    by false = refl
+row-same script r s m k = reads-same (row_of script r) (λ e h j p. ap (row_after script r e) p) (λ a b h. refl) refl s m k
 
 pub rows-same : (core : Core) (s : CoreSet) (m : Bool) (k : History) → rows_of core (among s (base_of m) k) ≡ rows_of core k
 rows-same core s m k = each-same _ _ (λ n. row-same (script_of core (runner_at core n)) (runner_at core n) s m k) (numbers_from 0 RUNNERS)
 
 pub counts-same : (c : CounterRef) (s : CoreSet) (m : Bool) (k : History) → counts_of c (among s (base_of m) k) ≡ counts_of c k
-counts-same c s m k = reads-same (counts_of c) (λ e h j p. ap (counts_after c e) p) (λ a b h. refl) s (base_of m) k (by m)
-  where
-    by : (b : Bool) → counts_of c (base_of b) ≡ 0
-    by true = refl
-    by false = refl
+counts-same c s m k = reads-same (counts_of c) (λ e h j p. ap (counts_after c e) p) (λ a b h. refl) refl s m k
 
 pub settings-same : (c : CounterRef) (a : AlarmRef) (s : CoreSet) (m : Bool) (k : History) → alarm_of c a (among s (base_of m) k) ≡ alarm_of c a k
-settings-same c a s m k = reads-same (alarm_of c a) (λ e h j p. ap (alarm_after c a e) p) (λ x y h. refl) s (base_of m) k (by m)
-  where
-    by : (b : Bool) → alarm_of c a (base_of b) ≡ None
-    by true = refl
-    by false = refl
+settings-same c a s m k = reads-same (alarm_of c a) (λ e h j p. ap (alarm_after c a e) p) (λ x y h. refl) refl s m k
 
 pub tables-same : (c : CounterRef) (t : TableRef) (s : CoreSet) (m : Bool) (k : History) → table_state c t (among s (base_of m) k) ≡ table_state c t k
-tables-same c t s m k = reads-same (table_state c t) (λ e h j p. ap (table_after c t e) p) (λ x y h. refl) s (base_of m) k (by m)
-  where
-    by : (b : Bool) → table_state c t (base_of b) ≡ Stopped
-    by true = refl
-    by false = refl
+tables-same c t s m k = reads-same (table_state c t) (λ e h j p. ap (table_after c t e) p) (λ x y h. refl) refl s m k
 
 pub open-same : (s : CoreSet) (m : Bool) (k : History) → open_call (among s (base_of m) k) ≡ open_call k
-open-same s m k = reads-same open_call (λ e h j p. ap (open_after e) p) (λ a b h. refl) s (base_of m) k (by m)
-  where
-    by : (b : Bool) → open_call (base_of b) ≡ None
-    by true = refl
-    by false = refl
+open-same s m k = reads-same open_call (λ e h j p. ap (open_after e) p) (λ a b h. refl) refl s m k
 
 pub agreement-same : (s : CoreSet) (m : Bool) (k : History) → agreement_of (among s (base_of m) k) ≡ agreement_of k
-agreement-same s m k = reads-same agreement_of (λ e h j p. ap (agreement_after e) p) (λ a b h. refl) s (base_of m) k (by m)
-  where
-    by : (b : Bool) → agreement_of (base_of b) ≡ None
-    by true = refl
-    by false = refl
+agreement-same s m k = reads-same agreement_of (λ e h j p. ap (agreement_after e) p) (λ a b h. refl) refl s m k
 
 marks-goes : (e : Entry) (h k : History) → marks_of h ≡ marks_of k → marks_of (e ∷ h) ≡ marks_of (e ∷ k)
 marks-goes (Printed m) h k p = ap (λ (ms : List Mark). ms ++ m ∷ []) p
 marks-goes e h k p = p
 
 pub marks-same : (s : CoreSet) (m : Bool) (k : History) → marks_of (among s (base_of m) k) ≡ marks_of k
-marks-same s m k = reads-same marks_of marks-goes (λ a b h. refl) s (base_of m) k (by m)
-  where
-    by : (b : Bool) → marks_of (base_of b) ≡ []
-    by true = refl
-    by false = refl
+marks-same s m k = reads-same marks_of marks-goes (λ a b h. refl) refl s m k
 
 pub phase-same : (s : CoreSet) (m : Bool) (k : History) → phase_of m (among s (base_of m) k) ≡ phase_of true k
 phase-same s true [] = refl

@@ -1,15 +1,11 @@
 -- A core whose scripts and alarms name no other core's objects, and that takes no mail, keeps no call open and posts nothing.
 use native.Mathlib.Omega.{arith}
-use Rattle.std.proofs.Common.{Bool, Option, ◌≡◌, true, false, None, [], ◌∷◌, refl}
-use Rattle.std.proofs.lemmas.Bool.{false≢true}
+use Rattle.std.proofs.Common.{Bool, ◌≡◌, true, false, None, [], ◌∷◌, refl}
 use Rattle.osbase.specs.declared.references.CoreId.{CoreId}
 use Rattle.osbase.specs.declared.items.Item.{Item}
-use Rattle.osbase.specs.declared.references.Runner.{Runner}
-use Rattle.osbase.specs.declared.marks.Mark.TheVariants as Mark
-use Rattle.osbase.specs.declared.histories.OpenCall.{OpenCall}
-use Rattle.osbase.specs.History.{Entry, History, Took, Printed, Noted, Opened, Queued, Done, closed_by, open_call, outbox}
+use Rattle.osbase.specs.History.{Entry, History, Took, open_call, outbox}
 use Rattle.osplan.specs.View.{View}
-use Rattle.osact.proofs.Kept.{anybody, is_local, nobody, none-awaited}
+use Rattle.osact.proofs.Kept.{anybody, is_local, nobody}
 use Rattle.osstate.specs.State.{state_of}
 use Rattle.oskernel.specs.Free.{is_settled}
 use Rattle.oskernel.specs.Step.{after}

@@ -1,14 +1,13 @@
 -- What a core does at an item it does to every history that reads the same.
 use native.Mathlib.Omega.{arith}
-use Rattle.std.proofs.Common.{◌≡◌, ◌&&◌, ℕ, ◌+◌, Bool, true, false, cond, Option, Some, None, option_and_then, List, [], ◌∷◌, refl, subst, sym, ◌∙◌}
-use Rattle.std.specs.List.{enumerate_from, list_all, slice_get}
+use Rattle.std.proofs.Common.{◌≡◌, ◌&&◌, ℕ, Bool, true, false, cond, Option, Some, None, option_and_then, List, [], ◌∷◌, refl, subst, sym, ◌∙◌}
+use Rattle.std.specs.List.{list_all, slice_get}
 use Rattle.std.specs.Option.{option_map_or}
 use Rattle.std.proofs.lemmas.Bool.{and_from, and_parts, or_right}
 use Rattle.osbase.specs.declared.references.CoreId.{CoreId}
 use Rattle.osbase.specs.declared.references.TaskRef.{TaskRef}
 use Rattle.osbase.specs.declared.references.Runner.{Runner}
 use Rattle.osbase.specs.declared.messages.Message.{Message}
-use Rattle.osbase.specs.declared.items.Agreement.{Agreement}
 use Rattle.osbase.specs.declared.items.Item.{Item}
 use Rattle.osbase.specs.declared.items.Stimulus.{Stimulus}
 use Rattle.osbase.specs.declared.histories.Awaited.{Awaited}
@@ -18,22 +17,22 @@ use Rattle.osbase.specs.Marks.{core_of_runner}
 use Rattle.oscript.specs.declared.Op.{Op}
 use Rattle.oscript.specs.declared.Action.TheVariants.{Perform, End}
 use Rattle.oscript.specs.Rows.{objects_of}
-use Rattle.osplan.specs.declared.plans.Core.{Core}
-use Rattle.osplan.specs.declared.plans.Counter.{Counter}
 use Rattle.osplan.specs.Objects.{core_actions}
 use Rattle.osplan.specs.View.{View}
+use Rattle.osclock.specs.Clocks.{counter_ref}
+use Rattle.ostable.proofs.Asked.{dues-own}
 use Rattle.osstate.specs.Readings.{best_job, running, script_of}
 use Rattle.osstate.specs.State.{state_of}
-use Rattle.osact.specs.Acts.{Acts, does, for_each, nothing}
-use Rattle.osact.specs.Seen.{Seen, seen_of}
-use Rattle.osact.proofs.Kept.{AreAllowed, IsKept, anybody, is_within, kept-by, seen_as}
-use Rattle.ostaskcall.proofs.Allowed.{ends_unasked-ok}
+use Rattle.osact.specs.Acts.{Acts, does}
+use Rattle.osact.specs.Seen.{seen_of}
+use Rattle.osact.proofs.Kept.{AreAllowed, IsKept, IsNamed, IsSeen, Leave, anybody, each-ok, found-ok, is_within, kept-by, seen_as}
+use Rattle.ostaskcall.proofs.Allowed.{ends-ok, ends_unasked-ok}
 use Rattle.oscall.specs.Border.{core_of_call}
-use Rattle.oscall.proofs.Allowed.{resumes-ok, serves_action-ok, serves_request-ok}
-use Rattle.osdue.proofs.Allowed.{ActionsAllow, IsSeen, counts-ok, seen-is}
+use Rattle.oscall.proofs.Allowed.{service-ok}
+use Rattle.osdue.proofs.Allowed.{ActionsAllow, counts-ok}
 use Rattle.oskernel.proofs.Operated.{IsAllowed, operates-ok}
 use Rattle.oskernel.specs.Free.{may_dispatch}
-use Rattle.oskernel.specs.Step.{after, counts_if_hardware, dispatches, effect, enters, enters_from, goes_to, performs, resumes_with, starts}
+use Rattle.oskernel.specs.Step.{after, dispatches, effect, enters_from, goes_to, performs, resumes_with}
 
 -- A request comes from a core that may be answered, and the call that it brings, or an action, is for an object that marks
 -- may name.
@@ -72,23 +71,21 @@ next_job best runs = option_and_then (λ (j : Job). cond (option_map_or (same_jo
 abbrev pub next_of : View → History → Option Runner
 next_of v h = cond (may_dispatch (state_of v h)) (next_job (best_job v h) (running v h)) None
 
--- What a core reads is its own, and marks may name the runner that it goes on with and the one whose call is open.
-pub record IsActing (v : View) (names : CoreId → Bool) (s : Seen) : Type 0 where
-  pub seen : IsSeen v s
-  pub running : passes s.running (λ r. names (core_of_runner r)) ≡ true
-  pub awaits : passes s.awaits (λ call. names (core_of_runner call.runner)) ≡ true
+-- What a core reads is its own; and marks may name the task that it leaves, and the runner that it goes to.
+pub record NamesActing (l : Leave) (h : History) : Type 0 where
+  pub seen : IsSeen l (seen_of l.view h)
+  pub current : passes (current_task h) (λ t. l.names t.core) ≡ true
+  pub next : passes (next_of l.view h) (λ r. l.names (core_of_runner r)) ≡ true
 
--- And so they may the task that it leaves, and the runner that it goes to.
-pub record NamesActing (names : CoreId → Bool) (v : View) (h : History) : Type 0 where
-  pub acts : IsActing v names (seen_of v h)
-  pub current : passes (current_task h) (λ t. names t.core) ≡ true
-  pub next : passes (next_of v h) (λ r. names (core_of_runner r)) ≡ true
+-- Where marks may name whatever there is, so it is.
+abbrev pub leave_all : View → (CoreId → Bool) → (CoreId → Bool) → Leave
+leave_all v may answered = record { view = v; may = may; answered = answered; names = anybody; named = λ core within. refl; own_named = refl }
 
-always : {A : Type 0} (o : Option A) → passes o (λ x. true) ≡ true
-always o = grind arith
-
-pub acting-anybody : (v : View) (h : History) → NamesActing anybody v h
-acting-anybody v h = record { acts = record { seen = seen-is v h; running = always _; awaits = always _ }; current = always _; next = always _ }
+pub acting-anybody : (v : View) (may answered : CoreId → Bool) (h : History) → NamesActing (leave_all v may answered) h
+acting-anybody v may answered h = record { seen = record { id = refl; core = refl; due_tables = λ c. dues-own v.own c h; running = always _; awaits = always _ }; current = always _; next = always _ }
+  where
+    always : {A : Type 0} (o : Option A) → passes o (λ x. true) ≡ true
+    always o = grind arith
 
 -- Dispatch by what is read: the task that a core leaves, and the runner that it goes to.
 abbrev goes : Option TaskRef → Option Runner → History → History
@@ -102,71 +99,52 @@ dispatches-is v h = by (may_dispatch (state_of v h)) (best_job v h)
 
 -- ---- what follows from an item
 
-module _ (v : View) (may replies names : CoreId → Bool) (allowed : NamesAllow v may) (named : (core : CoreId) → is_within v may core ≡ true → names core ≡ true) (own_named : names v.own.id ≡ true) where
+module _ (l : Leave) (allowed : NamesAllow l.view l.may) where
   abbrev Allowed : Acts → Type 0
-  Allowed = AreAllowed v may replies names (IsActing v names)
+  Allowed = AreAllowed l
 
-  in_turn-ok : {A : Type 0} (f : ℕ → A → Acts) → ((n : ℕ) (x : A) → Allowed (f n x)) → (n : ℕ) (xs : List A) → Allowed (for_each (λ (p : ℕ × A). f p.0 p.1) (enumerate_from n xs))
-  in_turn-ok f each n [] = tt
-  in_turn-ok f each n (x ∷ xs) = (each n x, in_turn-ok f each (n + 1) xs)
+  performs-ok : (r : Runner) → IsNamed l r → (o : Option Op) → ((op : Op) → o ≡ Some op → IsAllowed l.view l.may op) → Allowed (performs r (option_map_or Perform o End))
+  performs-ok r n None permitted = ends_unasked-ok l r n
+  performs-ok r n (Some op) permitted = operates-ok l allowed.actions op r n (permitted op refl)
 
-  if-some : {A : Type 0} (o : Option A) (test : A → Bool) (f : A → Acts) → passes o test ≡ true → ((x : A) → test x ≡ true → Allowed (f x)) → Allowed (option_map_or f o nothing)
-  if-some None test f n each = tt
-  if-some (Some x) test f n each = each x n
-
-  starts-ok : (agreement : Option Agreement) → Allowed (starts agreement v.own)
-  starts-ok agreement = (
-    in_turn-ok _ (λ n task. (λ e. (own_named, tt), λ e. tt)) 0 v.own.tasks,
-    (in_turn-ok _ (λ n alarm. if-some alarm.auto _ _ (always alarm.auto) (λ x any. (λ e. (refl, tt), λ e. tt))) 0 v.own.alarms, in_turn-ok _ (λ n table. if-some table.auto _ _ (always table.auto) (λ x any. (λ e. (refl, tt), λ e. tt))) 0 v.own.tables),
-  )
-
-  performs-ok : (r : Runner) → names (core_of_runner r) ≡ true → (o : Option Op) → ((op : Op) → o ≡ Some op → IsAllowed v may op) → Allowed (performs r (option_map_or Perform o End))
-  performs-ok r n None permitted = ends_unasked-ok v may replies names (IsActing v names) r n
-  performs-ok r n (Some op) permitted = operates-ok v may replies names (IsActing v names) (λ s acting. acting.seen) allowed.actions named own_named op r n (permitted op refl)
-
-  effect-ok : (item : Item) → is_replied replies names item ≡ true → Allowed (effect item)
-  effect-ok (Item.Began core s) m = (refl, tt)
+  effect-ok : (item : Item) → is_replied l.answered l.names item ≡ true → Allowed (effect item)
   effect-ok (Item.Pass1 agreement) m = (grind arith, tt)
-  effect-ok (Item.Pass2 cores) m = λ s acting. subst (λ core. Allowed (starts s.agreement core)) (sym acting.seen.core) (starts-ok s.agreement)
-  effect-ok (Item.Stim Stimulus.Op) m = λ s acting. if-some s.running _ _ acting.running (λ r n q seen.
-      performs-ok r n (slice_get (script_of q.core r) (q.row r).frame.pc)
-      (λ op found. allowed.scripts r (q.row r).frame.pc op (subst (λ core. slice_get (script_of core r) (q.row r).frame.pc ≡ Some op) seen.seen.core found)))
-  effect-ok (Item.Stim Stimulus.Tick) m = ((refl, tt), λ s acting. in_turn-ok (counts_if_hardware s.core) (counts-each s.core) 0 s.core.counters)
+  effect-ok (Item.Pass2 cores) m = λ s seen.
+      let own : l.names s.core.id ≡ true = rw seen.core l.own_named in
+      (each-ok l _ (λ p. assumption own) _, (each-ok l _ (λ p. found-ok l _ p.1.auto (λ x is. assumption)) _, each-ok l _ (λ p. found-ok l _ p.1.auto (λ x is. assumption)) _))
+  effect-ok (Item.Stim Stimulus.Op) m = λ s seen. found-ok l _ s.running (λ r is q at. performs-ok r (rw is at seen.running) (slice_get (script_of q.core r) (q.row r).frame.pc) (λ op found. allowed.scripts r (q.row r).frame.pc op (rw at.core at found)))
+  effect-ok (Item.Stim Stimulus.Tick) m = (assumption, λ s seen. each-ok l _ (λ p. assumption (counts-ok l allowed.actions (counter_ref s.core p.0))) _)
+  effect-ok (Item.Received from number (Message.Request call)) m = λ s seen.
+      let parts = and_parts (l.answered from) (l.names (core_of_call call)) m in
+      assumption (parts, service-ok l call parts.1 s)
+  effect-ok (Item.Received from number (Message.Action call)) m = λ s seen. assumption (service-ok l call m s)
+  effect-ok (Item.Received from number (Message.Reply status value)) m = λ s seen. found-ok l _ s.awaits (λ call is. by call.runner (rw is at seen.awaits) call.awaits)
     where
-      counts-each : (core : Core) (n : ℕ) (counter : Counter) → Allowed (counts_if_hardware core n counter)
-      counts-each core n counter = (λ e. tt, λ e. counts-ok v may replies names (IsActing v names) (λ s acting. acting.seen) named own_named allowed.actions _)
-  effect-ok (Item.Stim (Stimulus.Irq isr)) m = tt
-  effect-ok (Item.Received from number (Message.Request call)) m =
-      let parts = and_parts (replies from) (names (core_of_call call)) m in
-      serves_request-ok v may replies names (IsActing v names) (λ s acting. acting.seen.id) named from call parts.1 parts.0
-  effect-ok (Item.Received from number (Message.Action call)) m = serves_action-ok v may replies names (IsActing v names) (λ s acting. acting.seen.id) named from call m
-  effect-ok (Item.Received from number (Message.Reply status value)) m = λ s acting. if-some s.awaits _ _ acting.awaits (λ call n. by call.runner n call.awaits)
-    where
-      by : (r : Runner) → names (core_of_runner r) ≡ true → (awaits : Awaited) → Allowed (resumes_with r awaits status value)
-      by r n (Awaited.Reply id core) = resumes-ok v may replies names (IsActing v names) (λ s acting. acting.seen.id) named r id status value n
-      by r n awaits = tt
-  effect-ok item m = tt
+      by : (r : Runner) → IsNamed l r → (awaits : Awaited) → Allowed (resumes_with r awaits status value)
+      by r n (Awaited.Reply id core) = assumption (ends-ok l r n)
+      by r n awaits = assumption
+  effect-ok item m = assumption
 
   -- ---- dispatch, and the whole step
 
-  module _ (master : Bool) (ids : List CoreId) (R : History → History → Type 0) (kept : IsKept v master ids may replies names (IsActing v names) R) (steers : (h k : History) → R h k → (current_task h ≡ current_task k) × (next_of v h ≡ next_of (seen_as v master ids) k)) (acting : (h k : History) → R h k → NamesActing names v h) where
-    goes-carried : (current : Option TaskRef) (next : Option Runner) (h k : History) → passes current (λ t. names t.core) ≡ true → passes next (λ r. names (core_of_runner r)) ≡ true → R h k → R (goes current next h) (goes current next k)
+  module _ (master : Bool) (ids : List CoreId) (R : History → History → Type 0) (kept : IsKept l master ids R) (steers : (h k : History) → R h k → (current_task h ≡ current_task k) × (next_of l.view h ≡ next_of (seen_as l.view master ids) k)) (acting : (h k : History) → R h k → NamesActing l h) where
+    goes-carried : (current : Option TaskRef) (next : Option Runner) (h k : History) → passes current (λ t. l.names t.core) ≡ true → passes next (λ r. l.names (core_of_runner r)) ≡ true → R h k → R (goes current next h) (goes current next k)
     goes-carried current None h k left n p = p
     goes-carried None (Some (Runner.Task t)) h k left n p = kept.holds.local _ h k n p
     goes-carried (Some u) (Some (Runner.Task t)) h k left n p = kept.holds.local _ _ _ n (kept.holds.local _ h k left p)
     goes-carried current (Some (Runner.Isr i)) h k left n p = kept.holds.local _ h k n p
 
-    dispatches-carried : (h k : History) → R h k → R (dispatches v h) (dispatches (seen_as v master ids) k)
+    dispatches-carried : (h k : History) → R h k → R (dispatches l.view h) (dispatches (seen_as l.view master ids) k)
     dispatches-carried h k p =
         let same = steers h k p in
         let acts = acting h k p in
-        subst (λ (d : History). R d (dispatches (seen_as v master ids) k)) (sym (dispatches-is v h))
-        (subst (R (goes (current_task h) (next_of v h) h)) ((λ i. goes (same.0 i) (same.1 i) k) ∙ sym (dispatches-is (seen_as v master ids) k))
-        (goes-carried (current_task h) (next_of v h) h k acts.current acts.next p))
+        subst (λ (d : History). R d (dispatches (seen_as l.view master ids) k)) (sym (dispatches-is l.view h))
+        (subst (R (goes (current_task h) (next_of l.view h) h)) ((λ i. goes (same.0 i) (same.1 i) k) ∙ sym (dispatches-is (seen_as l.view master ids) k))
+        (goes-carried (current_task h) (next_of l.view h) h k acts.current acts.next p))
 
     -- Two items that are taken, with the same effect.
-    pub after-carried : (h k : History) (item item' : Item) → is_replied replies names item ≡ true → effect item ≡ effect item' → R (Took item ∷ h) (Took item' ∷ k) → R (after v h item) (after (seen_as v master ids) k item')
+    pub after-carried : (h k : History) (item item' : Item) → is_replied l.answered l.names item ≡ true → effect item ≡ effect item' → R (Took item ∷ h) (Took item' ∷ k) → R (after l.view h item) (after (seen_as l.view master ids) k item')
     after-carried h k item item' m same p =
-        dispatches-carried (does (effect item) v (Took item ∷ h)) (does (effect item') (seen_as v master ids) (Took item' ∷ k))
-        (subst (λ (x : Acts). R (does (effect item) v (Took item ∷ h)) (does x (seen_as v master ids) (Took item' ∷ k))) same
-        (kept-by v may replies names (IsActing v names) master ids R kept (effect item) (effect-ok item m) (Took item ∷ h) (Took item' ∷ k) p))
+        dispatches-carried (does (effect item) l.view (Took item ∷ h)) (does (effect item') (seen_as l.view master ids) (Took item' ∷ k))
+        (subst (λ (x : Acts). R (does (effect item) l.view (Took item ∷ h)) (does x (seen_as l.view master ids) (Took item' ∷ k))) same
+        (kept-by l master ids R kept (effect item) (effect-ok item m) (Took item ∷ h) (Took item' ∷ k) p))

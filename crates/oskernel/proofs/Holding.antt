@@ -12,9 +12,9 @@ use Rattle.osplan.specs.View.{View}
 use Rattle.osstate.specs.Readings.{knows_started}
 use Rattle.osact.specs.Acts.{Sends, act}
 use Rattle.osact.specs.Seen.{seen_of}
-use Rattle.osact.proofs.Kept.{IsKept, anybody, is_local, is_within, may_await, nobody, none-awaited}
+use Rattle.osact.proofs.Kept.{IsKept, IsSeen, Leave, anybody, is_local, may_await, nobody, none-awaited}
 use Rattle.oskernel.specs.Step.{after}
-use Rattle.oskernel.proofs.Carried.{IsActing, NamesActing, NamesAllow, acting-anybody, after-carried, allow-anybody, is_replied, next_of, replied-anybody}
+use Rattle.oskernel.proofs.Carried.{NamesActing, NamesAllow, acting-anybody, after-carried, allow-anybody, is_replied, leave_all, next_of, replied-anybody}
 
 -- Each kind of entry that follows from an item keeps it: one of the core itself, an envelope to a core that may be
 -- asked, a reply to one that may be answered, and a call that is open there.
@@ -34,7 +34,7 @@ holds-local names P local = record {
 }
 
 -- Where marks may name objects of the own core, of those that may be asked, and who acts, it holds after an item.
-module _ (v : View) (may replies names : CoreId → Bool) (P : History → Type 0) (holds : Holds may replies names P) (allowed : NamesAllow v may) (named : (core : CoreId) → is_within v may core ≡ true → names core ≡ true) (own_named : names v.own.id ≡ true) (acting : (h : History) → P h → NamesActing names v h) where
+module _ (l : Leave) (P : History → Type 0) (holds : Holds l.may l.answered l.names P) (allowed : NamesAllow l.view l.may) (acting : (h : History) → P h → NamesActing l h) where
   -- One history, which has it.
   record Same (h k : History) : Type 0 where
     pub same : h ≡ k
@@ -43,9 +43,8 @@ module _ (v : View) (may replies names : CoreId → Bool) (P : History → Type 
   both : (f : History → History) (h k : History) → Same h k → (P k → P (f k)) → Same (f h) (f k)
   both f h k p q = record { same = rw p.same refl; has = q p.has }
 
-  kept : IsKept v v.is_master v.cores may replies names (IsActing v names) Same
+  kept : IsKept l l.view.is_master l.view.cores Same
   kept = record {
-    named = named;
     holds = record {
       local = λ e h k m p. both (λ n. e ∷ n) h k p (holds.local e k m);
       asked = λ core message h k m p. both (act (Sends core message)) h k p (holds.asked core message k m);
@@ -53,17 +52,17 @@ module _ (v : View) (may replies names : CoreId → Bool) (P : History → Type 
       opened = λ call h k m p. both (λ n. Noted (Opened call) ∷ n) h k p (holds.opened call k m);
     };
     started = λ core h k m p. ap (λ (n : History). knows_started n core) p.same;
-    reads = λ h k p. ap (seen_of v) p.same;
-    seen = λ h k p. subst (λ (n : History). IsActing v names (seen_of v n)) (sym p.same) (acting k p.has).acts;
+    reads = λ h k p. ap (seen_of l.view) p.same;
+    seen = λ h k p. subst (λ (n : History). IsSeen l (seen_of l.view n)) (sym p.same) (acting k p.has).seen;
   }
 
-  pub holds-named : (h : History) (item : Item) → is_replied replies names item ≡ true → P (Took item ∷ h) → P (after v h item)
+  pub holds-named : (h : History) (item : Item) → is_replied l.answered l.names item ≡ true → P (Took item ∷ h) → P (after l.view h item)
   holds-named h item m p =
-      (after-carried v may replies names allowed named own_named v.is_master v.cores Same kept (λ h k p. (ap current_task p.same, ap (next_of v) p.same)) (λ h k p. rw p.same (acting k p.has)) h h item item m refl (record { same = refl; has = p })).has
+      (after-carried l allowed l.view.is_master l.view.cores Same kept (λ h k p. (ap current_task p.same, ap (next_of l.view) p.same)) (λ h k p. rw p.same (acting k p.has)) h h item item m refl (record { same = refl; has = p })).has
 
 -- So it does where marks may name whatever there is.
 pub holds-after : (v : View) (may replies : CoreId → Bool) (P : History → Type 0) → Holds may replies anybody P → NamesAllow v may → (h : History) (item : Item) → is_replied replies anybody item ≡ true → P (Took item ∷ h) → P (after v h item)
-holds-after v may replies P holds allowed = holds-named v may replies anybody P holds allowed (λ core m. refl) refl (λ h p. acting-anybody v h)
+holds-after v may replies P holds allowed = holds-named (leave_all v may replies) P holds allowed (λ h p. acting-anybody v may replies h)
 
 -- What every mark and every note keeps, whichever services there are.
 pub kept_after : (P : History → Type 0) → ((m : Mark) (h : History) → P h → P (Printed m ∷ h)) → ((n : Note) (h : History) → P h → P (Noted n ∷ h)) → (v : View) (h : History) (item : Item) → P (Took item ∷ h) → P (after v h item)

@@ -1,6 +1,6 @@
 -- What a core that names no object of another core does at an item, it does alone.
 use native.Mathlib.Omega.{arith}
-use Rattle.std.proofs.Common.{◌≡◌, ◌&&◌, ◌||◌, ℕ, Bool, true, false, cond, Option, Some, None, is_none, option_map, List, ◌∷◌, refl, sym, ap, ◌∙◌}
+use Rattle.std.proofs.Common.{◌≡◌, ◌&&◌, ◌||◌, ℕ, Bool, true, false, cond, Option, None, is_none, option_map, List, ◌∷◌, refl, sym, ap, ◌∙◌}
 use Rattle.std.proofs.lemmas.Bool.{false≢true}
 use Rattle.osbase.specs.declared.references.CoreId.{CoreId}
 use Rattle.osbase.specs.declared.items.CoreSet.{CoreSet}
@@ -18,7 +18,7 @@ use Rattle.osact.proofs.Kept.{IsKept, anybody, is_local, is_within, nobody, none
 use Rattle.osact.proofs.SeenSame.{ReadsSame, seen-same}
 use Rattle.oskernel.specs.Step.{after, effect}
 use Rattle.oskernel.proofs.Among.{agreement-same, among, base_of, best-later, count-same, counts-same, current-same, delay, later, open-same, phase-same, rows-same, running-later, settings-same, stamp-later, tables-same}
-use Rattle.oskernel.proofs.Carried.{IsActing, NamesAllow, acting-anybody, after-carried, is_replied, next_job, next_of}
+use Rattle.oskernel.proofs.Carried.{NamesAllow, acting-anybody, after-carried, is_replied, leave_all, next_job, next_of}
 
 -- What the core alone sees.
 abbrev pub alone_view : View → List CoreId → View
@@ -75,9 +75,8 @@ module _ (v : View) (ids : List CoreId) (s : CoreSet) where
       own_only true e = refl
       own_only false e = e
 
-  kept : IsKept v true ids nobody nobody anybody (IsActing v anybody) Along
+  kept : IsKept (leave_all v nobody nobody) true ids Along
   kept = record {
-    named = λ core m. refl;
     holds = record {
       local = local;
       asked = λ core message h k m p. absurd (false≢true m);
@@ -86,13 +85,13 @@ module _ (v : View) (ids : List CoreId) (s : CoreSet) where
     };
     started = own_started;
     reads = λ h k p. ap (seen_of v) p.same ∙ seen-same v (here k) k (reads-here k) true ids;
-    seen = λ h k p. (acting-anybody v h).acts;
+    seen = λ h k p. (acting-anybody v nobody nobody h).seen;
   }
 
   module _ (allowed : NamesAllow v nobody) where
     -- Two items with one effect, the first taken in the world and the second alone.
     same-after : (k : History) (item item' : Item) → is_replied nobody anybody item ≡ true → effect item ≡ effect item' → Along (Took item ∷ here k) (Took item' ∷ k) → after v (here k) item ≡ here (after self k item')
-    same-after k item item' replied same along = (after-carried v nobody nobody anybody allowed (λ core m. refl) refl true ids Along kept steers (λ h n p. acting-anybody v h) (here k) k item item' replied same along).same
+    same-after k item item' replied same along = (after-carried (leave_all v nobody nobody) allowed true ids Along kept steers (λ h n p. acting-anybody v nobody nobody h) (here k) k item item' replied same along).same
 
     -- So it is with the next stimulus, the end of the stimuli, and the second gate.
     pub same-stimulus : (stimulus : Stimulus) (k : History) → knows_started (here k) v.core ≡ true → knows_started k v.core ≡ true → after v (here k) (Item.Stim stimulus) ≡ here (after self k (Item.Stim stimulus))

@@ -14,16 +14,16 @@ loop-index-init g c = rw c.none-attached.ensures (record {
 
 pub attach-requires : goal.attach-requires
 attach-requires g c =
-    let own = c.requires.own c.loop-index.index c.object-reference.result c.loop-index-test.true c.object-reference.ensures in
+    let own = c.requires.own c.loop-index.index c.object-reference.result (omega arith) c.object-reference.ensures in
     let place = counter-place c.args.core.now c.object-reference.result.0 own in
-    (search rules, (omega (arith, c.loop-index.invariant.many, place.inside), omega (arith, c.loop-index.invariant.few c.object-reference.result.0.index, c.loop-index-test.true, c.requires.few)))
+    (search rules, (omega (arith, c.loop-index.invariant.many, place.inside), omega (arith, c.loop-index.invariant.few c.object-reference.result.0.index)))
 
 pub loop-index-preserved : goal.loop-index-preserved
 loop-index-preserved g c =
-    let own = c.requires.own c.loop-index.index c.object-reference.result c.loop-index-test.true c.object-reference.ensures in
+    let own = c.requires.own c.loop-index.index c.object-reference.result (omega arith) c.object-reference.ensures in
     let place = counter-place c.args.core.now c.object-reference.result.0 own in
     rw c.attach.ensures (record {
-      firsts = (λ goes ref each. rw (c.loop-index.invariant.firsts goes ref each) (firsts-more c.args.core.now goes ref c.loop-index.index c.object-reference.result.0 c.object-reference.result.1 (each c.loop-index.index c.object-reference.result c.loop-index-test.true c.object-reference.ensures) place));
+      firsts = (λ goes ref each. rw (c.loop-index.invariant.firsts goes ref each) (firsts-more c.args.core.now goes ref c.loop-index.index c.object-reference.result.0 c.object-reference.result.1 (each c.loop-index.index c.object-reference.result (omega arith) c.object-reference.ensures) place));
       many = length-set c.loop-index.attached c.object-reference.result.0.index _ ∙ c.loop-index.invariant.many;
       few = few-more c.loop-index.attached c.object-reference.result.0.index c.loop-index.index c.object-reference.result.1 c.loop-index.invariant.few;
     })
