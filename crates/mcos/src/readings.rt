@@ -2,7 +2,7 @@
 
 ghost use Rattle.std.specs.Prelude.{◌≡◌, ◌≢◌, ◌<◌, ◌≤◌, IfOk, IfErr, length, max};
 ghost use Rattle.std.specs.Result.{result_map_both};
-ghost use Rattle.osbase.specs.Runs.{AreKnown};
+ghost use Rattle.osplan.specs.Stimuli.{AreKnown};
 ghost use Rattle.osplan.specs.declared.faults.ConfFault.TheVariants.{NoMemory};
 ghost use Rattle.osgiven.specs.Given.{schedule_faults, schedule_meant, stimuli_faults, stimuli_meant};
 ghost use Rattle.osdraft.specs.Meaning.{config_of, faults_of};
@@ -37,7 +37,7 @@ pub fn stimuli_in<S: Source>(
 ) -> Result<Stimuli, Fault>
     requires { 1 ≤ length (S.files source.old) }
     ensures ok { IfOk result (λ stimuli. Means (stimuli_meant config.now) (text_at (S.files source.new) 1) stimuli) }
-    ensures stimuli { IfOk result AreKnown }
+    ensures stimuli { IfOk result (AreKnown config.now) }
     ensures fault { IfErr result (λ fault. fault ≢ Fault.Text NoMemory
         → IsFaultOf (stimuli_faults config.now) (text_at (S.files source.new) 1) fault) }
     ensures ahead { length (S.files source.new) ≤ max (length (S.files source.old)) 2 }

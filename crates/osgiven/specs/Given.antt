@@ -1,8 +1,8 @@
 -- The stimuli and the schedule that texts mean for a configuration, and the faults that they have. [own]
-use Rattle.std.specs.Prelude.{ℕ, ◌==◌, nat_le, Bool, true, not, is_some, Option, Some, None, option_and_then, unwrap_or, if◌then◌else◌, List, [], ◌∷◌, length, take, drop, position, codes}
+use Rattle.std.specs.Prelude.{ℕ, ◌≡◌, ◌<◌, ◌==◌, nat_le, Bool, true, not, is_some, Option, Some, None, option_and_then, unwrap_or, if◌then◌else◌, List, [], ◌∷◌, length, take, drop, position, codes}
 use Rattle.std.specs.Char.{is_ascii_digit}
 use Rattle.std.specs.Option.{option_map_or}
-use Rattle.std.specs.List.{list_all}
+use Rattle.std.specs.List.{list_all, slice_split}
 use Rattle.std.specs.Str.{bytes_eq}
 use Rattle.osbase.specs.declared.references.CoreId.{CoreId}
 use Rattle.osbase.specs.declared.items.Stimulus.{Stimulus}
@@ -10,7 +10,9 @@ use Rattle.osbase.specs.declared.items.Stimulus.TheVariants.{Op, Tick}
 use Rattle.osbase.specs.declared.turns.CoreStimuli.{CoreStimuli}
 use Rattle.osbase.specs.declared.turns.Choice.{Choice}
 use Rattle.osbase.specs.declared.turns.Choice.TheVariants.{Own, Serve, Look}
+use Rattle.osplan.specs.declared.plans.Core.{Core}
 use Rattle.osplan.specs.declared.plans.Plan.{Plan}
+use Rattle.osplan.specs.Stimuli.{knows_stimulus}
 use Rattle.osplan.specs.View.{core_of}
 use Rattle.serde_json.specs.Data.{Data}
 use Rattle.serde_json.specs.Read.{read}
@@ -19,46 +21,53 @@ use Rattle.osplan.specs.declared.faults.ConfFault.{ConfFault}
 use Rattle.osplan.specs.declared.faults.ConfFault.TheVariants.{NotJson, Limit, BadStimulus, BadSchedule}
 use Rattle.osread.specs.Faults.{Tests, failing}
 use Rattle.osgiven.specs.Word.{core_number}
-use Rattle.osread.specs.Reading.{◌>>=◌, each, parts_of}
+use Rattle.osread.specs.Reading.{◌>>=◌, each, parts_of, value_if}
 use Rattle.osread.specs.Json.{entries}
 use Rattle.osread.specs.Faults.{if_faultless}
 
 -- The configured core that these digits name.
-abbrev pub core_named : Plan → List ℕ → Option CoreId
+abbrev pub core_named : Plan → List ℕ → Option Core
 core_named plan digits = do
   number ← core_number digits
-  core ← core_of plan (record { number = number })
-  Some core.id
+  core_of plan (record { number = number })
 
 -- ---- stimuli: an object from core numbers to words
 
-abbrev pub stimulus_of : List ℕ → Option Stimulus
-stimulus_of word = if bytes_eq word (codes "op") then Some Op else (if bytes_eq word (codes "tick") then Some Tick else None)
+-- What a word means.
+abbrev pub stimulus_meant : List ℕ → Option Stimulus
+stimulus_meant word = if bytes_eq word (codes "op") then Some Op else (if bytes_eq word (codes "tick") then Some Tick else None)
 
--- What follows the beginning of a text, where it begins so.
-abbrev pub after : List ℕ → List ℕ → Option (List ℕ)
-after [] text = Some text
-after (b ∷ beginning) [] = None
-after (b ∷ beginning) (c ∷ text) = if c == b then after beginning text else None
+-- What it means to a core: a stimulus that the core knows, so that whatever is read may be played.
+abbrev pub stimulus_of : Core → List ℕ → Option Stimulus
+stimulus_of core word = do
+  stimulus ← stimulus_meant word
+  value_if (knows_stimulus core stimulus) stimulus
 
--- The stimulus whose word and a space a text begins with, and what follows them.
-abbrev pub front_by : Option (List ℕ) → Option (List ℕ) → Option (Stimulus × List ℕ)
-front_by (Some later) tick = Some (Op, later)
-front_by None (Some later) = Some (Tick, later)
-front_by None None = None
+-- A text's words, which spaces divide.
+abbrev pub words_in : List ℕ → List (List ℕ)
+words_in text = slice_split (λ b. b == 32) text
 
-abbrev pub front_of : List ℕ → Option (Stimulus × List ℕ)
-front_of text = front_by (after (codes "op ") text) (after (codes "tick ") text)
+-- The first word of a text, where a space ends it: what it means to a core, and what follows the space.
+pub record IsFirst (core : Core) (text : List ℕ) (meant : Option Stimulus) (later : List ℕ) : Type 0 where
+  pub word : List ℕ
+  pub words : words_in text ≡ word ∷ words_in later
+  pub means : stimulus_of core word ≡ meant
+  pub shorter : length later < length text
 
-abbrev pub stimuli_of_text : List ℕ → Option (List Stimulus)
-stimuli_of_text text = each stimulus_of (parts_of 32 text)
+-- A step of a walk by words: there is a first one that a space ends, or the text is one word.
+abbrev pub IsStep : Core → List ℕ → Option (Option Stimulus × List ℕ) → Type 0
+IsStep core text (Some front) = IsFirst core text front.0 front.1
+IsStep core text None = words_in text ≡ text ∷ []
+
+abbrev pub stimuli_of_text : Core → List ℕ → Option (List Stimulus)
+stimuli_of_text core text = each (stimulus_of core) (parts_of 32 text)
 
 unfoldable pub core_stimuli_of : Plan → List ℕ × Data → Option CoreStimuli
 core_stimuli_of plan entry = do
   core ← core_named plan entry.0
   text ← as_str entry.1
-  words ← stimuli_of_text text
-  Some (record { core = core; words = words })
+  words ← stimuli_of_text core text
+  Some (record { core = core.id; words = words })
 
 abbrev pub stimuli_of_data : Plan → Data → Option (List CoreStimuli)
 stimuli_of_data plan d = option_and_then (λ ms. each (core_stimuli_of plan) (entries ms)) (as_object d)
@@ -82,7 +91,7 @@ digits_in word = unwrap_or (position (λ b. not (is_ascii_digit b)) word) (lengt
 
 -- `o` is Own, `l` is Look, and `s` with a core other than the turn's own is Serve.
 abbrev pub served : Plan → CoreId → List ℕ → Option Choice
-served plan core digits = option_and_then (λ (from : CoreId). if from.number == core.number then None else Some (Serve from)) (core_named plan digits)
+served plan core digits = option_and_then (λ (from : Core). if from.id.number == core.number then None else Some (Serve from.id)) (core_named plan digits)
 
 unfoldable pub choice_of : Plan → CoreId → List ℕ → Option Choice
 choice_of plan core [] = None
@@ -94,8 +103,8 @@ choice_of plan core (letter ∷ digits) =
 unfoldable pub turn_of : Plan → List ℕ → Option (CoreId × Choice)
 turn_of plan word = do
   core ← core_named plan (take (digits_in word) word)
-  choice ← choice_of plan core (drop (digits_in word) word)
-  Some (core, choice)
+  choice ← choice_of plan core.id (drop (digits_in word) word)
+  Some (core.id, choice)
 
 abbrev pub turns_of_text : Plan → List ℕ → Option (List (CoreId × Choice))
 turns_of_text plan text = each (turn_of plan) (parts_of 32 text)

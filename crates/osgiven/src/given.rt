@@ -1,22 +1,22 @@
 //! Reading what a run is given: stimuli and turns.
 
-ghost use Rattle.std.specs.Prelude.{◌≡◌, ◌≢◌, ◌≤◌, ◌<◌, ◌==◌, not, length, position, IsTrue, IfOk, IfErr, IfSome, Some, option_map, ℕ, List};
+ghost use Rattle.std.specs.Prelude.{◌≡◌, ◌≢◌, ◌≤◌, ◌<◌, ◌==◌, not, length, position, IsTrue, IfOk, IfErr, IfSome, Option, Some, option_copied, option_map, ℕ, List};
 ghost use Rattle.std.specs.Char.{is_ascii_digit};
-ghost use Rattle.std.specs.List.{list_all, slice_split};
+ghost use Rattle.std.specs.List.{list_all};
 ghost use Rattle.std.specs.Borrow.{Bor};
 ghost use Rattle.std.specs.BTreeMap.{values};
 ghost use Rattle.serde_json.specs.declared.value.Value.{Value};
 ghost use Rattle.osbase.specs.declared.items.Stimulus.{Stimulus as Word};
-ghost use Rattle.osbase.specs.Runs.{AreKnown};
+ghost use Rattle.osplan.specs.Stimuli.{AreKnown};
 ghost use Rattle.osread.specs.Reading.{Gives, each};
 ghost use Rattle.osread.specs.Json.{entries};
 ghost use Rattle.osread.specs.Faults.{IsLeast};
-ghost use Rattle.osgiven.specs.Given.{core_named, stimulus_of, front_of, stimuli_of_text, core_stimuli_of, stimuli_of_data, has_words_within, are_stimuli_within, schedule_of_data, digits_in, served, choice_of, turn_of, stimuli_meant, stimuli_faults, schedule_meant, schedule_faults};
+ghost use Rattle.osgiven.specs.Given.{IsStep, core_named, stimulus_meant, stimulus_of, words_in, stimuli_of_text, core_stimuli_of, stimuli_of_data, has_words_within, are_stimuli_within, schedule_of_data, digits_in, served, choice_of, turn_of, stimuli_meant, stimuli_faults, schedule_meant, schedule_faults};
 ghost use Rattle.serde_json.specs.View.{view, members_view};
 
 use crate::words::core_number;
 use osbase::{Choice, CoreId, CoreStimuli, List as Items, Schedule, Stimuli, Stimulus, Turn};
-use osplan::{ConfFault, Config, Plan};
+use osplan::{ConfFault, Config, Core, Plan};
 use osread::{PartReader, Refusal, part_count, read_parts, value_of};
 use serde_json::{Map, Value};
 use std::alloc::Global;
@@ -28,16 +28,15 @@ const STIMULI: usize = 100_000;
 const TURNS: usize = 1_000_000;
 
 /// The configured core that these digits name.
-fn core_named(plan: &Plan, digits: &[u8]) -> Option<CoreId>
-    ensures { result ≡ core_named plan.now digits.now }
+fn core_named<'p>(plan: &'p Plan, digits: &[u8]) -> Option<&'p Core>
+    ensures { option_copied result ≡ core_named plan.now digits.now }
 {
     let number = core_number(digits)?;
-    let core = plan.core(CoreId { number })?;
-    Some(core.id)
+    plan.core(CoreId { number })
 }
 
-fn stimulus_of(word: &[u8]) -> Option<Stimulus>
-    ensures { result ≡ stimulus_of word.now }
+fn stimulus_meant(word: &[u8]) -> Option<Stimulus>
+    ensures { result ≡ stimulus_meant word.now }
 {
     match word {
         [b'o', b'p'] => Some(Stimulus::Op),
@@ -46,50 +45,62 @@ fn stimulus_of(word: &[u8]) -> Option<Stimulus>
     }
 }
 
-fn read_stimulus(word: &str) -> Result<Stimulus, Refusal>
-    ensures { Gives (λ x. x) result (stimulus_of word.now) }
+// The stimulus of this word, if the core knows it.
+fn stimulus_of(core: &Core, word: &[u8]) -> Option<Stimulus>
+    ensures { result ≡ stimulus_of core.now word.now }
 {
-    match stimulus_of(word.as_bytes()) {
-        Some(stimulus) => Ok(stimulus),
-        None => Err(Refusal::Unfit),
+    let stimulus = stimulus_meant(word)?;
+    if core.knows(stimulus) {
+        Some(stimulus)
+    } else {
+        None
     }
 }
 
-// The stimulus whose word and a space the text begins with, and what follows them.
+// What the first word means to the core, and what follows it, where a space ends it. The words that come most are
+// compared where they would stand, and their ends are not looked for.
 #[inline(always)]
-fn front_of(text: &str) -> Option<(Stimulus, &str)>
-    ensures { option_map (λ (front : Word × Bor (List ℕ)). (front.0, front.1.now)) result ≡ front_of text.now }
+fn front_of<'t>(core: &Core, text: &'t str) -> Option<(Option<Stimulus>, &'t str)>
+    ensures { IsStep core.now text.now (option_map (λ (front : Option Word × Bor (List ℕ)). (front.0, front.1.now)) result) }
 {
     match text.strip_prefix("op ") {
-        Some(later) => Some((Stimulus::Op, later)),
+        Some(later) => Some((Some(Stimulus::Op), later)),
         None => match text.strip_prefix("tick ") {
-            Some(later) => Some((Stimulus::Tick, later)),
-            None => None,
+            Some(later) => Some((Some(Stimulus::Tick), later)),
+            None => first_of(core, text),
         },
     }
 }
 
-// The words are few, so each is compared where it would stand, and the end of none is looked for.
-fn stimuli_of_words(alloc: Global, text: &str) -> Result<Items<Stimulus>, Refusal>
-    ensures { Gives (λ x. x) result (each stimulus_of (slice_split (λ b. b == 32) text.now)) }
+// The same of any word: the first space is looked for.
+fn first_of<'t>(core: &Core, text: &'t str) -> Option<(Option<Stimulus>, &'t str)>
+    ensures { IsStep core.now text.now (option_map (λ (front : Option Word × Bor (List ℕ)). (front.0, front.1.now)) result) }
+{
+    let (word, later) = text.split_once(' ')?;
+    Some((stimulus_of(core, word.as_bytes()), later))
+}
+
+fn stimuli_of_words(alloc: Global, core: &Core, text: &str) -> Result<Items<Stimulus>, Refusal>
+    ensures { Gives (λ x. x) result (each (stimulus_of core.now) (words_in text.now)) }
 {
     let mut stimuli = Vec::with_capacity(alloc, text.len() / 3 + 1)?;
     let mut rest = text;
-    while let Some((stimulus, later)) = front_of(rest) {
-        stimuli.push(stimulus)?;
+    while let Some((stimulus, later)) = front_of(core, rest) {
+        stimuli.push(stimulus.ok_or(Refusal::Unfit)?)?;
         rest = later;
     }
-    stimuli.push(read_stimulus(rest)?)?;
+    let last = stimulus_of(core, rest.as_bytes());
+    stimuli.push(last.ok_or(Refusal::Unfit)?)?;
     Ok(Items::from_vec(stimuli))
 }
 
-fn stimuli_of_text(alloc: Global, text: &str) -> Result<Items<Stimulus>, Refusal>
-    ensures { Gives (λ x. x) result (stimuli_of_text text.now) }
+fn stimuli_of_text(alloc: Global, core: &Core, text: &str) -> Result<Items<Stimulus>, Refusal>
+    ensures { Gives (λ x. x) result (stimuli_of_text core.now text.now) }
 {
     if text.is_empty() {
         return Ok(Items::new(alloc));
     }
-    stimuli_of_words(alloc, text)
+    stimuli_of_words(alloc, core, text)
 }
 
 #[tactic(auto, unfolding(crate::specs::Given::core_stimuli_of))]
@@ -103,8 +114,11 @@ fn core_stimuli_of(
 {
     let core = core_named(plan, key.as_bytes()).ok_or(Refusal::Unfit)?;
     let text = value.as_str().ok_or(Refusal::Unfit)?;
-    let words = stimuli_of_text(alloc, text)?;
-    Ok(CoreStimuli { core, words })
+    let words = stimuli_of_text(alloc, core, text)?;
+    Ok(CoreStimuli {
+        core: core.id,
+        words,
+    })
 }
 
 fn stimuli_of_members(
@@ -162,7 +176,7 @@ fn stimuli_of(alloc: Global, plan: &Plan, value: &Value) -> Result<Stimuli, Refu
 pub fn read_stimuli(alloc: Global, config: &Config, text: &str) -> Result<Stimuli, ConfFault>
     ensures ok { IfOk result (λ stimuli. stimuli_meant config.now text.now ≡ Some stimuli) }
     ensures fault { IfErr result (λ fault. fault ≢ ConfFault.NoMemory → IsLeast fault (stimuli_faults config.now text.now)) }
-    ensures known { IfOk result AreKnown }
+    ensures known { IfOk result (AreKnown config.now) }
 {
     let value = value_of(alloc, text)?;
     if !are_stimuli_within(&value) {
@@ -191,10 +205,10 @@ fn served(plan: &Plan, core: CoreId, digits: &[u8]) -> Option<Choice>
     ensures { result ≡ served plan.now core digits.now }
 {
     let from = core_named(plan, digits)?;
-    if from.number == core.number {
+    if from.id.number == core.number {
         None
     } else {
-        Some(Choice::Serve(from))
+        Some(Choice::Serve(from.id))
     }
 }
 
@@ -229,7 +243,7 @@ impl PartReader<Turn> for TurnReader<'_> {
     fn read(&self, part: &str) -> Option<Turn> {
         let bytes = part.as_bytes();
         let digits = digits_in(bytes);
-        let core = core_named(self.plan, &bytes[..digits])?;
+        let core = core_named(self.plan, &bytes[..digits])?.id;
         let choice = choice_of(self.plan, core, &bytes[digits..])?;
         Some((core, choice))
     }

@@ -8,6 +8,7 @@ pub mod Carried
 pub mod JobLists
 pub mod Holding
 pub mod Stages
+pub mod Idling
 pub mod Calm
 pub mod Own
 pub mod Scripts

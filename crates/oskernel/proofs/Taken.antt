@@ -12,7 +12,7 @@ use Rattle.osbase.specs.declared.items.Item.{Item}
 use Rattle.osbase.specs.declared.turns.TheConstants.{CORES}
 use Rattle.osbase.specs.History.{Took, phase_after, outbox_after}
 use Rattle.osbase.specs.Phases.{is_before_live, is_past_first_gate, is_scheduling, stands_in}
-use Rattle.osbase.specs.Runs.{is_stimulus}
+use Rattle.osplan.specs.Stimuli.{knows_stimulus}
 use Rattle.osbase.specs.Sets.{has_core}
 use Rattle.osbase.proofs.Phasing.{in_phase}
 use Rattle.osstate.specs.State.{KernelState}
@@ -73,7 +73,7 @@ pub going_on : (places : ℕ) (s : KernelState) (item : Item) → admits places 
 going_on places s (Item.Stim stimulus) a b = empty s.border.outbox (and_parts _ (is_empty s.border.outbox) (and_parts _ (is_settled s) a).1).1
 going_on places s item a b = absurd (false≢true b)
 
--- an admitted item is a stimulus that there is, or a message that is answered, or neither kind
+-- an admitted item is a stimulus that the core knows, or a message that is answered, or neither kind
 reply-known : (status : Status) (has_value : Bool) (from : CoreId) (awaited : Option OpenCall) → option_map_or (is_reply_to from status has_value) awaited false ≡ true → is_some awaited ≡ true
 reply-known status has_value from None a = absurd (false≢true a)
 reply-known status has_value from (Some call) a = refl
@@ -84,6 +84,6 @@ message-known places s from (Message.Action call) a = (and_parts (is_action call
 message-known places s from (Message.Reply status value) a = reply-known status (is_some value) from s.border.open_call a
 
 pub known : (places : ℕ) (s : KernelState) (item : Item) → admits places s item ≡ true → is_known s item ≡ true
-known places s (Item.Stim stimulus) a = (and_parts _ (is_stimulus stimulus) (and_parts _ (is_settled s) a).0).1
+known places s (Item.Stim stimulus) a = (and_parts _ (knows_stimulus s.view.own stimulus) (and_parts _ (is_settled s) a).0).1
 known places s (Item.Received from number message) a = message-known places s from message (and_parts _ (is_awaited places s from message) (and_parts (is_scheduling s.progress.phase) _ a).1).1
 known places s item a = refl

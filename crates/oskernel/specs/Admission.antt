@@ -17,10 +17,10 @@ use Rattle.osbase.specs.declared.histories.Sent.{Sent}
 use Rattle.osbase.specs.declared.histories.Phase.TheVariants as Phase
 use Rattle.osbase.specs.History.{same_core}
 use Rattle.osbase.specs.Phases.{is_scheduling, stands_in}
-use Rattle.osbase.specs.Runs.{is_stimulus}
 use Rattle.osbase.specs.Sets.{has_core, core_ids}
 use Rattle.osplan.specs.declared.plans.CoreMode.{CoreMode}
 use Rattle.osplan.specs.declared.plans.CoreMode.TheVariants.{Named, DontCare}
+use Rattle.osplan.specs.Stimuli.{knows_stimulus}
 use Rattle.osplan.specs.View.{View, is_configured}
 use Rattle.osstate.specs.Readings.{is_own, next_start}
 use Rattle.osstate.specs.State.{KernelState}
@@ -101,7 +101,7 @@ admits places s Item.Entered = stands_in Phase.Boot s.progress.phase && is_none 
 admits places s (Item.Pass1 agreement) = stands_in Phase.FirstGate s.progress.phase && is_agreement s.view s.view.own.mode agreement
 admits places s Item.Readied = stands_in Phase.BetweenGates s.progress.phase
 admits places s (Item.Pass2 cores) = stands_in Phase.SecondGate s.progress.phase && are_started_cores s.view cores
-admits places s (Item.Stim stimulus) = stands_in Phase.Live s.progress.phase && is_stimulus stimulus && is_settled s
+admits places s (Item.Stim stimulus) = stands_in Phase.Live s.progress.phase && knows_stimulus s.view.own stimulus && is_settled s
 admits places s (Item.Posted core) = is_scheduling s.progress.phase && is_front_for core s.border.outbox
 admits places s (Item.Received from number message) = is_scheduling s.progress.phase && is_next_from places s from number message
 admits places s (Item.Granted spinlock) = false

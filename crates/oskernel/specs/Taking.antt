@@ -6,7 +6,7 @@ use Rattle.osbase.specs.declared.references.ModeId.{ModeId}
 use Rattle.osbase.specs.declared.messages.Message.{Message}
 use Rattle.osbase.specs.declared.references.Runner.TheVariants as Runner
 use Rattle.osbase.specs.History.{job_count}
-use Rattle.osbase.specs.Runs.{is_stimulus}
+use Rattle.osplan.specs.Stimuli.{knows_stimulus}
 use Rattle.osstate.specs.Readings.{task_ref}
 use Rattle.osstate.specs.Sound.{activation_limit}
 use Rattle.osstate.specs.State.{KernelState}
@@ -43,9 +43,9 @@ is_answered s (Message.Request call) = is_served s.view call
 is_answered s (Message.Action call) = is_served s.view call
 is_answered s (Message.Reply status value) = is_some s.border.open_call
 
--- The item is a stimulus that there is, or a message that is answered, or neither kind.
+-- The item is a stimulus that the core knows, or a message that is answered, or neither kind.
 abbrev pub is_known : KernelState → Item → Bool
-is_known s (Item.Stim stimulus) = is_stimulus stimulus
+is_known s (Item.Stim stimulus) = knows_stimulus s.view.own stimulus
 is_known s (Item.Received from number message) = is_answered s message
 is_known s item = true
 

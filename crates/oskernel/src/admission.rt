@@ -3,7 +3,6 @@
 ghost use Rattle.std.specs.Prelude.{◌≡◌, ◌||◌, false, not};
 ghost use Rattle.std.specs.List.{list_all};
 ghost use Rattle.std.specs.Option.{option_map_or};
-ghost use Rattle.osbase.specs.Runs.{is_stimulus};
 ghost use Rattle.osbase.specs.Sets.{core_ids, has_core};
 ghost use Rattle.osplan.specs.View.{is_configured};
 ghost use Rattle.osstate.specs.Readings.{next_start};
@@ -14,7 +13,7 @@ use crate::free::is_settled;
 use osact::is_ok;
 use osbase::{
     Agreement, Awaited, CORE_NUMBERS, CoreId, CoreSet, Item, Message, ModeId, OpenCall, Phase,
-    RemoteCall, ServiceId, Status, Stimulus, both,
+    RemoteCall, ServiceId, Status, both,
 };
 use oscript::is_action;
 use osplan::CoreMode;
@@ -48,7 +47,7 @@ pub(crate) fn is_admitted<const P: usize, const J: usize, const OUT: usize>(
             are_started(state, cores),
         ),
         Item::Stim(stimulus) => {
-            let is_due = both(phase.stands_in(Phase::Live), is_known_stimulus(*stimulus));
+            let is_due = both(phase.stands_in(Phase::Live), state.knows(*stimulus));
             both(is_due, is_settled(state))
         }
         Item::Posted(core) => both(phase.is_scheduling(), is_front(state, *core)),
@@ -70,17 +69,6 @@ pub(crate) fn is_admitted<const P: usize, const J: usize, const OUT: usize>(
         Item::Drained => both(phase.stands_in(Phase::Live), is_settled(state)),
         Item::PassEnd => phase.stands_in(Phase::Drained),
         Item::Last(shutdown) => both(phase.stands_in(Phase::Closing), shutdown.is_none()),
-    }
-}
-
-// So far the running job's next operation, and a tick.
-fn is_known_stimulus(stimulus: Stimulus) -> bool
-    ensures { result ≡ is_stimulus stimulus }
-{
-    match stimulus {
-        Stimulus::Op => true,
-        Stimulus::Tick => true,
-        Stimulus::Irq(_) => false,
     }
 }
 

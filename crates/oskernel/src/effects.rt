@@ -4,8 +4,8 @@ ghost use Rattle.std.specs.Prelude.{◌≡◌, ◌+◌, ◌<◌, ◌≤◌, ◌�
 ghost use Rattle.osbase.specs.declared.turns.TheConstants.{CORES};
 ghost use Rattle.osbase.specs.History.{Took, outbox_after, phase_after};
 ghost use Rattle.osbase.specs.Phases.{is_before_live, is_past_first_gate};
-ghost use Rattle.osbase.specs.Runs.{is_stimulus};
 ghost use Rattle.osplan.specs.Objects.{posted_at_once};
+ghost use Rattle.osplan.specs.Stimuli.{knows_stimulus};
 ghost use Rattle.osjobs.specs.Jobs.{is_plain};
 ghost use Rattle.osstate.specs.Does.{Adds, Does, Effects, HasRoom, item_entries, item_marks, service_entries, service_marks};
 ghost use Rattle.osstate.specs.Sound.{is_first_gate, is_posted, is_sender_known};
@@ -125,7 +125,7 @@ fn go_on<const P: usize, const J: usize, const OUT: usize>(
     stimulus: Stimulus,
     marks: &mut Vec<Mark>,
 )
-    requires known { IsTrue (is_stimulus stimulus) }
+    requires known { IsTrue (knows_stimulus state.old.view.own stimulus) }
     requires posts { MayPost (1 + posted_at_once state.old.view.own) OUT service_entries service_marks state.old marks.old }
     ensures { Effects service_entries service_marks (does (stimulates stimulus)) state.old state.new marks.old marks.new }
 {

@@ -1,5 +1,6 @@
 pub mod Objects
 pub mod View
+pub mod Stimuli
 pub mod Clocked
 pub mod Names
 pub mod Limits

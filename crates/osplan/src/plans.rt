@@ -3,13 +3,16 @@
 ghost use Rattle.std.specs.Prelude.{◌≡◌, ◌↔◌, IsTrue, Option, option_copied, slice_get};
 ghost use Rattle.std.specs.List.{list_all};
 ghost use Rattle.osplan.specs.Objects.{is_own_object, names_in, object_count};
+ghost use Rattle.osplan.specs.Stimuli.{knows_stimulus};
 ghost use Rattle.osplan.specs.View.{core_of};
 ghost use Rattle.osplan.specs.Limits.{is_alarm_near, is_core_near, is_table_near, is_within_limits, stays_on};
 ghost use Rattle.osplan.specs.Expressible.{is_expressible};
 ghost use Rattle.osplan.specs.declared.plans.Task.{Task as TaskValue};
 
 use crate::sides::{is_on, stays_on};
-use osbase::{CoreId, CounterRef, List, ModeId, Name, Object, ObjectKind, Reference, RemoteCall};
+use osbase::{
+    CoreId, CounterRef, List, ModeId, Name, Object, ObjectKind, Reference, RemoteCall, Stimulus,
+};
 use oscript::Script;
 use std::marker::Model;
 
@@ -248,6 +251,17 @@ impl Core {
     {
         object.place.core.number == self.id.number
             && usize::from(object.place.index) < self.count(object.kind)
+    }
+
+    /// Whether the core knows the stimulus: the running job's next operation, and a tick.
+    pub fn knows(&self, stimulus: Stimulus) -> bool
+        ensures { result ≡ knows_stimulus self.now stimulus }
+    {
+        match stimulus {
+            Stimulus::Op => true,
+            Stimulus::Tick => true,
+            Stimulus::Irq(_) => false,
+        }
     }
 
     fn count(&self, kind: ObjectKind) -> usize

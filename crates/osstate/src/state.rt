@@ -13,6 +13,7 @@ ghost use Rattle.osplan.specs.declared.plans.Task.{Task as TaskValue};
 ghost use Rattle.osplan.specs.Clocked.{are_clocks_within};
 ghost use Rattle.osplan.specs.Objects.{is_own_object, may_act};
 ghost use Rattle.osplan.specs.declared.plans.Alarm.{Alarm as AlarmValue};
+ghost use Rattle.osplan.specs.Stimuli.{knows_stimulus};
 ghost use Rattle.osplan.specs.View.{core_of, is_configured, own_alarm, own_task, view_of};
 ghost use Rattle.osclock.specs.Clocks.{alarm_in, attached_to, counter_in, counts_to_by, counts_to_in, due_by, due_in, is_in_use_by, is_used, left_by, left_in, max_for, value_by};
 ghost use Rattle.osjobs.specs.Jobs.{is_current, is_plain};
@@ -36,7 +37,7 @@ use arrayvec::ArrayVec;
 use osbase::{
     Agreement, AlarmRef, CORES, CoreId, CounterRef, Envelope, HeldResource, IsrRef, Item, Job,
     Mark, Message, Object, OpenCall, Phase, RemoteCall, ResourceRef, Runner, Sent, Status,
-    TaskEvents, TaskRef,
+    Stimulus, TaskEvents, TaskRef,
 };
 use osclock::{AlarmList, Clocks};
 use oscript::{Action, Frame};
@@ -442,6 +443,13 @@ impl<'a, const P: usize, const J: usize, const OUT: usize> CoreState<'a, P, J, O
         ensures { result ≡ is_own_object self.now.view.own object }
     {
         self.core.has(object)
+    }
+
+    /// Whether the core knows the stimulus.
+    pub fn knows(&self, stimulus: Stimulus) -> bool
+        ensures { result ≡ knows_stimulus self.now.view.own stimulus }
+    {
+        self.core.knows(stimulus)
     }
 
     /// The core's tasks, in index order.

@@ -11,10 +11,10 @@ use Rattle.osbase.specs.declared.items.Stimulus.{Stimulus}
 use Rattle.osbase.specs.declared.marks.Mark.{Mark}
 use Rattle.osbase.specs.declared.histories.Phase.{Phase}
 use Rattle.osbase.specs.History.{History, Took, Printed, began_count, item_count, marks_of, phase_of}
-use Rattle.osbase.specs.Runs.{is_stimulus}
 use Rattle.osbase.specs.Sets.{core_ids, has_core}
 use Rattle.osplan.specs.declared.plans.CoreMode.{CoreMode}
 use Rattle.osplan.specs.declared.plans.CoreMode.TheVariants.{Named}
+use Rattle.osplan.specs.Stimuli.{knows_stimulus}
 use Rattle.osplan.specs.View.{View, is_configured}
 use Rattle.osstate.specs.Readings.{knows_started, next_start, phase_at}
 use Rattle.osact.proofs.Kept.{nobody}
@@ -26,12 +26,12 @@ use Rattle.oskernel.proofs.Among.{among, base_of, marks-same, open-same, phase-s
 use Rattle.oskernel.proofs.Calm.{Calm, calm-after, settled}
 use Rattle.oskernel.proofs.Carried.{NamesAllow}
 use Rattle.oskernel.proofs.Holding.{kept_after, quiet_after}
+use Rattle.oskernel.proofs.Idling.{Idle, drained-idle, end-idle}
 use Rattle.oskernel.proofs.Stages.{is_mail, solo-parts, stage, stage_of}
 use Rattle.oskernel.proofs.Stepping.{alone_view, same-drained, same-gate, same-stimulus}
 use Rattle.osworld.specs.Fits.{IsBeginning, has_drained, stimuli_in}
 use Rattle.osworld.proofs.Beginnings.{begins-itself, begins-longer, begins-through}
 use Rattle.osworld.proofs.Ending.{phase-after}
-use Rattle.osworld.proofs.Idling.{Idle, drained-idle, end-idle}
 use Rattle.osworld.proofs.Sane.{AreAgreed, is_conflict}
 
 -- ---- items in order
@@ -278,24 +278,24 @@ module _ (v : View) (ids : List CoreId) (allowed : NamesAllow v nobody) where
       may-take : (i : Item) → admits outbox_size (state_of self k) i ≡ true → takes outbox_size self k i ≡ true
       may-take i may = and_from _ _ (lt-ltb (item_count k) (2 ^ 48) room) may
 
-    live-alone : (st : List Stimulus) (k : History) → phase_at self k ≡ Phase.Live → Calm k → list_all is_stimulus st ≡ true → item_count k + suc (length st) ≤ 2 ^ 48 → Goes_on k (live_items st)
+    live-alone : (st : List Stimulus) (k : History) → phase_at self k ≡ Phase.Live → Calm k → list_all (knows_stimulus v.own) st ≡ true → item_count k + suc (length st) ≤ 2 ^ 48 → Goes_on k (live_items st)
     live-alone [] k at calm all few =
         takes-next k Item.Drained [] (may-take k (omega arith) Item.Drained (and_from _ _ (ap (stands_in Phase.Live) at) (settled self k calm))) refl
     live-alone (x ∷ xs) k at calm all few =
-        let parts = and_parts (is_stimulus x) (list_all is_stimulus xs) all in
+        let parts = and_parts (knows_stimulus v.own x) (list_all (knows_stimulus v.own) xs) all in
         let count = counted k (Item.Stim x) in
         takes-next k (Item.Stim x) (live_items xs) (may-take k (omega arith) (Item.Stim x) (and_from _ _ (and_from _ _ (ap (stands_in Phase.Live) at) parts.0) (settled self k calm)))
         (live-alone xs (after self k (Item.Stim x)) (phase-after self k (Item.Stim x) ∙ at) (calm-after self (allow-alone v ids allowed) k (Item.Stim x) refl calm) parts.1 (omega arith))
 
     module _ (known : are_started_cores self own ≡ true) where
-      gate-alone : (st : List Stimulus) → list_all is_stimulus st ≡ true → 4 + suc (length st) ≤ 2 ^ 48 → Goes_on readied (Item.Pass2 own ∷ live_items st)
+      gate-alone : (st : List Stimulus) → list_all (knows_stimulus v.own) st ≡ true → 4 + suc (length st) ≤ 2 ^ 48 → Goes_on readied (Item.Pass2 own ∷ live_items st)
       gate-alone st all few =
           let count = counted readied (Item.Pass2 own) in
           takes-next readied (Item.Pass2 own) (live_items st) (may-take readied (omega arith) (Item.Pass2 own) known)
           (live-alone st (after self readied (Item.Pass2 own)) (phase-after self readied (Item.Pass2 own)) gate-calm all (omega arith))
 
       -- Up to the second gate nothing is asked but that the start list is empty and the mode the own one.
-      pub solo-alone : (st : List Stimulus) → list_all is_stimulus st ≡ true → 4 + suc (length st) ≤ 2 ^ 48 → solo self (boot_items m own st) ≡ Some (history_from self [] (boot_items m own st))
+      pub solo-alone : (st : List Stimulus) → list_all (knows_stimulus v.own) st ≡ true → 4 + suc (length st) ≤ 2 ^ 48 → solo self (boot_items m own st) ≡ Some (history_from self [] (boot_items m own st))
       solo-alone st all few =
           takes-next [] Item.Entered (after_entering st) (may-take [] (omega arith) Item.Entered (ap (λ (cores : List CoreId). is_none (slice_get cores 0)) start))
           (takes-next entered (Item.Pass1 (Agreement.Mode m)) (Item.Readied ∷ Item.Pass2 own ∷ live_items st) (may-take entered (omega arith) (Item.Pass1 (Agreement.Mode m)) (ap (λ (o : CoreMode). is_agreement self o (Agreement.Mode m)) mode ∙ eq-eqb m.index m.index refl))

@@ -11,7 +11,7 @@ use Rattle.osbase.specs.declared.items.Stimulus.{Stimulus}
 use Rattle.osbase.specs.declared.marks.Mark.{Mark}
 use Rattle.osbase.specs.declared.turns.CoreStimuli.{CoreStimuli}
 use Rattle.osbase.specs.History.{marks_of, no_cores, received, same_core}
-use Rattle.osbase.specs.Runs.{AreKnown, stimuli_of}
+use Rattle.osbase.specs.Runs.{stimuli_of}
 use Rattle.osbase.specs.Sets.{core_ids, has_core}
 use Rattle.osbase.proofs.Same.{same_core-true, same_core-refl}
 use Rattle.osplan.specs.declared.plans.Plan.{Plan}
@@ -21,6 +21,7 @@ use Rattle.osplan.specs.declared.plans.CoreMode.TheVariants.{Named, DontCare}
 use Rattle.osplan.specs.Limits.{is_within_limits}
 use Rattle.osplan.proofs.Within.{limit-parts}
 use Rattle.osplan.specs.Separate.{alone_of, cut_of, is_agreed_mode, is_named_elsewhere, is_separate_core, names_mode}
+use Rattle.osplan.specs.Stimuli.{AreKnown}
 use Rattle.osplan.specs.View.{View, core_of, is_configured, no_core, view_of}
 use Rattle.osplan.proofs.Separating.{SeparateParts, separate-parts}
 use Rattle.osplan.proofs.Starting.{configured-low}
@@ -72,7 +73,7 @@ only-known v low =
 
 -- ---- the configuration alone
 
-module _ (plan : Plan) (stimuli : List CoreStimuli) (lists : List (CoreId × List Item)) (calls : Calls) (fits : FitsBy plan stimuli lists calls) (limits : IsTrue (is_within_limits plan)) (known : AreKnown stimuli) (id : CoreId) (core : Core) (found : core_of plan id ≡ Some core) (separate : is_separate_core plan core ≡ true) where
+module _ (plan : Plan) (stimuli : List CoreStimuli) (lists : List (CoreId × List Item)) (calls : Calls) (fits : FitsBy plan stimuli lists calls) (limits : IsTrue (is_within_limits plan)) (known : AreKnown plan stimuli) (id : CoreId) (core : Core) (found : core_of plan id ≡ Some core) (separate : is_separate_core plan core ≡ true) where
   abbrev v : View
   v = view_of plan id
 
@@ -199,7 +200,7 @@ module _ (plan : Plan) (stimuli : List CoreStimuli) (lists : List (CoreId × Lis
     }
 
 -- Where the items of all cores fit, each separate core is alone.
-pub fits-alone : (plan : Plan) (stimuli : List CoreStimuli) (lists : List (CoreId × List Item)) → Fits plan stimuli lists → IsTrue (is_within_limits plan) → AreKnown stimuli → ArePrintedAlone plan stimuli lists
+pub fits-alone : (plan : Plan) (stimuli : List CoreStimuli) (lists : List (CoreId × List Item)) → Fits plan stimuli lists → IsTrue (is_within_limits plan) → AreKnown plan stimuli → ArePrintedAlone plan stimuli lists
 fits-alone plan stimuli lists fits limits known id separate = by (core_of plan id) refl separate
   where
     by : (o : Option Core) → core_of plan id ≡ o → option_map_or (is_separate_core plan) o false ≡ true → IsAlone plan stimuli id (items_of lists id)

@@ -12,7 +12,7 @@ use Rattle.osbase.specs.declared.turns.CoreStimuli.{CoreStimuli}
 use Rattle.osworld.specs.declared.answering.Between.{Between}
 use Rattle.osplan.specs.declared.plans.Plan.{Plan}
 use Rattle.osplan.specs.Limits.{is_within_limits}
-use Rattle.osbase.specs.Runs.{AreKnown}
+use Rattle.osplan.specs.Stimuli.{AreKnown}
 use Rattle.osbase.specs.Sets.{has_core}
 use Rattle.osstate.specs.State.{KernelState}
 use Rattle.osbase.specs.declared.turns.Report.{Report}
@@ -168,7 +168,7 @@ module _ (plan plan' : Plan) (same : plan' ≡ plan) (stimuli : List CoreStimuli
   played-here : (rounds : ℕ) → ((given : List CoreStimuli) → Plays plan' given (first_world plan') seats between → IsDefaultPlayed plan' given rounds seats' between') → IsDefaultPlayed plan stimuli rounds seats' between'
   played-here rounds played = subst (λ (p : Plan). (given : List CoreStimuli) → Plays p given (first_world p) seats between → IsDefaultPlayed p given rounds seats' between') same played stimuli begun
 
-  pub default-reported : IsTrue (is_within_limits plan) → AreKnown stimuli → (rounds : ℕ) → ((given : List CoreStimuli) → Plays plan' given (first_world plan') seats between → IsDefaultPlayed plan' given rounds seats' between') → IsDefaultRun plan stimuli (map report_of seats')
+  pub default-reported : IsTrue (is_within_limits plan) → AreKnown plan stimuli → (rounds : ℕ) → ((given : List CoreStimuli) → Plays plan' given (first_world plan') seats between → IsDefaultPlayed plan' given rounds seats' between') → IsDefaultRun plan stimuli (map report_of seats')
   default-reported limits known rounds played =
       let here = played-here rounds played in
       record { rounds = rounds; least = here.least; are = reports-played plan limits stimuli known (default_turns plan rounds) seats' between' here.plays }
@@ -176,7 +176,7 @@ module _ (plan plan' : Plan) (same : plan' ≡ plan) (stimuli : List CoreStimuli
   pub default-scheduled : (rounds : ℕ) (turns : List (CoreId × Choice)) → turns ≡ default_turns plan rounds → ((given : List CoreStimuli) → Plays plan' given (first_world plan') seats between → IsDefaultPlayed plan' given rounds seats' between') → IsDefaultSchedule plan stimuli turns
   default-scheduled rounds turns is played = record { rounds = rounds; least = (played-here rounds played).least; is = is }
 
-  pub default-broken_off : IsTrue (is_within_limits plan) → AreKnown stimuli → ((given : List CoreStimuli) → Plays plan' given (first_world plan') seats between → IsDefaultCutShort plan' given seats' between') → (reports : Vec Report Global) → reports.items ≡ map report_of seats' → IsDefaultBrokenOff plan stimuli (NoMemory reports)
+  pub default-broken_off : IsTrue (is_within_limits plan) → AreKnown plan stimuli → ((given : List CoreStimuli) → Plays plan' given (first_world plan') seats between → IsDefaultCutShort plan' given seats' between') → (reports : Vec Report Global) → reports.items ≡ map report_of seats' → IsDefaultBrokenOff plan stimuli (NoMemory reports)
   default-broken_off limits known cut reports are =
       let here = subst (λ (p : Plan). (given : List CoreStimuli) → Plays p given (first_world p) seats between → IsDefaultCutShort p given seats' between') same cut stimuli begun in
       let turns = take here.cut.before (default_turns plan here.rounds) in

@@ -15,7 +15,6 @@ pub mod Leading
 pub mod Fitting
 pub mod Fitted
 pub mod Ending
-pub mod Idling
 pub mod Relying
 pub mod Sane
 pub mod Mailed

@@ -9,7 +9,7 @@ use Rattle.osbase.specs.declared.marks.Mark.{Mark}
 use Rattle.osbase.specs.declared.turns.Choice.{Choice}
 use Rattle.osbase.specs.declared.turns.CoreStimuli.{CoreStimuli}
 use Rattle.osbase.specs.declared.turns.Report.{Report}
-use Rattle.osbase.specs.Runs.{AreKnown}
+use Rattle.osplan.specs.Stimuli.{AreKnown}
 use Rattle.osworld.specs.declared.answering.Between.{Between}
 use Rattle.osplan.specs.declared.plans.Plan.{Plan}
 use Rattle.osplan.specs.Limits.{is_within_limits}
@@ -60,7 +60,7 @@ each-own plan stimuli (s ∷ ss) seated =
     )
 
 -- turns from the beginning
-pub reports-played : (plan : Plan) → IsTrue (is_within_limits plan) → (stimuli : List CoreStimuli) → AreKnown stimuli → (turns : List (CoreId × Choice)) (seats : List Seat) (between : Between) → Plays plan stimuli (world plan stimuli turns) seats between → AreReports plan stimuli turns (map report_of seats)
+pub reports-played : (plan : Plan) → IsTrue (is_within_limits plan) → (stimuli : List CoreStimuli) → AreKnown plan stimuli → (turns : List (CoreId × Choice)) (seats : List Seat) (between : Between) → Plays plan stimuli (world plan stimuli turns) seats between → AreReports plan stimuli turns (map report_of seats)
 reports-played plan limits stimuli known turns seats between plays =
     let lists : lists_in (map report_of seats) ≡ (world plan stimuli turns).items = map-map (λ (r : Report). (r.core, r.items)) report_of seats ∙ sym plays.lists in
     let fits : Fits plan stimuli (lists_in (map report_of seats)) = subst (Fits plan stimuli) (sym lists) (world_fits plan stimuli turns) in
@@ -75,7 +75,7 @@ reports-played plan limits stimuli known turns seats between plays =
     }
 
 -- turns that were played from the beginning, and turns before which memory was wanting
-module _ (plan plan' : Plan) (same : plan' ≡ plan) (limits : IsTrue (is_within_limits plan)) (stimuli : List CoreStimuli) (known : AreKnown stimuli) (turns : List (CoreId × Choice)) (seats seats' : List Seat) (between between' : Between) (begun : Plays plan stimuli (first_world plan) seats between) where
+module _ (plan plan' : Plan) (same : plan' ≡ plan) (limits : IsTrue (is_within_limits plan)) (stimuli : List CoreStimuli) (known : AreKnown plan stimuli) (turns : List (CoreId × Choice)) (seats seats' : List Seat) (between between' : Between) (begun : Plays plan stimuli (first_world plan) seats between) where
   pub reported-played : (changed : Bool) → ((w : World) → Plays plan' stimuli w seats between → IsPlayed plan' stimuli w turns changed seats' between') → AreReports plan stimuli turns (map report_of seats')
   reported-played changed played =
       reports-played plan limits stimuli known turns seats' between'

@@ -1,8 +1,8 @@
 //! Runs: listed turns, and the default schedule.
 
 ghost use Rattle.std.specs.Prelude.{IsTrue, ◌≡◌, ◌++◌, ◌≤◌, ◌||◌, [], IfOk, IfErr, OnErr, OnOk, true, vec_len, vec_capacity};
-ghost use Rattle.osbase.specs.Runs.{AreKnown};
 ghost use Rattle.osplan.specs.Limits.{is_within_limits};
+ghost use Rattle.osplan.specs.Stimuli.{AreKnown};
 ghost use Rattle.osworld.specs.Fits.{ids_of};
 ghost use Rattle.osworld.specs.World.{first_world};
 ghost use Rattle.osworld.specs.Runs.{round_of, rounds as rounds_of, turns_in_round, AreReports, HasNoSchedule, IsBrokenOff, IsDefaultBrokenOff, IsDefaultRun, IsDefaultSchedule};
@@ -35,7 +35,7 @@ pub fn run_world(
     stimuli: &Stimuli,
     turns: &[Turn],
 ) -> Result<Vec<Report>, RunFault>
-    requires { AreKnown stimuli.now }
+    requires { AreKnown config.now stimuli.now }
     ensures world { IfOk result (λ reports. AreReports config.now stimuli.now turns.now reports.items) }
     ensures broken_off { IfErr result (IsBrokenOff config.now stimuli.now turns.now) }
 {
@@ -54,7 +54,7 @@ pub fn run_default(
     config: &Config,
     stimuli: &Stimuli,
 ) -> Result<Vec<Report>, RunFault>
-    requires { AreKnown stimuli.now }
+    requires { AreKnown config.now stimuli.now }
     ensures default { IfOk result (λ reports. IsDefaultRun config.now stimuli.now reports.items) }
     ensures broken_off { IfErr result (IsDefaultBrokenOff config.now stimuli.now) }
 {
@@ -79,7 +79,7 @@ pub fn default_schedule(
     config: &Config,
     stimuli: &Stimuli,
 ) -> Result<Schedule, RunFault>
-    requires { AreKnown stimuli.now }
+    requires { AreKnown config.now stimuli.now }
     ensures default { IfOk result (λ schedule. IsDefaultSchedule config.now stimuli.now schedule) }
     ensures broken_off { IfErr result (HasNoSchedule config.now stimuli.now) }
 {

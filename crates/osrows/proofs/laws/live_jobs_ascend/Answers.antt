@@ -8,7 +8,7 @@ use Rattle.osbase.specs.declared.references.Runner.{Runner}
 use Rattle.osbase.specs.declared.histories.Job.{Job}
 use Rattle.osbase.specs.History.{Entry, History, Printed, jobs_after, live_jobs, oldest, same_runner, stamped_anew, without_oldest}
 use Rattle.osplan.proofs.Tests.{all-weaker}
-use Rattle.osworld.proofs.Idling.{without-all}
+use Rattle.oskernel.proofs.JobLists.{without-all}
 use Rattle.osrows.specs.Laws.{are_ascending}
 use Rattle.osrows.proofs.laws.live_jobs_ascend.Goals as goal
 

@@ -1,8 +1,8 @@
 -- A core that drained has dispatched: nothing follows from its last items.
-use Rattle.std.proofs.Common.{◌≡◌, ◌||◌, ◌≤◌, ℕ, nat_lt, Bool, true, false, cond, Option, Some, None, is_none, List, [], ◌∷◌, ◌++◌, not, refl, sym, ap, subst, ◌∙◌, arith}
+use Rattle.std.proofs.Common.{◌≡◌, ◌||◌, ◌≤◌, ℕ, nat_lt, Bool, true, false, cond, Option, Some, None, is_none, List, [], ◌∷◌, not, refl, sym, ap, subst, ◌∙◌, arith}
 use Rattle.std.specs.List.{filter, list_all}
 use Rattle.std.specs.Option.{option_map_or}
-use Rattle.std.proofs.lemmas.Bool.{and_parts, and_from, false≢true, eq-eqb}
+use Rattle.std.proofs.lemmas.Bool.{and_from, false≢true, eq-eqb}
 use Rattle.std.proofs.lemmas.Bool.Decides.{nat_tests}
 use Rattle.std.proofs.lemmas.List.Folds.{list_all-append}
 use Rattle.std.proofs.lemmas.Option.{none-some, same_Some}
@@ -13,13 +13,15 @@ use Rattle.osbase.specs.declared.marks.Mark.{Mark}
 use Rattle.osbase.specs.declared.histories.Job.{Job}
 use Rattle.osbase.specs.declared.histories.OpenCall.{OpenCall}
 use Rattle.oscript.specs.Runners.{Row}
-use Rattle.osbase.specs.History.{Entry, History, Took, Printed, better_of, current_job, current_task, first_greatest, giving_way, greater, greatest_ceiling, is_waiting, jobs_after, live_jobs, oldest, open_call, same_job, same_runner, stamped_anew, without_oldest}
+use Rattle.osbase.specs.History.{Entry, History, Took, Printed, better_of, current_job, current_task, first_greatest, giving_way, greater, greatest_ceiling, is_waiting, jobs_after, live_jobs, oldest, open_call, same_job, same_runner}
 use Rattle.osplan.specs.View.{View}
+use Rattle.osplan.proofs.Tests.{all-filter}
 use Rattle.osrunner.specs.Rows.{events_in, held_in}
 use Rattle.osjobs.specs.Priorities.{highest_of, is_able_in, is_preemptable, priority_by, raised_of, static_priority}
 use Rattle.osstate.specs.Readings.{best_job, current_priority, events_at, is_able, rows_of, running}
 use Rattle.osbase.proofs.Same.{same_runner-true, same_task-refl}
 use Rattle.oskernel.specs.Step.{after, enters, goes_to, leaves}
+use Rattle.oskernel.proofs.JobLists.{anew-all, greatest-passes, without-all}
 
 -- ---- the best job is the oldest of its task
 
@@ -29,31 +31,6 @@ is_task_runner (Runner.Isr i) = false
 
 abbrev is_task_job : Job → Bool
 is_task_job j = is_task_runner j.runner
-
--- What every job passes, all pass when the oldest of a runner is taken away.
-pub without-all : (p : Job → Bool) (r : Runner) (js : List Job) → list_all p js ≡ true → list_all p (without_oldest r js) ≡ true
-without-all p r [] a = refl
-without-all p r (j ∷ js) a = let parts = and_parts (p j) (list_all p js) a in by (same_runner j.runner r) parts.1 (and_from (p j) _ parts.0 (without-all p r js parts.1))
-  where
-    by : (b : Bool) → list_all p js ≡ true → list_all p (j ∷ without_oldest r js) ≡ true → list_all p (cond b js (j ∷ without_oldest r js)) ≡ true
-    by true all rest = all
-    by false all rest = rest
-
--- So it is where the oldest gets a new stamp, which none of them looks at.
-pub anew-all : (p : Job → Bool) (r : Runner) (n : ℕ) (js : List Job) → ((j : Job) → p j ≡ true → p (record j { stamp = n }) ≡ true) → list_all p js ≡ true → list_all p (stamped_anew r n js) ≡ true
-anew-all p r n js still a = by (oldest r js) (found js a)
-  where
-    found : (js : List Job) → list_all p js ≡ true → option_map_or p (oldest r js) true ≡ true
-    found [] a = refl
-    found (j ∷ js) a = let parts = and_parts (p j) (list_all p js) a in choose (same_runner j.runner r) parts.0 (found js parts.1)
-      where
-        choose : (b : Bool) → p j ≡ true → option_map_or p (oldest r js) true ≡ true → option_map_or p (cond b (Some j) (oldest r js)) true ≡ true
-        choose true first rest = first
-        choose false first rest = rest
-
-    by : (o : Option Job) → option_map_or p o true ≡ true → list_all p (option_map_or (λ (j : Job). without_oldest r js ++ record j { stamp = n } ∷ []) o js) ≡ true
-    by None e = a
-    by (Some j) e = list_all-append p (without_oldest r js) _ ∙ and_from _ _ (without-all p r js a) (and_from _ _ (still j e) refl)
 
 step-tasks : (e : Entry) (n : ℕ) (js : List Job) → list_all is_task_job js ≡ true → list_all is_task_job (jobs_after e n js) ≡ true
 step-tasks (Printed (Mark.Activated t)) n js a = list_all-append is_task_job js (record { runner = Runner.Task t; stamp = n } ∷ []) ∙ and_from (list_all is_task_job js) true a refl
@@ -65,23 +42,11 @@ all-tasks : (h : History) → list_all is_task_job (live_jobs h) ≡ true
 all-tasks [] = refl
 all-tasks (e ∷ h) = step-tasks e _ (live_jobs h) (all-tasks h)
 
+-- the greatest is among them
+among : (p : Job → Bool) (q : Job → ℕ) (js : List Job) (j : Job) → list_all p js ≡ true → first_greatest q js ≡ Some j → p j ≡ true
+among p q js j all e = sym (ap (λ (o : Option Job). option_map_or p o true) e) ∙ greatest-passes p q js all
+
 module _ (p : Job → ℕ) where
-  -- it is among them
-  greatest-among : (q : Job → Bool) (js : List Job) (j : Job) → list_all q js ≡ true → first_greatest p js ≡ Some j → q j ≡ true
-  greatest-among q [] j a e = cc
-  greatest-among q (i ∷ is) j a e = by (first_greatest p is) e (λ k f. greatest-among q is k (and_parts (q i) _ a).1 f)
-    where
-      first : q i ≡ true
-      first = (and_parts (q i) _ a).0
-
-      by : (o : Option Job) → Some (better_of p i o) ≡ Some j → ((k : Job) → o ≡ Some k → q k ≡ true) → q j ≡ true
-      by None e rest = let same : i ≡ j = cc in subst (λ (x : Job). q x ≡ true) same first
-      by (Some k) e rest = choose (nat_lt (p i) (p k)) e
-        where
-          choose : (b : Bool) → Some (cond b k i) ≡ Some j → q j ≡ true
-          choose true f = let same : k ≡ j = cc in subst (λ (x : Job). q x ≡ true) same (rest k refl)
-          choose false f = let same : i ≡ j = cc in subst (λ (x : Job). q x ≡ true) same first
-
   first-oldest : (t : TaskRef) (i : Job) (is : List Job) → i.runner ≡ Runner.Task t → oldest (Runner.Task t) (i ∷ is) ≡ Some i
   first-oldest t i is e =
       ap (λ (b : Bool). cond b (Some i) (oldest (Runner.Task t) is)) (ap (λ (r : Runner). same_runner r (Runner.Task t)) e ∙ same_task-refl t)
@@ -214,19 +179,7 @@ able-runner all r (j ∷ js) able = by (same_runner j.runner r) refl (is_able_in
 
 filtered-all : (p : Job → Bool) (js : List Job) → list_all p (filter p js) ≡ true
 filtered-all p [] = refl
-filtered-all p (j ∷ js) = by (p j) refl (filtered-all p js)
-  where
-    by : (b : Bool) → p j ≡ b → list_all p (filter p js) ≡ true → list_all p (cond b (j ∷ filter p js) (filter p js)) ≡ true
-    by true is rest = and_from (p j) _ is rest
-    by false is rest = rest
-
-filter-kept : (p q : Job → Bool) (js : List Job) → list_all q js ≡ true → list_all q (filter p js) ≡ true
-filter-kept p q [] a = refl
-filter-kept p q (j ∷ js) a = by (p j) (filter-kept p q js (and_parts (q j) (list_all q js) a).1)
-  where
-    by : (b : Bool) → list_all q (filter p js) ≡ true → list_all q (cond b (j ∷ filter p js) (filter p js)) ≡ true
-    by true rest = and_from _ _ (and_parts (q j) (list_all q js) a).0 rest
-    by false rest = rest
+filtered-all p (j ∷ js) = grind (arith, filtered-all p js)
 
 abbrev able_jobs : View → History → List Job
 able_jobs v h = filter (is_able v h) (live_jobs h)
@@ -256,7 +209,7 @@ best-runs v h j t best task apart i f = choose (same_job i j) refl
     again = ap (first_greatest (current_priority v next)) (sym (entered-able v (current_task h) t h)) ∙ f
 
     able : is_able v h j ≡ true
-    able = greatest-among (current_priority v h) (is_able v h) (able_jobs v h) j (filtered-all (is_able v h) (live_jobs h)) best
+    able = among (is_able v h) (current_priority v h) (able_jobs v h) j (filtered-all (is_able v h) (live_jobs h)) best
 
     still : rows_of v.own next ≡ rows_of v.own h
     still = entered-rows v (current_task h) t h
@@ -299,7 +252,7 @@ idle-goes_to v h = by (best_job v h) refl
 
         choose : (b : Bool) → option_map_or (same_job j) (running v h) false ≡ b → BestRuns v (cond b h (enters j.runner h))
         choose true runs = λ i f. subst (λ (x : Job). option_map_or (same_job x) (running v h) false ≡ true) (same_Some _ _ (sym e ∙ f)) runs
-        choose false apart = entered j.runner refl (greatest-among (current_priority v h) is_task_job (able_jobs v h) j (filter-kept (is_able v h) is_task_job (live_jobs h) (all-tasks h)) e) apart
+        choose false apart = entered j.runner refl (among is_task_job (current_priority v h) (able_jobs v h) j (all-filter is_task_job (is_able v h) (live_jobs h) (all-tasks h)) e) apart
 
 entered-way : (o : Option TaskRef) (h : History) → giving_way (leaves o h) ≡ giving_way h
 entered-way None h = refl
