@@ -30,20 +30,9 @@ enum Reader {
     Schedule,
 }
 
-// Each of the texts with each of these values in place of its `@` has the fault that stands before them, or none.
-struct Judged {
-    texts: &'static [&'static str],
-    values: &'static [(Option<ConfFault>, &'static [&'static str])],
-}
-
-// Each of the texts with so many words in place of its `@` has the fault that stands behind the count, or none. A word's own
-// `@` is its index.
-struct Long {
-    texts: &'static [&'static str],
-    word: &'static str,
-    between: &'static str,
-    counts: &'static [(u32, Option<ConfFault>)],
-}
+// A table of texts and their faults: what the texts are read as, what they stand in, in place of its `@`, and the table's
+// lines, which `play` reads.
+type Table = (Reader, &'static str, &'static str);
 
 // The text with a value in place of its `@`.
 fn filled(alloc: Global, text: &str, value: &str) -> Result<String, Fail> {
@@ -99,43 +88,197 @@ fn fault_of(alloc: Global, reader: Reader, text: &str) -> Result<Option<ConfFaul
     }
 }
 
-fn judge(rt: &impl Abort, alloc: Global, reader: Reader, rows: &[Judged]) -> Result<(), Fail> {
-    for row in rows {
-        for text in row.texts {
-            for (fault, values) in row.values {
-                judge_text(rt, alloc, reader, text, values, *fault)?;
-            }
-        }
-    }
-    Ok(())
-}
-
-fn judge_text(
+// Plays a table, and counts its cases. Its lines are, in this order for each group of texts:
+// `text T|T|..`: texts with an `@`; those of neighbouring lines are one group. Without any the frame is the text.
+// `each [B] W`: behind this line a value is a count, and stands for so many words W with B between them.
+// `F V|V|..`: each text of the group with each of the values in place of its `@` has the fault F, or none if F is `fine`.
+// A line that is empty or begins with `//` says nothing.
+fn play(
     rt: &impl Abort,
     alloc: Global,
     reader: Reader,
-    text: &str,
-    values: &[&str],
-    fault: Option<ConfFault>,
+    frame: &str,
+    table: &str,
+) -> Result<usize, Fail> {
+    let mut texts = vec![in alloc; String::from_str(alloc, frame)?]?;
+    let mut each = None;
+    let mut judged = true;
+    let mut cases = 0usize;
+    for line in table.lines() {
+        let (head, rest) = line.split_once(' ').unwrap_or((line, ""));
+        match head {
+            "" | "//" => {}
+            "text" => {
+                if judged {
+                    texts.clear();
+                    each = None;
+                    judged = false;
+                }
+                for text in rest.split('|') {
+                    texts.push(filled(alloc, frame, text)?)?;
+                }
+            }
+            "each" => each = Some(word_of(rest)?),
+            fault => {
+                judged = true;
+                for value in rest.split('|') {
+                    let value = worded(alloc, each, value)?;
+                    judge(rt, alloc, reader, texts.as_slice(), value.as_str(), fault)?;
+                    cases = cases.saturating_add(texts.len());
+                }
+            }
+        }
+    }
+    Ok(cases)
+}
+
+// Of `[B] W` the word W and what is between two of it.
+fn word_of(rest: &str) -> Result<(&str, &str), Fail> {
+    let (between, word) = rest.split_once(']').ok_or("what is between words")?;
+    let between = between.strip_prefix('[').ok_or("what is between words")?;
+    Ok((word.strip_prefix(' ').unwrap_or(""), between))
+}
+
+// The value, or so many words.
+fn worded(alloc: Global, each: Option<(&str, &str)>, value: &str) -> Result<String, Fail> {
+    let Some((word, between)) = each else {
+        return Ok(String::from_str(alloc, value)?);
+    };
+    let count = value.parse::<u32>().ok().ok_or("a count")?;
+    listed(alloc, word, between, count)
+}
+
+// Each of the texts with the value has the fault.
+fn judge(
+    rt: &impl Abort,
+    alloc: Global,
+    reader: Reader,
+    texts: &[String],
+    value: &str,
+    fault: &str,
 ) -> Result<(), Fail> {
-    for value in values {
-        let text = filled(alloc, text, value)?;
-        let text = text.as_str();
-        assert_eq!(rt; fault_of(alloc, reader, text)?, fault, "{text}");
+    for text in texts {
+        let whole = filled(alloc, text.as_str(), value)?;
+        let refused = fault_of(alloc, reader, whole.as_str())?;
+        let name = refused.map_or("fine", |refused| refused.name());
+        assert!(rt; name == fault, "{text} {fault}");
     }
     Ok(())
 }
 
-fn judge_long(rt: &impl Abort, alloc: Global, reader: Reader, rows: &[Long]) -> Result<(), Fail> {
-    for row in rows {
-        for text in row.texts {
-            for (count, fault) in row.counts {
-                let words = listed(alloc, row.word, row.between, *count)?;
-                let whole = filled(alloc, text, words.as_str())?;
-                let refused = fault_of(alloc, reader, whole.as_str())?;
-                assert_eq!(rt; refused, *fault, "{text} {count}");
-            }
-        }
+// Plays the tables. They have so many cases.
+fn play_all(rt: &impl Abort, alloc: Global, tables: &[Table], cases: usize) -> Result<(), Fail> {
+    let mut played = 0usize;
+    for (reader, frame, table) in tables {
+        let more = play(rt, alloc, *reader, frame, table)?;
+        played = played.saturating_add(more);
     }
+    assert_eq!(rt; played, cases);
     Ok(())
+}
+
+#[test]
+fn texts_that_are_no_configurations(rt: HostRuntime) -> Result<(), Fail> {
+    let tables: &[Table] = &[
+        (Reader::Configuration, "@", hostile::TEXTS),
+        (Reader::Configuration, "\u{feff}@", hostile::AROUND),
+        (Reader::Configuration, "@\0", hostile::AROUND),
+        (
+            Reader::Configuration,
+            "{\"cores\":\"\n@\"}",
+            hostile::WITHIN,
+        ),
+    ];
+    play_all(&rt, rt.alloc(), tables, 383)
+}
+
+#[test]
+fn texts_at_limits(rt: HostRuntime) -> Result<(), Fail> {
+    let tables: &[Table] = &[(Reader::Configuration, "@", limits::TEXTS)];
+    play_all(&rt, rt.alloc(), tables, 136)
+}
+
+#[test]
+fn texts_with_names_and_arguments(rt: HostRuntime) -> Result<(), Fail> {
+    let tables: &[Table] = &[
+        (Reader::Configuration, "@", names::TEXTS),
+        (Reader::Configuration, "@", operations::TEXTS),
+    ];
+    play_all(&rt, rt.alloc(), tables, 237)
+}
+
+#[test]
+fn texts_with_names_and_numbers(rt: HostRuntime) -> Result<(), Fail> {
+    let tables: &[Table] = &[
+        (Reader::Configuration, numbers::SCRIPT, numbers::NUMBERS),
+        (
+            Reader::Configuration,
+            numbers::DISORDER,
+            numbers::BESIDE_A_TABLE,
+        ),
+        (
+            Reader::Configuration,
+            numbers::INACTION,
+            numbers::BESIDE_AN_ACTION,
+        ),
+    ];
+    play_all(&rt, rt.alloc(), tables, 703)
+}
+
+#[test]
+fn texts_with_events_and_resources(rt: HostRuntime) -> Result<(), Fail> {
+    let tables: &[Table] = &[
+        (Reader::Configuration, "@", events::TEXTS),
+        (Reader::Configuration, events::TWO_CORES, events::OPERATIONS),
+        (Reader::Configuration, "@", resources::TEXTS),
+        (
+            Reader::Configuration,
+            resources::TWO_CORES,
+            resources::OPERATIONS,
+        ),
+    ];
+    play_all(&rt, rt.alloc(), tables, 266)
+}
+
+#[test]
+fn texts_with_counters(rt: HostRuntime) -> Result<(), Fail> {
+    let tables: &[Table] = &[
+        (Reader::Configuration, "@", counters::TEXTS),
+        (
+            Reader::Configuration,
+            counters::TWO_CORES,
+            counters::OPERATIONS,
+        ),
+    ];
+    play_all(&rt, rt.alloc(), tables, 157)
+}
+
+#[test]
+fn texts_with_alarms(rt: HostRuntime) -> Result<(), Fail> {
+    let tables: &[Table] = &[
+        (Reader::Configuration, "@", alarms::TEXTS),
+        (Reader::Configuration, alarms::ACTION, alarms::ACTIONS),
+        (Reader::Configuration, alarms::TWO_CORES, alarms::OPERATIONS),
+    ];
+    play_all(&rt, rt.alloc(), tables, 274)
+}
+
+#[test]
+fn texts_with_tables(rt: HostRuntime) -> Result<(), Fail> {
+    let tables: &[Table] = &[
+        (Reader::Configuration, "@", tables::TEXTS),
+        (Reader::Configuration, tables::TABLE, tables::TABLES),
+        (Reader::Configuration, tables::TIMES, tables::TABLE_TIMES),
+        (Reader::Configuration, tables::SCRIPT, tables::OPERATIONS),
+    ];
+    play_all(&rt, rt.alloc(), tables, 64)
+}
+
+#[test]
+fn texts_that_are_no_stimuli_or_schedules(rt: HostRuntime) -> Result<(), Fail> {
+    let tables: &[Table] = &[
+        (Reader::Stimuli, "@", given::NO_STIMULI),
+        (Reader::Schedule, "@", given::NO_SCHEDULES),
+    ];
+    play_all(&rt, rt.alloc(), tables, 162)
 }

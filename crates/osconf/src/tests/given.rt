@@ -1,294 +1,108 @@
 //! Stimuli and schedules.
 
-use super::{Judged, Long, Reader, TWO_CORES, judge, judge_long};
-use crate::{ConfFault, read_config, read_schedule, read_stimuli};
+use super::TWO_CORES;
+use crate::{read_config, read_schedule, read_stimuli};
 use osbase::Choice::{Look, Own, Serve};
 use osbase::Stimulus::{Op, Tick};
 use osbase::{CoreId, Stimulus, Turn};
 use std::test::Fail;
 
-const NO_STIMULI: &[Judged] = &[
-    // Words that are no stimuli.
-    Judged {
-        texts: &[r#"{"1":"op","0":"@"}"#],
-        values: &[(
-            Some(ConfFault::BadStimulus),
-            &[
-                " ",
-                " op",
-                "op ",
-                "op  op",
-                "op op ",
-                "Op",
-                "OP",
-                "opop",
-                "tick ",
-                " tick",
-                "op  tick",
-                "tick  op",
-                "tick op ",
-                "ticktick",
-                "optick",
-                "tickop",
-                "Tick",
-                "tic",
-                "ticks",
-                "tick\\top",
-                "o",
-                "op,op",
-                "op;op",
-                "op\\top",
-                "op\\n",
-                "op\\u0000",
-                "0o",
-                "work",
-                "A",
-                "?",
-                "irq",
-                "irq=",
-                "irq=A",
-                "irq=?",
-                "irq=Nobody",
-            ],
-        )],
-    },
-    // Members that name no core.
-    Judged {
-        texts: &[r#"{"0":"op","@":""}"#],
-        values: &[(
-            Some(ConfFault::BadStimulus),
-            &[
-                "",
-                " ",
-                "2",
-                "7",
-                "8",
-                "10",
-                "00",
-                "01",
-                "001",
-                "+0",
-                "-0",
-                "-1",
-                "0.0",
-                "0e0",
-                " 0",
-                "0 ",
-                "0x0",
-                "256",
-                "257",
-                "4294967296",
-                "18446744073709551616",
-                "A",
-                "\u{661}",
-            ],
-        )],
-    },
-    // Stimuli of another shape.
-    Judged {
-        texts: &["@"],
-        values: &[(
-            Some(ConfFault::BadStimulus),
-            &[
-                "null",
-                "0",
-                "true",
-                r#""""#,
-                r#""op""#,
-                "[]",
-                r#"["op"]"#,
-                r#"[{"0":"op"}]"#,
-                r#"{"0":null}"#,
-                r#"{"0":true}"#,
-                r#"{"0":[]}"#,
-                r#"{"0":["op"]}"#,
-                r#"{"0":{}}"#,
-                r#"{"0":"","1":0}"#,
-            ],
-        )],
-    },
-    // Each kind of fault.
-    Judged {
-        texts: &["@"],
-        values: &[
-            (
-                Some(ConfFault::BadStimulus),
-                &[
-                    r#"{"0":"op  op"}"#,
-                    r#"{"0":"tock"}"#,
-                    r#"{"2":""}"#,
-                    r#"{"00":""}"#,
-                    r#"{"0":1}"#,
-                    "[]",
-                ],
-            ),
-            (Some(ConfFault::NotJson), &["{"]),
-        ],
-    },
-];
+pub(super) const NO_STIMULI: &str = r#"
+// Words that are no stimuli.
+text {"1":"op","0":"@"}
+BadStimulus  |op |op op |tick |tick op | op|op  op|Op|OP|opop| tick|op  tick|tick  op|ticktick|optick|tickop|Tick|tic
+BadStimulus ticks|tick\top|o|op,op|op;op|op\top|op\n|op\u0000|0o|work|A|?|irq|irq=|irq=A|irq=?|irq=Nobody
 
-const LONG_STIMULI: &[Long] = &[
-    // A core has at most 100,000 words, which are counted before anything else is judged.
-    Long {
-        texts: &[r#"{"0":"@"}"#],
-        word: "op",
-        between: " ",
-        counts: &[(100_000, None), (100_001, Some(ConfFault::Limit))],
-    },
-    Long {
-        texts: &[r#"{"0":"op @"}"#],
-        word: "tick",
-        between: " ",
-        counts: &[(99_999, None)],
-    },
-    Long {
-        texts: &[r#"{"0":"@"}"#],
-        word: "tick",
-        between: " ",
-        counts: &[(100_001, Some(ConfFault::Limit))],
-    },
-    Long {
-        texts: &[r#"{"0":"@"}"#],
-        word: "",
-        between: " ",
-        counts: &[(100_000, Some(ConfFault::BadStimulus))],
-    },
-    Long {
-        texts: &[r#"{"0":"@"}"#, r#"{"5":"@"}"#],
-        word: "",
-        between: " ",
-        counts: &[(100_001, Some(ConfFault::Limit))],
-    },
-    Long {
-        texts: &[r#"{"0":"nonsense","1":"@"}"#, r#"{"0":1,"x":"@"}"#],
-        word: "op",
-        between: " ",
-        counts: &[(100_001, Some(ConfFault::Limit))],
-    },
-    // Of a member that stands twice the last value counts.
-    Long {
-        texts: &[r#"{"0":"@","0":"op"}"#],
-        word: "op",
-        between: " ",
-        counts: &[(100_001, None)],
-    },
-    // What is no object has no words.
-    Long {
-        texts: &[r#"["@"]"#],
-        word: "op",
-        between: " ",
-        counts: &[(100_001, Some(ConfFault::BadStimulus))],
-    },
-];
+// Members that name no core.
+text {"0":"op","@":""}
+BadStimulus | |0 |2|7|8|10|00|01|001|+0|-0|-1|0.0|0e0| 0|0x0|256|257|4294967296|18446744073709551616|A|١
 
-const NO_SCHEDULES: &[Judged] = &[
-    // Words that are no turns.
-    Judged {
-        texts: &[r#""@""#],
-        values: &[
-            (
-                Some(ConfFault::BadSchedule),
-                &[
-                    " ", "o", "l", "s0", "0", "0 o", "0O", "0L", "0S1", "0x", "0op", "0o1", "0l0",
-                    "0ol", "0o,1o", "0o\\t1o", "0s", "0so", "0s1o", "0s1s1", "0s 1", "0s-1",
-                    "0s+1", "-0o", "+0o", "0.0o", " 0o", "0o ", "0o  1o", "\u{661}o",
-                ],
-            ),
-            // Turns of the core itself.
-            (
-                Some(ConfFault::BadSchedule),
-                &["0s0", "1s1", "0o 1s1", "0s0 1o"],
-            ),
-            // Numbers with zeros before them.
-            (
-                Some(ConfFault::BadSchedule),
-                &["00o", "01l", "000o", "0s01", "1s00", "01s0"],
-            ),
-            // Turns of no core.
-            (
-                Some(ConfFault::BadSchedule),
-                &[
-                    "2o",
-                    "7l",
-                    "10o",
-                    "256o",
-                    "257l",
-                    "4294967296o",
-                    "0s2",
-                    "2s0",
-                    "1s256",
-                    "1s18446744073709551616",
-                ],
-            ),
-        ],
-    },
-    // Turns of another shape.
-    Judged {
-        texts: &["@"],
-        values: &[(
-            Some(ConfFault::BadSchedule),
-            &["null", "0", "true", "[]", r#"["0o"]"#, "{}", r#"{"0":"o"}"#],
-        )],
-    },
-    // Each kind of fault.
-    Judged {
-        texts: &["@"],
-        values: &[
-            (
-                Some(ConfFault::BadSchedule),
-                &[
-                    r#""0s0""#, r#""0""#, r#""2o""#, r#""00o""#, r#""0s2""#, r#""0o ""#,
-                    r#""0ol""#, "{}",
-                ],
-            ),
-            (Some(ConfFault::NotJson), &["0o"]),
-        ],
-    },
-];
+// Stimuli of another shape.
+text @
+BadStimulus null|0|true|""|"op"|[]|["op"]|[{"0":"op"}]|{"0":null}|{"0":true}|{"0":[]}|{"0":["op"]}|{"0":{}}
+BadStimulus {"0":"","1":0}
 
-const LONG_SCHEDULES: &[Long] = &[
-    // A schedule has at most 1,000,000 words, which are counted before anything else is judged.
-    Long {
-        texts: &[r#""0o @""#],
-        word: "1l",
-        between: " ",
-        counts: &[(999_999, None), (1_000_000, Some(ConfFault::Limit))],
-    },
-    Long {
-        texts: &[r#""@""#],
-        word: "",
-        between: " ",
-        counts: &[
-            (1_000_000, Some(ConfFault::BadSchedule)),
-            (1_000_001, Some(ConfFault::Limit)),
-        ],
-    },
-    Long {
-        texts: &[r#""0s0 @""#],
-        word: "0o",
-        between: " ",
-        counts: &[(1_000_000, Some(ConfFault::Limit))],
-    },
-    // What is no text has no words.
-    Long {
-        texts: &[r#"["0o @"]"#],
-        word: "1l",
-        between: " ",
-        counts: &[(1_000_000, Some(ConfFault::BadSchedule))],
-    },
-];
+// Each kind of fault.
+BadStimulus {"0":"op  op"}|{"0":"tock"}|{"2":""}|{"00":""}|{"0":1}|[]
+NotJson {
 
-#[test]
-fn texts_that_are_no_stimuli(rt: HostRuntime) -> Result<(), Fail> {
-    judge(&rt, rt.alloc(), Reader::Stimuli, NO_STIMULI)?;
-    judge_long(&rt, rt.alloc(), Reader::Stimuli, LONG_STIMULI)
-}
+// A core has at most 100,000 words, which are counted before anything else is judged.
+text {"0":"@"}
+each [ ] op
+fine 100000
+Limit 100001
 
-#[test]
-fn texts_that_are_no_schedules(rt: HostRuntime) -> Result<(), Fail> {
-    judge(&rt, rt.alloc(), Reader::Schedule, NO_SCHEDULES)?;
-    judge_long(&rt, rt.alloc(), Reader::Schedule, LONG_SCHEDULES)
-}
+text {"0":"op @"}
+each [ ] tick
+fine 99999
+
+text {"0":"@"}
+each [ ] tick
+Limit 100001
+each [ ]
+BadStimulus 100000
+
+text {"0":"@"}
+text {"5":"@"}
+each [ ]
+Limit 100001
+
+text {"0":"nonsense","1":"@"}
+text {"0":1,"x":"@"}
+each [ ] op
+Limit 100001
+
+// Of a member that stands twice the last value counts.
+text {"0":"@","0":"op"}
+each [ ] op
+fine 100001
+
+// What is no object has no words.
+text ["@"]
+each [ ] op
+BadStimulus 100001
+"#;
+
+pub(super) const NO_SCHEDULES: &str = r#"
+// Words that are no turns.
+text "@"
+BadSchedule  |0o |o|l|s0|0|0 o|0O|0L|0S1|0x|0op|0o1|0l0|0ol|0o,1o|0o\t1o|0s|0so|0s1o|0s1s1|0s 1|0s-1|0s+1|-0o|+0o|0.0o
+BadSchedule  0o|0o  1o|١o
+// Turns of the core itself.
+BadSchedule 0s0|1s1|0o 1s1|0s0 1o
+// Numbers with zeros before them.
+BadSchedule 00o|01l|000o|0s01|1s00|01s0
+// Turns of no core.
+BadSchedule 2o|7l|10o|256o|257l|4294967296o|0s2|2s0|1s256|1s18446744073709551616
+
+// Turns of another shape.
+text @
+BadSchedule null|0|true|[]|["0o"]|{}|{"0":"o"}
+
+// Each kind of fault.
+BadSchedule "0s0"|"0"|"2o"|"00o"|"0s2"|"0o "|"0ol"|{}
+NotJson 0o
+
+// A schedule has at most 1,000,000 words, which are counted before anything else is judged.
+text "0o @"
+each [ ] 1l
+fine 999999
+Limit 1000000
+
+text "@"
+each [ ]
+BadSchedule 1000000
+Limit 1000001
+
+text "0s0 @"
+each [ ] 0o
+Limit 1000000
+
+// What is no text has no words.
+text ["0o @"]
+each [ ] 1l
+BadSchedule 1000000
+"#;
 
 // A text, how many cores it names, and the stimuli of the first of them.
 const STIMULI: &[(&str, usize, &[Stimulus])] = &[

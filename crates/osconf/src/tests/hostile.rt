@@ -1,185 +1,87 @@
 //! Texts that are no configurations: not JSON, or of another shape.
 
-use super::{Judged, Reader, TWO_CORES, fault_of, judge, repeated};
+use super::{Reader, TWO_CORES, fault_of, repeated};
 use crate::{ConfFault, read_config};
 use std::test::Fail;
 
-const JUDGED: &[Judged] = &[
-    // What is not JSON.
-    Judged {
-        texts: &["@"],
-        values: &[(
-            Some(ConfFault::NotJson),
-            &[
-                "",
-                " ",
-                "x",
-                "nul",
-                r#""cores"#,
-                "\u{feff}{\"cores\":[{\"id\":0}]}",
-                r#"{"cores":[{"id":0}]}x"#,
-                r#"{"cores":[{"id":0}]}{}"#,
-                "{\"cores\":[{\"id\":0}]}\0",
-                r#"{"cores":[{"id":0}],}"#,
-                r#"{"cores":[{"id":0},]}"#,
-                "{'cores':[{'id':0}]}",
-                r#"{cores:[{"id":0}]}"#,
-                r#"{"cores":[{"id":0}]} // one core"#,
-                r#"{"cores":[{"id":01}]}"#,
-                r#"{"cores":[{"id":+1}]}"#,
-                r#"{"cores":[{"id":1.}]}"#,
-                r#"{"cores":[{"id":.5}]}"#,
-                r#"{"cores":[{"id":0x1}]}"#,
-                r#"{"cores":[{"id":1e400}]}"#,
-                r#"{"cores":[{"id":NaN}]}"#,
-                "{\"cores\":\"\\ud800\"}",
-                "{\"cores\":\"\n\"}",
-                "{\"cores\":\"\\x\"}",
-            ],
-        )],
-    },
-    // An object of another shape.
-    Judged {
-        texts: &["@"],
-        values: &[(
-            Some(ConfFault::Shape),
-            &[
-                "null",
-                "true",
-                "1",
-                r#""""#,
-                r#"[{"cores":[{"id":0}]}]"#,
-                r#"{"cap":1}"#,
-                r#"{"Cores":[{"id":0}]}"#,
-                r#"{"cores":[{"id":0}],"":0}"#,
-                r#"{"cores":[{"id":0}],"prio":1}"#,
-                r#"{"cores":[{}]}"#,
-                r#"{"cores":[{"tasks":[]}]}"#,
-                r#"{"cores":[{"id":0,"cores":[]}]}"#,
-                r#"{"cores":[{"id":0},[]]}"#,
-                r#"{"cores":[{"id":0},0]}"#,
-                r#"{"cores":[[{"id":0}]]}"#,
-                r#"{"cores":[{"id":0,"tasks":[{}]}]}"#,
-                r#"{"cores":[{"id":0,"tasks":[[]]}]}"#,
-                r#"{"cores":[{"id":0,"tasks":[{"prio":1,"script":""}]}]}"#,
-                r#"{"cores":[{"id":0,"tasks":[{"name":"A","script":""}]}]}"#,
-                r#"{"cores":[{"id":0,"tasks":[{"name":"A","prio":1}]}]}"#,
-                r#"{"cores":[{"id":0,"tasks":[{"name":"A","prio":1,"script":"","id":0}]}]}"#,
-                r#"{"cores":[{"id":0,"tasks":[{"name":"A","prio":1,"script":""},null]}]}"#,
-                r#"{"cores":[{"id":0,"resources":[{}]}]}"#,
-                r#"{"cores":[{"id":0,"resources":[[]]}]}"#,
-                r#"{"cores":[{"id":0,"resources":["R"]}]}"#,
-                r#"{"cores":[{"id":0,"resources":[{"ceiling":1}]}]}"#,
-                r#"{"cores":[{"id":0,"resources":[{"name":"R"}]}]}"#,
-                r#"{"cores":[{"id":0,"resources":[{"name":"R","ceiling":1,"prio":1}]}]}"#,
-                r#"{"cores":[{"id":0,"resources":[{"name":"R","ceiling":1},null]}]}"#,
-                r#"{"cores":[{"id":0}],"resources":[]}"#,
-                r#"{"cores":[{"id":0,"counters":[{}]}]}"#,
-                r#"{"cores":[{"id":0,"counters":[[]]}]}"#,
-                r#"{"cores":[{"id":0,"counters":["K"]}]}"#,
-                r#"{"cores":[{"id":0,"counters":[{"max":1}]}]}"#,
-                r#"{"cores":[{"id":0,"counters":[{"name":"K"}]}]}"#,
-                r#"{"cores":[{"id":0,"counters":[{"name":"K","max":1,"ceiling":1}]}]}"#,
-                r#"{"cores":[{"id":0,"counters":[{"name":"K","max":1},null]}]}"#,
-                r#"{"cores":[{"id":0}],"counters":[]}"#,
-                r#"{"cores":[{"id":0}],"alarms":[]}"#,
-            ],
-        )],
-    },
-    // A member that is no whole number.
-    // A number with a point or an exponent is not whole, nor is -0, nor one past 64 bits.
-    Judged {
-        texts: &[
-            r#"{"version":@,"cores":[{"id":0}]}"#,
-            r#"{"cap":@,"cores":[{"id":0}]}"#,
-            r#"{"master":@,"cores":[{"id":0}]}"#,
-            r#"{"cores":[{"id":@}]}"#,
-            r#"{"cores":[{"id":0,"start":[@]}]}"#,
-            r#"{"cores":[{"id":0,"tasks":[{"name":"A","prio":@,"script":""}]}]}"#,
-            r#"{"cores":[{"id":0,"tasks":[{"name":"A","prio":1,"activations":@,"script":""}]}]}"#,
-            r#"{"cores":[{"id":0,"resources":[{"name":"R","ceiling":@}]}]}"#,
-            r#"{"cores":[{"id":0,"counters":[{"name":"K","max":@}]}]}"#,
-            r#"{"cores":[{"id":0,"counters":[{"name":"K","max":1,"min":@}]}]}"#,
-            r#"{"cores":[{"id":0,"tasks":[{"name":"A","prio":1,"script":""}],"counters":[{"name":"K","max":1}],"alarms":[{"name":"W","counter":"K","action":"ActivateTask A","auto":{"modes":[],"start":@,"cycle":0}}]}]}"#,
-            r#"{"cores":[{"id":0,"tasks":[{"name":"A","prio":1,"script":""}],"counters":[{"name":"K","max":1}],"alarms":[{"name":"W","counter":"K","action":"ActivateTask A","auto":{"modes":[],"start":1,"cycle":@}}]}]}"#,
-        ],
-        values: &[(
-            Some(ConfFault::Shape),
-            &[
-                "null",
-                "true",
-                r#""1""#,
-                "[]",
-                "{}",
-                "1.0",
-                "1e0",
-                "1E0",
-                "10e-1",
-                "-0",
-                "0.5",
-                "-0.0",
-                "18446744073709551616",
-                "-9223372036854775809",
-                "1e300",
-            ],
-        )],
-    },
-    // A member that is no list.
-    Judged {
-        texts: &[
-            r#"{"cores":@}"#,
-            r#"{"cores":[{"id":0,"start":@}]}"#,
-            r#"{"cores":[{"id":0,"tasks":@}]}"#,
-            r#"{"cores":[{"id":0,"resources":@}]}"#,
-            r#"{"cores":[{"id":0,"counters":@}]}"#,
-            r#"{"cores":[{"id":0,"alarms":@}]}"#,
-            r#"{"cores":[{"id":0,"tasks":[{"name":"A","prio":1,"script":""}],"counters":[{"name":"K","max":1}],"alarms":[{"name":"W","counter":"K","action":"ActivateTask A","auto":{"modes":@,"start":1,"cycle":0}}]}]}"#,
-            r#"{"cores":[{"id":0,"tasks":[{"name":"A","prio":1,"auto":@,"script":""}]}]}"#,
-        ],
-        values: &[(
-            Some(ConfFault::Shape),
-            &["null", "false", "0", r#""""#, r#""M""#, "{}", r#"{"id":0}"#],
-        )],
-    },
-    // A member that is no text.
-    Judged {
-        texts: &[
-            r#"{"cores":[{"id":0,"tasks":[{"name":@,"prio":1,"script":""}]}]}"#,
-            r#"{"cores":[{"id":0,"resources":[{"name":@,"ceiling":1}]}]}"#,
-            r#"{"cores":[{"id":0,"counters":[{"name":@,"max":1}]}]}"#,
-            r#"{"cores":[{"id":0,"tasks":[{"name":"A","prio":1,"script":""}],"counters":[{"name":"K","max":1}],"alarms":[{"name":@,"counter":"K","action":"ActivateTask A"}]}]}"#,
-            r#"{"cores":[{"id":0,"tasks":[{"name":"A","prio":1,"script":""}],"counters":[{"name":"K","max":1}],"alarms":[{"name":"W","counter":@,"action":"ActivateTask A"}]}]}"#,
-            r#"{"cores":[{"id":0,"tasks":[{"name":"A","prio":1,"script":""}],"counters":[{"name":"K","max":1}],"alarms":[{"name":"W","counter":"K","action":@}]}]}"#,
-            r#"{"cores":[{"id":0,"tasks":[{"name":"A","prio":1,"script":""}],"counters":[{"name":"K","max":1}],"alarms":[{"name":"W","counter":"K","action":"ActivateTask A","auto":{"modes":[@],"start":1,"cycle":0}}]}]}"#,
-            r#"{"cores":[{"id":0,"tasks":[{"name":"A","prio":1,"auto":[@],"script":""}]}]}"#,
-            r#"{"cores":[{"id":0,"tasks":[{"name":"A","prio":1,"script":@}]}]}"#,
-        ],
-        values: &[(
-            Some(ConfFault::Shape),
-            &["null", "true", "0", "[]", r#"["A"]"#, "{}"],
-        )],
-    },
-    // A member that is no truth value.
-    Judged {
-        texts: &[
-            r#"{"cores":[{"id":0,"tasks":[{"name":"A","prio":1,"extended":@,"script":""}]}]}"#,
-            r#"{"cores":[{"id":0,"tasks":[{"name":"A","prio":1,"preemptable":@,"script":""}]}]}"#,
-            r#"{"cores":[{"id":0,"counters":[{"name":"K","max":1,"software":@}]}]}"#,
-        ],
-        values: &[
-            (
-                Some(ConfFault::Shape),
-                &["null", "1", "0", r#""true""#, r#""""#, "[]", "[true]", "{}"],
-            ),
-            (None, &["true", "false"]),
-        ],
-    },
-];
+pub(super) const TEXTS: &str = r#"
+// What is not JSON.
+text @
+NotJson | |x|nul|"cores|{"cores":[{"id":0}]}x|{"cores":[{"id":0}]}{}|{"cores":[{"id":0}],}|{"cores":[{"id":0},]}
+NotJson {'cores':[{'id':0}]}|{cores:[{"id":0}]}|{"cores":[{"id":0}]} // one core|{"cores":[{"id":01}]}
+NotJson {"cores":[{"id":+1}]}|{"cores":[{"id":1.}]}|{"cores":[{"id":.5}]}|{"cores":[{"id":0x1}]}
+NotJson {"cores":[{"id":1e400}]}|{"cores":[{"id":NaN}]}|{"cores":"\ud800"}|{"cores":"\x"}
 
-#[test]
-fn what_is_no_configuration(rt: HostRuntime) -> Result<(), Fail> {
-    judge(&rt, rt.alloc(), Reader::Configuration, JUDGED)
-}
+// An object of another shape.
+Shape null|true|1|""|[{"cores":[{"id":0}]}]|{"cap":1}|{"Cores":[{"id":0}]}|{"cores":[{"id":0}],"":0}
+Shape {"cores":[{"id":0}],"prio":1}|{"cores":[{}]}|{"cores":[{"tasks":[]}]}|{"cores":[{"id":0,"cores":[]}]}
+Shape {"cores":[{"id":0},[]]}|{"cores":[{"id":0},0]}|{"cores":[[{"id":0}]]}|{"cores":[{"id":0,"tasks":[{}]}]}
+Shape {"cores":[{"id":0,"tasks":[[]]}]}|{"cores":[{"id":0,"tasks":[{"prio":1,"script":""}]}]}
+Shape {"cores":[{"id":0,"tasks":[{"name":"A","script":""}]}]}|{"cores":[{"id":0,"tasks":[{"name":"A","prio":1}]}]}
+Shape {"cores":[{"id":0,"tasks":[{"name":"A","prio":1,"script":"","id":0}]}]}
+Shape {"cores":[{"id":0,"tasks":[{"name":"A","prio":1,"script":""},null]}]}|{"cores":[{"id":0,"resources":[{}]}]}
+Shape {"cores":[{"id":0,"resources":[[]]}]}|{"cores":[{"id":0,"resources":["R"]}]}
+Shape {"cores":[{"id":0,"resources":[{"ceiling":1}]}]}|{"cores":[{"id":0,"resources":[{"name":"R"}]}]}
+Shape {"cores":[{"id":0,"resources":[{"name":"R","ceiling":1,"prio":1}]}]}
+Shape {"cores":[{"id":0,"resources":[{"name":"R","ceiling":1},null]}]}|{"cores":[{"id":0}],"resources":[]}
+Shape {"cores":[{"id":0,"counters":[{}]}]}|{"cores":[{"id":0,"counters":[[]]}]}|{"cores":[{"id":0,"counters":["K"]}]}
+Shape {"cores":[{"id":0,"counters":[{"max":1}]}]}|{"cores":[{"id":0,"counters":[{"name":"K"}]}]}
+Shape {"cores":[{"id":0,"counters":[{"name":"K","max":1,"ceiling":1}]}]}
+Shape {"cores":[{"id":0,"counters":[{"name":"K","max":1},null]}]}|{"cores":[{"id":0}],"counters":[]}
+Shape {"cores":[{"id":0}],"alarms":[]}
+
+// A member that is no whole number.
+// A number with a point or an exponent is not whole, nor is -0, nor one past 64 bits.
+text {"version":@,"cores":[{"id":0}]}
+text {"cap":@,"cores":[{"id":0}]}
+text {"master":@,"cores":[{"id":0}]}
+text {"cores":[{"id":@}]}
+text {"cores":[{"id":0,"start":[@]}]}
+text {"cores":[{"id":0,"tasks":[{"name":"A","prio":@,"script":""}]}]}
+text {"cores":[{"id":0,"tasks":[{"name":"A","prio":1,"activations":@,"script":""}]}]}
+text {"cores":[{"id":0,"resources":[{"name":"R","ceiling":@}]}]}
+text {"cores":[{"id":0,"counters":[{"name":"K","max":@}]}]}
+text {"cores":[{"id":0,"counters":[{"name":"K","max":1,"min":@}]}]}
+text {"cores":[{"id":0,"tasks":[{"name":"A","prio":1,"script":""}],"counters":[{"name":"K","max":1}],"alarms":[{"name":"W","counter":"K","action":"ActivateTask A","auto":{"modes":[],"start":@,"cycle":0}}]}]}
+text {"cores":[{"id":0,"tasks":[{"name":"A","prio":1,"script":""}],"counters":[{"name":"K","max":1}],"alarms":[{"name":"W","counter":"K","action":"ActivateTask A","auto":{"modes":[],"start":1,"cycle":@}}]}]}
+Shape null|true|"1"|[]|{}|1.0|1e0|1E0|10e-1|-0|0.5|-0.0|18446744073709551616|-9223372036854775809|1e300
+
+// A member that is no list.
+text {"cores":@}
+text {"cores":[{"id":0,"start":@}]}
+text {"cores":[{"id":0,"tasks":@}]}
+text {"cores":[{"id":0,"resources":@}]}
+text {"cores":[{"id":0,"counters":@}]}
+text {"cores":[{"id":0,"alarms":@}]}
+text {"cores":[{"id":0,"tasks":[{"name":"A","prio":1,"script":""}],"counters":[{"name":"K","max":1}],"alarms":[{"name":"W","counter":"K","action":"ActivateTask A","auto":{"modes":@,"start":1,"cycle":0}}]}]}
+text {"cores":[{"id":0,"tasks":[{"name":"A","prio":1,"auto":@,"script":""}]}]}
+Shape null|false|0|""|"M"|{}|{"id":0}
+
+// A member that is no text.
+text {"cores":[{"id":0,"tasks":[{"name":@,"prio":1,"script":""}]}]}
+text {"cores":[{"id":0,"resources":[{"name":@,"ceiling":1}]}]}
+text {"cores":[{"id":0,"counters":[{"name":@,"max":1}]}]}
+text {"cores":[{"id":0,"tasks":[{"name":"A","prio":1,"script":""}],"counters":[{"name":"K","max":1}],"alarms":[{"name":@,"counter":"K","action":"ActivateTask A"}]}]}
+text {"cores":[{"id":0,"tasks":[{"name":"A","prio":1,"script":""}],"counters":[{"name":"K","max":1}],"alarms":[{"name":"W","counter":@,"action":"ActivateTask A"}]}]}
+text {"cores":[{"id":0,"tasks":[{"name":"A","prio":1,"script":""}],"counters":[{"name":"K","max":1}],"alarms":[{"name":"W","counter":"K","action":@}]}]}
+text {"cores":[{"id":0,"tasks":[{"name":"A","prio":1,"script":""}],"counters":[{"name":"K","max":1}],"alarms":[{"name":"W","counter":"K","action":"ActivateTask A","auto":{"modes":[@],"start":1,"cycle":0}}]}]}
+text {"cores":[{"id":0,"tasks":[{"name":"A","prio":1,"auto":[@],"script":""}]}]}
+text {"cores":[{"id":0,"tasks":[{"name":"A","prio":1,"script":@}]}]}
+Shape null|true|0|[]|["A"]|{}
+
+// A member that is no truth value.
+text {"cores":[{"id":0,"tasks":[{"name":"A","prio":1,"extended":@,"script":""}]}]}
+text {"cores":[{"id":0,"tasks":[{"name":"A","prio":1,"preemptable":@,"script":""}]}]}
+text {"cores":[{"id":0,"counters":[{"name":"K","max":1,"software":@}]}]}
+Shape null|1|0|"true"|""|[]|[true]|{}
+fine true|false
+"#;
+
+// What has a character before it or behind it that is not JSON.
+pub(super) const AROUND: &str = r#"NotJson {"cores":[{"id":0}]}"#;
+
+// What stands in a text behind a line's end.
+pub(super) const WITHIN: &str = "NotJson";
 
 const WHOLE: &[(Reader, &str)] = &[
     (Reader::Configuration, TWO_CORES),

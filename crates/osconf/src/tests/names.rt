@@ -1,188 +1,66 @@
 //! Names and operations: their form, and what stands twice.
 
-use super::{Judged, Long, Reader, judge, judge_long};
-use crate::ConfFault;
-use std::test::Fail;
+pub(super) const TEXTS: &str = r#"
+// The form of a name.
+text {"cores":[{"id":0,"tasks":[{"name":"@","prio":1,"script":""}]}]}
+text {"cores":[{"id":0,"tasks":[{"name":"A","prio":1,"auto":["M","@"],"script":""}]}]}
+Shape |A |_A|9|9A|A B| A|A-B|A.B|A?|Ä|Aß|A\u0000|A\n
+// The invalid identifier is no name.
+Shape ?
 
-const NAME: &str = r#"{"cores":[{"id":0,"tasks":[{"name":"@","prio":1,"script":""}]}]}"#;
+text {"cores":[{"id":0,"tasks":[{"name":"@","prio":1,"script":""}]}]}
+fine Z|z|A_|a9|T0_x|work|none|DONOTCARE|\u0041
 
-const BAD: &[&str] = &[
-    "", "_A", "9", "9A", "A B", " A", "A ", "A-B", "A.B", "A?", "\u{c4}", "A\u{df}", "A\\u0000",
-    "A\\n",
-];
+text {"cores":[{"id":0,"tasks":[{"name":"A","prio":1,"auto":["M","@"],"script":""}]}]}
+UnknownName Z|z|A_|a9|T0_x|work|none|DONOTCARE|\u0041
 
-const GOOD: &[&str] = &[
-    "Z",
-    "z",
-    "A_",
-    "a9",
-    "T0_x",
-    "work",
-    "none",
-    "DONOTCARE",
-    "\\u0041",
-];
+text {"cores":[{"id":0,"tasks":[{"name":"A","prio":1,"script":"ActivateTask @"}]}]}
+BadScript |A |_A|9|9A|A B| A|A-B|A.B|A?|Ä|Aß|A\u0000|A\n
+fine ?|A
 
-const AUTO: &str =
-    r#"{"cores":[{"id":0,"tasks":[{"name":"A","prio":1,"auto":["M","@"],"script":""}]}]}"#;
+// The form of an operation.
+text {"cores":[{"id":0,"tasks":[{"name":"A","prio":1,"script":"@"}]}]}
+fine |work|TerminateTask|ActivateTask A|ActivateTask ?|work;work;work
+BadScript  |work |ActivateTask |ActivateTask A |;|;work|work;;work|work; work|work ;work|Work|work 1|work,work|work\n
+BadScript walk|?|A|TerminateTask A|TerminateTask ?|TerminateTask;|ActivateTask|ActivateTask  A|ActivateTask A A
+BadScript ActivateTask Nobody Nobody|ActivateTask\tA|ActivateTask ??|activatetask A
 
-const SCRIPT: &str =
-    r#"{"cores":[{"id":0,"tasks":[{"name":"A","prio":1,"script":"ActivateTask @"}]}]}"#;
+// Names and numbers that stand twice.
+text {"master":1,"cores":[{"id":0},{"id":1},{"id":2},{"id":@}]}
+fine 3
+DuplicateName 0|1|2
 
-const AUTO_ALONE: &str =
-    r#"{"cores":[{"id":0,"tasks":[{"name":"A","prio":1,"auto":["@"],"script":""}]}]}"#;
+// A task's name is no other task's, on its core or on another one, and not the mode's.
+text {"cores":[{"id":0,"tasks":[{"name":"A","prio":1,"script":""}]},{"id":1},{"id":2,"tasks":[{"name":"@","prio":1,"script":""}]}]}
+text {"cores":[{"id":0,"tasks":[{"name":"A","prio":1,"script":""},{"name":"B","prio":1,"script":""},{"name":"@","prio":1,"script":""}]}]}
+fine a|AA|m|MM
+DuplicateName A|\u0041|M
 
-const JUDGED: &[Judged] = &[
-    // The form of a name.
-    Judged {
-        texts: &[NAME, AUTO],
-        values: &[
-            (Some(ConfFault::Shape), BAD),
-            // The invalid identifier is no name.
-            (Some(ConfFault::Shape), &["?"]),
-        ],
-    },
-    Judged {
-        texts: &[NAME],
-        values: &[(None, GOOD)],
-    },
-    Judged {
-        texts: &[AUTO],
-        values: &[(Some(ConfFault::UnknownName), GOOD)],
-    },
-    Judged {
-        texts: &[SCRIPT],
-        values: &[(Some(ConfFault::BadScript), BAD), (None, &["?", "A"])],
-    },
-    // The form of an operation.
-    Judged {
-        texts: &[r#"{"cores":[{"id":0,"tasks":[{"name":"A","prio":1,"script":"@"}]}]}"#],
-        values: &[
-            (
-                None,
-                &[
-                    "",
-                    "work",
-                    "TerminateTask",
-                    "ActivateTask A",
-                    "ActivateTask ?",
-                    "work;work;work",
-                ],
-            ),
-            (
-                Some(ConfFault::BadScript),
-                &[
-                    " ",
-                    ";",
-                    ";work",
-                    "work;;work",
-                    "work; work",
-                    "work ;work",
-                    "work ",
-                    "Work",
-                    "work 1",
-                    "work,work",
-                    "work\\n",
-                    "walk",
-                    "?",
-                    "A",
-                    "TerminateTask A",
-                    "TerminateTask ?",
-                    "TerminateTask;",
-                    "ActivateTask",
-                    "ActivateTask ",
-                    "ActivateTask  A",
-                    "ActivateTask A ",
-                    "ActivateTask A A",
-                    "ActivateTask Nobody Nobody",
-                    "ActivateTask\\tA",
-                    "ActivateTask ??",
-                    "activatetask A",
-                ],
-            ),
-        ],
-    },
-    // Names and numbers that stand twice.
-    Judged {
-        texts: &[r#"{"master":1,"cores":[{"id":0},{"id":1},{"id":2},{"id":@}]}"#],
-        values: &[
-            (None, &["3"]),
-            (Some(ConfFault::DuplicateName), &["0", "1", "2"]),
-        ],
-    },
-    // A task's name is no other task's, on its core or on another one, and not the mode's.
-    Judged {
-        texts: &[
-            r#"{"cores":[{"id":0,"tasks":[{"name":"A","prio":1,"script":""}]},{"id":1},{"id":2,"tasks":[{"name":"@","prio":1,"script":""}]}]}"#,
-            r#"{"cores":[{"id":0,"tasks":[{"name":"A","prio":1,"script":""},{"name":"B","prio":1,"script":""},{"name":"@","prio":1,"script":""}]}]}"#,
-        ],
-        values: &[
-            (None, &["a", "AA", "m", "MM"]),
-            (Some(ConfFault::DuplicateName), &["A", "\\u0041", "M"]),
-        ],
-    },
-    // Of a member that stands twice the last value counts.
-    Judged {
-        texts: &["@"],
-        values: &[
-            (
-                Some(ConfFault::Limit),
-                &[
-                    r#"{"cap":2,"cap":0,"cores":[{"id":0}]}"#,
-                    r#"{"cores":[{"id":0}],"cores":[]}"#,
-                ],
-            ),
-            (
-                Some(ConfFault::Shape),
-                &[
-                    r#"{"cap":2,"cap":"two","cores":[{"id":0}]}"#,
-                    r#"{"cap":2,"cap":null,"cores":[{"id":0}]}"#,
-                ],
-            ),
-        ],
-    },
-    // A task is found by its name, wherever it stands among its core's.
-    Judged {
-        texts: &[
-            r#"{"cores":[{"id":3,"tasks":[{"name":"A","prio":1,"script":"ActivateTask @"},{"name":"B","prio":1,"script":""}]},{"id":1,"tasks":[{"name":"C","prio":1,"script":""},{"name":"D","prio":1,"script":""},{"name":"E","prio":1,"script":""}]}],"master":3}"#,
-        ],
-        values: &[(Some(ConfFault::UnknownName), &["F"])],
-    },
-];
+// Of a member that stands twice the last value counts.
+text @
+Limit {"cap":2,"cap":0,"cores":[{"id":0}]}|{"cores":[{"id":0}],"cores":[]}
+Shape {"cap":2,"cap":"two","cores":[{"id":0}]}|{"cap":2,"cap":null,"cores":[{"id":0}]}
 
-const LONG: &[Long] = &[
-    // A name has 1 to 128 characters.
-    Long {
-        texts: &[NAME],
-        word: "n",
-        between: "",
-        counts: &[(1, None), (128, None)],
-    },
-    Long {
-        texts: &[AUTO_ALONE, SCRIPT],
-        word: "n",
-        between: "",
-        counts: &[
-            (1, Some(ConfFault::UnknownName)),
-            (128, Some(ConfFault::UnknownName)),
-        ],
-    },
-    Long {
-        texts: &[NAME, AUTO_ALONE],
-        word: "n",
-        between: "",
-        counts: &[(129, Some(ConfFault::Shape))],
-    },
-    Long {
-        texts: &[SCRIPT],
-        word: "n",
-        between: "",
-        counts: &[(129, Some(ConfFault::BadScript))],
-    },
-];
+// A task is found by its name, wherever it stands among its core's.
+text {"cores":[{"id":3,"tasks":[{"name":"A","prio":1,"script":"ActivateTask @"},{"name":"B","prio":1,"script":""}]},{"id":1,"tasks":[{"name":"C","prio":1,"script":""},{"name":"D","prio":1,"script":""},{"name":"E","prio":1,"script":""}]}],"master":3}
+UnknownName F
 
-#[test]
-fn texts_with_names(rt: HostRuntime) -> Result<(), Fail> {
-    judge(&rt, rt.alloc(), Reader::Configuration, JUDGED)?;
-    judge_long(&rt, rt.alloc(), Reader::Configuration, LONG)
-}
+// A name has 1 to 128 characters.
+text {"cores":[{"id":0,"tasks":[{"name":"@","prio":1,"script":""}]}]}
+each [] n
+fine 1|128
+
+text {"cores":[{"id":0,"tasks":[{"name":"A","prio":1,"auto":["@"],"script":""}]}]}
+text {"cores":[{"id":0,"tasks":[{"name":"A","prio":1,"script":"ActivateTask @"}]}]}
+each [] n
+UnknownName 1|128
+
+text {"cores":[{"id":0,"tasks":[{"name":"@","prio":1,"script":""}]}]}
+text {"cores":[{"id":0,"tasks":[{"name":"A","prio":1,"auto":["@"],"script":""}]}]}
+each [] n
+Shape 129
+
+text {"cores":[{"id":0,"tasks":[{"name":"A","prio":1,"script":"ActivateTask @"}]}]}
+each [] n
+BadScript 129
+"#;
