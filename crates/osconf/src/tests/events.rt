@@ -17,7 +17,7 @@ BadScript SetEvent Nobody|ClearEvent|ClearEvent A|ClearEvent ?|ClearEvent A 1|Cl
 BadScript GetEvent v0|GetEvent A 1|GetEvent A v8|GetEvent A v0 v1|GetEvent v0 A v0|WaitEvent|WaitEvent A|WaitEvent ?
 BadScript WaitEvent v0|WaitEvent 1 1|waitevent 1
 
-// An operation in good form has the faults of its names and of its masks; the smallest fault of the text is told.
+// An operation in form has the faults of its names and of its masks; the smallest fault of the text is told.
 UnknownName SetEvent Nobody 0|SetEvent Nobody 4294967296|WaitEvent 0;ChainTask Nobody|SetEvent A 0;GetEvent Nobody v0
 BadScript SetEvent Nobody 01
 WrongCore GetEvent C v0|GetEvent A v0;GetEvent C v0|WaitEvent 0;GetEvent C v0

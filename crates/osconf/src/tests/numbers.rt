@@ -66,12 +66,12 @@ BadMask SetEvent A 4294967296
 BadTable |StartScheduleTableRel P 4294967296|StartScheduleTableRel Z
 "#;
 
-// The same, with an alarm whose action is in no good form.
+// The same, with an alarm whose action is not in form.
 pub(super) const INACTION: &str =
     r#"{"cores":[{"id":0,"tasks":[{"name":"A","prio":1,"script":"@"}],"counters":[{"name":"K","max":9}],"alarms":[{"name":"L","counter":"K","action":"SetEvent A"}],"tables":[{"name":"P","counter":"K","duration":1,"points":[{"offset":0,"actions":["ActivateTask A"]}]}]},{"id":1,"counters":[{"name":"Q","max":9}],"tables":[{"name":"Z","counter":"Q","duration":1,"points":[{"offset":0,"actions":["ActivateTask A"]}]}]}]}"#;
 
 pub(super) const BESIDE_AN_ACTION: &str = r#"
-// An action without a good form beside them.
+// An action that is not in form beside them.
 WrongCore StartScheduleTableRel Z 4294967296|StartScheduleTableAbs Z 4294967296
 BadScript |StartScheduleTableRel Z x
 "#;
