@@ -46,6 +46,10 @@ all-tasks (e ∷ h) = step-tasks e _ (live_jobs h) (all-tasks h)
 among : (p : Job → Bool) (q : Job → ℕ) (js : List Job) (j : Job) → list_all p js ≡ true → first_greatest q js ≡ Some j → p j ≡ true
 among p q js j all e = sym (ap (λ (o : Option Job). option_map_or p o true) e) ∙ greatest-passes p q js all
 
+-- What all live jobs pass, the best one passes.
+pub best-passes : (v : View) (h : History) (p : Job → Bool) → list_all p (live_jobs h) ≡ true → option_map_or p (best_job v h) true ≡ true
+best-passes v h p all = greatest-passes p (current_priority v h) (filter (is_able v h) (live_jobs h)) (all-filter p (is_able v h) (live_jobs h) all)
+
 module _ (p : Job → ℕ) where
   first-oldest : (t : TaskRef) (i : Job) (is : List Job) → i.runner ≡ Runner.Task t → oldest (Runner.Task t) (i ∷ is) ≡ Some i
   first-oldest t i is e =

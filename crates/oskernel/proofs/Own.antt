@@ -1,7 +1,7 @@
 -- A core whose scripts and alarms name no other core's objects, and that takes no mail, prints marks of its own objects alone.
 use native.Mathlib.Omega.{arith}
 use Rattle.std.proofs.Common.{◌≡◌, Bool, true, false, not, List, [], ◌∷◌, refl, sym, ◌∙◌}
-use Rattle.std.specs.List.{filter, list_all}
+use Rattle.std.specs.List.{list_all}
 use Rattle.std.proofs.lemmas.Bool.{and_parts, not-true}
 use Rattle.std.proofs.lemmas.List.Folds.{list_all-append}
 use Rattle.std.proofs.Math.Bool.{or-false}
@@ -12,14 +12,14 @@ use Rattle.osbase.specs.declared.histories.Job.{Job}
 use Rattle.osbase.specs.History.{Entry, History, current_task, live_jobs, marks_of}
 use Rattle.osbase.specs.Marks.{core_of_runner, names_only}
 use Rattle.osplan.specs.View.{View}
-use Rattle.osplan.proofs.Tests.{all-filter}
-use Rattle.osstate.specs.Readings.{current_priority, is_able, is_own, running}
+use Rattle.osstate.specs.Readings.{is_own, running}
 use Rattle.ostable.proofs.Asked.{dues-own}
 use Rattle.osact.proofs.Kept.{Leave, is_local, nobody}
 use Rattle.oskernel.specs.Step.{after, history_from}
 use Rattle.oskernel.proofs.Calm.{Calm, calm-local, calm-took, mail-replied}
 use Rattle.oskernel.proofs.Carried.{NamesActing, NamesAllow, passes}
-use Rattle.oskernel.proofs.JobLists.{anew-all, greatest-passes, oldest-passes, without-all}
+use Rattle.oskernel.proofs.Idling.{best-passes}
+use Rattle.oskernel.proofs.JobLists.{anew-all, oldest-passes, without-all}
 use Rattle.oskernel.proofs.Holding.{holds-local, holds-named}
 use Rattle.oskernel.proofs.Stages.{is_mail}
 
@@ -66,7 +66,7 @@ module _ (v : View) (allowed : NamesAllow v nobody) (same : is_own v v.own.id �
   acting : (h : History) → Inward v h → NamesActing leave_own h
   acting h p =
       let own = act-own (is_own v) h p.own in
-      let best = greatest-passes (own_job (is_own v)) (current_priority v h) (filter (is_able v h) (live_jobs h)) (all-filter (own_job (is_own v)) (is_able v h) (live_jobs h) own.jobs) in
+      let best = best-passes v h (own_job (is_own v)) own.jobs in
       let runs : passes (running v h) (own_job (is_own v)) ≡ true = grind (arith, oldest-passes (own_job (is_own v)), own.jobs) in
       record { seen = record { id = refl; core = refl; due_tables = λ c. dues-own v.own c h; running = grind (arith, runs); awaits = rw p.calm.closed refl }; current = own.current; next = grind (arith, best) }
 
