@@ -1,3 +1,4 @@
+mod Undisturbed
 pub mod Beginnings
 pub mod Members
 pub mod Sizes

@@ -1,7 +1,7 @@
 -- What a turn names and changes, said of what a listed run holds in memory: the cores' kernels, and what stands between
 -- them, the mailboxes, the board and the spinlocks. It is what the world's definition names where memory holds what that
 -- definition reads off the items. Who reads what a run promises needs none of it. [own]
-use Rattle.std.specs.Prelude.{◌<◌, ◌&&◌, nat_lt, if◌then◌else◌, IsTrue, Option, None, IsSome, List, drop, slice_get}
+use Rattle.std.specs.Prelude.{◌<◌, ◌&&◌, nat_lt, if◌then◌else◌, Bool, true, false, IsTrue, is_none, Option, None, IsSome, List, drop, slice_get}
 use Rattle.std.specs.Option.{option_map_or}
 use Rattle.osbase.specs.declared.references.CoreId.{CoreId}
 use Rattle.osbase.specs.declared.messages.Envelope.{Envelope}
@@ -13,6 +13,7 @@ use Rattle.osmail.specs.Mail.{Mail, has_room, oldest_of, after_send, after_take}
 use Rattle.osplan.specs.declared.plans.Plan.{Plan}
 use Rattle.osplan.specs.View.{view_of}
 use Rattle.osstate.specs.State.{KernelState}
+use Rattle.oskernel.specs.declared.wants.Watch.{Watch}
 use Rattle.oskernel.specs.Wants.{want_in, watch_in}
 use Rattle.osboard.specs.declared.calls.BoardState.{BoardState}
 use Rattle.osboard.specs.Boards.{board_after, board_reply}
@@ -31,6 +32,12 @@ answer_by between id (OfSpins wish) = Spun (spin_reply id (spin_call_of wish) be
 answer_by between id (Room to) = HasRoom (nat_lt to.number CORES && has_room between.mail id to)
 answer_by between id (Oldest from) = Found (if nat_lt from.number CORES then oldest_of between.mail from id else None)
 answer_by between id ask = Unasked
+
+-- A core that watches for nothing, or for a shutdown of all cores that nobody has asked for, learns nothing from the board.
+abbrev pub is_undisturbed : Watch → BoardState → Bool
+is_undisturbed Watch.Nothing board = true
+is_undisturbed Watch.Halt board = is_none board.halt
+is_undisturbed watch board = false
 
 -- What the turn asks, by the state of the core's kernel, and the item to which that answer leads.
 abbrev pub next_by : Plan → Between → CoreId → List Stimulus → KernelState → Choice → Option (Ask × Item)

@@ -12,7 +12,7 @@ ghost use Rattle.osbase.specs.Runs.{stimuli_of};
 ghost use Rattle.osworld.specs.Runs.{is_ended_phase};
 ghost use Rattle.oskernel.specs.Wants.{want_in, watch_in};
 ghost use Rattle.osworld.specs.Asking.{asked_by, leads_to, named_by};
-ghost use Rattle.osworld.specs.Answering.{answer_by, left_after, next_by};
+ghost use Rattle.osworld.specs.Answering.{answer_by, is_undisturbed, left_after, next_by};
 ghost use Rattle.oskernel.specs.declared.kernel.TheConstants.{STEP_MARKS};
 
 use crate::answering::Between;
@@ -21,7 +21,7 @@ use osbase::{
     CORES, Choice, CoreId, CoreStimuli, Envelope, Item, List, Mark, Phase, Report, Stimulus,
     stimuli_for,
 };
-use oskernel::{Kernel, STEP_MARKS};
+use oskernel::{Kernel, STEP_MARKS, Watch};
 use osplan::{Config, Core, Plan};
 use std::alloc::{AllocError, Global};
 
@@ -65,9 +65,33 @@ impl<'a> Seat<'a> {
         }
     }
 
-    /// What a turn of this core asks and is answered: none where it asks nothing, or serves a core from which there is
-    /// no envelope, as most turns do.
+    /// What a turn of this core asks and is answered: none where it asks nothing, serves a core from which there is no
+    /// envelope, or looks at a board that leads it to nothing, as most turns do.
     pub fn answered(&self, plan: &Plan, between: &Between, choice: Choice) -> Option<(Ask, Answer)>
+        ensures answer { IfSome result (λ t. t.1 ≡ answer_by between.now self.now.id t.0) }
+        ensures leads { IfSome result (λ t. next_by plan.now between.now self.now.id self.now.stimuli.now self.now.kernel choice ≡ leads_to self.now.id (watch_in self.now.kernel) t.0 t.1) }
+        ensures none { IfNone result (next_by plan.now between.now self.now.id self.now.stimuli.now self.now.kernel choice ≡ None) }
+    {
+        match choice {
+            Choice::Look if self.is_undisturbed(between) => None,
+            _ => self.replied(plan, between, choice),
+        }
+    }
+
+    // A look at the board that leads to nothing, as most do: the core watches for nothing, or for a shutdown of all cores
+    // that nobody has asked for.
+    fn is_undisturbed(&self, between: &Between) -> bool
+        ensures { result ≡ is_undisturbed (watch_in self.now.kernel) between.now.board }
+    {
+        match self.kernel.watch() {
+            Watch::Nothing => true,
+            Watch::Halt => between.board.look_halt().is_none(),
+            _ => false,
+        }
+    }
+
+    // What a turn is answered, whatever it leads to.
+    fn replied(&self, plan: &Plan, between: &Between, choice: Choice) -> Option<(Ask, Answer)>
         ensures answer { IfSome result (λ t. t.1 ≡ answer_by between.now self.now.id t.0) }
         ensures leads { IfSome result (λ t. next_by plan.now between.now self.now.id self.now.stimuli.now self.now.kernel choice ≡ leads_to self.now.id (watch_in self.now.kernel) t.0 t.1) }
         ensures none { IfNone result (next_by plan.now between.now self.now.id self.now.stimuli.now self.now.kernel choice ≡ None) }
