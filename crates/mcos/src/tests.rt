@@ -26,10 +26,6 @@ use std::test::Fail;
 const BORDER: &str =
     r#"{"cores":[{"id":0,"start":[1],"tasks":[{"name":"A","prio":1,"auto":["M"],"script":"ActivateTask B;TerminateTask"}]},{"id":1,"tasks":[{"name":"B","prio":1,"script":"TerminateTask"}]}]}"#;
 
-/// The activation limit across cores.
-const LIMIT: &str =
-    r#"{"cores":[{"id":0,"start":[1],"tasks":[{"name":"A","prio":1,"auto":["M"],"script":"ActivateTask B;ActivateTask B;TerminateTask"}]},{"id":1,"tasks":[{"name":"B","prio":1,"script":"TerminateTask"}]}]}"#;
-
 /// Refused activations.
 const REFUSALS: &str =
     r#"{"cores":[{"id":0,"tasks":[{"name":"A","prio":1,"auto":["M"],"script":"ActivateTask B;ActivateTask ?;ActivateTask A;TerminateTask"}]},{"id":1,"tasks":[{"name":"B","prio":1,"script":"TerminateTask"}]}]}"#;
@@ -37,19 +33,12 @@ const REFUSALS: &str =
 const BORDER_TRACE: &str =
     "core 0\nstart 1 E_OK\nhook Startup\nact A\npre A\nout 1 ActivateTask B\nstat A ActivateTask E_OK\npost A\nend A\ncore 1\nhook Startup\nact B\nin 0 ActivateTask B E_OK\npre B\npost B\nend B\nended\n";
 
-const LIMIT_TRACE: &str =
-    "core 0\nstart 1 E_OK\nhook Startup\nact A\npre A\nout 1 ActivateTask B\nstat A ActivateTask E_OK\nout 1 ActivateTask B\nstat A ActivateTask E_OS_LIMIT\nhook Error E_OS_LIMIT\npost A\nend A\ncore 1\nhook Startup\nact B\nin 0 ActivateTask B E_OK\npre B\nin 0 ActivateTask B E_OS_LIMIT\nended\n";
-
-const REFUSALS_TRACE: &str =
-    "core 0\nhook Startup\nact A\npre A\nstat A ActivateTask E_OS_CORE\nhook Error E_OS_CORE\nstat A ActivateTask E_OS_ID\nhook Error E_OS_ID\nstat A ActivateTask E_OS_LIMIT\nhook Error E_OS_LIMIT\npost A\nend A\ncore 1\nended\n";
-
 /// One activation across the border, beside a core that has nothing to do with it.
 const BESIDE: &str =
     r#"{"cores":[{"id":0,"start":[1,2],"tasks":[{"name":"A","prio":1,"auto":["M"],"script":"ActivateTask B;TerminateTask"}]},{"id":1,"tasks":[{"name":"B","prio":1,"script":"TerminateTask"}]},{"id":2,"tasks":[{"name":"V","prio":1,"auto":["M"],"script":"TerminateTask"}]}]}"#;
 
 const ALONE: &str =
-    r#"{"cap":16,"cores":[{"alarms":[],"counters":[],"id":2,"resources":[],"start":[],"tables":[],"tasks":[{"activations":1,"auto":["M"],"extended":false,"name":"V","preemptable":true,"prio":1,"script":"TerminateTask"}]}],"master":2,"version":1}
-"#;
+    "{\"cap\":16,\"cores\":[{\"alarms\":[],\"counters\":[],\"id\":2,\"resources\":[],\"start\":[],\"tables\":[],\"tasks\":[{\"activations\":1,\"auto\":[\"M\"],\"extended\":false,\"name\":\"V\",\"preemptable\":true,\"prio\":1,\"script\":\"TerminateTask\"}]}],\"master\":2,\"version\":1}\n";
 
 const ALONE_TRACE: &str = "core 2\nhook Startup\nact V\npre V\npost V\nend V\nended\n";
 
@@ -72,289 +61,146 @@ const MUTUAL_TRACE: &str =
 const FULL_SCHEDULE: &str =
     r#""0o 1l 1o 0o 0l 1l 0o 1o 0l 1l 0o 1o 0o 1o 0s1 0o 0o 1s0 0o 1o 0s1 1s0 0o 1o 0o 1o 0l 1l 0l 1l""#;
 
-/// Tasks of one core: the greatest priority first, and of equal jobs the one that was activated first, also where it
-/// was preempted.
-const OLDEST: &str =
-    r#"{"cores":[{"id":0,"tasks":[{"name":"X","prio":1,"auto":["M"],"script":"ActivateTask Y;ActivateTask H;TerminateTask"},{"name":"Y","prio":1,"script":"TerminateTask"},{"name":"Z","prio":1,"script":"TerminateTask"},{"name":"H","prio":2,"script":"ActivateTask Z;TerminateTask"}]}]}"#;
+/// A configuration, stimuli, and what their run prints.
+type Run = (&'static str, &'static str, &'static str);
 
-const OLDEST_TRACE: &str =
-    "core 0\nhook Startup\nact X\npre X\nact Y\nstat X ActivateTask E_OK\nact H\nstat X ActivateTask E_OK\npost X\npre H\nact Z\nstat H ActivateTask E_OK\npost H\nend H\npre X\npost X\nend X\npre Y\npost Y\nend Y\npre Z\npost Z\nend Z\nended\n";
+// Runs of the default schedule, to their end.
+const RUNS: &[Run] = &[
+    (BORDER, r#"{"0":"op op","1":"op op"}"#, BORDER_TRACE),
+    (MUTUAL, r#"{"0":"op op","1":"op op"}"#, MUTUAL_TRACE),
+    (
+        BORDER,
+        "{}",
+        "core 0\nstart 1 E_OK\nhook Startup\nact A\npre A\ncore 1\nhook Startup\nended\n",
+    ),
+    // The activation limit across cores.
+    (
+        r#"{"cores":[{"id":0,"start":[1],"tasks":[{"name":"A","prio":1,"auto":["M"],"script":"ActivateTask B;ActivateTask B;TerminateTask"}]},{"id":1,"tasks":[{"name":"B","prio":1,"script":"TerminateTask"}]}]}"#,
+        r#"{"0":"op op op"}"#,
+        "core 0\nstart 1 E_OK\nhook Startup\nact A\npre A\nout 1 ActivateTask B\nstat A ActivateTask E_OK\nout 1 ActivateTask B\nstat A ActivateTask E_OS_LIMIT\nhook Error E_OS_LIMIT\npost A\nend A\ncore 1\nhook Startup\nact B\nin 0 ActivateTask B E_OK\npre B\nin 0 ActivateTask B E_OS_LIMIT\nended\n",
+    ),
+    (
+        REFUSALS,
+        r#"{"0":"op op op op"}"#,
+        "core 0\nhook Startup\nact A\npre A\nstat A ActivateTask E_OS_CORE\nhook Error E_OS_CORE\nstat A ActivateTask E_OS_ID\nhook Error E_OS_ID\nstat A ActivateTask E_OS_LIMIT\nhook Error E_OS_LIMIT\npost A\nend A\ncore 1\nended\n",
+    ),
+    // Tasks of one core: the greatest priority first, and of equal jobs the one that was activated first, also where it
+    // was preempted.
+    (
+        r#"{"cores":[{"id":0,"tasks":[{"name":"X","prio":1,"auto":["M"],"script":"ActivateTask Y;ActivateTask H;TerminateTask"},{"name":"Y","prio":1,"script":"TerminateTask"},{"name":"Z","prio":1,"script":"TerminateTask"},{"name":"H","prio":2,"script":"ActivateTask Z;TerminateTask"}]}]}"#,
+        r#"{"0":"op op op op op op op"}"#,
+        "core 0\nhook Startup\nact X\npre X\nact Y\nstat X ActivateTask E_OK\nact H\nstat X ActivateTask E_OK\npost X\npre H\nact Z\nstat H ActivateTask E_OK\npost H\nend H\npre X\npost X\nend X\npre Y\npost Y\nend Y\npre Z\npost Z\nend Z\nended\n",
+    ),
+    // A core by itself that adds to a variable.
+    (
+        r#"{"cores":[{"id":2,"tasks":[{"name":"V","prio":1,"auto":["M"],"script":"add v0 3;TerminateTask"}]}],"master":2}"#,
+        r#"{"2":"op op"}"#,
+        "core 2\nhook Startup\nact V\npre V\nvar V v0 3\npost V\nend V\nended\n",
+    ),
+    // A task that cannot be preempted: Schedule lets a job of greater priority run, and none of equal priority.
+    (
+        r#"{"cores":[{"id":0,"tasks":[{"name":"N","prio":1,"preemptable":false,"auto":["M"],"script":"ActivateTask E;Schedule;ActivateTask U;Schedule;TerminateTask"},{"name":"E","prio":1,"script":"TerminateTask"},{"name":"U","prio":2,"script":"TerminateTask"}]}]}"#,
+        r#"{"0":"op op op op op op op"}"#,
+        "core 0\nhook Startup\nact N\npre N\nact E\nstat N ActivateTask E_OK\nstat N Schedule E_OK\nact U\nstat N ActivateTask E_OK\nstat N Schedule E_OK\npost N\npre U\npost U\nend U\npre N\npost N\nend N\npre E\npost E\nend E\nended\n",
+    ),
+    // A job that holds a resource runs at its ceiling, until it gives the resource back.
+    (
+        r#"{"cores":[{"id":0,"tasks":[{"name":"L","prio":1,"auto":["M"],"script":"GetResource R;ActivateTask H;ReleaseResource R;TerminateTask"},{"name":"H","prio":2,"script":"TerminateTask"}],"resources":[{"name":"R","ceiling":2}]}]}"#,
+        r#"{"0":"op op op op op"}"#,
+        "core 0\nhook Startup\nact L\npre L\nstat L GetResource E_OK\nact H\nstat L ActivateTask E_OK\nstat L ReleaseResource E_OK\npost L\npre H\npost H\nend H\npre L\npost L\nend L\nended\n",
+    ),
+    // A job that holds a resource does not give way.
+    (
+        r#"{"cores":[{"id":0,"tasks":[{"name":"N","prio":1,"preemptable":false,"auto":["M"],"script":"GetResource R;ActivateTask U;Schedule;ReleaseResource R;TerminateTask"},{"name":"U","prio":2,"script":"TerminateTask"}],"resources":[{"name":"R","ceiling":1}]}]}"#,
+        r#"{"0":"op op op op op op"}"#,
+        "core 0\nhook Startup\nact N\npre N\nstat N GetResource E_OK\nact U\nstat N ActivateTask E_OK\nstat N Schedule E_OS_RESOURCE\nhook Error E_OS_RESOURCE\nstat N ReleaseResource E_OK\npost N\nend N\npre U\npost U\nend U\nended\n",
+    ),
+    // Refused services of resources; releasing one of two keeps the other's ceiling, and a job's end gives all back.
+    (
+        r#"{"cores":[{"id":0,"tasks":[{"name":"A","prio":1,"auto":["M"],"script":"GetResource ?;GetResource LOW;GetResource R;GetResource R;GetResource S;ReleaseResource R;ActivateTask B;ReleaseResource S;TerminateTask;ReleaseResource LOW"},{"name":"B","prio":2,"script":"GetResource R;ReleaseResource ?;ReleaseResource R;ReleaseResource R;TerminateTask"}],"resources":[{"name":"R","ceiling":3},{"name":"S","ceiling":1},{"name":"LOW","ceiling":0}]}]}"#,
+        r#"{"0":"op op op op op op op op op op op op op op op op"}"#,
+        "core 0\nhook Startup\nact A\npre A\nstat A GetResource E_OS_ID\nhook Error E_OS_ID\nstat A GetResource E_OS_ACCESS\nhook Error E_OS_ACCESS\nstat A GetResource E_OK\nstat A GetResource E_OS_ACCESS\nhook Error E_OS_ACCESS\nstat A GetResource E_OK\nstat A ReleaseResource E_OS_NOFUNC\nhook Error E_OS_NOFUNC\nact B\nstat A ActivateTask E_OK\nstat A ReleaseResource E_OK\nstat A TerminateTask E_OS_RESOURCE\nhook Error E_OS_RESOURCE\nstat A ReleaseResource E_OS_ACCESS\nhook Error E_OS_ACCESS\nhook Error E_OS_MISSINGEND\npost A\nend A\npre B\nstat B GetResource E_OK\nstat B ReleaseResource E_OS_ID\nhook Error E_OS_ID\nstat B ReleaseResource E_OK\nstat B ReleaseResource E_OS_NOFUNC\nhook Error E_OS_NOFUNC\npost B\nend B\nended\n",
+    ),
+    // Two cores, each of whose first task activates the other's second one while it awaits the reply to its own call.
+    (
+        r#"{"cores":[{"id":0,"start":[1],"tasks":[{"name":"A","prio":2,"auto":["M"],"script":"ActivateTask D;TerminateTask"},{"name":"C","prio":1,"script":"TerminateTask"}]},{"id":1,"tasks":[{"name":"B","prio":2,"auto":["M"],"script":"ActivateTask C;TerminateTask"},{"name":"D","prio":1,"script":"TerminateTask"}]}]}"#,
+        r#"{"0":"op op op","1":"op op op"}"#,
+        "core 0\nstart 1 E_OK\nhook Startup\nact A\npre A\nout 1 ActivateTask D\nact C\nin 1 ActivateTask C E_OK\nstat A ActivateTask E_OK\npost A\nend A\npre C\npost C\nend C\ncore 1\nhook Startup\nact B\npre B\nout 0 ActivateTask C\nact D\nin 0 ActivateTask D E_OK\nstat B ActivateTask E_OK\npost B\nend B\npre D\npost D\nend D\nended\n",
+    ),
+    // A task whose second job finds the variables of its first, and neither its position nor its status.
+    (
+        r#"{"cores":[{"id":0,"tasks":[{"name":"A","prio":1,"auto":["M"],"activations":2,"script":"status v1;jz v0 4;set v2 -5;jump 8;ActivateTask A;ActivateTask A;status v1;add v0 9223372036854775807;add v0 2;addv v2 v2;jz v2 12;TerminateTask;jump 0"}]}]}"#,
+        r#"{"0":"op op op op op op op op op op op op op op op op op op op op op"}"#,
+        "core 0\nhook Startup\nact A\npre A\nvar A v1 0\nact A\nstat A ActivateTask E_OK\nstat A ActivateTask E_OS_LIMIT\nhook Error E_OS_LIMIT\nvar A v1 4\nvar A v0 9223372036854775807\nvar A v0 9223372036854775807\nvar A v2 0\nvar A v1 4\nvar A v2 -5\nvar A v0 9223372036854775807\nvar A v2 -10\npost A\nend A\npre A\nvar A v1 0\nvar A v2 -5\nended\n",
+    ),
+];
 
-/// A task that cannot be preempted: Schedule lets a job of greater priority run, and none of equal priority.
-const SCHEDULING: &str =
-    r#"{"cores":[{"id":0,"tasks":[{"name":"N","prio":1,"preemptable":false,"auto":["M"],"script":"ActivateTask E;Schedule;ActivateTask U;Schedule;TerminateTask"},{"name":"E","prio":1,"script":"TerminateTask"},{"name":"U","prio":2,"script":"TerminateTask"}]}]}"#;
+// Runs of a schedule, and their statuses.
+const SCHEDULED: &[(Run, &str, u8)] = &[
+    (
+        (BORDER, r#"{"0":"op op","1":"op op"}"#, BORDER_TRACE),
+        BORDER_SCHEDULE,
+        0,
+    ),
+    (
+        (BORDER, r#"{"0":"op op","1":"op op"}"#, BORDER_TRACE),
+        UNHURRIED_SCHEDULE,
+        0,
+    ),
+    (
+        (MUTUAL, r#"{"0":"op op","1":"op op"}"#, MUTUAL_TRACE),
+        FULL_SCHEDULE,
+        0,
+    ),
+    ((BORDER, "{}", "core 0\ncore 1\nstalled\n"), r#""""#, 3),
+    (
+        (BORDER, "{}", "core 0\nstart 1 E_OK\ncore 1\nstalled\n"),
+        r#""0o""#,
+        3,
+    ),
+    (
+        (alarms::POSTING, r#"{"0":"tick"}"#, alarms::POSTING_TRACE),
+        alarms::POSTING_SCHEDULE,
+        0,
+    ),
+];
 
-const SCHEDULING_TRACE: &str =
-    "core 0\nhook Startup\nact N\npre N\nact E\nstat N ActivateTask E_OK\nstat N Schedule E_OK\nact U\nstat N ActivateTask E_OK\nstat N Schedule E_OK\npost N\npre U\npost U\nend U\npre N\npost N\nend N\npre E\npost E\nend E\nended\n";
-
-/// A job that holds a resource runs at its ceiling, until it gives the resource back.
-const CEILING: &str =
-    r#"{"cores":[{"id":0,"tasks":[{"name":"L","prio":1,"auto":["M"],"script":"GetResource R;ActivateTask H;ReleaseResource R;TerminateTask"},{"name":"H","prio":2,"script":"TerminateTask"}],"resources":[{"name":"R","ceiling":2}]}]}"#;
-
-const CEILING_TRACE: &str =
-    "core 0\nhook Startup\nact L\npre L\nstat L GetResource E_OK\nact H\nstat L ActivateTask E_OK\nstat L ReleaseResource E_OK\npost L\npre H\npost H\nend H\npre L\npost L\nend L\nended\n";
-
-/// A job that holds a resource does not give way.
-const KEEPING: &str =
-    r#"{"cores":[{"id":0,"tasks":[{"name":"N","prio":1,"preemptable":false,"auto":["M"],"script":"GetResource R;ActivateTask U;Schedule;ReleaseResource R;TerminateTask"},{"name":"U","prio":2,"script":"TerminateTask"}],"resources":[{"name":"R","ceiling":1}]}]}"#;
-
-const KEEPING_TRACE: &str =
-    "core 0\nhook Startup\nact N\npre N\nstat N GetResource E_OK\nact U\nstat N ActivateTask E_OK\nstat N Schedule E_OS_RESOURCE\nhook Error E_OS_RESOURCE\nstat N ReleaseResource E_OK\npost N\nend N\npre U\npost U\nend U\nended\n";
-
-/// Refused services of resources; releasing one of two keeps the other's ceiling, and a job's end gives all back.
-const RESOURCES: &str =
-    r#"{"cores":[{"id":0,"tasks":[{"name":"A","prio":1,"auto":["M"],"script":"GetResource ?;GetResource LOW;GetResource R;GetResource R;GetResource S;ReleaseResource R;ActivateTask B;ReleaseResource S;TerminateTask;ReleaseResource LOW"},{"name":"B","prio":2,"script":"GetResource R;ReleaseResource ?;ReleaseResource R;ReleaseResource R;TerminateTask"}],"resources":[{"name":"R","ceiling":3},{"name":"S","ceiling":1},{"name":"LOW","ceiling":0}]}]}"#;
-
-const RESOURCES_TRACE: &str =
-    "core 0\nhook Startup\nact A\npre A\nstat A GetResource E_OS_ID\nhook Error E_OS_ID\nstat A GetResource E_OS_ACCESS\nhook Error E_OS_ACCESS\nstat A GetResource E_OK\nstat A GetResource E_OS_ACCESS\nhook Error E_OS_ACCESS\nstat A GetResource E_OK\nstat A ReleaseResource E_OS_NOFUNC\nhook Error E_OS_NOFUNC\nact B\nstat A ActivateTask E_OK\nstat A ReleaseResource E_OK\nstat A TerminateTask E_OS_RESOURCE\nhook Error E_OS_RESOURCE\nstat A ReleaseResource E_OS_ACCESS\nhook Error E_OS_ACCESS\nhook Error E_OS_MISSINGEND\npost A\nend A\npre B\nstat B GetResource E_OK\nstat B ReleaseResource E_OS_ID\nhook Error E_OS_ID\nstat B ReleaseResource E_OK\nstat B ReleaseResource E_OS_NOFUNC\nhook Error E_OS_NOFUNC\npost B\nend B\nended\n";
-
-/// Two cores, each of whose first task activates the other's second one while it awaits the reply to its own call.
-const CROSSED: &str =
-    r#"{"cores":[{"id":0,"start":[1],"tasks":[{"name":"A","prio":2,"auto":["M"],"script":"ActivateTask D;TerminateTask"},{"name":"C","prio":1,"script":"TerminateTask"}]},{"id":1,"tasks":[{"name":"B","prio":2,"auto":["M"],"script":"ActivateTask C;TerminateTask"},{"name":"D","prio":1,"script":"TerminateTask"}]}]}"#;
-
-const CROSSED_TRACE: &str =
-    "core 0\nstart 1 E_OK\nhook Startup\nact A\npre A\nout 1 ActivateTask D\nact C\nin 1 ActivateTask C E_OK\nstat A ActivateTask E_OK\npost A\nend A\npre C\npost C\nend C\ncore 1\nhook Startup\nact B\npre B\nout 0 ActivateTask C\nact D\nin 0 ActivateTask D E_OK\nstat B ActivateTask E_OK\npost B\nend B\npre D\npost D\nend D\nended\n";
-
-/// A core by itself that adds to a variable.
-const ADDING: &str =
-    r#"{"cores":[{"id":2,"tasks":[{"name":"V","prio":1,"auto":["M"],"script":"add v0 3;TerminateTask"}]}],"master":2}"#;
-
-const ADDING_TRACE: &str = "core 2\nhook Startup\nact V\npre V\nvar V v0 3\npost V\nend V\nended\n";
-
-/// A task whose second job finds the variables of its first, and neither its position nor its status.
-const VARIABLES: &str =
-    r#"{"cores":[{"id":0,"tasks":[{"name":"A","prio":1,"auto":["M"],"activations":2,"script":"status v1;jz v0 4;set v2 -5;jump 8;ActivateTask A;ActivateTask A;status v1;add v0 9223372036854775807;add v0 2;addv v2 v2;jz v2 12;TerminateTask;jump 0"}]}]}"#;
-
-const VARIABLES_TRACE: &str =
-    "core 0\nhook Startup\nact A\npre A\nvar A v1 0\nact A\nstat A ActivateTask E_OK\nstat A ActivateTask E_OS_LIMIT\nhook Error E_OS_LIMIT\nvar A v1 4\nvar A v0 9223372036854775807\nvar A v0 9223372036854775807\nvar A v2 0\nvar A v1 4\nvar A v2 -5\nvar A v0 9223372036854775807\nvar A v2 -10\npost A\nend A\npre A\nvar A v1 0\nvar A v2 -5\nended\n";
-
-/// The texts of an example, and what they come to.
-struct Example {
-    config: &'static str,
-    stimuli: &'static str,
-    schedule: Option<&'static str>,
-    out: &'static str,
-    err: &'static str,
-    status: u8,
-}
-
-const EXAMPLES: [Example; 27] = [
-    Example {
-        config: BORDER,
-        stimuli: r#"{"0":"op op","1":"op op"}"#,
-        schedule: None,
-        out: BORDER_TRACE,
-        err: "",
-        status: 0,
-    },
-    Example {
-        config: BORDER,
-        stimuli: r#"{"0":"op op","1":"op op"}"#,
-        schedule: Some(BORDER_SCHEDULE),
-        out: BORDER_TRACE,
-        err: "",
-        status: 0,
-    },
-    Example {
-        config: BORDER,
-        stimuli: r#"{"0":"op op","1":"op op"}"#,
-        schedule: Some(UNHURRIED_SCHEDULE),
-        out: BORDER_TRACE,
-        err: "",
-        status: 0,
-    },
-    Example {
-        config: MUTUAL,
-        stimuli: r#"{"0":"op op","1":"op op"}"#,
-        schedule: Some(FULL_SCHEDULE),
-        out: MUTUAL_TRACE,
-        err: "",
-        status: 0,
-    },
-    Example {
-        config: MUTUAL,
-        stimuli: r#"{"0":"op op","1":"op op"}"#,
-        schedule: None,
-        out: MUTUAL_TRACE,
-        err: "",
-        status: 0,
-    },
-    Example {
-        config: BORDER,
-        stimuli: "{}",
-        schedule: None,
-        out: "core 0\nstart 1 E_OK\nhook Startup\nact A\npre A\ncore 1\nhook Startup\nended\n",
-        err: "",
-        status: 0,
-    },
-    Example {
-        config: BORDER,
-        stimuli: "{}",
-        schedule: Some(r#""""#),
-        out: "core 0\ncore 1\nstalled\n",
-        err: "",
-        status: 3,
-    },
-    Example {
-        config: BORDER,
-        stimuli: "{}",
-        schedule: Some(r#""0o""#),
-        out: "core 0\nstart 1 E_OK\ncore 1\nstalled\n",
-        err: "",
-        status: 3,
-    },
-    Example {
-        config: LIMIT,
-        stimuli: r#"{"0":"op op op"}"#,
-        schedule: None,
-        out: LIMIT_TRACE,
-        err: "",
-        status: 0,
-    },
-    Example {
-        config: REFUSALS,
-        stimuli: r#"{"0":"op op op op"}"#,
-        schedule: None,
-        out: REFUSALS_TRACE,
-        err: "",
-        status: 0,
-    },
-    Example {
-        config: OLDEST,
-        stimuli: r#"{"0":"op op op op op op op"}"#,
-        schedule: None,
-        out: OLDEST_TRACE,
-        err: "",
-        status: 0,
-    },
-    Example {
-        config: ADDING,
-        stimuli: r#"{"2":"op op"}"#,
-        schedule: None,
-        out: ADDING_TRACE,
-        err: "",
-        status: 0,
-    },
-    Example {
-        config: SCHEDULING,
-        stimuli: r#"{"0":"op op op op op op op"}"#,
-        schedule: None,
-        out: SCHEDULING_TRACE,
-        err: "",
-        status: 0,
-    },
-    Example {
-        config: CEILING,
-        stimuli: r#"{"0":"op op op op op"}"#,
-        schedule: None,
-        out: CEILING_TRACE,
-        err: "",
-        status: 0,
-    },
-    Example {
-        config: KEEPING,
-        stimuli: r#"{"0":"op op op op op op"}"#,
-        schedule: None,
-        out: KEEPING_TRACE,
-        err: "",
-        status: 0,
-    },
-    Example {
-        config: RESOURCES,
-        stimuli: r#"{"0":"op op op op op op op op op op op op op op op op"}"#,
-        schedule: None,
-        out: RESOURCES_TRACE,
-        err: "",
-        status: 0,
-    },
-    Example {
-        config: CROSSED,
-        stimuli: r#"{"0":"op op op","1":"op op op"}"#,
-        schedule: None,
-        out: CROSSED_TRACE,
-        err: "",
-        status: 0,
-    },
-    Example {
-        config: VARIABLES,
-        stimuli: r#"{"0":"op op op op op op op op op op op op op op op op op op op op op"}"#,
-        schedule: None,
-        out: VARIABLES_TRACE,
-        err: "",
-        status: 0,
-    },
-    Example {
-        config: r#"{"cores":["#,
-        stimuli: "{}",
-        schedule: None,
-        out: "",
-        err: "fault 1 NotJson\n",
-        status: 1,
-    },
-    Example {
-        config: r#"{"cores":[{"id":0}],"x":1}"#,
-        stimuli: "{}",
-        schedule: None,
-        out: "",
-        err: "fault 2 Shape\n",
-        status: 1,
-    },
-    Example {
-        config: r#"{"cores":[]}"#,
-        stimuli: "{}",
-        schedule: None,
-        out: "",
-        err: "fault 3 Limit\n",
-        status: 1,
-    },
-    Example {
-        config: r#"{"master":1,"cores":[{"id":0}]}"#,
-        stimuli: "x",
-        schedule: None,
-        out: "",
-        err: "fault 5 UnknownName\n",
-        status: 1,
-    },
-    Example {
-        config: r#"{"cores":[{"id":0,"tasks":[{"name":"A","prio":1,"script":"GetResource R"}]},{"id":1,"resources":[{"name":"R","ceiling":1}]}]}"#,
-        stimuli: "x",
-        schedule: None,
-        out: "",
-        err: "fault 6 WrongCore\n",
-        status: 1,
-    },
-    Example {
-        config: r#"{"cores":[{"id":0,"tasks":[{"name":"A","prio":1,"script":"ClearEvent 4294967296"}]}]}"#,
-        stimuli: "x",
-        schedule: None,
-        out: "",
-        err: "fault 8 BadMask\n",
-        status: 1,
-    },
-    Example {
-        config: BORDER,
-        stimuli: "x",
-        schedule: None,
-        out: "",
-        err: "fault 1 NotJson\n",
-        status: 1,
-    },
-    Example {
-        config: BORDER,
-        stimuli: r#"{"0":"op  op"}"#,
-        schedule: Some("x"),
-        out: "",
-        err: "fault 12 BadStimulus\n",
-        status: 1,
-    },
-    Example {
-        config: BORDER,
-        stimuli: "{}",
-        schedule: Some(r#""0s0""#),
-        out: "",
-        err: "fault 13 BadSchedule\n",
-        status: 1,
-    },
+// A configuration, stimuli, a schedule where there is one, and the fault that is told.
+const FAULTS: &[(&str, &str, Option<&str>, &str)] = &[
+    (r#"{"cores":["#, "{}", None, "fault 1 NotJson\n"),
+    (
+        r#"{"cores":[{"id":0}],"x":1}"#,
+        "{}",
+        None,
+        "fault 2 Shape\n",
+    ),
+    (r#"{"cores":[]}"#, "{}", None, "fault 3 Limit\n"),
+    (
+        r#"{"master":1,"cores":[{"id":0}]}"#,
+        "x",
+        None,
+        "fault 5 UnknownName\n",
+    ),
+    (
+        r#"{"cores":[{"id":0,"tasks":[{"name":"A","prio":1,"script":"GetResource R"}]},{"id":1,"resources":[{"name":"R","ceiling":1}]}]}"#,
+        "x",
+        None,
+        "fault 6 WrongCore\n",
+    ),
+    (
+        r#"{"cores":[{"id":0,"tasks":[{"name":"A","prio":1,"script":"ClearEvent 4294967296"}]}]}"#,
+        "x",
+        None,
+        "fault 8 BadMask\n",
+    ),
+    (BORDER, "x", None, "fault 1 NotJson\n"),
+    (
+        BORDER,
+        r#"{"0":"op  op"}"#,
+        Some("x"),
+        "fault 12 BadStimulus\n",
+    ),
+    (BORDER, "{}", Some(r#""0s0""#), "fault 13 BadSchedule\n"),
 ];
 
 // The files' bytes of texts.
@@ -410,25 +256,49 @@ fn print(alloc: Global, job: &Job, texts: &[Option<&str>]) -> Result<Printed, Al
     })
 }
 
-// Plays each example, and compares.
-fn play(rt: &impl Abort, alloc: Global, examples: &[Example]) -> Result<(), Fail> {
-    for example in examples {
-        let texts = [
-            Some(example.config),
-            Some(example.stimuli),
-            example.schedule,
-        ];
-        let printed = print(alloc, &run_of(example.schedule), texts.as_slice())?;
-        assert_eq!(rt; printed.out.as_slice(), example.out.as_bytes());
-        assert_eq!(rt; printed.err.as_slice(), example.err.as_bytes());
-        assert_eq!(rt; printed.status, example.status);
+// Does the job with these texts. Compares what it prints, what it tells, and its status.
+fn compare(
+    rt: &impl Abort,
+    alloc: Global,
+    job: &Job,
+    texts: &[Option<&str>],
+    (out, err, status): (&str, &str, u8),
+) -> Result<(), Fail> {
+    let printed = print(alloc, job, texts)?;
+    assert_eq!(rt; printed.out.as_slice(), out.as_bytes());
+    assert_eq!(rt; printed.err.as_slice(), err.as_bytes());
+    assert_eq!(rt; printed.status, status);
+    Ok(())
+}
+
+// Plays runs of the default schedule.
+fn play(rt: &impl Abort, alloc: Global, runs: &[Run]) -> Result<(), Fail> {
+    for (config, stimuli, out) in runs {
+        let texts = [Some(*config), Some(*stimuli), None];
+        compare(rt, alloc, &run_of(None), &texts, (out, "", 0))?;
     }
     Ok(())
 }
 
 #[test]
 fn examples_come_to_their_texts_and_statuses(rt: HostRuntime) -> Result<(), Fail> {
-    play(&rt, rt.alloc(), EXAMPLES.as_slice())
+    let alloc = rt.alloc();
+    play(&rt, alloc, RUNS)?;
+    for ((config, stimuli, out), turns, status) in SCHEDULED {
+        let texts = [Some(*config), Some(*stimuli), Some(*turns)];
+        compare(
+            &rt,
+            alloc,
+            &run_of(Some(*turns)),
+            &texts,
+            (out, "", *status),
+        )?;
+    }
+    for (config, stimuli, turns, err) in FAULTS {
+        let texts = [Some(*config), Some(*stimuli), *turns];
+        compare(&rt, alloc, &run_of(*turns), &texts, ("", err, 1))?;
+    }
+    Ok(())
 }
 
 #[test]
@@ -484,10 +354,7 @@ fn cores_are_separate_bound_or_off(rt: HostRuntime) -> Result<(), Fail> {
         ),
     ];
     for (config, out) in examples.as_slice() {
-        let printed = print(rt.alloc(), &check_of(), &[Some(*config)])?;
-        assert_eq!(rt; printed.out.as_slice(), out.as_bytes());
-        assert_eq!(rt; printed.err.as_slice(), b"".as_slice());
-        assert_eq!(rt; printed.status, 0);
+        compare(&rt, rt.alloc(), &check_of(), &[Some(*config)], (out, "", 0))?;
     }
     Ok(())
 }
@@ -501,14 +368,10 @@ fn a_separate_core_is_cut_and_runs_alone(rt: HostRuntime) -> Result<(), Fail> {
         &[Some(BESIDE), Some(r#"{"0":"op op","2":"op"}"#)],
     )?;
     assert!(rt; whole.out.as_slice().ends_with(ALONE_TRACE.as_bytes()));
-    let cut = print(alloc, &cut_of(2), &[Some(BESIDE)])?;
-    assert_eq!(rt; cut.out.as_slice(), ALONE.as_bytes());
-    assert_eq!(rt; cut.status, 0);
-    let alone = print(alloc, &run_of(None), &[Some(ALONE), Some(r#"{"2":"op"}"#)])?;
-    assert_eq!(rt; alone.out.as_slice(), ALONE_TRACE.as_bytes());
-    assert_eq!(rt; alone.status, 0);
-    let again = print(alloc, &cut_of(2), &[Some(ALONE)])?;
-    assert_eq!(rt; again.out.as_slice(), ALONE.as_bytes());
+    compare(&rt, alloc, &cut_of(2), &[Some(BESIDE)], (ALONE, "", 0))?;
+    let texts = [Some(ALONE), Some(r#"{"2":"op"}"#)];
+    compare(&rt, alloc, &run_of(None), &texts, (ALONE_TRACE, "", 0))?;
+    compare(&rt, alloc, &cut_of(2), &[Some(ALONE)], (ALONE, "", 0))?;
     Ok(())
 }
 
@@ -525,20 +388,11 @@ fn faults_of_check_and_cut(rt: HostRuntime) -> Result<(), Fail> {
         (cut_of(0), Some("{}"), "fault 2 Shape\n"),
         (cut_of(0), None, "fault 21 Unreadable\n"),
     ];
-    refuse(&rt, rt.alloc(), examples.as_slice())
-}
-
-// Does each job with this file, and compares the fault that it tells; it prints nothing else.
-fn refuse(
-    rt: &impl Abort,
-    alloc: Global,
-    examples: &[(Job, Option<&str>, &str)],
-) -> Result<(), Fail> {
-    for (job, config, err) in examples {
-        let printed = print(alloc, job, &[*config])?;
-        assert!(rt; printed.out.is_empty());
-        assert_eq!(rt; printed.err.as_slice(), err.as_bytes());
-        assert_eq!(rt; printed.status, 1);
+    for (job, config, err) in examples.as_slice() {
+        compare(&rt, rt.alloc(), job, &[*config], ("", err, 1))?;
+    }
+    for (config, err) in tables::FAULTS {
+        compare(&rt, rt.alloc(), &check_of(), &[Some(*config)], ("", err, 1))?;
     }
     Ok(())
 }

@@ -118,11 +118,9 @@ fn reply() -> Item {
 
 // The items of core 0, up to its end.
 fn items(alloc: Global) -> Result<Vec<Item>, AllocError> {
+    let (core, status) = (CORE_1, Status::EOk);
     let items = [
-        Item::Began {
-            core: CORE_1,
-            status: Status::EOk,
-        },
+        Item::Began { core, status },
         Item::Entered,
         Item::Pass1(Agreement::Mode(MODE)),
         Item::Readied,

@@ -1,6 +1,6 @@
 //! Jobs at the limits of what is accepted: each is done.
 
-use super::{check_of, print, run_of};
+use super::{check_of, compare, run_of};
 use std::alloc::{AllocError, Global};
 use std::process::Abort;
 use std::test::Fail;
@@ -15,12 +15,6 @@ const OPERATIONS: u32 = 256;
 
 /// More rounds than the runs below have.
 const ROUNDS: u32 = 300;
-
-/// The tables of a core.
-const TABLES: u8 = 8;
-
-/// What each of them does on another core at one point, so that a core posts as much at once as it may.
-const POSTED: u32 = 7;
 
 // So many times the same text.
 fn repeated(alloc: Global, text: &str, count: u32) -> Result<String, AllocError> {
@@ -113,16 +107,16 @@ fn served_by(alloc: Global, core: u8) -> Result<String, AllocError> {
     Ok(served)
 }
 
+// What the first core prints where it starts the others.
+const STARTS: &str =
+    "start 1 E_OK\nstart 2 E_OK\nstart 3 E_OK\nstart 4 E_OK\nstart 5 E_OK\nstart 6 E_OK\nstart 7 E_OK\n";
+
 // What each core prints: its first task runs once.
 fn trace(alloc: Global) -> Result<String, AllocError> {
     let mut text = String::new(alloc);
     for core in 0..CORES {
         let name = name_of(alloc, core, 0)?;
-        let starts = if core == 0 {
-            starts(alloc)?
-        } else {
-            String::new(alloc)
-        };
+        let starts = if core == 0 { STARTS } else { "" };
         let block = format!(in alloc;
             "core {core}\n{starts}hook Startup\nact {name}\npre {name}\npost {name}\nend {name}\n"
         )?;
@@ -132,40 +126,31 @@ fn trace(alloc: Global) -> Result<String, AllocError> {
     Ok(text)
 }
 
-fn starts(alloc: Global) -> Result<String, AllocError> {
-    let mut text = String::new(alloc);
-    for core in 1..CORES {
-        text.push_str(format!(in alloc; "start {core} E_OK\n")?.as_str())?;
-    }
-    Ok(text)
-}
-
 #[test]
 fn the_largest_configuration_is_read(rt: HostRuntime) -> Result<(), Fail> {
     let alloc = rt.alloc();
     let config = largest_config(alloc)?;
-    let printed = print(alloc, &check_of(), &[Some(config.as_str())])?;
-    assert_eq!(rt; printed.err.as_slice(), b"".as_slice());
-    assert_eq!(rt;
-        printed.out.as_slice(),
-        b"ok\ncore 0 bound\ncore 1 separate\ncore 2 separate\ncore 3 separate\ncore 4 separate\ncore 5 separate\ncore 6 separate\ncore 7 separate\n".as_slice()
-    );
-    assert_eq!(rt; printed.status, 0);
-    Ok(())
+    let standings =
+        "ok\ncore 0 bound\ncore 1 separate\ncore 2 separate\ncore 3 separate\ncore 4 separate\ncore 5 separate\ncore 6 separate\ncore 7 separate\n";
+    compare(
+        &rt,
+        alloc,
+        &check_of(),
+        &[Some(config.as_str())],
+        (standings, "", 0),
+    )
 }
 
-// Runs these texts by the default schedule and by that of the last one: both print this.
+// Runs a configuration and stimuli by the default schedule and by these turns: both print this.
 fn play_both(
     rt: &impl Abort,
     alloc: Global,
-    texts: &[Option<&str>],
+    [config, stimuli, turns]: &[String; 3],
     trace: &str,
 ) -> Result<(), Fail> {
+    let texts = [config.as_str(), stimuli.as_str(), turns.as_str()].map(Some);
     for schedule in [None, Some("turns.json")] {
-        let printed = print(alloc, &run_of(schedule), texts)?;
-        assert_eq!(rt; printed.err.as_slice(), b"".as_slice());
-        assert_eq!(rt; printed.out.as_slice(), trace.as_bytes());
-        assert_eq!(rt; printed.status, 0);
+        compare(rt, alloc, &run_of(schedule), &texts, (trace, "", 0))?;
     }
     Ok(())
 }
@@ -173,17 +158,15 @@ fn play_both(
 #[test]
 fn runs_of_thousands_of_turns_come_to_their_end(rt: HostRuntime) -> Result<(), Fail> {
     let alloc = rt.alloc();
-    let config = largest_config(alloc)?;
-    let stimuli = stimuli(alloc)?;
-    let turns = turns(alloc)?;
-    let trace = trace(alloc)?;
-    let texts = [
-        Some(config.as_str()),
-        Some(stimuli.as_str()),
-        Some(turns.as_str()),
-    ];
-    play_both(&rt, alloc, texts.as_slice(), trace.as_str())
+    let texts = [largest_config(alloc)?, stimuli(alloc)?, turns(alloc)?];
+    play_both(&rt, alloc, &texts, trace(alloc)?.as_str())
 }
+
+/// The tables of a core.
+const TABLES: u8 = 8;
+
+/// What each of them does on another core at one point, so that a core posts as much at once as it may.
+const POSTED: u32 = 7;
 
 // Two cores; all tables of the first one act on the second at one count, and the last of them does so much more.
 fn posting_config(alloc: Global, more: &str) -> Result<String, AllocError> {
@@ -240,16 +223,9 @@ fn posting_turns(alloc: Global) -> Result<String, AllocError> {
 #[test]
 fn as_much_as_tables_may_post_at_once_finds_a_place(rt: HostRuntime) -> Result<(), Fail> {
     let alloc = rt.alloc();
-    let config = posting_config(alloc, "")?;
-    let stimuli = String::from_str(alloc, r#"{"0":"tick"}"#)?;
-    let turns = posting_turns(alloc)?;
-    let trace = posting_trace(alloc)?;
-    let texts = [
-        Some(config.as_str()),
-        Some(stimuli.as_str()),
-        Some(turns.as_str()),
-    ];
-    play_both(&rt, alloc, texts.as_slice(), trace.as_str())
+    let tick = String::from_str(alloc, r#"{"0":"tick"}"#)?;
+    let texts = [posting_config(alloc, "")?, tick, posting_turns(alloc)?];
+    play_both(&rt, alloc, &texts, posting_trace(alloc)?.as_str())
 }
 
 #[test]
@@ -257,8 +233,11 @@ fn one_envelope_more_at_once_is_refused(rt: HostRuntime) -> Result<(), Fail> {
     let alloc = rt.alloc();
     let config = posting_config(alloc, r#","ActivateTask B""#)?;
     let texts = [Some(config.as_str())];
-    let printed = print(alloc, &check_of(), texts.as_slice())?;
-    assert_eq!(rt; printed.err.as_slice(), b"fault 3 Limit\n".as_slice());
-    assert_eq!(rt; printed.status, 1);
-    Ok(())
+    compare(
+        &rt,
+        alloc,
+        &check_of(),
+        texts.as_slice(),
+        ("", "fault 3 Limit\n", 1),
+    )
 }
