@@ -4,6 +4,7 @@ use Rattle.std.specs.List.{list_all}
 use Rattle.std.specs.Option.{option_map_or}
 use Rattle.std.proofs.lemmas.Bool.{and_parts}
 use Rattle.osbase.specs.declared.statuses.Status.{Status}
+use Rattle.osbase.specs.declared.statuses.Status.TheVariants.{EOk}
 use Rattle.osbase.specs.declared.statuses.ServiceId.{ServiceId}
 use Rattle.osbase.specs.declared.references.CoreId.{CoreId}
 use Rattle.osbase.specs.declared.references.CounterRef.{CounterRef}
@@ -13,6 +14,7 @@ use Rattle.osbase.specs.declared.messages.Message.{Message}
 use Rattle.osbase.specs.declared.marks.Mark.{Mark}
 use Rattle.osbase.specs.declared.histories.Awaited.{Awaited}
 use Rattle.osbase.specs.declared.histories.OpenCall.{OpenCall}
+use Rattle.osbase.specs.Answers.{reply}
 use Rattle.osbase.specs.History.{Entry, History, Took, Printed, Noted, Opened, Queued, same_core}
 use Rattle.osbase.specs.Marks.{core_of_runner, names_only}
 use Rattle.osplan.specs.declared.plans.Core.{Core}
@@ -65,7 +67,8 @@ is_allowed l (Prints m) = names_only l.names m
 is_allowed l (Notes (Opened call)) = may_await l.may call.awaits
 is_allowed l (Notes (Queued core envelope)) = false
 is_allowed l (Notes n) = true
-is_allowed l (Sends core (Message.Reply status value)) = l.answered core
+is_allowed l (Sends core (Message.Reply status)) = l.answered core
+is_allowed l (Sends core (Message.Value n)) = l.answered core
 is_allowed l (Sends core message) = l.may core
 
 -- A note of the core itself, or a mark that names only objects of cores that pass: neither an item nor what goes to
@@ -90,7 +93,7 @@ pub record IsSeen (l : Leave) (s : Seen) : Type 0 where
 pub record KeepsEntries (l : Leave) (R : History → History → Type 0) : Type 0 where
   pub local : (e : Entry) (h k : History) → is_local l.names e ≡ true → R h k → R (e ∷ h) (e ∷ k)
   pub asked : (core : CoreId) (message : Message) (h k : History) → l.may core ≡ true → R h k → R (act (Sends core message) h) (act (Sends core message) k)
-  pub replied : (core : CoreId) (s : Status) (value : Option ℤ) (h k : History) → l.answered core ≡ true → R h k → R (act (Sends core (Message.Reply s value)) h) (act (Sends core (Message.Reply s value)) k)
+  pub replied : (core : CoreId) (s : Status) (value : Option ℤ) (h k : History) → l.answered core ≡ true → R h k → R (act (Sends core (reply s value)) h) (act (Sends core (reply s value)) k)
   pub opened : (call : OpenCall) (h k : History) → may_await l.may call.awaits ≡ true → R h k → R (Noted (Opened call) ∷ h) (Noted (Opened call) ∷ k)
 
 -- A relation of histories that they keep, and where it holds the core reads the same. The second history is that of a core that sees
@@ -119,7 +122,8 @@ module _ (l : Leave) where
     one-kept (Notes (Opened call)) ok h k p = kept.holds.opened call h k ok p
     one-kept (Notes (Queued core envelope)) ok h k p = cc
     one-kept (Notes n) ok h k p = kept.holds.local (Noted n) h k ok p
-    one-kept (Sends core (Message.Reply status value)) ok h k p = kept.holds.replied core status value h k ok p
+    one-kept (Sends core (Message.Reply status)) ok h k p = kept.holds.replied core status None h k ok p
+    one-kept (Sends core (Message.Value n)) ok h k p = kept.holds.replied core EOk (Some n) h k ok p
     one-kept (Sends core message) ok h k p = kept.holds.asked core message h k ok p
 
     either : (b : Bool) (h h' k k' : History) → (b ≡ true → R h k) → (b ≡ false → R h' k') → R (cond b h h') (cond b k k')

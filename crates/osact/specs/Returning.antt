@@ -11,6 +11,7 @@ use Rattle.osbase.specs.declared.messages.Message.{Message}
 use Rattle.osbase.specs.declared.marks.Mark.{Mark}
 use Rattle.osbase.specs.declared.histories.Awaited.TheVariants as Awaited
 use Rattle.osbase.specs.History.{Opened, Done}
+use Rattle.osbase.specs.Answers.{returned}
 use Rattle.osact.specs.Acts.{Acts, nothing, one_then, both, when, Prints, Sends, notes, prints}
 use Rattle.osact.specs.Checks.{Check, first_failing, is_ok_status}
 
@@ -22,7 +23,7 @@ reports status = when (is_ok_status status) nothing (prints (Mark.ErrorHook stat
 -- at its next operation. [OSEK/VDX OS 2.2.3, section 11.2]
 abbrev pub returns : Runner → ServiceId → Status → Option ℤ → Acts
 returns r service status value =
-    both (prints (Mark.ServiceReturned r service status value)) (both (reports status) (notes (Done r status value)))
+    both (prints (returned r service status value)) (both (reports status) (notes (Done r status value)))
 
 -- A service whose checks are these: it has its effect, or returns the status of the first check that fails and has no
 -- other effect. [OSEK/VDX OS 2.2.3, section 11.2]

@@ -1,8 +1,10 @@
 //! How a service returns to its caller.
 
-ghost use Rattle.std.specs.Prelude.{◌≡◌, ◌<◌, None, length};
+ghost use Rattle.std.specs.Prelude.{IsTrue, ◌≡◌, ◌<◌, None, length};
 ghost use Rattle.osbase.specs.declared.statuses.Status.TheVariants.{EOk};
 ghost use Rattle.osbase.specs.declared.turns.TheConstants.{CORES};
+ghost use Rattle.osbase.specs.Answers.{returned};
+ghost use Rattle.osjobs.specs.Jobs.{is_plain};
 ghost use Rattle.osstate.specs.Does.{Effects, HasRoom};
 ghost use Rattle.osact.specs.Terms.{MayAct};
 ghost use Rattle.osact.specs.Acts.{does};
@@ -50,6 +52,25 @@ pub fn report<const P: usize, const J: usize, const OUT: usize>(
     }
 }
 
+// The line of a service that returned.
+fn mark_of(runner: Runner, service: ServiceId, answer: Answer) -> Mark
+    ensures mark { result ≡ returned runner service answer.status answer.value }
+    ensures plain { IsTrue (is_plain result) }
+{
+    match answer.value {
+        Some(value) => Mark::ValueReturned {
+            runner,
+            service,
+            value,
+        },
+        None => Mark::ServiceReturned {
+            runner,
+            service,
+            status: answer.status,
+        },
+    }
+}
+
 /// A service returns to the job of one of the core's tasks: its status is printed, then ErrorHook is
 /// called, and the job stands at its next operation.
 pub fn finish<const P: usize, const J: usize, const OUT: usize>(
@@ -62,13 +83,7 @@ pub fn finish<const P: usize, const J: usize, const OUT: usize>(
     requires { MayAct 3 2 state.old runner marks.old }
     ensures { Effects 3 2 (does (returns runner service answer.status answer.value)) state.old state.new marks.old marks.new }
 {
-    let mark = Mark::ServiceReturned {
-        runner,
-        service,
-        status: answer.status,
-        value: answer.value,
-    };
-    state.print(mark, marks);
+    state.print(mark_of(runner, service, answer), marks);
     report(state, answer.status, marks);
     state.complete(runner, answer.status, answer.value);
 }

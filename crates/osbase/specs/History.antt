@@ -170,7 +170,7 @@ gives_way service status = false
 
 abbrev pub giving_way_after : Entry → Option Runner → Option Runner
 giving_way_after (Took item) r = None
-giving_way_after (Printed (Mark.ServiceReturned q service status value)) r = if gives_way service status then Some q else r
+giving_way_after (Printed (Mark.ServiceReturned q service status)) r = if gives_way service status then Some q else r
 giving_way_after e r = r
 
 abbrev pub giving_way : History → Option Runner

@@ -4,6 +4,7 @@ pub mod Phases
 pub mod Names
 pub mod Objects
 pub mod Marks
+pub mod Answers
 pub mod Runs
 pub mod Sets
 pub mod Words

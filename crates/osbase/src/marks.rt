@@ -73,19 +73,30 @@ pub enum Mark {
         core: CoreId,
         call: RemoteCall,
     },
-    /// `in K op S`: a request or an action was served, with the value of GetAlarm at E_OK.
+    /// `in K op S`: a request or an action was served.
     CallServed {
         core: CoreId,
-        call: RemoteCall,
         status: Status,
-        value: Option<i64>,
+        call: RemoteCall,
     },
-    /// `stat J Op S`: a service returned, with its value at E_OK if it has one.
+    /// `in K GetAlarm A x E_OK n`: a request of GetAlarm was served, and has a value.
+    CallAnswered {
+        core: CoreId,
+        alarm: AlarmRef,
+        variable: Variable,
+        value: i64,
+    },
+    /// `stat J Op S`: a service returned.
     ServiceReturned {
         runner: Runner,
         service: ServiceId,
         status: Status,
-        value: Option<i64>,
+    },
+    /// `stat J Op E_OK n`: a service returned that has a value.
+    ValueReturned {
+        runner: Runner,
+        service: ServiceId,
+        value: i64,
     },
     /// `var J x n`: a variable got a value.
     VariableSet {

@@ -54,8 +54,9 @@ impl RemoteCall {
 pub enum Message {
     Request(RemoteCall),
     Action(RemoteCall),
-    /// `value` is there where GetAlarm answered E_OK.
-    Reply { status: Status, value: Option<i64> },
+    Reply(Status),
+    /// The reply to GetAlarm with E_OK: the value.
+    Value(i64),
 }
 
 /// A message with its number: each ordered pair of cores counts its envelopes 0, 1, 2 and so on.

@@ -9,9 +9,8 @@ use Rattle.osbase.specs.declared.references.CoreId.{CoreId}
 use Rattle.osbase.specs.declared.references.Runner.{Runner}
 use Rattle.osbase.specs.declared.messages.RemoteCall.{RemoteCall}
 use Rattle.osbase.specs.declared.messages.RemoteCall.TheVariants.{ActivateTask, SetEvent, SetRelAlarm, SetAbsAlarm, CancelAlarm, GetAlarm}
-use Rattle.osbase.specs.declared.messages.Message.TheVariants as Message
-use Rattle.osbase.specs.declared.marks.Mark.TheVariants as Mark
 use Rattle.osbase.specs.Objects.{object_of_call}
+use Rattle.osbase.specs.Answers.{reply, served}
 use Rattle.osplan.specs.declared.plans.Core.{Core}
 use Rattle.osplan.specs.Objects.{is_own_object, may_name}
 use Rattle.osplan.specs.View.{View}
@@ -63,11 +62,11 @@ calls r id (Some call) = if_started (core_of_call call) (crosses r id call) (ret
 abbrev pub serves_for : CoreId → RemoteCall → (Answer → Acts) → Acts
 serves_for from call follows = look (λ s.
     let answer = answer_of (service_of call s) in
-    both (effect_of (service_of call s)) (both (prints (Mark.CallServed from call answer.status answer.value)) (follows answer)))
+    both (effect_of (service_of call s)) (both (prints (served from call answer.status answer.value)) (follows answer)))
 
 -- A request is answered by a reply; the error of an action calls ErrorHook here. [own]
 abbrev pub serves_request : CoreId → RemoteCall → Acts
-serves_request from call = serves_for from call (λ answer. one_then (Sends from (Message.Reply answer.status answer.value)) nothing)
+serves_request from call = serves_for from call (λ answer. one_then (Sends from (reply answer.status answer.value)) nothing)
 
 abbrev pub serves_action : CoreId → RemoteCall → Acts
 serves_action from call = serves_for from call (λ answer. reports answer.status)

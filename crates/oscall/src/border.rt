@@ -7,7 +7,8 @@ ghost use Rattle.osact.specs.Terms.{MayBegin, MayPost, MayServe};
 ghost use Rattle.osact.specs.Acts.{both, does, prints};
 ghost use Rattle.osact.specs.Checks.{is_ok_status};
 ghost use Rattle.osact.specs.Service.{answers_with, carries_out};
-ghost use Rattle.osbase.specs.declared.marks.Mark.{Mark as MarkValue};
+ghost use Rattle.osbase.specs.Answers.{reply, served};
+ghost use Rattle.osjobs.specs.Jobs.{is_plain};
 ghost use Rattle.oscall.specs.Border.{calls, core_of_call, crosses, is_known_call, is_served, serves_action, serves_request, service_of};
 
 use osact::{Answer, ask, finish, refuse, report};
@@ -104,18 +105,42 @@ fn serve_for<const P: usize, const J: usize, const OUT: usize>(
     requires served { IsTrue (is_served state.old.view call) }
     requires begins { MayBegin 3 3 state.old marks.old }
     ensures answer { Reads (answers_with (service_of call)) state.old result }
-    ensures effects { Effects 3 3 (does (both (carries_out (service_of call)) (prints (MarkValue.CallServed from call result.status result.value)))) state.old state.new marks.old marks.new }
+    ensures effects { Effects 3 3 (does (both (carries_out (service_of call)) (prints (served from call result.status result.value)))) state.old state.new marks.old marks.new }
     ensures border { state.new.border ≡ state.old.border }
 {
     let answer = serve(state, call, marks);
-    let mark = Mark::CallServed {
-        core: from,
-        call,
-        status: answer.status,
-        value: answer.value,
-    };
-    state.print(mark, marks);
+    state.print(mark_of(from, call, answer), marks);
     answer
+}
+
+// The line of a call that was served.
+fn mark_of(core: CoreId, call: RemoteCall, answer: Answer) -> Mark
+    ensures mark { result ≡ served core call answer.status answer.value }
+    ensures plain { IsTrue (is_plain result) }
+{
+    match (call, answer.value) {
+        (RemoteCall::GetAlarm { alarm, variable }, Some(value)) => Mark::CallAnswered {
+            core,
+            alarm,
+            variable,
+            value,
+        },
+        (_, _) => Mark::CallServed {
+            core,
+            status: answer.status,
+            call,
+        },
+    }
+}
+
+// The reply that says what a service answered.
+fn reply_of(answer: Answer) -> Message
+    ensures { result ≡ reply answer.status answer.value }
+{
+    match answer.value {
+        Some(value) => Message::Value(value),
+        None => Message::Reply(answer.status),
+    }
 }
 
 /// A request of another core is served, and answered by a reply.
@@ -131,13 +156,7 @@ pub fn serve_request<const P: usize, const J: usize, const OUT: usize>(
     ensures { Effects service_entries service_marks (does (serves_request from call)) state.old state.new marks.old marks.new }
 {
     let answer = serve_for(state, from, call, marks);
-    state.queue(
-        from,
-        Message::Reply {
-            status: answer.status,
-            value: answer.value,
-        },
-    );
+    state.queue(from, reply_of(answer));
 }
 
 /// An action of another core is served; it has no reply, and its error calls ErrorHook here.

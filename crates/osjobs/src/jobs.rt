@@ -353,7 +353,6 @@ fn giving_way_by(mark: &Mark, giving_way: Option<Runner>) -> Option<Runner>
         runner,
         service,
         status,
-        value: _,
     } = mark
     {
         if gives_way(*service, *status) {

@@ -1,9 +1,11 @@
 -- What a core does at an item it does to every history that reads the same.
 use native.Mathlib.Omega.{arith}
-use Rattle.std.proofs.Common.{◌≡◌, ◌&&◌, ℕ, Bool, true, false, cond, Option, Some, None, option_and_then, List, [], ◌∷◌, refl, subst, sym, ◌∙◌}
+use Rattle.std.proofs.Common.{◌≡◌, ◌&&◌, ℕ, ℤ, Bool, true, false, cond, Option, Some, None, option_and_then, List, [], ◌∷◌, refl, subst, sym, ◌∙◌}
 use Rattle.std.specs.List.{list_all, slice_get}
 use Rattle.std.specs.Option.{option_map_or}
 use Rattle.std.proofs.lemmas.Bool.{and_from, and_parts, or_right}
+use Rattle.osbase.specs.declared.statuses.Status.{Status}
+use Rattle.osbase.specs.declared.statuses.Status.TheVariants.{EOk}
 use Rattle.osbase.specs.declared.references.CoreId.{CoreId}
 use Rattle.osbase.specs.declared.references.TaskRef.{TaskRef}
 use Rattle.osbase.specs.declared.references.Runner.{Runner}
@@ -24,7 +26,7 @@ use Rattle.ostable.proofs.Asked.{dues-own}
 use Rattle.osstate.specs.Readings.{best_job, running, script_of}
 use Rattle.osstate.specs.State.{state_of}
 use Rattle.osact.specs.Acts.{Acts, does}
-use Rattle.osact.specs.Seen.{seen_of}
+use Rattle.osact.specs.Seen.{Seen, seen_of}
 use Rattle.osact.proofs.Kept.{AreAllowed, IsKept, IsNamed, IsSeen, Leave, anybody, each-ok, found-ok, is_within, kept-by, seen_as}
 use Rattle.ostaskcall.proofs.Allowed.{ends-ok, ends_unasked-ok}
 use Rattle.oscall.specs.Border.{core_of_call}
@@ -32,7 +34,7 @@ use Rattle.oscall.proofs.Allowed.{service-ok}
 use Rattle.osdue.proofs.Allowed.{ActionsAllow, counts-ok}
 use Rattle.oskernel.proofs.Operated.{IsAllowed, operates-ok}
 use Rattle.oskernel.specs.Free.{may_dispatch}
-use Rattle.oskernel.specs.Step.{after, dispatches, effect, enters_from, goes_to, performs, resumes_with}
+use Rattle.oskernel.specs.Step.{after, closes, dispatches, effect, enters_from, goes_to, performs, resumes_with}
 
 -- A request comes from a core that may be answered, and the call that it brings, or an action, is for an object that marks
 -- may name.
@@ -107,6 +109,13 @@ module _ (l : Leave) (allowed : NamesAllow l.view l.may) where
   performs-ok r n None permitted = ends_unasked-ok l r n
   performs-ok r n (Some op) permitted = operates-ok l allowed.actions op r n (permitted op refl)
 
+  closes-ok : (s : Seen) → IsSeen l s → (status : Status) (value : Option ℤ) → Allowed (closes s.awaits status value)
+  closes-ok s seen status value = found-ok l _ s.awaits (λ call is. by call.runner (rw is at seen.awaits) call.awaits)
+    where
+      by : (r : Runner) → IsNamed l r → (awaits : Awaited) → Allowed (resumes_with r awaits status value)
+      by r n (Awaited.Reply id core) = assumption (ends-ok l r n)
+      by r n awaits = assumption
+
   effect-ok : (item : Item) → is_replied l.answered l.names item ≡ true → Allowed (effect item)
   effect-ok (Item.Pass1 agreement) m = (grind arith, tt)
   effect-ok (Item.Pass2 cores) m = λ s seen.
@@ -118,11 +127,8 @@ module _ (l : Leave) (allowed : NamesAllow l.view l.may) where
       let parts = and_parts (l.answered from) (l.names (core_of_call call)) m in
       assumption (parts, service-ok l call parts.1 s)
   effect-ok (Item.Received from number (Message.Action call)) m = λ s seen. assumption (service-ok l call m s)
-  effect-ok (Item.Received from number (Message.Reply status value)) m = λ s seen. found-ok l _ s.awaits (λ call is. by call.runner (rw is at seen.awaits) call.awaits)
-    where
-      by : (r : Runner) → IsNamed l r → (awaits : Awaited) → Allowed (resumes_with r awaits status value)
-      by r n (Awaited.Reply id core) = assumption (ends-ok l r n)
-      by r n awaits = assumption
+  effect-ok (Item.Received from number (Message.Reply status)) m = λ s seen. closes-ok s seen status None
+  effect-ok (Item.Received from number (Message.Value n)) m = λ s seen. closes-ok s seen EOk (Some n)
   effect-ok item m = assumption
 
   -- ---- dispatch, and the whole step

@@ -7,6 +7,7 @@ use Rattle.osbase.specs.declared.messages.Message.{Message}
 use Rattle.osbase.specs.declared.items.Item.{Item}
 use Rattle.osbase.specs.declared.marks.Mark.{Mark}
 use Rattle.osbase.specs.declared.histories.OpenCall.{OpenCall}
+use Rattle.osbase.specs.Answers.{reply}
 use Rattle.osbase.specs.History.{Entry, History, Note, current_task, Took, Printed, Noted, Opened}
 use Rattle.osplan.specs.View.{View}
 use Rattle.osstate.specs.Readings.{knows_started}
@@ -21,7 +22,7 @@ use Rattle.oskernel.proofs.Carried.{NamesActing, NamesAllow, acting-anybody, aft
 pub record Holds (may replies names : CoreId → Bool) (P : History → Type 0) : Type 0 where
   pub local : (e : Entry) (h : History) → is_local names e ≡ true → P h → P (e ∷ h)
   pub asked : (core : CoreId) (message : Message) (h : History) → may core ≡ true → P h → P (act (Sends core message) h)
-  pub replied : (core : CoreId) (s : Status) (value : Option ℤ) (h : History) → replies core ≡ true → P h → P (act (Sends core (Message.Reply s value)) h)
+  pub replied : (core : CoreId) (s : Status) (value : Option ℤ) (h : History) → replies core ≡ true → P h → P (act (Sends core (reply s value)) h)
   pub opened : (call : OpenCall) (h : History) → may_await may call.awaits ≡ true → P h → P (Noted (Opened call) ∷ h)
 
 -- Where nobody is asked or answered, only entries of the core itself follow.
@@ -48,7 +49,7 @@ module _ (l : Leave) (P : History → Type 0) (holds : Holds l.may l.answered l.
     holds = record {
       local = λ e h k m p. both (λ n. e ∷ n) h k p (holds.local e k m);
       asked = λ core message h k m p. both (act (Sends core message)) h k p (holds.asked core message k m);
-      replied = λ core s value h k m p. both (act (Sends core (Message.Reply s value))) h k p (holds.replied core s value k m);
+      replied = λ core s value h k m p. both (act (Sends core (reply s value))) h k p (holds.replied core s value k m);
       opened = λ call h k m p. both (λ n. Noted (Opened call) ∷ n) h k p (holds.opened call k m);
     };
     started = λ core h k m p. ap (λ (n : History). knows_started n core) p.same;

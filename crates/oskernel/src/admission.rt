@@ -221,9 +221,8 @@ fn is_awaited<const P: usize, const J: usize, const OUT: usize>(
     match message {
         Message::Request(call) => both(state.has(call.object()), state.has_place()),
         Message::Action(call) => both(is_action(*call), state.has(call.object())),
-        Message::Reply { status, value } => {
-            is_awaited_reply(state, from, *status, value.is_some())
-        }
+        Message::Reply(status) => is_awaited_reply(state, from, *status, false),
+        Message::Value(_) => is_awaited_reply(state, from, Status::EOk, true),
     }
 }
 

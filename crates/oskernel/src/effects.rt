@@ -178,7 +178,8 @@ fn receive<const P: usize, const J: usize, const OUT: usize>(
     match message {
         Message::Request(call) => oscall::serve_request(state, from, *call, marks),
         Message::Action(call) => oscall::serve_action(state, from, *call, marks),
-        Message::Reply { status, value } => close(state, *status, *value, marks),
+        Message::Reply(status) => close(state, *status, None, marks),
+        Message::Value(value) => close(state, Status::EOk, Some(*value), marks),
     }
 }
 

@@ -24,10 +24,7 @@ impl Model for Letter {
 
 impl Default for Letter {
     fn default() -> Self {
-        let message = Message::Reply {
-            status: Status::EOk,
-            value: None,
-        };
+        let message = Message::Reply(Status::EOk);
         Letter {
             envelope: Envelope { number: 0, message },
         }

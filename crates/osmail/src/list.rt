@@ -107,14 +107,11 @@ fn place(from: CoreId, to: CoreId) -> usize
 #[cfg(test)]
 mod tests {
     use super::*;
-    use osbase::{Message, Status};
+    use osbase::Message;
     use std::test::Fail;
 
     fn envelope(number: u64) -> Envelope {
-        let message = Message::Reply {
-            status: Status::EOsLimit,
-            value: Some(-3),
-        };
+        let message = Message::Value(-3);
         Envelope { number, message }
     }
 

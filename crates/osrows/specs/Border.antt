@@ -60,7 +60,7 @@ queued call = Mark.CallQueued (core 1) call ∷ []
 
 -- what core 1 prints when it served a call
 abbrev pub replied_to : RemoteCall → Status → List Mark
-replied_to call status = Mark.CallServed (core 0) call status None ∷ []
+replied_to call status = Mark.CallServed (core 0) status call ∷ []
 
 -- core 0's block where A calls core 1 once, with success, and then ends
 abbrev pub calls_once : RemoteCall → ServiceId → Block
@@ -191,6 +191,6 @@ asking =
         items = second_gates ++ (Item.Drained ∷ []) ++ served 0 setting ++ served 1 question ++ served 2 cancelling ++ end;
         marks =
             (Mark.StartupHook ∷ []) ++ replied_to setting EOk
-            ++ (Mark.CallServed (core 0) question EOk (Some (pos 5)) ∷ []) ++ replied_to cancelling EOk;
+            ++ (Mark.CallAnswered (core 0) l v (pos 5) ∷ []) ++ replied_to cancelling EOk;
       } ∷ [];
     }

@@ -126,10 +126,10 @@ abbrev pub requested : ℕ → ℕ → RemoteCall → Item
 requested from number call = Item.Received (core from) number (Message.Request call)
 
 abbrev pub replied : ℕ → ℕ → Status → Item
-replied from number status = Item.Received (core from) number (Message.Reply status None)
+replied from number status = Item.Received (core from) number (Message.Reply status)
 
 abbrev pub replied_with : ℕ → ℕ → ℕ → Item
-replied_with from number value = Item.Received (core from) number (Message.Reply EOk (Some (pos value)))
+replied_with from number value = Item.Received (core from) number (Message.Value (pos value))
 
 -- the stimuli as items, and the items after the last stimulus of a core to its end
 abbrev pub taken : List Word → List Item
@@ -146,10 +146,10 @@ begun t = Mark.StartupHook ∷ Mark.Activated t ∷ Mark.PreTaskHook t ∷ []
 
 -- a service of a task returns: with this status, with a value, with a status that is an error, and after it activated another one
 abbrev pub returned : TaskRef → ServiceId → Status → List Mark
-returned t service status = Mark.ServiceReturned (Runner.Task t) service status None ∷ []
+returned t service status = Mark.ServiceReturned (Runner.Task t) service status ∷ []
 
 abbrev pub returned_with : TaskRef → ServiceId → ℕ → List Mark
-returned_with t service value = Mark.ServiceReturned (Runner.Task t) service EOk (Some (pos value)) ∷ []
+returned_with t service value = Mark.ValueReturned (Runner.Task t) service (pos value) ∷ []
 
 abbrev pub failed : TaskRef → ServiceId → Status → List Mark
 failed t service status = returned t service status ++ Mark.ErrorHook status ∷ []

@@ -21,10 +21,7 @@ impl Model for SentSlot {
 
 impl Default for SentSlot {
     fn default() -> Self {
-        let message = Message::Reply {
-            status: Status::EOk,
-            value: None,
-        };
+        let message = Message::Reply(Status::EOk);
         SentSlot {
             sent: Sent {
                 to: CoreId { number: 0 },

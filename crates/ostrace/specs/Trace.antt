@@ -2,14 +2,15 @@
 --
 -- A line is words divided by one space. An object is printed by its name in the configuration; an
 -- object that the configuration lacks has the empty name.
-use Rattle.std.specs.Prelude.{ℕ, ℤ, Option, Some, None, List, [], ◌∷◌, ◌++◌, codes}
+use Rattle.std.specs.Prelude.{ℕ, ℤ, List, [], ◌∷◌, ◌++◌, codes}
 use Rattle.std.specs.Fmt.{decimal, signed_decimal}
 use Rattle.std.specs.List.{flat_map}
 use Rattle.osbase.specs.declared.references.CoreId.{CoreId}
 use Rattle.osbase.specs.declared.references.Variable.{Variable}
 use Rattle.osbase.specs.declared.messages.RemoteCall.{RemoteCall}
+use Rattle.osbase.specs.declared.messages.RemoteCall.TheVariants.{GetAlarm}
 use Rattle.osbase.specs.declared.marks.Mark.{Mark}
-use Rattle.osbase.specs.declared.statuses.Status.{Status}
+use Rattle.osbase.specs.declared.statuses.Status.TheVariants.{EOk}
 use Rattle.osbase.specs.declared.turns.Report.{Report}
 use Rattle.osbase.specs.Words.{status_name, service_name}
 use Rattle.osforms.specs.Call as forms
@@ -24,14 +25,9 @@ variable_name x = codes "v" ++ decimal x.index
 abbrev pub call_words : Plan → RemoteCall → List (List ℕ)
 call_words plan call = forms.call_words (name_of plan) call
 
--- A value that is there is a word.
-abbrev pub value_words : Option ℤ → List (List ℕ)
-value_words None = []
-value_words (Some n) = signed_decimal n ∷ []
-
--- A status, and the value that is there.
-abbrev pub answer_words : Status → Option ℤ → List (List ℕ)
-answer_words status value = status_name status ∷ value_words value
+-- A value comes with E_OK.
+abbrev pub value_words : ℤ → List (List ℕ)
+value_words n = status_name EOk ∷ signed_decimal n ∷ []
 
 -- The words of a mark's line.
 -- [own; hooks and services as OSEK/VDX OS 2.2.3 and AUTOSAR SWS OS 4.x name them]
@@ -60,10 +56,14 @@ words_of plan (Mark.ExpiryPoint s offset) = codes "point" ∷ table_name plan s 
 words_of plan (Mark.TableStopped s) = codes "stop" ∷ table_name plan s ∷ []
 words_of plan (Mark.TableBegun s) = codes "begin" ∷ table_name plan s ∷ []
 words_of plan (Mark.CallQueued core call) = codes "out" ∷ decimal core.number ∷ call_words plan call
-words_of plan (Mark.CallServed core call status value) =
-    codes "in" ∷ decimal core.number ∷ (call_words plan call ++ answer_words status value)
-words_of plan (Mark.ServiceReturned runner service status value) =
-    codes "stat" ∷ runner_name plan runner ∷ service_name service ∷ answer_words status value
+words_of plan (Mark.CallServed core status call) =
+    codes "in" ∷ decimal core.number ∷ (call_words plan call ++ status_name status ∷ [])
+words_of plan (Mark.CallAnswered core alarm variable value) =
+    codes "in" ∷ decimal core.number ∷ (call_words plan (GetAlarm alarm variable) ++ value_words value)
+words_of plan (Mark.ServiceReturned runner service status) =
+    codes "stat" ∷ runner_name plan runner ∷ service_name service ∷ status_name status ∷ []
+words_of plan (Mark.ValueReturned runner service value) =
+    codes "stat" ∷ runner_name plan runner ∷ service_name service ∷ value_words value
 words_of plan (Mark.VariableSet runner variable value) =
     codes "var" ∷ runner_name plan runner ∷ variable_name variable ∷ signed_decimal value ∷ []
 words_of plan (Mark.Halted core status) = codes "halt" ∷ decimal core.number ∷ status_name status ∷ []

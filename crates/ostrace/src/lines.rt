@@ -10,7 +10,7 @@ ghost use Rattle.osforms.specs.Operation.{named};
 ghost use Rattle.ostrace.specs.Pieces.{word_text};
 ghost use Rattle.ostrace.specs.Taken.{Writes};
 ghost use Rattle.osplan.specs.Names.{isr_name, name_of, table_name, task_name};
-ghost use Rattle.ostrace.specs.Trace.{answer_words, call_words, led, line_of, spaced, variable_name};
+ghost use Rattle.ostrace.specs.Trace.{call_words, led, line_of, spaced, value_words, variable_name};
 
 use crate::sinks::{Sink, WriteFailed};
 use crate::words::{Word, write_led, write_words};
@@ -136,16 +136,20 @@ fn write_variable<S: Sink>(
     )
 }
 
-// A status, and the value if there is one, each after a space.
-fn write_answer<S: Sink>(out: &mut S, status: Status, value: Option<i64>) -> Result<(), WriteFailed>
+fn write_status<S: Sink>(out: &mut S, status: Status) -> Result<(), WriteFailed>
     requires { S.failed out.old < 2 ^ 48 }
-    ensures { Writes S.taken S.failed out.old out.new (led (answer_words status value)) result }
+    ensures { Writes S.taken S.failed out.old out.new (led (status_name status ∷ [])) result }
 {
-    let status = Word::Text(status.name());
-    match value {
-        Some(value) => write_led(out, &[status, Word::Signed(value)]),
-        None => write_led(out, &[status]),
-    }
+    write_led(out, &[Word::Text(status.name())])
+}
+
+// A value after E_OK, each after a space.
+fn write_value<S: Sink>(out: &mut S, value: i64) -> Result<(), WriteFailed>
+    requires { S.failed out.old < 2 ^ 48 }
+    ensures { Writes S.taken S.failed out.old out.new (led (value_words value)) result }
+{
+    let status = Word::Text(Status::EOk.name());
+    write_led(out, &[status, Word::Signed(value)])
 }
 
 fn word_of(plan: &Plan, arg: Arg<Place>) -> Word<'_>
@@ -227,15 +231,30 @@ fn write_served<S: Sink>(
     core: CoreId,
     call: RemoteCall,
     status: Status,
-    value: Option<i64>,
 ) -> Result<(), WriteFailed>
     requires { S.failed out.old < 2 ^ 48 }
     ensures { Writes S.taken S.failed out.old out.new
         (spaced (codes "in" ∷ decimal core.number
-        ∷ (call_words plan.now call ++ answer_words status value))) result }
+        ∷ (call_words plan.now call ++ status_name status ∷ []))) result }
 {
     write_remote(plan, out, "in", core, call)?;
-    write_answer(out, status, value)
+    write_status(out, status)
+}
+
+fn write_answered<S: Sink>(
+    plan: &Plan,
+    out: &mut S,
+    core: CoreId,
+    call: RemoteCall,
+    value: i64,
+) -> Result<(), WriteFailed>
+    requires { S.failed out.old < 2 ^ 48 }
+    ensures { Writes S.taken S.failed out.old out.new
+        (spaced (codes "in" ∷ decimal core.number
+        ∷ (call_words plan.now call ++ value_words value))) result }
+{
+    write_remote(plan, out, "in", core, call)?;
+    write_value(out, value)
 }
 
 fn write_returned<S: Sink>(
@@ -243,15 +262,29 @@ fn write_returned<S: Sink>(
     runner: &str,
     service: ServiceId,
     status: Status,
-    value: Option<i64>,
 ) -> Result<(), WriteFailed>
     requires { S.failed out.old < 2 ^ 48 }
     ensures { Writes S.taken S.failed out.old out.new
         (spaced (codes "stat" ∷ runner.now ∷ service_name service
-        ∷ answer_words status value)) result }
+        ∷ status_name status ∷ [])) result }
 {
     write_service(out, runner, service)?;
-    write_answer(out, status, value)
+    write_status(out, status)
+}
+
+fn write_returned_value<S: Sink>(
+    out: &mut S,
+    runner: &str,
+    service: ServiceId,
+    value: i64,
+) -> Result<(), WriteFailed>
+    requires { S.failed out.old < 2 ^ 48 }
+    ensures { Writes S.taken S.failed out.old out.new
+        (spaced (codes "stat" ∷ runner.now ∷ service_name service
+        ∷ value_words value)) result }
+{
+    write_service(out, runner, service)?;
+    write_value(out, value)
 }
 
 /// Writes the line of a mark, without its end.
@@ -284,18 +317,26 @@ pub fn write_line<S: Sink>(plan: &Plan, out: &mut S, mark: &Mark) -> Result<(), 
         Mark::TableStopped(table) => write_name(out, "stop", plan.table_name(table)),
         Mark::TableBegun(table) => write_name(out, "begin", plan.table_name(table)),
         Mark::CallQueued { core, call } => write_remote(plan, out, "out", core, call),
-        Mark::CallServed {
+        Mark::CallServed { core, status, call } => write_served(plan, out, core, call, status),
+        Mark::CallAnswered {
             core,
-            call,
-            status,
+            alarm,
+            variable,
             value,
-        } => write_served(plan, out, core, call, status, value),
+        } => {
+            let call = RemoteCall::GetAlarm { alarm, variable };
+            write_answered(plan, out, core, call, value)
+        }
         Mark::ServiceReturned {
             runner,
             service,
             status,
+        } => write_returned(out, plan.runner_name(runner), service, status),
+        Mark::ValueReturned {
+            runner,
+            service,
             value,
-        } => write_returned(out, plan.runner_name(runner), service, status, value),
+        } => write_returned_value(out, plan.runner_name(runner), service, value),
         Mark::VariableSet {
             runner,
             variable,

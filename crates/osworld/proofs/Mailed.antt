@@ -8,6 +8,7 @@ use Rattle.std.proofs.lemmas.List.Folds.{list_all-append}
 use Rattle.osbase.specs.declared.references.CoreId.{CoreId}
 use Rattle.osbase.specs.declared.messages.Envelope.{Envelope}
 use Rattle.osbase.specs.declared.messages.Message.{Message}
+use Rattle.osbase.specs.declared.statuses.Status.TheVariants.{EOk}
 use Rattle.osbase.specs.declared.items.Item.{Item}
 use Rattle.osbase.specs.declared.histories.OpenCall.{OpenCall}
 use Rattle.osbase.specs.declared.histories.Sent.{Sent}
@@ -34,7 +35,8 @@ abbrev pub is_reply : Envelope → Bool
 is_reply e = by e.message
   where
     by : Message → Bool
-    by (Message.Reply s value) = true
+    by (Message.Reply s) = true
+    by (Message.Value n) = true
     by message = false
 
 -- ---- what another core posts to this one
@@ -143,7 +145,8 @@ module _ (v : View) (allowed : NamesAllow v nobody) where
               ∙ ap (list_all is_reply) (sym (quiet_after (received from) (λ m k. refl) (λ n k. refl) v h (Item.Received from number message))) ∙ late
 
       by : (m : Message) → is_awaited outbox_size (state_of v h) from m ≡ true → is_reply (record { number = number; message = m }) ≡ true → is_mail (Item.Received from number m) ≡ false
-      by (Message.Reply s value) awaits replying = absurd (false≢true (ap (λ (o : Option OpenCall). option_map_or (is_reply_to from s (is_some value)) o false) (sym calm.closed) ∙ awaits))
+      by (Message.Reply s) awaits replying = absurd (false≢true (ap (λ (o : Option OpenCall). option_map_or (is_reply_to from s false) o false) (sym calm.closed) ∙ awaits))
+      by (Message.Value n) awaits replying = absurd (false≢true (ap (λ (o : Option OpenCall). option_map_or (is_reply_to from EOk true) o false) (sym calm.closed) ∙ awaits))
       by m awaits replying = absurd (false≢true replying)
   no-mail h i is calm taken replies = refl
 

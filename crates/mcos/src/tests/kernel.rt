@@ -109,10 +109,7 @@ fn reply() -> Item {
     Item::Received {
         from: CORE_1,
         number: 0,
-        message: Message::Reply {
-            status: Status::EOk,
-            value: None,
-        },
+        message: Message::Reply(Status::EOk),
     }
 }
 
@@ -154,7 +151,6 @@ fn marks(alloc: Global) -> Result<Vec<Mark>, AllocError> {
             runner: Runner::Task(TASK_A),
             service: ServiceId::ActivateTask,
             status: Status::EOk,
-            value: None,
         },
         Mark::PostTaskHook(TASK_A),
         Mark::Terminated(TASK_A),

@@ -1,6 +1,5 @@
 use Rattle.std.proofs.Common.{ap, sym, lit≤}
-use Rattle.osbase.specs.declared.marks.Mark.{Mark}
-use Rattle.osbase.specs.declared.messages.Message.{Message}
+use Rattle.osbase.specs.Answers.{reply, served}
 use Rattle.osstate.proofs.Effecting.{as_effect, then, unprinted}
 use Rattle.osact.specs.declared.returning.Answer.{Answer}
 use Rattle.osact.specs.Acts.{Sends, both, does, nothing, one_then, prints}
@@ -11,6 +10,6 @@ use Rattle.oscall.proofs.border.serve_request.Goals as goal
 pub returns : goal.returns
 returns g c =
     as_effect (λ v h stands.
-    ap (λ (answer : Answer). does (both (prints (Mark.CallServed c.args.from c.args.call answer.status answer.value)) (one_then (Sends c.args.from (Message.Reply answer.status answer.value)) nothing)) v (does (carries_out (service_of c.args.call)) v h))
+    ap (λ (answer : Answer). does (both (prints (served c.args.from c.args.call answer.status answer.value)) (one_then (Sends c.args.from (reply answer.status answer.value)) nothing)) v (does (carries_out (service_of c.args.call)) v h))
     (sym (c.serve_for-answer.ensures.answer v h stands)))
     (lit≤ tt) (lit≤ tt) (then c.serve_for-answer.ensures.effects (unprinted c.queue.ensures.remarks))
