@@ -151,7 +151,12 @@ module _ (l : Leave) where
   reports-ok s = (λ e. tt, λ e. (refl, tt))
 
   pub returns-ok : (r : Runner) (service : ServiceId) (s : Status) (value : Option ℤ) → IsNamed r → AreAllowed (returns r service s value)
-  returns-ok r service s value n = ((n, tt), (reports-ok s, (refl, tt)))
+  returns-ok r service s None n = ((n, tt), (reports-ok s, (refl, tt)))
+  returns-ok r service s (Some x) n = ((n, tt), (reports-ok s, (refl, tt)))
+
+  pub replies-ok : (core : CoreId) (s : Status) (value : Option ℤ) → l.answered core ≡ true → is_allowed l (Sends core (reply s value)) ≡ true
+  replies-ok core s None answered = answered
+  replies-ok core s (Some n) answered = answered
 
   pub answers-ok : (r : Runner) (service : ServiceId) (checks : List Check) (effect : Acts) → IsNamed r → (is_ok_status (first_failing checks) ≡ true → AreAllowed effect) → AreAllowed (answers r service checks effect)
   answers-ok r service checks effect n ok = (ok, λ e. returns-ok r service (first_failing checks) None n)
