@@ -1,19 +1,22 @@
 -- Which acts a service that may cross does: it names only objects of cores that marks may name, and asks only cores that may be
 -- asked. The check makes the cases of a table itself: the first clause is only there to begin them.
-use Rattle.std.proofs.Common.{◌≡◌, true, Option, Some, None, IfSome}
+use Rattle.std.proofs.Common.{◌≡◌, ℤ, true, Option, Some, None, IfSome}
 use Rattle.std.proofs.lemmas.Bool.{and_parts}
+use Rattle.osbase.specs.declared.statuses.Status.{Status}
 use Rattle.osbase.specs.declared.statuses.ServiceId.{ServiceId}
+use Rattle.osbase.specs.declared.references.CoreId.{CoreId}
 use Rattle.osbase.specs.declared.references.Runner.{Runner}
 use Rattle.osbase.specs.declared.messages.RemoteCall.{RemoteCall}
 use Rattle.osbase.specs.declared.objects.Object.{Object}
+use Rattle.osbase.specs.Answers.{served}
 use Rattle.oscript.specs.declared.Op.{Op}
 use Rattle.oscript.specs.Calls.{call_of_op}
-use Rattle.osact.specs.Acts.{Acts, look, when}
+use Rattle.osact.specs.Acts.{Acts, Prints, look, when}
 use Rattle.osact.specs.Returning.{asks}
 use Rattle.osact.specs.Seen.{Seen, is_own}
 use Rattle.osact.specs.Service.{serves}
 use Rattle.osact.proofs.Called.{IsAllowed, called-passes}
-use Rattle.osact.proofs.Kept.{AreAllowed, IsNamed, Leave, elsewhere, is_within}
+use Rattle.osact.proofs.Kept.{AreAllowed, IsNamed, Leave, elsewhere, is_allowed, is_within, serves-ok}
 use Rattle.ostaskcall.proofs.Allowed.{ends-ok}
 use Rattle.oscall.specs.Border.{calls, core_of_call, service_of}
 use Rattle.oscall.specs.Chaining.{chain_acts, chains_here, chains_to}
@@ -23,6 +26,10 @@ module _ (l : Leave) where
   pub service-ok : (call : RemoteCall) → l.names (core_of_call call) ≡ true → (s : Seen) → AreAllowed l (service_of call s).effect
   service-ok (RemoteCall.ActivateTask t) n s = assumption
   service-ok call n s = assumption
+
+  pub served-ok : (from : CoreId) (call : RemoteCall) (status : Status) (value : Option ℤ) → l.names (core_of_call call) ≡ true → is_allowed l (Prints (served from call status value)) ≡ true
+  served-ok from (RemoteCall.GetAlarm alarm variable) status (Some x) n = n
+  served-ok from call status value n = n
 
   -- On an object of the own core this is done, and another core is asked.
   crosses-ok : (r : Runner) (id : ServiceId) (call : RemoteCall) (here : Seen → Acts) → IsNamed l r → is_within l.view l.may (core_of_call call) ≡ true → ((s : Seen) → AreAllowed l (here s)) → AreAllowed l (look (λ s. when (is_own s (core_of_call call)) (here s) (asks r id (core_of_call call) call)))
@@ -34,7 +41,7 @@ module _ (l : Leave) where
   called-ok r op id None n is allowed = assumption
   called-ok r op id (Some call) n is allowed =
       let within = called-passes (λ (o : Object). is_within l.view l.may o.place.core) op id call is allowed in
-      assumption (crosses-ok r id call (λ s. serves r id (service_of call s)) n within (λ s. assumption (service-ok call (l.named (core_of_call call) within) s)))
+      assumption (crosses-ok r id call (λ s. serves r id (service_of call s)) n within (λ s. serves-ok l r id (service_of call s) n (service-ok call (l.named (core_of_call call) within) s)))
 
   pub chain_acts-ok : (r : Runner) (op : Op) → IsNamed l r → IsAllowed l.view l.may op → IfSome (chain_acts r op) (AreAllowed l)
   chain_acts-ok r (Op.ChainTask (Some t)) n allowed =

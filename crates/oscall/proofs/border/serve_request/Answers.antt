@@ -12,4 +12,4 @@ returns g c =
     as_effect (λ v h stands.
     ap (λ (answer : Answer). does (both (prints (served c.args.from c.args.call answer.status answer.value)) (one_then (Sends c.args.from (reply answer.status answer.value)) nothing)) v (does (carries_out (service_of c.args.call)) v h))
     (sym (c.serve_for-answer.ensures.answer v h stands)))
-    (lit≤ tt) (lit≤ tt) (then c.serve_for-answer.ensures.effects (unprinted c.queue.ensures.remarks))
+    (lit≤ tt) (lit≤ tt) (then c.serve_for-answer.ensures.effects (unprinted (rw c.reply_of.ensures at c.queue.ensures.remarks)))
