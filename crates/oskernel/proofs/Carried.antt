@@ -27,10 +27,11 @@ use Rattle.osstate.specs.Readings.{best_job, running, script_of}
 use Rattle.osstate.specs.State.{state_of}
 use Rattle.osact.specs.Acts.{Acts, does}
 use Rattle.osact.specs.Seen.{Seen, seen_of}
-use Rattle.osact.proofs.Kept.{AreAllowed, IsKept, IsNamed, IsSeen, Leave, anybody, each-ok, found-ok, is_within, kept-by, seen_as}
+use Rattle.osact.specs.Service.{answer_of}
+use Rattle.osact.proofs.Kept.{AreAllowed, IsKept, IsNamed, IsSeen, Leave, anybody, each-ok, found-ok, is_within, kept-by, replies-ok, reports-ok, returns-ok, seen_as}
 use Rattle.ostaskcall.proofs.Allowed.{ends-ok, ends_unasked-ok}
-use Rattle.oscall.specs.Border.{core_of_call}
-use Rattle.oscall.proofs.Allowed.{service-ok}
+use Rattle.oscall.specs.Border.{core_of_call, service_of}
+use Rattle.oscall.proofs.Allowed.{served-ok, service-ok}
 use Rattle.osdue.proofs.Allowed.{ActionsAllow, counts-ok}
 use Rattle.oskernel.proofs.Operated.{IsAllowed, operates-ok}
 use Rattle.oskernel.specs.Free.{may_dispatch}
@@ -113,7 +114,7 @@ module _ (l : Leave) (allowed : NamesAllow l.view l.may) where
   closes-ok s seen status value = found-ok l _ s.awaits (λ call is. by call.runner (rw is at seen.awaits) call.awaits)
     where
       by : (r : Runner) → IsNamed l r → (awaits : Awaited) → Allowed (resumes_with r awaits status value)
-      by r n (Awaited.Reply id core) = assumption (ends-ok l r n)
+      by r n (Awaited.Reply id core) = assumption (ends-ok l r n, returns-ok l r id status value n)
       by r n awaits = assumption
 
   effect-ok : (item : Item) → is_replied l.answered l.names item ≡ true → Allowed (effect item)
@@ -125,8 +126,11 @@ module _ (l : Leave) (allowed : NamesAllow l.view l.may) where
   effect-ok (Item.Stim Stimulus.Tick) m = (assumption, λ s seen. each-ok l _ (λ p. assumption (counts-ok l allowed.actions (counter_ref s.core p.0))) _)
   effect-ok (Item.Received from number (Message.Request call)) m = λ s seen.
       let parts = and_parts (l.answered from) (l.names (core_of_call call)) m in
-      assumption (parts, service-ok l call parts.1 s)
-  effect-ok (Item.Received from number (Message.Action call)) m = λ s seen. assumption (service-ok l call m s)
+      let answer = answer_of (service_of call s) in
+      assumption (service-ok l call parts.1 s, served-ok l from call answer.status answer.value parts.1, replies-ok l from answer.status answer.value parts.0)
+  effect-ok (Item.Received from number (Message.Action call)) m = λ s seen.
+      let answer = answer_of (service_of call s) in
+      assumption (service-ok l call m s, served-ok l from call answer.status answer.value m, reports-ok l answer.status)
   effect-ok (Item.Received from number (Message.Reply status)) m = λ s seen. closes-ok s seen status None
   effect-ok (Item.Received from number (Message.Value n)) m = λ s seen. closes-ok s seen EOk (Some n)
   effect-ok item m = assumption
