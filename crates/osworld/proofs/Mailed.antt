@@ -1,6 +1,6 @@
 -- Of the cores' items alone, each by its own view: a core that no script of another core names receives only replies
 -- from the others, and one that asks for nothing receives none of these and posts nothing.
-use Rattle.std.proofs.Common.{◌≡◌, nat_eq, Bool, true, false, not, ◌&&◌, ◌||◌, cond, Option, Some, is_some, List, [], ◌∷◌, ◌++◌, drop, refl, sym, ap, subst, ◌∙◌, slice_index}
+use Rattle.std.proofs.Common.{◌≡◌, ℕ, ℤ, nat_eq, Bool, true, false, not, ◌&&◌, ◌||◌, cond, Option, Some, None, List, [], ◌∷◌, ◌++◌, drop, refl, sym, ap, subst, ◌∙◌, slice_index}
 use Rattle.std.specs.List.{list_all}
 use Rattle.std.specs.Option.{option_map_or}
 use Rattle.std.proofs.lemmas.Bool.{and_parts, and_from, false≢true, not-true, not_from_false, or_left, or_right}
@@ -8,10 +8,12 @@ use Rattle.std.proofs.lemmas.List.Folds.{list_all-append}
 use Rattle.osbase.specs.declared.references.CoreId.{CoreId}
 use Rattle.osbase.specs.declared.messages.Envelope.{Envelope}
 use Rattle.osbase.specs.declared.messages.Message.{Message}
+use Rattle.osbase.specs.declared.statuses.Status.{Status}
 use Rattle.osbase.specs.declared.statuses.Status.TheVariants.{EOk}
 use Rattle.osbase.specs.declared.items.Item.{Item}
 use Rattle.osbase.specs.declared.histories.OpenCall.{OpenCall}
 use Rattle.osbase.specs.declared.histories.Sent.{Sent}
+use Rattle.osbase.specs.Answers.{reply}
 use Rattle.osbase.specs.History.{Entry, History, Took, Noted, Opened, Queued, front_envelope, outbox, posted, received, same_core}
 use Rattle.osbase.specs.Phases.{is_scheduling}
 use Rattle.osbase.proofs.Same.{same_core-true, same_core-refl}
@@ -38,6 +40,10 @@ is_reply e = by e.message
     by (Message.Reply s) = true
     by (Message.Value n) = true
     by message = false
+
+replies-pass : (s : Status) (value : Option ℤ) (number : ℕ) → is_reply (record { number = number; message = reply s value }) ≡ true
+replies-pass s None number = refl
+replies-pass s (Some n) number = refl
 
 -- ---- what another core posts to this one
 
@@ -66,7 +72,7 @@ meek-holds : (c : CoreId) → Holds (all_but c) anybody anybody (Meek c)
 meek-holds c = record {
   local = meek-local c;
   asked = λ core message h m p. list_all-append (is_meek c) (outbox h) _ ∙ and_from _ _ p (and_from _ _ (or_left (not (same_core core c)) _ m) refl);
-  replied = λ core s value h m p. list_all-append (is_meek c) (outbox h) _ ∙ and_from _ _ p (and_from _ _ (or_right (not (same_core core c)) _ refl) refl);
+  replied = λ core s value h m p. list_all-append (is_meek c) (outbox h) _ ∙ and_from _ _ p (and_from _ _ (or_right (not (same_core core c)) _ (replies-pass s value _)) refl);
   opened = λ call h m p. p;
 }
 
