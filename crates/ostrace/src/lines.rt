@@ -257,11 +257,7 @@ fn write_variable<S: Sink>(
 }
 
 // A value after E_OK, each after a space.
-fn write_value<S: Sink>(
-    out: &mut S,
-    gathered: &mut Gathered,
-    value: i64,
-) -> Result<(), WriteFailed>
+fn write_value<S: Sink>(out: &mut S, gathered: &mut Gathered, value: i64) -> Result<(), WriteFailed>
     requires { S.failed out.old < 2 ^ 48 }
     ensures { Gathers S.taken S.failed out.old out.new gathered.old gathered.new
         (led (value_words value)) result }
@@ -484,7 +480,9 @@ pub fn write_line<S: Sink>(
         (line_of names.now mark.now) result }
 {
     match *mark {
-        Mark::StartCoreReturned { core, status } => write_core(out, gathered, "start", core, status),
+        Mark::StartCoreReturned { core, status } => write_core(
+            out, gathered, "start", core, status,
+        ),
         Mark::ModesConflict => gathered.put_text(out, "conflict"),
         Mark::StartupHook => write_name(out, gathered, "hook", "Startup"),
         Mark::ErrorHook(status) => write_hook(out, gathered, "Error", status),
@@ -508,7 +506,9 @@ pub fn write_line<S: Sink>(
         Mark::TableStopped(table) => write_name(out, gathered, "stop", names.table_name(table)),
         Mark::TableBegun(table) => write_name(out, gathered, "begin", names.table_name(table)),
         Mark::CallQueued { core, call } => write_remote(out, gathered, names, "out", core, call),
-        Mark::CallServed { core, status, call } => write_served(out, gathered, names, core, call, status),
+        Mark::CallServed { core, status, call } => write_served(
+            out, gathered, names, core, call, status,
+        ),
         Mark::CallAnswered {
             core,
             alarm,
