@@ -1,6 +1,6 @@
 //! Text that is gathered before it is sent.
 
-ghost use Rattle.std.specs.Prelude.{◌≡◌, ◌+◌, ◌^◌, ◌<◌, ◌≤◌, ◌++◌, [], length, true};
+ghost use Rattle.std.specs.Prelude.{◌≡◌, ◌+◌, ◌^◌, ◌<◌, ◌≤◌, ◌++◌, [], length, nat_le};
 ghost use Rattle.ostrace.specs.Taken.{Writes};
 ghost use Rattle.ostrace.specs.Gathers.{Gathers};
 
@@ -19,12 +19,13 @@ pub struct Gathered {
 
 impl Model for Gathered {
     ghost use Rattle.std.specs.Prelude.{List, ℕ, ◌≤◌, take};
+    ghost use Rattle.ostrace.specs.declared.gathered.TheConstants.{ROOM};
 
     ghost Value = { List ℕ };
 
     ghost view = { λ g. take g.len g.bytes };
 
-    ghost invariant = { λ g. g.len ≤ 16384 };
+    ghost invariant = { λ g. g.len ≤ ROOM };
 }
 
 impl Gathered {
@@ -38,16 +39,17 @@ impl Gathered {
         }
     }
 
+    // Whether so many bytes more are within the room.
     #[inline]
     fn has_room(&self, count: usize) -> bool
-        ensures { result ≡ true → length self.now + count ≤ 16384 }
+        ensures { result ≡ nat_le (length self.now + count) ROOM }
     {
         count <= ROOM - self.len
     }
 
     #[inline]
     fn add(&mut self, bytes: &[u8])
-        requires { length self.old + length bytes.now ≤ 16384 }
+        requires { length self.old + length bytes.now ≤ ROOM }
         ensures { self.new ≡ self.old ++ bytes.now }
     {
         let end = self.len + bytes.len();
