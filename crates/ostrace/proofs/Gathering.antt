@@ -1,12 +1,12 @@
 -- How what several calls gathered comes to what one text is.
-use Rattle.std.proofs.Common.{◌≡◌, ◌+◌, ◌<◌, ℕ, List, [], ◌∷◌, ◌++◌, Option, Result, Ok, Err, take, drop, refl, sym, ap, ◌∙◌, append_assoc, append-nil, subst, take-append-drop, arith, codes}
+use Rattle.std.proofs.Common.{◌≡◌, ◌+◌, ℕ, List, [], ◌∷◌, ◌++◌, Option, Result, Ok, Err, take, drop, refl, sym, ap, ◌∙◌, append_assoc, append-nil, subst, take-append-drop, arith, codes}
 use Rattle.std.proofs.lemmas.Grind.{flat_map-append}
 use Rattle.std.specs.List.{flat_map}
 use Rattle.std.specs.Result.{IsErr}
 use Rattle.ostrace.specs.Gathers.{Gathers, Sends}
 use Rattle.ostrace.specs.Taken.{Writes}
 use Rattle.ostrace.specs.Trace.{led, spaced}
-use Rattle.ostrace.proofs.Writing.{Appends-nothing, Appends-then, Writes-begun, Writes-ok, Writes-then, Wrote, Wrote-all}
+use Rattle.ostrace.proofs.Writing.{Appends-nothing, Appends-then, Writes-then, Wrote}
 
 -- a text was gathered, and no write failed
 pub record GathersAll {S : Type 0} (taken : S → Option (List ℕ)) (failed : S → ℕ) (old new : S) (before after text : List ℕ) : Type 0 where

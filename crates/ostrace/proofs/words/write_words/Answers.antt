@@ -1,4 +1,4 @@
-use Rattle.std.proofs.Common.{◌++◌, refl}
+use Rattle.std.proofs.Common.{refl}
 use Rattle.ostrace.specs.Pieces.{led_text}
 use Rattle.ostrace.specs.Trace.{line_end}
 use Rattle.ostrace.proofs.Gathering.{Gathers-begun, Gathers-then}
