@@ -40,14 +40,14 @@ impl Gathered {
     }
 
     // Whether so many bytes more are within the room.
-    #[inline]
+    #[inline(always)]
     fn has_room(&self, count: usize) -> bool
         ensures { result ≡ nat_le (length self.now + count) ROOM }
     {
         count <= ROOM - self.len
     }
 
-    #[inline]
+    #[inline(always)]
     fn add(&mut self, bytes: &[u8])
         requires { length self.old + length bytes.now ≤ ROOM }
         ensures { self.new ≡ self.old ++ bytes.now }
@@ -58,7 +58,7 @@ impl Gathered {
     }
 
     /// Gathers these bytes, and sends what is gathered before where there is no room for them.
-    #[inline]
+    #[inline(always)]
     pub fn put<S: Sink>(&mut self, out: &mut S, bytes: &[u8]) -> Result<(), WriteFailed>
         requires { S.failed out.old < 2 ^ 48 }
         ensures { Gathers S.taken S.failed out.old out.new self.old self.new bytes.now result }
@@ -71,7 +71,7 @@ impl Gathered {
     }
 
     /// Gathers a text, as `put` does its bytes.
-    #[inline]
+    #[inline(always)]
     pub fn put_text<S: Sink>(&mut self, out: &mut S, text: &str) -> Result<(), WriteFailed>
         requires { S.failed out.old < 2 ^ 48 }
         ensures { Gathers S.taken S.failed out.old out.new self.old self.new text.now result }

@@ -33,7 +33,7 @@ fn write_led_core<S: Sink>(
     write_led_whole(out, gathered, u32::from(core.number))
 }
 
-#[inline]
+#[inline(always)]
 fn write_led_status<S: Sink>(
     out: &mut S,
     gathered: &mut Gathered,
@@ -46,7 +46,7 @@ fn write_led_status<S: Sink>(
     write_led_text(out, gathered, status.name())
 }
 
-#[inline]
+#[inline(always)]
 fn write_led_service<S: Sink>(
     out: &mut S,
     gathered: &mut Gathered,
@@ -71,7 +71,7 @@ fn write_led_verb<S: Sink>(
     write_led_text(out, gathered, row_of(verb).word)
 }
 
-#[inline]
+#[inline(always)]
 fn write_name<S: Sink>(
     out: &mut S,
     gathered: &mut Gathered,
@@ -102,7 +102,7 @@ fn write_number<S: Sink>(
     write_led_whole(out, gathered, number)
 }
 
-#[inline]
+#[inline(always)]
 fn write_hook<S: Sink>(
     out: &mut S,
     gathered: &mut Gathered,
@@ -148,7 +148,7 @@ fn write_core<S: Sink>(
     write_led_status(out, gathered, status)
 }
 
-#[inline]
+#[inline(always)]
 fn write_task<S: Sink>(
     out: &mut S,
     gathered: &mut Gathered,
@@ -163,7 +163,7 @@ fn write_task<S: Sink>(
     write_name(out, gathered, verb, names.task_name(task))
 }
 
-#[inline]
+#[inline(always)]
 fn write_runner<S: Sink>(
     out: &mut S,
     gathered: &mut Gathered,
@@ -416,7 +416,7 @@ fn write_answered<S: Sink>(
     write_value(out, gathered, value)
 }
 
-#[inline]
+#[inline(always)]
 fn write_service<S: Sink>(
     out: &mut S,
     gathered: &mut Gathered,
@@ -432,7 +432,7 @@ fn write_service<S: Sink>(
     write_led_service(out, gathered, service)
 }
 
-#[inline]
+#[inline(always)]
 fn write_returned<S: Sink>(
     out: &mut S,
     gathered: &mut Gathered,

@@ -44,7 +44,7 @@ impl<'a> BlockNames<'a> {
         }
     }
 
-    #[inline]
+    #[inline(always)]
     fn core(&self, id: CoreId) -> Option<&Core>
         ensures { option_copied result ≡ core_of self.now id }
     {
@@ -55,7 +55,7 @@ impl<'a> BlockNames<'a> {
         }
     }
 
-    #[inline]
+    #[inline(always)]
     pub fn task_name(&self, task: TaskRef) -> &str
         ensures { result.now ≡ task_name self.now task }
     {
@@ -114,7 +114,7 @@ impl<'a> BlockNames<'a> {
     }
 }
 
-#[inline]
+#[inline(always)]
 fn task_in(core: &Core, index: u8) -> &str
     ensures { result.now ≡ name_in ObjectKind.Task core.now index }
 {

@@ -25,7 +25,7 @@ pub enum Word<'a> {
 }
 
 /// Writes a text after a space.
-#[inline]
+#[inline(always)]
 pub fn write_led_text<S: Sink>(
     out: &mut S,
     gathered: &mut Gathered,
