@@ -1,13 +1,10 @@
 -- How what several writes did comes to what one text is.
-use Rattle.std.proofs.Common.{◌≡◌, ◌≢◌, ◌+◌, ◌-◌, ◌<◌, ◌≤◌, ℕ, List, [], ◌∷◌, ◌++◌, Option, None, Some, Result, Ok, Err, length, take, drop, refl, sym, ap, ◌∙◌, append_assoc, append-nil, take-append-drop, arith, codes}
+use Rattle.std.proofs.Common.{◌≡◌, ◌≢◌, ◌+◌, ◌-◌, ◌<◌, ◌≤◌, ℕ, List, [], ◌++◌, Option, None, Some, Result, Ok, Err, length, take, drop, refl, sym, ap, ◌∙◌, append_assoc, append-nil, arith}
 use Rattle.std.proofs.Math.Seq.{take-add}
 use Rattle.std.proofs.lemmas.List.{take_rest, length-drop}
 use Rattle.std.proofs.lemmas.Bool.{ne_eqb}
-use Rattle.std.proofs.lemmas.Grind.{flat_map-append}
 use Rattle.std.specs.Io.KnownBytes.{Appends}
-use Rattle.std.specs.List.{flat_map}
 use Rattle.std.specs.Result.{IsErr}
-use Rattle.ostrace.specs.Trace.{led, spaced}
 use Rattle.ostrace.specs.Taken.{Writes, count_after}
 
 -- nothing was written
@@ -89,43 +86,6 @@ module _ {S : Type 0} (taken : S → Option (List ℕ)) (failed : S → ℕ) whe
   -- the first part of a text failed
   pub Writes-begun : {E : Type 0} (old new : S) (part rest : List ℕ) (e : E) (result : Result Unit E) → IsErr result → Writes taken failed old new part (Err e) → Writes taken failed old new (part ++ rest) result
   Writes-begun old new part rest e result is_err broken = Writes-broken old old new (part ++ rest) [] part rest e result is_err refl (Wrote-nothing old) broken
-
-  module _ {X : Type 0} (f : X → List ℕ) where
-    -- one more part of a list of parts
-    pub Wrote-next : (old mid new : S) (xs : List X) (i : ℕ) (x : X) → take (i + 1) xs ≡ take i xs ++ x ∷ [] → Wrote taken failed old mid (flat_map f (take i xs)) → Wrote taken failed mid new (f x) → Wrote taken failed old new (flat_map f (take (i + 1) xs))
-    Wrote-next old mid new xs i x more before part =
-        let whole : flat_map f (take i xs) ++ f x ≡ flat_map f (take (i + 1) xs) =
-        ap (λ l. flat_map f (take i xs) ++ l) (sym (append-nil (f x))) ∙ sym (flat_map-append f (take i xs) (x ∷ [])) ∙ ap (flat_map f) (sym more) in
-        rw (← whole) (Wrote-then old mid new (flat_map f (take i xs)) (f x) before part)
-
-    -- a part of a list of parts failed
-    pub Writes-broken_at : {E : Type 0} (old mid new : S) (xs : List X) (i : ℕ) (x : X) (e : E) (result : Result Unit E) → IsErr result → take (i + 1) xs ≡ take i xs ++ x ∷ [] → Wrote taken failed old mid (flat_map f (take i xs)) → Writes taken failed mid new (f x) (Err e) → Writes taken failed old new (flat_map f xs) result
-    Writes-broken_at old mid new xs i x e result is_err more before broken =
-        let parts : flat_map f (take i xs) ++ (f x ++ flat_map f (drop (i + 1) xs)) ≡ flat_map f xs =
-        sym (flat_map-append f (take i xs) (x ∷ drop (i + 1) xs))
-        ∙ ap (flat_map f) (sym (append_assoc (take i xs) (x ∷ []) (drop (i + 1) xs)))
-        ∙ ap (λ l. flat_map f (l ++ drop (i + 1) xs)) (sym more)
-        ∙ ap (flat_map f) (take-append-drop (i + 1) xs) in
-        Writes-broken old mid new (flat_map f xs) (flat_map f (take i xs)) (f x) (flat_map f (drop (i + 1) xs)) e result is_err parts before broken
-
--- ---- words
-
--- words after words
-pub spaced-append : (word : List ℕ) (us vs : List (List ℕ)) → spaced (word ∷ us) ++ led vs ≡ spaced (word ∷ (us ++ vs))
-spaced-append word us vs =
-    append_assoc word (led us) (led vs) ∙ ap (λ l. word ++ l) (sym (flat_map-append (λ w. codes " " ++ w) us vs))
-
-module _ {S : Type 0} (taken : S → Option (List ℕ)) (failed : S → ℕ) (word : List ℕ) (us vs : List (List ℕ)) where
-  -- the first words of a line, and its other words
-  pub Writes-spaced : {E : Type 0} (old mid new : S) (done : Unit {0}) (result : Result Unit E) → Writes {E = E} taken failed old mid (spaced (word ∷ us)) (Ok done) → Writes taken failed mid new (led vs) result → Writes taken failed old new (spaced (word ∷ (us ++ vs))) result
-  Writes-spaced old mid new done result first last =
-      rw (← spaced-append word us vs)
-      (Writes-then taken failed old mid new (spaced (word ∷ us)) (led vs) result (Wrote-all taken failed old mid (spaced (word ∷ us)) done first) last)
-
-  -- the first words of a line failed
-  pub Writes-spaced_begun : {E : Type 0} (old new : S) (e : E) (result : Result Unit E) → IsErr result → Writes taken failed old new (spaced (word ∷ us)) (Err e) → Writes taken failed old new (spaced (word ∷ (us ++ vs))) result
-  Writes-spaced_begun old new e result is_err broken =
-      rw (← spaced-append word us vs) (Writes-begun taken failed old new (spaced (word ∷ us)) (led vs) e result is_err broken)
 
 -- ---- the loop over the bytes of one text
 

@@ -1,3 +1,4 @@
 pub mod Trace
 pub mod Taken
 pub mod Pieces
+pub mod Gathers

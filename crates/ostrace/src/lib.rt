@@ -1,7 +1,9 @@
 //! The text of a trace, and where it is written to.
 #![tactic(auto)]
 
+mod gathered;
 mod lines;
+mod names;
 pub mod reports;
 pub mod sinks;
 mod words;

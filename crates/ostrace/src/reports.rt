@@ -1,50 +1,91 @@
 //! The text of reports: a block for each core, in it a line for each mark.
 
 ghost use Rattle.std.specs.Prelude.{◌≡◌, ◌+◌, ◌^◌, ◌<◌, ◌++◌, ◌∷◌, [], IsTrue, OnOk, OnErr, codes};
-ghost use Rattle.std.specs.Fmt.{decimal};
 ghost use Rattle.std.specs.Io.KnownBytes.{Appends};
-ghost use Rattle.std.specs.List.{flat_map};
+ghost use Rattle.ostrace.specs.Gathers.{Gathers};
 ghost use Rattle.ostrace.specs.Taken.{failures, TakesBeginning, Writes};
 ghost use Rattle.ostrace.specs.Trace.{block_of, line_end, line_of, lines_of, text_of, title_of};
 
-use crate::lines::write_line;
-use crate::sinks::{Sink, WriteFailed, write_all};
-use crate::words::{Word, write_ended_words};
+use crate::gathered::Gathered;
+use crate::lines::{write_line, write_verb_and_core};
+use crate::names::BlockNames;
+use crate::sinks::{Sink, WriteFailed};
 use osbase::{CoreId, Mark, Report};
 use osplan::{Config, Plan};
 
-fn write_ended_title<S: Sink>(out: &mut S, core: CoreId) -> Result<(), WriteFailed>
+fn write_ended_title<S: Sink>(
+    out: &mut S,
+    gathered: &mut Gathered,
+    core: CoreId,
+) -> Result<(), WriteFailed>
     requires { S.failed out.old < 2 ^ 48 }
-    ensures { Writes S.taken S.failed out.old out.new (title_of core ++ line_end) result }
+    ensures { Gathers S.taken S.failed out.old out.new gathered.old gathered.new
+        (title_of core ++ line_end) result }
 {
-    write_ended_words(out, "core", &[Word::Whole(u32::from(core.number))])
+    write_verb_and_core(out, gathered, "core", core)?;
+    gathered.put_text(out, "\n")
 }
 
-fn write_ended_line<S: Sink>(plan: &Plan, out: &mut S, mark: &Mark) -> Result<(), WriteFailed>
+#[inline]
+fn write_ended_line<S: Sink>(
+    out: &mut S,
+    gathered: &mut Gathered,
+    names: &BlockNames,
+    mark: &Mark,
+) -> Result<(), WriteFailed>
     requires { S.failed out.old < 2 ^ 48 }
-    ensures { Writes S.taken S.failed out.old out.new
-        (line_of plan.now mark.now ++ line_end) result }
+    ensures { Gathers S.taken S.failed out.old out.new gathered.old gathered.new
+        (line_of names.now mark.now ++ line_end) result }
 {
-    write_line(plan, out, mark)?;
-    write_all(out, b"\n")
+    write_line(out, gathered, names, mark)?;
+    gathered.put_text(out, "\n")
 }
 
-fn write_lines<S: Sink>(plan: &Plan, out: &mut S, marks: &[Mark]) -> Result<(), WriteFailed>
+fn write_lines<S: Sink>(
+    out: &mut S,
+    gathered: &mut Gathered,
+    names: &BlockNames,
+    marks: &[Mark],
+) -> Result<(), WriteFailed>
     requires { S.failed out.old < 2 ^ 48 }
-    ensures { Writes S.taken S.failed out.old out.new (lines_of plan.now marks.now) result }
+    ensures { Gathers S.taken S.failed out.old out.new gathered.old gathered.new
+        (lines_of names.now marks.now) result }
 {
     for mark in marks {
-        write_ended_line(plan, out, mark)?;
+        write_ended_line(out, gathered, names, mark)?;
     }
     Ok(())
 }
 
-fn write_block<S: Sink>(plan: &Plan, out: &mut S, report: &Report) -> Result<(), WriteFailed>
+fn write_block<S: Sink>(
+    out: &mut S,
+    gathered: &mut Gathered,
+    plan: &Plan,
+    report: &Report,
+) -> Result<(), WriteFailed>
     requires { S.failed out.old < 2 ^ 48 }
-    ensures { Writes S.taken S.failed out.old out.new (block_of plan.now report.now) result }
+    ensures { Gathers S.taken S.failed out.old out.new gathered.old gathered.new
+        (block_of plan.now report.now) result }
 {
-    write_ended_title(out, report.core)?;
-    write_lines(plan, out, report.marks.as_slice())
+    write_ended_title(out, gathered, report.core)?;
+    let names = BlockNames::new(plan, report.core);
+    write_lines(out, gathered, &names, report.marks.as_slice())
+}
+
+fn gather_blocks<S: Sink>(
+    out: &mut S,
+    gathered: &mut Gathered,
+    plan: &Plan,
+    reports: &[Report],
+) -> Result<(), WriteFailed>
+    requires { S.failed out.old < 2 ^ 48 }
+    ensures { Gathers S.taken S.failed out.old out.new gathered.old gathered.new
+        (text_of plan.now reports.now) result }
+{
+    for report in reports {
+        write_block(out, gathered, plan, report)?;
+    }
+    Ok(())
 }
 
 /// Writes the blocks of the reports in their order, whether the plan is within the limits or not.
@@ -56,10 +97,9 @@ pub(crate) fn write_blocks<S: Sink>(
     requires { S.failed out.old < 2 ^ 48 }
     ensures { Writes S.taken S.failed out.old out.new (text_of plan.now reports.now) result }
 {
-    for report in reports {
-        write_block(plan, out, report)?;
-    }
-    Ok(())
+    let mut gathered = Gathered::new();
+    gather_blocks(out, &mut gathered, plan, reports)?;
+    gathered.send(out)
 }
 
 /// Writes the blocks of the reports in their order, and stops at the first write that fails: then

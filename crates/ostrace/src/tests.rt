@@ -1,19 +1,27 @@
 mod fixture;
 mod table;
 
+use crate::gathered::Gathered;
 use crate::lines::write_line;
+use crate::names::BlockNames;
 use crate::reports::{write_blocks, write_reports};
 use crate::sinks::{MemorySink, WriteFailed, WriteSink};
-use fixture::{FailingSink, bare_config, bare_reports, plan, reports};
-use osbase::Mark;
+use fixture::{
+    FailingSink, ZERO, bare_config, bare_reports, long_reports, plan, plan_with, repeated, reports,
+};
+use osbase::{Mark, Report};
+use osplan::Plan;
 use std::alloc::Global;
 use std::process::Abort;
 use std::test::Fail;
 
-// The line that is written for a mark, from memory in which nothing stands.
+// The line that is written for a mark in the block of core 0.
 fn line(alloc: Global, mark: &Mark) -> Result<Vec<u8>, Fail> {
+    let plan = plan(alloc)?;
     let mut out = MemorySink::new(Vec::new(alloc));
-    write_line(&plan(alloc)?, &mut out, mark)?;
+    let mut gathered = Gathered::new();
+    write_line(&mut out, &mut gathered, &BlockNames::new(&plan, ZERO), mark)?;
+    gathered.send(&mut out)?;
     Ok(out.bytes)
 }
 
@@ -60,30 +68,55 @@ fn a_configuration_has_its_reports_written_to_a_stream(rt: HostRuntime) -> Resul
     Ok(())
 }
 
+// Writes to a sink that fails after so many writes of three bytes: it has a beginning of the text, and says so.
+fn written(
+    rt: &impl Abort,
+    alloc: Global,
+    given: &(Plan, Vec<Report>),
+    text: &[u8],
+    writes: u64,
+) -> Result<usize, Fail> {
+    let mut out = FailingSink::new(alloc, writes);
+    let result = write_blocks(&given.0, &mut out, given.1.as_slice());
+    let bytes = out.bytes.as_slice();
+    assert!(rt; text.starts_with(bytes), "after {writes} writes");
+    let whole = bytes.len() == text.len();
+    let (wanted, failed) = if whole {
+        (Ok(()), 0)
+    } else {
+        (Err(WriteFailed), 1)
+    };
+    assert_eq!(rt; result, wanted, "after {writes} writes");
+    assert_eq!(rt; out.failed, failed, "after {writes} writes");
+    Ok(bytes.len())
+}
+
 #[test]
 fn a_write_that_fails_leaves_a_beginning(rt: HostRuntime) -> Result<(), Fail> {
-    let (plan, reports) = (plan(rt.alloc())?, reports(rt.alloc())?);
+    let given = (plan(rt.alloc())?, reports(rt.alloc())?);
     let text = TEXT.as_bytes();
-    let mut written = 0;
-    for writes in 0..200 {
-        let mut out = FailingSink::new(rt.alloc(), writes);
-        let result = write_blocks(&plan, &mut out, reports.as_slice());
-        let bytes = out.bytes.as_slice();
-        assert!(rt; text.starts_with(bytes), "after {writes} writes");
-        assert!(rt; bytes.len() >= written, "after {writes} writes");
-        written = bytes.len();
-        let whole = written == text.len();
-        assert_eq!(rt;
-            result,
-            if whole { Ok(()) } else { Err(WriteFailed) },
-            "after {writes} writes"
-        );
-        assert_eq!(rt;
-            out.failed,
-            if whole { 0 } else { 1 },
-            "after {writes} writes"
-        );
+    for writes in 0..40 {
+        let count = written(&rt, rt.alloc(), &given, text, writes)?;
+        assert_eq!(rt; count as u64, (writes * 3).min(text.len() as u64));
     }
-    assert_eq!(rt; written, text.len());
+    Ok(())
+}
+
+#[test]
+fn a_long_text_is_written_in_parts(rt: HostRuntime) -> Result<(), Fail> {
+    let name = repeated(rt.alloc(), "abcdefghij", 2000)?;
+    let given = (
+        plan_with(rt.alloc(), name.as_str())?,
+        long_reports(rt.alloc(), 5000)?,
+    );
+    let ticks = repeated(rt.alloc(), "tick\n", 5000)?;
+    let text = format!(in rt.alloc(); "core 0\n{ticks}act {name}\nend {name}\n")?;
+    let mut before = 0;
+    for writes in [0, 1, 5460, 5461, 5462, 9000, 15000, 20000, 30000] {
+        let count = written(&rt, rt.alloc(), &given, text.as_str().as_bytes(), writes)?;
+        assert!(rt; count >= before, "after {writes} writes");
+        before = count;
+    }
+    assert_eq!(rt; before, text.len());
     Ok(())
 }

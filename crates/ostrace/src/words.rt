@@ -1,12 +1,14 @@
 //! The words of a line, and how they are written.
 
-ghost use Rattle.std.specs.Prelude.{◌≡◌, ◌^◌, ◌<◌, ◌++◌, codes};
+ghost use Rattle.std.specs.Prelude.{◌≡◌, ◌^◌, ◌<◌, ◌++◌, ◌∷◌, [], codes};
 ghost use Rattle.std.specs.Fmt.{decimal, signed_decimal};
 ghost use Rattle.ostrace.specs.Taken.{Writes};
+ghost use Rattle.ostrace.specs.Gathers.{Gathers};
 ghost use Rattle.ostrace.specs.Pieces.{led_text, word_text};
-ghost use Rattle.ostrace.specs.Trace.{line_end};
+ghost use Rattle.ostrace.specs.Trace.{led, line_end};
 
-use crate::sinks::{Sink, WriteFailed, write_all};
+use crate::gathered::Gathered;
+use crate::sinks::{Sink, WriteFailed};
 use itoa::Buffer;
 
 /// A word of a line.
@@ -22,74 +24,138 @@ pub enum Word<'a> {
     Variable(u8),
 }
 
-fn write_whole<S: Sink>(out: &mut S, number: u32) -> Result<(), WriteFailed>
+/// Writes a text after a space.
+#[inline(always)]
+pub fn write_led_text<S: Sink>(
+    out: &mut S,
+    gathered: &mut Gathered,
+    text: &str,
+) -> Result<(), WriteFailed>
     requires { S.failed out.old < 2 ^ 48 }
-    ensures { Writes S.taken S.failed out.old out.new (decimal number) result }
+    ensures { Gathers S.taken S.failed out.old out.new gathered.old gathered.new
+        (led (text.now ∷ [])) result }
 {
-    write_all(out, Buffer::new().format(number).as_bytes())
+    gathered.put_text(out, " ")?;
+    gathered.put_text(out, text)
 }
 
-fn write_signed<S: Sink>(out: &mut S, number: i64) -> Result<(), WriteFailed>
-    requires { S.failed out.old < 2 ^ 48 }
-    ensures { Writes S.taken S.failed out.old out.new (signed_decimal number) result }
+#[inline]
+fn write_led_digit<S: Sink>(
+    out: &mut S,
+    gathered: &mut Gathered,
+    digit: u8,
+) -> Result<(), WriteFailed>
+    requires sink { S.failed out.old < 2 ^ 48 }
+    requires digit { digit < 10 }
+    ensures { Gathers S.taken S.failed out.old out.new gathered.old gathered.new
+        (led (decimal digit ∷ [])) result }
 {
-    write_all(out, Buffer::new().format(number).as_bytes())
+    gathered.put(out, &[b' ', b'0' + digit])
 }
 
-fn write_variable<S: Sink>(out: &mut S, number: u8) -> Result<(), WriteFailed>
+/// Writes a number after a space.
+#[inline]
+pub fn write_led_whole<S: Sink>(
+    out: &mut S,
+    gathered: &mut Gathered,
+    number: u32,
+) -> Result<(), WriteFailed>
     requires { S.failed out.old < 2 ^ 48 }
-    ensures { Writes S.taken S.failed out.old out.new (codes "v" ++ decimal number) result }
+    ensures { Gathers S.taken S.failed out.old out.new gathered.old gathered.new
+        (led (decimal number ∷ [])) result }
 {
-    write_all(out, b"v")?;
-    write_whole(out, u32::from(number))
+    if number < 10 {
+        return write_led_digit(out, gathered, number as u8);
+    }
+    write_led_text(out, gathered, Buffer::new().format(number))
 }
 
-fn write_text<S: Sink>(out: &mut S, text: &str) -> Result<(), WriteFailed>
+/// Writes a number with its sign after a space.
+pub fn write_led_signed<S: Sink>(
+    out: &mut S,
+    gathered: &mut Gathered,
+    number: i64,
+) -> Result<(), WriteFailed>
     requires { S.failed out.old < 2 ^ 48 }
-    ensures { Writes S.taken S.failed out.old out.new text.now result }
+    ensures { Gathers S.taken S.failed out.old out.new gathered.old gathered.new
+        (led (signed_decimal number ∷ [])) result }
 {
-    write_all(out, text.as_bytes())
+    write_led_text(out, gathered, Buffer::new().format(number))
 }
 
-/// Writes a word.
-fn write_word<S: Sink>(out: &mut S, word: Word) -> Result<(), WriteFailed>
+fn write_decimal<S: Sink>(
+    out: &mut S,
+    gathered: &mut Gathered,
+    number: u8,
+) -> Result<(), WriteFailed>
     requires { S.failed out.old < 2 ^ 48 }
-    ensures { Writes S.taken S.failed out.old out.new (word_text word.entry) result }
+    ensures { Gathers S.taken S.failed out.old out.new gathered.old gathered.new
+        (decimal number) result }
+{
+    gathered.put_text(out, Buffer::new().format(number))
+}
+
+/// Writes a variable after a space.
+pub fn write_led_variable<S: Sink>(
+    out: &mut S,
+    gathered: &mut Gathered,
+    number: u8,
+) -> Result<(), WriteFailed>
+    requires { S.failed out.old < 2 ^ 48 }
+    ensures { Gathers S.taken S.failed out.old out.new gathered.old gathered.new
+        (led ((codes "v" ++ decimal number) ∷ [])) result }
+{
+    gathered.put_text(out, " v")?;
+    write_decimal(out, gathered, number)
+}
+
+/// Writes a word after a space.
+pub fn write_led_word<S: Sink>(
+    out: &mut S,
+    gathered: &mut Gathered,
+    word: Word,
+) -> Result<(), WriteFailed>
+    requires { S.failed out.old < 2 ^ 48 }
+    ensures { Gathers S.taken S.failed out.old out.new gathered.old gathered.new
+        (led (word_text word.entry ∷ [])) result }
 {
     match word {
-        Word::Text(text) => write_text(out, text),
-        Word::Whole(number) => write_whole(out, number),
-        Word::Signed(number) => write_signed(out, number),
-        Word::Variable(number) => write_variable(out, number),
+        Word::Text(text) => write_led_text(out, gathered, text),
+        Word::Whole(number) => write_led_whole(out, gathered, number),
+        Word::Signed(number) => write_led_signed(out, gathered, number),
+        Word::Variable(number) => write_led_variable(out, gathered, number),
     }
 }
 
-fn write_led_word<S: Sink>(out: &mut S, word: Word) -> Result<(), WriteFailed>
+// Words, each after a space.
+fn write_led<S: Sink>(
+    out: &mut S,
+    gathered: &mut Gathered,
+    words: &[Word],
+) -> Result<(), WriteFailed>
     requires { S.failed out.old < 2 ^ 48 }
-    ensures { Writes S.taken S.failed out.old out.new (codes " " ++ word_text word.entry) result }
-{
-    write_all(out, b" ")?;
-    write_word(out, word)
-}
-
-/// Writes words, each after a space.
-pub fn write_led<S: Sink>(out: &mut S, words: &[Word]) -> Result<(), WriteFailed>
-    requires { S.failed out.old < 2 ^ 48 }
-    ensures { Writes S.taken S.failed out.old out.new (led_text words.now) result }
+    ensures { Gathers S.taken S.failed out.old out.new gathered.old gathered.new
+        (led_text words.now) result }
 {
     for word in words {
-        write_led_word(out, *word)?;
+        write_led_word(out, gathered, *word)?;
     }
     Ok(())
 }
 
-/// Writes a first word, and other words after it.
-pub fn write_words<S: Sink>(out: &mut S, first: &str, others: &[Word]) -> Result<(), WriteFailed>
+fn write_words<S: Sink>(
+    out: &mut S,
+    gathered: &mut Gathered,
+    first: &str,
+    others: &[Word],
+) -> Result<(), WriteFailed>
     requires { S.failed out.old < 2 ^ 48 }
-    ensures { Writes S.taken S.failed out.old out.new (first.now ++ led_text others.now) result }
+    ensures { Gathers S.taken S.failed out.old out.new gathered.old gathered.new
+        ((first.now ++ led_text others.now) ++ line_end) result }
 {
-    write_text(out, first)?;
-    write_led(out, others)
+    gathered.put_text(out, first)?;
+    write_led(out, gathered, others)?;
+    gathered.put_text(out, "\n")
 }
 
 /// Writes a line: a first word, other words each after a space, and its end.
@@ -101,6 +167,7 @@ pub fn write_ended_words<S: Sink>(
     requires { S.failed out.old < 2 ^ 48 }
     ensures { Writes S.taken S.failed out.old out.new ((first.now ++ led_text others.now) ++ line_end) result }
 {
-    write_words(out, first, others)?;
-    write_all(out, b"\n")
+    let mut gathered = Gathered::new();
+    write_words(out, &mut gathered, first, others)?;
+    gathered.send(out)
 }

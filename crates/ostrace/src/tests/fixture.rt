@@ -20,10 +20,15 @@ pub fn first<R: Reference>(core: CoreId) -> R {
 
 /// Core 0 has the task A, the ISR I1, the alarm L and the table S1; core 1 has the task Blink.
 pub fn plan(alloc: Global) -> Result<Plan, AllocError> {
+    plan_with(alloc, "A")
+}
+
+/// The same, where the task of core 0 has this name.
+pub fn plan_with(alloc: Global, name: &str) -> Result<Plan, AllocError> {
     let mut modes = List::new(alloc);
     modes.push(Name::new(alloc, "M")?)?;
     let mut cores = List::new(alloc);
-    cores.push(full_core(alloc)?)?;
+    cores.push(full_core(alloc, name)?)?;
     let mut other = bare_core(alloc, ONE);
     other.tasks.push(task(alloc, "Blink")?)?;
     cores.push(other)?;
@@ -64,9 +69,9 @@ fn bare_core(alloc: Global, id: CoreId) -> Core
     }
 }
 
-fn full_core(alloc: Global) -> Result<Core, AllocError> {
+fn full_core(alloc: Global, name: &str) -> Result<Core, AllocError> {
     let mut core = bare_core(alloc, ZERO);
-    core.tasks.push(task(alloc, "A")?)?;
+    core.tasks.push(task(alloc, name)?)?;
     core.isrs.push(Isr {
         name: Name::new(alloc, "I1")?,
         level: 1,
@@ -108,9 +113,8 @@ pub fn reports(alloc: Global) -> Result<Vec<Report>, AllocError> {
     let posted = Mark::CallQueued { core: ONE, call };
     let served = Mark::CallServed {
         core: ZERO,
-        call,
         status: Status::EOk,
-        value: None,
+        call,
     };
     let first = vec![in alloc; Mark::StartupHook, Mark::Activated(task), posted]?;
     let second = vec![in alloc; Mark::Activated(blink), served]?;
@@ -118,6 +122,26 @@ pub fn reports(alloc: Global) -> Result<Vec<Report>, AllocError> {
     reports.push(report(alloc, ZERO, List::from_vec(first)))?;
     reports.push(report(alloc, ONE, List::from_vec(second)))?;
     Ok(reports)
+}
+
+/// So many ticks of core 0, and then that its task is activated and ends.
+pub fn long_reports(alloc: Global, ticks: u32) -> Result<Vec<Report>, AllocError> {
+    let mut marks = List::new(alloc);
+    for _tick in 0..ticks {
+        marks.push(Mark::Tick)?;
+    }
+    marks.push(Mark::Activated(first(ZERO)))?;
+    marks.push(Mark::Terminated(first(ZERO)))?;
+    Ok(vec![in alloc; report(alloc, ZERO, marks)]?)
+}
+
+/// A text, so many times.
+pub fn repeated(alloc: Global, text: &str, times: u32) -> Result<String, AllocError> {
+    let mut all = String::new(alloc);
+    for _time in 0..times {
+        all.push_str(text)?;
+    }
+    Ok(all)
 }
 
 /// A configuration within the limits, of one core that has no object.

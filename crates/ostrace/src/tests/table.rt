@@ -88,12 +88,11 @@ fn posted(call: RemoteCall) -> Mark {
     Mark::CallQueued { core: ONE, call }
 }
 
-fn served(call: RemoteCall, status: Status, value: Option<i64>) -> Mark {
+fn served(call: RemoteCall, status: Status) -> Mark {
     Mark::CallServed {
         core: ZERO,
-        call,
         status,
-        value,
+        call,
     }
 }
 
@@ -111,9 +110,13 @@ pub fn calls() -> [(Mark, &'static str); 8] {
         start: 7,
         cycle: 9,
     };
-    let get = RemoteCall::GetAlarm {
+    let variable = Variable { index: 7 };
+    let get = RemoteCall::GetAlarm { alarm, variable };
+    let answered = Mark::CallAnswered {
+        core: ZERO,
         alarm,
-        variable: Variable { index: 7 },
+        variable,
+        value: 12,
     };
     let activate = RemoteCall::ActivateTask(task);
     [
@@ -127,23 +130,11 @@ pub fn calls() -> [(Mark, &'static str); 8] {
         ),
         (posted(get), "out 1 GetAlarm L v7"),
         (
-            served(activate, Status::EOsLimit, None),
+            served(activate, Status::EOsLimit),
             "in 0 ActivateTask Blink E_OS_LIMIT",
         ),
-        (
-            served(get, Status::EOk, Some(12)),
-            "in 0 GetAlarm L v7 E_OK 12",
-        ),
+        (answered, "in 0 GetAlarm L v7 E_OK 12"),
     ]
-}
-
-fn returned(runner: Runner, service: ServiceId, status: Status, value: Option<i64>) -> Mark {
-    Mark::ServiceReturned {
-        runner,
-        service,
-        status,
-        value,
-    }
 }
 
 fn variable(runner: Runner, value: i64) -> Mark {
@@ -157,8 +148,16 @@ fn variable(runner: Runner, value: i64) -> Mark {
 /// Lines of what a job's services and operations came to.
 pub fn services() -> [(Mark, &'static str); 5] {
     let (task, isr) = (Runner::Task(first(ZERO)), Runner::Isr(ISR));
-    let activated = returned(isr, ServiceId::ActivateTask, Status::EOk, None);
-    let value = returned(task, ServiceId::GetCounterValue, Status::EOk, Some(2));
+    let activated = Mark::ServiceReturned {
+        runner: isr,
+        service: ServiceId::ActivateTask,
+        status: Status::EOk,
+    };
+    let value = Mark::ValueReturned {
+        runner: task,
+        service: ServiceId::GetCounterValue,
+        value: 2,
+    };
     [
         (activated, "stat I1 ActivateTask E_OK"),
         (value, "stat A GetCounterValue E_OK 2"),

@@ -1,14 +1,10 @@
-use Rattle.std.proofs.Common.{◌∙◌, ◌++◌, ◌∷◌, [], ap, sym, take}
-use Rattle.std.proofs.lemmas.List.{take_more}
-use Rattle.ostrace.specs.Trace.{block_of}
-use Rattle.ostrace.proofs.Writing.{Writes-broken_at}
+use Rattle.ostrace.proofs.Gathering.{Writes-gathered, Writes-not_gathered}
 use Rattle.ostrace.proofs.reports.write_blocks.Goals as goal
 
-pub returns-in_err-write_block : goal.returns-in_err-write_block
-returns-in_err-write_block g c =
-    let reports = c.args.reports.now in
-    let index = c.loop-report.report-index in
-    let report = c.report-item.result in
-    Writes-broken_at _ _ (block_of c.args.plan.now) _ c.loop-report.out _ reports index report _ _ c.from_residual.ensures.0
-    (take_more reports index report c.loop-report-test.true ∙ ap (λ item. take index reports ++ item ∷ []) (sym c.report-item.is))
-    c.loop-report.invariant c.in_err-write_block.ensures
+pub returns-in_err-gather_blocks : goal.returns-in_err-gather_blocks
+returns-in_err-gather_blocks g c =
+    Writes-not_gathered _ _ _ _ _ _ _ _ c.from_residual.ensures.0 (rw c.new-gathered.ensures at c.in_err-gather_blocks.ensures)
+
+pub returns : goal.returns
+returns g c =
+    Writes-gathered _ _ _ _ _ _ _ _ _ (rw c.new-gathered.ensures at c.in_ok-gather_blocks.ensures) c.send.ensures.written

@@ -1,11 +1,11 @@
 use Rattle.ostrace.specs.Trace.{line_end}
-use Rattle.ostrace.proofs.Writing.{Writes-begun, Writes-then, Wrote-all}
+use Rattle.ostrace.proofs.Gathering.{Gathers-begun, Gathers-then}
 use Rattle.ostrace.proofs.reports.write_ended_line.Goals as goal
 
 pub returns-in_err-write_line : goal.returns-in_err-write_line
 returns-in_err-write_line g c =
-    Writes-begun _ _ _ _ _ line_end _ _ c.from_residual.ensures.0 c.in_err-write_line.ensures
+    Gathers-begun _ _ _ _ _ _ _ (line_end) _ _ c.from_residual.ensures.0 c.in_err-write_line.ensures
 
 pub returns : goal.returns
 returns g c =
-    Writes-then _ _ _ _ _ _ _ _ (Wrote-all _ _ _ _ _ _ c.in_ok-write_line.ensures) c.write_all.ensures
+    Gathers-then _ _ _ _ _ _ _ _ _ _ _ _ c.in_ok-write_line.ensures c.put_text.ensures

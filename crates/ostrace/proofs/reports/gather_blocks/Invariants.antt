@@ -1,0 +1,7 @@
+use Rattle.std.proofs.Common.{take}
+use Rattle.ostrace.specs.Trace.{text_of}
+use Rattle.ostrace.proofs.Gathering.{GathersAll}
+use Rattle.ostrace.proofs.reports.gather_blocks.Given as goal
+
+abbrev pub invariant-loop-report : goal.invariant-loop-report
+invariant-loop-report g l = GathersAll g.S.Sink.taken g.S.Sink.failed l.initial.out l.out l.initial.gathered l.gathered (text_of l.plan (take l.report-index l.reports))

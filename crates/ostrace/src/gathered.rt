@@ -1,0 +1,107 @@
+//! Text that is gathered before it is sent.
+
+ghost use Rattle.std.specs.Prelude.{◌≡◌, ◌+◌, ◌^◌, ◌<◌, ◌≤◌, ◌++◌, [], length, nat_le};
+ghost use Rattle.ostrace.specs.Taken.{Writes};
+ghost use Rattle.ostrace.specs.Gathers.{Gathers};
+
+use crate::sinks::{Sink, WriteFailed, write_all};
+use std::marker::Model;
+
+/// How many bytes are gathered at most: more than a stream's own buffer holds, which then copies none of them.
+const ROOM: usize = 16384;
+
+/// The bytes that are not sent yet, so that a sink gets a text in few writes.
+#[derive(Drop)]
+pub struct Gathered {
+    bytes: [u8; ROOM],
+    len: usize,
+}
+
+impl Model for Gathered {
+    ghost use Rattle.std.specs.Prelude.{List, ℕ, ◌≤◌, take};
+    ghost use Rattle.ostrace.specs.declared.gathered.TheConstants.{ROOM};
+
+    ghost Value = { List ℕ };
+
+    ghost view = { λ g. take g.len g.bytes };
+
+    ghost invariant = { λ g. g.len ≤ ROOM };
+}
+
+impl Gathered {
+    /// No byte yet.
+    pub fn new() -> Self
+        ensures { result ≡ [] }
+    {
+        Gathered {
+            bytes: [0; ROOM],
+            len: 0,
+        }
+    }
+
+    // Whether so many bytes more are within the room.
+    #[inline(always)]
+    fn has_room(&self, count: usize) -> bool
+        ensures { result ≡ nat_le (length self.now + count) ROOM }
+    {
+        count <= ROOM - self.len
+    }
+
+    #[inline(always)]
+    fn add(&mut self, bytes: &[u8])
+        requires { length self.old + length bytes.now ≤ ROOM }
+        ensures { self.new ≡ self.old ++ bytes.now }
+    {
+        let end = self.len + bytes.len();
+        self.bytes[self.len..end].copy_from_slice(bytes);
+        self.len = end;
+    }
+
+    /// Gathers these bytes, and sends what is gathered before where there is no room for them.
+    #[inline(always)]
+    pub fn put<S: Sink>(&mut self, out: &mut S, bytes: &[u8]) -> Result<(), WriteFailed>
+        requires { S.failed out.old < 2 ^ 48 }
+        ensures { Gathers S.taken S.failed out.old out.new self.old self.new bytes.now result }
+    {
+        if self.has_room(bytes.len()) {
+            self.add(bytes);
+            return Ok(());
+        }
+        self.put_after_sending(out, bytes)
+    }
+
+    /// Gathers a text, as `put` does its bytes.
+    #[inline(always)]
+    pub fn put_text<S: Sink>(&mut self, out: &mut S, text: &str) -> Result<(), WriteFailed>
+        requires { S.failed out.old < 2 ^ 48 }
+        ensures { Gathers S.taken S.failed out.old out.new self.old self.new text.now result }
+    {
+        self.put(out, text.as_bytes())
+    }
+
+    // Bytes for which there is never room go straight to the sink.
+    #[cold]
+    #[inline(never)]
+    fn put_after_sending<S: Sink>(&mut self, out: &mut S, bytes: &[u8]) -> Result<(), WriteFailed>
+        requires { S.failed out.old < 2 ^ 48 }
+        ensures { Gathers S.taken S.failed out.old out.new self.old self.new bytes.now result }
+    {
+        self.send(out)?;
+        if bytes.len() > ROOM {
+            return write_all(out, bytes);
+        }
+        self.add(bytes);
+        Ok(())
+    }
+
+    /// Sends all that is gathered.
+    pub fn send<S: Sink>(&mut self, out: &mut S) -> Result<(), WriteFailed>
+        requires { S.failed out.old < 2 ^ 48 }
+        ensures written { Writes S.taken S.failed out.old out.new self.old result }
+        ensures empty { self.new ≡ [] }
+    {
+        let result = write_all(out, &self.bytes[..self.len]);
+        self.len = 0;
+        result
+    }
+}
