@@ -2,6 +2,7 @@
 use Rattle.std.specs.Prelude.{◌≡◌, ◌≢◌, ℕ, Bool, true, false, Option, Result, Ok, Err, List, IsSome, IfErr}
 use Rattle.std.specs.Result.{IsOkAnd}
 use Rattle.osbase.specs.declared.references.CoreId.{CoreId}
+use Rattle.osbase.specs.declared.turns.Choice.{Choice}
 use Rattle.osbase.specs.declared.turns.CoreStimuli.{CoreStimuli}
 use Rattle.osbase.specs.declared.turns.Report.{Report}
 use Rattle.osplan.specs.declared.plans.Plan.{Plan}
@@ -22,7 +23,7 @@ use Rattle.oswrite.specs.Writing.{config_text}
 use Rattle.mcos.specs.Checks.{check_text, cut_text}
 use Rattle.mcos.specs.Faults.{fault_text}
 use Rattle.mcos.specs.Jobs.{path_in}
-use Rattle.mcos.specs.Runs.{HasSchedule, IsGiven, IsPlayed, run_text}
+use Rattle.mcos.specs.Runs.{IsGiven, IsInput, IsPlayed, run_text}
 use Rattle.mcos.specs.Texts.{File, IsAsked, IsFaultOf, Means, text_at}
 
 -- ---- how a job ends
@@ -63,13 +64,18 @@ pub data IsRunFault (schedule : Option (List ℕ)) (files : List File) (fault : 
       IsFaultOf (stimuli_faults plan) (text_at files 1) fault → IsRunFault schedule files fault
   in_schedule : (plan : Plan) (stimuli : List CoreStimuli) → IsSome schedule → IsGiven files plan stimuli →
       IsFaultOf (schedule_faults plan) (text_at files 2) fault → IsRunFault schedule files fault
-  broken_off : (plan : Plan) (stimuli : List CoreStimuli) → IsGiven files plan stimuli → HasSchedule schedule files plan →
-      fault ≡ NoMemoryToRun → IsRunFault schedule files fault
+  broken_off : (plan : Plan) (stimuli : List CoreStimuli) (turns : Option (List (CoreId × Choice))) →
+      IsInput schedule files plan stimuli turns → fault ≡ NoMemoryToRun → IsRunFault schedule files fault
 
 -- Why a run prints nothing: a fault of its files, or want of memory in the run. Nothing is said of the files where memory was
 -- wanting while they were read.
 abbrev pub HasNoReports : Option (List ℕ) → List File → Fault → Type 0
 HasNoReports schedule files fault = fault ≢ Text NoMemory → IsRunFault schedule files fault
+
+-- What a run reads of its files, of so many as there are: what they mean, or why it has no reports. [own]
+abbrev pub IsRead : Option (List ℕ) → List File → ℕ → Result (Plan × List CoreStimuli × Option (List (CoreId × Choice))) Fault → Type 0
+IsRead schedule files count (Ok input) = IsInput schedule files input.0 input.1 input.2
+IsRead schedule files count (Err fault) = HasNoReports schedule files fault × IsAsked count files fault
 
 -- ---- check
 
@@ -149,11 +155,23 @@ abbrev pub Tells : {S : Type 0} → (S → Option (List ℕ)) → (S → ℕ) �
 Tells taken failed old new (Ok outcome) = new ≡ old
 Tells taken failed old new (Err fault) = (written : Result Unit SinkFailed) × Writes taken failed old new (fault_text fault) written
 
--- What a job over these files comes to, of so many as there are: it prints what it asks for, or has a fault. [own]
-pub record IsPrinted {O : Type 0} (taken : O → Option (List ℕ)) (failed : O → ℕ) (old new : O) (job : Job) (files : List File)
-    (count : ℕ) (result : Result Outcome Fault) : Type 0 where
-  pub comes : Comes taken failed old new (IsOutput job files) (HasNoOutput job files) result
+-- What files come to, of so many as there are: an output, which is printed, or a fault. [own]
+pub record PrintsFrom {O : Type 0} (taken : O → Option (List ℕ)) (failed : O → ℕ) (old new : O)
+    (Output : List ℕ → Result Outcome Fault → Type 0) (NoOutput : Fault → Type 0) (files : List File) (count : ℕ)
+    (result : Result Outcome Fault) : Type 0 where
+  pub comes : Comes taken failed old new Output NoOutput result
   pub asked : IfErr result (IsAsked count files)
+
+-- What a run of these files comes to: its reports are printed, or there is a fault.
+abbrev pub IsRunPrinted : {O : Type 0} → (O → Option (List ℕ)) → (O → ℕ) → O → O → Option (List ℕ) → List File → ℕ →
+    Result Outcome Fault → Type 0
+IsRunPrinted taken failed old new schedule files count result =
+    PrintsFrom taken failed old new (NoFault (IsRunOutput schedule files)) (HasNoReports schedule files) files count result
+
+-- What a job over these files comes to: it prints what it asks for, or has a fault. [own]
+abbrev pub IsPrinted : {O : Type 0} → (O → Option (List ℕ)) → (O → ℕ) → O → O → Job → List File → ℕ → Result Outcome Fault → Type 0
+IsPrinted taken failed old new job files count result =
+    PrintsFrom taken failed old new (IsOutput job files) (HasNoOutput job files) files count result
 
 -- What a job comes to: what it prints, its status, and what is told of a fault. [own]
 pub record Performs {O E : Type 0} (out_taken : O → Option (List ℕ)) (out_failed : O → ℕ) (old_out new_out : O)

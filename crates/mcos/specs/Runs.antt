@@ -1,5 +1,5 @@
 -- What the files of a run come to: its reports, and what is printed of them. [own]
-use Rattle.std.specs.Prelude.{ℕ, ◌≤◌, max, Bool, true, false, Option, Some, None, List, ◌++◌, codes, length}
+use Rattle.std.specs.Prelude.{ℕ, ◌≡◌, ◌≤◌, max, Bool, true, false, Option, Some, None, List, ◌++◌, codes, length}
 use Rattle.osbase.specs.declared.references.CoreId.{CoreId}
 use Rattle.osbase.specs.declared.turns.Choice.{Choice}
 use Rattle.osbase.specs.declared.turns.CoreStimuli.{CoreStimuli}
@@ -25,23 +25,40 @@ pub data StopsAtFaults (before : ℕ) (files : List File) : Type 0 where
   at_schedule : (plan : Plan) (stimuli : List CoreStimuli) → IsGiven files plan stimuli → length files ≤ max before 3 →
       StopsAtFaults before files
 
--- The reports are those of the world after the listed turns, where a schedule is named, and else after the turns of the
--- default schedule. [own]
-abbrev pub AreOfRun : Option (List ℕ) → List File → Plan → List CoreStimuli → List Report → Type 0
-AreOfRun None files plan stimuli reports = IsDefaultRun plan stimuli reports
-AreOfRun (Some path) files plan stimuli reports =
-    (turns : List (CoreId × Choice)) × Means (schedule_meant plan) (text_at files 2) turns × AreReports plan stimuli turns reports
+-- What was read of a source until it was let go: this came of the files, none was read behind one with a fault, and at most so
+-- many, beyond those that were read before. [own]
+pub record UsesUp {S : Type 0} (files : S → List File) (known : S → Option (List File)) (source : S) (most : ℕ)
+    (Comes : List File → Type 0) : Type 0 where
+  pub last : S
+  pub comes : Comes (files last)
+  pub stops : StopsAtFaults (length (files source)) (files last)
+  pub named : length (files last) ≤ max (length (files source)) most
+  pub known_is : known last ≡ known source
 
--- The schedule that is named, if one is, has a meaning. [own]
-abbrev pub HasSchedule : Option (List ℕ) → List File → Plan → Type 0
-HasSchedule None files plan = Unit {0}
-HasSchedule (Some path) files plan = (turns : List (CoreId × Choice)) × Means (schedule_meant plan) (text_at files 2) turns
+-- The turns that are listed: those that the third file means, where a schedule is named, and else none. [own]
+abbrev pub AreListed : Option (List ℕ) → List File → Plan → Option (List (CoreId × Choice)) → Type 0
+AreListed None files plan turns = turns ≡ None
+AreListed (Some path) files plan None = ⊥
+AreListed (Some path) files plan (Some turns) = Means (schedule_meant plan) (text_at files 2) turns
+
+-- The files mean these stimuli and turns for this configuration. [own]
+pub record IsInput (schedule : Option (List ℕ)) (files : List File) (plan : Plan) (stimuli : List CoreStimuli)
+    (turns : Option (List (CoreId × Choice))) : Type 0 where
+  pub given : IsGiven files plan stimuli
+  pub listed : AreListed schedule files plan turns
+
+-- The reports are those of the world after the listed turns, where there are some, and else after the turns of the default
+-- schedule. [own]
+abbrev pub AreOfTurns : Plan → List CoreStimuli → Option (List (CoreId × Choice)) → List Report → Type 0
+AreOfTurns plan stimuli None reports = IsDefaultRun plan stimuli reports
+AreOfTurns plan stimuli (Some turns) reports = AreReports plan stimuli turns reports
 
 -- The files have meanings, and these are the reports of their run. [own]
 pub record IsPlayed (schedule : Option (List ℕ)) (files : List File) (plan : Plan) (reports : List Report) : Type 0 where
   pub stimuli : List CoreStimuli
-  pub given : IsGiven files plan stimuli
-  pub are : AreOfRun schedule files plan stimuli reports
+  pub turns : Option (List (CoreId × Choice))
+  pub input : IsInput schedule files plan stimuli turns
+  pub are : AreOfTurns plan stimuli turns reports
 
 -- The last line of a run's output: whether every started core has ended. [own]
 abbrev pub last_line : Bool → List ℕ

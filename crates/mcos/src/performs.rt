@@ -1,9 +1,9 @@
 //! Doing a job over its files' bytes.
 
-ghost use Rattle.std.specs.Prelude.{◌≡◌, ◌<◌, ◌≤◌, ◌^◌, length, max};
+ghost use Rattle.std.specs.Prelude.{◌<◌, ◌^◌, length};
 ghost use Rattle.mcos.specs.Jobs.{paths_of};
 ghost use Rattle.mcos.specs.Performs.{IsPrinted, Performs};
-ghost use Rattle.mcos.specs.Runs.{StopsAtFaults};
+ghost use Rattle.mcos.specs.Runs.{UsesUp};
 
 use crate::checks::{check, cut_out};
 use crate::endings::tell;
@@ -30,28 +30,26 @@ pub fn perform<O: Sink, E: Sink>(
     ensures { Performs O.taken O.failed out.old out.new E.taken E.failed err.old err.new
         job.now files.now (length files.now) result }
 {
-    let result = print_from(alloc, job, &mut Given { files }, out);
+    let result = print_from(alloc, job, Given { files }, out);
     tell(result, err)
 }
 
 /// Prints what the job asks for over files that are read one by one: each is judged before the next is read, none
 /// is read after one with a fault or without a path of the job, and none is called unreadable that was not read.
-pub fn print_from<S: Source, O: Sink>(
+/// The source is used up: a run lets its files go before it begins.
+pub fn print_from<S: Source + Drop, O: Sink>(
     alloc: Global,
     job: &Job,
-    source: &mut S,
+    mut source: S,
     out: &mut O,
 ) -> Result<Outcome, Fault>
     requires { O.failed out.old < 2 ^ 48 }
-    ensures printed { IsPrinted O.taken O.failed out.old out.new job.now (S.files source.new) (S.count source.new) result }
-    ensures stops { StopsAtFaults (length (S.files source.old)) (S.files source.new) }
-    ensures named { length (S.files source.new) ≤ max (length (S.files source.old)) (length (paths_of job.now)) }
-    ensures count { S.count source.new ≡ S.count source.old }
-    ensures known { S.known source.new ≡ S.known source.old }
+    ensures { UsesUp S.files S.known source (length (paths_of job.now))
+        (λ files. IsPrinted O.taken O.failed out.old out.new job.now files (S.count source) result) }
 {
     match job {
         Job::Run { schedule, .. } => run(alloc, *schedule, source, out),
-        Job::Check { .. } => check(alloc, source, out),
-        Job::Cut { core, .. } => cut_out(alloc, *core, source, out),
+        Job::Check { .. } => check(alloc, &mut source, out),
+        Job::Cut { core, .. } => cut_out(alloc, *core, &mut source, out),
     }
 }

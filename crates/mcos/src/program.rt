@@ -92,7 +92,7 @@ fn print_job<R: Files + AllocGlobal, O: Sink>(
     ensures { PrintsJob O.taken O.failed out.old out.new job.now result }
 {
     let paths = job.paths(rt.alloc())?;
-    print_from(rt.alloc(), job, &mut Paths::new(rt, paths), out)
+    print_from(rt.alloc(), job, Paths::new(rt, paths), out)
 }
 
 // Prints the help or the version that is asked for in place of a job, or tells a mistake in the words, each in

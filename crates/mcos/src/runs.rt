@@ -1,69 +1,78 @@
 //! A run: its files are read and played, and the reports printed.
 
-ghost use Rattle.std.specs.Prelude.{◌≡◌, ◌+◌, ◌<◌, ◌≤◌, ◌^◌, ◌++◌, IfOk, IfErr, Ok, Some, length, max};
+ghost use Rattle.std.specs.Prelude.{◌≡◌, ◌+◌, ◌<◌, ◌^◌, ◌++◌, IfOk, Ok, length};
 ghost use Rattle.ostrace.specs.Taken.{Writes};
 ghost use Rattle.ostrace.specs.Trace.{text_of};
+ghost use Rattle.osplan.specs.Stimuli.{AreKnown};
 ghost use Rattle.osworld.specs.Ends.{have_all_ended};
 ghost use Rattle.mcos.specs.Jobs.{listed, path_in};
-ghost use Rattle.mcos.specs.Performs.{Comes, HasNoReports, IsRunOutput, NoFault, Prints, outcome_of};
-ghost use Rattle.mcos.specs.Runs.{IsPlayed, StopsAtFaults, last_line, run_text};
-ghost use Rattle.mcos.specs.Texts.{IsAsked};
+ghost use Rattle.mcos.specs.Performs.{IsRunPrinted, IsRead, Prints, outcome_of};
+ghost use Rattle.mcos.specs.Runs.{AreOfTurns, UsesUp, last_line, run_text};
 
 use crate::faults::Fault;
 use crate::outcomes::Outcome;
 use crate::readings::{config_in, schedule_in, stimuli_in};
 use crate::sources::Source;
 use osbase::Report;
-use osconf::Config;
+use osconf::{Config, Schedule, Stimuli};
 use ostrace::{Sink, WriteFailed, write_all, write_reports};
-use osworld::{have_all_ended, run_default, run_world};
+use osworld::{RunFault, have_all_ended, run_default, run_world};
 use std::alloc::Global;
 
 /// Plays the run of the source's files and prints it. `schedule` is the path of the listed turns, the
-/// third file; without it the default schedule runs.
-pub fn run<S: Source, O: Sink>(
+/// third file; without it the default schedule runs. The files' bytes are let go before the run begins.
+pub fn run<S: Source + Drop, O: Sink>(
     alloc: Global,
     schedule: Option<&str>,
-    source: &mut S,
+    source: S,
     out: &mut O,
 ) -> Result<Outcome, Fault>
     requires { O.failed out.old < 2 ^ 48 }
-    ensures comes { Comes O.taken O.failed out.old out.new (NoFault (IsRunOutput (path_in schedule.entry) (S.files source.new)))
-        (HasNoReports (path_in schedule.entry) (S.files source.new)) result }
-    ensures stops { StopsAtFaults (length (S.files source.old)) (S.files source.new) }
-    ensures named { length (S.files source.new) ≤ max (length (S.files source.old)) (2 + length (listed (path_in schedule.entry))) }
-    ensures asked { IfErr result (IsAsked (S.count source.new) (S.files source.new)) }
-    ensures count { S.count source.new ≡ S.count source.old }
-    ensures known { S.known source.new ≡ S.known source.old }
+    ensures { UsesUp S.files S.known source (2 + length (listed (path_in schedule.entry)))
+        (λ files. IsRunPrinted O.taken O.failed out.old out.new (path_in schedule.entry) files (S.count source) result) }
 {
-    let (config, reports) = play(alloc, schedule, source)?;
+    let (config, stimuli, turns) = input_of(alloc, schedule, source)?;
+    let reports = play(alloc, &config, &stimuli, turns)?;
     print(&config, out, reports.as_slice())
 }
 
-// Reads the texts and plays the run.
-fn play<S: Source>(
+/// What a run is given: the turns are None where the default schedule runs.
+type Input = (Config, Stimuli, Option<Schedule>);
+
+// Reads the texts, and lets them go.
+fn input_of<S: Source + Drop>(
     alloc: Global,
     schedule: Option<&str>,
-    source: &mut S,
-) -> Result<(Config, Vec<Report>), Fault>
-    ensures ok { IfOk result (λ played. IsPlayed (path_in schedule.entry) (S.files source.new) played.0 played.1.items) }
-    ensures fault { IfErr result (HasNoReports (path_in schedule.entry) (S.files source.new)) }
-    ensures stops { StopsAtFaults (length (S.files source.old)) (S.files source.new) }
-    ensures named { length (S.files source.new) ≤ max (length (S.files source.old)) (2 + length (listed (path_in schedule.entry))) }
-    ensures asked { IfErr result (IsAsked (S.count source.new) (S.files source.new)) }
-    ensures count { S.count source.new ≡ S.count source.old }
-    ensures known { S.known source.new ≡ S.known source.old }
+    mut source: S,
+) -> Result<Input, Fault>
+    ensures input { UsesUp S.files S.known source (2 + length (listed (path_in schedule.entry)))
+        (λ files. IsRead (path_in schedule.entry) files (S.count source) result) }
+    ensures known { IfOk result (λ input. AreKnown input.0 input.1) }
 {
-    let config = config_in(alloc, source)?;
-    let stimuli = stimuli_in(alloc, &config, source)?;
-    let reports = match schedule {
-        None => run_default(alloc, &config, &stimuli)?,
+    let config = config_in(alloc, &mut source)?;
+    let stimuli = stimuli_in(alloc, &config, &mut source)?;
+    match schedule {
+        None => Ok((config, stimuli, None)),
         Some(_) => {
-            let turns = schedule_in(alloc, &config, source)?;
-            run_world(alloc, &config, &stimuli, turns.as_slice())?
+            let turns = schedule_in(alloc, &config, &mut source)?;
+            Ok((config, stimuli, Some(turns)))
         }
-    };
-    Ok((config, reports))
+    }
+}
+
+fn play(
+    alloc: Global,
+    config: &Config,
+    stimuli: &Stimuli,
+    turns: Option<Schedule>,
+) -> Result<Vec<Report>, RunFault>
+    requires { AreKnown config.now stimuli.now }
+    ensures { IfOk result (λ reports. AreOfTurns config.now stimuli.now turns reports.items) }
+{
+    match turns {
+        None => run_default(alloc, config, stimuli),
+        Some(turns) => run_world(alloc, config, stimuli, turns.as_slice()),
+    }
 }
 
 // Prints the reports, and whether the run ended or stalled; answers which.

@@ -19,6 +19,7 @@ use osconf::{Config, read_config, read_stimuli};
 use ostrace::{MemorySink, Sink, WriteFailed, write_reports};
 use osworld::{default_schedule, run_world};
 use std::alloc::{AllocError, Global};
+use std::cell::Cell;
 use std::process::Abort;
 use std::test::Fail;
 
@@ -426,7 +427,7 @@ fn fault_of(rt: &impl Abort, alloc: Global, files: &[Option<Vec<u8>>]) -> Result
 #[derive(Drop)]
 struct Counted<'a> {
     given: Given<'a>,
-    count: usize,
+    count: &'a Cell<usize>,
 }
 
 impl<'a> Source for Counted<'a> {
@@ -437,7 +438,7 @@ impl<'a> Source for Counted<'a> {
     ghost count = { λ counted. length counted.given.files.now };
 
     fn read(&mut self, at: usize) -> Result<(), AllocError> {
-        self.count = self.count.saturating_add(1);
+        self.count.set(self.count.get().saturating_add(1));
         self.given.read(at)
     }
 
@@ -461,15 +462,16 @@ fn no_file_is_read_after_one_with_a_fault(rt: HostRuntime) -> Result<(), Fail> {
     for (job, texts, count) in examples.as_slice() {
         let texts = texts.map(Some);
         let files = files_of(alloc, texts.as_slice())?;
-        let mut source = Counted {
+        let read = Cell::new(0);
+        let source = Counted {
             given: Given {
                 files: files.as_slice(),
             },
-            count: 0,
+            count: &read,
         };
         let mut out = MemorySink::new(Vec::new(alloc));
-        let _ = print_from(alloc, job, &mut source, &mut out);
-        assert_eq!(rt; source.count, *count);
+        let _ = print_from(alloc, job, source, &mut out);
+        assert_eq!(rt; read.get(), *count);
     }
     Ok(())
 }

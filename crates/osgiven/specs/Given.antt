@@ -1,8 +1,8 @@
 -- The stimuli and the schedule that texts mean for a configuration, and the faults that they have. [own]
-use Rattle.std.specs.Prelude.{ℕ, ◌≡◌, ◌<◌, ◌==◌, nat_le, Bool, true, not, is_some, Option, Some, None, option_and_then, unwrap_or, if◌then◌else◌, List, [], ◌∷◌, length, take, drop, position, codes}
+use Rattle.std.specs.Prelude.{ℕ, ◌==◌, nat_le, Bool, true, not, is_some, Option, Some, None, option_and_then, unwrap_or, if◌then◌else◌, List, [], ◌∷◌, length, take, drop, position, codes}
 use Rattle.std.specs.Char.{is_ascii_digit}
 use Rattle.std.specs.Option.{option_map_or}
-use Rattle.std.specs.List.{list_all, slice_split}
+use Rattle.std.specs.List.{list_all}
 use Rattle.std.specs.Str.{bytes_eq}
 use Rattle.osbase.specs.declared.references.CoreId.{CoreId}
 use Rattle.osbase.specs.declared.items.Stimulus.{Stimulus}
@@ -42,22 +42,6 @@ abbrev pub stimulus_of : Core → List ℕ → Option Stimulus
 stimulus_of core word = do
   stimulus ← stimulus_meant word
   value_if (knows_stimulus core stimulus) stimulus
-
--- A text's words, which spaces divide.
-abbrev pub words_in : List ℕ → List (List ℕ)
-words_in text = slice_split (λ b. b == 32) text
-
--- The first word of a text, where a space ends it: what it means to a core, and what follows the space.
-pub record IsFirst (core : Core) (text : List ℕ) (meant : Option Stimulus) (later : List ℕ) : Type 0 where
-  pub word : List ℕ
-  pub words : words_in text ≡ word ∷ words_in later
-  pub means : stimulus_of core word ≡ meant
-  pub shorter : length later < length text
-
--- A step of a walk by words: there is a first one that a space ends, or the text is one word.
-abbrev pub IsStep : Core → List ℕ → Option (Option Stimulus × List ℕ) → Type 0
-IsStep core text (Some front) = IsFirst core text front.0 front.1
-IsStep core text None = words_in text ≡ text ∷ []
 
 abbrev pub stimuli_of_text : Core → List ℕ → Option (List Stimulus)
 stimuli_of_text core text = each (stimulus_of core) (parts_of 32 text)

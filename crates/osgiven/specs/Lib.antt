@@ -1,2 +1,3 @@
 pub mod Word
+pub mod Walk
 pub mod Given

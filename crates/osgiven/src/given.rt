@@ -1,23 +1,27 @@
 //! Reading what a run is given: stimuli and turns.
 
-ghost use Rattle.std.specs.Prelude.{◌≡◌, ◌≢◌, ◌≤◌, ◌<◌, ◌==◌, not, length, position, IsTrue, IfOk, IfErr, IfSome, Option, Some, option_copied, option_map, ℕ, List};
+ghost use Rattle.std.specs.Prelude.{◌≡◌, ◌≢◌, ◌≤◌, ◌<◌, not, length, position, IfOk, IfErr, IfSome, Option, Some, option_copied, option_map, ℕ, List};
 ghost use Rattle.std.specs.Char.{is_ascii_digit};
 ghost use Rattle.std.specs.List.{list_all};
 ghost use Rattle.std.specs.Borrow.{Bor};
 ghost use Rattle.std.specs.BTreeMap.{values};
 ghost use Rattle.serde_json.specs.declared.value.Value.{Value};
 ghost use Rattle.osbase.specs.declared.items.Stimulus.{Stimulus as Word};
+ghost use Rattle.osbase.specs.declared.references.CoreId.{CoreId};
+ghost use Rattle.osbase.specs.declared.turns.Choice.{Choice};
 ghost use Rattle.osplan.specs.Stimuli.{AreKnown};
 ghost use Rattle.osread.specs.Reading.{Gives, each};
 ghost use Rattle.osread.specs.Json.{entries};
 ghost use Rattle.osread.specs.Faults.{IsLeast};
-ghost use Rattle.osgiven.specs.Given.{IsStep, core_named, stimulus_meant, stimulus_of, words_in, stimuli_of_text, core_stimuli_of, stimuli_of_data, has_words_within, are_stimuli_within, schedule_of_data, digits_in, served, choice_of, turn_of, stimuli_meant, stimuli_faults, schedule_meant, schedule_faults};
+ghost use Rattle.osgiven.specs.Given.{core_named, stimulus_meant, stimulus_of, core_stimuli_of, stimuli_of_data, has_words_within, are_stimuli_within, schedule_of_data, digits_in, served, choice_of, turn_of, stimuli_meant, stimuli_faults, schedule_meant, schedule_faults};
+ghost use Rattle.osgiven.specs.Walk.{IsStep};
 ghost use Rattle.serde_json.specs.View.{view, members_view};
 
+use crate::walks::{WordReader, cut_at_space, read_words};
 use crate::words::core_number;
 use osbase::{Choice, CoreId, CoreStimuli, List as Items, Schedule, Stimuli, Stimulus, Turn};
 use osplan::{ConfFault, Config, Core, Plan};
-use osread::{PartReader, Refusal, part_count, read_parts, value_of};
+use osread::{Refusal, part_count, value_of};
 use serde_json::{Map, Value};
 use std::alloc::Global;
 
@@ -28,6 +32,7 @@ const STIMULI: usize = 100_000;
 const TURNS: usize = 1_000_000;
 
 /// The configured core that these digits name.
+#[inline(always)]
 fn core_named<'p>(plan: &'p Plan, digits: &[u8]) -> Option<&'p Core>
     ensures { option_copied result ≡ core_named plan.now digits.now }
 {
@@ -57,50 +62,38 @@ fn stimulus_of(core: &Core, word: &[u8]) -> Option<Stimulus>
     }
 }
 
-// What the first word means to the core, and what follows it, where a space ends it. The words that come most are
-// compared where they would stand, and their ends are not looked for.
-#[inline(always)]
-fn front_of<'t>(core: &Core, text: &'t str) -> Option<(Option<Stimulus>, &'t str)>
-    ensures { IsStep core.now text.now (option_map (λ (front : Option Word × Bor (List ℕ)). (front.0, front.1.now)) result) }
-{
-    match text.strip_prefix("op ") {
-        Some(later) => Some((Some(Stimulus::Op), later)),
-        None => match text.strip_prefix("tick ") {
-            Some(later) => Some((Some(Stimulus::Tick), later)),
-            None => first_of(core, text),
-        },
+// Reads a stimulus of a core.
+#[derive(Clone, Copy, Debug)]
+struct StimulusReader<'p> {
+    core: &'p Core,
+}
+
+impl WordReader<Stimulus> for StimulusReader<'_> {
+    ghost shape = { λ reader. stimulus_of reader.core.now };
+
+    fn read(&self, word: &[u8]) -> Option<Stimulus> {
+        stimulus_of(self.core, word)
+    }
+
+    // The words that come most are compared where they would stand, and their ends are not looked for.
+    #[inline(always)]
+    fn front<'t>(&self, text: &'t [u8]) -> Option<(Option<Stimulus>, &'t [u8])> {
+        match text {
+            [b'o', b'p', b' ', later @ ..] => Some((stimulus_of(self.core, &text[..2]), later)),
+            [b't', b'i', b'c', b'k', b' ', later @ ..] => {
+                Some((stimulus_of(self.core, &text[..4]), later))
+            }
+            _ => first_stimulus(self.core, text),
+        }
     }
 }
 
-// The same of any word: the first space is looked for.
-fn first_of<'t>(core: &Core, text: &'t str) -> Option<(Option<Stimulus>, &'t str)>
-    ensures { IsStep core.now text.now (option_map (λ (front : Option Word × Bor (List ℕ)). (front.0, front.1.now)) result) }
+// The same of any text: its first space is looked for.
+fn first_stimulus<'t>(core: &Core, text: &'t [u8]) -> Option<(Option<Stimulus>, &'t [u8])>
+    ensures { IsStep (stimulus_of core.now) text.now (option_map (λ (front : Option Word × Bor (List ℕ)). (front.0, front.1.now)) result) }
 {
-    let (word, later) = text.split_once(' ')?;
-    Some((stimulus_of(core, word.as_bytes()), later))
-}
-
-fn stimuli_of_words(alloc: Global, core: &Core, text: &str) -> Result<Items<Stimulus>, Refusal>
-    ensures { Gives (λ x. x) result (each (stimulus_of core.now) (words_in text.now)) }
-{
-    let mut stimuli = Vec::with_capacity(alloc, text.len() / 3 + 1)?;
-    let mut rest = text;
-    while let Some((stimulus, later)) = front_of(core, rest) {
-        stimuli.push(stimulus.ok_or(Refusal::Unfit)?)?;
-        rest = later;
-    }
-    let last = stimulus_of(core, rest.as_bytes());
-    stimuli.push(last.ok_or(Refusal::Unfit)?)?;
-    Ok(Items::from_vec(stimuli))
-}
-
-fn stimuli_of_text(alloc: Global, core: &Core, text: &str) -> Result<Items<Stimulus>, Refusal>
-    ensures { Gives (λ x. x) result (stimuli_of_text core.now text.now) }
-{
-    if text.is_empty() {
-        return Ok(Items::new(alloc));
-    }
-    stimuli_of_words(alloc, core, text)
+    let (word, later) = cut_at_space(text)?;
+    Some((stimulus_of(core, word), later))
 }
 
 #[tactic(auto, unfolding(crate::specs::Given::core_stimuli_of))]
@@ -114,7 +107,7 @@ fn core_stimuli_of(
 {
     let core = core_named(plan, key.as_bytes()).ok_or(Refusal::Unfit)?;
     let text = value.as_str().ok_or(Refusal::Unfit)?;
-    let words = stimuli_of_text(alloc, core, text)?;
+    let words = read_words(alloc, &StimulusReader { core }, text, STIMULI)?;
     Ok(CoreStimuli {
         core: core.id,
         words,
@@ -190,6 +183,7 @@ pub fn read_stimuli(alloc: Global, config: &Config, text: &str) -> Result<Stimul
 }
 
 #[tactic(auto, unfolding(crate::specs::Given::choice_of))]
+#[inline(always)]
 fn choice_of(plan: &Plan, core: CoreId, word: &[u8]) -> Option<Choice>
     ensures { result ≡ choice_of plan.now core word.now }
 {
@@ -201,6 +195,7 @@ fn choice_of(plan: &Plan, core: CoreId, word: &[u8]) -> Option<Choice>
     }
 }
 
+#[inline(always)]
 fn served(plan: &Plan, core: CoreId, digits: &[u8]) -> Option<Choice>
     ensures { result ≡ served plan.now core digits.now }
 {
@@ -213,6 +208,7 @@ fn served(plan: &Plan, core: CoreId, digits: &[u8]) -> Option<Choice>
 }
 
 /// How many digits stand at the front of a word.
+#[inline(always)]
 fn digits_in(word: &[u8]) -> usize
     ensures exact { result ≡ digits_in word.now }
     ensures within { result ≤ length word.now }
@@ -223,11 +219,23 @@ fn digits_in(word: &[u8]) -> usize
     }
 }
 
+#[inline(always)]
 fn first_other(word: &[u8]) -> Option<usize>
     ensures exact { result ≡ position (λ b. not (is_ascii_digit b)) word.now }
     ensures within { IfSome result (λ index. index < length word.now) }
 {
     word.iter().position(|b| !b.is_ascii_digit())
+}
+
+#[tactic(auto, unfolding(crate::specs::Given::turn_of))]
+#[inline(always)]
+fn turn_of(plan: &Plan, word: &[u8]) -> Option<Turn>
+    ensures { result ≡ turn_of plan.now word.now }
+{
+    let digits = digits_in(word);
+    let core = core_named(plan, &word[..digits])?.id;
+    let choice = choice_of(plan, core, &word[digits..])?;
+    Some((core, choice))
 }
 
 // Reads a turn.
@@ -236,25 +244,41 @@ struct TurnReader<'p> {
     plan: &'p Plan,
 }
 
-impl PartReader<Turn> for TurnReader<'_> {
+impl WordReader<Turn> for TurnReader<'_> {
     ghost shape = { λ reader. turn_of reader.plan.now };
 
-    #[tactic(auto, unfolding(crate::specs::Given::turn_of))]
-    fn read(&self, part: &str) -> Option<Turn> {
-        let bytes = part.as_bytes();
-        let digits = digits_in(bytes);
-        let core = core_named(self.plan, &bytes[..digits])?.id;
-        let choice = choice_of(self.plan, core, &bytes[digits..])?;
-        Some((core, choice))
+    fn read(&self, word: &[u8]) -> Option<Turn> {
+        turn_of(self.plan, word)
+    }
+
+    // The turns of cores with one digit are compared where they would stand, and their ends are not looked for. What
+    // reads a turn is inlined, so that no byte is compared twice.
+    #[inline(always)]
+    fn front<'t>(&self, text: &'t [u8]) -> Option<(Option<Turn>, &'t [u8])> {
+        match text {
+            [b'0'..=b'9', b'o', b' ', later @ ..] => Some((turn_of(self.plan, &text[..2]), later)),
+            [b'0'..=b'9', b'l', b' ', later @ ..] => Some((turn_of(self.plan, &text[..2]), later)),
+            [b'0'..=b'9', b's', b'0'..=b'9', b' ', later @ ..] => {
+                Some((turn_of(self.plan, &text[..3]), later))
+            }
+            _ => first_turn(self.plan, text),
+        }
     }
 }
 
+// The same of any text: its first space is looked for.
+fn first_turn<'t>(plan: &Plan, text: &'t [u8]) -> Option<(Option<Turn>, &'t [u8])>
+    ensures { IsStep (turn_of plan.now) text.now (option_map (λ (front : Option (CoreId × Choice) × Bor (List ℕ)). (front.0, front.1.now)) result) }
+{
+    let (word, later) = cut_at_space(text)?;
+    Some((turn_of(plan, word), later))
+}
+
 fn schedule_of(alloc: Global, plan: &Plan, value: &Value) -> Result<Schedule, Refusal>
-    requires few { IsTrue (has_words_within TURNS (view value.now)) }
     ensures { Gives (λ x. x) result (schedule_of_data plan.now (view value.now)) }
 {
     match value.as_str() {
-        Some(text) => read_parts(alloc, &TurnReader { plan }, text, ' ', TURNS),
+        Some(text) => read_words(alloc, &TurnReader { plan }, text, TURNS),
         None => Err(Refusal::Unfit),
     }
 }

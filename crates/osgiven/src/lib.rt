@@ -5,6 +5,7 @@
 #![tactic(auto)]
 
 mod given;
+mod walks;
 mod words;
 
 pub use given::{read_schedule, read_stimuli};

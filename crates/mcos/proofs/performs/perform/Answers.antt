@@ -7,10 +7,11 @@ same x y e = cc
 
 pub returns : goal.returns
 returns g c =
-    let files = same _ _ c.print_from-result.ensures.known in
+    let used = c.print_from-result.ensures in
+    let files = same _ _ used.known_is in
     record {
       result = c.print_from-result.result;
-      printed = rw files at c.print_from-result.ensures.printed;
+      printed = rw files at used.comes;
       tells = c.tell.ensures.told;
       status_is = c.tell.ensures.status;
     }

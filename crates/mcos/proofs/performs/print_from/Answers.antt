@@ -1,17 +1,28 @@
+use Rattle.std.proofs.Common.{arith}
 use Rattle.mcos.specs.Runs.{at_config}
 use Rattle.mcos.proofs.performs.print_from.Goals as goal
 
-pub returns-in-Run-clause-printed : goal.returns-in-Run-clause-printed
-returns-in-Run-clause-printed g c = record { comes = rw c.in-Run.is c.run.ensures.comes; asked = c.run.ensures.asked }
+pub returns-in-Run : goal.returns-in-Run
+returns-in-Run g c =
+    let used = c.run.ensures in
+    record { last = used.last; comes = rw c.in-Run.is used.comes; stops = used.stops; named = rw c.in-Run.is (omega (arith, used.named)); known_is = used.known_is }
 
-pub returns-in-Check-clause-printed : goal.returns-in-Check-clause-printed
-returns-in-Check-clause-printed g c = record { comes = rw c.in-Check.is c.check.ensures.comes; asked = c.check.ensures.asked }
+pub returns-in-Check : goal.returns-in-Check
+returns-in-Check g c =
+    record {
+      last = _;
+      comes = record { comes = rw c.in-Check.is c.check.ensures.comes; asked = rw c.check.ensures.count at c.check.ensures.asked };
+      stops = at_config c.check.ensures.ahead;
+      named = rw c.in-Check.is (omega (arith, c.check.ensures.ahead));
+      known_is = c.check.ensures.known;
+    }
 
-pub returns-in-Cut-clause-printed : goal.returns-in-Cut-clause-printed
-returns-in-Cut-clause-printed g c = record { comes = rw c.in-Cut.is c.cut_out.ensures.comes; asked = c.cut_out.ensures.asked }
-
-pub returns-in-Check-clause-stops : goal.returns-in-Check-clause-stops
-returns-in-Check-clause-stops g c = at_config c.check.ensures.ahead
-
-pub returns-in-Cut-clause-stops : goal.returns-in-Cut-clause-stops
-returns-in-Cut-clause-stops g c = at_config c.cut_out.ensures.ahead
+pub returns-in-Cut : goal.returns-in-Cut
+returns-in-Cut g c =
+    record {
+      last = _;
+      comes = record { comes = rw c.in-Cut.is c.cut_out.ensures.comes; asked = rw c.cut_out.ensures.count at c.cut_out.ensures.asked };
+      stops = at_config c.cut_out.ensures.ahead;
+      named = rw c.in-Cut.is (omega (arith, c.cut_out.ensures.ahead));
+      known_is = c.cut_out.ensures.known;
+    }

@@ -11,12 +11,13 @@ returns-in_err-paths g c =
 
 pub returns : goal.returns
 returns g c =
-    let count : length c.print_from.new.source.paths.items ≡ length (paths_of c.args.job.now) =
-    c.print_from.ensures.count ∙ rw c.new.ensures.paths (listed_paths c.in_ok-paths.paths.items c.args.job.now c.in_ok-paths.ensures) in
+    let used = c.print_from.ensures in
+    let count : length c.new.result.paths.items ≡ length (paths_of c.args.job.now) =
+    rw c.new.ensures.paths (listed_paths c.in_ok-paths.paths.items c.args.job.now c.in_ok-paths.ensures) in
     let none : length c.new.result.files.items ≡ 0 = ap length c.new.ensures.files in
     record {
-      files = c.print_from.new.source.files.items;
-      prints = rw count at c.print_from.ensures.printed;
-      stops = rw none at c.print_from.ensures.stops;
-      named = omega (arith, none, c.print_from.ensures.named);
+      files = used.last.files.items;
+      prints = rw count at used.comes;
+      stops = rw none at used.stops;
+      named = omega (arith, none, used.named);
     }

@@ -1,19 +1,57 @@
-use Rattle.std.proofs.Common.{Ok, refl}
+use Rattle.std.proofs.Common.{Ok, refl, rules}
 use Rattle.std.proofs.lemmas.Result.{err_from_is_err_and}
 use Rattle.osworld.specs.Ends.{have_all_ended}
-use Rattle.mcos.specs.Performs.{fails, outcome_of, prints}
+use Rattle.mcos.specs.Performs.{broken_off, fails, outcome_of, prints}
 use Rattle.mcos.specs.Runs.{run_text}
 use Rattle.mcos.proofs.runs.run.Goals as goal
 
-pub returns-in_err-config-clause-comes : goal.returns-in_err-config-clause-comes
-returns-in_err-config-clause-comes g c =
+pub returns-in_err-config : goal.returns-in_err-config
+returns-in_err-config g c =
     let p = err_from_is_err_and c.from_residual.result c.from_residual.ensures.1 in
-    fails p.0 p.1 (rw p.2 c.in_err-config.ensures.fault) refl
+    let used = c.in_err-config.ensures.input in
+    record {
+      last = used.last;
+      comes = rw p.1 (record { comes = fails p.0 refl (rw p.2 used.comes.0) refl; asked = rw p.2 used.comes.1 });
+      stops = used.stops;
+      named = used.named;
+      known_is = used.known_is;
+    }
 
-pub returns-clause-comes : goal.returns-clause-comes
-returns-clause-comes g c =
+pub returns-in_err-reports : goal.returns-in_err-reports
+returns-in_err-reports g c =
+    let p = err_from_is_err_and c.from_residual-in_err-reports.result c.from_residual-in_err-reports.ensures.1 in
+    let used = c.in_ok-config.ensures.input in
+    record {
+      last = used.last;
+      comes = rw p.1 (record {
+        comes = fails p.0 refl (λ apart. broken_off c.in_ok-config.config c.in_ok-config.stimuli c.in_ok-config.turns used.comes p.2) refl;
+        asked = rw p.2 (λ e. cc);
+      });
+      stops = used.stops;
+      named = used.named;
+      known_is = used.known_is;
+    }
+
+pub returns : goal.returns
+returns g c =
+    let used = c.in_ok-config.ensures.input in
     let plan = c.in_ok-config.config in
-    let reports = c.in_ok-config.reports.items in
-    prints (run_text plan reports) (Ok (outcome_of (have_all_ended plan reports)))
-    (record { plan = plan; reports = reports; played = c.in_ok-config.ensures.ok; text_is = refl; outcome_is = refl })
-    (rw c.as_slice.ensures.value at c.print.ensures)
+    let reports = c.in_ok-reports.reports.items in
+    record {
+      last = used.last;
+      comes = record {
+        comes = prints (run_text plan reports) (Ok (outcome_of (have_all_ended plan reports)))
+            (record {
+              plan = plan;
+              reports = reports;
+              played = record { stimuli = c.in_ok-config.stimuli; turns = c.in_ok-config.turns; input = used.comes; are = c.in_ok-reports.ensures };
+              text_is = refl;
+              outcome_is = refl;
+            })
+            (rw c.as_slice.ensures.value at c.print.ensures);
+        asked = search rules;
+      };
+      stops = used.stops;
+      named = used.named;
+      known_is = used.known_is;
+    }
