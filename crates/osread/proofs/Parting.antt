@@ -1,5 +1,5 @@
 -- Where the first part of a text ends.
-use Rattle.std.proofs.Common.{◌≡◌, ℕ, ◌+◌, ◌<◌, ◌==◌, true, false, inl, inr, List, [], ◌∷◌, ◌++◌, take, drop, length, get_or, All, Some, None, ap, ◌∙◌, sym, arith, length-take, take-append-drop}
+use Rattle.std.proofs.Common.{◌≡◌, ℕ, ◌+◌, ◌<◌, ◌==◌, false, inl, inr, List, [], ◌∷◌, ◌++◌, take, drop, length, get_or, Some, None, ap, ◌∙◌, sym, arith, length-take, take-append-drop}
 use Rattle.std.specs.List.{slice_split}
 use Rattle.std.specs.Str.{IsCharBoundary, IsUtf8}
 use Rattle.std.proofs.lemmas.Bool.{cases_Bool, eqb-true}

@@ -1,4 +1,4 @@
-use Rattle.std.proofs.Common.{◌≡◌, ◌≢◌, ◌==◌, [], ◌∷◌, ◌≤◌, length, rules, refl, sym, subst, arith, length-append}
+use Rattle.std.proofs.Common.{◌≡◌, ◌≢◌, ◌==◌, [], ◌∷◌, length, rules, refl, sym, subst, arith, length-append}
 use Rattle.std.specs.List.{slice_split}
 use Rattle.osread.specs.declared.refusals.Refusal.TheVariants.{Unfit}
 use Rattle.osread.specs.Reading.{each, later_parts}
