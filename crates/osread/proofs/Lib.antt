@@ -2,3 +2,4 @@ pub mod Each
 pub mod Contents
 pub mod Splitting
 pub mod Least
+pub mod Parting

@@ -1,26 +1,11 @@
--- Reading the parts that an iterator still gives, as a loop does.
-use Rattle.std.proofs.Common.{inl, inr, ◌≡◌, ℕ, suc, ◌≤◌, Bool, true, false, cond, List, [], ◌∷◌, ◌++◌, length, Option, Some, None, option_map, option_and_then, refl, sym, ap, ◌∙◌, arith, nat_le, length-append}
-use Rattle.std.proofs.lemmas.Bool.{cases_Bool, le-leb, leb-true}
+-- Reading at most so many elements.
+use Rattle.std.proofs.Common.{inl, inr, ◌≡◌, ℕ, suc, ◌≤◌, ◌==◌, true, false, cond, List, [], ◌∷◌, ◌++◌, length, Option, Some, None, option_map, option_and_then, refl, sym, ap, ◌∙◌, arith, nat_le, length-append}
 use Rattle.std.specs.Borrow.{Bor}
-use Rattle.std.specs.Iterator.{AlwaysYields}
-use Rattle.std.proofs.lemmas.Iterator.{YieldsList}
-use Rattle.osread.specs.declared.refusals.Refusal.TheVariants.{Unfit}
-use Rattle.osread.specs.Reading.{each, each_of_few}
-use Rattle.osread.proofs.Each.{with_front, with_front-nil, each-more, each-stop, each-end}
-
-abbrev shown : Bor (List ℕ) → List ℕ
-shown part = part.now
-
--- what was read, and what is still to read, are the whole
-pub record StillReads {S Y : Type 0} (steps : S → Option (Bor (List ℕ)) → S → Type 0) (f : List ℕ → Option Y) (s : S) (front : List Y) (total : Option (List Y)) : Type 0 where
-  pub rest : List (List ℕ)
-  pub comes : YieldsList steps shown s rest
-  pub read : with_front front (each f rest) ≡ total
-
-pub reads-first : {S Y : Type 0} {steps : S → Option (Bor (List ℕ)) → S → Type 0} (f : List ℕ → Option Y) {s : S} (rest : List (List ℕ)) → YieldsList steps shown s rest → StillReads steps f s [] (each f rest)
-reads-first f rest comes = record { rest = rest; comes = comes; read = with_front-nil (each f rest) }
-
--- ---- at most so many
+use Rattle.std.specs.List.{slice_split}
+use Rattle.std.proofs.lemmas.Bool.{cases_Bool, le-leb, leb-true}
+use Rattle.std.proofs.lemmas.List.Splits.{length-slice_split}
+use Rattle.osread.specs.Reading.{each, each_of_few, later_parts}
+use Rattle.osread.proofs.Each.{with_front}
 
 module _ {X Y : Type 0} (f : X → Option Y) where
   more-length : (xs : List X) (o : Option Y) (os : Option (List Y)) (ys : List Y) → ((zs : List Y) → os ≡ Some zs → length zs ≡ length xs) → option_and_then (λ y. option_map (λ zs. y ∷ zs) os) o ≡ Some ys → length ys ≡ suc (length xs)
@@ -55,34 +40,17 @@ over-read f front xs d ds (Some zs) is read =
       | inr many ↦ rw many refl
     ]
 
-module _ {S Y : Type 0} (steps : S → Option (Bor (List ℕ)) → S → Type 0) (f : List ℕ → Option Y) (s t : S) (front : List Y) (total : Option (List Y)) where
-  more-from : (part : Bor (List ℕ)) (y : Y) (rest : List (List ℕ)) → AlwaysYields steps shown s rest → steps s (Some part) t → f part.now ≡ Some y → with_front front (each f rest) ≡ total → StillReads steps f t (front ++ y ∷ []) total
-  more-from part y [] comes step e read = absurd (comes part t step)
-  more-from part y (d ∷ ds) comes step e read =
-      let here = comes.1 part t step in
-      record { rest = ds; comes = record { runs = here.1 }; read = each-more f d ds (d ∷ ds) front total y refl (ap f (sym here.0) ∙ e) read }
+-- what was read, and what is still to read, are the whole
+abbrev pub StillReads : {Y : Type 0} → ℕ → (List ℕ → Option Y) → List Y → Option (List Y) → Option (Bor (List ℕ)) → Type 0
+StillReads separator f front total left = with_front front (each f (later_parts separator left)) ≡ total
 
-  stop-from : (part : Bor (List ℕ)) (rest : List (List ℕ)) → AlwaysYields steps shown s rest → steps s (Some part) t → f part.now ≡ None → with_front front (each f rest) ≡ total → total ≡ None
-  stop-from part [] comes step e read = absurd (comes part t step)
-  stop-from part (d ∷ ds) comes step e read = each-stop f d ds (d ∷ ds) front total Unfit refl (ap f (sym (comes.1 part t step).0) ∙ e) read
+over-parts : {X Y : Type 0} (f : X → Option Y) (front : List Y) (xs parts : List X) → (parts ≡ [] → ⊥) → with_front front (each f parts) ≡ each f xs → each_of_few (length front) f xs ≡ None
+over-parts f front xs [] some read = absurd (some refl)
+over-parts f front xs (d ∷ ds) some read = over-read f front xs d ds (each f (d ∷ ds)) refl read
 
-  end-from : (rest : List (List ℕ)) → AlwaysYields steps shown s rest → steps s None t → with_front front (each f rest) ≡ total → total ≡ Some front
-  end-from [] comes step read = each-end f [] front total refl read
-  end-from (d ∷ ds) comes step read = absurd (comes.0 t step)
-
-  -- of more parts than so many none is read
-  over-from : (xs : List (List ℕ)) (part : Bor (List ℕ)) (rest : List (List ℕ)) → AlwaysYields steps shown s rest → steps s (Some part) t → with_front front (each f rest) ≡ each f xs → each_of_few (length front) f xs ≡ None
-  over-from xs part [] comes step read = absurd (comes part t step)
-  over-from xs part (d ∷ ds) comes step read = over-read f front xs d ds (each f (d ∷ ds)) refl read
-
-  pub reads-more : (part : Bor (List ℕ)) (y : Y) → StillReads steps f s front total → steps s (Some part) t → f part.now ≡ Some y → StillReads steps f t (front ++ y ∷ []) total
-  reads-more part y still step e = more-from part y still.rest still.comes.runs step e still.read
-
-  pub reads-stop : (part : Bor (List ℕ)) → StillReads steps f s front total → steps s (Some part) t → f part.now ≡ None → total ≡ None
-  reads-stop part still step e = stop-from part still.rest still.comes.runs step e still.read
-
-  pub reads-over : (xs : List (List ℕ)) (part : Bor (List ℕ)) → StillReads steps f s front (each f xs) → steps s (Some part) t → each_of_few (length front) f xs ≡ None
-  reads-over xs part still step = over-from xs part still.rest still.comes.runs step still.read
-
-  pub reads-end : StillReads steps f s front total → steps s None t → total ≡ Some front
-  reads-end still step = end-from still.rest still.comes.runs step still.read
+-- what is left has a part, so where so many were read there are too many
+pub reads-over : {Y : Type 0} (separator : ℕ) (f : List ℕ → Option Y) (front : List Y) (xs : List (List ℕ)) (rest : Bor (List ℕ)) → StillReads separator f front (each f xs) (Some rest) → each_of_few (length front) f xs ≡ None
+reads-over separator f front xs rest read =
+    let parts = slice_split (λ b. b == separator) rest.now in
+    let count = length-slice_split (λ b. b == separator) rest.now in
+    over-parts f front xs parts (λ none. let empty : length parts ≡ 0 = ap length none in omega (arith, count, empty)) read

@@ -1,5 +1,6 @@
 -- How a text's parts are read: a chain of steps, each of which may find nothing that fits.
 use Rattle.std.specs.Prelude.{◌≡◌, ◌==◌, nat_le, ℕ, Bool, Option, Some, None, option_and_then, option_map, if◌then◌else◌, List, [], ◌∷◌, length, Result, Ok, Err}
+use Rattle.std.specs.Borrow.{Bor}
 use Rattle.std.specs.List.{slice_split}
 use Rattle.osread.specs.declared.refusals.Refusal.{Refusal}
 use Rattle.osread.specs.declared.refusals.Refusal.TheVariants.{OutOfMemory, Unfit}
@@ -33,3 +34,8 @@ each_of_few most f xs = if nat_le (length xs) most then each f xs else None
 -- What a text has between separators of one byte. The empty text has no part. [own]
 abbrev pub parts_of : ℕ → List ℕ → List (List ℕ)
 parts_of separator text = if length text == 0 then [] else slice_split (λ b. b == separator) text
+
+-- The parts of what stands behind a separator, if there is one. [own]
+abbrev pub later_parts : ℕ → Option (Bor (List ℕ)) → List (List ℕ)
+later_parts separator None = []
+later_parts separator (Some rest) = slice_split (λ b. b == separator) rest.now
