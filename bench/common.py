@@ -16,6 +16,8 @@ ROOT = os.path.dirname(os.path.dirname(os.path.abspath(__file__)))
 PROGRAM = os.path.join(ROOT, "crates/mcos/out/mcos")
 SOURCES = os.path.join(ROOT, "bench", "programs")
 CLOCK = {"src/clock.rt": "clock.rt.txt"}
+# Debian's package `time`.
+TIME = "/usr/bin/time"
 # Of each program the libraries that it names, and its files.
 PROGRAMS = {
     "bench_readings": ("osconf osplan anyhow", {"src/main.rt": "readings.rt.txt", **CLOCK}),
@@ -115,6 +117,16 @@ def built(program):
     if not os.path.exists(program):
         sys.exit("no program at %s: `cd crates/mcos && rt run -- run data/config.json data/stim.json` builds it" % program)
     return os.path.abspath(program)
+
+
+def peak_of(words, **options):
+    """Runs a program by these words, and gives its peak memory in KiB. GNU time starts it, since a child of Python's own
+    is counted with the memory that Python had."""
+    with tempfile.NamedTemporaryFile(mode="r") as file:
+        ran = subprocess.run([TIME, "-q", "-f", "%M", "-o", file.name, *words], **options)
+        if ran.returncode:
+            sys.exit("%s ended with status %d" % (words[0], ran.returncode))
+        return int(file.read())
 
 
 def spread(figures, form):
