@@ -1,7 +1,8 @@
 -- How many envelopes wait for a core, before and after a change of one mailbox.
 use native.Mathlib.Omega.{arith}
-use Rattle.std.proofs.Common.{◌≡◌, ◌<◌, ◌≤◌, ◌+◌, ◌*◌, ◌^◌, ◌≢◌, ℕ, zero, suc, List, [], ◌∷◌, length, map, refl, sym, ap, ◌∙◌, get_or, set, sum_by, get_or-set_same, get_or-set_other, length-set, replicate, ◌⊎◌, inl, inr}
+use Rattle.std.proofs.Common.{◌≡◌, ◌<◌, ◌≤◌, ◌+◌, ◌*◌, ◌^◌, ◌≢◌, ℕ, zero, suc, List, [], ◌∷◌, length, map, refl, sym, ap, ◌∙◌, get_or, set, sum_by, get_or-set_same, get_or-set_other, length-set, replicate, false, ◌⊎◌, inl, inr}
 use Rattle.std.proofs.lemmas.Bool.{cases_eq}
+use Rattle.std.proofs.lemmas.Bool.Decides.{nat_tests}
 use Rattle.std.proofs.lemmas.List.{get_or_default, get_or-replicate, length-replicate}
 use Rattle.std.proofs.lemmas.Grind.{get_or-set_at}
 use Rattle.std.proofs.lemmas.List.Sums.{get_or-le-sum_by, sum_by-cons, sum_by-set}
@@ -10,7 +11,7 @@ use Rattle.osbase.specs.declared.references.CoreId.{CoreId}
 use Rattle.osbase.specs.declared.messages.Envelope.{Envelope}
 use Rattle.osbase.specs.declared.turns.TheConstants.{CORES}
 use Rattle.osbase.proofs.Tables.{table-at, table-same, table-set}
-use Rattle.osmail.specs.Mail.{AreCounted, IsWithin, place_of, waiting_in}
+use Rattle.osmail.specs.Mail.{AreCounted, box_of, has_mail, IsWithin, Mail, place_of, waiting_in}
 use Rattle.osmail.proofs.Boxes.{place_below}
 
 -- how many a sender left for a core
@@ -120,3 +121,13 @@ counted-new room cap places all some fits few = (
 pub read-at : (boxes : List (List Envelope)) (from to : CoreId) (at : ℕ) (envelopes : List Envelope) → from.number < CORES → to.number < CORES → length boxes ≡ CORES * CORES → at ≡ place_of from to → envelopes ≡ get_or boxes at envelopes → get_or boxes (place_of from to) [] ≡ envelopes
 read-at boxes from to at envelopes sender receiver places here is =
     get_or_default boxes (place_of from to) [] envelopes (omega (arith, place_below from to sender receiver, places)) ∙ sym (is ∙ ap (λ (k : ℕ). get_or boxes k envelopes) here)
+
+-- no mailbox to a core that has no mail holds anything
+pub no_mail : (mail : Mail) (from to : CoreId) → from.number < CORES → has_mail mail to ≡ false → box_of mail from to ≡ []
+no_mail mail from to sender none =
+    let part = waiting-part mail.boxes from to sender in
+    nothing (box_of mail from to) (grind (arith, nat_tests, part, none))
+  where
+    nothing : (envelopes : List Envelope) → length envelopes ≡ 0 → envelopes ≡ []
+    nothing [] e = refl
+    nothing (x ∷ xs) e = absurd (omega (arith, e))

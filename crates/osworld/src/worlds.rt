@@ -81,7 +81,8 @@ impl<'a> World<'a> {
         Ok(changed)
     }
 
-    /// Plays one round of these cores. A core for which no envelope waits serves all others at once.
+    /// Plays one round of these cores. The turns at which a core would serve another one while no envelope waits for it are
+    /// passed by at once.
     pub fn play_round(&mut self, ids: &[CoreId]) -> Result<bool, AllocError>
         ensures config { self.new.config ≡ self.old.config }
         ensures reports { self.new.reports ≡ self.old.reports }
@@ -110,7 +111,7 @@ impl<'a> World<'a> {
         Ok(either(looked, either(own, served)))
     }
 
-    // The core serves every other one of these.
+    // The core serves every other one of these, as long as an envelope waits for it.
     fn serve_all(&mut self, ids: &[CoreId], id: CoreId) -> Result<bool, AllocError>
         ensures config { self.new.config ≡ self.old.config }
         ensures reports { self.new.reports ≡ self.old.reports }
@@ -118,11 +119,11 @@ impl<'a> World<'a> {
         ensures ok { IfOk result (λ changed. PlaysTurns (serves_of ids.now id) self.old changed self.new) }
         ensures err { OnErr result (StopsShort (serves_of ids.now id) self.old self.new) }
     {
-        if !self.between.has_mail(id) {
-            return Ok(false);
-        }
         let mut changed = false;
         for other in ids {
+            if !self.between.has_mail(id) {
+                return Ok(changed);
+            }
             changed = either(self.serve(id, *other)?, changed);
         }
         Ok(changed)
