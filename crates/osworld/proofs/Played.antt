@@ -99,11 +99,11 @@ module _ (old run new : Run) (same : run.config ≡ old.config) (turns more : Tu
       (subst (λ (p : Plan). (v : World) → Plays p stimuli v run.seats.items run.between → IsPlayed p stimuli v more changed' new.seats.items new.between) plan_same (next stimuli))
 
   -- or breaks off within those, whatever comes later
-  pub stops-on : (later : Turns) → StopsShort more run new → StopsShort (turns ++ more ++ later) old new
+  pub stops-on : (later : Turns) → StopsShort more run new → StopsShort (turns ++ (more ++ later)) old new
   stops-on later stops stimuli w plays = record {
     before = length turns + cut.before;
-    within = let lt = cut.within in let all = length-append turns (more ++ later) in let rest = length-append more later in omega arith;
-    appends = rw (add-assoc, there cut.before (le-of cut.within), there (cut.before + 1) cut.within) cut.appends;
+    within = let lt = cut.within in let all = length-append turns (more ++ later) in let rest = length-append more later in omega (arith, lt, all, rest);
+    appends = rw (add-assoc, there cut.before (le-of cut.within), there (cut.before + 1) (next-of cut.within)) cut.appends;
     plays = rw (there cut.before (le-of cut.within)) cut.plays;
   }
     where
@@ -116,10 +116,13 @@ module _ (old run new : Run) (same : run.config ≡ old.config) (turns more : Tu
       le-of : {a b : ℕ} → a < b → a ≤ b
       le-of lt = omega (arith, lt)
 
+      next-of : {a b : ℕ} → a < b → a + 1 ≤ b
+      next-of lt = omega (arith, lt)
+
       add-assoc : (length turns + cut.before) + 1 ≡ length turns + (cut.before + 1)
       add-assoc = omega arith
 
-      there : (n : ℕ) → n ≤ length more → world_from old.config.now stimuli w (take (length turns + n) (turns ++ more ++ later)) ≡ world_from old.config.now stimuli here (take n more)
+      there : (n : ℕ) → n ≤ length more → world_from old.config.now stimuli w (take (length turns + n) (turns ++ (more ++ later))) ≡ world_from old.config.now stimuli here (take n more)
       there n le =
           ap (world_from old.config.now stimuli w) (take-append-add turns (more ++ later) n ∙ ap (λ (ts : Turns). turns ++ ts) (take-append-le n more later le))
           ∙ world_from-append old.config.now stimuli w turns (take n more)
@@ -142,7 +145,7 @@ module _ {A : Type 0} (T : List A → Turns) (joins : (xs ys : List A) → T (xs
   one-more : T (take (i + 1) xs) ≡ T (take i xs) ++ T (get_or xs i d ∷ [])
   one-more = ap T (take_more xs i d within) ∙ joins (take i xs) (get_or xs i d ∷ [])
 
-  split : T xs ≡ T (take i xs) ++ T (get_or xs i d ∷ []) ++ T (drop (i + 1) xs)
+  split : T xs ≡ T (take i xs) ++ (T (get_or xs i d ∷ []) ++ T (drop (i + 1) xs))
   split =
       ap T (sym (take-append-drop (i + 1) xs)) ∙ joins (take (i + 1) xs) (drop (i + 1) xs)
       ∙ ap (λ (ts : Turns). ts ++ T (drop (i + 1) xs)) one-more ∙ append_assoc (T (take i xs)) (T (get_or xs i d ∷ [])) (T (drop (i + 1) xs))

@@ -71,3 +71,7 @@ module _ (plan : Plan) (stimuli : List CoreStimuli) (w : World) (seats : List Se
 -- what a core serves of more cores
 pub serves-append : (ids more : List CoreId) (id : CoreId) → serves_of (ids ++ more) id ≡ serves_of ids id ++ serves_of more id
 serves-append ids more id = ap (serves id) (filter-append (λ (from : CoreId). not (same_core from id)) ids more) ∙ map-append (λ (from : CoreId). (id, Serve from)) (filter (λ (from : CoreId). not (same_core from id)) ids) (filter (λ (from : CoreId). not (same_core from id)) more)
+
+-- what it serves of one other core
+pub serves-other : (other id : CoreId) → same_core other id ≡ false → serves_of (other ∷ []) id ≡ (id, Serve other) ∷ []
+serves-other other id is = ap (λ (b : Bool). map (λ (from : CoreId). (id, Serve from)) (cond (not b) (other ∷ []) [])) is
