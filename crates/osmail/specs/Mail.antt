@@ -1,8 +1,9 @@
 -- The mailboxes of all ordered pairs of cores, as contracts see them.
-use Rattle.std.specs.Prelude.{◌≡◌, ℕ, ◌+◌, ◌*◌, ◌<◌, ◌≤◌, nat_lt, Bool, if◌then◌else◌, Option, Result, Ok, Err, List, [], ◌∷◌, ◌++◌, length, drop, replicate, slice_get, slice_index_or, slice_set}
+use Rattle.std.specs.Prelude.{◌≡◌, ℕ, ◌+◌, ◌*◌, ◌<◌, ◌≤◌, ◌^◌, nat_lt, Bool, if◌then◌else◌, Option, Result, Ok, Err, List, [], ◌∷◌, ◌++◌, length, drop, replicate, slice_get, slice_index, slice_index_or, slice_set, sum_by}
 use Rattle.osbase.specs.declared.references.CoreId.{CoreId}
 use Rattle.osbase.specs.declared.messages.Envelope.{Envelope}
 use Rattle.osbase.specs.declared.turns.TheConstants.{CORES}
+use Rattle.osbase.specs.Sets.{core_ids}
 
 -- How many envelopes may stand in a mailbox, and the mailboxes, each with its oldest envelope first: the
 -- mailbox from core k to core d has the place 16 k + d. [own]
@@ -26,6 +27,14 @@ with_box mail from to envelopes = record mail { boxes = slice_set mail.boxes (pl
 abbrev pub empty_mail : ℕ → Mail
 empty_mail cap = record { cap = cap; boxes = replicate (CORES * CORES) [] }
 
+-- How many envelopes stand in the mailboxes to a core.
+unfoldable pub waiting_in : List (List Envelope) → CoreId → ℕ
+waiting_in boxes to = sum_by (λ from. length (slice_index_or boxes (place_of from to) [])) core_ids
+
+-- An envelope stands in one of them.
+abbrev pub has_mail : Mail → CoreId → Bool
+has_mail mail to = nat_lt 0 (waiting_in mail.boxes to)
+
 -- Fewer than the cap stand in the mailbox.
 abbrev pub has_room : Mail → CoreId → CoreId → Bool
 has_room mail from to = nat_lt (length (box_of mail from to)) mail.cap
@@ -45,9 +54,15 @@ oldest_of mail from to = slice_get (box_of mail from to) 0
 abbrev pub after_take : Mail → CoreId → CoreId → Mail
 after_take mail from to = with_box mail from to (drop 1 (box_of mail from to))
 
--- What holds of all mailboxes at all times: there is one for each pair, and at most the cap stand in each.
+-- What holds of all mailboxes at all times: there is one for each pair, at most the cap stand in each, and what stands in
+-- those to one core can be counted in 16 bits.
 pub record IsWithin (room cap : ℕ) (boxes : List (List Envelope)) : Type 0 where
   pub some : 1 ≤ cap
   pub fits : cap ≤ room
+  pub few : CORES * cap < 2 ^ 16
   pub places : length boxes ≡ CORES * CORES
   pub within : (k : ℕ) → k < CORES * CORES → length (slice_index_or boxes k []) ≤ cap
+
+-- Each core's count is of what stands in the mailboxes to it.
+abbrev pub AreCounted : List ℕ → List (List Envelope) → Type 0
+AreCounted counts boxes = (to : CoreId) → to.number < CORES → slice_index counts to.number ≡ waiting_in boxes to

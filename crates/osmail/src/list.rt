@@ -1,28 +1,30 @@
 //! The mailboxes of a listed run, in which one thread plays all cores.
 
-ghost use Rattle.std.specs.Prelude.{◌≡◌, ◌<◌, ◌≤◌, ◌==◌, ◌*◌, length, IfOk, OnErr};
-ghost use Rattle.osmail.specs.Mail.{after_send, after_take, answer_of, box_of, empty_mail, has_room, oldest_of, place_of};
+ghost use Rattle.std.specs.Prelude.{◌≡◌, ◌<◌, ◌≤◌, ◌==◌, ◌*◌, ◌^◌, length, IfOk, OnErr};
+ghost use Rattle.osmail.specs.Mail.{after_send, after_take, answer_of, box_of, empty_mail, has_mail, has_room, oldest_of, place_of};
 
 use crate::letters::Letters;
 use osbase::{CORES, CoreId, Envelope};
 use std::alloc::{AllocError, Global};
 use std::marker::Model;
 
-/// The mailboxes of every ordered pair of cores, each with place for `CAP` envelopes.
+/// The mailboxes of every ordered pair of cores, each with place for `CAP` envelopes. How many envelopes wait for each
+/// core is kept, so that nobody goes over the mailboxes to see that nothing waits.
 #[derive(Drop)]
 pub struct ListMail<const CAP: usize> {
     cap: usize,
     boxes: Vec<Letters<CAP>>,
+    counts: [u16; CORES],
 }
 
 impl<const CAP: usize> Model for ListMail<CAP> {
-    ghost use Rattle.osmail.specs.Mail.{Mail, IsWithin};
+    ghost use Rattle.osmail.specs.Mail.{AreCounted, IsWithin, Mail};
 
     ghost Value = { Mail };
 
     ghost view = { λ m. record { cap = m.cap; boxes = m.boxes.items } };
 
-    ghost invariant = { λ m. IsWithin CAP m.cap m.boxes.items };
+    ghost invariant = { λ m. IsWithin CAP m.cap m.boxes.items × AreCounted m.counts m.boxes.items };
 }
 
 impl<const CAP: usize> ListMail<CAP> {
@@ -31,13 +33,27 @@ impl<const CAP: usize> ListMail<CAP> {
     pub fn new(alloc: Global, cap: usize) -> Result<Self, AllocError>
         requires some { 1 ≤ cap }
         requires fits { cap ≤ CAP }
+        requires few { CORES * cap < 2 ^ 16 }
         ensures { IfOk result (λ mail. mail ≡ empty_mail cap) }
     {
         let mut boxes = Vec::with_capacity(alloc, CORES * CORES)?;
         for _place in 0..CORES * CORES {
             boxes.push(Letters::new())?;
         }
-        Ok(ListMail { cap, boxes })
+        Ok(ListMail {
+            cap,
+            boxes,
+            counts: [0; CORES],
+        })
+    }
+
+    /// Whether an envelope stands in a mailbox to this core.
+    #[inline]
+    pub fn has_mail(&self, to: CoreId) -> bool
+        requires receiver { to.number < CORES }
+        ensures { result ≡ has_mail self.now to }
+    {
+        self.counts[usize::from(to.number)] > 0
     }
 
     /// Whether fewer than the cap stand in the mailbox from `from` to `to`.
@@ -68,6 +84,7 @@ impl<const CAP: usize> ListMail<CAP> {
             return Err(envelope);
         }
         letters.push(envelope);
+        self.counts[usize::from(to.number)] += 1;
         Ok(())
     }
 
@@ -90,7 +107,9 @@ impl<const CAP: usize> ListMail<CAP> {
         ensures after { self.new ≡ after_take self.old from to }
         ensures places { length self.new.boxes ≡ CORES * CORES }
     {
-        self.boxes[place(from, to)].pop()
+        let envelope = self.boxes[place(from, to)].pop()?;
+        self.counts[usize::from(to.number)] -= 1;
+        Some(envelope)
     }
 }
 
@@ -120,7 +139,9 @@ mod tests {
         let mut mail: ListMail<4> = ListMail::new(rt.alloc(), 2)?;
         let (first, second) = (CoreId { number: 0 }, CoreId { number: 15 });
         assert!(rt; mail.room(first, second));
+        assert!(rt; !mail.has_mail(second));
         assert_eq!(rt; mail.send(first, second, envelope(0)), Ok(()));
+        assert!(rt; mail.has_mail(second));
         assert_eq!(rt; mail.send(second, first, envelope(7)), Ok(()));
         assert_eq!(rt; mail.send(first, second, envelope(1)), Ok(()));
         assert!(rt; !mail.room(first, second));
@@ -128,6 +149,8 @@ mod tests {
         assert_eq!(rt; mail.take(second, first), Some(envelope(0)));
         assert_eq!(rt; mail.take(second, first), Some(envelope(1)));
         assert_eq!(rt; mail.take(second, first), None);
+        assert!(rt; !mail.has_mail(second));
+        assert!(rt; mail.has_mail(first));
         assert_eq!(rt; mail.take(first, second), Some(envelope(7)));
         assert_eq!(rt; mail.take(first, first), None);
         Ok(())

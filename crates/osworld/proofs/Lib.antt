@@ -22,6 +22,6 @@ pub mod Mailed
 pub mod Ahead
 pub mod Alone
 pub mod Reported
-pub mod Rounds
+pub mod Served
 pub mod Short
 pub mod Default

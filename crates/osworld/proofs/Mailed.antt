@@ -14,7 +14,7 @@ use Rattle.osbase.specs.declared.items.Item.{Item}
 use Rattle.osbase.specs.declared.histories.OpenCall.{OpenCall}
 use Rattle.osbase.specs.declared.histories.Sent.{Sent}
 use Rattle.osbase.specs.Answers.{reply}
-use Rattle.osbase.specs.History.{Entry, History, Took, Noted, Opened, Queued, front_envelope, outbox, posted, received, same_core}
+use Rattle.osbase.specs.History.{Entry, History, Took, Noted, Opened, Queued, front_envelope, outbox, posted, queued_count, received, same_core}
 use Rattle.osbase.specs.Phases.{is_scheduling}
 use Rattle.osbase.proofs.Same.{same_core-true, same_core-refl}
 use Rattle.osplan.specs.View.{View}
@@ -72,7 +72,7 @@ meek-holds : (c : CoreId) → Holds (all_but c) anybody anybody (Meek c)
 meek-holds c = record {
   local = meek-local c;
   asked = λ core message h m p. list_all-append (is_meek c) (outbox h) _ ∙ and_from _ _ p (and_from _ _ (or_left (not (same_core core c)) _ m) refl);
-  replied = λ core s value h m p. list_all-append (is_meek c) (outbox h) _ ∙ and_from _ _ p (and_from _ _ (or_right (not (same_core core c)) _ (replies-pass s value _)) refl);
+  replied = λ core s value h m p. list_all-append (is_meek c) (outbox h) _ ∙ and_from _ _ p (and_from _ _ (or_right (not (same_core core c)) _ (replies-pass s value (queued_count core h))) refl);
   opened = λ call h m p. p;
 }
 

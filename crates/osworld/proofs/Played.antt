@@ -1,7 +1,10 @@
 -- Turn by turn: what was played before, and one turn more.
-use Rattle.std.proofs.Common.{◌≡◌, ℕ, zero, suc, ◌+◌, ◌<◌, ◌≤◌, Bool, true, false, not, ◌||◌, List, [], ◌∷◌, ◌++◌, length, get_or, take, refl, sym, ap, subst, ◌∙◌, arith, nat_eq}
+use Rattle.std.proofs.Common.{◌≡◌, ℕ, zero, suc, ◌+◌, ◌<◌, ◌≤◌, Bool, true, false, not, ◌||◌, List, [], ◌∷◌, ◌++◌, length, get_or, take, refl, sym, ap, subst, ◌∙◌, arith, nat_eq, length-append, append-nil, append_assoc, drop, Bor}
 use Rattle.std.proofs.lemmas.Bool.Decides.{nat_tests}
-use Rattle.std.proofs.lemmas.List.{take_more, take_all}
+use Rattle.std.specs.List.{flat_map}
+use Rattle.std.proofs.lemmas.List.Concat.{flat_map-cons}
+use Rattle.std.proofs.lemmas.List.{take-append-drop, take-append-le, take_more, take_all}
+use Rattle.std.proofs.Math.Seq.{take-append-add}
 use Rattle.osbase.specs.declared.references.CoreId.{CoreId}
 use Rattle.osbase.specs.declared.turns.Choice.{Choice}
 use Rattle.osbase.specs.declared.turns.CoreStimuli.{CoreStimuli}
@@ -10,7 +13,8 @@ use Rattle.osworld.specs.declared.answering.Between.{Between}
 use Rattle.osworld.specs.declared.seats.Seat.{Seat}
 use Rattle.osworld.specs.World.{World, turn, world_from, item_total, is_unchanged}
 use Rattle.osworld.specs.Runs.{AppendsAt}
-use Rattle.osworld.specs.Playing.{IsCutShort, IsPlayed, Plays}
+use Rattle.osworld.specs.Playing.{IsCutShort, IsPlayed, Plays, PlaysTurns, StopsShort}
+use Rattle.osworld.specs.declared.worlds.World.{World as Run}
 use Rattle.osworld.proofs.Listed.{total-push}
 use Rattle.osworld.proofs.Turns.{turns-keep}
 
@@ -81,3 +85,78 @@ played-all plan stimuli w turns i changed seats between le played = subst (λ (t
 
 pub played-none : (plan : Plan) (stimuli : List CoreStimuli) (w : World) (seats : List Seat) (between : Between) → Plays plan stimuli w seats between → IsPlayed plan stimuli w [] false seats between
 played-none plan stimuli w seats between plays = record { plays = plays; tells = grind (arith, nat_tests) }
+
+-- ---- the same of a run
+
+-- a run plays turns, and then others
+module _ (old run new : Run) (same : run.config ≡ old.config) (turns more : Turns) (changed : Bool) (before : PlaysTurns turns old changed run) where
+  plan_same : run.config.now ≡ old.config.now
+  plan_same = ap (λ (c : Bor Plan). c.now) same
+
+  pub plays-on : (changed' : Bool) → PlaysTurns more run changed' new → PlaysTurns (turns ++ more) old (changed' || changed) new
+  plays-on changed' next stimuli w plays =
+      played-append old.config.now stimuli w turns more changed changed' run.seats.items new.seats.items run.between new.between (before stimuli w plays)
+      (subst (λ (p : Plan). (v : World) → Plays p stimuli v run.seats.items run.between → IsPlayed p stimuli v more changed' new.seats.items new.between) plan_same (next stimuli))
+
+  -- or breaks off within those, whatever comes later
+  pub stops-on : (later : Turns) → StopsShort more run new → StopsShort (turns ++ (more ++ later)) old new
+  stops-on later stops stimuli w plays = record {
+    before = length turns + cut.before;
+    within = let lt = cut.within in let all = length-append turns (more ++ later) in let rest = length-append more later in omega (arith, lt, all, rest);
+    appends = rw (add-assoc, there cut.before (le-of cut.within), there (cut.before + 1) (next-of cut.within)) cut.appends;
+    plays = rw (there cut.before (le-of cut.within)) cut.plays;
+  }
+    where
+      here : World
+      here = world_from old.config.now stimuli w turns
+
+      cut : IsCutShort old.config.now stimuli here more new.seats.items new.between
+      cut = subst (λ (p : Plan). (v : World) → Plays p stimuli v run.seats.items run.between → IsCutShort p stimuli v more new.seats.items new.between) plan_same (stops stimuli) here (before stimuli w plays).plays
+
+      le-of : {a b : ℕ} → a < b → a ≤ b
+      le-of lt = omega (arith, lt)
+
+      next-of : {a b : ℕ} → a < b → a + 1 ≤ b
+      next-of lt = omega (arith, lt)
+
+      add-assoc : (length turns + cut.before) + 1 ≡ length turns + (cut.before + 1)
+      add-assoc = omega arith
+
+      there : (n : ℕ) → n ≤ length more → world_from old.config.now stimuli w (take (length turns + n) (turns ++ (more ++ later))) ≡ world_from old.config.now stimuli here (take n more)
+      there n le =
+          ap (world_from old.config.now stimuli w) (take-append-add turns (more ++ later) n ∙ ap (λ (ts : Turns). turns ++ ts) (take-append-le n more later le))
+          ∙ world_from-append old.config.now stimuli w turns (take n more)
+
+-- the first of them break off
+pub stops-first : (old new : Run) (turns later : Turns) → StopsShort turns old new → StopsShort (turns ++ later) old new
+stops-first old new turns later stops stimuli w plays =
+    let cut = stops stimuli w plays in
+    let all = length-append turns later in
+    record {
+      before = cut.before;
+      within = let lt = cut.within in omega (arith, lt, all);
+      appends = rw (take-append-le cut.before turns later (let lt = cut.within in omega (arith, lt)), take-append-le (cut.before + 1) turns later (let lt = cut.within in omega (arith, lt))) cut.appends;
+      plays = rw (take-append-le cut.before turns later (let lt = cut.within in omega (arith, lt))) cut.plays;
+    }
+
+-- ---- turns for each element of a list, as a loop plays them
+
+module _ {A : Type 0} (T : List A → Turns) (joins : (xs ys : List A) → T (xs ++ ys) ≡ T xs ++ T ys) (xs : List A) (i : ℕ) (d : A) (within : i < length xs) where
+  one-more : T (take (i + 1) xs) ≡ T (take i xs) ++ T (get_or xs i d ∷ [])
+  one-more = ap T (take_more xs i d within) ∙ joins (take i xs) (get_or xs i d ∷ [])
+
+  split : T xs ≡ T (take i xs) ++ (T (get_or xs i d ∷ []) ++ T (drop (i + 1) xs))
+  split =
+      ap T (sym (take-append-drop (i + 1) xs)) ∙ joins (take (i + 1) xs) (drop (i + 1) xs)
+      ∙ ap (λ (ts : Turns). ts ++ T (drop (i + 1) xs)) one-more ∙ append_assoc (T (take i xs)) (T (get_or xs i d ∷ [])) (T (drop (i + 1) xs))
+
+  module _ (old run new : Run) (same : run.config ≡ old.config) (changed : Bool) (before : PlaysTurns (T (take i xs)) old changed run) where
+    pub plays-next : (changed' : Bool) → PlaysTurns (T (get_or xs i d ∷ [])) run changed' new → PlaysTurns (T (take (i + 1) xs)) old (changed' || changed) new
+    plays-next changed' next = subst (λ (ts : Turns). PlaysTurns ts old (changed' || changed) new) (sym one-more) (plays-on old run new same (T (take i xs)) (T (get_or xs i d ∷ [])) changed before changed' next)
+
+    pub stops-next : StopsShort (T (get_or xs i d ∷ [])) run new → StopsShort (T xs) old new
+    stops-next stops = subst (λ (ts : Turns). StopsShort ts old new) (sym split) (stops-on old run new same (T (take i xs)) (T (get_or xs i d ∷ [])) changed before (T (drop (i + 1) xs)) stops)
+
+-- the turns of each element
+pub flat_map-one : {A : Type 0} (F : A → Turns) (x : A) → flat_map F (x ∷ []) ≡ F x
+flat_map-one F x = flat_map-cons F x [] ∙ append-nil (F x)

@@ -67,14 +67,17 @@ module _ (plan : Plan) (stimuli : List CoreStimuli) (w : World) (seats : List Se
   }
 
   -- nobody sits there
+  pub turn-nowhere : position (is_seat_of core) seats ≡ None → turn plan stimuli w (core, choice) ≡ w
+  turn-nowhere nowhere = turn-nobody plan stimuli w seats core choice plays.lists (seat_nowhere core seats nowhere)
+
   pub nobody-played : position (is_seat_of core) seats ≡ None → IsPlayed plan stimuli w ((core, choice) ∷ []) false seats between
-  nobody-played nowhere = idle (turn-nobody plan stimuli w seats core choice plays.lists (seat_nowhere core seats nowhere))
+  nobody-played nowhere = idle (turn-nowhere nowhere)
 
   module _ (at : ℕ) (seat : Seat) (place : position (is_seat_of core) seats ≡ Some at) (is : seat ≡ get_or seats at seat) where
     within : at < length seats
     within = (seat_place core seats at place).1
 
-    at_core : seat.id ≡ core
+    pub at_core : seat.id ≡ core
     at_core = same_core-true seat.id core (subst (λ (s : Seat). same_core s.id core ≡ true) (sym is) (seat_is_of core seats at seat (seat_place core seats at place).0 within))
 
     here : at ≡ position_or_len (is_seat_of seat.id) seats
@@ -103,13 +106,16 @@ module _ (plan : Plan) (stimuli : List CoreStimuli) (w : World) (seats : List Se
         }
 
     -- the turn is answered nothing
+    pub turn-unanswered : named_here ≡ None → turn plan stimuli w (core, choice) ≡ w
+    turn-unanswered nothing = subst (λ (c : CoreId). turn plan stimuli w (c, choice) ≡ w) at_core (turn-nothing plan stimuli w seats between plays choice at seat here within (sym is) nothing)
+
     pub unanswered-played : named_here ≡ None → IsPlayed plan stimuli w ((core, choice) ∷ []) false seats between
-    unanswered-played nothing = idle (subst (λ (c : CoreId). turn plan stimuli w (c, choice) ≡ w) at_core (turn-nothing plan stimuli w seats between plays choice at seat here within (sym is) nothing))
+    unanswered-played nothing = idle (turn-unanswered nothing)
 
     -- the turn names nothing
     pub nothing-played : named_here ≡ None → (new : Seat) → Keeps seat new → IsPlayed plan stimuli w ((core, choice) ∷ []) false (set seats at new) between
     nothing-played nothing new keeps =
-        let same : turn plan stimuli w (core, choice) ≡ w = subst (λ (c : CoreId). turn plan stimuli w (c, choice) ≡ w) at_core (turn-nothing plan stimuli w seats between plays choice at seat here within (sym is) nothing) in
+        let same = turn-unanswered nothing in
         record {
           plays = subst (λ (next : World). Plays plan stimuli next (set seats at new) between) (sym same) (kept new keeps);
           tells = unchanged-same w (turn plan stimuli w (core, choice)) same;

@@ -43,12 +43,17 @@ IsBrokenOff plan stimuli turns (NoMemory reports) =
 
 -- One round: each core by ascending number serves every other core by ascending number, goes on with its own
 -- work, and looks at the board. [own]
+abbrev pub serves_of : List CoreId → CoreId → List (CoreId × Choice)
+serves_of ids id = map (λ from. (id, Serve from)) (filter (λ from. not (same_core from id)) ids)
+
 abbrev pub turns_in_round : List CoreId → CoreId → List (CoreId × Choice)
-turns_in_round ids id =
-    map (λ from. (id, Serve from)) (filter (λ from. not (same_core from id)) ids) ++ (id, Own) ∷ (id, Look) ∷ []
+turns_in_round ids id = serves_of ids id ++ (id, Own) ∷ (id, Look) ∷ []
+
+abbrev pub round_by : List CoreId → List (CoreId × Choice)
+round_by ids = flat_map (turns_in_round ids) ids
 
 abbrev pub round_of : Plan → List (CoreId × Choice)
-round_of plan = flat_map (turns_in_round (ids_of plan)) (ids_of plan)
+round_of plan = round_by (ids_of plan)
 
 abbrev pub rounds : ℕ → List (CoreId × Choice) → List (CoreId × Choice)
 rounds zero round = []

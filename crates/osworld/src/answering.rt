@@ -2,7 +2,7 @@
 
 ghost use Rattle.std.specs.Prelude.{◌≡◌, ◌<◌, ◌≤◌, ◌&&◌, nat_lt, if◌then◌else◌, None, IfNone, IfOk, IfSome};
 ghost use Rattle.osbase.specs.declared.turns.TheConstants.{CORES};
-ghost use Rattle.osmail.specs.Mail.{empty_mail, has_room, oldest_of};
+ghost use Rattle.osmail.specs.Mail.{empty_mail, has_mail, has_room, oldest_of};
 ghost use Rattle.osboard.specs.Boards.{first_board};
 ghost use Rattle.osspin.specs.Spins.{no_holders};
 ghost use Rattle.osworld.specs.Answering.{answer_by, carried, IsPlaced, told};
@@ -43,6 +43,18 @@ impl Between {
             board: BoardList::new(plan.master),
             spins: SpinList::new(),
         })
+    }
+
+    /// Whether an envelope waits for this core. None does for a core numbered 16 or above.
+    #[inline]
+    pub fn has_mail(&self, id: CoreId) -> bool
+        ensures { result ≡ (nat_lt id.number CORES && has_mail self.now.mail id) }
+    {
+        if usize::from(id.number) < CORES {
+            self.mail.has_mail(id)
+        } else {
+            false
+        }
     }
 
     /// What a core's turn is answered: none where it serves a core from which there is no envelope, as most turns

@@ -5,7 +5,7 @@ ghost use Rattle.osplan.specs.Limits.{is_within_limits};
 ghost use Rattle.osplan.specs.Stimuli.{AreKnown};
 ghost use Rattle.osworld.specs.Fits.{ids_of};
 ghost use Rattle.osworld.specs.World.{first_world};
-ghost use Rattle.osworld.specs.Runs.{round_of, rounds as rounds_of, turns_in_round, AreReports, HasNoSchedule, IsBrokenOff, IsDefaultBrokenOff, IsDefaultRun, IsDefaultSchedule};
+ghost use Rattle.osworld.specs.Runs.{round_by, rounds as rounds_of, turns_in_round, AreReports, HasNoSchedule, IsBrokenOff, IsDefaultBrokenOff, IsDefaultRun, IsDefaultSchedule};
 ghost use Rattle.osworld.specs.Playing.{IsBegun, IsRound, Plays, PlaysDefault, StopsDefaultShort};
 
 use crate::worlds::{World, either};
@@ -58,11 +58,11 @@ pub fn run_default(
     ensures default { IfOk result (λ reports. IsDefaultRun config.now stimuli.now reports.items) }
     ensures broken_off { IfErr result (IsDefaultBrokenOff config.now stimuli.now) }
 {
-    let Ok(round) = round_of(alloc, config.plan()) else {
+    let Ok(ids) = ids_of(alloc, config.plan()) else {
         return Err(RunFault::NotBegun);
     };
     let mut world = begin(alloc, config, stimuli)?;
-    match play_rounds(&mut world, round.as_slice()) {
+    match play_rounds(&mut world, ids.as_slice()) {
         Ok(_) => Ok(world.finish()),
         Err(_) => Err(RunFault::NoMemory {
             reports: world.finish(),
@@ -83,16 +83,16 @@ pub fn default_schedule(
     ensures default { IfOk result (λ schedule. IsDefaultSchedule config.now stimuli.now schedule) }
     ensures broken_off { IfErr result (HasNoSchedule config.now stimuli.now) }
 {
-    let Ok(round) = round_of(alloc, config.plan()) else {
+    let Ok(ids) = ids_of(alloc, config.plan()) else {
         return Err(RunFault::NotBegun);
     };
     let mut world = begin(alloc, config, stimuli)?;
-    let Ok(rounds) = play_rounds(&mut world, round.as_slice()) else {
+    let Ok(rounds) = play_rounds(&mut world, ids.as_slice()) else {
         return Err(RunFault::NoMemory {
             reports: world.finish(),
         });
     };
-    match repeated(alloc, round.as_slice(), rounds) {
+    match scheduled(alloc, ids.as_slice(), rounds) {
         Ok(schedule) => Ok(schedule),
         Err(_) => Err(RunFault::NoMemory {
             reports: world.finish(),
@@ -100,9 +100,9 @@ pub fn default_schedule(
     }
 }
 
-// Plays whole rounds up to the end of the default schedule, and says how many.
-fn play_rounds(world: &mut World, round: &[Turn]) -> Result<u64, AllocError>
-    requires round { IsRound world.old.config.now round.now }
+// Plays whole rounds of these cores up to the end of the default schedule, and says how many.
+fn play_rounds(world: &mut World, ids: &[CoreId]) -> Result<u64, AllocError>
+    requires round { IsRound world.old.config.now (round_by ids.now) }
     requires begun { IsBegun world.old.config.now world.old.seats.items world.old.between }
     ensures reports { world.new.reports ≡ world.old.reports }
     ensures len { vec_len world.new.seats ≡ vec_len world.old.seats }
@@ -110,12 +110,20 @@ fn play_rounds(world: &mut World, round: &[Turn]) -> Result<u64, AllocError>
     ensures err { OnErr result (StopsDefaultShort world.old world.new) }
 {
     for rounds in 1..u64::MAX {
-        let changed = world.play(round)?;
+        let changed = world.play_round(ids)?;
         if either(world.is_over(), !changed) {
             return Ok(rounds);
         }
     }
     unreachable!()
+}
+
+// So many rounds of these cores.
+fn scheduled(alloc: Global, ids: &[CoreId], rounds: u64) -> Result<Schedule, AllocError>
+    ensures { IfOk result (λ schedule. schedule ≡ rounds_of rounds (round_by ids.now)) }
+{
+    let round = round_of(alloc, ids)?;
+    repeated(alloc, round.as_slice(), rounds)
 }
 
 // So many rounds.
@@ -144,14 +152,13 @@ fn begin<'a>(alloc: Global, config: &'a Config, stimuli: &'a Stimuli) -> Result<
     }
 }
 
-// The turns of one round.
-fn round_of(alloc: Global, plan: &Plan) -> Result<Vec<Turn>, AllocError>
-    ensures { IfOk result (λ round. round.items ≡ round_of plan.now) }
+// The turns of one round of these cores.
+fn round_of(alloc: Global, ids: &[CoreId]) -> Result<Vec<Turn>, AllocError>
+    ensures { IfOk result (λ round. round.items ≡ round_by ids.now) }
 {
-    let ids = ids_of(alloc, plan)?;
     let mut round = Vec::new(alloc);
-    for id in ids.as_slice() {
-        push_turns(&mut round, ids.as_slice(), *id)?;
+    for id in ids {
+        push_turns(&mut round, ids, *id)?;
     }
     Ok(round)
 }

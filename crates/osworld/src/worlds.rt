@@ -1,6 +1,6 @@
 //! The world of a listed run: its cores and what stands between them, turn by turn.
 
-ghost use Rattle.std.specs.Prelude.{IsTrue, ◌≡◌, ◌+◌, ◌<◌, ◌≤◌, ◌∷◌, [], Some, IfSome, IfOk, OnErr, vec_len, vec_capacity, map, not, ◌||◌, position, slice_get};
+ghost use Rattle.std.specs.Prelude.{IsTrue, ◌≡◌, ◌+◌, ◌<◌, ◌≤◌, ◌∷◌, [], Some, IfSome, IfOk, OnErr, false, vec_len, vec_capacity, map, not, ◌||◌, position, slice_get};
 ghost use Rattle.std.specs.List.{list_all};
 ghost use Rattle.std.proofs.Props.{props};
 ghost use Rattle.osbase.specs.declared.turns.TheConstants.{CORES};
@@ -12,7 +12,7 @@ ghost use Rattle.osworld.specs.declared.seats.Seat.{Seat as SeatValue};
 ghost use Rattle.osbase.specs.Sets.{has_core};
 ghost use Rattle.osworld.specs.Answering.{answer_by};
 ghost use Rattle.osworld.specs.World.{first_world};
-ghost use Rattle.osworld.specs.Runs.{is_ended_phase};
+ghost use Rattle.osworld.specs.Runs.{is_ended_phase, round_by, serves_of, turns_in_round};
 
 use crate::answering::Between;
 use crate::asks::{Answer, Ask};
@@ -81,6 +81,69 @@ impl<'a> World<'a> {
         Ok(changed)
     }
 
+    /// Plays one round of these cores. The turns at which a core would serve another one while no envelope waits for it are
+    /// passed by at once.
+    pub fn play_round(&mut self, ids: &[CoreId]) -> Result<bool, AllocError>
+        ensures config { self.new.config ≡ self.old.config }
+        ensures reports { self.new.reports ≡ self.old.reports }
+        ensures len { vec_len self.new.seats ≡ vec_len self.old.seats }
+        ensures ok { IfOk result (λ changed. PlaysTurns (round_by ids.now) self.old changed self.new) }
+        ensures err { OnErr result (StopsShort (round_by ids.now) self.old self.new) }
+    {
+        let mut changed = false;
+        for id in ids {
+            changed = either(self.play_core(ids, *id)?, changed);
+        }
+        Ok(changed)
+    }
+
+    // The turns of one core in a round.
+    fn play_core(&mut self, ids: &[CoreId], id: CoreId) -> Result<bool, AllocError>
+        ensures config { self.new.config ≡ self.old.config }
+        ensures reports { self.new.reports ≡ self.old.reports }
+        ensures len { vec_len self.new.seats ≡ vec_len self.old.seats }
+        ensures ok { IfOk result (λ changed. PlaysTurns (turns_in_round ids.now id) self.old changed self.new) }
+        ensures err { OnErr result (StopsShort (turns_in_round ids.now id) self.old self.new) }
+    {
+        let served = self.serve_all(ids, id)?;
+        let own = self.turn(id, Choice::Own)?;
+        let looked = self.turn(id, Choice::Look)?;
+        Ok(either(looked, either(own, served)))
+    }
+
+    // The core serves every other one of these, as long as an envelope waits for it.
+    fn serve_all(&mut self, ids: &[CoreId], id: CoreId) -> Result<bool, AllocError>
+        ensures config { self.new.config ≡ self.old.config }
+        ensures reports { self.new.reports ≡ self.old.reports }
+        ensures len { vec_len self.new.seats ≡ vec_len self.old.seats }
+        ensures ok { IfOk result (λ changed. PlaysTurns (serves_of ids.now id) self.old changed self.new) }
+        ensures err { OnErr result (StopsShort (serves_of ids.now id) self.old self.new) }
+    {
+        let mut changed = false;
+        for other in ids {
+            if !self.between.has_mail(id) {
+                return Ok(changed);
+            }
+            changed = either(self.serve(id, *other)?, changed);
+        }
+        Ok(changed)
+    }
+
+    // The core serves this one, unless it is the core itself.
+    fn serve(&mut self, id: CoreId, other: CoreId) -> Result<bool, AllocError>
+        ensures config { self.new.config ≡ self.old.config }
+        ensures reports { self.new.reports ≡ self.old.reports }
+        ensures len { vec_len self.new.seats ≡ vec_len self.old.seats }
+        ensures ok { IfOk result (λ changed. PlaysTurns (serves_of (other ∷ []) id) self.old changed self.new) }
+        ensures err { OnErr result (StopsShort (serves_of (other ∷ []) id) self.old self.new) }
+    {
+        if other.number == id.number {
+            Ok(false)
+        } else {
+            self.turn(id, Choice::Serve(other))
+        }
+    }
+
     /// One turn of a core: appends the one item that it names, or changes nothing.
     pub fn turn(&mut self, core: CoreId, choice: Choice) -> Result<bool, AllocError>
         ensures config { self.new.config ≡ self.old.config }
@@ -89,6 +152,9 @@ impl<'a> World<'a> {
         ensures ok { IfOk result (λ changed. PlaysTurns ((core, choice) ∷ []) self.old changed self.new) }
         ensures err { OnErr result (StopsShort ((core, choice) ∷ []) self.old self.new) }
     {
+        if self.serves_none(core, choice) {
+            return Ok(false);
+        }
         let Some(at) = self.place_of(core) else {
             return Ok(false);
         };
@@ -123,6 +189,16 @@ impl<'a> World<'a> {
         self.between.carry(seat.id, seat.kernel.front(), &item);
         seat.take(item);
         Ok(true)
+    }
+
+    // Whether the turn serves another core while no envelope waits for this one, as most turns do: it changes nothing.
+    fn serves_none(&self, core: CoreId, choice: Choice) -> bool
+        ensures { IsTrue result → PlaysTurns ((core, choice) ∷ []) self.now false self.now }
+    {
+        match choice {
+            Choice::Serve(_) => !self.between.has_mail(core),
+            _ => false,
+        }
     }
 
     /// Whether every started core has ended.

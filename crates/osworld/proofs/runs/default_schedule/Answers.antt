@@ -1,18 +1,19 @@
 use Rattle.std.proofs.Common.{ap, sym, ◌∙◌, inl, inr}
-use Rattle.osworld.specs.Runs.{round_of, rounds}
+use Rattle.osworld.specs.Fits.{ids_of}
+use Rattle.osworld.specs.Runs.{round_by, rounds}
 use Rattle.osworld.proofs.Default.{begun-there, default-broken_off, default-reported, default-scheduled}
 use Rattle.osworld.proofs.runs.default_schedule.Goals as goal
 
 pub play_rounds-requires-clause-round : goal.play_rounds-requires-clause-round
-play_rounds-requires-clause-round c = c.as_slice.ensures.value ∙ c.in-Ok.ensures ∙ ap round_of (c.plan.ensures.value ∙ sym c.in_ok-world.ensures.config)
+play_rounds-requires-clause-round c = ap round_by (c.as_slice.ensures.value ∙ c.in-Ok.ensures ∙ ap ids_of (c.plan.ensures.value ∙ sym c.in_ok-world.ensures.config))
 
 pub play_rounds-requires-clause-begun : goal.play_rounds-requires-clause-begun
 play_rounds-requires-clause-begun c = begun-there c.args.config.now c.in_ok-world.world.config.now c.in_ok-world.ensures.config c.args.stimuli.now _ _ c.in_ok-world.ensures.plays
 
-pub returns-in-Ok-repeated : goal.returns-in-Ok-repeated
-returns-in-Ok-repeated c = record {
-  default = default-scheduled c.args.config.now c.in_ok-world.world.config.now c.in_ok-world.ensures.config c.args.stimuli.now _ _ _ _ c.in_ok-world.ensures.plays c.in-Ok-play_rounds.rounds c.in-Ok-repeated.schedule
-      (c.in-Ok-repeated.ensures ∙ ap (rounds c.in-Ok-play_rounds.rounds) (c.as_slice-2.ensures.value ∙ c.in-Ok.ensures ∙ ap round_of c.plan.ensures.value)) c.in-Ok-play_rounds.ensures.ok;
+pub returns-in-Ok-scheduled : goal.returns-in-Ok-scheduled
+returns-in-Ok-scheduled c = record {
+  default = default-scheduled c.args.config.now c.in_ok-world.world.config.now c.in_ok-world.ensures.config c.args.stimuli.now _ _ _ _ c.in_ok-world.ensures.plays c.in-Ok-play_rounds.rounds c.in-Ok-scheduled.schedule
+      (c.in-Ok-scheduled.ensures ∙ ap (λ ids. rounds c.in-Ok-play_rounds.rounds (round_by ids)) (c.as_slice-2.ensures.value ∙ c.in-Ok.ensures ∙ ap ids_of c.plan.ensures.value)) c.in-Ok-play_rounds.ensures.ok;
   broken_off = tt;
 }
 

@@ -1,5 +1,6 @@
 use Rattle.std.proofs.Common.{◌≤◌, ◌^◌, refl, ap, sym, ◌∙◌, arith, Bor}
 use Rattle.osplan.specs.declared.plans.Plan.{Plan}
+use Rattle.osworld.specs.Runs.{round_by}
 use Rattle.osworld.proofs.Turned.{on_err}
 use Rattle.osworld.proofs.Default.{default-cut, default-played, round-cut, round-played, too_many, underway-first, underway-on}
 use Rattle.osworld.proofs.runs.play_rounds.Goals as goal
@@ -12,13 +13,13 @@ returns-in_err-changed-clause-err c =
     on_err c.from_residual.result (λ stimuli plays.
     let underway = c.loop-rounds.invariant.3 stimuli plays in
     default-cut c.args.world.now.config.now stimuli c.loop-rounds.rounds _ _ underway _ _
-    (round-cut c.args.world.now.config.now c.loop-rounds.world.config.now (ap (λ (b : Bor Plan). b.now) c.loop-rounds.invariant.0) stimuli c.args.round.now c.requires.round _ _ _ _ _ underway.plays (c.in_err-changed.ensures.err stimuli)))
+    (round-cut c.args.world.now.config.now c.loop-rounds.world.config.now (ap (λ (b : Bor Plan). b.now) c.loop-rounds.invariant.0) stimuli (round_by c.args.ids.now) c.requires.round _ _ _ _ _ underway.plays (c.in_err-changed.ensures.err stimuli)))
 
 pub returns-then-either-clause-ok : goal.returns-then-either-clause-ok
 returns-then-either-clause-ok c stimuli plays =
     let underway = c.loop-rounds.invariant.3 stimuli plays in
     default-played c.args.world.now.config.now stimuli c.loop-rounds.rounds _ _ underway c.in_ok-changed.changed c.is_over.result _ _
-    (round-played c.args.world.now.config.now c.loop-rounds.world.config.now (ap (λ (b : Bor Plan). b.now) c.loop-rounds.invariant.0) stimuli c.args.round.now c.requires.round _ _ _ _ _ underway.plays c.in_ok-changed.changed (c.in_ok-changed.ensures.ok stimuli))
+    (round-played c.args.world.now.config.now c.loop-rounds.world.config.now (ap (λ (b : Bor Plan). b.now) c.loop-rounds.invariant.0) stimuli (round_by c.args.ids.now) c.requires.round _ _ _ _ _ underway.plays c.in_ok-changed.changed (c.in_ok-changed.ensures.ok stimuli))
     c.is_over.ensures (sym c.either.ensures ∙ c.if-either.true)
 
 pub loop-rounds-preserved : goal.loop-rounds-preserved
@@ -29,7 +30,7 @@ loop-rounds-preserved c = (
   λ stimuli plays.
       let underway = c.loop-rounds.invariant.3 stimuli plays in
       underway-on c.args.world.now.config.now stimuli c.loop-rounds.rounds _ _ underway c.in_ok-changed.changed c.is_over.result _ _
-      (round-played c.args.world.now.config.now c.loop-rounds.world.config.now (ap (λ (b : Bor Plan). b.now) c.loop-rounds.invariant.0) stimuli c.args.round.now c.requires.round _ _ _ _ _ underway.plays c.in_ok-changed.changed (c.in_ok-changed.ensures.ok stimuli))
+      (round-played c.args.world.now.config.now c.loop-rounds.world.config.now (ap (λ (b : Bor Plan). b.now) c.loop-rounds.invariant.0) stimuli (round_by c.args.ids.now) c.requires.round _ _ _ _ _ underway.plays c.in_ok-changed.changed (c.in_ok-changed.ensures.ok stimuli))
       c.is_over.ensures (sym c.either.ensures ∙ c.if-either.false),
 )
 

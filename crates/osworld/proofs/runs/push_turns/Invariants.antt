@@ -1,5 +1,5 @@
 use Rattle.std.proofs.Common.{◌≡◌, ◌++◌, take}
-use Rattle.osworld.proofs.Rounds.{serves_of}
+use Rattle.osworld.specs.Runs.{serves_of}
 use Rattle.osworld.proofs.runs.push_turns.Given as goal
 
 abbrev pub invariant-loop-other : goal.invariant-loop-other

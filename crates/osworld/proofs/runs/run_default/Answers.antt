@@ -1,10 +1,11 @@
 use Rattle.std.proofs.Common.{ap, sym, ◌∙◌}
-use Rattle.osworld.specs.Runs.{round_of}
+use Rattle.osworld.specs.Fits.{ids_of}
+use Rattle.osworld.specs.Runs.{round_by}
 use Rattle.osworld.proofs.Default.{begun-there, default-broken_off, default-reported}
 use Rattle.osworld.proofs.runs.run_default.Goals as goal
 
 pub play_rounds-requires-clause-round : goal.play_rounds-requires-clause-round
-play_rounds-requires-clause-round c = c.as_slice.ensures.value ∙ c.in-Ok.ensures ∙ ap round_of (c.plan.ensures.value ∙ sym c.in_ok-world.ensures.config)
+play_rounds-requires-clause-round c = ap round_by (c.as_slice.ensures.value ∙ c.in-Ok.ensures ∙ ap ids_of (c.plan.ensures.value ∙ sym c.in_ok-world.ensures.config))
 
 pub play_rounds-requires-clause-begun : goal.play_rounds-requires-clause-begun
 play_rounds-requires-clause-begun c = begun-there c.args.config.now c.in_ok-world.world.config.now c.in_ok-world.ensures.config c.args.stimuli.now _ _ c.in_ok-world.ensures.plays

@@ -1,0 +1,77 @@
+-- A core for which no envelope waits serves the others, and nothing changes.
+use Rattle.std.proofs.Common.{◌≡◌, ◌<◌, ℕ, Bool, true, false, not, ◌&&◌, cond, nat_lt, Option, Some, None, slice_get, List, [], nat_eq, ◌≤◌, ◌∷◌, ◌++◌, filter, length, get_or, map, refl, sym, ap, subst, ◌∙◌, arith, ◌⊎◌, inl, inr}
+use Rattle.std.specs.List.{position}
+use Rattle.std.proofs.lemmas.Bool.{ltb-true}
+use Rattle.std.proofs.lemmas.Bool.Decides.{nat_tests}
+use Rattle.std.proofs.lemmas.List.{map-append}
+use Rattle.std.proofs.lemmas.List.Elements.{filter-append}
+use Rattle.std.proofs.lemmas.Option.{slice_get_cases}
+use Rattle.osbase.specs.declared.references.CoreId.{CoreId}
+use Rattle.osbase.specs.declared.messages.Envelope.{Envelope}
+use Rattle.osbase.specs.declared.turns.Choice.{Choice}
+use Rattle.osbase.specs.declared.turns.Choice.TheVariants.{Serve}
+use Rattle.osbase.specs.declared.turns.CoreStimuli.{CoreStimuli}
+use Rattle.osbase.specs.declared.turns.TheConstants.{CORES}
+use Rattle.osmail.specs.Mail.{has_mail, oldest_of}
+use Rattle.osmail.proofs.Counts.{no_mail}
+use Rattle.osplan.specs.declared.plans.Plan.{Plan}
+use Rattle.oskernel.specs.Wants.{watch_in}
+use Rattle.osworld.specs.declared.answering.Between.{Between}
+use Rattle.osworld.specs.declared.asks.Ask.TheVariants.{Oldest}
+use Rattle.osworld.specs.declared.asks.Answer.TheVariants.{Found}
+use Rattle.osworld.specs.declared.seats.Seat.{Seat}
+use Rattle.osworld.specs.Answering.{next_by}
+use Rattle.osworld.specs.Asking.{leads_to}
+use Rattle.osbase.specs.History.{same_core}
+use Rattle.osworld.specs.Playing.{IsPlayed, Plays}
+use Rattle.osworld.specs.Runs.{serves_of}
+use Rattle.osworld.specs.World.{World, is_unchanged, item_total, turn, world_from}
+use Rattle.osworld.proofs.Listed.{is_seat_of, seat_place}
+use Rattle.osworld.proofs.Turned.{at_core, turn-nowhere, turn-unanswered}
+
+abbrev serves : CoreId → List CoreId → List (CoreId × Choice)
+serves core froms = map (λ (from : CoreId). (core, Serve from)) froms
+
+module _ (plan : Plan) (stimuli : List CoreStimuli) (w : World) (seats : List Seat) (between : Between) (plays : Plays plan stimuli w seats between) (core : CoreId) (nothing : (nat_lt core.number CORES && has_mail between.mail core) ≡ false) where
+  module _ (from : CoreId) where
+    none-oldest : core.number < CORES → (b : Bool) → nat_lt from.number CORES ≡ b → cond b (oldest_of between.mail from core) None ≡ None
+    none-oldest known true below = ap (λ (envelopes : List Envelope). slice_get envelopes 0) (no_mail between.mail from core (ltb-true from.number CORES below) (grind (arith, nat_tests, nothing, known)))
+    none-oldest known false below = refl
+
+    none-named : (seat : Seat) → seat.id ≡ core → next_by plan between seat.id seat.stimuli.now seat.kernel (Serve from) ≡ None
+    none-named seat is =
+        let known : core.number < CORES = subst (λ (id : CoreId). id.number < CORES) is seat.known in
+        subst (λ (id : CoreId). leads_to id (watch_in seat.kernel) (Oldest from) (Found (cond (nat_lt from.number CORES) (oldest_of between.mail from id) None)) ≡ None) (sym is)
+        (ap (λ (o : Option Envelope). leads_to core (watch_in seat.kernel) (Oldest from) (Found o)) (none-oldest known (nat_lt from.number CORES) refl))
+
+    unserved-turn : turn plan stimuli w (core, Serve from) ≡ w
+    unserved-turn = by (position (is_seat_of core) seats) refl
+      where
+        seated : (at : ℕ) → position (is_seat_of core) seats ≡ Some at → ((seat : Seat) × (at < length seats) × (slice_get seats at ≡ Some seat) × (get_or seats at seat ≡ seat)) ⊎ ((length seats ≤ at) × (slice_get seats at ≡ None)) → turn plan stimuli w (core, Serve from) ≡ w
+        seated at place (inl there) = turn-unanswered plan stimuli w seats between plays core (Serve from) at there.0 place (sym there.3) (none-named there.0 (at_core plan stimuli w seats between plays core (Serve from) at there.0 place (sym there.3)))
+        seated at place (inr past) = let within = (seat_place core seats at place).1 in absurd (omega (arith, within, past.0))
+
+        by : (o : Option ℕ) → position (is_seat_of core) seats ≡ o → turn plan stimuli w (core, Serve from) ≡ w
+        by None nowhere = turn-nowhere plan stimuli w seats between plays core (Serve from) nowhere
+        by (Some at) place = seated at place (slice_get_cases seats at).1
+
+  unserved : (froms : List CoreId) → world_from plan stimuli w (serves core froms) ≡ w
+  unserved [] = refl
+  unserved (from ∷ froms) = ap (λ (next : World). world_from plan stimuli next (serves core froms)) (unserved-turn from) ∙ unserved froms
+
+  pub unserved-played : (froms : List CoreId) → IsPlayed plan stimuli w (map (λ (from : CoreId). (core, Serve from)) froms) false seats between
+  unserved-played froms = record {
+    plays = subst (λ (next : World). Plays plan stimuli next seats between) (sym (unserved froms)) plays;
+    tells = subst (λ (next : World). false ≡ not (is_unchanged w next)) (sym (unserved froms)) (unchanged-itself (item_total w));
+  }
+    where
+      unchanged-itself : (n : ℕ) → false ≡ not (nat_eq n n)
+      unchanged-itself n = grind (arith, nat_tests)
+
+-- what a core serves of more cores
+pub serves-append : (ids more : List CoreId) (id : CoreId) → serves_of (ids ++ more) id ≡ serves_of ids id ++ serves_of more id
+serves-append ids more id = ap (serves id) (filter-append (λ (from : CoreId). not (same_core from id)) ids more) ∙ map-append (λ (from : CoreId). (id, Serve from)) (filter (λ (from : CoreId). not (same_core from id)) ids) (filter (λ (from : CoreId). not (same_core from id)) more)
+
+-- what it serves of one other core
+pub serves-other : (other id : CoreId) → same_core other id ≡ false → serves_of (other ∷ []) id ≡ (id, Serve other) ∷ []
+serves-other other id is = ap (λ (b : Bool). map (λ (from : CoreId). (id, Serve from)) (cond (not b) (other ∷ []) [])) is

@@ -1,0 +1,10 @@
+use Rattle.std.proofs.Common.{◌≡◌, take, vec_len}
+use Rattle.std.specs.List.{flat_map}
+use Rattle.osworld.specs.Playing.{PlaysTurns}
+use Rattle.osworld.specs.Runs.{turns_in_round}
+use Rattle.osworld.proofs.worlds.World.play_round.Given as goal
+
+abbrev pub invariant-loop-id : goal.invariant-loop-id
+invariant-loop-id l =
+    (l.self.config ≡ l.fn.self.config) × (l.self.reports ≡ l.fn.self.reports) × (vec_len l.self.seats ≡ vec_len l.fn.self.seats)
+    × PlaysTurns (flat_map (turns_in_round l.ids) (take l.id-index l.ids)) l.fn.self l.changed l.self
