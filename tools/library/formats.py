@@ -87,8 +87,8 @@ MOST_TURNS = 1000000  # of a schedule
 NAME = re.compile(r"[A-Za-z][A-Za-z0-9_]{0,127}")
 DECIMAL = re.compile(r"0|[1-9][0-9]*")
 SIGNED_DECIMAL = re.compile(r"0|-?[1-9][0-9]*")
-# The turns Ko, KsD and Kl of a schedule; a core's number is one digit.
-TURN = re.compile(r"(?P<core>[0-7])(?:(?P<word>[ol])|s(?P<sender>[0-7]))")
+# The turns Ko, KsD and Kl of a schedule.
+TURN = re.compile(r"(?P<core>[0-9]+)(?:[ol]|s(?P<sender>[0-9]+))")
 
 
 def is_name(text: str) -> bool:
@@ -328,9 +328,9 @@ NAMED_LISTS = {
 class Argument:
     """A word behind the name of an operation.
 
-    `word` is how docs/FORMATS.md writes it. `kind` is one of `task`, `resource`, `counter`, `alarm` and `table` (a name,
-    or `?`), `variable`, `mask`, `place` (0 to the number of the script's operations), `signed` (a number of 64 bits) and
-    `number` (0 to 4294967295). If `own_core`, an object of another core is fault 6.
+    `word` is how docs/FORMATS.md writes it. `kind` is one of these: `task`, `resource`, `counter`, `alarm`, `table` (a
+    name, or `?`), `variable`, `mask`, `place` (0 to the number of the script's operations), `signed` (a number of 64
+    bits), `number` (0 to 4294967295). If `own_core`, an object of another core is fault 6.
     """
 
     word: str

@@ -1,0 +1,95 @@
+"""What is said of a file: its faults and notes, each with its place."""
+
+import difflib
+from dataclasses import dataclass
+from typing import Iterable, List, Optional
+
+from library.formats import Fault
+from library.places import Document, Json, Place
+
+
+@dataclass(frozen=True)
+class Finding:
+    """A fault, or a note if `fault` is None, with its place in a file."""
+
+    fault: Optional[Fault]
+    place: Place
+    pointer: str
+    text: str
+
+    @property
+    def order(self) -> tuple:
+        """The least fault number first, notes last, and then by place."""
+        number = self.fault.number if self.fault is not None else 1000
+        return number, self.place
+
+    def line(self, path: str) -> str:
+        """The line of a report. The pointer of a whole file, the empty text, is shown as two quotes."""
+        what = str(self.fault) if self.fault is not None else "note"
+        pointer = self.pointer or '""'
+        return "%s:%d:%d: %s: %s: %s" % (path, self.place.line, self.place.column, what, pointer, self.text)
+
+
+class Report:
+    """The findings of one file, as they are found."""
+
+    def __init__(self, document: Document):
+        self.document = document
+        self.findings: List[Finding] = []
+
+    def fault(self, fault: Fault, value: Json, text: str, offset: Optional[int] = None) -> None:
+        """A fault of a value; the place is the value's, or an offset within it."""
+        self._add(fault, value.pointer, value.start if offset is None else offset, text)
+
+    def fault_of_member(self, fault: Fault, owner: Json, name: str, text: str) -> None:
+        """A fault of a member as such: the place is that of its name."""
+        member = owner.members[name]
+        self._add(fault, member.value.pointer, member.name_start, text)
+
+    def note(self, value: Json, text: str, offset: Optional[int] = None) -> None:
+        """A note on a value."""
+        self._add(None, value.pointer, value.start if offset is None else offset, text)
+
+    def line_of(self, value: Json) -> int:
+        """The line in which a value begins."""
+        return self.document.place(value.start).line
+
+    def has(self, fault: Fault) -> bool:
+        """Whether such a fault was found."""
+        return any(finding.fault == fault for finding in self.findings)
+
+    @property
+    def has_faults(self) -> bool:
+        """Whether any fault was found."""
+        return any(finding.fault is not None for finding in self.findings)
+
+    def _add(self, fault: Optional[Fault], pointer: str, offset: int, text: str) -> None:
+        self.findings.append(Finding(fault, self.document.place(offset), pointer, text))
+
+
+def nearest(word: str, known: Iterable[str]) -> Optional[str]:
+    """The known word that is most like a word, whatever its capitals; None if none is like it."""
+    by_small = {}
+    for each in known:
+        by_small.setdefault(each.lower(), each)
+    found = difflib.get_close_matches(word.lower(), list(by_small), 1, 0.6)
+    return by_small[found[0]] if found else None
+
+
+def did_you_mean(word: str, known: Iterable[str]) -> str:
+    """The end of a report that offers the nearest known word."""
+    near = nearest(word, known)
+    return "; did you mean `%s`?" % near if near is not None else ""
+
+
+def listed(words: Iterable[str]) -> str:
+    """Words as prose lists them."""
+    words = list(words)
+    if len(words) < 2:
+        return "".join(words)
+    return ", ".join(words[:-1]) + " and " + words[-1]
+
+
+def counted(number: int, thing: str) -> str:
+    """A number with what it counts: `1 task`, `2 tasks`."""
+    return "%d %s%s" % (number, thing, "" if number == 1 else "s")

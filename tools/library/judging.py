@@ -1,0 +1,118 @@
+"""All faults of a configuration, of stimuli for it and of a schedule, as docs/FORMATS.md orders them, and the notes."""
+
+import os
+from dataclasses import dataclass
+from typing import Callable, List, Optional, Sequence, Tuple
+
+from library.drafts import Draft, draft_of
+from library.findings import Finding, Report
+from library.formats import MOST_BYTES, NO_MEMORY, NOT_JSON, SHAPE, UNREADABLE
+from library.inputs import judge_schedule as _judge_turns
+from library.inputs import judge_stimuli as _judge_words
+from library.limits import judge_limits
+from library.names import judge_names
+from library.notes import note_configuration, note_repeated, note_stimuli
+from library.places import NotJson, Place, read_document
+from library.shapes import judge_shape
+
+START = Place(1, 1)
+
+
+@dataclass(frozen=True)
+class Judgement:
+    """The findings of one file in their order; of a configuration whose shape is right also its draft."""
+
+    findings: Tuple[Finding, ...]
+    draft: Optional[Draft] = None
+
+    @property
+    def least(self) -> int:
+        """The number that `mcos` reports; 0 if there is no fault."""
+        first = self.findings[0].fault if self.findings else None
+        return first.number if first is not None else 0
+
+
+def judge_configuration(data: bytes) -> Judgement:
+    """Judges the bytes of a configuration."""
+    return _judge(data, _configuration)
+
+
+def judge_stimuli(data: bytes, draft: Draft) -> Judgement:
+    """Judges the bytes of stimuli for a configuration without a fault."""
+
+    def stimuli(report: Report) -> None:
+        _judge_words(report, draft)
+        if not report.has_faults:
+            note_stimuli(report, draft)
+
+    return _judge(data, stimuli)
+
+
+def judge_schedule(data: bytes, draft: Draft) -> Judgement:
+    """Judges the bytes of a schedule for a configuration without a fault."""
+    return _judge(data, lambda report: _judge_turns(report, draft))
+
+
+def _configuration(report: Report) -> Optional[Draft]:
+    """Judges a configuration past its JSON. What is not of the shape has no other fault."""
+    judge_shape(report)
+    if report.has(SHAPE):
+        return None
+    draft = draft_of(report.document.root)
+    judge_limits(report, draft)
+    judge_names(report, draft)
+    note_configuration(report, draft)
+    return draft
+
+
+def _judge(data: bytes, judge: Callable[[Report], Optional[Draft]]) -> Judgement:
+    """Reads a file's bytes and judges them."""
+    if len(data) > MOST_BYTES:
+        return Judgement((Finding(NO_MEMORY, START, "", "the file is longer than 1 GiB"),))
+    try:
+        document = read_document(data)
+    except NotJson as error:
+        return Judgement((Finding(NOT_JSON, error.place, error.pointer, error.text),))
+    report = Report(document)
+    draft = judge(report)
+    note_repeated(report)
+    return Judgement(tuple(sorted(report.findings, key=lambda finding: finding.order)), draft)
+
+
+def judge_files(paths: Sequence[str]) -> List[Tuple[str, Finding]]:
+    """The findings of a configuration, stimuli and a schedule, of which the last ones may be left out: faults first.
+
+    As mcos does, it judges no file behind one with a fault.
+    """
+    found: List[Tuple[str, Finding]] = []
+    draft = None
+    for index, path in enumerate(paths):
+        judgement = _judge_file(path, index, draft)
+        found += [(path, finding) for finding in judgement.findings]
+        draft = draft or judgement.draft
+        if judgement.least:
+            text = "not judged, since %s has a fault" % path
+            found += [(later, Finding(None, START, "", text)) for later in paths[index + 1 :]]
+            break
+    # A sort keeps the order of the files, and in each that of the places.
+    return sorted(found, key=lambda pair: pair[1].order[0])
+
+
+def _judge_file(path: str, index: int, draft: Optional[Draft]) -> Judgement:
+    """Judges the file at a path: the configuration, the stimuli or the schedule."""
+    try:
+        with open(path, "rb") as file:
+            data = file.read(MOST_BYTES + 1)
+    except OSError as error:
+        return Judgement((Finding(UNREADABLE, START, "", _unreadable(path, error)),))
+    if index == 0:
+        return judge_configuration(data)
+    return judge_stimuli(data, draft) if index == 1 else judge_schedule(data, draft)
+
+
+def _unreadable(path: str, error: OSError) -> str:
+    """Why a file cannot be read."""
+    reason = error.strerror or str(error)
+    if path == "-" and not os.path.exists(path):
+        return "%s: `-` is a file's name like any other; the standard input is `/dev/stdin`" % reason
+    return reason

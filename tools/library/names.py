@@ -1,0 +1,88 @@
+"""Faults 4, 5 and 6 of members: names that stand twice, and names of nothing or of another core's objects."""
+
+from library.drafts import Core, Draft, Named
+from library.findings import Report, listed
+from library.formats import DUPLICATE_NAME, MODE, UNKNOWN_NAME, WRONG_CORE, is_name
+from library.places import JsonList
+from library.scripts import Judge, unknown_name
+
+
+def judge_names(report: Report, draft: Draft) -> None:
+    """Judges all names of a configuration; those in scripts and actions too."""
+    _judge_ids(report, draft)
+    _judge_twice(report, draft)
+    _judge_master(report, draft)
+    for core in draft.cores:
+        judge = Judge(report, draft, core)
+        for task in core.named["tasks"]:
+            if task.spot("auto") is not task.node:
+                _judge_modes(report, task.spot("auto"))
+            judge.script(task.spot("script"))
+        for alarm in core.named["alarms"]:
+            _judge_owner(report, draft, core, alarm)
+            judge.action(alarm.spot("action"))
+        for table in core.named["tables"]:
+            _judge_owner(report, draft, core, table)
+            for point in table.parts("points"):
+                for action in point.elements("actions"):
+                    judge.action(action)
+
+
+def _judge_ids(report: Report, draft: Draft) -> None:
+    """Judges whether two cores have one number."""
+    first = {}
+    for core in draft.cores:
+        earlier = first.setdefault(core.id, core)
+        if earlier is not core and core.id >= 0:
+            text = "core %d stands twice: also in line %d" % (core.id, report.line_of(earlier.spot("id")))
+            report.fault(DUPLICATE_NAME, core.spot("id"), text)
+
+
+def _judge_twice(report: Report, draft: Draft) -> None:
+    """Judges whether two objects have one name, or one has that of the mode."""
+    for name, objects in draft.by_name.items():
+        if name == MODE:
+            for each in objects:
+                report.fault(DUPLICATE_NAME, each.spot("name"), "`%s` is the name of the mode" % MODE)
+            continue
+        first = objects[0]
+        for each in objects[1:]:
+            text = "`%s` is already the name of the %s of core %d in line %d"
+            text %= (name, first.kind.name, first.core.id, report.line_of(first.spot("name")))
+            report.fault(DUPLICATE_NAME, each.spot("name"), text)
+
+
+def _judge_master(report: Report, draft: Draft) -> None:
+    """Judges whether the master is a configured core. By default it is core 0."""
+    master = draft["master"]
+    if master in draft.ids or not draft.cores:
+        return
+    known = "the configuration has the cores %s" % listed(str(number) for number in sorted(draft.ids))
+    if len(draft.cores) == 1:
+        known = "the configuration has core %d alone" % draft.ids[0]
+    text = "`master` is %d: %s" % (master, known)
+    if "master" not in draft.node.members:
+        text = "`master` is 0 if it is left out: %s" % known
+    report.fault(UNKNOWN_NAME, draft.spot("master"), text)
+
+
+def _judge_modes(report: Report, modes: JsonList) -> None:
+    """Judges a list of modes."""
+    for mode in modes.elements:
+        if is_name(mode.text) and mode.text != MODE:
+            text = "there is one mode, `%s`, and none is called `%s`" % (MODE, mode.text)
+            report.fault(UNKNOWN_NAME, mode, text)
+
+
+def _judge_owner(report: Report, draft: Draft, core: Core, owner: Named) -> None:
+    """Judges the counter and the modes of an alarm or a table."""
+    name = owner["counter"]
+    found = draft.find("counter", name, core)
+    if found is None:
+        report.fault(UNKNOWN_NAME, owner.spot("counter"), unknown_name(draft, "counter", name, "counter"))
+    elif found.core.id != core.id:
+        text = "`%s` is a counter of core %d: the `counter` of %s stands on its own core, %d"
+        title = "an alarm" if owner.kind.name == "alarm" else "a table"
+        report.fault(WRONG_CORE, owner.spot("counter"), text % (name, found.core.id, title, core.id))
+    if owner.auto is not None:
+        _judge_modes(report, owner.auto.spot("modes"))
