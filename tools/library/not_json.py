@@ -161,7 +161,8 @@ def text_not_closed(text: str, start: int, at: int) -> Tuple[int, str]:
         return start, "this text has no closing `\"` in its line"
     if text[at] == "\t":
         return at, "a tab stands in a text; JSON writes it `\\t`"
-    return at, "the control character U+%04X stands in a text; JSON writes it `\\u%04x`" % (ord(text[at]), ord(text[at]))
+    code = ord(text[at])
+    return at, "the control character U+%04X stands in a text; JSON writes it `\\u%04x`" % (code, code)
 
 
 def no_escape(text: str, at: int) -> str:
