@@ -2,11 +2,11 @@
 
 from collections import deque
 from dataclasses import dataclass
-from typing import Dict, Iterable, List, NamedTuple, Optional, Tuple
+from typing import Dict, Iterable, List, NamedTuple, Tuple
 
 from library import model
 from library.findings import listed
-from library.model import Actor, Model, Reference
+from library.model import Model, Reference
 
 # How a reference crosses.
 REQUEST = "request"
@@ -103,11 +103,15 @@ def reasons(whole: Model, core: int) -> List[str]:
     if whole.starts[core]:
         found.append("its `start` is not empty: %s" % listed(str(number) for number in whole.starts[core]))
     for other in whole.ids:
-        objects = _objects(reference for reference in whole.outward if (reference.core, reference.home) == (core, other))
+        objects = _objects(
+            reference for reference in whole.outward if (reference.core, reference.home) == (core, other)
+        )
         if objects:
             found.append("it refers to core %d: %s" % (other, objects))
     for other in whole.ids:
-        objects = _objects(reference for reference in whole.outward if (reference.core, reference.home) == (other, core))
+        objects = _objects(
+            reference for reference in whole.outward if (reference.core, reference.home) == (other, core)
+        )
         if objects:
             state = "" if other in whole.started else ", which is off,"
             found.append("core %d%s refers to it: %s" % (other, state, objects))

@@ -7,10 +7,12 @@ grammar within one text.
 import json
 import re
 from dataclasses import dataclass, field
-from typing import Dict, Iterator, List, NamedTuple, Optional, Sequence, Tuple, Union
+from typing import Dict, Iterator, List, NamedTuple, Optional, Sequence, Tuple
 
 from library import formats, shorthand
+from library.findings import did_you_mean
 from library.places import Document, Json, JsonList, JsonMember, JsonObject, JsonText, JsonWord, Place
+from library.schemas import TURN
 from library.shorthand import Parts, Refused, Surroundings
 
 CONFIGURATION = "configuration"
@@ -309,7 +311,13 @@ _STIMULI = _Words(
     re.compile("|".join(formats.STIMULUS_WORDS)),
     "stimuli are `op` and `tick`",
 )
-_TURNS = _Words("turns", formats.MOST_TURNS, "0o", formats.TURN, "turns are `Ko`, `KsD` and `Kl` of cores 0 to 7")
+_TURNS = _Words(
+    "turns",
+    formats.MOST_TURNS,
+    "0o",
+    re.compile(TURN),
+    "turns are `Ko`, `KsD` and `Kl` of different cores K and D, 0 to 7",
+)
 
 
 def _refuse_unknown(parts: Parts, kind: _Words) -> None:
@@ -318,7 +326,7 @@ def _refuse_unknown(parts: Parts, kind: _Words) -> None:
         if isinstance(part, shorthand.Repetition):
             _refuse_unknown(part.body, kind)
         elif isinstance(part, shorthand.Word) and not kind.pattern.fullmatch(part.text):
-            hint = shorthand.suggestion(part.text, formats.STIMULUS_WORDS) if kind is _STIMULI else ""
+            hint = did_you_mean(part.text, formats.STIMULUS_WORDS) if kind is _STIMULI else ""
             raise Refused(part.offset, "%s, not `%s`%s" % (kind.allowed, part.text, hint))
 
 

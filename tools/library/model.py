@@ -1,4 +1,4 @@
-"""An accepted configuration as its cores see one another: which are started, and what refers to an object of which core."""
+"""An accepted configuration as its cores see one another: which are started, and what refers to which object."""
 
 from dataclasses import dataclass
 from typing import Dict, FrozenSet, Iterator, List, Optional, Tuple

@@ -1,8 +1,9 @@
 """The JSON schemas (draft-07) of a configuration, of stimuli and of a schedule.
 
-Members, limits and operations come from `library.formats`, the descriptions from the tables of docs/FORMATS.md. A schema
-accepts each text that `mcos` accepts. It refuses what can be seen in one value: names, numbers, scripts, words. What
-depends on other values is left to `mcos`: whether a name exists and where, a counter's limits, sums, increasing offsets.
+Members, limits and operations come from `library.formats`, the descriptions from the tables of docs/FORMATS.md. A
+schema accepts each text that `mcos` accepts. It refuses what can be seen in one value: names, numbers, scripts, words.
+What depends on other values is left to `mcos`: whether a name exists and where, a counter's limits, sums, increasing
+offsets.
 """
 
 import json
@@ -165,7 +166,7 @@ def _text(pattern: str, message: str) -> Schema:
 def _texts() -> Dict[str, Schema]:
     """The schemas of names, modes, scripts and actions."""
     name = "A name is 1 to 128 letters, digits and underscores, begins with a letter, and is not `%s`." % formats.MODE
-    script = "At most %d operations, divided by `;` without spaces around it, each as in docs/FORMATS.md, \"Scripts\"."
+    script = 'At most %d operations, divided by `;` without spaces around it, each as in docs/FORMATS.md, "Scripts".'
     forms = "`ActivateTask T` or `SetEvent T m`, where T is a task of any core, and m a mask."
     return {
         "name": _text("^(?!%s%s)%s%s" % (formats.MODE, _END, NAME, _END), name),
@@ -180,18 +181,21 @@ def _plain(default: Any) -> Any:
     return list(default) if isinstance(default, tuple) else default
 
 
+def _member(member: formats.Member, description: str) -> Schema:
+    """The schema of a member."""
+    schema: Schema = {"description": sentence(description)}
+    if not member.is_required:
+        schema["default"] = _plain(member.default)
+    value = _value(member.value)
+    # In draft-07 nothing beside `$ref` counts.
+    schema.update({"allOf": [value]} if "$ref" in value else value)
+    return schema
+
+
 def _object(each: formats.Object, described: Dict[Tuple[str, str], str], may_be_null: bool) -> Schema:
     """The schema of an object."""
-    properties = {}
-    for member in each.members:
-        schema = {"description": sentence(described[(each.name, member.name)])}
-        if not member.is_required:
-            schema["default"] = _plain(member.default)
-        value = _value(member.value)
-        # In draft-07 nothing beside `$ref` counts.
-        schema.update({"allOf": [value]} if "$ref" in value else value)
-        properties[member.name] = schema
-    schema = {"type": ["object", "null"] if may_be_null else "object", "additionalProperties": False}
+    properties = {member.name: _member(member, described[(each.name, member.name)]) for member in each.members}
+    schema: Schema = {"type": ["object", "null"] if may_be_null else "object", "additionalProperties": False}
     required = [member.name for member in each.members if member.is_required]
     schema.update({"required": required} if required else {})
     schema["properties"] = properties
@@ -229,7 +233,7 @@ def configuration_schema(document: str) -> Schema:
     for each in formats.OBJECTS.values():
         if each is not formats.CONFIGURATION:
             definitions[definition_name(each.name)] = _object(each, described, each.name in _nullable())
-    schema = {
+    schema: Schema = {
         "$schema": DRAFT,
         "title": "Configuration of mcos",
         "description": "docs/FORMATS.md describes each member. This file is made by tools/schemas from its tables.",
@@ -253,8 +257,14 @@ def stimuli_schema() -> Schema:
         "type": "object",
         "additionalProperties": False,
         "patternProperties": {
-            "^[0-7]" + _END: dict({"description": "The stimuli of one core: `op`, the next operation of the running job, "
-            "or `tick`, one count of each of its counters, but for those with `software`."}, **text)
+            "^[0-7]"
+            + _END: dict(
+                {
+                    "description": "The stimuli of one core: `op`, the next operation of the running job, "
+                    "or `tick`, one count of each of its counters, but for those with `software`."
+                },
+                **text
+            )
         },
     }
 
@@ -265,8 +275,8 @@ def schedule_schema() -> Schema:
     schema = {
         "$schema": DRAFT,
         "title": "Schedule of mcos",
-        "description": "The turns in the order in which they are taken: `Ko` is core K's own work, in `KsD` it serves the "
-        "oldest envelope from core D, in `Kl` it looks whether it was started or may pass a barrier.",
+        "description": "The turns in the order in which they are taken: `Ko` is core K's own work, in `KsD` it serves "
+        "the oldest envelope from core D, in `Kl` it looks whether it was started or may pass a barrier.",
     }
     schema.update(_text(divided(TURN, " ", formats.MOST_TURNS), message % formats.MOST_TURNS))
     return schema

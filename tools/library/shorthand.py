@@ -10,16 +10,16 @@
 
     words      ::= { word | COUNT "*" ( word | "(" words ")" ) }     of stimuli and schedules
 
-Spaces, tabs and line ends divide words; elsewhere they may stand, and mean nothing. All places are offsets in the file. What
-is no shorthand is not judged here: a misspelled operation is left as it is, for `mcos` and `tools/explain`.
+Spaces, tabs and line ends divide words; elsewhere they may stand, and mean nothing. All places are offsets in the file.
+What is no shorthand is not judged here: a misspelled operation is left as it is, for `mcos` and `tools/explain`.
 """
 
-import difflib
 import re
 from dataclasses import dataclass
 from typing import Callable, Iterator, List, Mapping, Optional, Sequence, Tuple, Union
 
 from library import formats
+from library.findings import did_you_mean
 
 GREATEST_COUNT = formats.MOST_TURNS  # of one repetition
 MOST_NESTED = 32  # parentheses within one another
@@ -334,7 +334,9 @@ def refuse_beyond(parts: Parts, most: int, of_what: str) -> None:
         size += part.size
         if size > most:
             counted = "%d" % size if size < 10**9 else "more than %d" % (10**9 - 1)
-            raise Refused(part.offset, "with this there are %s %s, and at most %d are allowed" % (counted, of_what, most))
+            raise Refused(
+                part.offset, "with this there are %s %s, and at most %d are allowed" % (counted, of_what, most)
+            )
 
 
 def words_in(parts: Parts) -> List[Word]:
@@ -438,7 +440,7 @@ def _number_of_label(argument: Argument, labels: Mapping[str, int], around: Surr
     if name in around.labels:
         text = "the label `%s` stands in a repetition, and only an operation in it can jump there" % name
         raise Refused(argument.offset, text)
-    raise Refused(argument.offset, "no label `%s` in this script%s" % (name, suggestion(name, around.labels)))
+    raise Refused(argument.offset, "no label `%s` in this script%s" % (name, did_you_mean(name, around.labels)))
 
 
 def _mask_text(argument: Argument, operation: Operation, around: Surroundings) -> str:
@@ -451,7 +453,7 @@ def _mask_text(argument: Argument, operation: Operation, around: Surroundings) -
         if not formats.is_name(word.text):
             raise Refused(word.offset, "`|` joins names of events, not `%s`" % word.text)
         if word.text not in events:
-            hint = suggestion(word.text, events)
+            hint = did_you_mean(word.text, events)
             raise Refused(word.offset, "the task `%s` has no event `%s`%s" % (task, word.text, hint))
         bit = 1 << events.index(word.text)
         if mask & bit:
@@ -467,15 +469,9 @@ def _events_for(argument: Argument, operation: Operation, around: Surroundings) 
         named = operation.arguments[1]
         task = named.text
         if task not in around.events:
-            raise Refused(named.offset, "`%s` is no task%s" % (task, suggestion(task, list(around.events))))
+            raise Refused(named.offset, "`%s` is no task%s" % (task, did_you_mean(task, around.events)))
         events = around.events[task]
     if events is None:
         text = "`%s` is no mask, and the task `%s` has no member `events` with names" % (argument.text, task)
         raise Refused(argument.offset, text)
     return task, events
-
-
-def suggestion(word: str, words: Sequence[str]) -> str:
-    """What to add to a message if one of the words is like this one."""
-    found = difflib.get_close_matches(word, list(words), 1, 0.6)
-    return "; did you mean `%s`?" % found[0] if found else ""

@@ -3,8 +3,8 @@
 A JSON object with these members:
 
 - `source`: the path of the source, as it was given
-- `values`: for the JSON Pointer of each value of the output the line and the column in the source, a list of two numbers
-- `parts`: for the JSON Pointer of each script, action and text of words a list with such a place for each of its
+- `values`: for the JSON Pointer of each value of the output its line and column in the source, a list of two numbers
+- `parts`: for the JSON Pointer of each script, action and text of words a list of such places, one for each of its
   operations or words, in order
 """
 
@@ -24,7 +24,7 @@ class SourceMap:
     parts: Mapping[str, Sequence[Place]]
 
     def place(self, pointer: str, part: Optional[int] = None) -> Place:
-        """The place of a value, or of an operation or a word in it. What is not there has the place of what it is in."""
+        """The place of a value, or of an operation or a word in it. What is not there has that of what it is in."""
         parts = self.parts.get(pointer, ())
         if part is not None and 0 <= part < len(parts):
             return parts[part]

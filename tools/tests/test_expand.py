@@ -13,10 +13,10 @@ import unittest
 
 TOOLS = os.path.dirname(os.path.dirname(os.path.abspath(__file__)))
 ROOT = os.path.dirname(TOOLS)
+sys.dont_write_bytecode = True
 sys.path.insert(0, TOOLS)
-
-from library import expanding, source_map
-from library.places import Place, read_document
+from library import expanding, source_map  # noqa: E402
+from library.places import Place, read_document  # noqa: E402
 
 MAIN = runpy.run_path(os.path.join(TOOLS, "expand"))["main"]
 
@@ -210,7 +210,9 @@ class Cases(unittest.TestCase):
 
     def test_actions_of_tables(self):
         source = configuration("")
-        source["cores"][1]["tables"] = [{"points": [{"offset": 0, "actions": ["SetEvent Own Tick", "ActivateTask Far"]}]}]
+        source["cores"][1]["tables"] = [
+            {"points": [{"offset": 0, "actions": ["SetEvent Own Tick", "ActivateTask Far"]}]}
+        ]
         actions = value_of(source)["cores"][1]["tables"][0]["points"][0]["actions"]
         self.assertEqual(actions, ["SetEvent Own 4", "ActivateTask Far"])
 
@@ -227,7 +229,9 @@ class Cases(unittest.TestCase):
     def test_schedules(self):
         self.assertEqual(value_of("2*(0o 0s1) 1l"), "0o 0s1 0o 0s1 1l")
         self.assertEqual(value_of(["2*0o", "1l"]), "0o 0o 1l")
-        self.refused("0o 8o", "0o 8o", 3, "turns are `Ko`, `KsD` and `Kl` of cores 0 to 7, not `8o`")
+        for word in ("8o", "0s0", "00o", "0x", "op"):
+            message = "turns are `Ko`, `KsD` and `Kl` of different cores K and D, 0 to 7, not `%s`" % word
+            self.refused("0o " + word, "0o " + word, 3, message)
         most = "with this there are 1000001 turns, and at most 1000000 are allowed"
         self.refused("1000000*0o 0o", "1000000*0o 0o", 11, most)
 
@@ -396,7 +400,9 @@ class Whole(unittest.TestCase):
         self.assertEqual(self.run_expand("--stimuli", "a.json"), (0, '{"x": "2*op", "0": "op op"}', ""))
         self.write("b.json", '"2*0o"')
         self.assertEqual(self.run_expand("b.json"), (0, '"0o 0o"', ""))
-        self.assertEqual(self.run_expand("--stimuli", "b.json"), (1, "", "b.json:1:1: stimuli are an object, and this is none\n"))
+        self.assertEqual(
+            self.run_expand("--stimuli", "b.json"), (1, "", "b.json:1:1: stimuli are an object, and this is none\n")
+        )
 
     def test_cut(self):
         self.write("s.json", '{"0": "3*tik",\n "2": "2*op tick"}\n')
@@ -407,7 +413,9 @@ class Whole(unittest.TestCase):
         self.assertEqual(list(places.values), ["", "/2"])
         self.assertEqual(self.run_expand("--cut", "5", "s.json"), (0, "{}\n", "s.json: note: core 5 has no stimuli\n"))
         self.write("n.json", '{"0": 5}')
-        self.assertEqual(self.run_expand("--cut", "0", "n.json"), (1, "", "n.json:1:7: the stimuli of core 0 are no text\n"))
+        self.assertEqual(
+            self.run_expand("--cut", "0", "n.json"), (1, "", "n.json:1:7: the stimuli of core 0 are no text\n")
+        )
         self.write("c.json", SOURCE)
         message = "c.json:1:1: --cut wants stimuli, and this is a configuration\n"
         self.assertEqual(self.run_expand("--cut", "0", "c.json"), (1, "", message))

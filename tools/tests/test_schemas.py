@@ -11,9 +11,9 @@ import unittest
 
 TOOLS = os.path.dirname(os.path.dirname(os.path.abspath(__file__)))
 ROOT = os.path.dirname(TOOLS)
+sys.dont_write_bytecode = True
 sys.path.insert(0, TOOLS)
-
-from library import formats, schemas
+from library import formats, schemas  # noqa: E402
 
 try:
     import jsonschema
@@ -79,7 +79,16 @@ ACTIONS = {
     "ActivateTask A\n": False,
     "": False,
 }
-NAMES = {"A": True, LONG_NAME: True, LONG_NAME + "A": False, "M": False, "MM": True, "M\n": False, "_A": False, "": False}
+NAMES = {
+    "A": True,
+    LONG_NAME: True,
+    LONG_NAME + "A": False,
+    "M": False,
+    "MM": True,
+    "M\n": False,
+    "_A": False,
+    "": False,
+}
 STIMULI = {
     "": True,
     "op": True,
