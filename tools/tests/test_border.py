@@ -14,7 +14,8 @@ import unittest
 TOOLS = os.path.dirname(os.path.dirname(os.path.abspath(__file__)))
 ROOT = os.path.dirname(TOOLS)
 sys.dont_write_bytecode = True
-sys.path.insert(0, TOOLS)
+sys.path[:0] = [TOOLS, os.path.dirname(os.path.abspath(__file__))]
+import documents  # noqa: E402
 from library import border, judging, model  # noqa: E402
 
 MAIN = runpy.run_path(os.path.join(TOOLS, "border"))["main"]
@@ -289,6 +290,11 @@ class Reports(unittest.TestCase):
 
     def test_graph(self):
         self.assertEqual(border.graph(model_of(CONFIGURATION)), GRAPH)
+
+    def test_the_document(self):
+        with open(os.path.join(ROOT, "examples", "application", "config.json"), encoding="utf-8") as file:
+            printed = border.report(model_of(file.read()))
+        self.assertEqual(printed, documents.example("Of `examples/application`:"))
 
     def test_one_core(self):
         expected = (

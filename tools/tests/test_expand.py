@@ -14,7 +14,8 @@ import unittest
 TOOLS = os.path.dirname(os.path.dirname(os.path.abspath(__file__)))
 ROOT = os.path.dirname(TOOLS)
 sys.dont_write_bytecode = True
-sys.path.insert(0, TOOLS)
+sys.path[:0] = [TOOLS, os.path.dirname(os.path.abspath(__file__))]
+import documents  # noqa: E402
 from library import expanding, source_map  # noqa: E402
 from library.places import Place, read_document  # noqa: E402
 
@@ -347,6 +348,19 @@ class Whole(unittest.TestCase):
         self.write("a.json", SOURCE)
         done = subprocess.run([os.path.join(TOOLS, "expand"), "a.json"], capture_output=True, encoding="utf-8")
         self.assertEqual((done.returncode, done.stdout, done.stderr), (0, EXPANDED, ""))
+
+    def test_the_document(self):
+        self.write("source.json", documents.example("This is `source.json`:"))
+        expanded = documents.example("`tools/expand source.json` prints")
+        self.assertEqual(self.run_expand("source.json", "--map", "source.map"), (0, expanded, ""))
+        with open("source.map", encoding="utf-8") as file:
+            map_lines = [line.rstrip(",}\n") for line in file]
+        for line in documents.example("with an entry on each line:").splitlines():
+            if line.strip() != "..":
+                self.assertIn(line.rstrip(",}"), map_lines)
+        self.write("source.json", documents.example("This is `source.json`:").replace("jump again", "jump agian"))
+        refused = documents.example("and a word of stimuli or of a schedule that is none.")
+        self.assertEqual(self.run_expand("source.json"), (1, "", refused))
 
     def test_a_full_disk(self):
         self.write("a.json", SOURCE)
