@@ -260,6 +260,15 @@ REACHES = [
     ([START, core(1, "ActivateTask T3"), core(2), core(3, "ActivateTask T1")], {1: {}, 2: {}, 3: {}}),
 ]
 
+# An alarm of core 0 acts on core 1, a task of core 1 calls core 2, and core 3 is separate.
+EACH_COUNT = {"modes": ["M"], "start": 1, "cycle": 1}
+CHAIN = [
+    core(0, counters=[counter("C")], alarms=[dict(alarm("A", "ActivateTask T1"), auto=EACH_COUNT)], start=[1, 2, 3]),
+    core(1, "ActivateTask T2;TerminateTask"),
+    core(2, "work;TerminateTask"),
+    core(3, "work;TerminateTask"),
+]
+
 
 def model_of(text):
     """The model of a configuration, which has no fault."""
@@ -393,6 +402,30 @@ class AsTheProgram(unittest.TestCase):
                     file.write(text)
                 with self.subTest(configuration=text):
                     self.assertTrue(self.hold(path))
+
+    def blocks(self, folder, cores, stimuli):
+        """The lines of each core in a run."""
+        for name, value in (("c.json", {"cores": cores}), ("s.json", stimuli)):
+            with open(os.path.join(folder, name), "w", encoding="utf-8") as file:
+                json.dump(value, file)
+        words = [PROGRAM, "run", "c.json", "s.json"]
+        done = subprocess.run(words, cwd=folder, capture_output=True, encoding="utf-8", timeout=60)
+        self.assertEqual((done.returncode, done.stderr), (0, ""))
+        texts = done.stdout.split("core ")[1:]
+        return {int(text.split("\n", 1)[0]): text.split("\n")[1:-1] for text in texts}
+
+    def test_a_change_reaches_what_is_listed(self):
+        steps = border.steps(border.crossings(model_of_cores(CHAIN)))
+        stimuli = {str(number): " ".join(["tick", "op", "op", "op"] * 6) for number in range(4)}
+        with tempfile.TemporaryDirectory() as folder:
+            before = self.blocks(folder, CHAIN, stimuli)
+            for number in range(4):
+                reached = set()
+                for text in ("", "op op", "tick tick " + stimuli["0"]):
+                    after = self.blocks(folder, CHAIN, dict(stimuli, **{str(number): text}))
+                    reached |= {other for other in before if other != number and after[other] != before[other]}
+                with self.subTest(core=number):
+                    self.assertEqual(reached, set(border.reach(steps, number)))
 
 
 if __name__ == "__main__":

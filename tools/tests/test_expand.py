@@ -19,6 +19,7 @@ import documents  # noqa: E402
 from library import expanding, source_map  # noqa: E402
 from library.places import Place, read_document  # noqa: E402
 
+PROGRAM = os.environ.get("MCOS", os.path.join(ROOT, "crates", "mcos", "out", "mcos"))
 MAIN = runpy.run_path(os.path.join(TOOLS, "expand"))["main"]
 
 # A script of the task `Own` with the events Rx, Tx, Tick, where the task `Far` has the event Go; what it expands to.
@@ -450,6 +451,43 @@ class Whole(unittest.TestCase):
                     text = file.read()
                 with self.subTest(path=path):
                     self.assertEqual((expansion(text).refusals, expansion(text).text), ([], text))
+
+
+@unittest.skipUnless(os.path.exists(PROGRAM), "%s is not built" % PROGRAM)
+class AsTheProgram(unittest.TestCase):
+    def setUp(self):
+        folder = tempfile.TemporaryDirectory()
+        self.addCleanup(folder.cleanup)
+        self.folder = folder.name
+
+    def write(self, name, text):
+        with open(os.path.join(self.folder, name), "w", encoding="utf-8") as file:
+            file.write(text)
+
+    def lines(self, *words):
+        """What the program prints for words, in the folder."""
+        done = subprocess.run(
+            [PROGRAM] + list(words), cwd=self.folder, capture_output=True, encoding="utf-8", timeout=60
+        )
+        self.assertEqual((done.returncode, done.stderr), (0, ""))
+        return done.stdout.splitlines()
+
+    def test_the_document(self):
+        self.write("config.json", documents.example("`tools/expand source.json` prints"))
+        self.assertEqual(self.lines("check", "config.json"), ["ok", "core 0 separate"])
+
+    def test_a_core_alone(self):
+        folder = os.path.join(ROOT, "examples", "application")
+        for name in ("config.json", "stimuli.json"):
+            with open(os.path.join(folder, name), encoding="utf-8") as file:
+                self.write(name, file.read())
+        whole = self.lines("run", "config.json", "stimuli.json")
+        with open(os.path.join(folder, "stimuli.json"), "rb") as file:
+            self.write("cut_stimuli.json", expanding.cut(read_document(file.read()), "2").text)
+        self.write("cut.json", "\n".join(self.lines("cut", "config.json", "2")))
+        block = whole[whole.index("core 2") : whole.index("core 7")]
+        self.assertGreater(len(block), 10)
+        self.assertEqual(self.lines("run", "cut.json", "cut_stimuli.json"), block + ["ended"])
 
 
 if __name__ == "__main__":

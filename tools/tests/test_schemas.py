@@ -7,6 +7,7 @@ import re
 import shutil
 import subprocess
 import sys
+import tempfile
 import unittest
 
 TOOLS = os.path.dirname(os.path.dirname(os.path.abspath(__file__)))
@@ -19,6 +20,8 @@ try:
     import jsonschema
 except ImportError:
     jsonschema = None
+
+PROGRAM = os.environ.get("MCOS", os.path.join(ROOT, "crates", "mcos", "out", "mcos"))
 
 LONG_NAME = "A" * 128
 SIGNED = str(2**63 - 1)
@@ -312,6 +315,50 @@ class Values(unittest.TestCase):
                 self.assertEqual(self.stimuli.is_valid(value), fits)
         self.assertFalse(self.stimuli.is_valid({"0": ["op"]}))
         self.assertFalse(self.stimuli.is_valid([]))
+
+
+@unittest.skipUnless(os.path.exists(PROGRAM), "%s is not built" % PROGRAM)
+class AsTheProgram(unittest.TestCase):
+    """What a schema refuses, `mcos` refuses too."""
+
+    def setUp(self):
+        folder = tempfile.TemporaryDirectory()
+        self.addCleanup(folder.cleanup)
+        self.folder = folder.name
+        self.write("config.json", CONFIGURATION)
+        self.write("stimuli.json", {})
+
+    def write(self, name, value):
+        with open(os.path.join(self.folder, name), "w", encoding="utf-8") as file:
+            json.dump(value, file)
+
+    def status(self, *words):
+        """The exit status of a command in the folder."""
+        return subprocess.run([PROGRAM] + list(words), cwd=self.folder, capture_output=True, timeout=60).returncode
+
+    def test_configurations(self):
+        self.assertEqual(self.status("check", "config.json"), 0)
+        for place, value in WRONG:
+            with self.subTest(place=place, value=str(value)):
+                self.write("wrong.json", changed(place, value))
+                self.assertEqual(self.status("check", "wrong.json"), 1)
+
+    def test_texts(self):
+        for place, texts in ((TASK + ("script",), SCRIPTS), (CORE + ("alarms", 0, "action"), ACTIONS)):
+            for text in (text for text, fits in texts.items() if not fits):
+                with self.subTest(text=text[:60]):
+                    self.write("wrong.json", changed(place, text))
+                    self.assertEqual(self.status("check", "wrong.json"), 1)
+
+    def test_stimuli_and_schedules(self):
+        for text in (text for text, fits in STIMULI.items() if not fits):
+            with self.subTest(stimuli=text[:60]):
+                self.write("wrong.json", {"0": text})
+                self.assertEqual(self.status("run", "config.json", "wrong.json"), 1)
+        for text in (text for text, fits in SCHEDULES.items() if not fits):
+            with self.subTest(schedule=text):
+                self.write("wrong.json", text)
+                self.assertEqual(self.status("run", "config.json", "stimuli.json", "--schedule", "wrong.json"), 1)
 
 
 if __name__ == "__main__":
