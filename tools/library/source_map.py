@@ -8,11 +8,12 @@ A JSON object with these members:
   operations or words, in order
 """
 
+import bisect
 import json
 from dataclasses import dataclass
-from typing import Any, List, Mapping, Optional, Sequence
+from typing import Any, List, Mapping, Optional, Sequence, Tuple
 
-from library.places import Place
+from library.places import Document, Json, JsonList, JsonObject, JsonText, Place, pointer_part
 
 
 @dataclass(frozen=True)
@@ -38,6 +39,30 @@ class SourceMap:
         parts = ["%s: %s" % (json.dumps(pointer), json.dumps(places)) for pointer, places in self.parts.items()]
         members = ['"source": %s' % json.dumps(self.source), _object("values", values), _object("parts", parts)]
         return "{%s}\n" % ",\n".join(members)
+
+
+def in_source(places: SourceMap, document: Document, pointer: str, place: Place) -> Place:
+    """From where in the source a place in the output comes, in a value with this pointer."""
+    value = value_at(document.root, pointer)
+    if not isinstance(value, JsonText) or pointer not in places.parts:
+        return places.place(pointer)
+    offsets = document.character_offsets(value)[: len(value.text)]
+    before = bisect.bisect_left([document.place(offset) for offset in offsets], place)
+    separator = ";" if "/" in pointer[1:] else " "  # only the texts of a configuration stand deeper than one step
+    return places.place(pointer, value.text.count(separator, 0, before))
+
+
+def value_at(root: Json, pointer: str) -> Optional[Json]:
+    """The value of a JSON Pointer; none if there is none."""
+    value: Optional[Json] = root
+    for step in ["/" + step for step in pointer.split("/")[1:]]:
+        inner: List[Tuple[str, Json]] = []
+        if isinstance(value, JsonObject):
+            inner = [(pointer_part(name), member.value) for name, member in value.members.items()]
+        elif isinstance(value, JsonList):
+            inner = [(pointer_part(index), element) for index, element in enumerate(value.elements)]
+        value = dict(inner).get(step)
+    return value
 
 
 def _object(name: str, entries: List[str]) -> str:

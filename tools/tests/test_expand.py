@@ -388,6 +388,29 @@ class Whole(unittest.TestCase):
         pointers = {value.pointer for value in expanding.values_in(document.root)}
         self.assertEqual(set(found.values), pointers)
 
+    def test_from_the_output_to_the_source(self):
+        found = expansion(SOURCE)
+        places = source_map.SourceMap("a.json", found.values, found.parts)
+        document = read_document(found.text.encode("utf-8"))
+        script = "/cores/0/tasks/0/script"
+        for pointer, column, place in (
+            (script, 19, (6, 27)),  # the quote
+            (script, 20, (6, 27)),
+            (script, 30, (6, 27)),  # the `3` of `WaitEvent 3`
+            (script, 32, (7, 24)),
+            (script, 48, (7, 29)),  # the `1` of the first `ClearEvent 1`
+            (script, 68, (8, 21)),
+            ("/cores/0/tasks/0/prio", 40, (5, 32)),
+            ("/cores/0/tasks/0/missing", 1, (5, 8)),
+        ):
+            with self.subTest(pointer=pointer, column=column):
+                self.assertEqual(source_map.in_source(places, document, pointer, Place(6, column)), place)
+        found = expansion('{"0": "3*(tick op)"}')
+        places = source_map.SourceMap("s.json", found.values, found.parts)
+        document = read_document(found.text.encode("utf-8"))
+        self.assertEqual(source_map.in_source(places, document, "/0", Place(1, 16)), (1, 11))
+        self.assertEqual(source_map.in_source(places, document, "/0", Place(1, 21)), (1, 16))
+
     def test_refused(self):
         self.write("a.json", '{"0": "op",\n "1": "tik"}')
         message = "a.json:2:8: stimuli are `op` and `tick`, not `tik`; did you mean `tick`?\n"
