@@ -1,0 +1,287 @@
+"""The border between cores: what crosses it, what a change of one core can reach, and why a core is bound."""
+
+from collections import deque
+from dataclasses import dataclass
+from typing import Dict, Iterable, List, NamedTuple, Tuple
+
+from library import model
+from library.findings import listed
+from library.model import Model, Reference
+
+# How a reference crosses.
+REQUEST = "request"
+ACTION = "action"
+NOTHING = "nothing"
+
+
+@dataclass(frozen=True)
+class Crossing:
+    """What one task, alarm or table does with an object of another core; an operation may stand in several places."""
+
+    source: int
+    target: int
+    text: str
+    kind: str
+    name: str
+    places: Tuple[int, ...]
+    way: str
+    why: str = ""  # of NOTHING: why nothing crosses
+
+    @property
+    def who(self) -> str:
+        """What does it, and where: `task Com, operations 3 and 5 to 7`."""
+        if not self.places:
+            return "%s %s" % (self.kind, self.name)
+        word = "offset" if self.kind == model.TABLE else "operation"
+        plural = "s" if len(self.places) > 1 else ""
+        return "%s %s, %s%s %s" % (self.kind, self.name, word, plural, listed(_spans(self.places)))
+
+    @property
+    def what_crosses(self) -> str:
+        """How it crosses, and what comes back."""
+        if self.way == REQUEST:
+            return "request; core %d waits for the reply" % self.source
+        return "action; no reply" if self.way == ACTION else self.why
+
+
+def _spans(numbers: Iterable[int]) -> List[str]:
+    """Ascending numbers, three or more in a row as `5 to 7`."""
+    rows: List[List[int]] = []
+    for number in numbers:
+        if rows and rows[-1][-1] + 1 == number:
+            rows[-1].append(number)
+        else:
+            rows.append([number])
+    spans: List[str] = []
+    for row in rows:
+        spans += ["%d to %d" % (row[0], row[-1])] if len(row) > 2 else [str(number) for number in row]
+    return spans
+
+
+# ---------------------------------------------------------------------------------------------------------------------
+# Crossings
+# ---------------------------------------------------------------------------------------------------------------------
+
+
+def crossings(whole: Model) -> List[Crossing]:
+    """All crossings by ascending pairs of cores, in each in the order of the configuration."""
+    places: Dict[Tuple[int, int, str, str, str], List[int]] = {}
+    ways: Dict[Tuple[int, int, str, str, str], Tuple[str, str]] = {}
+    for reference in whole.outward:
+        actor = reference.actor
+        key = (reference.core, reference.home, reference.text, actor.kind, actor.name)
+        # An action may stand twice at one point.
+        found = places.setdefault(key, [])
+        if actor.place is not None and actor.place not in found:
+            found.append(actor.place)
+        ways[key] = _way(whole, reference)
+    each = [Crossing(*key, tuple(places[key]), *ways[key]) for key in places]
+    return sorted(each, key=lambda crossing: (crossing.source, crossing.target))
+
+
+def _way(whole: Model, reference: Reference) -> Tuple[str, str]:
+    """How a reference crosses the border; if nothing crosses, why."""
+    if reference.core not in whole.started:
+        return NOTHING, "never done; core %d is off" % reference.core
+    if reference.service == "IncrementCounter":
+        return NOTHING, "nothing crosses; E_OS_CORE, as for each counter of another core"
+    if reference.home not in whole.started:
+        return NOTHING, "nothing crosses; E_OS_CORE, since core %d is off" % reference.home
+    return (REQUEST if reference.actor.kind == model.TASK else ACTION), ""
+
+
+# ---------------------------------------------------------------------------------------------------------------------
+# Why a core is bound
+# ---------------------------------------------------------------------------------------------------------------------
+
+
+def reasons(whole: Model, core: int) -> List[str]:
+    """Why `mcos check` has its word for a core; nothing for a separate one."""
+    if core not in whole.started:
+        return ["no start list leads to it from core %d, the master" % whole.master]
+    found = []
+    if whole.starts[core]:
+        found.append("its `start` is not empty: %s" % listed(str(number) for number in whole.starts[core]))
+    for other in whole.ids:
+        objects = _objects(
+            reference for reference in whole.outward if (reference.core, reference.home) == (core, other)
+        )
+        if objects:
+            found.append("it refers to core %d: %s" % (other, objects))
+    for other in whole.ids:
+        objects = _objects(
+            reference for reference in whole.outward if (reference.core, reference.home) == (other, core)
+        )
+        if objects:
+            state = "" if other in whole.started else ", which is off,"
+            found.append("core %d%s refers to it: %s" % (other, state, objects))
+    return found
+
+
+def _objects(references: Iterable[Reference]) -> str:
+    """The objects of references, each once: `task Com, alarm Late`."""
+    return listed(dict.fromkeys("%s %s" % (reference.kind, reference.name) for reference in references))
+
+
+# ---------------------------------------------------------------------------------------------------------------------
+# Reach
+# ---------------------------------------------------------------------------------------------------------------------
+
+
+class Step(NamedTuple):
+    """Why a change of one core can change what another one does: it serves what crosses, or waits for the reply."""
+
+    source: int
+    target: int
+    crossing: Crossing
+
+    @property
+    def text(self) -> str:
+        """The reason."""
+        verb = "serves" if self.crossing.target == self.target else "waits for the reply to"
+        return "%s %s (%s)" % (verb, self.crossing.text, self.crossing.who)
+
+
+def steps(found: Iterable[Crossing]) -> List[Step]:
+    """The steps of crossings; where a core can be reached by serving, this comes first."""
+    serving = [Step(each.source, each.target, each) for each in found if each.way != NOTHING]
+    waiting = [Step(step.target, step.source, step.crossing) for step in serving if step.crossing.way == REQUEST]
+    return serving + waiting
+
+
+def reach(all_steps: List[Step], core: int) -> Dict[int, Step]:
+    """The cores that a change of a core's work can reach, each with the last step of a shortest way."""
+    found: Dict[int, Step] = {}
+    waiting = deque([core])
+    while waiting:
+        current = waiting.popleft()
+        for step in all_steps:
+            if step.source == current and step.target != core and step.target not in found:
+                found[step.target] = step
+                waiting.append(step.target)
+    return found
+
+
+# ---------------------------------------------------------------------------------------------------------------------
+# The report
+# ---------------------------------------------------------------------------------------------------------------------
+
+
+def report(whole: Model) -> str:
+    """The border as text."""
+    found = crossings(whole)
+    parts = [("Cores", _cores(whole)), ("Starts", _starts(whole)), ("Crossings", _crossing_lines(found))]
+    parts.append(("What a change of a core's work can reach", _reach_lines(whole, found)))
+    return "\n".join("%s\n%s" % (title, "".join("  %s\n" % line for line in lines)) for title, lines in parts)
+
+
+def _cores(whole: Model) -> List[str]:
+    """Each core with the word of `mcos check`, and why."""
+    lines = []
+    for core in whole.ids:
+        lines.append("core %d %s" % (core, whole.standing(core)))
+        lines += ["  " + reason for reason in reasons(whole, core)]
+    return lines
+
+
+def start_answer(whole: Model, core: int, index: int) -> str:
+    """Why a start does not start its core; empty if it does, or can."""
+    target = whole.starts[core][index]
+    if core not in whole.started:
+        return "never done; core %d is off" % core
+    if target not in whole.ids:
+        return "E_OS_ID; there is no core %d" % target
+    if target == core or target == whole.master or target in whole.starts[core][:index]:
+        return "E_OS_STATE; core %d is started already" % target
+    return ""
+
+
+def _first_starter(whole: Model, target: int) -> str:
+    """What to say of a core that several cores start; empty if one does."""
+    starters = [core for core in whole.ids if core in whole.started and target in whole.starts[core]]
+    return "E_OS_STATE if another core was first" if len(starters) > 1 else ""
+
+
+def _starts(whole: Model) -> List[str]:
+    """The start lists."""
+    lines = ["core %d is the master" % whole.master]
+    for core in whole.ids:
+        for index, target in enumerate(whole.starts[core]):
+            answer = start_answer(whole, core, index) or _first_starter(whole, target)
+            lines.append("core %d starts core %d%s" % (core, target, " (%s)" % answer if answer else ""))
+    return lines
+
+
+def _crossing_lines(found: List[Crossing]) -> List[str]:
+    """The crossings by pairs of cores, in columns."""
+    lines: List[str] = []
+    for source, target in sorted({(each.source, each.target) for each in found}):
+        lines.append("core %d to core %d" % (source, target))
+        between = [each for each in found if (each.source, each.target) == (source, target)]
+        widths = [max(len(each.text) for each in between), max(len(each.who) for each in between)]
+        for each in between:
+            lines.append("  %s  %s  %s" % (each.text.ljust(widths[0]), each.who.ljust(widths[1]), each.what_crosses))
+    return lines or ["none"]
+
+
+def _reach_lines(whole: Model, found: List[Crossing]) -> List[str]:
+    """For each core the other ones that a change of its work can reach, and how."""
+    lines = []
+    for core in whole.ids:
+        reached = reach(steps(found), core)
+        if not reached:
+            lines.append("core %d: no other core%s" % (core, "" if core in whole.started else ", since it is off"))
+            continue
+        lines.append("core %d" % core)
+        for other in sorted(reached):
+            step = reached[other]
+            through = "" if step.source == core else " through core %d" % step.source
+            lines.append("  core %d%s: it %s" % (other, through, step.text))
+    return lines
+
+
+# ---------------------------------------------------------------------------------------------------------------------
+# Graphviz
+# ---------------------------------------------------------------------------------------------------------------------
+
+_CORE_STYLES = {model.SEPARATE: "filled", model.BOUND: "solid", model.OFF: "dashed"}
+_EDGE_STYLES = {REQUEST: "dir=both, arrowtail=odot", ACTION: "style=solid", NOTHING: "style=dotted, color=gray50"}
+
+
+def quoted(lines: Iterable[str], end: str = r"\n") -> str:
+    """Lines as a text of DOT; `end` stands behind each line but the last, or if it is `\\l`, behind all."""
+    escaped = [line.replace("\\", "\\\\").replace('"', '\\"') for line in lines]
+    return '"%s"' % ("".join(line + end for line in escaped) if end == r"\l" else end.join(escaped))
+
+
+def graph(whole: Model) -> str:
+    """The border as a graph in DOT, the language of Graphviz."""
+    lines = ["digraph border {", "  rankdir=LR;", '  node [shape=box, fontname="sans-serif"];']
+    lines.append('  edge [fontname="sans-serif", fontsize=10];')
+    for core in whole.ids:
+        standing = whole.standing(core)
+        names = ["core %d" % core, standing + (", master" if core == whole.master else "")]
+        lines.append("  core%d [label=%s, style=%s];" % (core, quoted(names), _CORE_STYLES[standing]))
+    lines += _start_edges(whole) + _crossing_edges(crossings(whole))
+    return "\n".join(lines + ["}"]) + "\n"
+
+
+def _start_edges(whole: Model) -> List[str]:
+    """An edge for each start that can start its core."""
+    edges = []
+    for core in whole.ids:
+        for index, target in enumerate(whole.starts[core]):
+            if not start_answer(whole, core, index):
+                edges.append('  core%d -> core%d [label="starts", style=dashed];' % (core, target))
+    return edges
+
+
+def _crossing_edges(found: List[Crossing]) -> List[str]:
+    """An edge for all crossings of one kind between two cores."""
+    edges: Dict[Tuple[int, int, str], List[str]] = {}
+    for each in found:
+        edges.setdefault((each.source, each.target, each.way), []).append("%s: %s" % (each.text, each.who))
+    return [
+        "  core%d -> core%d [label=%s, %s];" % (source, target, quoted(labels, r"\l"), _EDGE_STYLES[way])
+        for (source, target, way), labels in edges.items()
+    ]

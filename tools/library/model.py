@@ -1,0 +1,101 @@
+"""An accepted configuration as its cores see one another: which are started, and what refers to which object."""
+
+from dataclasses import dataclass
+from typing import Dict, FrozenSet, Iterator, List, Optional, Tuple
+
+from library import formats
+from library.drafts import Core, Draft
+
+TASK = "task"
+ALARM = "alarm"
+TABLE = "table"
+
+OFF = "off"
+SEPARATE = "separate"
+BOUND = "bound"
+
+
+@dataclass(frozen=True)
+class Actor:
+    """What does an operation: a task at an operation of its script, an alarm, or a table at the offset of a point."""
+
+    kind: str
+    name: str
+    place: Optional[int] = None
+
+
+@dataclass(frozen=True)
+class Reference:
+    """An operation or an action that refers to an object: on which core it is done, and where the object stands."""
+
+    core: int
+    actor: Actor
+    text: str
+    kind: str
+    name: str
+    home: int
+
+    @property
+    def service(self) -> str:
+        """The operation's own word."""
+        return self.text.split(" ")[0]
+
+    @property
+    def is_outward(self) -> bool:
+        """Whether the object stands on another core."""
+        return self.core != self.home
+
+
+@dataclass(frozen=True)
+class Model:
+    """The cores by ascending number, their start lists, the started ones, and all references in their order."""
+
+    master: int
+    ids: Tuple[int, ...]
+    starts: Dict[int, Tuple[int, ...]]
+    started: FrozenSet[int]
+    references: Tuple[Reference, ...]
+
+    @property
+    def outward(self) -> List[Reference]:
+        """The references to objects of other cores."""
+        return [reference for reference in self.references if reference.is_outward]
+
+    def standing(self, core: int) -> str:
+        """The word that `mcos check` prints for a core."""
+        if core not in self.started:
+            return OFF
+        is_joined = any(core in (reference.core, reference.home) for reference in self.outward)
+        return BOUND if self.starts[core] or is_joined else SEPARATE
+
+
+def model_of(draft: Draft) -> Model:
+    """The model of a configuration without a fault."""
+    cores = sorted(draft.cores, key=lambda core: core.id)
+    starts = {core.id: tuple(core["start"]) for core in cores}
+    references = tuple(reference for core in cores for reference in _references(draft, core))
+    return Model(draft["master"], tuple(starts), starts, frozenset(draft.started()), references)
+
+
+def _references(draft: Draft, core: Core) -> Iterator[Reference]:
+    """The references of a core's scripts, alarms and tables, each in the order of the configuration."""
+    for actor, text in _operations(core):
+        words = text.split(" ")
+        for argument, word in zip(formats.OPERATIONS[words[0]].arguments, words[1:]):
+            if argument.is_object and word != formats.NO_OBJECT:
+                found = draft.find(argument.kind, word)
+                assert found is not None, "an accepted configuration has each object that it names"
+                yield Reference(core.id, actor, text, argument.kind, word, found.core.id)
+
+
+def _operations(core: Core) -> Iterator[Tuple[Actor, str]]:
+    """All operations of a core's tasks, and all actions of its alarms and tables."""
+    for task in core.named["tasks"]:
+        for number, text in enumerate(formats.operations_of(task["script"])):
+            yield Actor(TASK, task.name, number), text
+    for alarm in core.named["alarms"]:
+        yield Actor(ALARM, alarm.name), alarm["action"]
+    for table in core.named["tables"]:
+        for point in table.parts("points"):
+            for text in point["actions"]:
+                yield Actor(TABLE, table.name, point["offset"]), text

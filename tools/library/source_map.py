@@ -1,0 +1,87 @@
+"""The map that `tools/expand --map` writes: from places in its output to places in its source.
+
+A JSON object with these members:
+
+- `source`: the path of the source, as it was given
+- `values`: for the JSON Pointer of each value of the output its line and column in the source, a list of two numbers
+- `parts`: for the JSON Pointer of each script, action and text of words a list of such places, one for each of its
+  operations or words, in order
+"""
+
+import bisect
+import json
+from dataclasses import dataclass
+from typing import Any, List, Mapping, Optional, Sequence, Tuple
+
+from library.places import Document, Json, JsonList, JsonObject, JsonText, Place, pointer_part
+
+
+@dataclass(frozen=True)
+class SourceMap:
+    """Places in the source by places in the output."""
+
+    source: str
+    values: Mapping[str, Place]
+    parts: Mapping[str, Sequence[Place]]
+
+    def place(self, pointer: str, part: Optional[int] = None) -> Place:
+        """The place of a value, or of an operation or a word in it. What is not there has that of what it is in."""
+        parts = self.parts.get(pointer, ())
+        if part is not None and 0 <= part < len(parts):
+            return parts[part]
+        while pointer not in self.values and pointer:
+            pointer = pointer.rpartition("/")[0]
+        return self.values.get(pointer, Place(1, 1))
+
+    def text(self) -> str:
+        """The map as it stands in its file: a line for each entry."""
+        values = ["%s: %s" % (json.dumps(pointer), json.dumps(place)) for pointer, place in self.values.items()]
+        parts = ["%s: %s" % (json.dumps(pointer), json.dumps(places)) for pointer, places in self.parts.items()]
+        members = ['"source": %s' % json.dumps(self.source), _object("values", values), _object("parts", parts)]
+        return "{%s}\n" % ",\n".join(members)
+
+
+def in_source(places: SourceMap, document: Document, pointer: str, place: Place) -> Place:
+    """From where in the source a place in the output comes, in a value with this pointer."""
+    value = value_at(document.root, pointer)
+    if not isinstance(value, JsonText) or pointer not in places.parts:
+        return places.place(pointer)
+    offsets = document.character_offsets(value)[: len(value.text)]
+    before = bisect.bisect_left([document.place(offset) for offset in offsets], place)
+    separator = ";" if "/" in pointer[1:] else " "  # only the texts of a configuration stand deeper than one step
+    return places.place(pointer, value.text.count(separator, 0, before))
+
+
+def value_at(root: Json, pointer: str) -> Optional[Json]:
+    """The value of a JSON Pointer; none if there is none."""
+    value: Optional[Json] = root
+    for step in ["/" + step for step in pointer.split("/")[1:]]:
+        inner: List[Tuple[str, Json]] = []
+        if isinstance(value, JsonObject):
+            inner = [(pointer_part(name), member.value) for name, member in value.members.items()]
+        elif isinstance(value, JsonList):
+            inner = [(pointer_part(index), element) for index, element in enumerate(value.elements)]
+        value = dict(inner).get(step)
+    return value
+
+
+def _object(name: str, entries: List[str]) -> str:
+    """A member that is an object, with a line for each entry."""
+    return '"%s": {%s}' % (name, ",".join("\n  " + entry for entry in entries))
+
+
+def read_map(text: str) -> SourceMap:
+    """The map in a file's text. Raises ValueError if it has not the form."""
+    try:
+        whole = json.loads(text)
+        values = {pointer: _place(place) for pointer, place in whole["values"].items()}
+        parts = {pointer: [_place(place) for place in places] for pointer, places in whole["parts"].items()}
+        return SourceMap(str(whole["source"]), values, parts)
+    except (KeyError, TypeError, AttributeError) as error:
+        raise ValueError("this is no map of tools/expand: %r" % error) from None
+
+
+def _place(pair: Any) -> Place:
+    """A place in a file of a map."""
+    line, column = pair
+    return Place(int(line), int(column))

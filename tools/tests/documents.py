@@ -1,0 +1,17 @@
+"""The examples of docs/TOOLS.md, for tests that hold them to what the tools print."""
+
+import os
+
+ROOT = os.path.dirname(os.path.dirname(os.path.dirname(os.path.abspath(__file__))))
+
+
+def example(after: str) -> str:
+    """The indented text that follows the first place of some words."""
+    with open(os.path.join(ROOT, "docs", "TOOLS.md"), encoding="utf-8") as file:
+        document = file.read()
+    found = []
+    for line in document[document.index(after) + len(after) :].splitlines()[1:]:
+        if line and not line.startswith("    "):
+            break
+        found.append(line[4:])
+    return "\n".join(found).strip("\n") + "\n"
