@@ -1,28 +1,35 @@
 """All faults of a configuration, of stimuli for it and of a schedule, as docs/FORMATS.md orders them, and the notes."""
 
 import os
-from dataclasses import dataclass
+from dataclasses import dataclass, replace
 from typing import Callable, List, Optional, Sequence, Tuple
 
+from library.border import reasons
 from library.drafts import Draft, draft_of
 from library.findings import Finding, Report
-from library.formats import MOST_BYTES, NO_MEMORY, NOT_JSON, SHAPE, UNREADABLE
+from library.formats import MOST_BYTES, NO_MEMORY, NOT_JSON, NOT_SEPARATE, SHAPE, UNREADABLE
 from library.inputs import judge_schedule as _judge_turns
 from library.inputs import judge_stimuli as _judge_words
 from library.limits import judge_limits
+from library.model import SEPARATE, model_of
 from library.names import judge_names
 from library.notes import note_configuration, note_repeated, note_stimuli
-from library.places import NotJson, Place, read_document
+from library.places import Document, NotJson, Place, read_document
 from library.shapes import judge_shape
+from library.source_map import SourceMap, in_source
 
 START = Place(1, 1)
 
 
 @dataclass(frozen=True)
 class Judgement:
-    """The findings of one file in their order; of a configuration whose shape is right also its draft."""
+    """The findings of one file in their order, with its text if that is JSON.
+
+    Of a configuration whose shape is right it also has the draft.
+    """
 
     findings: Tuple[Finding, ...]
+    document: Optional[Document] = None
     draft: Optional[Draft] = None
 
     @property
@@ -30,6 +37,14 @@ class Judgement:
         """The number that `mcos` reports; 0 if there is no fault."""
         first = self.findings[0].fault if self.findings else None
         return first.number if first is not None else 0
+
+    def in_source(self, places: SourceMap) -> "Judgement":
+        """The same, with the places in the source from which `tools/expand` made the file."""
+        if self.document is None:
+            return self
+        document = self.document
+        moved = [replace(each, place=in_source(places, document, each.pointer, each.place)) for each in self.findings]
+        return replace(self, findings=tuple(sorted(moved, key=lambda finding: finding.order)))
 
 
 def judge_configuration(data: bytes) -> Judgement:
@@ -76,20 +91,41 @@ def _judge(data: bytes, judge: Callable[[Report], Optional[Draft]]) -> Judgement
     report = Report(document)
     draft = judge(report)
     note_repeated(report)
-    return Judgement(tuple(sorted(report.findings, key=lambda finding: finding.order)), draft)
+    findings = sorted(report.findings, key=lambda finding: finding.order)
+    return Judgement(tuple(findings), document, draft)
 
 
-def judge_files(paths: Sequence[str]) -> List[Tuple[str, Finding]]:
+def judge_cut(configuration: Judgement, core: int) -> Judgement:
+    """Judges whether `mcos cut` prints the configuration of one core alone; asked if there is no other fault."""
+    draft, document = configuration.draft, configuration.document
+    model = model_of(draft)
+    if core in model.ids and model.standing(core) == SEPARATE:
+        return configuration
+    node = next((each.spot("id") for each in draft.cores if each.id == core), draft.node)
+    why = "; ".join(reasons(model, core)) if core in model.ids else "it is not configured"
+    text = "core %d is not separate: %s" % (core, why)
+    fault = Finding(NOT_SEPARATE, document.place(node.start), node.pointer, text)
+    return replace(configuration, findings=(fault,) + configuration.findings)
+
+
+def judge_files(
+    paths: Sequence[str], cut: Optional[int] = None, maps: Sequence[SourceMap] = ()
+) -> List[Tuple[str, Finding]]:
     """The findings of a configuration, stimuli and a schedule, of which the last ones may be left out: faults first.
 
-    As mcos does, it judges no file behind one with a fault.
+    As mcos does, it judges no file behind one with a fault. If a core is to be cut, that is judged of the
+    configuration. For the first files there may be maps; then places and paths are those of the sources.
     """
     found: List[Tuple[str, Finding]] = []
     draft = None
     for index, path in enumerate(paths):
         judgement = _judge_file(path, index, draft)
-        found += [(path, finding) for finding in judgement.findings]
+        if index == 0 and cut is not None and not judgement.least:
+            judgement = judge_cut(judgement, cut)
         draft = draft or judgement.draft
+        if index < len(maps) and judgement.document is not None:
+            judgement, path = judgement.in_source(maps[index]), maps[index].source
+        found += [(path, finding) for finding in judgement.findings]
         if judgement.least:
             text = "not judged, since %s has a fault" % path
             found += [(later, Finding(None, START, "", text)) for later in paths[index + 1 :]]
