@@ -14,22 +14,19 @@ from library.limits import judge_limits
 from library.model import SEPARATE, model_of
 from library.names import judge_names
 from library.notes import note_configuration, note_repeated, note_stimuli
-from library.places import Document, NotJson, Place, read_document
+from library.places import NotJson, Place, read_document
 from library.shapes import judge_shape
-from library.source_map import SourceMap, in_source
+from library.source_map import SourceMap
 
 START = Place(1, 1)
 
 
 @dataclass(frozen=True)
 class Judgement:
-    """The findings of one file in their order, with its text if that is JSON.
-
-    Of a configuration whose shape is right it also has the draft.
-    """
+    """The findings of one file in their order; of a configuration whose shape is right also what it has."""
 
     findings: Tuple[Finding, ...]
-    document: Optional[Document] = None
+    report: Optional[Report] = None
     draft: Optional[Draft] = None
 
     @property
@@ -38,21 +35,13 @@ class Judgement:
         first = self.findings[0].fault if self.findings else None
         return first.number if first is not None else 0
 
-    def in_source(self, places: SourceMap) -> "Judgement":
-        """The same, with the places in the source from which `tools/expand` made the file."""
-        if self.document is None:
-            return self
-        document = self.document
-        moved = [replace(each, place=in_source(places, document, each.pointer, each.place)) for each in self.findings]
-        return replace(self, findings=tuple(sorted(moved, key=lambda finding: finding.order)))
 
-
-def judge_configuration(data: bytes) -> Judgement:
+def judge_configuration(data: bytes, sources: Optional[SourceMap] = None) -> Judgement:
     """Judges the bytes of a configuration."""
-    return _judge(data, _configuration)
+    return _judge(data, sources, _configuration)
 
 
-def judge_stimuli(data: bytes, draft: Draft) -> Judgement:
+def judge_stimuli(data: bytes, draft: Draft, sources: Optional[SourceMap] = None) -> Judgement:
     """Judges the bytes of stimuli for a configuration without a fault."""
 
     def stimuli(report: Report) -> None:
@@ -60,12 +49,12 @@ def judge_stimuli(data: bytes, draft: Draft) -> Judgement:
         if not report.has_faults:
             note_stimuli(report, draft)
 
-    return _judge(data, stimuli)
+    return _judge(data, sources, stimuli)
 
 
-def judge_schedule(data: bytes, draft: Draft) -> Judgement:
+def judge_schedule(data: bytes, draft: Draft, sources: Optional[SourceMap] = None) -> Judgement:
     """Judges the bytes of a schedule for a configuration without a fault."""
-    return _judge(data, lambda report: _judge_turns(report, draft))
+    return _judge(data, sources, lambda report: _judge_turns(report, draft))
 
 
 def _configuration(report: Report) -> Optional[Draft]:
@@ -80,7 +69,7 @@ def _configuration(report: Report) -> Optional[Draft]:
     return draft
 
 
-def _judge(data: bytes, judge: Callable[[Report], Optional[Draft]]) -> Judgement:
+def _judge(data: bytes, sources: Optional[SourceMap], judge: Callable[[Report], Optional[Draft]]) -> Judgement:
     """Reads a file's bytes and judges them."""
     if len(data) > MOST_BYTES:
         return Judgement((Finding(NO_MEMORY, START, "", "the file is longer than 1 GiB"),))
@@ -88,23 +77,22 @@ def _judge(data: bytes, judge: Callable[[Report], Optional[Draft]]) -> Judgement
         document = read_document(data)
     except NotJson as error:
         return Judgement((Finding(NOT_JSON, error.place, error.pointer, error.text),))
-    report = Report(document)
+    report = Report(document, sources)
     draft = judge(report)
     note_repeated(report)
-    findings = sorted(report.findings, key=lambda finding: finding.order)
-    return Judgement(tuple(findings), document, draft)
+    return Judgement(tuple(sorted(report.findings, key=lambda finding: finding.order)), report, draft)
 
 
 def judge_cut(configuration: Judgement, core: int) -> Judgement:
     """Judges whether `mcos cut` prints the configuration of one core alone; asked if there is no other fault."""
-    draft, document = configuration.draft, configuration.document
+    draft = configuration.draft
     model = model_of(draft)
     if core in model.ids and model.standing(core) == SEPARATE:
         return configuration
     node = next((each.spot("id") for each in draft.cores if each.id == core), draft.node)
     why = "; ".join(reasons(model, core)) if core in model.ids else "it is not configured"
     text = "core %d is not separate: %s" % (core, why)
-    fault = Finding(NOT_SEPARATE, document.place(node.start), node.pointer, text)
+    fault = Finding(NOT_SEPARATE, configuration.report.place(node), node.pointer, text)
     return replace(configuration, findings=(fault,) + configuration.findings)
 
 
@@ -119,22 +107,23 @@ def judge_files(
     found: List[Tuple[str, Finding]] = []
     draft = None
     for index, path in enumerate(paths):
-        judgement = _judge_file(path, index, draft)
+        sources = maps[index] if index < len(maps) else None
+        judgement = _judge_file(path, index, draft, sources)
         if index == 0 and cut is not None and not judgement.least:
             judgement = judge_cut(judgement, cut)
         draft = draft or judgement.draft
-        if index < len(maps) and judgement.document is not None:
-            judgement, path = judgement.in_source(maps[index]), maps[index].source
-        found += [(path, finding) for finding in judgement.findings]
+        # What is no JSON has no places in a source.
+        shown = sources.source if sources is not None and judgement.report is not None else path
+        found += [(shown, finding) for finding in judgement.findings]
         if judgement.least:
-            text = "not judged, since %s has a fault" % path
+            text = "not judged, since %s has a fault" % shown
             found += [(later, Finding(None, START, "", text)) for later in paths[index + 1 :]]
             break
     # A sort keeps the order of the files, and in each that of the places.
     return sorted(found, key=lambda pair: pair[1].order[0])
 
 
-def _judge_file(path: str, index: int, draft: Optional[Draft]) -> Judgement:
+def _judge_file(path: str, index: int, draft: Optional[Draft], sources: Optional[SourceMap]) -> Judgement:
     """Judges the file at a path: the configuration, the stimuli or the schedule."""
     try:
         with open(path, "rb") as file:
@@ -142,8 +131,8 @@ def _judge_file(path: str, index: int, draft: Optional[Draft]) -> Judgement:
     except OSError as error:
         return Judgement((Finding(UNREADABLE, START, "", _unreadable(path, error)),))
     if index == 0:
-        return judge_configuration(data)
-    return judge_stimuli(data, draft) if index == 1 else judge_schedule(data, draft)
+        return judge_configuration(data, sources)
+    return (judge_stimuli if index == 1 else judge_schedule)(data, draft, sources)
 
 
 def _unreadable(path: str, error: OSError) -> str:

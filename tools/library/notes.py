@@ -26,8 +26,8 @@ _MOST_LISTED = 3
 def note_repeated(report: Report) -> None:
     """Notes members that stand twice in one object."""
     for repeated in report.document.repeated:
-        later = report.document.place(repeated.later)
         member = repeated.object.members[repeated.name]
+        later = report.place(member.value, repeated.later)
         text = "the member `%s` stands again in line %d, column %d: the last one counts, and this one is not judged"
         report.note(member.value, text % (repeated.name, later.line, later.column), repeated.earlier)
 
@@ -141,7 +141,7 @@ class _Notes:
 
     def _line(self, use: _Use) -> int:
         """The line of an operation."""
-        return self.report.document.place(self.report.document.character_offsets(use.node)[use.step.at]).line
+        return self.report.line_of(use.node, self.report.document.character_offsets(use.node)[use.step.at])
 
     def _event_task(self, use: _Use) -> Optional[Named]:
         """The task whose events an operation means, if it means any."""

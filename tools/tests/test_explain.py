@@ -1,18 +1,28 @@
 """Tests of tools/explain: each usual mistake is found, with its file, line, column and number."""
 
-import json
+import contextlib
+import importlib.machinery
+import importlib.util
+import io
 import os
 import subprocess
 import sys
 import tempfile
 import unittest
 from typing import NamedTuple, Tuple
+from unittest import mock
+
+sys.dont_write_bytecode = True
 
 TOOLS = os.path.dirname(os.path.dirname(os.path.abspath(__file__)))
 ROOT = os.path.dirname(TOOLS)
 sys.path.insert(0, TOOLS)
 from library.formats import MOST_STIMULI, MOST_TURNS  # noqa: E402
 from library.judging import judge_configuration, judge_files, judge_schedule, judge_stimuli  # noqa: E402
+
+_LOADER = importlib.machinery.SourceFileLoader("explain", os.path.join(TOOLS, "explain"))
+SCRIPT = importlib.util.module_from_spec(importlib.util.spec_from_loader("explain", _LOADER))
+_LOADER.exec_module(SCRIPT)
 
 MCOS = os.environ.get("MCOS", os.path.join(ROOT, "crates/mcos/out/mcos"))
 
@@ -702,9 +712,15 @@ def run(program, *words, folder=None):
 
 
 def explain(folder, *words):
-    """What tools/explain does in a folder: its exit status and its lines."""
-    status, out, error = run(os.path.join(TOOLS, "explain"), *words, folder=folder)
-    return status, out.splitlines(), error
+    """What tools/explain does in a folder: its exit status, its lines and its standard error. No process is started."""
+    out, error = io.StringIO(), io.StringIO()
+    with contextlib.chdir(folder), contextlib.redirect_stdout(out), contextlib.redirect_stderr(error):
+        with mock.patch.object(sys, "argv", ["explain", *words]):
+            try:
+                status = SCRIPT.main()
+            except SystemExit as ended:
+                status = ended.code
+    return status, out.getvalue().splitlines(), error.getvalue()
 
 
 class Configurations(unittest.TestCase):
@@ -833,10 +849,46 @@ class Files(unittest.TestCase):
         self.assertEqual(1, status)
         self.assertIn('config.json:1:1: fault 1 NotJson: "": the file begins with a byte order mark', lines[0])
 
+    def test_a_cut(self):
+        application = os.path.join(ROOT, "examples", "application", "config.json")
+        self.assertEqual((0, [], ""), explain(self.folder, application, "--cut", "2"))
+        status, lines, _ = explain(self.folder, "config.json", "--cut", "1")
+        text = "it refers to core 2: task Log; core 0 refers to it: task Com"
+        expected = "config.json:16:10: fault 20 NotSeparate: /cores/1/id: core 1 is not separate: " + text
+        self.assertEqual((1, [expected]), (status, lines))
+        _, lines, _ = explain(self.folder, "config.json", "--cut", "7")
+        expected = 'config.json:1:1: fault 20 NotSeparate: "": core 7 is not separate: it is not configured'
+        self.assertEqual([expected], lines)
+        for word in ("256", "-1", "core"):
+            self.assertEqual(2, explain(self.folder, "config.json", "--cut", word)[0])
+
+    def test_places_in_a_source(self):
+        tasks = '[{"name": "A", "prio": 1, "auto": ["M"],\n "script": [\n  "2*(work; wrok)",\n  "TerminateTask"]},\n'
+        tasks += ' {"name": "A", "prio": 1, "auto": ["M"], "script": "TerminateTask"}]'
+        self.write("source.json", '{"cores": [{"id": 0, "tasks": %s}]}' % tasks)
+        status, out, _ = run(os.path.join(TOOLS, "expand"), "--map", "map", "source.json", folder=self.folder)
+        self.assertEqual(0, status)
+        self.write("config.json", out)
+        status, lines, _ = explain(self.folder, "--map", "map", "config.json")
+        expected = [
+            "source.json:5:11: fault 4 DuplicateName: /cores/0/tasks/1/name: "
+            "`A` is already the name of the task of core 0 in line 1",
+            "source.json:3:13: fault 10 BadScript: /cores/0/tasks/0/script: "
+            "operation 1 `wrok`: no operation is called `wrok`; did you mean `work`?",
+        ]
+        self.assertEqual((1, expected), (status, lines))
+        self.assertEqual(2, explain(self.folder, "--map", "source.json", "config.json")[0])
+
     def test_wrong_usage(self):
         self.assertEqual(2, explain(self.folder)[0])
         self.assertEqual(2, explain(self.folder, "a", "b", "c", "d")[0])
         self.assertEqual(2, explain(self.folder, "--walk", "config.json")[0])
+
+    def test_the_script_as_a_process(self):
+        script = os.path.join(TOOLS, "explain")
+        self.assertEqual((0, "", ""), run(script, "config.json", "stim.json", "sched.json", folder=self.folder))
+        expected = 'none.json:1:1: fault 21 Unreadable: "": No such file or directory\n'
+        self.assertEqual((1, expected, ""), run(script, "none.json", folder=self.folder))
 
     def test_help(self):
         status, lines, _ = explain(self.folder, "--help")

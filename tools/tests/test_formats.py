@@ -5,6 +5,7 @@ import re
 import sys
 import unittest
 
+sys.dont_write_bytecode = True
 TOOLS = os.path.dirname(os.path.dirname(os.path.abspath(__file__)))
 sys.path.insert(0, TOOLS)
 from library import formats  # noqa: E402
@@ -143,8 +144,7 @@ class Operations(unittest.TestCase):
         for operation in formats.OPERATIONS.values():
             for argument in operation.arguments:
                 if argument.word == "n":
-                    kind = {"set": "signed", "add": "signed", "jump": "place", "jz": "place"}.get(operation.name, "number")
-                    self.assertEqual(kind, argument.kind, operation.form)
+                    self.assertEqual(KINDS_OF_N.get(operation.name, "number"), argument.kind, operation.form)
 
     def test_the_operations_on_own_objects_alone(self):
         text = dict(rows_behind("Faults"))["6 WrongCore"]
@@ -156,9 +156,11 @@ class Operations(unittest.TestCase):
 
     def test_what_an_action_is(self):
         self.assertIn("`ActivateTask T` or `SetEvent T m`, where `T` is a task of any core", TEXT)
-        self.assertEqual(["ActivateTask T", "SetEvent T m"], [formats.OPERATIONS[x].form for x in formats.ACTION_OPERATIONS])
+        known = [formats.OPERATIONS[name].form for name in formats.ACTION_OPERATIONS]
+        self.assertEqual(["ActivateTask T", "SetEvent T m"], known)
 
 
+KINDS_OF_N = {"set": "signed", "add": "signed", "jump": "place", "jz": "place"}
 KINDS_OF_WORDS = {
     "T": ("task",),
     "R": ("resource",),

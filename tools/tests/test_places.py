@@ -4,6 +4,7 @@ import os
 import sys
 import unittest
 
+sys.dont_write_bytecode = True
 sys.path.insert(0, os.path.dirname(os.path.dirname(os.path.abspath(__file__))))
 from library.places import JsonList, JsonNumber, JsonObject, JsonText, JsonWord, NotJson, read_document  # noqa: E402
 
@@ -121,19 +122,24 @@ class Read(unittest.TestCase):
         words = [JsonNumber, JsonText, JsonWord, JsonWord, JsonWord, JsonObject, JsonList]
         self.assertEqual([JsonObject, JsonList] + words, kinds)
         elements = document.root.members["a"].value.elements
-        self.assertEqual((1, "x", True, False, None), (
-            elements[0].number, elements[1].text, elements[2].value, elements[3].value, elements[4].value
-        ))  # fmt: skip
+        self.assertEqual((1, "x"), (elements[0].number, elements[1].text))
+        self.assertEqual([True, False, None], [element.value for element in elements[2:5]])
         sources = [document.source(element) for element in elements]
         self.assertEqual(["1", '"x"', "true", "false", "null", "{ }", "[ ]"], sources)
 
     def test_places_and_pointers(self):
         document = read_document('{"\u00e4": 1,\n  "b": [10, {"c/d~e": "f"}],\r\n\t"": 2}'.encode())
         places = {value.pointer: tuple(document.place(value.start)) for _, value in values_of(document.root)}
-        self.assertEqual(
-            {"": (1, 1), "/\u00e4": (1, 7), "/b": (2, 8), "/b/0": (2, 9), "/b/1": (2, 13), "/b/1/c~1d~0e": (2, 23), "/": (3, 6)},
-            places,
-        )
+        expected = {
+            "": (1, 1),
+            "/\u00e4": (1, 7),
+            "/b": (2, 8),
+            "/b/0": (2, 9),
+            "/b/1": (2, 13),
+            "/b/1/c~1d~0e": (2, 23),
+            "/": (3, 6),
+        }
+        self.assertEqual(expected, places)
         names = {name: tuple(document.place(member.name_start)) for name, member in document.root.members.items()}
         self.assertEqual({"\u00e4": (1, 2), "b": (2, 3), "": (3, 2)}, names)
 
@@ -162,17 +168,16 @@ class Read(unittest.TestCase):
         source = '"a\\u0062\\n\\ud83d\\ude00c\\\\"'
         document = read_document(source.encode())
         offsets = document.character_offsets(document.root)
-        columns = {character: document.place(offset).column for character, offset in zip(document.root.text + "$", offsets)}
+        characters = document.root.text + "$"
+        columns = {character: document.place(offset).column for character, offset in zip(characters, offsets)}
         self.assertEqual({"a": 2, "b": 3, "\n": 9, "\U0001f600": 11, "c": 23, "\\": 24, "$": 26}, columns)
 
     def test_repeated_members(self):
         document = read_document(b'{"a": 1,\n "b": {"c": 1, "c": 2, "c": 3},\n "\\u0061": 4}')
         self.assertEqual(4, document.root.members["a"].value.number)
         self.assertEqual(3, document.root.members["b"].value.members["c"].value.number)
-        found = [
-            (each.name, tuple(document.place(each.earlier)), tuple(document.place(each.later))) for each in document.repeated
-        ]
-        self.assertEqual([("c", (2, 8), (2, 16)), ("c", (2, 16), (2, 24)), ("a", (1, 2), (3, 2))], found)
+        found = [(each.name, *document.place(each.earlier), *document.place(each.later)) for each in document.repeated]
+        self.assertEqual([("c", 2, 8, 2, 16), ("c", 2, 16, 2, 24), ("a", 1, 2, 3, 2)], found)
 
 
 if __name__ == "__main__":
