@@ -6,7 +6,7 @@ Each object keeps where it stands, so that reports can say it.
 from dataclasses import dataclass, field
 from typing import Any, Dict, List, Optional
 
-from library.formats import CONFIGURATION, MODE, NAMED_LISTS, ListOf, Object, ObjectOf, OBJECTS
+from library.formats import CONFIGURATION, MODE, NAMED_LISTS, OBJECTS, ListOf, Object
 from library.places import Json, JsonList, JsonNumber, JsonObject, JsonText
 
 

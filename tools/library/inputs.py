@@ -4,7 +4,7 @@ import re
 from typing import Callable, Dict, List, Optional, Tuple
 
 from library.drafts import Draft
-from library.findings import Report, counted, listed, nearest
+from library.findings import Report, listed, nearest
 from library.formats import (
     BAD_SCHEDULE,
     BAD_STIMULUS,
@@ -144,7 +144,7 @@ def _no_stimulus(word: str, number: int) -> Tuple[str, int]:
     if blank is not None:
         return blank
     if re.search(r"[*0-9]", word):
-        return "a stimulus is `op` or `tick`; it is not repeated by a number, so write it out", 0
+        return "a stimulus is `op` or `tick`: mcos repeats none, and tools/expand writes it out", 0
     near = nearest(word, STIMULUS_WORDS)
     return "a stimulus is `op` or `tick`" + ("; did you mean `%s`?" % near if near else ""), 0
 

@@ -19,7 +19,7 @@ from library.formats import (
 )
 from library.hints import TITLES
 from library.places import Json, JsonNumber
-from library.scripts import acts_on
+from library.steps import acts_on
 
 
 def judge_limits(report: Report, draft: Draft) -> None:

@@ -17,7 +17,7 @@ from library.formats import (
     words_of,
 )
 from library.places import Json, JsonText
-from library.scripts import Step, is_action, steps_of, value_of
+from library.steps import Step, is_action, steps_of, value_of
 
 # How many operations a note lists.
 _MOST_LISTED = 3
@@ -74,6 +74,7 @@ class _Notes:
             self._starts()
         if not self._has(LIMIT):
             self._ceilings()
+        if not self._has(LIMIT, BAD_SCRIPT):
             self._refused()
         if not self._has(DUPLICATE_NAME, UNKNOWN_NAME, BAD_MASK, BAD_SCRIPT):
             self._unused()

@@ -1,8 +1,7 @@
 """Faults 5, 6, 8 and 10 of operations: in scripts, and as actions of alarms and points."""
 
 import re
-from dataclasses import dataclass
-from typing import List, Optional
+from typing import Optional, Tuple
 
 from library.drafts import Core, Draft
 from library.findings import Report, counted, did_you_mean
@@ -16,104 +15,16 @@ from library.formats import (
     NO_OBJECT,
     OPERATIONS,
     UNKNOWN_NAME,
-    VARIABLES,
     WRONG_CORE,
     Argument,
+    Fault,
     Operation,
-    is_decimal,
     is_name,
     is_signed_decimal,
-    operations_of,
 )
 from library.not_json import shown
 from library.places import JsonText
-
-
-@dataclass(frozen=True)
-class Word:
-    """A word of an operation, and where it begins in the text of its script."""
-
-    text: str
-    at: int
-
-
-@dataclass(frozen=True)
-class Step:
-    """An operation as it stands in a script."""
-
-    number: int
-    text: str
-    at: int
-
-    @property
-    def words(self) -> List[Word]:
-        """Its words, which one space divides."""
-        found, at = [], self.at
-        for word in self.text.split(" "):
-            found.append(Word(word, at))
-            at += len(word) + 1
-        return found
-
-    @property
-    def operation(self) -> Optional[Operation]:
-        """The operation of its first word, if there is one."""
-        return OPERATIONS.get(self.text.split(" ")[0])
-
-    @property
-    def arguments(self) -> List[str]:
-        """The words behind the first one."""
-        return self.text.split(" ")[1:]
-
-    @property
-    def is_in_form(self) -> bool:
-        """Whether it has a known first word and, behind it, words of the right number and forms."""
-        operation = self.operation
-        if operation is None or len(operation.arguments) != len(self.arguments):
-            return False
-        return all(has_form(argument, word) for argument, word in zip(operation.arguments, self.arguments))
-
-
-def steps_of(script: str) -> List[Step]:
-    """The operations of a script."""
-    found, at = [], 0
-    for number, text in enumerate(operations_of(script)):
-        found.append(Step(number, text, at))
-        at += len(text) + 1
-    return found
-
-
-def has_form(argument: Argument, word: str) -> bool:
-    """Whether a word has the form that an argument wants. The range of a decimal number is asked later."""
-    if argument.is_object:
-        return word == NO_OBJECT or is_name(word)
-    if argument.kind == "variable":
-        return word in VARIABLES
-    if argument.kind == "signed":
-        return is_signed_decimal(word) and _is_signed_64(word)
-    return is_decimal(word)
-
-
-def value_of(word: str) -> int:
-    """The value of a decimal number; of one that is longer than any in range a value that is out of each range."""
-    return int(word) if len(word) <= 20 else 10**20
-
-
-def _is_signed_64(word: str) -> bool:
-    """Whether a signed decimal number has 64 bits."""
-    if word.startswith("-"):
-        return value_of(word[1:]) <= GREATEST_SIGNED + 1
-    return value_of(word) <= GREATEST_SIGNED
-
-
-def is_action(text: str) -> bool:
-    """Whether a text is an action in form."""
-    step = Step(0, text, 0)
-    return step.is_in_form and step.operation.name in ACTION_OPERATIONS and step.arguments[0] != NO_OBJECT
-
-
-def acts_on(text: str) -> Optional[str]:
-    """The task's name in an action, if that is in form."""
-    return Step(0, text, 0).arguments[0] if is_action(text) else None
+from library.steps import Step, Word, has_form, is_action, steps_of, value_of
 
 
 class Judge:
@@ -135,10 +46,14 @@ class Judge:
         """Judges an action of an alarm or a point."""
         step = Step(0, node.text, 0)
         operation = _Operation(self, node, step, "")
-        if step.is_in_form and not is_action(node.text):
-            first = step.words[1] if step.operation.name in ACTION_OPERATIONS else step.words[0]
-            text = "an action is `ActivateTask T` or `SetEvent T m` of a task's name, not %s"
-            operation.fault(BAD_SCRIPT, text % shown(node.text), first.at)
+        first = step.words[0].text
+        if ";" in node.text:
+            operation.fault(BAD_SCRIPT, "an action is one operation, without `;`", node.text.index(";"))
+        elif first and first not in ACTION_OPERATIONS:
+            text = "an action is `ActivateTask T` or `SetEvent T m`, not %s%s"
+            operation.fault(BAD_SCRIPT, text % (shown(node.text), did_you_mean(first, ACTION_OPERATIONS)), 0)
+        elif step.is_in_form and not is_action(node.text):
+            operation.fault(BAD_SCRIPT, "an action wants the name of a task, not `?`", step.words[1].at)
         else:
             operation.judge(0)
 
@@ -152,7 +67,7 @@ class _Operation:
         self.step = step
         self.title = title
 
-    def fault(self, fault, text: str, at: int) -> None:
+    def fault(self, fault: Fault, text: str, at: int) -> None:
         """A fault at a place within the script."""
         offset = self.owner.report.document.character_offsets(self.node)[at]
         self.owner.report.fault(fault, self.node, self.title + text, offset)
@@ -196,7 +111,7 @@ class _Operation:
         elif blank is not None:
             self.fault(BAD_SCRIPT, *blank)
         elif self.step.operation is None:
-            self.fault(BAD_SCRIPT, no_operation(self.step.words[0].text), self.step.at)
+            self.fault(BAD_SCRIPT, no_operation(self.step.text), self.step.at)
         else:
             self._judge_words(self.step.operation)
 
@@ -208,19 +123,19 @@ class _Operation:
             return "an empty operation stands behind the last `;`: remove the `;`"
         return "an empty operation stands before a `;`: remove one `;`"
 
-    def _blank(self) -> Optional[tuple]:
+    def _blank(self) -> Optional[Tuple[str, int]]:
         """What to say of a blank where none may stand, and where it stands."""
         text, at = self.step.text, self.step.at
         other = re.search(r"[^\S ]", text)
         if other is not None:
             return "%s stands here: one space divides words" % _blank_name(other.group()), at + other.start()
         if text.startswith(" "):
-            where = "behind `;`" if at > 0 else "before the first operation"
+            where = "behind `;`" if at > 0 else "at the beginning"
             return "a space stands %s: remove it" % where, at
         if "  " in text.rstrip(" "):
             return "two spaces stand here: one divides words", at + text.index("  ")
         if text.endswith(" "):
-            where = "behind the last word" if at + len(text) == len(self.node.text) else "before `;`"
+            where = "at the end" if at + len(text) == len(self.node.text) else "before `;`"
             return "a space stands %s: remove it" % where, at + len(text.rstrip(" "))
         return None
 
@@ -284,13 +199,19 @@ _NOT_THERE = {
 }
 
 
-def no_operation(word: str) -> str:
-    """What to say of a first word that is no operation."""
+def no_operation(text: str) -> str:
+    """What to say of an operation whose first word is none of them."""
+    word = text.split(" ")[0]
     if word in _NOT_THERE:
         return "`%s` is %s" % (word, _NOT_THERE[word])
-    repeated = re.fullmatch(r"([0-9]+)\*(.*)|(.*)\*([0-9]+)", word)
-    if repeated is not None:
-        return "%s is no operation: mcos repeats none, so write it out" % shown(word)
+    call = re.fullmatch(r"(\w+)\s*\((.*)\)", text)
+    if call is not None and call[1] in OPERATIONS:
+        words = [call[1]] + [each.strip() for each in call[2].split(",") if each.strip()]
+        return "it is written without parentheses: %s" % shown(" ".join(words))
+    if re.fullmatch(r"[0-9]+\*.*|.*\*[0-9]+", word):
+        return "%s is no operation: mcos repeats none, and tools/expand writes it out" % shown(word)
+    if word.endswith(":"):
+        return "%s is no operation: only tools/expand knows labels" % shown(word)
     return "no operation is called %s%s" % (shown(word), did_you_mean(word, OPERATIONS))
 
 
@@ -302,19 +223,18 @@ def wrong_form(argument: Argument, word: str) -> str:
         return "%s is no name of %s" % (shown(word), a(argument.kind))
     if re.fullmatch(r"-?0[xX][0-9A-Fa-f]+", word):
         return "%s is no decimal number: write `%d`" % (shown(word), int(word, 16))
-    if re.fullmatch(r"-?0+[0-9]+", word):
-        return "%s has leading zeros: write `%s`" % (shown(word), _without_zeros(word))
-    if argument.kind == "mask" and is_name(word):
+    if re.fullmatch(r"-?0+[0-9]+|-0|\+[0-9]+", word):
+        return "%s has a sign or zeros too many: write `%s`" % (shown(word), _plain_number(word))
+    if argument.kind == "mask" and re.match("[A-Za-z_]", word):
         return "%s is no mask: events have no names, so write a number, as 1, 2 or 4" % shown(word)
     if argument.kind == "place" and is_name(word):
         return "%s is no place: write the number of an operation, counted from 0" % shown(word)
-    if argument.kind == "signed":
-        return "%s is no number of -%d to %d" % (shown(word), GREATEST_SIGNED + 1, GREATEST_SIGNED)
+    if argument.kind == "signed" and is_signed_decimal(word):
+        return "%s is not %d to %d" % (shown(word), -GREATEST_SIGNED - 1, GREATEST_SIGNED)
     return "%s is no decimal number" % shown(word)
 
 
-def _without_zeros(word: str) -> str:
-    """A number without its leading zeros."""
-    sign = "-" if word.startswith("-") else ""
-    digits = word.lstrip("-").lstrip("0") or "0"
-    return digits if digits == "0" else sign + digits
+def _plain_number(word: str) -> str:
+    """A number without `+`, without leading zeros, and 0 without a sign."""
+    digits = word.lstrip("+-").lstrip("0")
+    return ("-" if word.startswith("-") else "") + digits if digits else "0"

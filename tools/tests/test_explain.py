@@ -504,7 +504,7 @@ CASES = (
         "IncrementCounter",
         (
             "config.json:5:51: fault 10 BadScript: /cores/0/alarms/0/action: "
-            "an action is `ActivateTask T` or `SetEvent T m` of a task's name, not `IncrementCounter Ms`",
+            "an action is `ActivateTask T` or `SetEvent T m`, not `IncrementCounter Ms`",
         ),
     ),
     Case(
@@ -606,7 +606,7 @@ STIMULI = (
         '{"0": "op*3"}',
         (
             "1:8: fault 12 BadStimulus: /0: "
-            "word 1 `op*3`: a stimulus is `op` or `tick`; it is not repeated by a number, so write it out",
+            "word 1 `op*3`: a stimulus is `op` or `tick`: mcos repeats none, and tools/expand writes it out",
         ),
     ),
     Input(
