@@ -105,6 +105,8 @@ def not_json():
     for levels in (MOST_LEVELS - 1, MOST_LEVELS, MOST_LEVELS + 1, MOST_LEVELS + 2):
         yield "%d levels" % levels, b"[" * levels + b"]" * levels
         yield "%d levels within a member" % levels, b'{"a":' * levels + b"1" + b"}" * levels
+    for earlier in (b"1", b'"\\ude00"', b"1e999"):
+        yield "a member twice, %r first" % earlier, b'{"cores": %s, "cores": [{"id": 0}]}' % earlier
     right = changed()
     for beginning in (b"\xef\xbb\xbf", b"\xff\xfe", b"\xfe\xff", b"\xe4", b" \t\r\n", b"\x0b"):
         yield "beginning %r" % beginning, beginning + right

@@ -1,6 +1,7 @@
 """What a member's name of OIL, of AUTOSAR or of a kind that mcos does not have is here."""
 
-from typing import Optional
+from dataclasses import dataclass
+from typing import Dict, Optional, Set
 
 from library.findings import listed, nearest
 from library.formats import CONFIGURATION, CORE, NAMED_LISTS, OBJECTS, Object
@@ -19,106 +20,133 @@ TITLES = {
     "table's auto": "the `auto` of a table",
 }
 
-_AUTO_OF_TASK = 'it is `auto` here, a list: `["M"]`'
-_EVENTS = 'events have no names here: write `"extended": true`, and masks in the scripts'
-_SCHEDULE = "it is `preemptable` here: `true` for FULL, `false` for NON"
-_IN_AUTO = "it is `%s` here, and stands in the `auto` of the alarm"
-_FIXED = "it is not written here: each `tick` is one count"
-_SOFTWARE = 'it is `software` here: `true`, or `false` for one that each `tick` increments'
-_TABLE_START = "it is `offset` here, and stands in the `auto` of the table"
 
-# By object: a name, in small letters and without `_`, and what it is here.
-_STANDARD_NAMES = {
+@dataclass(frozen=True)
+class Hint:
+    """What to write in place of a name; `member` is the member of the same object that it stands for, if one does."""
+
+    text: str
+    member: Optional[str] = None
+
+
+def _is(member: str, more: str = "") -> Hint:
+    """A name that is only called otherwise here."""
+    return Hint("it is `%s` here%s" % (member, more), member)
+
+
+_AUTO_OF_TASK = _is("auto", ', a list: `["M"]`')
+_AUTO_OF_ALARM = _is("auto", ", an object with `modes`, `start` and `cycle`")
+_AUTO_OF_TABLE = _is("auto", ", an object with `modes` and `offset`")
+_EVENTS_OF_TASK = Hint('events have no names here: write `"extended": true`, and masks in the scripts', "extended")
+_EVENTS_OF_CORE = Hint('events have no names here: a task with `"extended": true` has 32')
+_SCHEDULE = _is("preemptable", ": `true` for FULL, `false` for NON")
+_RESOURCES = Hint("it is not written here: each task of the core may take each of its resources")
+_STANDARD = Hint("it is not written here: each resource is STANDARD")
+_ONE_COUNT = Hint("it is not written here: each `tick` is one count")
+_SOFTWARE = _is("software", ": `true`, or `false` for one that each `tick` increments")
+_START_IN_AUTO = Hint("it is `start` here, and stands in the `auto` of the alarm")
+_CYCLE_IN_AUTO = Hint("it is `cycle` here, and stands in the `auto` of the alarm")
+_MODES_IN_AUTO = Hint("it is `modes` here, and stands in the `auto`")
+_OFFSET_IN_AUTO = Hint("it is `offset` here, and stands in the `auto` of the table")
+_ACTIVATE_IN_ACTION = Hint('it stands in the `action` here: `"ActivateTask T"`', "action")
+_SET_IN_ACTION = Hint('it stands in the `action` here: `"SetEvent T m"`', "action")
+
+# By object: a name of OIL or AUTOSAR, in small letters and without `_`, and what it is here.
+STANDARD_NAMES: Dict[str, Dict[str, Hint]] = {
     "task": {
-        "priority": "it is `prio` here",
-        "ostaskpriority": "it is `prio` here",
-        "activation": "it is `activations` here",
-        "ostaskactivation": "it is `activations` here",
+        "priority": _is("prio"),
+        "ostaskpriority": _is("prio"),
+        "activation": _is("activations"),
+        "ostaskactivation": _is("activations"),
         "autostart": _AUTO_OF_TASK,
         "ostaskautostart": _AUTO_OF_TASK,
         "appmode": _AUTO_OF_TASK,
         "ostaskappmoderef": _AUTO_OF_TASK,
         "schedule": _SCHEDULE,
         "ostaskschedule": _SCHEDULE,
-        "event": _EVENTS,
-        "events": _EVENTS,
-        "ostaskeventref": _EVENTS,
-        "resource": "it is not written here: each task of the core may take each of its resources",
-        "resources": "it is not written here: each task of the core may take each of its resources",
+        "event": _EVENTS_OF_TASK,
+        "events": _EVENTS_OF_TASK,
+        "ostaskeventref": _EVENTS_OF_TASK,
+        "resource": _RESOURCES,
+        "resources": _RESOURCES,
     },
     "resource": {
-        "ceilingpriority": "it is `ceiling` here",
-        "priority": "it is `ceiling` here",
-        "prio": "it is `ceiling` here",
-        "resourceproperty": "it is not written here: each resource is STANDARD",
-        "osresourceproperty": "it is not written here: each resource is STANDARD",
+        "ceilingpriority": _is("ceiling"),
+        "priority": _is("ceiling"),
+        "prio": _is("ceiling"),
+        "resourceproperty": _STANDARD,
+        "osresourceproperty": _STANDARD,
     },
     "counter": {
-        "maxallowedvalue": "it is `max` here",
-        "oscountermaxallowedvalue": "it is `max` here",
-        "mincycle": "it is `min` here",
-        "oscountermincycle": "it is `min` here",
-        "ticksperbase": _FIXED,
-        "oscounterticksperbase": _FIXED,
+        "maxallowedvalue": _is("max"),
+        "oscountermaxallowedvalue": _is("max"),
+        "mincycle": _is("min"),
+        "oscountermincycle": _is("min"),
+        "ticksperbase": _ONE_COUNT,
+        "oscounterticksperbase": _ONE_COUNT,
         "type": _SOFTWARE,
         "oscountertype": _SOFTWARE,
     },
     "alarm": {
-        "autostart": "it is `auto` here, an object with `modes`, `start` and `cycle`",
-        "osalarmautostart": "it is `auto` here, an object with `modes`, `start` and `cycle`",
-        "alarmtime": _IN_AUTO % "start",
-        "osalarmalarmtime": _IN_AUTO % "start",
-        "cycletime": _IN_AUTO % "cycle",
-        "osalarmcycletime": _IN_AUTO % "cycle",
-        "appmode": _IN_AUTO % "modes",
-        "osalarmcounterref": "it is `counter` here",
-        "osalarmaction": "it is `action` here",
-        "task": 'it stands in the `action` here: `"ActivateTask T"`',
-        "event": 'it stands in the `action` here: `"SetEvent T m"`',
+        "autostart": _AUTO_OF_ALARM,
+        "osalarmautostart": _AUTO_OF_ALARM,
+        "alarmtime": _START_IN_AUTO,
+        "osalarmalarmtime": _START_IN_AUTO,
+        "cycletime": _CYCLE_IN_AUTO,
+        "osalarmcycletime": _CYCLE_IN_AUTO,
+        "appmode": _MODES_IN_AUTO,
+        "osalarmcounterref": _is("counter"),
+        "osalarmaction": _is("action"),
+        "task": _ACTIVATE_IN_ACTION,
+        "osalarmactivatetask": _ACTIVATE_IN_ACTION,
+        "event": _SET_IN_ACTION,
+        "osalarmsetevent": _SET_IN_ACTION,
     },
     "alarm's auto": {
-        "alarmtime": "it is `start` here",
-        "osalarmalarmtime": "it is `start` here",
-        "cycletime": "it is `cycle` here",
-        "osalarmcycletime": "it is `cycle` here",
-        "appmode": "it is `modes` here",
-        "mode": "it is `modes` here",
+        "alarmtime": _is("start"),
+        "osalarmalarmtime": _is("start"),
+        "cycletime": _is("cycle"),
+        "osalarmcycletime": _is("cycle"),
+        "appmode": _is("modes"),
+        "mode": _is("modes"),
     },
     "table": {
-        "osscheduletableduration": "it is `duration` here",
-        "osscheduletablerepeating": "it is `repeating` here",
-        "osscheduletablecounterref": "it is `counter` here",
-        "osscheduletableexpirypoint": "it is `points` here",
-        "expirypoints": "it is `points` here",
-        "autostart": "it is `auto` here, an object with `modes` and `offset`",
-        "osscheduletableautostart": "it is `auto` here, an object with `modes` and `offset`",
-        "startvalue": _TABLE_START,
-        "osscheduletablestartvalue": _TABLE_START,
-        "cyclic": "it is `repeating` here",
-        "periodic": "it is `repeating` here",
+        "osscheduletableduration": _is("duration"),
+        "osscheduletablerepeating": _is("repeating"),
+        "osscheduletablecounterref": _is("counter"),
+        "osscheduletableexpirypoint": _is("points"),
+        "expirypoints": _is("points"),
+        "autostart": _AUTO_OF_TABLE,
+        "osscheduletableautostart": _AUTO_OF_TABLE,
+        "startvalue": _OFFSET_IN_AUTO,
+        "osscheduletablestartvalue": _OFFSET_IN_AUTO,
+        "appmode": _MODES_IN_AUTO,
+        "cyclic": _is("repeating"),
+        "periodic": _is("repeating"),
     },
     "point": {
-        "osscheduletblexppointoffset": "it is `offset` here",
-        "action": "it is `actions` here, a list",
-        "osscheduletabletaskactivation": "it is `actions` here, a list",
-        "osscheduletableeventsetting": "it is `actions` here, a list",
+        "osscheduletblexppointoffset": _is("offset"),
+        "action": _is("actions", ", a list"),
+        "osscheduletabletaskactivation": _is("actions", ", a list"),
+        "osscheduletableeventsetting": _is("actions", ", a list"),
     },
     "table's auto": {
-        "osscheduletablestartvalue": "it is `offset` here",
-        "startvalue": "it is `offset` here",
-        "start": "it is `offset` here",
-        "appmode": "it is `modes` here",
-        "mode": "it is `modes` here",
+        "osscheduletablestartvalue": _is("offset"),
+        "startvalue": _is("offset"),
+        "start": _is("offset"),
+        "appmode": _is("modes"),
+        "mode": _is("modes"),
     },
     "core": {
-        "coreid": "it is `id` here",
-        "number": "it is `id` here",
-        "scheduletables": "it is `tables` here",
-        "events": _EVENTS,
-        "event": _EVENTS,
+        "coreid": _is("id"),
+        "number": _is("id"),
+        "scheduletables": _is("tables"),
+        "event": _EVENTS_OF_CORE,
+        "events": _EVENTS_OF_CORE,
+        "osevent": _EVENTS_OF_CORE,
     },
 }
-_NOT_YET = {
+NOT_YET = {
     "isr": "interrupts",
     "isrs": "interrupts",
     "interrupt": "interrupts",
@@ -147,20 +175,25 @@ def _flat(name: str) -> str:
     return name.replace("_", "").replace("-", "").lower()
 
 
-def meant_member(kind: Object, name: str, present: set) -> Optional[str]:
+def _hint(kind: Object, name: str) -> Optional[Hint]:
+    """What a name of the standard is in an object."""
+    return STANDARD_NAMES.get(kind.name, {}).get(_flat(name))
+
+
+def meant_member(kind: Object, name: str, present: Set[str]) -> Optional[str]:
     """Which member of an object an unknown one was probably meant to be, of those that it has not."""
-    free = [member.name for member in kind.members if member.name not in present]
-    hint = _STANDARD_NAMES.get(kind.name, {}).get(_flat(name))
+    hint = _hint(kind, name)
     if hint is not None:
-        return next((each for each in free if hint.startswith("it is `%s` here" % each)), None)
-    return nearest(name, free)
+        return hint.member
+    return nearest(name, [member.name for member in kind.members if member.name not in present])
 
 
-def unknown_member(kind: Object, name: str, present: set) -> str:
+def unknown_member(kind: Object, name: str, present: Set[str]) -> str:
     """The end of a report of an unknown member: what to write in its place."""
-    hint = _STANDARD_NAMES.get(kind.name, {}).get(_flat(name)) or _not_there(name)
-    if hint is not None:
-        return ": " + hint
+    hint = _hint(kind, name)
+    known = hint.text if hint is not None else _not_there(name)
+    if known is not None:
+        return ": " + known
     meant = meant_member(kind, name, present)
     if meant is not None:
         return "; did you mean `%s`?" % meant
@@ -172,8 +205,8 @@ def unknown_member(kind: Object, name: str, present: set) -> str:
 
 def _not_there(name: str) -> Optional[str]:
     """What a name stands for that mcos does not have."""
-    if _flat(name) in _NOT_YET:
-        return "not there yet (%s)" % _NOT_YET[_flat(name)]
+    if _flat(name) in NOT_YET:
+        return "not there yet (%s)" % NOT_YET[_flat(name)]
     if _flat(name) in _NOT_PLANNED:
         return "not planned (%s)" % _NOT_PLANNED[_flat(name)]
     return None

@@ -62,7 +62,7 @@ def _judge_object(report: Report, node: Json, kind: Object, value: ObjectOf) -> 
             text = "%s has no member %s" % (TITLES[kind.name], shown(name))
             report.fault_of_member(SHAPE, node, name, text + unknown_member(kind, name, present))
         else:
-            _judge_value(report, member.value, known.value, "`%s`" % name, kind)
+            _judge_value(report, member.value, known.value, "`%s`" % name, kind, not known.is_required)
     _judge_missing(report, node, kind)
 
 
@@ -85,7 +85,7 @@ def _title(node: JsonObject, kind: Object) -> str:
     return TITLES[kind.name]
 
 
-def _judge_value(report: Report, node: Json, value: Value, title: str, kind: Object) -> None:
+def _judge_value(report: Report, node: Json, value: Value, title: str, kind: Object, has_default: bool = False) -> None:
     """Judges the value of a member, or an element of it."""
     if isinstance(value, ObjectOf):
         is_null = isinstance(node, JsonWord) and node.value is None
@@ -93,7 +93,7 @@ def _judge_value(report: Report, node: Json, value: Value, title: str, kind: Obj
             _judge_object(report, node, OBJECTS[value.name], value)
     elif not _has_type(node, value):
         text = "%s is %s, not %s" % (title, _wanted(value, kind), _found(report, node))
-        report.fault(SHAPE, node, text + _remedy(report, node, value))
+        report.fault(SHAPE, node, text + _remedy(report, node, value, has_default))
     elif isinstance(value, ListOf):
         for element in node.elements:
             _judge_value(report, element, value.element, "an element of " + title, kind)
@@ -173,14 +173,14 @@ def _found(report: Report, node: Json) -> str:
     return shown(report.document.source(node))
 
 
-def _remedy(report: Report, node: Json, value: Value) -> str:
+def _remedy(report: Report, node: Json, value: Value, has_default: bool) -> str:
     """How to mend a value of another type, if that can be seen."""
     if isinstance(node, JsonText) and isinstance(value, (Number, Flag)):
         is_right_inside = is_decimal(node.text) if isinstance(value, Number) else node.text in ("true", "false")
         return ": remove the quotes" if is_right_inside else ""
     if isinstance(node, JsonNumber) and isinstance(value, Number):
         return _whole_number(report.document.source(node))
-    if isinstance(node, JsonWord) and node.value is None:
+    if isinstance(node, JsonWord) and node.value is None and has_default:
         return ": to have the default, leave the member out"
     return ""
 

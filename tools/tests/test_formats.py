@@ -8,7 +8,7 @@ import unittest
 sys.dont_write_bytecode = True
 TOOLS = os.path.dirname(os.path.dirname(os.path.abspath(__file__)))
 sys.path.insert(0, TOOLS)
-from library import formats  # noqa: E402
+from library import formats, hints  # noqa: E402
 
 with open(os.path.join(os.path.dirname(TOOLS), "docs", "FORMATS.md"), encoding="utf-8") as _file:
     TEXT = _file.read()
@@ -175,6 +175,30 @@ KINDS_OF_WORDS = {
     "s": ("number",),
     "c": ("number",),
 }
+
+
+class Standard(unittest.TestCase):
+    """The names of the standards, which tools/explain knows."""
+
+    def test_each_member_that_is_hinted_at(self):
+        for kind, names in hints.STANDARD_NAMES.items():
+            for name, hint in names.items():
+                with self.subTest(kind=kind, name=name):
+                    self.assertIsNone(formats.OBJECTS[kind].member(name))
+                    if hint.member is not None:
+                        self.assertIsNotNone(formats.OBJECTS[kind].member(hint.member))
+
+    def test_the_names_of_autosar(self):
+        written = set()
+        for _, oil, autosar, _ in rows_behind("Names of the standard"):
+            written |= set(re.findall(r"\bOs[A-Z]\w+", autosar))
+            written |= set(re.findall(r"\b[A-Z]{5,}\b", oil)) & {"PRIORITY", "ACTIVATION", "AUTOSTART", "MINCYCLE"}
+        known = {name for names in hints.STANDARD_NAMES.values() for name in names} | set(hints.NOT_YET)
+        # An object of AUTOSAR, and a number that stands in scripts here.
+        missing = {name for name in written if name.lower() not in known} - {"OsResource", "OsEventMask"}
+        self.assertEqual(set(), missing)
+        unwritten = {name for name in known if name.startswith("os")} - {name.lower() for name in written}
+        self.assertEqual({"osspinlock", "osappmodes"}, unwritten)
 
 
 class Words(unittest.TestCase):
