@@ -927,6 +927,67 @@ def session(folder):
             yield line.split(" ")[2:], following if following.startswith("fault ") else None
 
 
+# A configuration for one script, and scripts with the line that the program prints when their first operation is done.
+# Those with another status than E_OK are noted, with this status.
+FRAME = """\
+{"cores": [
+  {"id": 0, "start": [1],
+   "counters": [{"name": "C", "max": 9, "min": 2}, {"name": "W", "max": 9, "software": true}],
+   "resources": [{"name": "Low", "ceiling": 1}, {"name": "High", "ceiling": 2}],
+   "alarms": [{"name": "L", "counter": "C", "action": "ActivateTask B", "auto": {"modes": [], "start": 1, "cycle": 0}}],
+   "tables": [{"name": "S", "counter": "C", "duration": 5, "points": [{"offset": 2, "actions": ["ActivateTask B"]}]}],
+   "tasks": [
+     {"name": "A", "prio": 2, "auto": ["M"], "script": "%s"},
+     {"name": "B", "prio": 1, "auto": ["M"], "script": "TerminateTask"},
+     {"name": "E", "prio": 1, "extended": true, "auto": ["M"], "script": "TerminateTask"}]},
+  {"id": 1, "counters": [{"name": "D", "max": 9, "software": true}]}]}
+"""
+STATUSES = (
+    ("GetResource Low;TerminateTask", "stat A GetResource E_OS_ACCESS"),
+    ("GetResource High;ReleaseResource High;TerminateTask", "stat A GetResource E_OK"),
+    ("WaitEvent 1;TerminateTask", "stat A WaitEvent E_OS_ACCESS"),
+    ("ClearEvent 1;TerminateTask", "stat A ClearEvent E_OS_ACCESS"),
+    ("SetEvent B 1;TerminateTask", "stat A SetEvent E_OS_ACCESS"),
+    ("SetEvent E 1;TerminateTask", "stat A SetEvent E_OK"),
+    ("GetEvent B v0;TerminateTask", "stat A GetEvent E_OS_ACCESS"),
+    ("GetEvent E v0;TerminateTask", "stat A GetEvent E_OK 0"),
+    ("IncrementCounter C;TerminateTask", "stat A IncrementCounter E_OS_ID"),
+    ("IncrementCounter D;TerminateTask", "stat A IncrementCounter E_OS_CORE"),
+    ("IncrementCounter W;TerminateTask", "stat A IncrementCounter E_OK"),
+    ("SetRelAlarm L 0 0;TerminateTask", "stat A SetRelAlarm E_OS_VALUE"),
+    ("SetRelAlarm L 1 0;TerminateTask", "stat A SetRelAlarm E_OK"),
+    ("SetRelAlarm L 9 9;TerminateTask", "stat A SetRelAlarm E_OK"),
+    ("SetRelAlarm L 10 0;TerminateTask", "stat A SetRelAlarm E_OS_VALUE"),
+    ("SetRelAlarm L 1 1;TerminateTask", "stat A SetRelAlarm E_OS_VALUE"),
+    ("SetRelAlarm L 1 2;TerminateTask", "stat A SetRelAlarm E_OK"),
+    ("SetRelAlarm L 1 10;TerminateTask", "stat A SetRelAlarm E_OS_VALUE"),
+    ("SetAbsAlarm L 0 0;TerminateTask", "stat A SetAbsAlarm E_OK"),
+    ("SetAbsAlarm L 9 0;TerminateTask", "stat A SetAbsAlarm E_OK"),
+    ("SetAbsAlarm L 10 0;TerminateTask", "stat A SetAbsAlarm E_OS_VALUE"),
+    ("StartScheduleTableRel S 0;TerminateTask", "stat A StartScheduleTableRel E_OS_VALUE"),
+    ("StartScheduleTableRel S 7;TerminateTask", "stat A StartScheduleTableRel E_OK"),
+    ("StartScheduleTableRel S 8;TerminateTask", "stat A StartScheduleTableRel E_OS_VALUE"),
+    ("StartScheduleTableAbs S 9;TerminateTask", "stat A StartScheduleTableAbs E_OK"),
+    ("StartScheduleTableAbs S 10;TerminateTask", "stat A StartScheduleTableAbs E_OS_VALUE"),
+    ("", "hook Error E_OS_MISSINGEND"),
+    ("jump 2;TerminateTask", "hook Error E_OS_MISSINGEND"),
+)
+
+
+class Statuses(unittest.TestCase):
+    """A note that names a status names the right one; of what answers E_OK none does."""
+
+    def test_each_script(self):
+        for script, line in STATUSES:
+            with self.subTest(script=script):
+                judgement = judge_configuration((FRAME % script).encode())
+                self.assertEqual(0, judgement.least)
+                words = [word for finding in judgement.findings for word in finding.text.split()]
+                named = [word for word in words if word.startswith("E_OS_")]
+                status = next(word for word in line.split() if word.startswith("E_O"))
+                self.assertEqual([] if status == "E_OK" else [status], named)
+
+
 @unittest.skipUnless(os.path.exists(MCOS), "no program at %s; MCOS names another one" % MCOS)
 class Program(unittest.TestCase):
     """The first fault is the one that the program reports."""
@@ -953,6 +1014,17 @@ class Program(unittest.TestCase):
                 with self.subTest(each.title):
                     save(schedule, each.text)
                     self.assert_same([config, stimuli, schedule], "run", config, stimuli, "--schedule", schedule)
+
+    def test_each_status(self):
+        with tempfile.TemporaryDirectory() as folder:
+            config, stimuli = os.path.join(folder, "config"), os.path.join(folder, "stimuli")
+            save(stimuli, '{"0": "op op op op op op op op op op"}')
+            for script, line in STATUSES:
+                with self.subTest(script=script):
+                    save(config, FRAME % script)
+                    status, out, _ = run(MCOS, "run", config, stimuli)
+                    self.assertEqual(0, status)
+                    self.assertIn(line, out.splitlines())
 
     def assert_same(self, paths, *words):
         """The first line has the fault that these words give."""
