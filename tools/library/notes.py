@@ -1,7 +1,7 @@
 """Notes: what is lawful, and probably meant otherwise."""
 
 from dataclasses import dataclass
-from typing import Dict, Iterator, List, Optional, Set
+from typing import Dict, Iterable, Iterator, List, Optional, Set
 
 from library.drafts import Core, Draft, Named
 from library.findings import Report, listed
@@ -16,10 +16,11 @@ from library.formats import (
     Fault,
     words_of,
 )
+from library.not_json import shown
 from library.places import Json, JsonText
 from library.steps import Step, is_action, steps_of, value_of
 
-# How many operations a note lists.
+# How many operations or tasks a note lists.
 _MOST_LISTED = 3
 
 
@@ -88,7 +89,7 @@ class _Notes:
         """A note on a word of an operation."""
         at = use.step.words[word].at
         title = "operation %d " % use.step.number if use.task is not None else ""
-        text = "%s`%s`: %s" % (title, use.step.text, text)
+        text = "%s%s: %s" % (title, shown(use.step.text), text)
         self.report.note(use.node, text, self.report.document.character_offsets(use.node)[at])
 
     def _starts(self) -> None:
@@ -121,7 +122,7 @@ class _Notes:
             if resource is not None and resource.core is use.core and use.task["prio"] > resource["ceiling"]:
                 users.setdefault(resource, {})[use.task.name] = use.task["prio"]
         for resource, prios in users.items():
-            tasks = listed("`%s` (%d)" % pair for pair in list(prios.items())[:_MOST_LISTED])
+            tasks = _first_ones("`%s` (%d)" % pair for pair in prios.items())
             text = "`ceiling` is %d, below the `prio` of %s: GetResource `%s` is answered E_OS_ACCESS there"
             self.report.note(resource.spot("ceiling"), text % (resource["ceiling"], tasks, resource.name))
 
@@ -133,12 +134,10 @@ class _Notes:
             if task is not None and not task["extended"]:
                 uses.setdefault(task, []).append(use)
         for task, found in uses.items():
-            shown = ["`%s` in line %d" % (use.step.text, self._line(use)) for use in found[:_MOST_LISTED]]
-            if len(found) > _MOST_LISTED:
-                shown.append("%d more" % (len(found) - _MOST_LISTED))
+            operations = _first_ones("%s in line %d" % (shown(use.step.text), self._line(use)) for use in found)
             has_extended = "extended" in task.node.members
             text = "the task `%s` is not `extended`, so it has no events: E_OS_ACCESS for %s"
-            self.report.note(task.spot("extended" if has_extended else "name"), text % (task.name, listed(shown)))
+            self.report.note(task.spot("extended" if has_extended else "name"), text % (task.name, operations))
 
     def _line(self, use: _Use) -> int:
         """The line of an operation."""
@@ -244,6 +243,13 @@ _UNUSED = {
     "tables": "nothing starts the table `%s`: no `auto`, no operation",
     "counters": "nothing increments the `software` counter `%s`",
 }
+
+
+def _first_ones(words: Iterable[str]) -> str:
+    """The first ones of a list, and how many more there are."""
+    words = list(words)
+    more = ["%d more" % (len(words) - _MOST_LISTED)] if len(words) > _MOST_LISTED else []
+    return listed(words[:_MOST_LISTED] + more)
 
 
 def _has_autostart(each: Named) -> bool:
