@@ -10,6 +10,21 @@ BEGINNINGS = tuple('"{[-0123456789') + tuple("abcdefghijklmnopqrstuvwxyzABCDEFGH
 _BARE_WORD = re.compile(r"[A-Za-z_][A-Za-z0-9_]*")
 _PYTHON_WORDS = {"True": "true", "False": "false", "None": "null", "TRUE": "true", "FALSE": "false", "NULL": "null"}
 _NUMBER_WORD = re.compile(r"[-+.0-9][-+.0-9A-Za-z_]*")
+_TEXT_WORD = re.compile(r'"[^"\n]*"?')
+_COMMENTS = ("//", "/*", "#")
+_QUOTE = "a typographic quote stands here: write `\"`"
+# Characters that look like others in an editor, or like nothing.
+_LOOK_ALIKES = {
+    "\x00": "a NUL stands here, as in UTF-16: save the file as UTF-8",
+    "\ufeff": "a byte order mark stands here, which editors do not show: remove it",
+    "\u00a0": "a no-break space stands here: write a space",
+    "\u200b": "a space of no width stands here: remove it",
+    "\u201c": _QUOTE,
+    "\u201d": _QUOTE,
+    "\u201e": _QUOTE,
+    "\u2018": _QUOTE,
+    "\u2019": _QUOTE,
+}
 
 
 def printable(text: str) -> str:
@@ -36,11 +51,8 @@ def wrong_beginning(data: bytes) -> Optional[str]:
 
 def not_utf8(byte: int) -> str:
     """What a byte is that no UTF-8 has."""
-    text = "the byte 0x%02X is no UTF-8" % byte
-    character = bytes([byte]).decode("latin-1")
-    if byte >= 0xA0:
-        text += "; in Latin-1 it is `%s`" % character
-    return text + ": save the file as UTF-8"
+    latin = "; in Latin-1 it is `%s`" % chr(byte) if byte > 0xA0 else ""
+    return "the byte 0x%02X is no UTF-8%s: save the file as UTF-8" % (byte, latin)
 
 
 def too_deep() -> str:
@@ -57,9 +69,9 @@ def behind_the_value(text: str, at: int) -> str:
     """What stands behind the end of the one value."""
     if text[at] in "}]":
         return "`%s` closes nothing: a bracket too many, or one too few before" % text[at]
-    comment = _comment(text, at)
-    if comment is not None:
-        return comment
+    stranger = _stranger(text, at)
+    if stranger is not None:
+        return stranger
     return "the JSON value has ended before %s: a file holds one value" % _token(text, at)
 
 
@@ -72,9 +84,9 @@ def no_value(text: str, at: int, opened: Optional[int]) -> str:
     """What stands where a value is wanted."""
     if at == len(text):
         return _ends(text, opened, "a value is wanted")
-    comment = _comment(text, at)
-    if comment is not None:
-        return comment
+    stranger = _stranger(text, at)
+    if stranger is not None:
+        return stranger
     if text[at] == ",":
         return "a comma too many, or a value is missing before it"
     if text[at] == "'":
@@ -123,9 +135,9 @@ def no_member_name(text: str, at: int, opened: int) -> str:
     """What stands where a member's name is wanted."""
     if at == len(text):
         return _ends(text, opened, "`}` or a member is wanted")
-    comment = _comment(text, at)
-    if comment is not None:
-        return comment
+    stranger = _stranger(text, at)
+    if stranger is not None:
+        return stranger
     if text[at] == ",":
         return "a comma too many"
     word = _BARE_WORD.match(text, at)
@@ -138,16 +150,17 @@ def no_member_name(text: str, at: int, opened: int) -> str:
 
 def no_colon(text: str, at: int, name: str) -> str:
     """What stands where the colon behind a member's name is wanted."""
-    return "`:` is wanted behind the member's name %s, not %s" % (shown(name), _token(text, at))
+    stranger = _stranger(text, at) if at < len(text) else None
+    return stranger or "`:` is wanted behind the member's name %s, not %s" % (shown(name), _token(text, at))
 
 
 def no_comma(text: str, at: int, closing: str, opened: int) -> str:
     """What stands where a comma or the closing bracket is wanted."""
     if at == len(text):
         return _ends(text, opened, "`%s` is wanted" % closing)
-    comment = _comment(text, at)
-    if comment is not None:
-        return comment
+    stranger = _stranger(text, at)
+    if stranger is not None:
+        return stranger
     if text[at] in BEGINNINGS:
         word = _BARE_WORD.match(text, at)
         is_quote_missing = word is not None and word.group() not in ("true", "false", "null")
@@ -177,19 +190,19 @@ def half_a_pair(escape: str) -> str:
     return "%s is half a surrogate pair" % shown(escape)
 
 
-def _comment(text: str, at: int) -> Optional[str]:
-    """What to say of a comment."""
-    for beginning in ("//", "/*", "#"):
+def _stranger(text: str, at: int) -> Optional[str]:
+    """What to say of a comment, and of a character that looks like another one."""
+    for beginning in _COMMENTS:
         if text.startswith(beginning, at):
             return "JSON has no comments: `%s`" % beginning
-    return None
+    return _LOOK_ALIKES.get(text[at])
 
 
 def _token(text: str, at: int) -> str:
     """What stands at an offset, for a report."""
     if at >= len(text):
         return "the end of the file"
-    word = _BARE_WORD.match(text, at) or _NUMBER_WORD.match(text, at) or re.compile(r'"[^"\n]*"?').match(text, at)
+    word = _BARE_WORD.match(text, at) or _NUMBER_WORD.match(text, at) or _TEXT_WORD.match(text, at)
     return shown(word.group() if word is not None else text[at])
 
 

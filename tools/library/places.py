@@ -302,7 +302,7 @@ class _Reader:
         name, behind = self._characters(at, node, None)
         colon = self._skip(behind)
         if self.text[colon : colon + 1] != ":":
-            raise self._mistake(behind, node, None, not_json.no_colon(self.text, colon, name))
+            raise self._mistake(colon, node, None, not_json.no_colon(self.text, colon, name))
         value = self._value(self._skip(colon + 1), node, name, level)
         if name in node.members:
             self.repeated.append(Repeated(node, name, node.members[name].name_start, at))
