@@ -15,6 +15,13 @@ from library.formats import (
 )
 
 
+# The least whole number that is too large for a double, by its rounding.
+DOUBLE_END = 2**1024 - 2**970
+SCRIPT = ["cores", 0, "tasks", 0, "script"]
+ALARM = ["cores", 0, "alarms", 0]
+TABLE = ["cores", 0, "tables", 0]
+
+
 def whole():
     """Two cores, with an object of each kind on either."""
     return {"version": 1, "cap": 16, "master": 0, "cores": [core(0, "A", [1]), core(1, "B", [])]}
@@ -22,28 +29,28 @@ def whole():
 
 def core(number, letter, start):
     """A core whose objects' names end with a letter."""
-    name = lambda kind: kind + letter  # noqa: E731
+    task, events, resource, counter, alarm, table = (kind + letter for kind in "TERCLS")
     auto = {"modes": ["M"], "start": 1, "cycle": 2}
     return {
         "id": number,
         "start": start,
         "tasks": [
-            {"name": name("T"), "prio": 1, "auto": ["M"], "activations": 1, "script": "work;TerminateTask"},
-            {"name": name("E"), "prio": 2, "extended": True, "script": "WaitEvent 1;ClearEvent 1;jump 0"},
+            {"name": task, "prio": 1, "auto": ["M"], "activations": 1, "script": "work;TerminateTask"},
+            {"name": events, "prio": 2, "extended": True, "script": "WaitEvent 1;ClearEvent 1;jump 0"},
         ],
-        "resources": [{"name": name("R"), "ceiling": 2}],
-        "counters": [{"name": name("C"), "max": 9, "min": 2, "software": False}],
-        "alarms": [{"name": name("L"), "counter": name("C"), "action": "ActivateTask " + name("T"), "auto": auto}],
+        "resources": [{"name": resource, "ceiling": 2}],
+        "counters": [{"name": counter, "max": 9, "min": 2, "software": False}],
+        "alarms": [{"name": alarm, "counter": counter, "action": "ActivateTask " + task, "auto": auto}],
         "tables": [
             {
-                "name": name("S"),
-                "counter": name("C"),
+                "name": table,
+                "counter": counter,
                 "duration": 8,
                 "repeating": True,
                 "auto": {"modes": ["M"], "offset": 1},
                 "points": [
-                    {"offset": 0, "actions": ["ActivateTask " + name("T")]},
-                    {"offset": 4, "actions": ["SetEvent %s 1" % name("E")]},
+                    {"offset": 0, "actions": ["ActivateTask " + task]},
+                    {"offset": 4, "actions": ["SetEvent %s 1" % events]},
                 ],
             }
         ],
@@ -84,14 +91,13 @@ def changed(*changes):
 def not_json():
     """Texts that are no JSON, and some that are on the edge of it."""
     texts = [
-        "", " ", "{", "}", "[", '{"cores":[}', '{"cores":[],}', '{"cores":,}', "{'cores':[]}", "{cores:[]}", '{"cores" []}',
-        '{"cores":[]} x', '{"cores":[]}}', "// c\n{}", "{} // c", "nul", "True", "NaN", "-", "01", "+1", "1.", ".5", "1e",
-        "0x1", "1e400", "-1e400", "1e308", "9" * 308, "9" * 309, "1." + "0" * 500, "0e999", "1e-999", '"', '"a', '"\\"',
-        '"\\x"', '"\\u12"', '"\\ud800"', '"\\udc00"', '"\\ud800\\ud800"', '"\\ud83d\\ude00"', '"\ta"', '"\na"', '"\x7f"',
-        "\ufeff{}", "\u00a0{}", "{}\u2028", "[1 2]", '{"a":1 "b":2}', '{"a":1,,"b":2}', "[1,]", "[,1]", "\x00", "{}\x00", "null",
-        "179769313486231570814527423731704356798070567525844996598917476803157260780028538760589558632766878171540458953"
-        "514382464234321326889464182768467546703537516986049910576551282076245490090389328944075868508455133942304583236"
-        "903222948165808559332123347747464100131073" + "0" * 47,
+        "", " ", "{", "}", "[", '{"cores":[}', '{"cores":[],}', '{"cores":,}', "{'cores':[]}", "{cores:[]}",
+        '{"cores" []}', '{"cores":[]} x', '{"cores":[]}}', "// c\n{}", "{} // c", "nul", "True", "NaN", "-", "01",
+        "+1", "1.", ".5", "1e", "0x1", "1e400", "-1e400", "1e308", "9" * 308, "9" * 309, "1." + "0" * 500, "0e999",
+        "1e-999", '"', '"a', '"\\"', '"\\x"', '"\\u12"', '"\\ud800"', '"\\udc00"', '"\\ud800\\ud800"',
+        '"\\ud83d\\ude00"', '"\ta"', '"\na"', '"\x7f"', "\ufeff{}", "\u00a0{}", "{}\u2028", "[1 2]", '{"a":1 "b":2}',
+        '{"a":1,,"b":2}', "[1,]", "[,1]", "\x00", "{}\x00", "null",
+        str(DOUBLE_END - 1), str(DOUBLE_END),
         "1.7976931348623157e308", "1.7976931348623158e308", "1.7976931348623159e308",
     ]  # fmt: skip
     for text in texts:
@@ -170,39 +176,52 @@ def numbered(element, index, is_named):
 
 def by_the_counter():
     """What a counter allows: starts, cycles, offsets and delays, with the counter of this core, of another or none."""
-    alarm, table = ["cores", 0, "alarms", 0], ["cores", 0, "tables", 0]
     for name in ("CA", "CB", "Zz", "TA"):
         for number in (-1, 0, 1, 2, 8, 9, 10):
-            named = (alarm + ["counter"], name)
-            yield "start %d of %s" % (number, name), changed(named, (alarm + ["auto", "start"], number))
-            yield "cycle %d of %s" % (number, name), changed(named, (alarm + ["auto", "cycle"], number))
-            named = (table + ["counter"], name)
-            yield "offset %d of %s" % (number, name), changed(named, (table + ["auto", "offset"], number))
-        for offsets in ((0, 4), (0, 1), (0, 2), (1, 4), (2, 4), (9, 11), (10, 12), (4, 4), (4, 3), (-1, 4), (0, 9), (0, 10)):
-            for duration in (1, 4, 5, 6, 8, 9, 11, 12, 13, 20, 21):
-                for repeats in (True, False):
-                    points = [{"offset": each, "actions": ["ActivateTask TA"]} for each in offsets]
-                    new = ((table + ["points"], points), (table + ["duration"], duration), (table + ["repeating"], repeats))
-                    yield "points %r %d %s" % (offsets, duration, name), changed((table + ["counter"], name), *new)
+            named = (ALARM + ["counter"], name)
+            yield "start %d of %s" % (number, name), changed(named, (ALARM + ["auto", "start"], number))
+            yield "cycle %d of %s" % (number, name), changed(named, (ALARM + ["auto", "cycle"], number))
+            named = (TABLE + ["counter"], name)
+            yield "offset %d of %s" % (number, name), changed(named, (TABLE + ["auto", "offset"], number))
+        yield from delays(name)
     for first in (-1, 0, 8, 9, 10):
         for offset in (0, 1, 2, 8, 9, 10):
-            points = [{"offset": first, "actions": ["ActivateTask TA"]}]
-            new = ((table + ["points"], points), (table + ["auto", "offset"], offset), (table + ["duration"], 11))
+            new = ((TABLE + ["points"], points_at([first])), (TABLE + ["auto", "offset"], offset), duration_of(11))
             yield "first point %d, start %d" % (first, offset), changed(*new)
     for least in (1, 8, 9, 10):
         yield "min %d of max 9" % least, changed((["cores", 0, "counters", 0, "min"], least))
-    yield "counter twice", changed((["cores", 1, "counters", 0, "name"], "CA"), (alarm + ["auto", "start"], 0))
-    yield "counter and task", changed((["cores", 1, "tasks", 0, "name"], "CA"), (table + ["auto", "offset"], 0))
-    yield "counter M", changed((["cores", 0, "counters", 0, "name"], "M"), (alarm + ["counter"], "M"))
+    yield "counter twice", changed((["cores", 1, "counters", 0, "name"], "CA"), (ALARM + ["auto", "start"], 0))
+    yield "counter and task", changed((["cores", 1, "tasks", 0, "name"], "CA"), (TABLE + ["auto", "offset"], 0))
+    yield "counter M", changed((["cores", 0, "counters", 0, "name"], "M"), (ALARM + ["counter"], "M"))
+
+
+def delays(name):
+    """Tables of a counter whose points are not all as it allows."""
+    pairs = ((0, 4), (0, 1), (0, 2), (1, 4), (2, 4), (9, 11), (10, 12), (4, 4), (4, 3), (-1, 4), (0, 9), (0, 10))
+    for pair in pairs:
+        for duration in (1, 4, 5, 6, 8, 9, 11, 12, 13, 20, 21):
+            for repeats in (True, False):
+                new = ((TABLE + ["points"], points_at(pair)), duration_of(duration), (TABLE + ["repeating"], repeats))
+                yield "points %r %d %s" % (pair, duration, name), changed((TABLE + ["counter"], name), *new)
+
+
+def points_at(offsets):
+    """Points at these offsets."""
+    return [{"offset": each, "actions": ["ActivateTask TA"]} for each in offsets]
+
+
+def duration_of(counts):
+    """The change of the table's duration to so many counts."""
+    return TABLE + ["duration"], counts
 
 
 def actions_abroad():
     """55 to 57 things that a core may do on another one at once: 31 or 32 alarms and the fullest points of tables."""
-    for alarms, points in ((31, (8, 8, 8)), (32, (8, 8, 8)), (32, (8, 8, 8, 1)), (32, (8, 8, 7, 1)), (31, (8, 8, 8, 2))):
+    sizes = ((31, (8, 8, 8)), (32, (8, 8, 8)), (32, (8, 8, 8, 1)), (32, (8, 8, 7, 1)), (31, (8, 8, 8, 2)))
+    for alarms, points in sizes:
         for target in ("TB", "TA", "CB", "Zz", "TB "):
-            new = [
-                {"name": "L%d" % index, "counter": "CA", "action": "ActivateTask " + target} for index in range(alarms)
-            ]
+            action = "ActivateTask " + target
+            new = [{"name": "L%d" % index, "counter": "CA", "action": action} for index in range(alarms)]
             tables = []
             for index, number in enumerate(points):
                 fullest = {"offset": 2, "actions": ["SetEvent EB 1"] * number}
@@ -213,20 +232,19 @@ def actions_abroad():
             yield title, changed((["cores", 0, "alarms"], new), (["cores", 0, "tables"], tables))
 
 
-SCRIPT = ["cores", 0, "tasks", 0, "script"]
-
-
 def scripts():
     """Scripts as a whole."""
     for count in (0, 1, 255, 256, 257, 300):
         yield "%d operations" % count, changed((SCRIPT, ";".join(["work"] * count)))
         yield "%d empty operations" % count, changed((SCRIPT, ";" * count))
-        yield "jump behind %d" % count, changed((SCRIPT, ";".join(["jump %d" % count] + ["work"] * max(count - 1, 0))))
-        yield "jump past %d" % count, changed((SCRIPT, ";".join(["jump %d" % (count + 1)] + ["work"] * max(count - 1, 0))))
+        rest = ";work" * max(count - 1, 0)
+        yield "jump behind %d" % count, changed((SCRIPT, "jump %d%s" % (count, rest)))
+        yield "jump past %d" % count, changed((SCRIPT, "jump %d%s" % (count + 1, rest)))
     texts = (
-        ";", "work;", ";work", "work;;work", " work", "work ", "work; work", "work ;work", "work\n", "work\t", "\u00a0work",
-        "Work", "WORK", "work2", "ActivateTask  TA", "ActivateTask TA ", "ActivateTask\tTA", "ActivateTask", "12*work",
-        "TerminateTask TA", "set v0", "set v0 1 2", "StartCore 1", "ActivateTask TA;ActivateTask",
+        ";", "work;", ";work", "work;;work", " work", "work ", "work; work", "work ;work", "work\n", "work\t",
+        "\u00a0work", "Work", "WORK", "work2", "ActivateTask  TA", "ActivateTask TA ", "ActivateTask\tTA",
+        "ActivateTask", "12*work", "TerminateTask TA", "set v0", "set v0 1 2", "StartCore 1",
+        "ActivateTask TA;ActivateTask",
     )  # fmt: skip
     for text in texts:
         yield "script %r" % text, changed((SCRIPT, text))
@@ -236,10 +254,12 @@ def scripts():
 def words():
     """Each operation with right and wrong words for each of its arguments."""
     right = {"task": "TA", "resource": "RA", "counter": "CA", "alarm": "LA", "table": "SA", "variable": "v0"}
-    others = ("TB", "RB", "CB", "LB", "SB", "EA", "Zz", "M", "?", "??", "1a", "a-b", "", "v7", "v8", "V0", "v01", "0", "1", "2",
-              "3", "00", "01", "-0", "-1", "+1", "0x3", "1.0", "1e3", "4294967295", "4294967296", "9223372036854775807",
-              "9223372036854775808", "-9223372036854775808", "-9223372036854775809", "18446744073709551616", "9" * 400,
-              "\u0661", "x" * 128, "x" * 129)  # fmt: skip
+    others = (
+        "TB", "RB", "CB", "LB", "SB", "EA", "Zz", "M", "?", "??", "1a", "a-b", "", "v7", "v8", "V0", "v01", "0", "1",
+        "2", "3", "00", "01", "-0", "-1", "+1", "0x3", "1.0", "1e3", "4294967295", "4294967296",
+        "9223372036854775807", "9223372036854775808", "-9223372036854775808", "-9223372036854775809",
+        "18446744073709551616", "9" * 400, "\u0661", "x" * 128, "x" * 129,
+    )  # fmt: skip
     for operation in OPERATIONS.values():
         usual = [right.get(argument.kind, "1") for argument in operation.arguments]
         yield operation.form, changed((SCRIPT, " ".join([operation.name] + usual)))
@@ -256,22 +276,25 @@ def words():
 def actions():
     """Actions of an alarm and of a point."""
     texts = (
-        "", "ActivateTask TA", "ActivateTask TB", "ActivateTask ?", "ActivateTask Zz", "ActivateTask CA", "ActivateTask M",
-        "SetEvent EA 1", "SetEvent TA 1", "SetEvent EB 1", "SetEvent EA 0", "SetEvent EA 4294967296", "SetEvent Zz 0",
-        "SetEvent ? 1", "SetEvent ? 0", "SetEvent EA", "SetEvent EA 01", "SetEvent EA x", "ChainTask TA", "work", "jump 0",
-        "IncrementCounter CA", "ActivateTask TA;ActivateTask TA", "ActivateTask TA;", " ActivateTask TA", "ActivateTask",
-        "SetRelAlarm Zz 1 1", "jump 9", "set v0 1",
+        "", "ActivateTask TA", "ActivateTask TB", "ActivateTask ?", "ActivateTask Zz", "ActivateTask CA",
+        "ActivateTask M", "SetEvent EA 1", "SetEvent TA 1", "SetEvent EB 1", "SetEvent EA 0",
+        "SetEvent EA 4294967296", "SetEvent Zz 0", "SetEvent ? 1", "SetEvent ? 0", "SetEvent EA", "SetEvent EA 01",
+        "SetEvent EA x", "ChainTask TA", "work", "jump 0", "IncrementCounter CA", "ActivateTask TA;ActivateTask TA",
+        "ActivateTask TA;", " ActivateTask TA", "ActivateTask", "SetRelAlarm Zz 1 1", "jump 9", "set v0 1",
     )  # fmt: skip
     for text in texts:
         yield "alarm %r" % text, changed((["cores", 0, "alarms", 0, "action"], text))
         yield "point %r" % text, changed((["cores", 0, "tables", 0, "points", 0, "actions", 0], text))
 
 
+NAMES = ("M", "m", "", "1", "a b", "T\u00e4", "_a", "a_", "TA", "TB", "RB", "x" * 128, "x" * 129, "?", 1, None)
+
+
 def names():
     """Names of objects, of the master and of modes."""
     kinds = ("tasks", "resources", "counters", "alarms", "tables")
     for kind in kinds:
-        for name in ("M", "m", "", "1", "a b", "T\u00e4", "_a", "a_", "TA", "TB", "RB", "x" * 128, "x" * 129, "?", 1, None):
+        for name in NAMES:
             yield "%s named %r" % (kind, name), changed((["cores", 1, kind, 0, "name"], name))
         yield "no name in %s" % kind, data({"cores": [{"id": 0, kind: [{}]}]})
     for first in (0, 1, 2, -1, 8):
@@ -279,12 +302,12 @@ def names():
             for master in (0, 1, 2, -1, 8, 255):
                 new = ((["cores", 0, "id"], first), (["cores", 1, "id"], second), (["master"], master))
                 yield "ids %d, %d, master %d" % (first, second, master), changed(*new)
-    lists = (["cores", 0, "tasks", 0, "auto"], ["cores", 0, "alarms", 0, "auto", "modes"], ["cores", 0, "tables", 0, "auto", "modes"])
-    for path in lists:
+    for path in (["cores", 0, "tasks", 0, "auto"], ALARM + ["auto", "modes"], TABLE + ["auto", "modes"]):
         for modes in ([], ["M"], ["M", "M"], ["m"], ["TA"], [""], ["1"], [1], "M", None, {}, True):
             yield "modes %r" % modes, changed((path, modes))
     for kind in kinds:
-        for auto in (None, {}, [], True, ["M"], {"modes": ["M"]}, {"modes": ["M"], "start": 1, "cycle": 0, "offset": 1}):
+        both = {"modes": ["M"], "start": 1, "cycle": 0, "offset": 1}
+        for auto in (None, {}, [], True, ["M"], {"modes": ["M"]}, both):
             yield "auto %r of %s" % (auto, kind), changed((["cores", 0, kind, 0, "auto"], auto))
     for name in ("priority", "autostart", "isrs", "spinlocks", "events", "", "\u00e9", "a/b~c"):
         for path in ([], ["cores", 0], ["cores", 0, "tasks", 0], ["cores", 0, "alarms", 0, "auto"]):
@@ -293,7 +316,11 @@ def names():
 
 def swapped():
     """Other files in place of the configuration, and values that are no objects."""
-    for text in ('{"0": "op"}', '"0o"', "{}", "[]", "1", '"M"', '{"cores": []}', '{"cores": {}}', '{"cores": [[]]}', '{"cores": [null]}'):
+    texts = (
+        '{"0": "op"}', '"0o"', "{}", "[]", "1", '"M"', '{"cores": []}', '{"cores": {}}', '{"cores": [[]]}',
+        '{"cores": [null]}',
+    )  # fmt: skip
+    for text in texts:
         yield "configuration %s" % text, text.encode()
 
 
@@ -305,8 +332,8 @@ def stimuli():
     for key in ("0", "2", "7", "1", "8", "00", "02", "", " 0", "0 ", "a", "-1", "+0", "10", "256", "\u0660", "cores"):
         yield "key %r" % key, data({key: "op"})
     texts = (
-        "", "op", "tick", "op tick op", " ", " op", "op ", "op  op", "tik", "OP", "op;op", "op\n", "op\nop", "op\top", "op*3",
-        "3*op", "work", "op\u00a0op", "optick", "opop",
+        "", "op", "tick", "op tick op", " ", " op", "op ", "op  op", "tik", "OP", "op;op", "op\n", "op\nop",
+        "op\top", "op*3", "3*op", "work", "op\u00a0op", "optick", "opop",
     )  # fmt: skip
     for text in texts:
         yield "stimuli %r" % text, data({"0": text})
@@ -329,8 +356,9 @@ def stimuli():
 def schedules():
     """Each text of a schedule for that configuration, with a title."""
     texts = (
-        "", "0o", "2l", "0s2", "7o 0o", "0o  2o", " 0o", "0o ", "0o\n", "0s0", "1o", "0s1", "1s0", "9o", "10o", "00o", "0s02", "02s0",
-        "o", "s", "0", "0s", "s0", "0x", "0oo", "0O", "-1o", "256o", "0o,2o", "\u0660o", "0o\u00a02o",
+        "", "0o", "2l", "0s2", "7o 0o", "0o  2o", " 0o", "0o ", "0o\n", "0s0", "1o", "0s1", "1s0", "9o", "10o",
+        "00o", "0s02", "02s0", "o", "s", "0", "0s", "s0", "0x", "0oo", "0O", "-1o", "256o", "0o,2o", "\u0660o",
+        "0o\u00a02o",
     )  # fmt: skip
     for text in texts:
         yield "schedule %r" % text, data(text)

@@ -28,11 +28,15 @@ from library.formats import (
     words_of,
 )
 
-OTHER_VALUES = (None, True, False, 0, 1, -1, 2, 1.0, 1.5, 2**63, 2**64, "", "M", "A", "1", "?", [], {}, ["M"], ["X"], [1])
-WORDS = ("?", "v0", "v7", "v8", "0", "1", "2", "-1", "01", "-0", "0x3", "4294967295", "4294967296", "1" * 30, "", "M", "Z9")
+OTHER_VALUES = (
+    None, True, False, 0, 1, -1, 2, 1.0, 1.5, 2**63, 2**64, "", "M", "A", "1", "?", [], {}, ["M"], ["X"], [1],
+)  # fmt: skip
+WORDS = (
+    "?", "v0", "v7", "v8", "0", "1", "2", "-1", "01", "-0", "0x3", "4294967295", "4294967296", "1" * 30, "", "M", "Z9",
+)  # fmt: skip
 SIGNED_ENDS = ("9223372036854775807", "9223372036854775808", "-9223372036854775808", "-9223372036854775809")
-CHARACTERS = " ;?0v1_aM~\"\\{}[],:\n\t\u00e9\U0001f600"
-MEMBERS = ("name", "prio", "priority", "auto", "min", "max", "software", "points", "offset", "master", "cap", "start", "id")
+CHARACTERS = ' ;?0v1_aM~"\\{}[],:\n\t\u00e9\U0001f600'
+MEMBERS = ("name", "prio", "priority", "auto", "min", "max", "software", "points", "offset", "master", "cap", "start")
 
 
 def objects_in(value, kind=CONFIGURATION):
@@ -79,13 +83,16 @@ class Mutator:
     def name(self, kind=None):
         """A name of an object, mostly of this kind."""
         known = self.names(kind if self.chance.random() < 0.8 else None)
-        return self.chance.choice(known) if known and self.chance.random() < 0.95 else self.chance.choice(("Zz", MODE, "A"))
+        if known and self.chance.random() < 0.95:
+            return self.chance.choice(known)
+        return self.chance.choice(("Zz", MODE, "A"))
 
     # Mutations of a configuration.
 
     def change_number(self):
         _, value, member = self.site(Number)
-        numbers = [each for _, each, other in self.sites(Number) for each in [each.get(other.name)] if isinstance(each, int)]
+        numbers = [each.get(other.name) for _, each, other in self.sites(Number)]
+        numbers = [number for number in numbers if isinstance(number, int)]
         now = value.get(member.name, 0)
         now = now if isinstance(now, int) else 0
         least, greatest = member.value.least, member.value.greatest

@@ -1,11 +1,13 @@
 """What is said of a file: its faults and notes, each with its place."""
 
 import difflib
+import re
 from dataclasses import dataclass
 from typing import Iterable, List, Optional
 
 from library.formats import Fault
 from library.places import Document, Json, Place
+from library.source_map import SourceMap, in_source
 
 
 @dataclass(frozen=True)
@@ -31,28 +33,36 @@ class Finding:
 
 
 class Report:
-    """The findings of one file, as they are found."""
+    """The findings of one file, as they are found. If there is a map, places are those of the file's source."""
 
-    def __init__(self, document: Document):
+    def __init__(self, document: Document, sources: Optional[SourceMap] = None):
         self.document = document
+        self.sources = sources
         self.findings: List[Finding] = []
 
     def fault(self, fault: Fault, value: Json, text: str, offset: Optional[int] = None) -> None:
         """A fault of a value; the place is the value's, or an offset within it."""
-        self._add(fault, value.pointer, value.start if offset is None else offset, text)
+        self._add(fault, value, offset, text)
 
     def fault_of_member(self, fault: Fault, owner: Json, name: str, text: str) -> None:
         """A fault of a member as such: the place is that of its name."""
         member = owner.members[name]
-        self._add(fault, member.value.pointer, member.name_start, text)
+        self._add(fault, member.value, member.name_start, text)
 
     def note(self, value: Json, text: str, offset: Optional[int] = None) -> None:
         """A note on a value."""
-        self._add(None, value.pointer, value.start if offset is None else offset, text)
+        self._add(None, value, offset, text)
 
-    def line_of(self, value: Json) -> int:
-        """The line in which a value begins."""
-        return self.document.place(value.start).line
+    def place(self, value: Json, offset: Optional[int] = None) -> Place:
+        """Where a value begins, or where an offset within it is."""
+        place = self.document.place(value.start if offset is None else offset)
+        if self.sources is None:
+            return place
+        return in_source(self.sources, self.document, value.pointer, place)
+
+    def line_of(self, value: Json, offset: Optional[int] = None) -> int:
+        """The line in which a value begins, or an offset within it is."""
+        return self.place(value, offset).line
 
     def has(self, fault: Fault) -> bool:
         """Whether such a fault was found."""
@@ -63,8 +73,20 @@ class Report:
         """Whether any fault was found."""
         return any(finding.fault is not None for finding in self.findings)
 
-    def _add(self, fault: Optional[Fault], pointer: str, offset: int, text: str) -> None:
-        self.findings.append(Finding(fault, self.document.place(offset), pointer, text))
+    def _add(self, fault: Optional[Fault], value: Json, offset: Optional[int], text: str) -> None:
+        finding = Finding(fault, self.place(value, offset), value.pointer, text)
+        if self.sources is None or not any(_is_again(finding, other) for other in self.findings):
+            self.findings.append(finding)
+
+
+def _is_again(finding: Finding, other: Finding) -> bool:
+    """Whether findings are of operations that one in a source stands for: they differ in its number alone."""
+    if (finding.fault, finding.place) != (other.fault, other.place):
+        return False
+    return _OPERATION_NUMBER.sub("", finding.text) == _OPERATION_NUMBER.sub("", other.text)
+
+
+_OPERATION_NUMBER = re.compile(r"\Aoperation [0-9]+ ")
 
 
 def nearest(word: str, known: Iterable[str]) -> Optional[str]:

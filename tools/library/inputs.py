@@ -121,7 +121,8 @@ def _judge_words(
         text, within = reason(word, number)
         if again[word]:
             text += " (and %d more of it)" % again[word]
-        report.fault(fault, node, "word %d %s: %s" % (number, shown(word), text), offsets[places[number] + within])
+        title = "word %d %s" % (number + 1, shown(word)) if word else "word %d" % (number + 1)
+        report.fault(fault, node, "%s: %s" % (title, text), offsets[places[number] + within])
 
 
 def _blank_in(word: str, number: int) -> Optional[Tuple[str, int]]:

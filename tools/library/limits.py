@@ -134,6 +134,11 @@ def _counter_of(draft: Draft, owner: Named) -> Optional[Named]:
     return counter
 
 
+def _title(report: Report, counter: Named) -> str:
+    """A counter in a report: it may be the one that is to be mended."""
+    return "`%s` of line %d" % (counter.name, report.line_of(counter.node))
+
+
 def _judge_alarm(report: Report, draft: Draft, alarm: Named) -> None:
     """Judges how an alarm autostarts."""
     auto, counter = alarm.auto, _counter_of(draft, alarm)
@@ -141,11 +146,11 @@ def _judge_alarm(report: Report, draft: Draft, alarm: Named) -> None:
         return
     least, greatest = counter["min"], counter["max"]
     if not 1 <= auto["start"] <= greatest:
-        text = "`start` is %d: 1 to %d are allowed, the `max` of the counter `%s`"
-        report.fault(LIMIT, auto.spot("start"), text % (auto["start"], greatest, counter.name))
+        text = "`start` is %d: 1 to %d are allowed, the `max` of the counter %s"
+        report.fault(LIMIT, auto.spot("start"), text % (auto["start"], greatest, _title(report, counter)))
     if auto["cycle"] != 0 and not least <= auto["cycle"] <= greatest:
-        text = "`cycle` is %d: 0, or %d to %d are allowed, the `min` and the `max` of the counter `%s`"
-        report.fault(LIMIT, auto.spot("cycle"), text % (auto["cycle"], least, greatest, counter.name))
+        text = "`cycle` is %d: 0, or %d to %d are allowed, the `min` and the `max` of the counter %s"
+        report.fault(LIMIT, auto.spot("cycle"), text % (auto["cycle"], least, greatest, _title(report, counter)))
 
 
 def _offsets(table: Named) -> List[int]:
@@ -161,11 +166,11 @@ def _judge_table_start(report: Report, draft: Draft, table: Named) -> None:
     first = max(0, (_offsets(table) or [0])[0])
     greatest = counter["max"] - first
     if greatest < 1:
-        text = "the first point's offset, %d, leaves no `offset` below the `max` of the counter `%s`, %d"
-        report.fault(LIMIT, auto.spot("offset"), text % (first, counter.name, counter["max"]))
+        text = "no `offset` is allowed: that of the first point, %d, is not below %d, the `max` of the counter %s"
+        report.fault(LIMIT, auto.spot("offset"), text % (first, counter["max"], _title(report, counter)))
     elif not 1 <= auto["offset"] <= greatest:
-        text = "`offset` is %d: 1 to %d are allowed, the `max` of the counter `%s` less the first point's offset"
-        report.fault(LIMIT, auto.spot("offset"), text % (auto["offset"], greatest, counter.name))
+        text = "`offset` is %d: 1 to %d are allowed, the `max` of the counter %s less the first point's offset"
+        report.fault(LIMIT, auto.spot("offset"), text % (auto["offset"], greatest, _title(report, counter)))
 
 
 def _judge_actions_abroad(report: Report, draft: Draft, core: Core) -> None:
@@ -213,7 +218,7 @@ def _judge_delays(report: Report, table: Named, counter: Named) -> None:
     """Judges the counts between the points of a table by its counter."""
     points, offsets = table.parts("points"), _offsets(table)
     least, greatest = counter["min"], counter["max"]
-    by = "the `min` and the `max` of the counter `%s`" % counter.name
+    by = "the `min` and the `max` of the counter %s" % _title(report, counter)
     if offsets[0] != 0 and not least <= offsets[0] <= greatest:
         text = "`offset` is %d: 0, or %d to %d are allowed for the first point, %s"
         _bad_offset(report, points[0], text % (offsets[0], least, greatest, by))
@@ -225,6 +230,6 @@ def _judge_delays(report: Report, table: Named, counter: Named) -> None:
     last = table["duration"] - offsets[-1]
     least = least if table["repeating"] else 0
     if not least <= last <= greatest:
-        why = by if table["repeating"] else "the `max` of the counter `%s`" % counter.name
+        why = by if table["repeating"] else "the `max` of the counter %s" % _title(report, counter)
         text = "%s from the last point to the end of the period: %d to %d are allowed, %s"
         report.fault(BAD_TABLE, table.spot("duration"), text % (counted(last, "count"), least, greatest, why))

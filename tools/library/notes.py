@@ -1,21 +1,33 @@
 """Notes: what is lawful, and probably meant otherwise."""
 
-from typing import Dict, List, Set
+from dataclasses import dataclass
+from typing import Dict, Iterator, List, Optional, Set
 
 from library.drafts import Core, Draft, Named
 from library.findings import Report, listed
-from library.formats import BAD_SCRIPT, DUPLICATE_NAME, NAMED_LISTS, NO_OBJECT, UNKNOWN_NAME, words_of
+from library.formats import (
+    BAD_MASK,
+    BAD_SCRIPT,
+    DUPLICATE_NAME,
+    LIMIT,
+    NAMED_LISTS,
+    NO_OBJECT,
+    UNKNOWN_NAME,
+    Fault,
+    words_of,
+)
 from library.places import Json, JsonText
 from library.scripts import Step, is_action, steps_of, value_of
 
-_EVENT_CALLS = ("WaitEvent", "ClearEvent")
+# How many operations a note lists.
+_MOST_LISTED = 3
 
 
 def note_repeated(report: Report) -> None:
     """Notes members that stand twice in one object."""
     for repeated in report.document.repeated:
-        later = report.document.place(repeated.later)
         member = repeated.object.members[repeated.name]
+        later = report.place(member.value, repeated.later)
         text = "the member `%s` stands again in line %d, column %d: the last one counts, and this one is not judged"
         report.note(member.value, text % (repeated.name, later.line, later.column), repeated.earlier)
 
@@ -25,39 +37,61 @@ def note_configuration(report: Report, draft: Draft) -> None:
     _Notes(report, draft).all()
 
 
+@dataclass(frozen=True)
+class _Use:
+    """An operation in form: of a script, whose task it has, or an action without one."""
+
+    node: JsonText
+    step: Step
+    core: Core
+    task: Optional[Named] = None
+
+    @property
+    def name(self) -> str:
+        """The operation's own word."""
+        return self.step.operation.name
+
+    @property
+    def words(self) -> List[str]:
+        """The words behind it."""
+        return self.step.arguments
+
+
 class _Notes:
     """The notes on one configuration."""
 
     def __init__(self, report: Report, draft: Draft):
         self.report = report
         self.draft = draft
-        self.steps: Dict[Named, List[Step]] = {}
-        for task in draft.objects("task"):
-            self.steps[task] = [step for step in steps_of(task["script"]) if step.is_in_form]
+        self.uses = list(_uses(draft))
 
     def all(self) -> None:
         """Makes all notes."""
-        self._starts()
-        for core in self.draft.cores:
-            for task in core.named["tasks"]:
-                self._end(task)
-                self._own_events(task)
-                for step in self.steps[task]:
-                    self._step(core, task, step)
-        self._actions()
-        # A name that is wrong elsewhere may be the one that activates the task.
-        if not any(self.report.has(fault) for fault in (DUPLICATE_NAME, UNKNOWN_NAME, BAD_SCRIPT)):
+        self._ends()
+        self._events()
+        # Notes that only follow from a fault are not made.
+        if not self._has(DUPLICATE_NAME):
+            self._starts()
+        if not self._has(LIMIT):
+            self._ceilings()
+            self._refused()
+        if not self._has(DUPLICATE_NAME, UNKNOWN_NAME, BAD_MASK, BAD_SCRIPT):
             self._unused()
+            self._unset_events()
 
-    def _note(self, task: Named, step: Step, word: int, text: str) -> None:
+    def _has(self, *faults: Fault) -> bool:
+        """Whether the configuration has one of these faults."""
+        return any(self.report.has(fault) for fault in faults)
+
+    def _note(self, use: _Use, word: int, text: str) -> None:
         """A note on a word of an operation."""
-        node = task.spot("script")
-        at = step.words[word].at
-        text = "operation %d `%s`: %s" % (step.number, step.text, text)
-        self.report.note(node, text, self.report.document.character_offsets(node)[at])
+        at = use.step.words[word].at
+        title = "operation %d " % use.step.number if use.task is not None else ""
+        text = "%s`%s`: %s" % (title, use.step.text, text)
+        self.report.note(use.node, text, self.report.document.character_offsets(use.node)[at])
 
     def _starts(self) -> None:
-        """Cores that no start list leads to, and starts of cores that are not there."""
+        """Cores that no start list leads to, and starts that are refused."""
         started = self.draft.started()
         for core in self.draft.cores:
             if core.id not in started and self.draft["master"] in self.draft.ids:
@@ -68,140 +102,172 @@ class _Notes:
                     text = "no core %d is configured: its start is answered E_OS_ID"
                     self.report.note(element, text % element.number)
                 elif element.number == core.id:
-                    text = "core %d starts itself: that is answered E_OS_STATE" % core.id
-                    self.report.note(element, text)
+                    self.report.note(element, "core %d starts itself: that is answered E_OS_STATE" % core.id)
 
-    def _end(self, task: Named) -> None:
-        """Whether a job can come to the end of its script."""
-        steps = steps_of(task["script"])
-        if all(step.is_in_form for step in steps) and len(steps) in _reached(steps):
-            text = "the end of the script can be reached without TerminateTask or ChainTask: E_OS_MISSINGEND"
-            self.report.note(task.spot("script"), text)
+    def _ends(self) -> None:
+        """Scripts to whose end a job can come."""
+        for task in self.draft.objects("task"):
+            steps = steps_of(task["script"])
+            if all(step.is_in_form for step in steps) and len(steps) in _reached(steps):
+                text = "a job can come to the end of the script without TerminateTask or ChainTask: E_OS_MISSINGEND"
+                self.report.note(task.spot("script"), text)
 
-    def _own_events(self, task: Named) -> None:
-        """Whether a task waits for events or clears them, and has none."""
-        for step in self.steps[task]:
-            if step.operation.name in _EVENT_CALLS and not task["extended"]:
-                self._note(task, step, 0, "`%s` is not `extended`: E_OS_ACCESS" % task.name)
+    def _ceilings(self) -> None:
+        """Resources whose ceiling is too low for a task that takes them."""
+        users: Dict[Named, Dict[str, int]] = {}
+        for use in self.uses:
+            resource = self.draft.find_alone("resource", use.words[0]) if use.name == "GetResource" else None
+            if resource is not None and resource.core is use.core and use.task["prio"] > resource["ceiling"]:
+                users.setdefault(resource, {})[use.task.name] = use.task["prio"]
+        for resource, prios in users.items():
+            tasks = listed("`%s` (%d)" % pair for pair in list(prios.items())[:_MOST_LISTED])
+            text = "`ceiling` is %d, below the `prio` of %s: GetResource `%s` is answered E_OS_ACCESS there"
+            self.report.note(resource.spot("ceiling"), text % (resource["ceiling"], tasks, resource.name))
 
-    def _step(self, core: Core, task: Named, step: Step) -> None:
+    def _events(self) -> None:
+        """Tasks that have no events, and are used as if they had."""
+        uses: Dict[Named, List[_Use]] = {}
+        for use in self.uses:
+            task = self._event_task(use)
+            if task is not None and not task["extended"]:
+                uses.setdefault(task, []).append(use)
+        for task, found in uses.items():
+            shown = ["`%s` in line %d" % (use.step.text, self._line(use)) for use in found[:_MOST_LISTED]]
+            if len(found) > _MOST_LISTED:
+                shown.append("%d more" % (len(found) - _MOST_LISTED))
+            has_extended = "extended" in task.node.members
+            text = "the task `%s` is not `extended`, so it has no events: E_OS_ACCESS for %s"
+            self.report.note(task.spot("extended" if has_extended else "name"), text % (task.name, listed(shown)))
+
+    def _line(self, use: _Use) -> int:
+        """The line of an operation."""
+        return self.report.line_of(use.node, self.report.document.character_offsets(use.node)[use.step.at])
+
+    def _event_task(self, use: _Use) -> Optional[Named]:
+        """The task whose events an operation means, if it means any."""
+        if use.name in ("WaitEvent", "ClearEvent"):
+            return use.task
+        if use.name in ("SetEvent", "GetEvent"):
+            return self.draft.find_alone("task", use.words[0])
+        return None
+
+    def _unset_events(self) -> None:
+        """Waiting for events that nothing sets."""
+        masks: Dict[Named, int] = {}
+        for use in self.uses:
+            if use.name == "SetEvent":
+                task = self._event_task(use)
+                masks[task] = masks.get(task, 0) | value_of(use.words[1])
+        for use in self.uses:
+            if use.name == "WaitEvent" and use.task["extended"]:
+                if not masks.get(use.task, 0) & value_of(use.words[0]):
+                    self._note(use, 1, "nothing sets such an event of `%s`, so the job waits for ever" % use.task.name)
+
+    def _refused(self) -> None:
         """Operations that are refused whatever happens, as the configuration is."""
-        name, words = step.operation.name, step.arguments
-        if NO_OBJECT in words:
-            return
-        if name in ("GetResource", "ReleaseResource"):
-            self._ceiling(core, task, step)
-        elif name in ("SetEvent", "GetEvent"):
-            target = self.draft.find_alone("task", words[0])
-            if target is not None and not target["extended"]:
-                self._note(task, step, 1, "`%s` is not `extended`: E_OS_ACCESS" % target.name)
-        elif name == "IncrementCounter":
-            self._increment(core, task, step)
-        elif name in ("SetRelAlarm", "SetAbsAlarm"):
-            self._alarm_numbers(task, step)
-        elif name in ("StartScheduleTableRel", "StartScheduleTableAbs"):
-            self._table_numbers(task, step)
+        judges = {
+            "IncrementCounter": self._increment,
+            "SetRelAlarm": self._alarm_numbers,
+            "SetAbsAlarm": self._alarm_numbers,
+            "StartScheduleTableRel": self._table_number,
+            "StartScheduleTableAbs": self._table_number,
+        }
+        for use in self.uses:
+            if use.name in judges and NO_OBJECT not in use.words:
+                judges[use.name](use)
 
-    def _ceiling(self, core: Core, task: Named, step: Step) -> None:
-        """Whether a task takes a resource whose ceiling is too low for it."""
-        resource = self.draft.find_alone("resource", step.arguments[0])
-        if resource is not None and resource.core is core and task["prio"] > resource["ceiling"]:
-            text = "the `prio` of `%s`, %d, is above the `ceiling` of `%s`, %d: E_OS_ACCESS"
-            self._note(task, step, 1, text % (task.name, task["prio"], resource.name, resource["ceiling"]))
-
-    def _increment(self, core: Core, task: Named, step: Step) -> None:
+    def _increment(self, use: _Use) -> None:
         """Whether a task increments a counter that it may not increment."""
-        counter = self.draft.find_alone("counter", step.arguments[0])
+        counter = self.draft.find_alone("counter", use.words[0])
         if counter is None:
             return
-        if counter.core is not core:
-            text = "`%s` is a counter of core %d: E_OS_CORE" % (counter.name, counter.core.id)
-            self._note(task, step, 1, text)
+        if counter.core is not use.core:
+            self._note(use, 1, "`%s` is a counter of core %d: E_OS_CORE" % (counter.name, counter.core.id))
         elif not counter["software"]:
-            self._note(task, step, 1, "`%s` is not `software`, each `tick` increments it: E_OS_ID" % counter.name)
+            self._note(use, 1, "`%s` is not `software`, so each `tick` increments it: E_OS_ID" % counter.name)
 
-    def _alarm_numbers(self, task: Named, step: Step) -> None:
+    def _alarm_numbers(self, use: _Use) -> None:
         """Whether an alarm's counter admits the numbers of a call."""
-        alarm = self.draft.find_alone("alarm", step.arguments[0])
+        alarm = self.draft.find_alone("alarm", use.words[0])
         counter = self.draft.find_alone("counter", alarm["counter"]) if alarm is not None else None
         if counter is None:
             return
-        first, cycle = (value_of(word) for word in step.arguments[1:])
-        least = 1 if step.operation.name == "SetRelAlarm" else 0
+        first, cycle = (value_of(word) for word in use.words[1:])
+        least = 1 if use.name == "SetRelAlarm" else 0
         if not least <= first <= counter["max"]:
             text = "%d is not %d to %d, the `max` of `%s`: E_OS_VALUE"
-            self._note(task, step, 2, text % (first, least, counter["max"], counter.name))
+            self._note(use, 2, text % (first, least, counter["max"], counter.name))
         if cycle != 0 and not counter["min"] <= cycle <= counter["max"]:
-            text = "the cycle %d is not 0, or %d to %d, as `%s` allows: E_OS_VALUE"
-            self._note(task, step, 3, text % (cycle, counter["min"], counter["max"], counter.name))
+            text = "the cycle %d is not 0, or %d to %d, the `min` and the `max` of `%s`: E_OS_VALUE"
+            self._note(use, 3, text % (cycle, counter["min"], counter["max"], counter.name))
 
-    def _table_numbers(self, task: Named, step: Step) -> None:
+    def _table_number(self, use: _Use) -> None:
         """Whether a table's counter admits the number of a call."""
-        table = self.draft.find_alone("table", step.arguments[0])
+        table = self.draft.find_alone("table", use.words[0])
         counter = self.draft.find_alone("counter", table["counter"]) if table is not None else None
         points = table.parts("points") if table is not None else []
         if counter is None or not points:
             return
-        number = value_of(step.arguments[1])
-        is_relative = step.operation.name == "StartScheduleTableRel"
+        number, is_relative = value_of(use.words[1]), use.name == "StartScheduleTableRel"
         least = 1 if is_relative else 0
         greatest = counter["max"] - (points[0]["offset"] if is_relative else 0)
         if not least <= number <= greatest:
-            text = "%d is not %d to %d, as `%s` allows: E_OS_VALUE"
-            self._note(task, step, 2, text % (number, least, greatest, counter.name))
-
-    def _action_nodes(self) -> List[JsonText]:
-        """The actions of all alarms and points that are in form."""
-        nodes = [alarm.spot("action") for alarm in self.draft.objects("alarm")]
-        for table in self.draft.objects("table"):
-            for point in table.parts("points"):
-                nodes += point.elements("actions")
-        return [node for node in nodes if is_action(node.text)]
-
-    def _actions(self) -> None:
-        """Actions that set events of tasks without events."""
-        for node in self._action_nodes():
-            step = Step(0, node.text, 0)
-            task = self.draft.find_alone("task", step.arguments[0])
-            if step.operation.name == "SetEvent" and task is not None and not task["extended"]:
-                offset = self.report.document.character_offsets(node)[step.words[1].at]
-                self.report.note(node, "`%s` is not `extended`: E_OS_ACCESS" % task.name, offset)
+            less = " less the first point's offset" if is_relative else ""
+            text = "%d is not %d to %d, the `max` of `%s`%s: E_OS_VALUE"
+            self._note(use, 2, text % (number, least, greatest, counter.name, less))
 
     def _unused(self) -> None:
-        """Tasks that nothing activates, alarms that nothing sets, tables that nothing starts."""
-        used = self._used()
-        texts = {
-            "tasks": "nothing activates the task `%s`: no `auto`, no operation, no action",
-            "alarms": "nothing sets the alarm `%s`: no `auto`, no operation",
-            "tables": "nothing starts the table `%s`: no `auto`, no operation",
-        }
+        """Tasks that nothing activates, alarms that nothing sets, tables that nothing starts, counters that stand."""
+        used = {(kind, use.words[at]) for use in self.uses for kind, at in _STARTING.get(use.name, ())}
         for core in self.draft.cores:
-            for kind, text in texts.items():
+            for kind, text in _UNUSED.items():
                 for each in core.named[kind]:
-                    if not self._has_autostart(each) and (NAMED_LISTS[kind], each.name) not in used:
+                    if not _has_autostart(each) and (NAMED_LISTS[kind], each.name) not in used:
                         self.report.note(each.spot("name"), text % each.name)
 
-    def _has_autostart(self, each: Named) -> bool:
-        """Whether an object autostarts in a mode."""
-        if each.kind.name == "task":
-            return bool(each["auto"])
-        return each.auto is not None and bool(each.auto["modes"])
 
-    def _used(self) -> Set[tuple]:
-        """The kinds and names of what operations and actions activate, set or start."""
-        steps = [step for steps in self.steps.values() for step in steps]
-        steps += [Step(0, node.text, 0) for node in self._action_nodes()]
-        used = set()
-        for step in steps:
-            if step.operation.name in ("ActivateTask", "ChainTask"):
-                used.add(("task", step.arguments[0]))
-            elif step.operation.name in ("SetRelAlarm", "SetAbsAlarm"):
-                used.add(("alarm", step.arguments[0]))
-            elif step.operation.name in ("StartScheduleTableRel", "StartScheduleTableAbs"):
-                used.add(("table", step.arguments[0]))
-            elif step.operation.name == "NextScheduleTable":
-                used.add(("table", step.arguments[1]))
-        return used
+# Which operations activate a task, set an alarm, start a table or increment a counter, and the place of its name.
+_STARTING = {
+    "ActivateTask": (("task", 0),),
+    "ChainTask": (("task", 0),),
+    "SetRelAlarm": (("alarm", 0),),
+    "SetAbsAlarm": (("alarm", 0),),
+    "StartScheduleTableRel": (("table", 0),),
+    "StartScheduleTableAbs": (("table", 0),),
+    "NextScheduleTable": (("table", 1),),
+    "IncrementCounter": (("counter", 0),),
+}
+_UNUSED = {
+    "tasks": "nothing activates the task `%s`: no `auto`, no operation, no action",
+    "alarms": "nothing sets the alarm `%s`: no `auto`, no operation",
+    "tables": "nothing starts the table `%s`: no `auto`, no operation",
+    "counters": "nothing increments the `software` counter `%s`",
+}
+
+
+def _has_autostart(each: Named) -> bool:
+    """Whether an object autostarts in a mode; of a counter, whether each `tick` increments it."""
+    if each.kind.name == "counter":
+        return not each["software"]
+    if each.kind.name == "task":
+        return bool(each["auto"])
+    return each.auto is not None and bool(each.auto["modes"])
+
+
+def _uses(draft: Draft) -> Iterator[_Use]:
+    """All operations and actions in form."""
+    for core in draft.cores:
+        for task in core.named["tasks"]:
+            for step in steps_of(task["script"]):
+                if step.is_in_form:
+                    yield _Use(task.spot("script"), step, core, task)
+        nodes = [alarm.spot("action") for alarm in core.named["alarms"]]
+        for table in core.named["tables"]:
+            for point in table.parts("points"):
+                nodes += point.elements("actions")
+        for node in nodes:
+            if is_action(node.text):
+                yield _Use(node, Step(0, node.text, 0), core)
 
 
 def _reached(steps: List[Step]) -> Set[int]:

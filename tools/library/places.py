@@ -113,6 +113,8 @@ class Document:
     text: str
     root: Json
     repeated: List[Repeated]
+    _offsets_of: Optional[Json] = None
+    _offsets: Union[range, List[int]] = ()
 
     @cached_property
     def _line_starts(self) -> List[int]:
@@ -131,8 +133,12 @@ class Document:
         """The offset in the file of each character of a text, and of its closing quote."""
         if len(value.text) == value.end - value.start - 2:
             return range(value.start + 1, value.end)
-        inner = _CHARACTER.finditer(self.text, value.start + 1, value.end - 1)
-        return [found.start() for found in inner] + [value.end - 1]
+        # The last ones are kept, since many faults may stand in one text.
+        if self._offsets_of is not value:
+            inner = _CHARACTER.finditer(self.text, value.start + 1, value.end - 1)
+            self._offsets = [found.start() for found in inner] + [value.end - 1]
+            self._offsets_of = value
+        return self._offsets
 
 
 def line_starts(text: str) -> List[int]:
@@ -251,8 +257,8 @@ class _Reader:
 
     def _no_value(self, at: int, parent: Optional[Json], key: Union[str, int, None]) -> tuple:
         """Where no value begins: the place, and the reason."""
-        if self.text[at : at + 1] == "]":
-            # Only behind a comma: the empty list is read elsewhere.
+        if self.text[at : at + 1] == "]" and isinstance(parent, JsonList):
+            # A comma stands before it: the empty list is read elsewhere.
             return self._last_comma(at), parent, None, not_json.comma_too_many("]")
         return at, parent, key, not_json.no_value(self.text, at, parent.start if parent is not None else None)
 

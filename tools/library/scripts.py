@@ -12,6 +12,7 @@ from library.formats import (
     BAD_SCRIPT,
     GREATEST_SIGNED,
     GREATEST_WORD,
+    MOST_OPERATIONS,
     NO_OBJECT,
     OPERATIONS,
     UNKNOWN_NAME,
@@ -124,9 +125,9 @@ class Judge:
         self.core = core
 
     def script(self, node: JsonText) -> None:
-        """Judges a script."""
+        """Judges a script. Operations behind the greatest number of them are at fault as such."""
         steps = steps_of(node.text)
-        for step in steps:
+        for step in steps[:MOST_OPERATIONS]:
             title = "operation %d %s: " % (step.number, shown(step.text)) if step.text else ""
             _Operation(self, node, step, title).judge(len(steps))
 
