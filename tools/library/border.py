@@ -103,15 +103,11 @@ def reasons(whole: Model, core: int) -> List[str]:
     if whole.starts[core]:
         found.append("its `start` is not empty: %s" % listed(str(number) for number in whole.starts[core]))
     for other in whole.ids:
-        objects = _objects(
-            reference for reference in whole.outward if (reference.core, reference.home) == (core, other)
-        )
+        objects = _objects(whole.between.get((core, other), ()))
         if objects:
             found.append("it refers to core %d: %s" % (other, objects))
     for other in whole.ids:
-        objects = _objects(
-            reference for reference in whole.outward if (reference.core, reference.home) == (other, core)
-        )
+        objects = _objects(whole.between.get((other, core), ()))
         if objects:
             state = "" if other in whole.started else ", which is off,"
             found.append("core %d%s refers to it: %s" % (other, state, objects))
@@ -143,10 +139,13 @@ class Step(NamedTuple):
 
 
 def steps(found: Iterable[Crossing]) -> List[Step]:
-    """The steps of crossings; where a core can be reached by serving, this comes first."""
+    """One step from a core to another one, if there is any; where that one serves, this is the reason."""
     serving = [Step(each.source, each.target, each) for each in found if each.way != NOTHING]
     waiting = [Step(step.target, step.source, step.crossing) for step in serving if step.crossing.way == REQUEST]
-    return serving + waiting
+    first: Dict[Tuple[int, int], Step] = {}
+    for step in serving + waiting:
+        first.setdefault((step.source, step.target), step)
+    return list(first.values())
 
 
 def reach(all_steps: List[Step], core: int) -> Dict[int, Step]:
@@ -215,9 +214,11 @@ def _starts(whole: Model) -> List[str]:
 def _crossing_lines(found: List[Crossing]) -> List[str]:
     """The crossings by pairs of cores, in columns."""
     lines: List[str] = []
-    for source, target in sorted({(each.source, each.target) for each in found}):
+    pairs: Dict[Tuple[int, int], List[Crossing]] = {}
+    for each in found:
+        pairs.setdefault((each.source, each.target), []).append(each)
+    for (source, target), between in pairs.items():
         lines.append("core %d to core %d" % (source, target))
-        between = [each for each in found if (each.source, each.target) == (source, target)]
         widths = [max(len(each.text) for each in between), max(len(each.who) for each in between)]
         for each in between:
             lines.append("  %s  %s  %s" % (each.text.ljust(widths[0]), each.who.ljust(widths[1]), each.what_crosses))
@@ -227,8 +228,9 @@ def _crossing_lines(found: List[Crossing]) -> List[str]:
 def _reach_lines(whole: Model, found: List[Crossing]) -> List[str]:
     """For each core the other ones that a change of its work can reach, and how."""
     lines = []
+    all_steps = steps(found)
     for core in whole.ids:
-        reached = reach(steps(found), core)
+        reached = reach(all_steps, core)
         if not reached:
             lines.append("core %d: no other core%s" % (core, "" if core in whole.started else ", since it is off"))
             continue

@@ -234,7 +234,7 @@ class _Expander:
             for point in (point for table in _elements(core, "tables") for point in _elements(table, "points")):
                 actions += _list(point, "actions")
             for action in actions:
-                self.action(action, Surroundings(events))
+                self.action(action, Surroundings(events, is_action=True))
 
     def events(self, task: JsonObject) -> Optional[List[str]]:
         """The names of a task's events, whose member is replaced; none if there is no such member."""

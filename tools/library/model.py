@@ -1,6 +1,7 @@
 """An accepted configuration as its cores see one another: which are started, and what refers to which object."""
 
 from dataclasses import dataclass
+from functools import cached_property
 from typing import Dict, FrozenSet, Iterator, List, Optional, Tuple
 
 from library import formats
@@ -56,16 +57,24 @@ class Model:
     started: FrozenSet[int]
     references: Tuple[Reference, ...]
 
-    @property
-    def outward(self) -> List[Reference]:
+    @cached_property
+    def outward(self) -> Tuple[Reference, ...]:
         """The references to objects of other cores."""
-        return [reference for reference in self.references if reference.is_outward]
+        return tuple(reference for reference in self.references if reference.is_outward)
+
+    @cached_property
+    def between(self) -> Dict[Tuple[int, int], List[Reference]]:
+        """The same by the core on which they are done and the one where the object stands."""
+        found: Dict[Tuple[int, int], List[Reference]] = {}
+        for reference in self.outward:
+            found.setdefault((reference.core, reference.home), []).append(reference)
+        return found
 
     def standing(self, core: int) -> str:
         """The word that `mcos check` prints for a core."""
         if core not in self.started:
             return OFF
-        is_joined = any(core in (reference.core, reference.home) for reference in self.outward)
+        is_joined = any(core in pair for pair in self.between)
         return BOUND if self.starts[core] or is_joined else SEPARATE
 
 

@@ -406,9 +406,10 @@ class Surroundings:
 
     # The events of each task by its name, in the order of their bits; None for a task without the member `events`.
     events: Mapping[str, Optional[List[str]]]
-    task: str = ""  # whose script it is; empty for an action
+    task: str = ""  # whose script it is
     own_events: Optional[List[str]] = None  # of that task
     labels: Sequence[str] = ()  # all of the script
+    is_action: bool = False
 
 
 def operation_text(placed: Placed, around: Surroundings) -> str:
@@ -471,6 +472,10 @@ def _events_for(argument: Argument, operation: Operation, around: Surroundings) 
         if task not in around.events:
             raise Refused(named.offset, "`%s` is no task%s" % (task, did_you_mean(task, around.events)))
         events = around.events[task]
+    elif around.is_action:
+        raise Refused(
+            operation.offset, "an action is `ActivateTask` or `SetEvent`, not `%s`" % operation.arguments[0].text
+        )
     if events is None:
         text = "`%s` is no mask, and the task `%s` has no member `events` with names" % (argument.text, task)
         raise Refused(argument.offset, text)

@@ -119,7 +119,7 @@ WRONG_ACTIONS = [
     ("2*ActivateTask Own", 1, "an action is one operation, without `*`"),
     ("ActivateTask Own;work", 16, "an action is one operation, without `;`"),
     ("a: ActivateTask Own", 1, "an action is one operation, without `:`"),
-    ("WaitEvent Rx", 10, "`Rx` is no mask, and the task `` has no member `events` with names"),
+    ("WaitEvent Rx", 0, "an action is `ActivateTask` or `SetEvent`, not `WaitEvent`"),
 ]
 STIMULI = [
     ("", ""),
