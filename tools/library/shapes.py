@@ -134,7 +134,7 @@ def _has_type(node: Json, value: Value) -> bool:
 def _wanted(value: Value, kind: Object) -> str:
     """What a value in an object of a kind is to be."""
     if isinstance(value, Number):
-        return "a whole number, %d to %d" % (value.least, value.greatest) if value.alone else "a whole number"
+        return _wanted_number(value)
     if isinstance(value, ObjectOf):
         members = listed("`%s`" % member.name for member in OBJECTS[value.name].members)
         return "an object with %s%s" % (members, ", or `null`" if value.or_null else "")
@@ -143,13 +143,20 @@ def _wanted(value: Value, kind: Object) -> str:
     return _WANTED[type(value)]
 
 
+def _wanted_number(value: Number) -> str:
+    """What a number is to be."""
+    if value.least == value.greatest:
+        return "the number %d" % value.least
+    return "a whole number, %d to %d" % (value.least, value.greatest) if value.alone else "a whole number"
+
+
 _WANTED = {
     Flag: "`true` or `false`",
     Script: 'a script, as `"work;TerminateTask"`',
     Action: 'an action, as `"ActivateTask T"`',
     CounterName: "the name of a counter of this core",
     ModeName: "the name of the mode, `M`",
-    NewName: "a name",
+    NewName: 'a name, as `"T1"`',
 }
 
 
