@@ -1,5 +1,6 @@
 """Holds the manual page and the completions to the program's help and to docs/FORMATS.md."""
 
+import functools
 import os
 import re
 import shutil
@@ -94,7 +95,9 @@ def argument_of(line):
     return required or other
 
 
+@functools.lru_cache(maxsize=None)
 def help_of(*command):
+    """The help of a command, or of the program."""
     text = printed(PROGRAM, "help", *command).stdout
     found = sections(text)
     return Help(
