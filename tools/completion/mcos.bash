@@ -1,0 +1,96 @@
+# Completion of mcos for bash: commands, options, files, and the numbers of the cores that a configuration has.
+# Read it with `source`, or copy it to ~/.local/share/bash-completion/completions/mcos.
+# tools/tests/test_manual.py holds it to the program's help.
+
+# Offers the words of $2 that begin with $1.
+_mcos_offer() {
+    local word
+    for word in $2; do
+        [[ $word == "$1"* ]] && COMPREPLY+=("$word")
+    done
+}
+
+# Offers the folders and the JSON files whose paths begin with $1; if there are none, any file.
+_mcos_offer_files() {
+    local path
+    while IFS= read -r path; do
+        COMPREPLY+=("$path")
+    done < <(compgen -d -- "$1"; compgen -f -X '!*.json' -- "$1")
+    if ((${#COMPREPLY[@]})); then
+        compopt -o filenames 2>/dev/null
+    else
+        compopt -o default 2>/dev/null
+    fi
+}
+
+# Offers the numbers of the cores of the configuration $2 that begin with $1; none if it cannot be read.
+_mcos_offer_cores() {
+    # The path stands here as it was typed, with a tilde before it or quotes in it.
+    local path=${2/#\~\//$HOME/}
+    path=${path//[\\\'\"]/}
+    [[ -f $path ]] || return
+    _mcos_offer "$1" "$(python3 -c '
+import json, sys
+cores = json.load(open(sys.argv[1], encoding="utf-8"))["cores"]
+print(*(core["id"] for core in cores if type(core["id"]) is int))
+' "$path" 2>/dev/null)"
+}
+
+# Sets the variables of _mcos by the words before the cursor.
+_mcos_read_words() {
+    local index word
+    for ((index = 1; index < COMP_CWORD; index++)); do
+        word=${COMP_WORDS[index]}
+        if [[ $wants_schedule && $word == = ]]; then
+            # bash divides `--schedule=FILE` into three words.
+            continue
+        elif [[ $wants_schedule ]]; then
+            wants_schedule=
+        elif [[ $word == --schedule ]]; then
+            wants_schedule=yes has_schedule=yes
+        elif [[ $word == -* ]]; then
+            continue
+        elif [[ $command ]]; then
+            arguments+=("$word")
+        else
+            command=$word
+        fi
+    done
+}
+
+_mcos_offer_options() {
+    case $command in
+        '') _mcos_offer "$1" '-h --help -V --version' ;;
+        run)
+            [[ $has_schedule ]] || _mcos_offer "$1" '--schedule'
+            _mcos_offer "$1" '-h --help'
+            ;;
+        check | cut) _mcos_offer "$1" '-h --help' ;;
+    esac
+}
+
+_mcos_offer_arguments() {
+    case $command:${#arguments[@]} in
+        :0 | help:0) _mcos_offer "$1" 'run check cut help' ;;
+        run:[01] | check:0 | cut:0) _mcos_offer_files "$1" ;;
+        cut:1) _mcos_offer_cores "$1" "${arguments[0]}" ;;
+    esac
+}
+
+_mcos() {
+    local current=${COMP_WORDS[COMP_CWORD]}
+    local command= wants_schedule= has_schedule=
+    local -a arguments=()
+    COMPREPLY=()
+    _mcos_read_words
+    if [[ $wants_schedule ]]; then
+        _mcos_offer_files "${current#=}"
+    elif [[ $current == -* ]]; then
+        _mcos_offer_options "$current"
+    else
+        _mcos_offer_arguments "$current"
+    fi
+    return 0
+}
+
+complete -F _mcos mcos
