@@ -156,7 +156,7 @@ _WANTED = {
     Action: 'an action, as `"ActivateTask T"`',
     CounterName: "the name of a counter of this core",
     ModeName: "the name of the mode, `M`",
-    NewName: 'a name, as `"T1"`',
+    NewName: 'a name, as `"Control"`',
 }
 
 

@@ -138,8 +138,8 @@ GRAPH = r"""digraph border {
 
 
 def core(number, *scripts, **members):
-    """A core with tasks `T<number>`, `U<number>` of these scripts."""
-    tasks = [{"name": letter + str(number), "prio": 1, "script": script} for letter, script in zip("TU", scripts)]
+    """A core with tasks `X<number>`, `U<number>` of these scripts."""
+    tasks = [{"name": letter + str(number), "prio": 1, "script": script} for letter, script in zip("XU", scripts)]
     return dict({"id": number, "tasks": tasks}, **members)
 
 
@@ -169,16 +169,16 @@ REASONS = [
         {0: ("separate", []), 1: ("off", ["no start list leads to it from core 0, the master"])},
     ),
     (
-        [START, core(1, "ActivateTask T2"), core(2, "work")],
-        {1: ("bound", ["it refers to core 2: task T2"]), 2: ("bound", ["core 1 refers to it: task T2"])},
+        [START, core(1, "ActivateTask X2"), core(2, "work")],
+        {1: ("bound", ["it refers to core 2: task X2"]), 2: ("bound", ["core 1 refers to it: task X2"])},
     ),
     (
-        [START, core(1, "ChainTask T2"), core(2, "work")],
-        {1: ("bound", ["it refers to core 2: task T2"]), 2: ("bound", ["core 1 refers to it: task T2"])},
+        [START, core(1, "ChainTask X2"), core(2, "work")],
+        {1: ("bound", ["it refers to core 2: task X2"]), 2: ("bound", ["core 1 refers to it: task X2"])},
     ),
     (
-        [START, core(1, "SetEvent T2 1"), core(2, "work")],
-        {1: ("bound", ["it refers to core 2: task T2"]), 2: ("bound", ["core 1 refers to it: task T2"])},
+        [START, core(1, "SetEvent X2 1"), core(2, "work")],
+        {1: ("bound", ["it refers to core 2: task X2"]), 2: ("bound", ["core 1 refers to it: task X2"])},
     ),
     (
         [START, core(1, "IncrementCounter D"), core(2, counters=[counter("D")])],
@@ -188,7 +188,7 @@ REASONS = [
         [
             START,
             core(1, "SetRelAlarm A 1 0;SetAbsAlarm B 1 0", "CancelAlarm A;GetAlarm B v0"),
-            core(2, "", counters=[counter("C")], alarms=[alarm("A", "ActivateTask T2"), alarm("B", "ActivateTask T2")]),
+            core(2, "", counters=[counter("C")], alarms=[alarm("A", "ActivateTask X2"), alarm("B", "ActivateTask X2")]),
         ],
         {
             1: ("bound", ["it refers to core 2: alarm A and alarm B"]),
@@ -196,25 +196,25 @@ REASONS = [
         },
     ),
     (
-        [START, core(1, counters=[counter("C")], alarms=[alarm("A", "ActivateTask T2")]), core(2, "work")],
-        {1: ("bound", ["it refers to core 2: task T2"]), 2: ("bound", ["core 1 refers to it: task T2"])},
+        [START, core(1, counters=[counter("C")], alarms=[alarm("A", "ActivateTask X2")]), core(2, "work")],
+        {1: ("bound", ["it refers to core 2: task X2"]), 2: ("bound", ["core 1 refers to it: task X2"])},
     ),
     (
-        [START, core(1, counters=[counter("C")], tables=[table("SetEvent T2 1")]), core(2, "work")],
-        {1: ("bound", ["it refers to core 2: task T2"]), 2: ("bound", ["core 1 refers to it: task T2"])},
+        [START, core(1, counters=[counter("C")], tables=[table("SetEvent X2 1")]), core(2, "work")],
+        {1: ("bound", ["it refers to core 2: task X2"]), 2: ("bound", ["core 1 refers to it: task X2"])},
     ),
     (
-        [START, core(1, "work"), core(2, "work"), core(3, "ActivateTask T2")],
+        [START, core(1, "work"), core(2, "work"), core(3, "ActivateTask X2")],
         {
             1: ("separate", []),
-            2: ("bound", ["core 3, which is off, refers to it: task T2"]),
+            2: ("bound", ["core 3, which is off, refers to it: task X2"]),
             3: ("off", ["no start list leads to it from core 0, the master"]),
         },
     ),
     (
-        [START, core(1, "ActivateTask T3"), core(2, "work"), core(3, "work")],
+        [START, core(1, "ActivateTask X3"), core(2, "work"), core(3, "work")],
         {
-            1: ("bound", ["it refers to core 3: task T3"]),
+            1: ("bound", ["it refers to core 3: task X3"]),
             2: ("separate", []),
             3: ("off", ["no start list leads to it from core 0, the master"]),
         },
@@ -224,11 +224,11 @@ REASONS = [
             START,
             core(
                 1,
-                "ActivateTask T1;ActivateTask ?;SetEvent U1 1;GetResource R;ReleaseResource R",
+                "ActivateTask X1;ActivateTask ?;SetEvent U1 1;GetResource R;ReleaseResource R",
                 "IncrementCounter C;GetCounterValue C v0;GetAlarm A v0;StartScheduleTableRel S 1;NextScheduleTable S ?",
                 counters=[counter("C", True)],
-                alarms=[alarm("A", "ActivateTask T1")],
-                tables=[table("SetEvent T1 1")],
+                alarms=[alarm("A", "ActivateTask X1")],
+                tables=[table("SetEvent X1 1")],
                 resources=[{"name": "R", "ceiling": 1}],
             ),
             core(2),
@@ -239,32 +239,32 @@ REASONS = [
 # The cores, and from each the ones that a change can reach, with the core before on the way.
 REACHES = [
     ([core(0, start=[1]), core(1)], {0: {}, 1: {}}),
-    ([START, core(1, "ActivateTask T2"), core(2, "work")], {0: {}, 1: {2: 1}, 2: {1: 2}}),
+    ([START, core(1, "ActivateTask X2"), core(2, "work")], {0: {}, 1: {2: 1}, 2: {1: 2}}),
     (
-        [START, core(1, counters=[counter("C")], alarms=[alarm("A", "ActivateTask T2")]), core(2, "work")],
+        [START, core(1, counters=[counter("C")], alarms=[alarm("A", "ActivateTask X2")]), core(2, "work")],
         {0: {}, 1: {2: 1}, 2: {}},
     ),
     (
-        [core(0, "ActivateTask T1", start=[1, 2]), core(1, "ChainTask T2"), core(2, "work")],
+        [core(0, "ActivateTask X1", start=[1, 2]), core(1, "ChainTask X2"), core(2, "work")],
         {0: {1: 0, 2: 1}, 1: {0: 1, 2: 1}, 2: {0: 1, 1: 2}},
     ),
     (
         [
-            core(0, counters=[counter("C")], tables=[table("ActivateTask T1")], start=[1, 2]),
-            core(1, "ActivateTask T2"),
+            core(0, counters=[counter("C")], tables=[table("ActivateTask X1")], start=[1, 2]),
+            core(1, "ActivateTask X2"),
             core(2, "work"),
         ],
         {0: {1: 0, 2: 1}, 1: {2: 1}, 2: {1: 2}},
     ),
     ([START, core(1, "IncrementCounter D"), core(2, counters=[counter("D")])], {0: {}, 1: {}, 2: {}}),
-    ([START, core(1, "ActivateTask T3"), core(2), core(3, "ActivateTask T1")], {1: {}, 2: {}, 3: {}}),
+    ([START, core(1, "ActivateTask X3"), core(2), core(3, "ActivateTask X1")], {1: {}, 2: {}, 3: {}}),
 ]
 
 # An alarm of core 0 acts on core 1, a task of core 1 calls core 2, and core 3 is separate.
 EACH_COUNT = {"modes": ["M"], "start": 1, "cycle": 1}
 CHAIN = [
-    core(0, counters=[counter("C")], alarms=[dict(alarm("A", "ActivateTask T1"), auto=EACH_COUNT)], start=[1, 2, 3]),
-    core(1, "ActivateTask T2;TerminateTask"),
+    core(0, counters=[counter("C")], alarms=[dict(alarm("A", "ActivateTask X1"), auto=EACH_COUNT)], start=[1, 2, 3]),
+    core(1, "ActivateTask X2;TerminateTask"),
     core(2, "work;TerminateTask"),
     core(3, "work;TerminateTask"),
 ]

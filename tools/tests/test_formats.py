@@ -45,12 +45,12 @@ SPECIAL_VALUES = {
 }
 # The numbers that stand in sentences.
 SENTENCES = (
-    (formats.MOST_OPERATIONS, "operations divided by `;`, at most {}"),
+    (formats.MOST_OPERATIONS, "a string of at most {} operations, divided by `;`"),
     (formats.MOST_ACTIVATIONS, "whose `activations` sum to at most {}"),
     (formats.MOST_ACTIONS_ABROAD, "The sum is at most {}."),
     (formats.MOST_STIMULI, "A core has at most {}."),
-    (formats.MOST_TURNS, "One JSON text of at most {} turns"),
-    (formats.MOST_LEVELS, "has more than {} levels"),
+    (formats.MOST_TURNS, "one JSON string of at most {} turns"),
+    (formats.MOST_LEVELS, "more than {} levels"),
     (formats.GREATEST_COUNT, "1 to {}"),
 )
 
@@ -149,7 +149,7 @@ class Operations(unittest.TestCase):
     def test_the_operations_on_own_objects_alone(self):
         text = dict(rows_behind("Faults"))["6 WrongCore"]
         written = set(re.findall(r"`([A-Z]\w+)`", text))
-        self.assertIn("an operation on tables a table of one", text)
+        self.assertIn("an operation on tables to a table", text)
         known = {each.name: each.arguments[0] for each in formats.OPERATIONS.values() if each.arguments}
         own = {name for name, argument in known.items() if argument.own_core}
         self.assertEqual(written | {name for name, argument in known.items() if argument.kind == "table"}, own)
@@ -177,6 +177,18 @@ KINDS_OF_WORDS = {
 }
 
 
+# An object of AUTOSAR, a number that stands in scripts here, and what is fixed.
+NO_MEMBERS = {
+    "OsResource",
+    "OsEventMask",
+    "OsStatus",
+    "OsStartupHook",
+    "OsErrorHook",
+    "OsPreTaskHook",
+    "OsPostTaskHook",
+}
+
+
 class Standard(unittest.TestCase):
     """The names of the standards, which tools/explain knows."""
 
@@ -194,8 +206,7 @@ class Standard(unittest.TestCase):
             written |= set(re.findall(r"\bOs[A-Z]\w+", autosar))
             written |= set(re.findall(r"\b[A-Z]{5,}\b", oil)) & {"PRIORITY", "ACTIVATION", "AUTOSTART", "MINCYCLE"}
         known = {name for names in hints.STANDARD_NAMES.values() for name in names} | set(hints.NOT_YET)
-        # An object of AUTOSAR, and a number that stands in scripts here.
-        missing = {name for name in written if name.lower() not in known} - {"OsResource", "OsEventMask"}
+        missing = {name for name in written if name.lower() not in known} - NO_MEMBERS
         self.assertEqual(set(), missing)
         unwritten = {name for name in known if name.startswith("os")} - {name.lower() for name in written}
         self.assertEqual({"osspinlock", "osappmodes"}, unwritten)
@@ -209,7 +220,7 @@ class Words(unittest.TestCase):
         self.assertEqual(written, ["%d %s" % (fault.number, fault.name) for fault in formats.FAULTS])
 
     def test_how_a_fault_is_printed(self):
-        self.assertIn("`fault N Name` stands on the standard error", TEXT)
+        self.assertIn("the standard error has `fault N Name`", TEXT)
         self.assertEqual("fault 2 Shape", str(formats.SHAPE))
 
     def test_the_numbers_of_sentences(self):
@@ -226,7 +237,7 @@ class Words(unittest.TestCase):
     def test_names(self):
         self.assertIn("A name is 1 to 128 ASCII letters, digits and underscores, and begins with a letter.", TEXT)
         self.assertIn("There is one application mode, `%s`" % formats.MODE, TEXT)
-        self.assertIn("`%s` is an identifier that names nothing" % formats.NO_OBJECT, TEXT)
+        self.assertIn("`%s` is an identifier that refers to nothing" % formats.NO_OBJECT, TEXT)
         for name in ("A", "a1_", "x" * 128):
             self.assertTrue(formats.is_name(name), name)
         for name in ("", "1a", "_a", "a b", "a-b", "\u00e4", "x" * 129, "a\n", "?"):
@@ -252,7 +263,7 @@ class Words(unittest.TestCase):
             self.assertFalse(formats.TURN.fullmatch(turn), turn)
 
     def test_scripts_and_words_are_divided(self):
-        self.assertIn("A script is operations divided by `;`, at most 256; the empty text has none.", TEXT)
+        self.assertIn("A script is a string of at most 256 operations, divided by `;`. The empty string has none.", TEXT)
         self.assertEqual([], formats.operations_of(""))
         self.assertEqual(["work", ""], formats.operations_of("work;"))
         self.assertEqual([], formats.words_of(""))
