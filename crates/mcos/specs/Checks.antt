@@ -8,7 +8,7 @@ use Rattle.osplan.specs.declared.separate.Standing.{Standing}
 use Rattle.osplan.specs.declared.separate.Standing.TheVariants.{Separate, Bound, Off}
 use Rattle.osplan.specs.Separate.{cut_of, standing_of}
 use Rattle.osplan.specs.View.{core_of}
-use Rattle.ostrace.specs.Trace.{line_end, spaced}
+use Rattle.ostext.specs.Trace.{line_end, spaced}
 use Rattle.oswrite.specs.Writing.{config_text}
 use Rattle.osworld.specs.Fits.{ids_of}
 

@@ -2,7 +2,7 @@
 use Rattle.std.specs.Prelude.{ℕ, List, [], ◌∷◌, ◌++◌, codes}
 use Rattle.std.specs.Fmt.{decimal}
 use Rattle.osplan.specs.Fault.{fault_number as conf_fault_number, fault_name as conf_fault_name}
-use Rattle.ostrace.specs.Trace.{line_end, spaced}
+use Rattle.ostext.specs.Trace.{line_end, spaced}
 use Rattle.mcos.specs.declared.faults.Fault.{Fault}
 use Rattle.mcos.specs.declared.faults.Fault.TheVariants.{Text, NoMemoryToRun, WriteFailed, Unreadable}
 

@@ -2,7 +2,7 @@
 
 ghost use Rattle.std.specs.Prelude.{◌≡◌, ◌+◌, ◌<◌, ◌^◌, ◌++◌, IfOk, Ok, length};
 ghost use Rattle.ostrace.specs.Taken.{Writes};
-ghost use Rattle.ostrace.specs.Trace.{text_of};
+ghost use Rattle.ostext.specs.Trace.{text_of};
 ghost use Rattle.osplan.specs.Stimuli.{AreKnown};
 ghost use Rattle.osworld.specs.Ends.{have_all_ended};
 ghost use Rattle.mcos.specs.Jobs.{listed, path_in};

@@ -5,7 +5,7 @@ use Rattle.std.specs.List.{flat_map}
 use Rattle.std.specs.Result.{IsErr}
 use Rattle.ostrace.specs.Gathers.{Gathers, Sends}
 use Rattle.ostrace.specs.Taken.{Writes}
-use Rattle.ostrace.specs.Trace.{led, spaced}
+use Rattle.ostext.specs.Trace.{led, spaced}
 use Rattle.ostrace.proofs.Writing.{Appends-nothing, Appends-then, Writes-then, Wrote}
 
 -- a text was gathered, and no write failed

@@ -1,3 +1,2 @@
 pub mod Writing
 pub mod Gathering
-pub mod Named

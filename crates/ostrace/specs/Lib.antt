@@ -1,4 +1,3 @@
-pub mod Trace
 pub mod Taken
 pub mod Pieces
 pub mod Gathers

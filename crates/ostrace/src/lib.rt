@@ -3,7 +3,6 @@
 
 mod gathered;
 mod lines;
-mod names;
 pub mod reports;
 pub mod sinks;
 mod words;

@@ -9,16 +9,16 @@ ghost use Rattle.osforms.specs.Form.{arg_text};
 ghost use Rattle.osforms.specs.Operation.{named};
 ghost use Rattle.ostrace.specs.Gathers.{Gathers};
 ghost use Rattle.osplan.specs.Names.{isr_name, name_of, runner_name, table_name, task_name};
-ghost use Rattle.ostrace.specs.Trace.{call_words, led, line_of, spaced, value_words, variable_name};
+ghost use Rattle.ostext.specs.Trace.{call_words, led, line_of, spaced, value_words, variable_name};
 
 use crate::gathered::Gathered;
-use crate::names::BlockNames;
 use crate::sinks::{Sink, WriteFailed};
 use crate::words::{write_led_signed, write_led_text, write_led_variable, write_led_whole};
 use osbase::{
     CoreId, IsrRef, Mark, Place, RemoteCall, Runner, ServiceId, Status, TableRef, TaskRef, Variable,
 };
 use oscript::{Arg, Args, Form, Verb, form_of_op, op_of_call, row_of};
+use ostext::BlockNames;
 
 #[inline]
 fn write_led_core<S: Sink>(

@@ -4,14 +4,14 @@ ghost use Rattle.std.specs.Prelude.{◌≡◌, ◌+◌, ◌^◌, ◌<◌, ◌++�
 ghost use Rattle.std.specs.Io.KnownBytes.{Appends};
 ghost use Rattle.ostrace.specs.Gathers.{Gathers};
 ghost use Rattle.ostrace.specs.Taken.{failures, TakesBeginning, Writes};
-ghost use Rattle.ostrace.specs.Trace.{block_of, line_end, line_of, lines_of, text_of, title_of};
+ghost use Rattle.ostext.specs.Trace.{block_of, line_end, line_of, lines_of, text_of, title_of};
 
 use crate::gathered::Gathered;
 use crate::lines::{write_line, write_verb_and_core};
-use crate::names::BlockNames;
 use crate::sinks::{Sink, WriteFailed};
 use osbase::{CoreId, Mark, Report};
 use osplan::{Config, Plan};
+use ostext::BlockNames;
 
 fn write_ended_title<S: Sink>(
     out: &mut S,

@@ -3,7 +3,6 @@ mod table;
 
 use crate::gathered::Gathered;
 use crate::lines::write_line;
-use crate::names::BlockNames;
 use crate::reports::{write_blocks, write_reports};
 use crate::sinks::{MemorySink, WriteFailed, WriteSink};
 use fixture::{
@@ -11,6 +10,7 @@ use fixture::{
 };
 use osbase::{Mark, Report};
 use osplan::Plan;
+use ostext::BlockNames;
 use std::alloc::Global;
 use std::process::Abort;
 use std::test::Fail;

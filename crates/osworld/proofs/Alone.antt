@@ -35,8 +35,8 @@ use Rattle.oskernel.proofs.Own.{inward-items}
 use Rattle.oskernel.proofs.Scripts.{other-allow, own-allow}
 use Rattle.oskernel.proofs.Stages.{is_mail}
 use Rattle.oskernel.proofs.Stepping.{alone_view}
-use Rattle.ostrace.specs.Trace.{line_end, line_of, lines_of, title_of}
-use Rattle.ostrace.proofs.Named.{lines-same}
+use Rattle.ostext.specs.Trace.{line_end, line_of, lines_of, title_of}
+use Rattle.ostext.proofs.Named.{lines-same}
 use Rattle.osworld.specs.Sound.{alone_block, alone_items, alone_report, ArePrintedAlone, IsAlone, own_agreement}
 use Rattle.osboard.specs.Boards.{with_core}
 use Rattle.osworld.specs.Asking.{Calls}

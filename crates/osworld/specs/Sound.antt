@@ -15,7 +15,7 @@ use Rattle.osplan.specs.declared.plans.CoreMode.TheVariants.{Named, DontCare}
 use Rattle.osplan.specs.Separate.{cut_of, is_separate}
 use Rattle.osplan.specs.View.{view_of}
 use Rattle.oskernel.specs.Step.{solo}
-use Rattle.ostrace.specs.Trace.{block_of}
+use Rattle.ostext.specs.Trace.{block_of}
 use Rattle.osboard.specs.Boards.{with_core}
 use Rattle.osworld.specs.Fits.{Fits, IsBeginning, has_drained, history_by, ids_of, items_of}
 

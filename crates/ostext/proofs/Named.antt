@@ -13,7 +13,7 @@ use Rattle.osbase.specs.Objects.{object_of_call}
 use Rattle.osplan.specs.declared.plans.Plan.{Plan}
 use Rattle.osplan.specs.Names.{runner_name}
 use Rattle.osplan.specs.View.{core_of}
-use Rattle.ostrace.specs.Trace.{call_words, line_end, line_of, lines_of, spaced, words_of}
+use Rattle.ostext.specs.Trace.{call_words, line_end, line_of, lines_of, spaced, words_of}
 
 module _ (p q : Plan) (test : CoreId → Bool) (same : (core : CoreId) → test core ≡ true → core_of p core ≡ core_of q core) where
   call-same : (call : RemoteCall) → test (object_of_call call).place.core ≡ true → call_words p call ≡ call_words q call
