@@ -27,7 +27,7 @@ PROGRAMS = {
         {"src/main.rt": "world.rt.txt", **CLOCK},
     ),
     "bench_loop": (
-        "osbase osconf osplan osmail oskernel osworld anyhow",
+        "osbase osconf osplan osmail oskernel osturn anyhow",
         {
             "src/main.rt": "loop.rt.txt",
             "src/seats.rt": "seats.rt.txt",

@@ -5,8 +5,8 @@ use Rattle.std.proofs.lemmas.Grind.{flat_map-append}
 use Rattle.std.proofs.lemmas.List.Elements.{filter-append}
 use Rattle.osbase.specs.declared.references.CoreId.{CoreId}
 use Rattle.osplan.specs.declared.plans.Plan.{Plan}
-use Rattle.osworld.specs.Fits.{ids_of}
-use Rattle.osworld.proofs.Started.{id_at, ids_below, ids_below-more, is_there}
+use Rattle.osturn.specs.Fits.{ids_of}
+use Rattle.osturn.proofs.Configured.{id_at, ids_below, ids_below-more, is_there}
 use Rattle.mcos.specs.Checks.{line_at, standing_line}
 
 -- the lines of the cores with a number below n

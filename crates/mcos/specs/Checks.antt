@@ -10,7 +10,7 @@ use Rattle.osplan.specs.Separate.{cut_of, standing_of}
 use Rattle.osplan.specs.View.{core_of}
 use Rattle.ostext.specs.Trace.{line_end, spaced}
 use Rattle.oswrite.specs.Writing.{config_text}
-use Rattle.osworld.specs.Fits.{ids_of}
+use Rattle.osturn.specs.Fits.{ids_of}
 
 abbrev pub standing_word : Standing → List ℕ
 standing_word Separate = codes "separate"

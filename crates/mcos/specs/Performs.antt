@@ -12,7 +12,7 @@ use Rattle.osdraft.specs.Meaning.{config_of, faults_of}
 use Rattle.osgiven.specs.Given.{schedule_faults, stimuli_faults}
 use Rattle.ostrace.specs.declared.sinks.WriteFailed.{WriteFailed as SinkFailed}
 use Rattle.ostrace.specs.Taken.{Writes}
-use Rattle.osworld.specs.Ends.{have_all_ended}
+use Rattle.osturn.specs.Ends.{have_all_ended}
 use Rattle.mcos.specs.declared.faults.Fault.{Fault}
 use Rattle.mcos.specs.declared.faults.Fault.TheVariants.{Text, NoMemoryToRun, WriteFailed}
 use Rattle.mcos.specs.declared.jobs.Job.{Job}

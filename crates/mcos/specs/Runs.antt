@@ -8,7 +8,7 @@ use Rattle.osplan.specs.declared.plans.Plan.{Plan}
 use Rattle.osdraft.specs.Meaning.{config_of}
 use Rattle.osgiven.specs.Given.{schedule_meant, stimuli_meant}
 use Rattle.ostext.specs.Trace.{text_of}
-use Rattle.osworld.specs.Ends.{have_all_ended}
+use Rattle.osturn.specs.Ends.{have_all_ended}
 use Rattle.osworld.specs.Runs.{AreReports, IsDefaultRun}
 use Rattle.mcos.specs.Texts.{File, Means, text_at}
 

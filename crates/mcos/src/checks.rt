@@ -4,7 +4,7 @@
 ghost use Rattle.std.specs.Prelude.{◌≡◌, ◌<◌, ◌≤◌, ◌^◌, ◌++◌, IfErr, IfOk, codes, length, max, string_bytes};
 ghost use Rattle.std.specs.List.{flat_map};
 ghost use Rattle.ostrace.specs.Taken.{Writes};
-ghost use Rattle.osworld.specs.Fits.{ids_of};
+ghost use Rattle.osturn.specs.Fits.{ids_of};
 ghost use Rattle.mcos.specs.Checks.{check_text, core_text, line_at, standing_line, standing_word};
 ghost use Rattle.mcos.specs.Performs.{Comes, HasNoConfig, HasNoCut, IsCheckOutput, IsCutOf, IsCutOutput, IsNotCut, NoFault};
 ghost use Rattle.mcos.specs.Texts.{IsAsked};

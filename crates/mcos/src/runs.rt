@@ -4,7 +4,7 @@ ghost use Rattle.std.specs.Prelude.{◌≡◌, ◌+◌, ◌<◌, ◌^◌, ◌++�
 ghost use Rattle.ostrace.specs.Taken.{Writes};
 ghost use Rattle.ostext.specs.Trace.{text_of};
 ghost use Rattle.osplan.specs.Stimuli.{AreKnown};
-ghost use Rattle.osworld.specs.Ends.{have_all_ended};
+ghost use Rattle.osturn.specs.Ends.{have_all_ended};
 ghost use Rattle.mcos.specs.Jobs.{listed, path_in};
 ghost use Rattle.mcos.specs.Performs.{IsRunPrinted, IsRead, Prints, outcome_of};
 ghost use Rattle.mcos.specs.Runs.{AreOfTurns, UsesUp, last_line, run_text};

@@ -21,20 +21,21 @@ use Rattle.oskernel.specs.Step.{history_from}
 use Rattle.oskernel.specs.declared.wants.Watch.{Watch}
 use Rattle.oskernel.specs.Wants.{want_in, watch_in, watch_of}
 use Rattle.osboard.specs.declared.calls.BoardState.{BoardState}
-use Rattle.osworld.specs.declared.seats.Seat.{Seat}
+use Rattle.osturn.specs.declared.seats.Seat.{Seat}
 use Rattle.osboard.specs.Boards.{board_reply}
 use Rattle.osspin.specs.Spins.{spin_reply}
 use Rattle.osworld.specs.declared.answering.Between.{Between}
-use Rattle.osworld.specs.declared.asks.Ask.{Ask}
-use Rattle.osworld.specs.declared.asks.Ask.TheVariants.{OfBoard, OfSpins, Room, Oldest}
-use Rattle.osworld.specs.declared.asks.Answer.{Answer}
-use Rattle.osworld.specs.declared.asks.Answer.TheVariants.{Replied, Spun, HasRoom, Found}
-use Rattle.osworld.specs.Asking.{asked, asked_by, comes_to, named_by, spin_call_of}
-use Rattle.osworld.specs.World.{World, answer_in, board_in, has_room, history_in, holders_in, items_in, next_in, next_stimulus, stimulus_count}
+use Rattle.osturn.specs.declared.asks.Ask.{Ask}
+use Rattle.osturn.specs.declared.asks.Ask.TheVariants.{OfBoard, OfSpins, Room, Oldest}
+use Rattle.osturn.specs.declared.asks.Answer.{Answer}
+use Rattle.osturn.specs.declared.asks.Answer.TheVariants.{Replied, Spun, HasRoom, Found}
+use Rattle.osturn.specs.Asking.{asked, asked_by, comes_to, named_by, spin_call_of}
+use Rattle.osworld.specs.World.{World, answer_in, board_in, has_room, history_in, holders_in, items_in, next_in, next_stimulus}
+use Rattle.osturn.specs.Seats.{stimulus_count}
 use Rattle.osworld.specs.Answering.{answer_by, next_by}
 use Rattle.osworld.specs.Playing.{IsMail, lists_of}
 use Rattle.osworld.proofs.Listed.{is_seat_of, list_of}
-use Rattle.osworld.proofs.Streams.{front-drop}
+use Rattle.osworld.proofs.Waiting.{front-drop}
 
 -- no seat is of a core that is numbered 16 or above
 pub list_of-beyond : (id : CoreId) (seats : List Seat) → nat_lt id.number CORES ≡ false → list_of id (lists_of seats) ≡ None

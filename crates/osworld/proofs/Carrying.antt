@@ -17,12 +17,14 @@ use Rattle.osplan.proofs.Starting.{and-true}
 use Rattle.osbase.proofs.Same.{same_core-true}
 use Rattle.oskernel.specs.Step.{after, history_from}
 use Rattle.oskernel.specs.Wants.{front_of}
-use Rattle.osworld.specs.declared.asks.Ask.{Ask}
+use Rattle.osturn.specs.declared.asks.Ask.{Ask}
 use Rattle.osworld.specs.World.{World, appends, history_in}
 use Rattle.osworld.specs.Answering.{carried, IsPlaced}
 use Rattle.osworld.specs.Playing.{IsMail, waiting}
-use Rattle.osworld.proofs.Listed.{items_by, list_of, list_of-same, list_of-other, history_from-push}
-use Rattle.osworld.proofs.Streams.{is_post_to, is_from, posted-after, received-after, box-changed, front-drop, waiting-shorter}
+use Rattle.osworld.proofs.Listed.{items_by, list_of, list_of-same, list_of-other}
+use Rattle.osturn.proofs.Longer.{history_from-push}
+use Rattle.osturn.proofs.Streams.{is_post_to, is_from, posted-after, received-after}
+use Rattle.osworld.proofs.Waiting.{box-changed, front-drop, waiting-shorter}
 
 pub and_false : {A : Type 0} (b : Bool) (x y : A) → cond (b && false) x y ≡ y
 and_false true x y = refl

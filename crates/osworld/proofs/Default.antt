@@ -18,10 +18,11 @@ use Rattle.osstate.specs.State.{KernelState}
 use Rattle.osbase.specs.declared.turns.Report.{Report}
 use Rattle.osworld.specs.declared.runs.RunFault.TheVariants.{NoMemory}
 use Rattle.osboard.specs.declared.calls.BoardState.{BoardState}
-use Rattle.osworld.specs.declared.seats.Seat.{Seat}
+use Rattle.osturn.specs.declared.seats.Seat.{Seat}
 use Rattle.osworld.specs.World.{World, board_in, first_world, world, world_from, is_unchanged, item_total}
-use Rattle.osworld.specs.Runs.{default_turns, has_ended, is_default, is_default_from, is_ended_phase, is_over, round_of, AreReports, IsDefaultBrokenOff, IsDefaultRun, IsDefaultSchedule}
-use Rattle.osworld.specs.Playing.{IsBegun, IsCutShort, IsDefaultCutShort, IsDefaultPlayed, IsPlayed, IsSeated, lists_of, Plays, report_of}
+use Rattle.osworld.specs.Runs.{default_turns, has_ended, is_default, is_default_from, is_over, round_of, AreReports, IsDefaultBrokenOff, IsDefaultRun, IsDefaultSchedule}
+use Rattle.osturn.specs.Seats.{is_ended_phase, IsSeated, report_of}
+use Rattle.osworld.specs.Playing.{IsBegun, IsCutShort, IsDefaultCutShort, IsDefaultPlayed, IsPlayed, lists_of, Plays}
 use Rattle.osworld.proofs.Played.{world_from-append, world_from-grows}
 use Rattle.osworld.proofs.Reported.{reports-played}
 use Rattle.osworld.proofs.Short.{world-bounded}

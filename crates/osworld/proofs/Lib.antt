@@ -1,10 +1,7 @@
 mod Undisturbed
-pub mod Beginnings
-pub mod Members
-pub mod Sizes
 pub mod Listed
 pub mod Turns
-pub mod Streams
+pub mod Waiting
 pub mod Carrying
 pub mod Agreed
 pub mod Turning
@@ -12,15 +9,8 @@ pub mod Turned
 pub mod Places
 pub mod Played
 pub mod Started
-pub mod Leading
 pub mod Fitting
 pub mod Fitted
-pub mod Ending
-pub mod Relying
-pub mod Sane
-pub mod Mailed
-pub mod Ahead
-pub mod Alone
 pub mod Reported
 pub mod Served
 pub mod Short

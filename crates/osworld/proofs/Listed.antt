@@ -7,11 +7,9 @@ use Rattle.std.proofs.lemmas.Bool.Decides.{nat_tests}
 use Rattle.std.proofs.lemmas.List.Sums.{sum_by-cons}
 use Rattle.osbase.specs.declared.references.CoreId.{CoreId}
 use Rattle.osbase.specs.declared.items.Item.{Item}
-use Rattle.osbase.specs.History.{History, same_core}
-use Rattle.osplan.specs.View.{View}
+use Rattle.osbase.specs.History.{same_core}
 use Rattle.osbase.proofs.Same.{same_core-true}
-use Rattle.oskernel.specs.Step.{after, history_from}
-use Rattle.osworld.specs.declared.seats.Seat.{Seat}
+use Rattle.osturn.specs.declared.seats.Seat.{Seat}
 use Rattle.osworld.specs.World.{with_item}
 use Rattle.osworld.specs.Playing.{lists_of}
 
@@ -99,11 +97,6 @@ list_of-nobody id (s ∷ ss) le = by (is_seat_of id s) refl le (λ past. list_of
     by : (b : Bool) → is_seat_of id s ≡ b → suc (length ss) ≤ cond (not b) (1 + position_or_len (is_seat_of id) ss) 0 → (length ss ≤ position_or_len (is_seat_of id) ss → list_of id (lists_of ss) ≡ None) → list_of id (lists_of (s ∷ ss)) ≡ None
     by true t le rest = absurd (omega (arith, le))
     by false t le rest = rw t (rest (omega (arith, le)))
-
--- the items in order, and one more
-pub history_from-push : (v : View) (h : History) (items : List Item) (item : Item) → history_from v h (items ++ item ∷ []) ≡ after v (history_from v h items) item
-history_from-push v h [] item = refl
-history_from-push v h (i ∷ items) item = history_from-push v (after v h i) items item
 
 -- where a core sits
 pub seat_place : (id : CoreId) (seats : List Seat) (at : ℕ) → position (is_seat_of id) seats ≡ Some at → (at ≡ position_or_len (is_seat_of id) seats) × (at < length seats)

@@ -10,7 +10,7 @@ use Rattle.osbase.specs.declared.turns.Choice.{Choice}
 use Rattle.osbase.specs.declared.turns.CoreStimuli.{CoreStimuli}
 use Rattle.osplan.specs.declared.plans.Plan.{Plan}
 use Rattle.osworld.specs.declared.answering.Between.{Between}
-use Rattle.osworld.specs.declared.seats.Seat.{Seat}
+use Rattle.osturn.specs.declared.seats.Seat.{Seat}
 use Rattle.osworld.specs.World.{World, turn, world_from, item_total, is_unchanged}
 use Rattle.osworld.specs.Runs.{AppendsAt}
 use Rattle.osworld.specs.Playing.{IsCutShort, IsPlayed, Plays, PlaysTurns, StopsShort}

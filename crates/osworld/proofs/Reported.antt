@@ -5,7 +5,6 @@ use Rattle.std.proofs.lemmas.List.Elements.{All-head, All-tail}
 use Rattle.std.proofs.lemmas.Simd.{map-map}
 use Rattle.osbase.specs.declared.references.CoreId.{CoreId}
 use Rattle.osbase.specs.declared.items.Item.{Item}
-use Rattle.osbase.specs.declared.marks.Mark.{Mark}
 use Rattle.osbase.specs.declared.turns.Choice.{Choice}
 use Rattle.osbase.specs.declared.turns.CoreStimuli.{CoreStimuli}
 use Rattle.osbase.specs.declared.turns.Report.{Report}
@@ -13,16 +12,15 @@ use Rattle.osplan.specs.Stimuli.{AreKnown}
 use Rattle.osworld.specs.declared.answering.Between.{Between}
 use Rattle.osplan.specs.declared.plans.Plan.{Plan}
 use Rattle.osplan.specs.Limits.{is_within_limits}
-use Rattle.osplan.specs.View.{view_of}
-use Rattle.osstate.specs.State.{KernelState}
-use Rattle.osworld.specs.declared.seats.Seat.{Seat}
-use Rattle.osworld.specs.Fits.{Fits, ids_of}
-use Rattle.osworld.specs.Sound.{IsOwn, lists_in, report_by}
+use Rattle.osturn.specs.declared.seats.Seat.{Seat}
+use Rattle.osturn.specs.Fits.{Fits, ids_of}
+use Rattle.osturn.specs.Sound.{IsOwn, lists_in}
 use Rattle.osworld.specs.World.{World, first_world, with_item, world}
-use Rattle.osworld.specs.Runs.{AppendsAt, is_ended_phase, AreReports}
-use Rattle.osworld.specs.Playing.{IsCutShort, IsPlayed, IsSeated, Plays, report_of}
-use Rattle.osworld.proofs.Alone.{fits-alone}
-use Rattle.osworld.proofs.Ending.{ended-by}
+use Rattle.osworld.specs.Runs.{AppendsAt, AreReports}
+use Rattle.osturn.specs.Seats.{IsSeated, report_of}
+use Rattle.osworld.specs.Playing.{IsCutShort, IsPlayed, Plays}
+use Rattle.osturn.proofs.Alone.{fits-alone}
+use Rattle.osturn.proofs.Seated.{seated-own}
 use Rattle.osworld.proofs.Fitted.{world_fits}
 use Rattle.osworld.proofs.Listed.{Lists, is_of}
 use Rattle.osworld.proofs.Turns.{turns-keep}
@@ -52,12 +50,7 @@ ids-world plan stimuli turns =
 each-own : (plan : Plan) (stimuli : List CoreStimuli) (seats : List Seat) → All (IsSeated plan stimuli) seats → AllByRecursion (IsOwn plan) (map report_of seats)
 each-own plan stimuli [] seated = tt
 each-own plan stimuli (s ∷ ss) seated =
-    let here : IsSeated plan stimuli s = All-head (IsSeated plan stimuli) s ss seated in (
-      ap (λ (marks : List Mark). let r : Report = record (report_of s) { marks = marks } in r) (here.tracks.behind ∙ here.tracks.shows)
-          ∙ ap (λ (ended : Bool). let r : Report = record (report_by plan s.id s.items.items) { ended = ended } in r)
-          (ap (λ (k : KernelState). is_ended_phase k.progress.phase) here.tracks.stands.is ∙ ended-by (view_of plan s.id) s.items.items here.alone),
-      each-own plan stimuli ss (All-tail (IsSeated plan stimuli) s ss seated),
-    )
+    (seated-own plan stimuli s (All-head (IsSeated plan stimuli) s ss seated), each-own plan stimuli ss (All-tail (IsSeated plan stimuli) s ss seated))
 
 -- turns from the beginning
 pub reports-played : (plan : Plan) → IsTrue (is_within_limits plan) → (stimuli : List CoreStimuli) → AreKnown plan stimuli → (turns : List (CoreId × Choice)) (seats : List Seat) (between : Between) → Plays plan stimuli (world plan stimuli turns) seats between → AreReports plan stimuli turns (map report_of seats)

@@ -17,11 +17,11 @@ use Rattle.osmail.proofs.Counts.{no_mail}
 use Rattle.osplan.specs.declared.plans.Plan.{Plan}
 use Rattle.oskernel.specs.Wants.{watch_in}
 use Rattle.osworld.specs.declared.answering.Between.{Between}
-use Rattle.osworld.specs.declared.asks.Ask.TheVariants.{Oldest}
-use Rattle.osworld.specs.declared.asks.Answer.TheVariants.{Found}
-use Rattle.osworld.specs.declared.seats.Seat.{Seat}
+use Rattle.osturn.specs.declared.asks.Ask.TheVariants.{Oldest}
+use Rattle.osturn.specs.declared.asks.Answer.TheVariants.{Found}
+use Rattle.osturn.specs.declared.seats.Seat.{Seat}
 use Rattle.osworld.specs.Answering.{next_by}
-use Rattle.osworld.specs.Asking.{leads_to}
+use Rattle.osturn.specs.Asking.{leads_to}
 use Rattle.osbase.specs.History.{same_core}
 use Rattle.osworld.specs.Playing.{IsPlayed, Plays}
 use Rattle.osworld.specs.Runs.{serves_of}

@@ -16,8 +16,8 @@ use Rattle.osbase.specs.Sets.{core_ids}
 use Rattle.osstate.specs.State.{state_of}
 use Rattle.oskernel.specs.Admission.{admits}
 use Rattle.oskernel.specs.Step.{after, history_from, outbox_size}
-use Rattle.osworld.specs.Fits.{ids_of}
-use Rattle.osworld.specs.declared.asks.Ask.{Ask}
+use Rattle.osturn.specs.Fits.{ids_of}
+use Rattle.osturn.specs.declared.asks.Ask.{Ask}
 use Rattle.osworld.specs.World.{World, appends, first_world, history_in, turn, with_item, world, item_total}
 use Rattle.oskernel.proofs.Holding.{quiet_after}
 use Rattle.osworld.proofs.Listed.{Lists, is_of, list_of}

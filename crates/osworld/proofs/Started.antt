@@ -1,9 +1,9 @@
 -- The seats, and what stands between the cores, before the first turn.
-use Rattle.std.proofs.Common.{◌≡◌, ℕ, ◌+◌, ◌*◌, ◌<◌, ◌≤◌, Bool, true, false, cond, Some, is_some, List, [], ◌∷◌, ◌++◌, map, take, drop, refl, sym, ap, ◌∙◌, arith, filter, append-nil}
+use Rattle.std.proofs.Common.{◌≡◌, ℕ, ◌+◌, ◌*◌, ◌<◌, ◌≤◌, Bool, true, false, cond, Some, List, [], ◌∷◌, ◌++◌, map, drop, refl, sym, ap, ◌∙◌, arith}
 use Rattle.std.specs.List.{All}
 use Rattle.std.specs.Option.{option_map_or}
-use Rattle.std.proofs.lemmas.List.{take_more, map-append, length-replicate}
-use Rattle.std.proofs.lemmas.List.Elements.{All-push, filter-append}
+use Rattle.std.proofs.lemmas.List.{map-append, length-replicate}
+use Rattle.std.proofs.lemmas.List.Elements.{All-push}
 use Rattle.osbase.specs.declared.references.CoreId.{CoreId}
 use Rattle.osbase.specs.declared.messages.Envelope.{Envelope}
 use Rattle.osbase.specs.declared.items.Item.{Item}
@@ -14,48 +14,23 @@ use Rattle.osbase.specs.Runs.{stimuli_of}
 use Rattle.osmail.specs.Mail.{Mail, empty_mail}
 use Rattle.osmail.proofs.Boxes.{box_of-empty}
 use Rattle.osplan.specs.declared.plans.Plan.{Plan}
-use Rattle.osplan.specs.View.{core_of, view_of}
-use Rattle.osbase.specs.Sets.{core_ids}
-use Rattle.osbase.proofs.Tables.{table-at}
+use Rattle.osplan.specs.View.{view_of}
 use Rattle.osstate.specs.State.{state_of}
 use Rattle.oskernel.specs.Step.{history_from}
-use Rattle.osworld.specs.declared.seats.Seat.{Seat}
+use Rattle.osturn.specs.declared.seats.Seat.{Seat}
 use Rattle.osboard.specs.Boards.{first_board}
 use Rattle.osspin.specs.Spins.{no_holders}
 use Rattle.osworld.specs.declared.answering.Between.{Between}
-use Rattle.osworld.specs.Fits.{ids_of}
+use Rattle.osturn.specs.Fits.{ids_of}
 use Rattle.osworld.specs.World.{first_world, history_in}
-use Rattle.osworld.specs.Playing.{IsMail, IsSeated, lists_of, Plays}
+use Rattle.osworld.specs.Playing.{IsMail, lists_of, Plays}
+use Rattle.osturn.specs.Seats.{IsSeated}
 use Rattle.osworld.proofs.Listed.{Lists, is_of, list_of}
-
-abbrev pub id_at : ℕ → CoreId
-id_at n = record { number = n }
-
-abbrev pub is_there : Plan → CoreId → Bool
-is_there plan id = is_some (core_of plan id)
-
--- the lists of the configured cores with a number below n
-abbrev pub ids_below : Plan → ℕ → List CoreId
-ids_below plan n = filter (is_there plan) (take n core_ids)
+use Rattle.osturn.proofs.Configured.{id_at, ids_below, ids_below-push, ids_below-skip, is_there}
+use Rattle.osturn.proofs.Seated.{seated-first}
 
 abbrev pub lists_below : Plan → ℕ → Lists
 lists_below plan n = map (λ (id : CoreId). (id, [])) (ids_below plan n)
-
-pub one_more_id : (n : ℕ) → n < 16 → take (n + 1) core_ids ≡ take n core_ids ++ id_at n ∷ []
-one_more_id n lt = take_more core_ids n (id_at n) lt ∙ ap (λ (id : CoreId). take n core_ids ++ id ∷ []) (table-at id_at 0 CORES n n (id_at n) (omega arith) lt)
-
--- one number more, of a core that is configured or not
-pub ids_below-more : (plan : Plan) (n : ℕ) → n < 16 → ids_below plan (n + 1) ≡ ids_below plan n ++ cond (is_there plan (id_at n)) (id_at n ∷ []) []
-ids_below-more plan n lt = ap (filter (is_there plan)) (one_more_id n lt) ∙ filter-append (is_there plan) (take n core_ids) (id_at n ∷ [])
-
-pub ids_below-skip : (plan : Plan) (n : ℕ) → n < 16 → is_there plan (id_at n) ≡ false → ids_below plan (n + 1) ≡ ids_below plan n
-ids_below-skip plan n lt nobody = ids_below-more plan n lt ∙ ap (λ (b : Bool). ids_below plan n ++ cond b (id_at n ∷ []) []) nobody ∙ append-nil (ids_below plan n)
-
-pub ids_below-push : (plan : Plan) (n : ℕ) → n < 16 → is_there plan (id_at n) ≡ true → ids_below plan (n + 1) ≡ ids_below plan n ++ id_at n ∷ []
-ids_below-push plan n lt there = ids_below-more plan n lt ∙ ap (λ (b : Bool). ids_below plan n ++ cond b (id_at n ∷ []) []) there
-
-pub ids_below-all : (plan : Plan) (n : ℕ) → 16 ≤ n → n ≤ 16 → ids_below plan n ≡ ids_of plan
-ids_below-all plan n low high = let whole : n ≡ 16 = omega arith in ap (ids_below plan) whole
 
 -- a core that is not configured has no seat, and a configured one has a seat without items
 lists_below-skip : (plan : Plan) (n : ℕ) → n < 16 → is_there plan (id_at n) ≡ false → lists_below plan (n + 1) ≡ lists_below plan n
@@ -63,14 +38,6 @@ lists_below-skip plan n lt nobody = ap (map (λ (id : CoreId). (id, []))) (ids_b
 
 lists_below-push : (plan : Plan) (n : ℕ) → n < 16 → is_there plan (id_at n) ≡ true → lists_below plan (n + 1) ≡ lists_below plan n ++ (id_at n, []) ∷ []
 lists_below-push plan n lt there = ap (map (λ (id : CoreId). (id, []))) (ids_below-push plan n lt there) ∙ map-append (λ (id : CoreId). (id, [])) (ids_below plan n) (id_at n ∷ [])
-
--- the seat of a core that took nothing
-pub seated-first : (plan : Plan) (stimuli : List CoreStimuli) (seat : Seat) (id : CoreId) → seat.id ≡ id → seat.kernel ≡ state_of (view_of plan id) [] → seat.stimuli.now ≡ stimuli_of stimuli id → seat.items.items ≡ [] → seat.marks.items ≡ [] → IsSeated plan stimuli seat
-seated-first plan stimuli seat id is_id is_kernel is_left no_items no_marks = record {
-  tracks = rw (is_id, no_items, no_marks) (record { stands = record { is = is_kernel }; added = []; behind = refl; shows = refl });
-  alone = rw (is_id, no_items) refl;
-  left = rw (is_id, no_items) is_left;
-}
 
 -- nothing was posted or received
 module _ (plan : Plan) where

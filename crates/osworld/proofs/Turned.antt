@@ -1,5 +1,5 @@
 -- One turn of a run, as its contract has it.
-use Rattle.std.proofs.Common.{◌≡◌, ℕ, suc, ◌<◌, Bool, true, false, not, ◌&&◌, cond, nat_lt, IsTrue, IsSome, Option, Some, None, option_map, slice_get, List, [], ◌∷◌, ◌++◌, length, get_or, set, refl, sym, ap, subst, ◌∙◌, arith, nat_eq, Bor, Result, Ok, Err}
+use Rattle.std.proofs.Common.{◌≡◌, ℕ, suc, ◌<◌, Bool, true, false, not, ◌&&◌, cond, nat_lt, IsTrue, IsSome, Option, Some, None, option_map, slice_get, List, [], ◌∷◌, length, get_or, set, refl, sym, ap, subst, ◌∙◌, arith, nat_eq, Result, Ok, Err}
 use Rattle.std.specs.Result.{IfOk, OnErr}
 use Rattle.std.specs.List.{position, position_or_len}
 use Rattle.std.proofs.lemmas.Bool.{eq-eqb, ltb-true, not-true}
@@ -10,7 +10,6 @@ use Rattle.std.proofs.Math.Seq.{map-set_same}
 use Rattle.osbase.specs.declared.references.CoreId.{CoreId}
 use Rattle.osbase.specs.declared.messages.Envelope.{Envelope}
 use Rattle.osbase.specs.declared.items.Item.{Item}
-use Rattle.osbase.specs.declared.items.Stimulus.{Stimulus}
 use Rattle.osbase.specs.declared.turns.Choice.{Choice}
 use Rattle.osbase.specs.declared.turns.CoreStimuli.{CoreStimuli}
 use Rattle.osbase.specs.History.{same_core}
@@ -29,29 +28,23 @@ use Rattle.osboard.specs.declared.calls.BoardCall.TheVariants.{Start, Enter, Mak
 use Rattle.osboard.specs.declared.calls.BoardReply.{BoardReply}
 use Rattle.osboard.specs.declared.calls.BoardReply.TheVariants.{Started, Acknowledged, Shown, Decided, Halting}
 use Rattle.osboard.specs.Boards.{board_reply}
-use Rattle.osworld.specs.declared.seats.Seat.{Seat}
-use Rattle.osworld.specs.declared.asks.Ask.{Ask}
-use Rattle.osworld.specs.declared.asks.Ask.TheVariants.{OfBoard, OfSpins, Room, Oldest, StartUnknown, TakeStimulus}
-use Rattle.osworld.specs.declared.asks.Answer.TheVariants.{HasRoom, Found}
-use Rattle.osworld.specs.declared.asks.Answer.{Answer}
+use Rattle.osturn.specs.declared.seats.Seat.{Seat}
+use Rattle.osturn.specs.declared.asks.Ask.{Ask}
+use Rattle.osturn.specs.declared.asks.Ask.TheVariants.{OfBoard, OfSpins, Room, Oldest, StartUnknown, TakeStimulus}
+use Rattle.osturn.specs.declared.asks.Answer.TheVariants.{HasRoom, Found}
+use Rattle.osturn.specs.declared.asks.Answer.{Answer}
 use Rattle.osspin.specs.Spins.{spin_reply}
 use Rattle.osworld.specs.declared.answering.Between.{Between}
-use Rattle.osworld.specs.Fits.{history_by}
+use Rattle.osturn.specs.Fits.{history_by}
 use Rattle.osworld.specs.World.{World, turn, is_unchanged, item_total}
-use Rattle.osworld.specs.Answering.{answer_by, carried, IsPlaced, left_after, next_by, settled, told}
-use Rattle.osworld.specs.Asking.{named_by, replied, spin_call_of}
-use Rattle.osworld.specs.Playing.{IsAnswered, IsCutShort, IsPlayed, IsSeated, Plays}
-use Rattle.osworld.proofs.Leading.{halted-item, is-item, passing-item, spun-item}
+use Rattle.osworld.specs.Answering.{answer_by, carried, IsPlaced, next_by, settled, told}
+use Rattle.osturn.specs.Seats.{IsSeated}
+use Rattle.osturn.specs.Asking.{named_by, replied, spin_call_of}
+use Rattle.osworld.specs.Playing.{IsAnswered, IsCutShort, IsPlayed, Plays}
+use Rattle.osturn.proofs.Leading.{halted-item, is-item, passing-item, spun-item}
 use Rattle.osworld.proofs.Listed.{is_seat_of, seat_is_of, seat_nowhere, seat_place}
-use Rattle.osworld.proofs.Turning.{Took, turn-nobody, turn-nothing, turn-refused, turn-taken, turn-appends}
-
--- A seat that is as it was but for the room that it has.
-pub record Keeps (old new : Seat) : Type 0 where
-  pub id : new.id ≡ old.id
-  pub left : new.stimuli ≡ old.stimuli
-  pub items : new.items.items ≡ old.items.items
-  pub marks : new.marks.items ≡ old.marks.items
-  pub kernel : new.kernel ≡ old.kernel
+use Rattle.osworld.proofs.Turning.{turn-nobody, turn-nothing, turn-refused, turn-taken, turn-appends}
+use Rattle.osturn.proofs.Seated.{Took, Keeps, seated-kept, took-kept}
 
 unchanged-same : (w : World) (next : World) → next ≡ w → false ≡ not (is_unchanged w next)
 unchanged-same w next same = sym (ap (λ (v : World). not (is_unchanged w v)) same ∙ ap not (eq-eqb (item_total w) (item_total w) refl))
@@ -91,18 +84,11 @@ module _ (plan : Plan) (stimuli : List CoreStimuli) (w : World) (seats : List Se
     kept new keeps =
         let seated : IsSeated plan stimuli seat = subst (λ (s : Seat). IsSeated plan stimuli s) (sym is) (All-get_or (IsSeated plan stimuli) seats at seat within plays.seated) in
         record {
-          seated = All-set (IsSeated plan stimuli) seats at new (again seated) plays.seated;
+          seated = All-set (IsSeated plan stimuli) seats at new (seated-kept plan stimuli seat new keeps seated) plays.seated;
           lists = plays.lists ∙ sym (map-set_same (λ (s : Seat). (s.id, s.items.items)) seats at new seat (ap (λ (i : CoreId). (i, new.items.items)) keeps.id ∙ ap (λ (items : List Item). (seat.id, items)) keeps.items ∙ ap (λ (s : Seat). (s.id, s.items.items)) is));
           carries = plays.carries;
           shown = plays.shown;
           held = plays.held;
-        }
-      where
-        again : IsSeated plan stimuli seat → IsSeated plan stimuli new
-        again seated = record {
-          tracks = rw (keeps.id, keeps.items, keeps.marks, keeps.kernel) seated.tracks;
-          alone = rw (keeps.id, keeps.items) seated.alone;
-          left = rw (keeps.id, keeps.items, keeps.left) seated.left;
         }
 
     -- the turn is answered nothing
@@ -158,16 +144,8 @@ module _ (plan : Plan) (stimuli : List CoreStimuli) (w : World) (seats : List Se
           record {
             plays = rw (carried_on, told_on, fronts, keeps.id, keeps.kernel)
                 (subst (λ (c : CoreId). Plays plan stimuli (turn plan stimuli w (c, choice)) (set seats at new) (settled seat.id ask (front_of seat.kernel.border.outbox) item between)) at_core
-                (turn-taken plan stimuli w seats between plays choice at seat here within (sym is) ask item names new (took_after roomy new keeps took) placed takes_it));
+                (turn-taken plan stimuli w seats between plays choice at seat here within (sym is) ask item names new (took-kept seat roomy new item keeps took) placed takes_it));
             tells = changes takes_it;
-          }
-        where
-          took_after : (roomy new : Seat) → Keeps seat roomy → Took roomy new item → Took seat new item
-          took_after roomy new keeps took = record {
-            id = took.id ∙ keeps.id;
-            left = took.left ∙ ap (λ (xs : Bor (List Stimulus)). left_after item xs.now) keeps.left;
-            items = took.items ∙ ap (λ (xs : List Item). xs ++ item ∷ []) keeps.items;
-            does = rw (← keeps.kernel, ← keeps.marks) took.does;
           }
 
 -- what a turn of the core at this place asks, with the item to which the answer leads

@@ -1,38 +1,36 @@
 -- A turn of a run is a turn of the world.
-use Rattle.std.proofs.Common.{◌≡◌, ℕ, suc, ◌+◌, ◌<◌, ◌≤◌, Bool, true, false, cond, Option, Some, None, is_some, List, [], ◌∷◌, ◌++◌, length, drop, get_or, set, sym, ap, subst, ◌∙◌, arith, append-nil}
+use Rattle.std.proofs.Common.{◌≡◌, ℕ, suc, ◌<◌, ◌≤◌, Bool, true, false, cond, Option, Some, None, is_some, List, [], ◌∷◌, ◌++◌, length, drop, get_or, set, sym, ap, subst, ◌∙◌, append-nil}
 use Rattle.std.specs.List.{All, position_or_len}
-use Rattle.std.proofs.lemmas.List.{drop-drop}
 use Rattle.std.proofs.lemmas.List.Elements.{All-get_or, All-set}
 use Rattle.osbase.specs.declared.references.CoreId.{CoreId}
 use Rattle.osbase.specs.declared.items.Item.{Item}
-use Rattle.osbase.specs.declared.items.Stimulus.{Stimulus}
 use Rattle.osbase.specs.declared.turns.Choice.{Choice}
 use Rattle.osbase.specs.declared.turns.CoreStimuli.{CoreStimuli}
 use Rattle.osbase.specs.History.{History}
 use Rattle.osbase.specs.Runs.{stimuli_of}
 use Rattle.osplan.specs.declared.plans.Plan.{Plan}
-use Rattle.osplan.specs.View.{View, view_of}
+use Rattle.osplan.specs.View.{view_of}
 use Rattle.osstate.specs.State.{KernelState, state_of}
-use Rattle.osstate.specs.Does.{Does, Tracks}
-use Rattle.oskernel.specs.Step.{after, solo, takes, outbox_size}
+use Rattle.oskernel.specs.Step.{takes, outbox_size}
 use Rattle.oskernel.specs.Wants.{front_of}
-use Rattle.osworld.specs.declared.seats.Seat.{Seat}
+use Rattle.osturn.specs.declared.seats.Seat.{Seat}
 use Rattle.osseat.specs.Histories.{entry, state_after}
 use Rattle.osseat.proofs.Steps.{after_snoc}
 use Rattle.osboard.specs.Boards.{board_reply, first_board, one_board}
 use Rattle.osspin.specs.Spins.{no_holders, spin_reply, spinlocks}
 use Rattle.osworld.specs.declared.answering.Between.{Between}
-use Rattle.osworld.specs.declared.asks.Ask.{Ask}
-use Rattle.osworld.specs.declared.asks.Ask.TheVariants.{OfBoard, OfSpins}
-use Rattle.osworld.specs.Asking.{spin_call_of, told_by}
-use Rattle.osworld.specs.Fits.{history_by}
-use Rattle.osworld.specs.World.{World, answer_in, appends, board_in, history_in, holders_in, items_in, next_in, stimulus_count, turn, turn_by, with_item, item_total}
-use Rattle.osworld.specs.Answering.{board_told, carried, IsPlaced, left_after, next_by, settled, spins_told}
-use Rattle.osworld.specs.Playing.{IsMail, IsSeated, lists_of, Plays}
-use Rattle.osworld.proofs.Listed.{is_seat_of, items_by, list_of, list_of-nobody, list_of-seat, lists_of-set, history_from-push, total-push}
+use Rattle.osturn.specs.declared.asks.Ask.{Ask}
+use Rattle.osturn.specs.declared.asks.Ask.TheVariants.{OfBoard, OfSpins}
+use Rattle.osturn.specs.Asking.{spin_call_of, told_by}
+use Rattle.osturn.specs.Fits.{history_by}
+use Rattle.osworld.specs.World.{World, answer_in, appends, board_in, history_in, holders_in, items_in, next_in, turn, turn_by, with_item, item_total}
+use Rattle.osturn.specs.Seats.{stimulus_count, IsSeated}
+use Rattle.osworld.specs.Answering.{board_told, carried, IsPlaced, next_by, settled, spins_told}
+use Rattle.osworld.specs.Playing.{IsMail, lists_of, Plays}
+use Rattle.osworld.proofs.Listed.{is_seat_of, items_by, list_of, list_of-nobody, list_of-seat, lists_of-set, total-push}
 use Rattle.osworld.proofs.Carrying.{carries_on}
-use Rattle.osworld.proofs.Fitting.{solo-push}
 use Rattle.osworld.proofs.Agreed.{next-agrees}
+use Rattle.osturn.proofs.Seated.{Took, seated-on}
 
 -- the board and the spinlocks after one more call
 board-told : (core : CoreId) (plan : Plan) (w : World) (ask : Ask) → board_told core ask (board_in plan w) ≡ state_after one_board (first_board plan.master) (w.calls.board ++ (told_by core ask (answer_in plan w core ask)).board)
@@ -42,42 +40,6 @@ board-told core plan w ask = ap (state_after one_board (first_board plan.master)
 spins-told : (core : CoreId) (plan : Plan) (w : World) (ask : Ask) → spins_told core ask (holders_in w) ≡ state_after spinlocks no_holders (w.calls.spins ++ (told_by core ask (answer_in plan w core ask)).spins)
 spins-told core plan w (OfSpins wish) = sym (after_snoc spinlocks no_holders w.calls.spins (entry core (spin_call_of wish) (spin_reply core (spin_call_of wish) (holders_in w))))
 spins-told core plan w ask = ap (state_after spinlocks no_holders) (sym (append-nil w.calls.spins))
-
--- the stimuli that are left after one more item
-stimulus_count-push : (items : List Item) (item : Item) → stimulus_count (items ++ item ∷ []) ≡ stimulus_count items + stimulus_count (item ∷ [])
-stimulus_count-push [] item = omega arith
-stimulus_count-push (Item.Stim s ∷ items) item = let rest = stimulus_count-push items item in omega arith
-stimulus_count-push (i ∷ items) item = stimulus_count-push items item
-
-left-on : (item : Item) (n : ℕ) (xs : List Stimulus) → left_after item (drop n xs) ≡ drop (n + stimulus_count (item ∷ [])) xs
-left-on (Item.Stim s) n xs = drop-drop 1 n xs
-left-on i n xs = ap (λ (k : ℕ). drop k xs) (omega arith)
-
--- What a seat is after it took an item.
-pub record Took (old new : Seat) (item : Item) : Type 0 where
-  pub id : new.id ≡ old.id
-  pub left : new.stimuli.now ≡ left_after item old.stimuli.now
-  pub items : new.items.items ≡ old.items.items ++ item ∷ []
-  pub does : Does (λ v h. after v h item) old.kernel new.kernel old.marks.items new.marks.items
-
-pub seated-on : (plan : Plan) (stimuli : List CoreStimuli) (old new : Seat) (item : Item) → IsSeated plan stimuli old → takes outbox_size (view_of plan old.id) (history_by plan old.id old.items.items) item ≡ true → Took old new item → IsSeated plan stimuli new
-seated-on plan stimuli old new item seated taken took =
-    record {
-      tracks = subst (λ (i : CoreId). Tracks (view_of plan i) (history_by plan i new.items.items) [] [] new.kernel new.marks.items) (sym took.id)
-          (subst (λ (items : List Item). Tracks v (history_by plan old.id items) [] [] new.kernel new.marks.items) (sym took.items)
-          (subst (λ (h : History). Tracks v h [] [] new.kernel new.marks.items) (sym (history_from-push v [] old.items.items item))
-          (took.does v (history_by plan old.id old.items.items) [] [] seated.tracks)));
-      alone = subst (λ (i : CoreId). solo (view_of plan i) new.items.items ≡ Some (history_by plan i new.items.items)) (sym took.id)
-          (subst (λ (items : List Item). solo v items ≡ Some (history_by plan old.id items)) (sym took.items)
-          (solo-push v [] old.items.items item seated.alone taken ∙ ap Some (sym (history_from-push v [] old.items.items item))));
-      left = took.left ∙ ap (left_after item) seated.left ∙ left-on item (stimulus_count old.items.items) (stimuli_of stimuli old.id)
-          ∙ ap (λ (n : ℕ). drop n (stimuli_of stimuli old.id)) (sym (stimulus_count-push old.items.items item))
-          ∙ ap (λ (items : List Item). drop (stimulus_count items) (stimuli_of stimuli old.id)) (sym took.items)
-          ∙ ap (λ (i : CoreId). drop (stimulus_count new.items.items) (stimuli_of stimuli i)) (sym took.id);
-    }
-  where
-    v : View
-    v = view_of plan old.id
 
 -- a core without a seat has no turn
 pub turn-nobody : (plan : Plan) (stimuli : List CoreStimuli) (w : World) (seats : List Seat) (core : CoreId) (choice : Choice) → w.items ≡ lists_of seats → length seats ≤ position_or_len (is_seat_of core) seats → turn plan stimuli w (core, choice) ≡ w

@@ -9,8 +9,8 @@ use Rattle.osbase.specs.History.{History}
 use Rattle.osplan.specs.View.{View, view_of}
 use Rattle.oskernel.specs.Step.{takes, outbox_size}
 use Rattle.oskernel.specs.Wants.{watch_of}
-use Rattle.osworld.specs.declared.asks.Ask.{Ask}
-use Rattle.osworld.specs.Asking.{asked, comes_to, named}
+use Rattle.osturn.specs.declared.asks.Ask.{Ask}
+use Rattle.osturn.specs.Asking.{asked, comes_to, named}
 use Rattle.osworld.specs.World.{World, answer_in, appends, history_in, next_in, next_stimulus, turn, turn_by, world_from}
 use Rattle.osworld.proofs.Listed.{list_of}
 

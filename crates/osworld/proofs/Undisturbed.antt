@@ -5,7 +5,7 @@ use Rattle.osbase.specs.declared.references.CoreId.{CoreId}
 use Rattle.oskernel.specs.declared.wants.Watch.{Watch}
 use Rattle.osworld.specs.declared.answering.Between.{Between}
 use Rattle.osworld.specs.Answering.{answer_by, is_undisturbed}
-use Rattle.osworld.specs.Asking.{leads_to, look_asked}
+use Rattle.osturn.specs.Asking.{leads_to, look_asked}
 
 pub undisturbed-nothing : (between : Between) (id : CoreId) (watch : Watch) → is_undisturbed watch between.board ≡ true → leads_to id watch (look_asked watch) (answer_by between id (look_asked watch)) ≡ None
 undisturbed-nothing between id watch is = grind (arith, is)

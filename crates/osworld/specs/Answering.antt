@@ -1,7 +1,7 @@
 -- What a turn names and changes, said of what a listed run holds in memory: the cores' kernels, and what stands between
 -- them, the mailboxes, the board and the spinlocks. It is what the world's definition names where memory holds what that
 -- definition reads off the items. Who reads what a run promises needs none of it. [own]
-use Rattle.std.specs.Prelude.{◌<◌, ◌&&◌, nat_lt, if◌then◌else◌, Bool, true, false, IsTrue, is_none, Option, None, IsSome, List, drop, slice_get}
+use Rattle.std.specs.Prelude.{◌<◌, ◌&&◌, nat_lt, if◌then◌else◌, Bool, true, false, IsTrue, is_none, Option, None, IsSome, List, slice_get}
 use Rattle.std.specs.Option.{option_map_or}
 use Rattle.osbase.specs.declared.references.CoreId.{CoreId}
 use Rattle.osbase.specs.declared.messages.Envelope.{Envelope}
@@ -18,12 +18,12 @@ use Rattle.oskernel.specs.Wants.{want_in, watch_in}
 use Rattle.osboard.specs.declared.calls.BoardState.{BoardState}
 use Rattle.osboard.specs.Boards.{board_after, board_reply}
 use Rattle.osspin.specs.Spins.{holders_after, spin_reply}
-use Rattle.osworld.specs.declared.asks.Ask.{Ask}
-use Rattle.osworld.specs.declared.asks.Ask.TheVariants.{OfBoard, OfSpins, Room, Oldest}
-use Rattle.osworld.specs.declared.asks.Answer.{Answer}
-use Rattle.osworld.specs.declared.asks.Answer.TheVariants.{Replied, Spun, HasRoom, Found, Unasked}
+use Rattle.osturn.specs.declared.asks.Ask.{Ask}
+use Rattle.osturn.specs.declared.asks.Ask.TheVariants.{OfBoard, OfSpins, Room, Oldest}
+use Rattle.osturn.specs.declared.asks.Answer.{Answer}
+use Rattle.osturn.specs.declared.asks.Answer.TheVariants.{Replied, Spun, HasRoom, Found, Unasked}
 use Rattle.osworld.specs.declared.answering.Between.{Between}
-use Rattle.osworld.specs.Asking.{asked_by, comes_to, spin_call_of}
+use Rattle.osturn.specs.Asking.{asked_by, comes_to, spin_call_of}
 
 -- What a core's turn is answered by what a run holds in memory between its cores: the mailboxes, the board and the spinlocks.
 abbrev pub answer_by : Between → CoreId → Ask → Answer
@@ -72,8 +72,3 @@ told core ask between = record { mail = between.mail; board = board_told core as
 -- What it holds after the whole turn: its item changes the mailboxes, too.
 abbrev pub settled : CoreId → Ask → Option (CoreId × Envelope) → Item → Between → Between
 settled core ask front item between = record (told core ask between) { mail = carried core front item between.mail }
-
--- The stimuli that are left after it.
-abbrev pub left_after : Item → List Stimulus → List Stimulus
-left_after (Item.Stim stimulus) stimuli = drop 1 stimuli
-left_after item stimuli = stimuli

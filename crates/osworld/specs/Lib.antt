@@ -1,8 +1,4 @@
-pub mod Asking
-pub mod Fits
-pub mod Sound
 pub mod World
 pub mod Runs
-pub mod Ends
 pub mod Answering
 pub mod Playing

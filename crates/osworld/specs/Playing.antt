@@ -1,47 +1,28 @@
 -- What a listed run holds in memory, beside the world's definition. Who reads what a run promises needs none of it. [own]
-use Rattle.std.specs.Prelude.{◌≡◌, ℕ, ◌*◌, ◌<◌, ◌≤◌, Bool, not, IsTrue, Some, List, [], length, drop, take, map, position, slice_get}
+use Rattle.std.specs.Prelude.{◌≡◌, ℕ, ◌*◌, ◌<◌, ◌≤◌, Bool, not, IsTrue, Some, List, length, drop, take, map, position, slice_get}
 use Rattle.std.specs.List.{All}
 use Rattle.osbase.specs.declared.references.CoreId.{CoreId}
 use Rattle.osbase.specs.declared.messages.Envelope.{Envelope}
 use Rattle.osbase.specs.declared.items.Item.{Item}
 use Rattle.osbase.specs.declared.turns.Choice.{Choice}
 use Rattle.osbase.specs.declared.turns.CoreStimuli.{CoreStimuli}
-use Rattle.osbase.specs.declared.turns.Report.{Report}
 use Rattle.osbase.specs.declared.turns.TheConstants.{CORES}
 use Rattle.osbase.specs.History.{posted, received_count, same_core}
-use Rattle.osbase.specs.Runs.{stimuli_of}
 use Rattle.osmail.specs.Mail.{Mail, box_of}
 use Rattle.osplan.specs.declared.plans.Plan.{Plan}
-use Rattle.osplan.specs.View.{view_of}
-use Rattle.osstate.specs.Does.{Tracks}
-use Rattle.oskernel.specs.Step.{solo}
 use Rattle.oskernel.specs.Wants.{watch_in}
-use Rattle.osworld.specs.declared.asks.Ask.{Ask}
-use Rattle.osworld.specs.declared.asks.Answer.{Answer}
+use Rattle.osturn.specs.declared.asks.Ask.{Ask}
+use Rattle.osturn.specs.declared.asks.Answer.{Answer}
 use Rattle.osworld.specs.declared.answering.Between.{Between}
-use Rattle.osworld.specs.declared.seats.Seat.{Seat}
+use Rattle.osturn.specs.declared.seats.Seat.{Seat}
 use Rattle.osworld.specs.declared.worlds.World.{World as Run}
 use Rattle.osworld.specs.Answering.{next_by}
-use Rattle.osworld.specs.Asking.{leads_to}
-use Rattle.osworld.specs.Fits.{history_by}
-use Rattle.osworld.specs.Runs.{AppendsAt, HasAtLeast, default_turns, is_default, is_ended_phase, round_of}
-use Rattle.osworld.specs.World.{World, board_in, first_world, history_in, holders_in, is_unchanged, stimulus_count, world, world_from}
+use Rattle.osturn.specs.Asking.{leads_to}
+use Rattle.osworld.specs.Runs.{AppendsAt, HasAtLeast, default_turns, is_default, round_of}
+use Rattle.osworld.specs.World.{World, board_in, first_world, history_in, holders_in, is_unchanged, world, world_from}
+use Rattle.osturn.specs.Seats.{IsSeated}
 
--- The report of a seat.
-abbrev pub report_of : Seat → Report
-report_of seat = record {
-  core = seat.id;
-  items = seat.items.items;
-  marks = seat.marks.items;
-  ended = is_ended_phase seat.kernel.progress.phase;
-}
-
--- A seat is where its core comes to by the items that it took, each of which could be taken in turn.
-pub record IsSeated (plan : Plan) (stimuli : List CoreStimuli) (seat : Seat) : Type 0 where
-  pub tracks : Tracks (view_of plan seat.id) (history_by plan seat.id seat.items.items) [] [] seat.kernel seat.marks.items
-  pub alone : solo (view_of plan seat.id) seat.items.items ≡ Some (history_by plan seat.id seat.items.items)
-  pub left : seat.stimuli.now ≡ drop (stimulus_count seat.items.items) (stimuli_of stimuli seat.id)
-
+-- The item lists of seats.
 abbrev pub lists_of : List Seat → List (CoreId × List Item)
 lists_of seats = map (λ (s : Seat). (s.id, s.items.items)) seats
 

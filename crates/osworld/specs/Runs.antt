@@ -1,5 +1,5 @@
 -- What a run of listed turns promises, and the default schedule.
-use Rattle.std.specs.Prelude.{◌≡◌, ◌⊎◌, ℕ, zero, suc, ◌+◌, ◌<◌, ◌==◌, ◌||◌, Bool, true, false, not, if◌then◌else◌, IsTrue, List, [], ◌∷◌, ◌++◌, length, map, filter, take}
+use Rattle.std.specs.Prelude.{◌≡◌, ◌⊎◌, ℕ, zero, suc, ◌+◌, ◌<◌, ◌==◌, ◌||◌, Bool, false, not, if◌then◌else◌, IsTrue, List, [], ◌∷◌, ◌++◌, length, map, filter, take}
 use Rattle.std.specs.List.{list_all, flat_map}
 use Rattle.osbase.specs.declared.references.CoreId.{CoreId}
 use Rattle.osbase.specs.declared.items.Item.{Item}
@@ -7,7 +7,6 @@ use Rattle.osbase.specs.declared.turns.CoreStimuli.{CoreStimuli}
 use Rattle.osbase.specs.declared.turns.Choice.{Choice}
 use Rattle.osbase.specs.declared.turns.Choice.TheVariants.{Own, Serve, Look}
 use Rattle.osbase.specs.declared.turns.Report.{Report}
-use Rattle.osbase.specs.declared.histories.Phase.{Phase}
 use Rattle.osbase.specs.History.{same_core}
 use Rattle.osbase.specs.Sets.{has_core}
 use Rattle.osplan.specs.declared.plans.Plan.{Plan}
@@ -15,9 +14,10 @@ use Rattle.osplan.specs.View.{view_of}
 use Rattle.osstate.specs.Readings.{phase_at}
 use Rattle.osworld.specs.declared.runs.RunFault.{RunFault}
 use Rattle.osworld.specs.declared.runs.RunFault.TheVariants.{NotBegun, NoMemory}
-use Rattle.osworld.specs.Fits.{history_by, ids_of}
-use Rattle.osworld.specs.Sound.{AreSound, lists_in}
+use Rattle.osturn.specs.Fits.{history_by, ids_of}
+use Rattle.osturn.specs.Sound.{AreSound, lists_in}
 use Rattle.osworld.specs.World.{World, board_in, first_world, is_unchanged, world, world_from}
+use Rattle.osturn.specs.Seats.{is_ended_phase}
 
 -- ---- listed turns
 
@@ -59,11 +59,7 @@ abbrev pub rounds : ℕ → List (CoreId × Choice) → List (CoreId × Choice)
 rounds zero round = []
 rounds (suc n) round = rounds n round ++ round
 
--- A core has ended.
-abbrev pub is_ended_phase : Phase → Bool
-is_ended_phase Phase.Ended = true
-is_ended_phase p = false
-
+-- A core has ended by these items.
 abbrev pub has_ended : Plan → CoreId × List Item → Bool
 has_ended plan p = is_ended_phase (phase_at (view_of plan p.0) (history_by plan p.0 p.1))
 

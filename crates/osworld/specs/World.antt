@@ -1,6 +1,6 @@
 -- The world: all cores of a configuration, turn by turn. It is the cores' item lists and the calls of the board and the
 -- spinlocks, and nothing else: where a core stands is read off its own items.
-use Rattle.std.specs.Prelude.{ℕ, suc, ◌+◌, ◌==◌, ◌&&◌, nat_lt, Bool, if◌then◌else◌, Option, Some, None, is_some, List, [], ◌∷◌, ◌++◌, length, map, find, slice_get, sum_by}
+use Rattle.std.specs.Prelude.{ℕ, ◌+◌, ◌==◌, ◌&&◌, nat_lt, Bool, if◌then◌else◌, Option, Some, None, is_some, List, [], ◌∷◌, ◌++◌, length, map, find, slice_get, sum_by}
 use Rattle.osbase.specs.declared.references.CoreId.{CoreId}
 use Rattle.osbase.specs.declared.items.Item.{Item}
 use Rattle.osbase.specs.declared.items.Stimulus.{Stimulus}
@@ -17,12 +17,13 @@ use Rattle.osseat.specs.Histories.{state_after}
 use Rattle.osboard.specs.declared.calls.BoardState.{BoardState}
 use Rattle.osboard.specs.Boards.{board_reply, first_board, one_board}
 use Rattle.osspin.specs.Spins.{no_holders, spin_reply, spinlocks}
-use Rattle.osworld.specs.declared.asks.Ask.{Ask}
-use Rattle.osworld.specs.declared.asks.Ask.TheVariants.{OfBoard, OfSpins, Room, Oldest}
-use Rattle.osworld.specs.declared.asks.Answer.{Answer}
-use Rattle.osworld.specs.declared.asks.Answer.TheVariants.{Replied, Spun, HasRoom, Found, Unasked}
-use Rattle.osworld.specs.Asking.{Calls, asked, comes_to, joined, no_calls, spin_call_of, told_by}
-use Rattle.osworld.specs.Fits.{history_by, ids_of, items_of}
+use Rattle.osturn.specs.declared.asks.Ask.{Ask}
+use Rattle.osturn.specs.declared.asks.Ask.TheVariants.{OfBoard, OfSpins, Room, Oldest}
+use Rattle.osturn.specs.declared.asks.Answer.{Answer}
+use Rattle.osturn.specs.declared.asks.Answer.TheVariants.{Replied, Spun, HasRoom, Found, Unasked}
+use Rattle.osturn.specs.Asking.{Calls, asked, comes_to, joined, no_calls, spin_call_of, told_by}
+use Rattle.osturn.specs.Fits.{history_by, ids_of, items_of}
+use Rattle.osturn.specs.Seats.{stimulus_count}
 
 -- All cores after some turns: the items of each configured core, the oldest first, and the calls of the board and the spinlocks that
 -- became items. Nothing else is kept: where a core stands is read off its own items. [own]
@@ -54,12 +55,6 @@ abbrev pub has_room : Plan → World → CoreId → CoreId → Bool
 has_room plan w from to =
     nat_lt to.number CORES
     && nat_lt (length (posted to (history_in plan w from))) (received_count from (history_in plan w to) + plan.cap)
-
--- How many stimuli a core has taken. [own]
-abbrev pub stimulus_count : List Item → ℕ
-stimulus_count [] = 0
-stimulus_count (Item.Stim s ∷ items) = suc (stimulus_count items)
-stimulus_count (item ∷ items) = stimulus_count items
 
 -- What a core's turn is answered: the board's or a spinlock's reply; whether there is room; the oldest envelope from the
 -- other core that is not received yet. [own]

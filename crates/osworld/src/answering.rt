@@ -5,14 +5,17 @@ ghost use Rattle.osbase.specs.declared.turns.TheConstants.{CORES};
 ghost use Rattle.osmail.specs.Mail.{empty_mail, has_mail, has_room, oldest_of};
 ghost use Rattle.osboard.specs.Boards.{first_board};
 ghost use Rattle.osspin.specs.Spins.{no_holders};
-ghost use Rattle.osworld.specs.Answering.{answer_by, carried, IsPlaced, told};
+ghost use Rattle.oskernel.specs.Wants.{watch_in};
+ghost use Rattle.osturn.specs.Asking.{leads_to};
+ghost use Rattle.osworld.specs.Answering.{answer_by, carried, is_undisturbed, IsPlaced, next_by, told};
 
-use crate::asks::{Answer, Ask};
-use osbase::{CORES, CoreId, Envelope, Item};
+use osbase::{CORES, Choice, CoreId, Envelope, Item};
 use osboard::BoardList;
+use oskernel::Watch;
 use osmail::ListMail;
 use osplan::Plan;
 use osspin::SpinList;
+use osturn::{Answer, Ask, Seat};
 use std::alloc::{AllocError, Global};
 
 /// How many envelopes a mailbox may hold at most, whatever the configuration says.
@@ -74,6 +77,42 @@ impl Between {
             }
             Ask::StartUnknown(_) | Ask::TakeStimulus(_) => Some(Answer::Unasked),
         }
+    }
+
+    /// What a turn of this core asks and is answered: none where it asks nothing, serves a core from which there is no
+    /// envelope, or looks at a board that leads it to nothing, as most turns do.
+    pub fn answered(&self, plan: &Plan, seat: &Seat, choice: Choice) -> Option<(Ask, Answer)>
+        ensures answer { IfSome result (λ t. t.1 ≡ answer_by self.now seat.now.id t.0) }
+        ensures leads { IfSome result (λ t. next_by plan.now self.now seat.now.id seat.now.stimuli.now seat.now.kernel choice ≡ leads_to seat.now.id (watch_in seat.now.kernel) t.0 t.1) }
+        ensures none { IfNone result (next_by plan.now self.now seat.now.id seat.now.stimuli.now seat.now.kernel choice ≡ None) }
+    {
+        match choice {
+            Choice::Look if self.is_undisturbed(seat) => None,
+            _ => self.replied(plan, seat, choice),
+        }
+    }
+
+    // A look at the board that leads the core to nothing, as most do: it watches for nothing, or for a shutdown of all cores
+    // that nobody has asked for.
+    fn is_undisturbed(&self, seat: &Seat) -> bool
+        ensures { result ≡ is_undisturbed (watch_in seat.now.kernel) self.now.board }
+    {
+        match seat.kernel.watch() {
+            Watch::Nothing => true,
+            Watch::Halt => self.board.look_halt().is_none(),
+            _ => false,
+        }
+    }
+
+    // What a turn is answered, whatever it leads to.
+    fn replied(&self, plan: &Plan, seat: &Seat, choice: Choice) -> Option<(Ask, Answer)>
+        ensures answer { IfSome result (λ t. t.1 ≡ answer_by self.now seat.now.id t.0) }
+        ensures leads { IfSome result (λ t. next_by plan.now self.now seat.now.id seat.now.stimuli.now seat.now.kernel choice ≡ leads_to seat.now.id (watch_in seat.now.kernel) t.0 t.1) }
+        ensures none { IfNone result (next_by plan.now self.now seat.now.id seat.now.stimuli.now seat.now.kernel choice ≡ None) }
+    {
+        let ask = seat.asked(plan, choice)?;
+        let answer = self.answer_to(seat.id, ask)?;
+        Some((ask, answer))
     }
 
     /// Tells the board or the spinlocks what a turn asked of them.

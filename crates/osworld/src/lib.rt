@@ -2,13 +2,9 @@
 #![tactic(auto)]
 
 mod answering;
-pub mod asks;
-pub mod ends;
 pub mod runs;
-mod seats;
 mod worlds;
 
-pub use asks::{Answer, Ask, SpinWish, look_asked, named, own_asked};
-pub use ends::have_all_ended;
 pub use osbase::Report;
+pub use osturn::{Answer, Ask, SpinWish, have_all_ended, look_asked, named, own_asked};
 pub use runs::{RunFault, default_schedule, run_default, run_world};

@@ -3,14 +3,14 @@
 ghost use Rattle.std.specs.Prelude.{IsTrue, ◌≡◌, ◌++◌, ◌≤◌, ◌||◌, [], IfOk, IfErr, OnErr, OnOk, true, vec_len, vec_capacity};
 ghost use Rattle.osplan.specs.Limits.{is_within_limits};
 ghost use Rattle.osplan.specs.Stimuli.{AreKnown};
-ghost use Rattle.osworld.specs.Fits.{ids_of};
 ghost use Rattle.osworld.specs.World.{first_world};
 ghost use Rattle.osworld.specs.Runs.{round_by, rounds as rounds_of, turns_in_round, AreReports, HasNoSchedule, IsBrokenOff, IsDefaultBrokenOff, IsDefaultRun, IsDefaultSchedule};
 ghost use Rattle.osworld.specs.Playing.{IsBegun, IsRound, Plays, PlaysDefault, StopsDefaultShort};
 
 use crate::worlds::{World, either};
-use osbase::{CORE_NUMBERS, Choice, CoreId, List, Report, Schedule, Stimuli, Turn};
-use osplan::{Config, Plan};
+use osbase::{Choice, CoreId, List, Report, Schedule, Stimuli, Turn};
+use osplan::Config;
+use osturn::ids_of;
 use std::alloc::{AllocError, Global};
 use thiserror::Error;
 
@@ -161,19 +161,6 @@ fn round_of(alloc: Global, ids: &[CoreId]) -> Result<Vec<Turn>, AllocError>
         push_turns(&mut round, ids, *id)?;
     }
     Ok(round)
-}
-
-// The configured cores, ascending.
-fn ids_of(alloc: Global, plan: &Plan) -> Result<Vec<CoreId>, AllocError>
-    ensures { IfOk result (λ ids. ids.items ≡ ids_of plan.now) }
-{
-    let mut ids = Vec::new(alloc);
-    for number in 0..CORE_NUMBERS {
-        if plan.core(CoreId { number }).is_some() {
-            ids.push(CoreId { number })?;
-        }
-    }
-    Ok(ids)
 }
 
 // The turns of one core in a round.

@@ -8,17 +8,17 @@ ghost use Rattle.osbase.specs.declared.references.CoreId.{CoreId as CoreIdValue}
 ghost use Rattle.osbase.specs.declared.turns.Choice.{Choice as ChoiceValue};
 ghost use Rattle.osbase.specs.History.{same_core};
 ghost use Rattle.osplan.specs.Limits.{is_within_limits};
-ghost use Rattle.osworld.specs.declared.seats.Seat.{Seat as SeatValue};
+ghost use Rattle.osturn.specs.declared.seats.Seat.{Seat as SeatValue};
 ghost use Rattle.osbase.specs.Sets.{has_core};
 ghost use Rattle.osworld.specs.Answering.{answer_by};
 ghost use Rattle.osworld.specs.World.{first_world};
-ghost use Rattle.osworld.specs.Runs.{is_ended_phase, round_by, serves_of, turns_in_round};
+ghost use Rattle.osturn.specs.Seats.{is_ended_phase};
+ghost use Rattle.osworld.specs.Runs.{round_by, serves_of, turns_in_round};
 
 use crate::answering::Between;
-use crate::asks::{Answer, Ask};
-use crate::seats::Seat;
 use osbase::{CORE_NUMBERS, CORES, Choice, CoreId, CoreStimuli, Item, Report, Turn};
 use osplan::Config;
+use osturn::{Answer, Ask, Seat};
 use std::alloc::{AllocError, Global};
 
 /// The cores of a configuration in ascending order, and what stands between them. A turn finds its core's seat by the
@@ -34,7 +34,8 @@ pub struct World<'a> {
 }
 
 impl<'a> World<'a> {
-    ghost use Rattle.osworld.specs.Playing.{IsAnswered, Plays, PlaysTurns, StopsShort, report_of};
+    ghost use Rattle.osturn.specs.Seats.{report_of};
+    ghost use Rattle.osworld.specs.Playing.{IsAnswered, Plays, PlaysTurns, StopsShort};
 
     /// The world before the first turn, with place for the reports at its end.
     pub fn new(
@@ -159,7 +160,7 @@ impl<'a> World<'a> {
             return Ok(false);
         };
         let seat = &self.seats[at];
-        match seat.answered(self.config.plan(), &self.between, choice) {
+        match self.between.answered(self.config.plan(), seat, choice) {
             Some((ask, answer)) => self.go_on(at, ask, &answer),
             None => Ok(false),
         }

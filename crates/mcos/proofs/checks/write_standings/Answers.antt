@@ -1,5 +1,5 @@
 use Rattle.ostrace.proofs.Writing.{Writes-broken, Wrote-all, Wrote-then}
-use Rattle.osworld.proofs.Started.{id_at}
+use Rattle.osturn.proofs.Configured.{id_at}
 use Rattle.mcos.specs.Checks.{line_at}
 use Rattle.mcos.proofs.Standings.{lines_at, lines_below, lines_below-more}
 use Rattle.mcos.proofs.checks.write_standings.Goals as goal

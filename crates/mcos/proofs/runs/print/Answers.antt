@@ -1,6 +1,6 @@
 use Rattle.std.proofs.Common.{Ok}
 use Rattle.std.proofs.lemmas.Result.{err_from_is_err_and}
-use Rattle.osworld.specs.Ends.{have_all_ended}
+use Rattle.osturn.specs.Ends.{have_all_ended}
 use Rattle.mcos.specs.Performs.{outcome_of}
 use Rattle.mcos.specs.Runs.{run_text}
 use Rattle.mcos.proofs.Printing.{Prints-failed, Prints-ok}

@@ -1,6 +1,6 @@
 use Rattle.std.proofs.Common.{Ok, refl, rules}
 use Rattle.std.proofs.lemmas.Result.{err_from_is_err_and}
-use Rattle.osworld.specs.Ends.{have_all_ended}
+use Rattle.osturn.specs.Ends.{have_all_ended}
 use Rattle.mcos.specs.Performs.{broken_off, fails, outcome_of, prints}
 use Rattle.mcos.specs.Runs.{run_text}
 use Rattle.mcos.proofs.runs.run.Goals as goal

@@ -1,5 +1,5 @@
 use Rattle.std.proofs.Common.{◌≡◌, ◌+◌, ◌≤◌, ◌++◌, map, vec_len, vec_capacity}
-use Rattle.osworld.specs.Playing.{report_of}
+use Rattle.osturn.specs.Seats.{report_of}
 use Rattle.osworld.proofs.worlds.World.finish.Given as goal
 
 abbrev pub invariant-loop-seat : goal.invariant-loop-seat

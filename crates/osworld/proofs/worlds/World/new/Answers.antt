@@ -4,9 +4,10 @@ use Rattle.osplan.specs.declared.plans.Plan.{Plan}
 use Rattle.osplan.specs.View.{core_of}
 use Rattle.osplan.proofs.Tests.{is_some-copied}
 use Rattle.osboard.specs.Boards.{first_board}
-use Rattle.osworld.specs.declared.seats.Seat.{Seat}
+use Rattle.osturn.specs.declared.seats.Seat.{Seat}
 use Rattle.osworld.proofs.Places.{place_by}
-use Rattle.osworld.proofs.Started.{id_at, started-all, started-push, started-skip}
+use Rattle.osworld.proofs.Started.{started-all, started-push, started-skip}
+use Rattle.osturn.proofs.Configured.{id_at}
 use Rattle.osworld.proofs.worlds.World.new.Goals as goal
 use Rattle.osworld.proofs.worlds.World.new.Goals.{then-is_some+in_ok-push, else-is_some}
 

@@ -1,6 +1,7 @@
 use Rattle.std.proofs.Common.{◌≡◌}
 use Rattle.std.specs.List.{All}
-use Rattle.osworld.specs.Playing.{IsSeated, lists_of}
+use Rattle.osworld.specs.Playing.{lists_of}
+use Rattle.osturn.specs.Seats.{IsSeated}
 use Rattle.osworld.proofs.Started.{lists_below}
 use Rattle.osworld.proofs.worlds.World.new.Given as goal
 

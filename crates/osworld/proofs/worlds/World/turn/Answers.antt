@@ -4,9 +4,9 @@ use Rattle.osbase.specs.declared.references.CoreId.{CoreId}
 use Rattle.osbase.specs.declared.turns.Choice.{Choice}
 use Rattle.oskernel.specs.Wants.{watch_in}
 use Rattle.osworld.specs.Answering.{next_by}
-use Rattle.osworld.specs.Asking.{leads_to}
+use Rattle.osturn.specs.Asking.{leads_to}
 use Rattle.osworld.specs.Playing.{IsAnswered, PlaysTurns, StopsShort}
-use Rattle.osworld.specs.declared.seats.Seat.{Seat}
+use Rattle.osturn.specs.declared.seats.Seat.{Seat}
 use Rattle.osworld.proofs.Turned.{if_err, if_ok, nobody-played, unanswered-played}
 use Rattle.osworld.proofs.worlds.World.turn.Goals as goal
 

@@ -1,0 +1,54 @@
+-- What every item has to which an answer leads, if each item of that answer's table has it.
+use Rattle.std.proofs.Common.{◌≡◌, Bool, true, false, cond, Option, Some, None, refl, subst}
+use Rattle.std.proofs.lemmas.Option.{same_Some}
+use Rattle.osbase.specs.declared.statuses.Status.{Status}
+use Rattle.osbase.specs.declared.references.CoreId.{CoreId}
+use Rattle.osbase.specs.declared.references.SpinlockId.{SpinlockId}
+use Rattle.osbase.specs.declared.items.Agreement.{Agreement}
+use Rattle.osbase.specs.declared.items.CoreSet.{CoreSet}
+use Rattle.osbase.specs.declared.items.Item.{Item}
+use Rattle.osbase.specs.Sets.{has_core}
+use Rattle.oskernel.specs.declared.wants.Watch.{Watch}
+use Rattle.osspin.specs.declared.calls.SpinReply.{SpinReply}
+use Rattle.osspin.specs.declared.calls.SpinReply.TheVariants.{Answered}
+use Rattle.osboard.specs.declared.calls.BoardView.{BoardView}
+use Rattle.osboard.specs.Boards.{agreement_in, have_all}
+use Rattle.osturn.specs.declared.asks.SpinWish.{SpinWish}
+use Rattle.osturn.specs.declared.asks.SpinWish.TheVariants as Wish
+use Rattle.osturn.specs.Asking.{halted, passing, spun}
+
+-- An open gate leads to one item.
+pub opens : (b : Bool) (i j : Item) → cond b (Some i) None ≡ Some j → (b ≡ true) × (i ≡ j)
+opens true i j e = (refl, same_Some _ _ e)
+opens false i j e = cc
+
+module _ (P : Item → Type 0) where
+  pub is-item : (i j : Item) → P i → Some i ≡ Some j → P j
+  is-item i j has e = subst P (same_Some _ _ e) has
+
+  open-item : (b : Bool) (i j : Item) → P i → cond b (Some i) None ≡ Some j → P j
+  open-item b i j has e = subst P (opens b i j e).1 has
+
+  -- At a gate.
+  pub passing-item : P Item.On → ((agreement : Agreement) → P (Item.Pass1 agreement)) → ((cores : CoreSet) → P (Item.Pass2 cores)) → P Item.PassEnd
+      → (id : CoreId) (view : BoardView) (watch : Watch) (i : Item) → passing id view watch ≡ Some i → P i
+  passing-item on first second end id view Watch.On i e = open-item (has_core view.started id) Item.On i on e
+  passing-item on first second end id view Watch.FirstGate i e = open-item (have_all view.started view.entered) (Item.Pass1 (agreement_in view.modes)) i (first (agreement_in view.modes)) e
+  passing-item on first second end id view Watch.SecondGate i e = open-item (have_all view.started view.ready) (Item.Pass2 view.started) i (second view.started) e
+  passing-item on first second end id view Watch.PassEnd i e = open-item (have_all view.started view.drained) Item.PassEnd i end e
+  passing-item on first second end id view watch i e = cc
+
+  -- By a shutdown of all cores, and at the end.
+  pub halted-item : ((asked : Option (CoreId × Status)) → P (Item.Last asked)) → ((core : CoreId) (status : Status) → P (Item.Halt core status))
+      → (watch : Watch) (halt : Option (CoreId × Status)) (i : Item) → halted watch halt ≡ Some i → P i
+  halted-item last halts Watch.Last halt i e = is-item (Item.Last halt) i (last halt) e
+  halted-item last halts Watch.Halt (Some asked) i e = is-item (Item.Halt asked.0 asked.1) i (halts asked.0 asked.1) e
+  halted-item last halts watch halt i e = cc
+
+  -- By a spinlock.
+  pub spun-item : ((l : SpinlockId) → P (Item.Granted l)) → ((l : SpinlockId) (taken : Bool) → P (Item.Tried l taken)) → ((l : SpinlockId) → P (Item.Freed l))
+      → (wish : SpinWish) (reply : SpinReply) (i : Item) → spun wish reply ≡ Some i → P i
+  spun-item granted tried freed (Wish.Get l) (Answered true) i e = is-item (Item.Granted l) i (granted l) e
+  spun-item granted tried freed (Wish.Try l) (Answered taken) i e = is-item (Item.Tried l taken) i (tried l taken) e
+  spun-item granted tried freed (Wish.Free l) (Answered true) i e = is-item (Item.Freed l) i (freed l) e
+  spun-item granted tried freed wish reply i e = cc

@@ -1,0 +1,165 @@
+-- Of the cores' items alone, each by its own view: a core that no script of another core names receives only replies
+-- from the others, and one that asks for nothing receives none of these and posts nothing.
+use Rattle.std.proofs.Common.{◌≡◌, ℕ, ℤ, nat_eq, Bool, true, false, not, ◌&&◌, ◌||◌, cond, Option, Some, None, List, [], ◌∷◌, ◌++◌, drop, refl, sym, ap, subst, ◌∙◌, slice_index}
+use Rattle.std.specs.List.{list_all}
+use Rattle.std.specs.Option.{option_map_or}
+use Rattle.std.proofs.lemmas.Bool.{and_parts, and_from, false≢true, not-true, not_from_false, or_left, or_right}
+use Rattle.std.proofs.lemmas.List.Folds.{list_all-append}
+use Rattle.osbase.specs.declared.references.CoreId.{CoreId}
+use Rattle.osbase.specs.declared.messages.Envelope.{Envelope}
+use Rattle.osbase.specs.declared.messages.Message.{Message}
+use Rattle.osbase.specs.declared.statuses.Status.{Status}
+use Rattle.osbase.specs.declared.statuses.Status.TheVariants.{EOk}
+use Rattle.osbase.specs.declared.items.Item.{Item}
+use Rattle.osbase.specs.declared.histories.OpenCall.{OpenCall}
+use Rattle.osbase.specs.declared.histories.Sent.{Sent}
+use Rattle.osbase.specs.Answers.{reply}
+use Rattle.osbase.specs.History.{Entry, History, Took, Noted, Opened, Queued, front_envelope, outbox, posted, queued_count, received, same_core}
+use Rattle.osbase.specs.Phases.{is_scheduling}
+use Rattle.osbase.proofs.Same.{same_core-true, same_core-refl}
+use Rattle.osplan.specs.View.{View}
+use Rattle.osstate.specs.Readings.{is_own, knows_started, phase_at}
+use Rattle.osact.proofs.Kept.{anybody, is_local, nobody}
+use Rattle.osstate.specs.State.{state_of}
+use Rattle.oskernel.specs.Admission.{admits, is_awaited, is_front_for, is_reply_to}
+use Rattle.oskernel.specs.Step.{after, history_from, outbox_size, solo_from}
+use Rattle.oskernel.proofs.Calm.{Calm, calm-after}
+use Rattle.oskernel.proofs.Carried.{replied-anybody, NamesAllow}
+use Rattle.oskernel.proofs.Holding.{Holds, holds-after, quiet_after}
+use Rattle.oskernel.proofs.Scripts.{all_but}
+use Rattle.oskernel.proofs.Stages.{is_mail, solo-parts}
+use Rattle.osturn.specs.Fits.{IsBeginning}
+use Rattle.osturn.proofs.Beginnings.{begins-all_pass, begins-itself, begins-longer, begins-through}
+use Rattle.osturn.proofs.Streams.{is_post_to, posted-after}
+
+-- An envelope that replies.
+abbrev pub is_reply : Envelope → Bool
+is_reply e = by e.message
+  where
+    by : Message → Bool
+    by (Message.Reply s) = true
+    by (Message.Value n) = true
+    by message = false
+
+replies-pass : (s : Status) (value : Option ℤ) (number : ℕ) → is_reply (record { number = number; message = reply s value }) ≡ true
+replies-pass s None number = refl
+replies-pass s (Some n) number = refl
+
+-- ---- what another core posts to this one
+
+-- Nothing for this core but a reply.
+abbrev is_meek : CoreId → Sent → Bool
+is_meek c s = not (same_core s.to c) || is_reply s.envelope
+
+abbrev Meek : CoreId → History → Type 0
+Meek c h = list_all (is_meek c) (outbox h) ≡ true
+
+meek-rest : (c : CoreId) (ss : List Sent) → list_all (is_meek c) ss ≡ true → list_all (is_meek c) (drop 1 ss) ≡ true
+meek-rest c [] all = refl
+meek-rest c (s ∷ ss) all = (and_parts (is_meek c s) (list_all (is_meek c) ss) all).1
+
+meek-took : (c : CoreId) (i : Item) (h : History) → Meek c h → Meek c (Took i ∷ h)
+meek-took c (Item.Posted to) h all = meek-rest c (outbox h) all
+meek-took c i h all = all
+
+meek-local : (c : CoreId) (e : Entry) (h : History) → is_local anybody e ≡ true → Meek c h → Meek c (e ∷ h)
+meek-local c (Took item) h is p = absurd (false≢true is)
+meek-local c (Noted (Opened call)) h is p = absurd (false≢true is)
+meek-local c (Noted (Queued core envelope)) h is p = absurd (false≢true is)
+meek-local c e h is p = p
+
+meek-holds : (c : CoreId) → Holds (all_but c) anybody anybody (Meek c)
+meek-holds c = record {
+  local = meek-local c;
+  asked = λ core message h m p. list_all-append (is_meek c) (outbox h) _ ∙ and_from _ _ p (and_from _ _ (or_left (not (same_core core c)) _ m) refl);
+  replied = λ core s value h m p. list_all-append (is_meek c) (outbox h) _ ∙ and_from _ _ p (and_from _ _ (or_right (not (same_core core c)) _ (replies-pass s value (queued_count core h))) refl);
+  opened = λ call h m p. p;
+}
+
+module _ (c : CoreId) (v : View) (allowed : NamesAllow v (all_but c)) where
+  posted-on : (h : History) (i : Item) → admits outbox_size (state_of v h) i ≡ true → Meek c h → list_all is_reply (posted c h) ≡ true → list_all is_reply (posted c (after v h i)) ≡ true
+  posted-on h i taken meek all = ap (list_all is_reply) (posted-after v c i h) ∙ by i taken
+    where
+      front : (to : CoreId) (ss : List Sent) → is_front_for to ss ≡ true → list_all (is_meek c) ss ≡ true → same_core to c ≡ true → list_all is_reply (front_envelope ss) ≡ true
+      front to [] f m e = absurd (false≢true f)
+      front to (s ∷ ss) f m e =
+          let mine : same_core s.to c ≡ true = subst (λ (core : CoreId). same_core core c ≡ true) (sym (same_core-true s.to to f)) e in
+          and_from _ _ (subst (λ (b : Bool). (not b || is_reply s.envelope) ≡ true) mine (and_parts (is_meek c s) (list_all (is_meek c) ss) m).0) refl
+
+      by : (j : Item) → admits outbox_size (state_of v h) j ≡ true → list_all is_reply (cond (is_post_to j c) (posted c h ++ front_envelope (outbox h)) (posted c h)) ≡ true
+      by (Item.Posted to) t = choose (same_core to c) refl
+        where
+          choose : (b : Bool) → same_core to c ≡ b → list_all is_reply (cond b (posted c h ++ front_envelope (outbox h)) (posted c h)) ≡ true
+          choose true e = list_all-append is_reply (posted c h) _ ∙ and_from _ _ all (front to (outbox h) (and_parts (is_scheduling (phase_at v h)) _ t).1 meek e)
+          choose false e = all
+      by j t = all
+
+  -- Whatever it takes, it posts only replies there.
+  pub posts-replies : (items : List Item) (h : History) → solo_from v h items ≡ Some (history_from v h items) → Meek c h → list_all is_reply (posted c h) ≡ true → list_all is_reply (posted c (history_from v h items)) ≡ true
+  posts-replies [] h each meek all = all
+  posts-replies (i ∷ is) h each meek all =
+      let turn = solo-parts v h i is each in
+      posts-replies is (after v h i) turn.1
+      (holds-after v (all_but c) anybody (Meek c) (meek-holds c) allowed h i (replied-anybody i) (meek-took c i h meek))
+      (posted-on h i turn.0 meek all)
+
+-- ---- what the core itself takes
+
+received-more : (v : View) (from : CoreId) (h : History) (i : Item) → IsBeginning (received from h) (received from (after v h i))
+received-more v from h i = subst (IsBeginning (received from h)) (sym (quiet_after (received from) (λ m k. refl) (λ n k. refl) v h i)) (by i)
+  where
+    by : (j : Item) → IsBeginning (received from h) (received from (Took j ∷ h))
+    by (Item.Received core number message) = choose (same_core core from)
+      where
+        choose : (b : Bool) → IsBeginning (received from h) (cond b (received from h ++ record { number = number; message = message } ∷ []) (received from h))
+        choose true = begins-longer (received from h) (record { number = number; message = message } ∷ [])
+        choose false = begins-itself (received from h)
+    by j = begins-itself (received from h)
+
+received-later : (v : View) (from : CoreId) (items : List Item) (h : History) → IsBeginning (received from h) (received from (history_from v h items))
+received-later v from [] h = begins-itself (received from h)
+received-later v from (i ∷ is) h = begins-through _ _ _ (received-more v from h i) (received-later v from is (after v h i))
+
+module _ (v : View) (allowed : NamesAllow v nobody) where
+  -- Only replies come from every other core.
+  abbrev OnlyReplies : History → Type 0
+  OnlyReplies h = (from : CoreId) → same_core from v.core ≡ false → list_all is_reply (received from h) ≡ true
+
+  no-mail : (h : History) (i : Item) (is : List Item) → Calm h → admits outbox_size (state_of v h) i ≡ true → OnlyReplies (history_from v (after v h i) is) → is_mail i ≡ false
+  no-mail h (Item.Posted to) is calm taken replies =
+      absurd (false≢true (subst (λ (ss : List Sent). is_front_for to ss ≡ true) calm.empty (and_parts (is_scheduling (phase_at v h)) _ taken).1))
+  no-mail h (Item.Received from number message) is calm taken replies = by message awaited.1 got
+    where
+      awaited : (knows_started h from && not (is_own v from) && nat_eq number (slice_index (state_of v h).border.received from.number) ≡ true) × (is_awaited outbox_size (state_of v h) from message ≡ true)
+      awaited = and_parts _ (is_awaited outbox_size (state_of v h) from message) (and_parts (is_scheduling (phase_at v h)) _ taken).1
+
+      other : same_core from v.core ≡ false
+      other = not-true (same_core from v.core) (and_parts _ (not (is_own v from)) (and_parts _ (nat_eq number (slice_index (state_of v h).border.received from.number)) awaited.0).0).1
+
+      envelope : Envelope
+      envelope = record { number = number; message = message }
+
+      got : is_reply envelope ≡ true
+      got = (and_parts _ true (and_parts (list_all is_reply (received from h)) _ (sym (list_all-append is_reply (received from h) (envelope ∷ [])) ∙ last)).1).0
+        where
+          late : list_all is_reply (received from (after v h (Item.Received from number message))) ≡ true
+          late = begins-all_pass is_reply _ _ (received-later v from is (after v h (Item.Received from number message))) (replies from other)
+
+          last : list_all is_reply (received from h ++ envelope ∷ []) ≡ true
+          last =
+              sym (ap (λ (t : Bool). list_all is_reply (cond t (received from h ++ envelope ∷ []) (received from h))) (same_core-refl from))
+              ∙ ap (list_all is_reply) (sym (quiet_after (received from) (λ m k. refl) (λ n k. refl) v h (Item.Received from number message))) ∙ late
+
+      by : (m : Message) → is_awaited outbox_size (state_of v h) from m ≡ true → is_reply (record { number = number; message = m }) ≡ true → is_mail (Item.Received from number m) ≡ false
+      by (Message.Reply s) awaits replying = absurd (false≢true (ap (λ (o : Option OpenCall). option_map_or (is_reply_to from s false) o false) (sym calm.closed) ∙ awaits))
+      by (Message.Value n) awaits replying = absurd (false≢true (ap (λ (o : Option OpenCall). option_map_or (is_reply_to from EOk true) o false) (sym calm.closed) ∙ awaits))
+      by m awaits replying = absurd (false≢true replying)
+  no-mail h i is calm taken replies = refl
+
+  -- It posts nothing and receives nothing.
+  pub takes-no-mail : (items : List Item) (h : History) → solo_from v h items ≡ Some (history_from v h items) → Calm h → OnlyReplies (history_from v h items) → list_all (λ (i : Item). not (is_mail i)) items ≡ true
+  takes-no-mail [] h each calm replies = refl
+  takes-no-mail (i ∷ is) h each calm replies =
+      let turn = solo-parts v h i is each in
+      let none = no-mail h i is calm turn.0 replies in
+      and_from _ _ (not_from_false (is_mail i) none) (takes-no-mail is (after v h i) turn.1 (calm-after v allowed h i none calm) replies)

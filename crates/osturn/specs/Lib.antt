@@ -1,0 +1,5 @@
+pub mod Asking
+pub mod Fits
+pub mod Sound
+pub mod Ends
+pub mod Seats

@@ -1,0 +1,98 @@
+-- The promise about a run, said of what was given (configuration and listed stimuli) and of the reports, and of nothing
+-- else: whoever runs the cores, in turns or otherwise, can promise it.
+use Rattle.std.specs.Prelude.{◌≡◌, ℕ, Bool, true, false, IsTrue, Some, List, ◌∷◌, [], ◌++◌, map}
+use Rattle.std.specs.List.{AllByRecursion}
+use Rattle.osbase.specs.declared.references.CoreId.{CoreId}
+use Rattle.osbase.specs.declared.items.Agreement.{Agreement}
+use Rattle.osbase.specs.declared.items.Item.{Item}
+use Rattle.osbase.specs.declared.turns.CoreStimuli.{CoreStimuli}
+use Rattle.osbase.specs.declared.turns.Report.{Report}
+use Rattle.osbase.specs.History.{marks_of, no_cores}
+use Rattle.osbase.specs.Runs.{stimuli_of}
+use Rattle.osplan.specs.declared.plans.Plan.{Plan}
+use Rattle.osplan.specs.declared.plans.CoreMode.{CoreMode}
+use Rattle.osplan.specs.declared.plans.CoreMode.TheVariants.{Named, DontCare}
+use Rattle.osplan.specs.Separate.{cut_of, is_separate}
+use Rattle.osplan.specs.View.{view_of}
+use Rattle.oskernel.specs.Step.{solo}
+use Rattle.ostext.specs.Trace.{block_of}
+use Rattle.osboard.specs.Boards.{with_core}
+use Rattle.osturn.specs.Fits.{Fits, IsBeginning, has_drained, history_by, ids_of, items_of}
+
+-- ---- a report by itself
+
+-- The item ends its core: the end of a shutdown, or a first gate that came to a conflict.
+-- [AUTOSAR SWS OS 4.x, SWS_Os_00608 to SWS_Os_00610, for the conflict; that a core drains and closes is this project's own]
+abbrev pub is_end : Item → Bool
+is_end (Item.Last shutdown) = true
+is_end (Item.Pass1 Agreement.Conflict) = true
+is_end item = false
+
+-- The last of the items does.
+abbrev pub end_by : List Item → Bool
+end_by [] = false
+end_by (item ∷ []) = is_end item
+end_by (item ∷ items) = end_by items
+
+-- What items come to: the marks that the core prints by them, by its own view of the configuration, and whether they end.
+abbrev pub report_by : Plan → CoreId → List Item → Report
+report_by plan id items = record {
+  core = id;
+  items = items;
+  marks = marks_of (history_by plan id items);
+  ended = end_by items;
+}
+
+-- A report says what its own items say.
+abbrev pub IsOwn : Plan → Report → Type 0
+IsOwn plan report = report ≡ report_by plan report.core report.items
+
+-- ---- a separate core
+
+-- What the first gate comes to for one core alone: the mode that it names.
+abbrev pub own_agreement : CoreMode → Agreement
+own_agreement (Named m) = Agreement.Mode m
+own_agreement DontCare = Agreement.NoMode
+
+-- What a core takes that runs by itself: each gate, with what it comes to for this core alone, its stimuli in
+-- order, and that it has drained. [own]
+abbrev pub alone_items : Plan → List CoreStimuli → CoreId → List Item
+alone_items plan stimuli id =
+    Item.Entered ∷ Item.Pass1 (own_agreement (view_of plan id).own.mode) ∷ Item.Readied ∷ Item.Pass2 (with_core id no_cores)
+    ∷ map Item.Stim (stimuli_of stimuli id) ++ Item.Drained ∷ []
+
+-- What they come to by the core's own configuration, and the text of it, with the names of that configuration. [own]
+abbrev pub alone_report : Plan → List CoreStimuli → CoreId → Report
+alone_report plan stimuli id = report_by (cut_of plan id) id (alone_items plan stimuli id)
+
+abbrev pub alone_block : Plan → List CoreStimuli → CoreId → List ℕ
+alone_block plan stimuli id = block_of (cut_of plan id) (alone_report plan stimuli id)
+
+-- A separate core that took these items prints a beginning of what its configuration alone prints, and all of it once it
+-- has drained: so it is of the marks, and of the block, which is their text. By itself it may take each of those items in
+-- turn. [own]
+pub record IsAlone (plan : Plan) (stimuli : List CoreStimuli) (id : CoreId) (items : List Item) : Type 0 where
+  pub begins : IsBeginning (report_by plan id items).marks (alone_report plan stimuli id).marks
+  pub whole : has_drained items ≡ true → (report_by plan id items).marks ≡ (alone_report plan stimuli id).marks
+  pub block_begins : IsBeginning (block_of plan (report_by plan id items)) (alone_block plan stimuli id)
+  pub block_whole : has_drained items ≡ true → block_of plan (report_by plan id items) ≡ alone_block plan stimuli id
+  pub alone : solo (view_of (cut_of plan id) id) (alone_items plan stimuli id) ≡ Some (history_by (cut_of plan id) id (alone_items plan stimuli id))
+
+-- Each separate core of these lists is.
+abbrev pub ArePrintedAlone : Plan → List CoreStimuli → List (CoreId × List Item) → Type 0
+ArePrintedAlone plan stimuli lists = (id : CoreId) → IsTrue (is_separate plan id) → IsAlone plan stimuli id (items_of lists id)
+
+-- ---- all reports
+
+-- The cores' item lists.
+abbrev pub lists_in : List Report → List (CoreId × List Item)
+lists_in reports = map (λ (r : Report). (r.core, r.items)) reports
+
+-- The promise. The reports are those of the configured cores, ascending, one each; each says what its own items say; the
+-- items fit one another, the listed stimuli and what the cores share; and each separate core prints what its configuration
+-- alone prints. [own]
+pub record AreSound (plan : Plan) (stimuli : List CoreStimuli) (reports : List Report) : Type 0 where
+  pub cores : map (λ (r : Report). r.core) reports ≡ ids_of plan
+  pub own : AllByRecursion (IsOwn plan) reports
+  pub fit : Fits plan stimuli (lists_in reports)
+  pub separate : ArePrintedAlone plan stimuli (lists_in reports)

@@ -1,0 +1,218 @@
+//! What a turn of a core asks of what it shares with the others, and the item to which the answer leads.
+
+ghost use Rattle.std.specs.Prelude.{◌≡◌};
+ghost use Rattle.osbase.specs.declared.references.CoreId.{CoreId as CoreIdValue};
+ghost use Rattle.osplan.specs.View.{is_configured, view_of};
+ghost use Rattle.osturn.specs.Asking.{going_on, halted, look_asked, named_by, own_asked, passing, replied, spin_call_of, spun, starting};
+
+use osbase::{CoreId, Envelope, Item, SpinlockId, Status, Stimulus};
+use osboard::{BoardCall, BoardReply, BoardView};
+use oskernel::{Want, Watch};
+use osplan::{CoreMode, Plan};
+use osspin::{SpinAction, SpinCall, SpinReply};
+
+/// What a core asks of a spinlock.
+#[derive(Clone, Copy)]
+pub enum SpinWish {
+    /// GetSpinlock, tried once more: it goes on once it took the spinlock.
+    Get(SpinlockId),
+    /// TryToGetSpinlock: it goes on by either answer.
+    Try(SpinlockId),
+    /// The spinlock is given back.
+    Free(SpinlockId),
+}
+
+impl SpinWish {
+    /// The call of the spinlocks that it is.
+    pub fn call(self) -> SpinCall
+        ensures { result ≡ spin_call_of self }
+    {
+        match self {
+            SpinWish::Get(lock) | SpinWish::Try(lock) => SpinCall {
+                lock,
+                action: SpinAction::Take,
+            },
+            SpinWish::Free(lock) => SpinCall {
+                lock,
+                action: SpinAction::Free,
+            },
+        }
+    }
+}
+
+/// What a turn asks.
+#[derive(Clone, Copy)]
+pub enum Ask {
+    /// A call of the board.
+    OfBoard(BoardCall),
+    /// A call of the spinlocks.
+    OfSpins(SpinWish),
+    /// Room for the front of the outbox in the mailbox for that core.
+    Room(CoreId),
+    /// The oldest envelope from that core.
+    Oldest(CoreId),
+    /// Nothing: StartCore of a core that is not configured.
+    StartUnknown(CoreId),
+    /// Nothing: the core's next stimulus.
+    TakeStimulus(Stimulus),
+}
+
+/// What it is answered.
+#[derive(Clone, Copy)]
+pub enum Answer {
+    /// The board's reply.
+    Replied(BoardReply),
+    /// The spinlock's reply.
+    Spun(SpinReply),
+    /// Whether the mailbox has room.
+    HasRoom(bool),
+    /// The oldest envelope, if there is one.
+    Found(Option<Envelope>),
+    /// Nothing was asked.
+    Unasked,
+}
+
+/// What a core's own turn asks, by what it wants and its next stimulus: none where it wants nothing.
+pub fn own_asked(plan: &Plan, id: CoreId, want: Want, next: Option<Stimulus>) -> Option<Ask>
+    ensures { result ≡ own_asked (view_of plan.now id) next want }
+{
+    match want {
+        Want::Start(core) => Some(starting(core, is_configured(plan, core))),
+        Want::Enter => Some(Ask::OfBoard(BoardCall::Enter(mode_of(plan, id)))),
+        Want::Ready => Some(Ask::OfBoard(BoardCall::MakeReady)),
+        Want::Post(to) => Some(Ask::Room(to)),
+        Want::GoOn => Some(going_on(next)),
+        Want::Nothing => None,
+    }
+}
+
+// StartCore of a core that is not configured is answered without the board (AUTOSAR SWS OS 4.x, StartCore).
+fn starting(core: CoreId, is_configured: bool) -> Ask
+    ensures { result ≡ starting core is_configured }
+{
+    if is_configured {
+        Ask::OfBoard(BoardCall::Start(core))
+    } else {
+        Ask::StartUnknown(core)
+    }
+}
+
+// Every core sees alike which cores are configured.
+fn is_configured(plan: &Plan, core: CoreId) -> bool
+    ensures { (id : CoreIdValue) → result ≡ is_configured (view_of plan.now id) core }
+{
+    plan.core(core).is_some()
+}
+
+fn mode_of(plan: &Plan, id: CoreId) -> CoreMode
+    ensures { result ≡ (view_of plan.now id).own.mode }
+{
+    match plan.core(id) {
+        Some(core) => core.mode,
+        None => CoreMode::DontCare,
+    }
+}
+
+// The next stimulus, or else the core drains.
+fn going_on(next: Option<Stimulus>) -> Ask
+    ensures { result ≡ going_on next }
+{
+    match next {
+        Some(stimulus) => Ask::TakeStimulus(stimulus),
+        None => Ask::OfBoard(BoardCall::Drain),
+    }
+}
+
+/// What a look asks: each loads one word of the board.
+pub fn look_asked(watch: Watch) -> Ask
+    ensures { result ≡ look_asked watch }
+{
+    match watch {
+        Watch::Halt | Watch::Last => Ask::OfBoard(BoardCall::LookHalt),
+        _ => Ask::OfBoard(BoardCall::Look),
+    }
+}
+
+/// The item to which the answer leads a core that watches for this: none where it leads to none, as at a gate that
+/// is still closed. It is a call of its own: put in the place of the call, the item is put together byte by byte.
+#[inline(never)]
+pub fn named(id: CoreId, watch: Watch, ask: Ask, answer: &Answer) -> Option<Item>
+    ensures { result ≡ named_by id watch ask answer.now }
+{
+    match (ask, answer) {
+        (Ask::OfBoard(call), Answer::Replied(reply)) => replied(id, watch, call, reply),
+        (Ask::OfSpins(wish), Answer::Spun(reply)) => spun(wish, *reply),
+        (Ask::Room(to), Answer::HasRoom(true)) => Some(Item::Posted(to)),
+        (Ask::Oldest(from), Answer::Found(Some(envelope))) => Some(Item::Received {
+            from,
+            number: envelope.number,
+            message: envelope.message,
+        }),
+        (Ask::StartUnknown(core), Answer::Unasked) => Some(Item::Began {
+            core,
+            status: Status::EOsId,
+        }),
+        (Ask::TakeStimulus(stimulus), Answer::Unasked) => Some(Item::Stim(stimulus)),
+        (_, _) => None,
+    }
+}
+
+fn replied(id: CoreId, watch: Watch, call: BoardCall, reply: &BoardReply) -> Option<Item>
+    ensures { result ≡ replied id watch call reply.now }
+{
+    match (call, reply) {
+        (BoardCall::Start(core), BoardReply::Started(status)) => Some(Item::Began {
+            core,
+            status: *status,
+        }),
+        (BoardCall::Enter(_), BoardReply::Acknowledged) => Some(Item::Entered),
+        (BoardCall::MakeReady, BoardReply::Acknowledged) => Some(Item::Readied),
+        (BoardCall::Drain, BoardReply::Acknowledged) => Some(Item::Drained),
+        (BoardCall::Look, BoardReply::Shown(view)) => passing(id, view, watch),
+        (BoardCall::AskHalt(_), BoardReply::Decided((core, status))) => Some(Item::Halt {
+            core: *core,
+            status: *status,
+        }),
+        (BoardCall::LookHalt, BoardReply::Halting(halt)) => halted(watch, *halt),
+        (_, _) => None,
+    }
+}
+
+// A gate opens where all started cores have come to it (AUTOSAR SWS OS 4.x, SWS_Os_00579 and SWS_Os_00580).
+fn passing(id: CoreId, view: &BoardView, watch: Watch) -> Option<Item>
+    ensures { result ≡ passing id view.now watch }
+{
+    match watch {
+        Watch::On if view.started.contains(id) => Some(Item::On),
+        Watch::FirstGate if view.have_all_entered() => Some(Item::Pass1(view.agreement())),
+        Watch::SecondGate if view.are_all_ready() => Some(Item::Pass2(view.started)),
+        Watch::PassEnd if view.have_all_drained() => Some(Item::PassEnd),
+        _ => None,
+    }
+}
+
+// A core halts where a shutdown of all cores was asked for, and at its end learns whether one was (AUTOSAR SWS OS
+// 4.x, ShutdownAllCores).
+fn halted(watch: Watch, halt: Option<(CoreId, Status)>) -> Option<Item>
+    ensures { result ≡ halted watch halt }
+{
+    match (watch, halt) {
+        (Watch::Last, halt) => Some(Item::Last(halt)),
+        (Watch::Halt, Some((core, status))) => Some(Item::Halt { core, status }),
+        (_, _) => None,
+    }
+}
+
+// GetSpinlock goes on once it took the spinlock, TryToGetSpinlock by either answer (AUTOSAR SWS OS 4.x).
+fn spun(wish: SpinWish, reply: SpinReply) -> Option<Item>
+    ensures { result ≡ spun wish reply }
+{
+    match (wish, reply) {
+        (SpinWish::Get(lock), SpinReply::Answered(true)) => Some(Item::Granted(lock)),
+        (SpinWish::Try(spinlock), SpinReply::Answered(taken)) => {
+            Some(Item::Tried { spinlock, taken })
+        }
+        (SpinWish::Free(lock), SpinReply::Answered(true)) => Some(Item::Freed(lock)),
+        (_, _) => None,
+    }
+}

@@ -1,0 +1,155 @@
+//! One core of a run.
+
+ghost use Rattle.std.specs.Prelude.{◌++◌, ◌∷◌, [], IsTrue, IsSome, ◌≡◌, ◌+◌, ◌<◌, ◌≤◌, OnOk, slice_get, vec_len, vec_capacity};
+ghost use Rattle.osbase.specs.declared.turns.TheConstants.{CORES};
+ghost use Rattle.osplan.specs.View.{core_of, view_of};
+ghost use Rattle.osplan.specs.Limits.{is_within_limits};
+ghost use Rattle.osstate.specs.Does.{Does};
+ghost use Rattle.osstate.specs.State.{state_of};
+ghost use Rattle.oskernel.specs.Admission.{takes_in};
+ghost use Rattle.oskernel.specs.Step.{after};
+ghost use Rattle.osbase.specs.Runs.{stimuli_of};
+ghost use Rattle.oskernel.specs.Wants.{want_in, watch_in};
+ghost use Rattle.osturn.specs.Asking.{asked_by, named_by};
+ghost use Rattle.oskernel.specs.declared.kernel.TheConstants.{STEP_MARKS};
+
+use crate::asks::{Answer, Ask, look_asked, named, own_asked};
+use osbase::{
+    CORES, Choice, CoreId, CoreStimuli, Item, List, Mark, Phase, Report, Stimulus, stimuli_for,
+};
+use oskernel::{Kernel, STEP_MARKS};
+use osplan::{Config, Core, Plan};
+use std::alloc::{AllocError, Global};
+
+/// A kernel of the sizes that every configuration within the limits fits: 32 priorities, 64 jobs, an
+/// outbox of 64 envelopes.
+pub type CoreKernel<'a> = Kernel<'a, 32, 64, 64>;
+
+/// A core of a run: its kernel, the stimuli that are left, and what it took and printed so far.
+#[derive(Drop)]
+pub struct Seat<'a> {
+    pub id: CoreId,
+    pub kernel: CoreKernel<'a>,
+    pub stimuli: &'a [Stimulus],
+    pub items: Vec<Item>,
+    pub marks: Vec<Mark>,
+    ghost known: { id.number < CORES },
+}
+
+impl<'a> Seat<'a> {
+    ghost use Rattle.osturn.specs.Seats.{is_ended_phase, left_after};
+
+    /// The core at the beginning of a run, with room for the items and lines that its stimuli are likely to
+    /// bring, which then need not be moved while they grow. Where so much is refused it begins with none.
+    pub fn new(alloc: Global, config: &'a Config, id: CoreId, stimuli: &'a [CoreStimuli]) -> Self
+        requires number { id.number < CORES }
+        requires configured { IsSome (core_of config.now id) }
+        requires limits { IsTrue (is_within_limits config.now) }
+        ensures kernel { result.kernel ≡ state_of (view_of config.now id) [] }
+        ensures core { result.id ≡ id }
+        ensures stimuli { result.stimuli.now ≡ stimuli_of stimuli.now id }
+        ensures items { result.items.items ≡ [] }
+        ensures marks { result.marks.items ≡ [] }
+    {
+        let stimuli = stimuli_for(stimuli, id);
+        let ahead = stimuli.len().saturating_add(STEP_MARKS);
+        Seat {
+            id,
+            kernel: Kernel::new(config, id),
+            stimuli,
+            // A stimulus is taken to bring itself and an envelope, and three lines.
+            items: roomy(alloc, ahead.saturating_mul(2)),
+            marks: roomy(alloc, ahead.saturating_mul(3)),
+        }
+    }
+
+    /// What a turn asks. What the core wants is asked of the kernel for its own turn alone.
+    pub fn asked(&self, plan: &Plan, choice: Choice) -> Option<Ask>
+        ensures { result ≡ asked_by (view_of plan.now self.now.id) (want_in self.now.kernel) (watch_in self.now.kernel) (slice_get self.now.stimuli.now 0) choice }
+    {
+        match choice {
+            Choice::Own => {
+                let next = self.stimuli.first().copied();
+                own_asked(plan, self.id, self.kernel.want(), next)
+            }
+            Choice::Serve(from) => Some(Ask::Oldest(from)),
+            Choice::Look => Some(look_asked(self.kernel.watch())),
+        }
+    }
+
+    /// The item to which the answer leads the core: none where it leads to none.
+    pub fn named(&self, ask: Ask, answer: &Answer) -> Option<Item>
+        ensures { result ≡ named_by self.now.id (watch_in self.now.kernel) ask answer.now }
+    {
+        named(self.id, self.kernel.watch(), ask, answer)
+    }
+
+    /// Makes room for one more item and all lines that it may print. Without memory nothing changes.
+    pub fn make_room(&mut self) -> Result<(), AllocError>
+        ensures items { OnOk result (vec_len self.new.items < vec_capacity self.new.items) }
+        ensures marks { OnOk result (vec_len self.new.marks + STEP_MARKS ≤ vec_capacity self.new.marks) }
+        ensures kernel { self.new.kernel ≡ self.old.kernel }
+        ensures id { self.new.id ≡ self.old.id }
+        ensures stimuli { self.new.stimuli ≡ self.old.stimuli }
+        ensures taken { self.new.items.items ≡ self.old.items.items }
+        ensures printed { self.new.marks.items ≡ self.old.marks.items }
+    {
+        self.items.reserve(1)?;
+        self.marks.reserve(STEP_MARKS)
+    }
+
+    /// Takes an item: the kernel steps, and a stimulus is used up.
+    pub fn take(&mut self, item: Item)
+        requires items { vec_len self.old.items < vec_capacity self.old.items }
+        requires marks { vec_len self.old.marks + STEP_MARKS ≤ vec_capacity self.old.marks }
+        requires taken { IsTrue (takes_in 64 self.old.kernel item) }
+        ensures id { self.new.id ≡ self.old.id }
+        ensures stimuli { self.new.stimuli.now ≡ left_after item self.old.stimuli.now }
+        ensures taken { self.new.items.items ≡ self.old.items.items ++ item ∷ [] }
+        ensures does { Does (λ v h. after v h item) self.old.kernel self.new.kernel self.old.marks.items self.new.marks.items }
+    {
+        if let Item::Stim(_) = item {
+            if let Some((_, rest)) = self.stimuli.split_first() {
+                self.stimuli = rest;
+            }
+        }
+        self.items.push_reserved(item);
+        self.kernel.step(item, &mut self.marks);
+    }
+
+    /// Whether the core has come to its end.
+    pub fn has_ended(&self) -> bool
+        ensures { result ≡ is_ended_phase self.now.kernel.progress.phase }
+    {
+        matches!(self.kernel.phase(), Phase::Ended)
+    }
+
+    /// What the run came to for this core.
+    pub fn report(self) -> Report
+        ensures { result ≡ record { core = self.entry.id; items = self.entry.items.items; marks = self.entry.marks.items; ended = is_ended_phase self.entry.kernel.progress.phase } }
+    {
+        let ended = self.has_ended();
+        let Seat {
+            id,
+            items,
+            marks,
+            ..
+        } = self;
+        Report {
+            core: id,
+            items: List::from_vec(items),
+            marks: List::from_vec(marks),
+            ended,
+        }
+    }
+}
+
+// An empty vector with room for so many, or with none where that is refused.
+fn roomy<T>(alloc: Global, capacity: usize) -> Vec<T>
+    ensures { result.items ≡ [] }
+{
+    match Vec::with_capacity(alloc, capacity) {
+        Ok(roomy) => roomy,
+        Err(_) => Vec::new(alloc),
+    }
+}
