@@ -1,5 +1,5 @@
 -- The counters and alarms of a core: what is read off its history, and what each entry does to it.
-use Rattle.std.specs.Prelude.{◌≡◌, ℕ, Bool, if◌then◌else◌, IsTrue, IfSome, ◌≤◌, is_some, Option, Some, None, List, filter, length, map, option_map, slice_index_or}
+use Rattle.std.specs.Prelude.{◌≡◌, ℕ, Bool, if◌then◌else◌, IsTrue, IfSome, ◌≤◌, ◌-◌, All, is_some, Option, Some, None, List, [], filter, length, map, option_map, slice_index_or}
 use Rattle.std.specs.List.{slice_set}
 use Rattle.std.specs.Option.{option_map_or}
 use Rattle.osbase.specs.declared.references.AlarmRef.{AlarmRef}
@@ -170,3 +170,11 @@ pub record AreClocks (core : Core) (s : ClockState) : Type 0 where
   pub within : IsTrue (are_clocks_within core)
   pub history : History
   pub is : s ≡ clocks_of core history
+
+-- For so many counts of its counter an alarm is not due.
+abbrev pub IsQuiet : ℕ → Counter → Alarm → Type 0
+IsQuiet counts counter alarm = IfSome alarm.expiry (λ x. counts ≤ counts_until counter x - 1)
+
+-- For so many counts of each counter none of its alarms is due. [own]
+pub record AreQuiet (quiet : List ℕ) (s : ClockState) : Type 0 where
+  pub at : (n : ℕ) → All (λ (a : AlarmRef). IsQuiet (slice_index_or quiet n 0) (slice_index_or s.counters n no_counter) (alarm_in a s)) (slice_index_or s.attached n [])
