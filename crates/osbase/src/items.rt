@@ -38,6 +38,13 @@ impl CoreSet {
     }
 }
 
+/// The application mode with which a core calls StartOS (AUTOSAR SWS OS 4.x, SWS_Os_00608 to SWS_Os_00610).
+#[derive(Clone, Copy, Debug, PartialEq, Eq)]
+pub enum CoreMode {
+    Named(ModeId),
+    DontCare,
+}
+
 /// What the started cores' application modes came to at the first synchronisation point of
 /// StartOS (AUTOSAR SWS OS 4.x, SWS_Os_00608 to SWS_Os_00610).
 #[derive(Clone, Copy, Debug, PartialEq, Eq)]

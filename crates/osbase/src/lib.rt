@@ -16,7 +16,7 @@ pub mod statuses;
 pub mod turns;
 
 pub use histories::{Awaited, HeldResource, Job, OpenCall, Phase, Sent, TaskEvents};
-pub use items::{Agreement, CoreSet, Item, Stimulus};
+pub use items::{Agreement, CoreMode, CoreSet, Item, Stimulus};
 pub use lists::{List, Name};
 pub use logic::both;
 pub use marks::Mark;

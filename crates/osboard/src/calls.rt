@@ -1,7 +1,6 @@
 //! What cores ask of the board, and what it answers.
 
-use osbase::{CORES, CoreId, CoreSet, Status};
-use osplan::CoreMode;
+use osbase::{CORES, CoreId, CoreMode, CoreSet, Status};
 use osseat::SharedObject;
 
 /// How many application modes there are at most.

@@ -5,8 +5,7 @@ ghost use Rattle.osboard.specs.Boards.{ask_halt_call, board_after, board_reply, 
 ghost use Rattle.osseat.specs.Histories.{Continues};
 
 use crate::calls::{BoardCall, BoardReply, BoardState, BoardView, MODES, ModeSet};
-use osbase::{CORES, CoreId, CoreSet, Status};
-use osplan::CoreMode;
+use osbase::{CORES, CoreId, CoreMode, CoreSet, Status};
 use std::marker::Model;
 
 /// The board by what stands on it. It answers as `Board` does, by the same definition.

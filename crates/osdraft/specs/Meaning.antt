@@ -13,7 +13,7 @@ use Rattle.osplan.specs.declared.plans.ExpiryPoint.{ExpiryPoint}
 use Rattle.osplan.specs.declared.plans.Table.{Table}
 use Rattle.osplan.specs.declared.plans.TableStart.{TableStart}
 use Rattle.osplan.specs.declared.plans.Task.{Task}
-use Rattle.osplan.specs.declared.plans.CoreMode.TheVariants.{Named}
+use Rattle.osbase.specs.declared.items.CoreMode.TheVariants.{Named}
 use Rattle.serde_json.specs.Data.{Data}
 use Rattle.serde_json.specs.Read.{read}
 use Rattle.osplan.specs.declared.faults.ConfFault.{ConfFault}

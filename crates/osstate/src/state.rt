@@ -35,14 +35,14 @@ use crate::scripts::script_of;
 use crate::slots::SentSlot;
 use arrayvec::ArrayVec;
 use osbase::{
-    Agreement, AlarmRef, CORES, CoreId, CounterRef, Envelope, HeldResource, IsrRef, Item, Job,
-    Mark, Message, Object, OpenCall, Phase, RemoteCall, ResourceRef, Runner, Sent, Status,
+    Agreement, AlarmRef, CORES, CoreId, CoreMode, CounterRef, Envelope, HeldResource, IsrRef, Item,
+    Job, Mark, Message, Object, OpenCall, Phase, RemoteCall, ResourceRef, Runner, Sent, Status,
     Stimulus, TaskEvents, TaskRef,
 };
 use osclock::{AlarmList, Clocks};
 use oscript::{Action, Frame};
 use osjobs::Jobs;
-use osplan::{Alarm, Config, Core, CoreMode, Counter, Task, own};
+use osplan::{Alarm, Config, Core, Counter, Task, own};
 use osres::RESOURCES;
 use ostable::Tables;
 use std::marker::Model;
