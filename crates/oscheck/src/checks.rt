@@ -11,7 +11,7 @@ ghost use Rattle.osshape.specs.declared.shapes.ResourceText.{ResourceText as Res
 ghost use Rattle.osshape.specs.declared.shapes.TaskText.{TaskText as Task};
 ghost use Rattle.osforms.specs.Operation.{has_masks};
 ghost use Rattle.osplan.specs.Limits.{are_alarms_within, are_counters_within, are_numbers_distinct, has_number, is_alarm_within, is_between, is_ceiling, is_core_by, is_counter_within, is_start, is_start_within, is_task_numbered, jobs_of, most_activations, most_cores, same_number};
-ghost use Rattle.osread.specs.Faults.{failing, first_fault};
+ghost use Rattle.osplan.specs.Fault.{failing, first_fault};
 ghost use Rattle.oscheck.specs.Action.{is_action_known, is_action_masked};
 ghost use Rattle.osshape.specs.Declarations.{counter_ref, declarations, place_of};
 ghost use Rattle.oscheck.specs.Operation.{operations_of};

@@ -29,7 +29,7 @@ use Rattle.osshape.specs.declared.table_shapes.PointText.{PointText}
 use Rattle.osshape.specs.declared.table_shapes.TableStartText.{TableStartText}
 use Rattle.osshape.specs.declared.table_shapes.TableText.{TableText}
 use Rattle.osplan.specs.Expressible.{mode_name}
-use Rattle.osread.specs.Faults.{IsLeast, failing, if_faultless}
+use Rattle.osplan.specs.Fault.{IsLeast, failing, if_faultless}
 use Rattle.osshape.specs.Shape.{config_shape}
 use Rattle.osshape.specs.declared.declarations.Declaration.{Declaration}
 use Rattle.oscheck.specs.Action.{action_of}
