@@ -3,10 +3,10 @@
 ghost use Rattle.std.specs.Prelude.{◌≡◌, ◌<◌, IsTrue};
 ghost use Rattle.osbase.specs.Sets.{has_core};
 
+use crate::limits::CORES;
 use crate::messages::Message;
 use crate::references::{CoreId, IsrRef, ModeId, SpinlockId};
 use crate::statuses::Status;
-use crate::turns::CORES;
 
 /// What a core's environment gives it.
 #[derive(Clone, Copy, Debug, PartialEq, Eq)]

@@ -13,7 +13,7 @@ use Rattle.osbase.specs.declared.items.CoreMode.{CoreMode}
 use Rattle.osbase.specs.declared.items.CoreMode.TheVariants.{Named, DontCare}
 use Rattle.osseat.specs.declared.histories.Entry.{Entry}
 use Rattle.osseat.specs.Histories.{Object, entry}
-use Rattle.osboard.specs.declared.calls.TheConstants.{MODES}
+use Rattle.osbase.specs.declared.limits.TheConstants.{MODES}
 use Rattle.osboard.specs.declared.calls.ModeSet.{ModeSet}
 use Rattle.osboard.specs.declared.calls.BoardView.{BoardView}
 use Rattle.osboard.specs.declared.calls.BoardState.{BoardState}

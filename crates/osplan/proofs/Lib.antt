@@ -10,3 +10,4 @@ pub mod Separating
 pub mod Cutting
 pub mod EveryKind
 pub mod Least
+pub mod Counters
