@@ -19,7 +19,7 @@ use Rattle.osshape.specs.Shape.{objects_in}
 use Rattle.oscheck.specs.Few.{are_objects_few, is_core_few}
 use Rattle.osshape.proofs.Lists.{list_all-every}
 use Rattle.oscheck.proofs.Counting.{within_split}
-use Rattle.osread.specs.Faults.{failing, first_fault}
+use Rattle.osplan.specs.Fault.{failing, first_fault}
 
 -- a text has sizes of as many objects of a kind as it has objects
 sizes-counted : (objects : List Declaration) (core : CoreText) (kind : ObjectKind) → count_in kind (core_sizes objects core) ≡ length (objects_in kind core)

@@ -22,7 +22,7 @@ use Rattle.osshape.specs.declared.shapes.TaskText.{TaskText}
 use Rattle.osshape.specs.declared.table_shapes.PointText.{PointText}
 use Rattle.osshape.specs.declared.table_shapes.TableStartText.{TableStartText}
 use Rattle.osshape.specs.declared.table_shapes.TableText.{TableText}
-use Rattle.osread.specs.Faults.{Tests}
+use Rattle.osplan.specs.Fault.{Tests}
 use Rattle.osshape.specs.declared.declarations.Declaration.{Declaration}
 use Rattle.oscheck.specs.Action.{is_action_known, is_action_masked}
 use Rattle.osshape.specs.Declarations.{counter_declared, counter_ref, declarations, declared_sizes, id_of, names_of, place_of}

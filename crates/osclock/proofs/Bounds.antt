@@ -16,11 +16,11 @@ use Rattle.osplan.specs.Clocked.{are_clocks_within}
 use Rattle.osplan.specs.Objects.{is_own_object}
 use Rattle.osplan.specs.View.{own_alarm}
 use Rattle.osplan.proofs.Clocked.{clock-parts}
-use Rattle.osplan.proofs.Tests.{passes-at}
-use Rattle.osattach.specs.declared.attached.TheConstants.{COUNTERS}
+use Rattle.osbase.proofs.Places.{passes-at}
+use Rattle.osbase.specs.declared.limits.TheConstants.{COUNTERS}
 use Rattle.osattach.proofs.Members.{list-at as own-list}
 use Rattle.osattach.proofs.Own.{own-inside, those-inside}
-use Rattle.osattach.proofs.Places.{counter-is, counter-place}
+use Rattle.osplan.proofs.Counters.{counter-is, counter-place}
 use Rattle.osattach.proofs.Ranges.{length-table}
 use Rattle.oscount.specs.declared.alarms.Alarm.{Alarm}
 use Rattle.oscount.specs.declared.alarms.Expiry.{Expiry}
@@ -70,7 +70,7 @@ counter-few core s c clocks own = omega (arith, (counter-place core c own).insid
 -- which of them are the counter's own
 pub list-at : (core : Core) (s : ClockState) (c : CounterRef) → AreClocks core s → is_own_object core (counter_object c) ≡ true → get_or s.attached c.index [] ≡ attached_to core c
 list-at core s c clocks own =
-    ap (λ (t : ClockState). get_or t.attached c.index []) clocks.is ∙ own-list core (alarm_family core) c (counter-place core c own)
+    ap (λ (t : ClockState). get_or t.attached c.index []) clocks.is ∙ own-list core.id (alarm_family core) (length core.counters) c (counter-place core c own)
 
 -- ---- values
 

@@ -19,7 +19,7 @@ use Rattle.osplan.specs.View.{own_alarm}
 use Rattle.osplan.proofs.Clocked.{clock-parts}
 use Rattle.osattach.proofs.Members.{stands}
 use Rattle.osattach.proofs.Own.{kept-there, none-changed, one-changed, refers, those-changed}
-use Rattle.osattach.proofs.Places.{counter-apart, counter-other, counter-own, counter-place}
+use Rattle.osplan.proofs.Counters.{counter-apart, counter-other, counter-own, counter-place}
 use Rattle.osattach.proofs.Ranges.{table-within}
 use Rattle.oscount.specs.declared.counters.Counter.{Counter}
 use Rattle.oscount.specs.declared.alarms.Alarm.{Alarm}

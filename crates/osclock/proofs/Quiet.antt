@@ -13,8 +13,8 @@ use Rattle.osbase.specs.History.{Entry, Noted, Counted}
 use Rattle.osbase.specs.Objects.{counter_object}
 use Rattle.osplan.specs.declared.plans.Core.{Core}
 use Rattle.osplan.specs.Objects.{is_own_object}
-use Rattle.osattach.specs.declared.attached.TheConstants.{COUNTERS}
-use Rattle.osattach.proofs.Places.{counter-other}
+use Rattle.osbase.specs.declared.limits.TheConstants.{COUNTERS}
+use Rattle.osplan.proofs.Counters.{counter-other}
 use Rattle.oscount.specs.declared.alarms.Alarm.{Alarm}
 use Rattle.oscount.specs.declared.alarms.Expiry.{Expiry}
 use Rattle.oscount.specs.declared.counters.Counter.{Counter}

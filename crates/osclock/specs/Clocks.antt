@@ -14,8 +14,10 @@ use Rattle.osplan.specs.declared.plans.Counter.{Counter as CounterValue}
 use Rattle.osplan.specs.Clocked.{are_clocks_within}
 use Rattle.osplan.specs.Objects.{is_own_object}
 use Rattle.osplan.specs.View.{own_alarm, own_counter}
-pub use Rattle.osattach.specs.Attached.{counter_ref}
-use Rattle.osattach.specs.Attached.{Family, all_changed, each_by, each_changed, goes_by, refs_of, those_by}
+pub use Rattle.osplan.specs.Counters.{counter_ref}
+use Rattle.osattach.specs.Attached.{all_changed, each_changed}
+use Rattle.osbase.specs.Families.{Family, goes_by, refs_of, those_by}
+use Rattle.osplan.specs.Counters.{each_by}
 use Rattle.oscount.specs.declared.counters.Counter.{Counter}
 use Rattle.oscount.specs.declared.alarms.Alarm.{Alarm}
 use Rattle.oscount.specs.Clocks.{advanced, alarm_at, alarm_beyond, counter_at, counts_until, is_due_next, setting_of}

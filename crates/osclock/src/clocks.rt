@@ -9,18 +9,15 @@ ghost use Rattle.osplan.specs.declared.plans.Counter.{Counter as CounterValue};
 ghost use Rattle.osplan.specs.Clocked.{are_clocks_within};
 ghost use Rattle.osplan.specs.Objects.{is_own_object};
 ghost use Rattle.oscount.specs.Clocks.{counter_at, is_due_next};
-ghost use Rattle.osattach.specs.Attached.{IsObject, each_by};
+ghost use Rattle.osplan.specs.Counters.{IsObject, each_by};
 ghost use Rattle.osclock.specs.Clocks.{AreClocks, IsBounded, IsQuiet, alarm_family, alarm_in, alarm_refs, all_beyond, clocks_by, clocks_of, counter_for, counter_in, counts_to_in, counts_to_value_in, due_after, due_in, is_used, left_in, max_for, max_of, unset};
 
 use arrayvec::ArrayVec;
-use osattach::{Attached, COUNTERS};
-use osbase::{AlarmRef, CounterRef};
+use osattach::Attached;
+use osbase::{ALARMS, AlarmRef, COUNTERS, CounterRef};
 use oscount::{Alarm, Counter};
 use osplan::{Core, own};
 use std::marker::Model;
-
-/// The most alarms of a core.
-pub const ALARMS: usize = 32;
 
 /// Some of a core's alarms, in index order.
 pub type AlarmList = ArrayVec<AlarmRef, ALARMS>;
@@ -230,7 +227,8 @@ fn new_attached(core: &Core) -> Attached<AlarmRef, ALARMS>
     requires { IsTrue (are_clocks_within core.now) }
     ensures { result ≡ each_by core.now (alarm_family core.now) (alarm_refs core.now) }
 {
-    Attached::new(core, core.alarms.len(), |index| object_at(core, index))
+    let counters = core.counters.len();
+    Attached::new(counters, core.alarms.len(), |index| object_at(core, index))
 }
 
 // The counter of the alarm of this index, and its reference.

@@ -22,7 +22,7 @@ use Rattle.osforms.specs.Operation.{op_meant}
 use Rattle.osforms.proofs.Operations.{meant-passes}
 use Rattle.osplan.specs.declared.faults.ConfFault.{ConfFault}
 use Rattle.osplan.specs.declared.faults.ConfFault.TheVariants.{Limit, DuplicateName, UnknownName, WrongCore, BadMask, BadTable, BadScript}
-use Rattle.osread.specs.Faults.{failing}
+use Rattle.osplan.specs.Fault.{failing}
 use Rattle.osshape.specs.declared.shapes.AlarmStartText.{AlarmStartText}
 use Rattle.osshape.specs.declared.shapes.AlarmText.{AlarmText}
 use Rattle.osshape.specs.declared.shapes.ConfigText.{ConfigText}

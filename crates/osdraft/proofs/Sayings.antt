@@ -36,7 +36,7 @@ use Rattle.osshape.specs.declared.shapes.CounterText.{CounterText}
 use Rattle.osshape.specs.declared.shapes.Named.{Named}
 use Rattle.osshape.specs.declared.shapes.ResourceText.{ResourceText}
 use Rattle.osshape.specs.declared.shapes.TaskText.{TaskText}
-use Rattle.osread.specs.Faults.{failing}
+use Rattle.osplan.specs.Fault.{failing}
 use Rattle.osshape.specs.declared.table_shapes.PointText.{PointText}
 use Rattle.osshape.specs.declared.table_shapes.TableStartText.{TableStartText}
 use Rattle.osshape.specs.declared.table_shapes.TableText.{TableText}

@@ -13,11 +13,13 @@ ghost use Rattle.oscheck.specs.Check.{are_operations_readable, is_task_readable,
 ghost use Rattle.osdraft.specs.Meaning.{only_mode, task_plan, resource_plan, counter_plan, start_plan, alarm_plan, core_plan, known_task, known_alarm, known_core, plan_of};
 
 use crate::table_plans::tables_of;
-use osbase::{CoreId, CounterRef, List, ModeId, Name, ObjectKind, Reference, RemoteCall};
-use oscheck::{OPERATIONS, are_alarm_modes, are_mode_names, are_timed, has_core};
+use osbase::{
+    CoreId, CoreMode, CounterRef, List, ModeId, Name, OPERATIONS, ObjectKind, Reference, RemoteCall,
+};
+use oscheck::{are_alarm_modes, are_mode_names, are_timed, has_core};
 use oscript::{Op, Script, action_of_op};
 use osforms::{Places, op_meant};
-use osplan::{Alarm, AlarmStart, Core, CoreMode, Counter, Plan, Resource, Task};
+use osplan::{Alarm, AlarmStart, Core, Counter, Plan, Resource, Task};
 use osread::{PartReader, Reader, Refusal, Text, Whole, read_each, read_parts};
 use osshape::{
     AlarmStartText, AlarmText, ConfigText, CoreText, CounterText, MODE, Objects, ResourceText,

@@ -8,7 +8,7 @@ use Rattle.osbase.specs.declared.histories.Job.{Job}
 use Rattle.osbase.specs.History.{job_count, oldest, same_runner, without_oldest}
 use Rattle.osbase.specs.Sets.{slot_of}
 use Rattle.osbase.proofs.Same.{same_runner-true}
-use Rattle.osbase.specs.declared.turns.TheConstants.{RUNNERS}
+use Rattle.osbase.specs.declared.limits.TheConstants.{RUNNERS}
 use Rattle.osjobs.specs.Live.{AreCounted, place_count}
 
 same-place : (a b : Runner) → same_runner a b ≡ true → nat_eq (slot_of a) (slot_of b) ≡ true

@@ -1,7 +1,7 @@
 -- What the code keeps beside the live jobs.
 use Rattle.std.specs.Prelude.{◌≡◌, ℕ, suc, ◌<◌, ◌==◌, if◌then◌else◌, List, [], ◌∷◌, slice_index_or}
 use Rattle.osbase.specs.declared.histories.Job.{Job}
-use Rattle.osbase.specs.declared.turns.TheConstants.{RUNNERS}
+use Rattle.osbase.specs.declared.limits.TheConstants.{RUNNERS}
 use Rattle.osbase.specs.Sets.{slot_of}
 use Rattle.osjobs.specs.Jobs.{Ascending}
 

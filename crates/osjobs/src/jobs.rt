@@ -14,12 +14,12 @@ use crate::priorities;
 use crate::slots::JobSlot;
 use arrayvec::ArrayVec;
 use osbase::{
-    HeldResource, IsrRef, Item, Job, Mark, RUNNERS, Runner, ServiceId, Status, TaskEvents, TaskRef,
+    HeldResource, IsrRef, Item, Job, Mark, RESOURCES, RUNNERS, Runner, ServiceId, Status, TaskEvents,
+    TaskRef,
 };
 use oscript::{Action, Frame, Op};
 use osevent::{with_awaited, with_cleared, with_none_set, with_set};
 use osplan::Core;
-use osres::RESOURCES;
 use osrunner::Rows;
 use std::marker::Model;
 

@@ -16,7 +16,7 @@ use Rattle.osplan.specs.declared.plans.Isr.{Isr}
 use Rattle.osplan.specs.declared.plans.Resource.{Resource}
 use Rattle.osplan.specs.declared.plans.Table.{Table}
 use Rattle.osplan.specs.declared.plans.Task.{Task}
-use Rattle.osplan.specs.declared.plans.CoreMode.TheVariants.{DontCare}
+use Rattle.osbase.specs.declared.items.CoreMode.TheVariants.{DontCare}
 
 -- The core of this number, if one is configured.
 abbrev pub core_of : Plan → CoreId → Option Core

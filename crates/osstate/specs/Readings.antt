@@ -27,7 +27,7 @@ use Rattle.osplan.specs.declared.plans.Resource.{Resource}
 use Rattle.osplan.specs.declared.plans.Table.{Table}
 use Rattle.osplan.specs.declared.plans.Task.{Task}
 use Rattle.osplan.specs.View.{View, own_alarm, own_counter, own_isr, own_resource, own_table, own_task}
-use Rattle.osbase.specs.declared.turns.TheConstants.{RUNNERS, TASKS}
+use Rattle.osbase.specs.declared.limits.TheConstants.{RUNNERS, TASKS}
 use Rattle.osclock.specs.Clocks.{alarm_ref, counter_ref}
 use Rattle.ostable.specs.Tables.{table_ref}
 use Rattle.osrunner.specs.Rows.{row_in}

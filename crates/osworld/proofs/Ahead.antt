@@ -12,8 +12,8 @@ use Rattle.osbase.specs.declared.marks.Mark.{Mark}
 use Rattle.osbase.specs.declared.histories.Phase.{Phase}
 use Rattle.osbase.specs.History.{History, Took, Printed, began_count, item_count, marks_of, phase_of}
 use Rattle.osbase.specs.Sets.{core_ids, has_core}
-use Rattle.osplan.specs.declared.plans.CoreMode.{CoreMode}
-use Rattle.osplan.specs.declared.plans.CoreMode.TheVariants.{Named}
+use Rattle.osbase.specs.declared.items.CoreMode.{CoreMode}
+use Rattle.osbase.specs.declared.items.CoreMode.TheVariants.{Named}
 use Rattle.osplan.specs.Stimuli.{knows_stimulus}
 use Rattle.osplan.specs.View.{View, is_configured}
 use Rattle.osstate.specs.Readings.{knows_started, next_start, phase_at}

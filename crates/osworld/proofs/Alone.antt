@@ -16,8 +16,8 @@ use Rattle.osbase.specs.Sets.{core_ids, has_core}
 use Rattle.osbase.proofs.Same.{same_core-true, same_core-refl}
 use Rattle.osplan.specs.declared.plans.Plan.{Plan}
 use Rattle.osplan.specs.declared.plans.Core.{Core}
-use Rattle.osplan.specs.declared.plans.CoreMode.{CoreMode}
-use Rattle.osplan.specs.declared.plans.CoreMode.TheVariants.{Named, DontCare}
+use Rattle.osbase.specs.declared.items.CoreMode.{CoreMode}
+use Rattle.osbase.specs.declared.items.CoreMode.TheVariants.{Named, DontCare}
 use Rattle.osplan.specs.Limits.{is_within_limits}
 use Rattle.osplan.proofs.Within.{limit-parts}
 use Rattle.osplan.specs.Separate.{alone_of, cut_of, is_agreed_mode, is_named_elsewhere, is_separate_core, names_mode}

@@ -6,7 +6,7 @@ use Rattle.std.proofs.lemmas.Bool.{false≢true}
 use Rattle.osbase.specs.declared.references.CoreId.{CoreId}
 use Rattle.osbase.specs.declared.messages.Envelope.{Envelope}
 use Rattle.osbase.specs.declared.items.Item.{Item}
-use Rattle.osbase.specs.declared.turns.TheConstants.{CORES}
+use Rattle.osbase.specs.declared.limits.TheConstants.{CORES}
 use Rattle.osbase.specs.History.{History, Took, front_envelope, outbox, posted, received_count, same_core}
 use Rattle.osmail.specs.Mail.{Mail, box_of, with_box}
 use Rattle.osmail.proofs.Boxes.{box_of-with_box_same, box_of-with_box_other}

@@ -31,10 +31,10 @@ use Rattle.osplan.specs.Objects.{posted_at_once}
 use Rattle.osplan.specs.View.{counter_in}
 use Rattle.serde_json.specs.Data.{Data}
 use Rattle.serde_json.specs.Read.{read}
-use Rattle.osread.specs.Faults.{if_faultless}
+use Rattle.osplan.specs.Fault.{if_faultless}
 use Rattle.osdraft.specs.Meaning.{config_of, config_of_shape, plan_of}
 use Rattle.osshape.specs.Shape.{config_shape}
-use Rattle.osread.specs.Faults.{failing}
+use Rattle.osplan.specs.Fault.{failing}
 use Rattle.osshape.specs.declared.declarations.Declaration.{Declaration}
 use Rattle.osshape.specs.declared.shapes.AlarmStartText.{AlarmStartText}
 use Rattle.osshape.specs.declared.shapes.ResourceText.{ResourceText}

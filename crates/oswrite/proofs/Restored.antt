@@ -31,8 +31,8 @@ use Rattle.osplan.specs.declared.plans.Core.{Core}
 use Rattle.osplan.specs.declared.plans.Counter.{Counter}
 use Rattle.osplan.specs.declared.plans.Resource.{Resource}
 use Rattle.osplan.specs.declared.plans.Task.{Task}
-use Rattle.osplan.specs.declared.plans.CoreMode.{CoreMode}
-use Rattle.osplan.specs.declared.plans.CoreMode.TheVariants.{Named, DontCare}
+use Rattle.osbase.specs.declared.items.CoreMode.{CoreMode}
+use Rattle.osbase.specs.declared.items.CoreMode.TheVariants.{Named, DontCare}
 use Rattle.osplan.specs.Limits as limits
 use Rattle.osplan.specs.Limits.{CounterSizes, PointSizes, TableSizes, task_sizes, alarm_sizes, start_sizes, point_sizes, table_sizes, core_sizes, number_of, are_ascending, are_counters_within, is_alarm_within, is_between, is_point_within, is_start, is_table_start_within, is_table_timed, is_table_within, is_task_within, is_timed_by, is_core_within, last_offset}
 use Rattle.osplan.specs.Objects.{alarm_modes, table_actions, table_modes}

@@ -1,6 +1,6 @@
 use Rattle.std.proofs.Common.{◌≡◌, ◌<◌, length, get_or, ap, rules, subst, sym, ◌∙◌}
 use Rattle.std.specs.List.{slice_set}
-use Rattle.osattach.specs.declared.attached.TheConstants.{COUNTERS}
+use Rattle.osbase.specs.declared.limits.TheConstants.{COUNTERS}
 use Rattle.osclock.specs.Clocks.{ClockState}
 use Rattle.osclock.proofs.Beyond.{counted-is}
 use Rattle.osclock.proofs.Bounds.{attached-bounded, attached-inside, counter-inside, counter-within, next-within}
