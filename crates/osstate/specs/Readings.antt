@@ -113,7 +113,7 @@ knows_started h id = has_core (started_cores h) id
 
 -- The phase of this core.
 abbrev pub phase_at : View → History → Phase
-phase_at v h = phase_of v.is_master h
+phase_at v h = phase_of v.around.is_master h
 
 -- The next core of the start list. [AUTOSAR SWS OS 4.x, StartCore; that there is a list is this project's own]
 abbrev pub next_start : View → ℕ → Option CoreId
