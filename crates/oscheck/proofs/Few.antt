@@ -31,7 +31,7 @@ core-few objects core h = list_all-every (λ (kind : ObjectKind). nat_le (length
 
 numbered-few : (t : ConfigText) → is_text_numbered t ≡ true → are_objects_few t ≡ true
 numbered-few t h =
-    let objects = declarations t.cores in
+    let objects = declarations t in
     let whole = and_parts (is_between 1 1 t.version) _ h in
     let cores = and_parts _ (list_all (is_core_by is_task_numbered) (map (core_sizes objects) t.cores)) whole.1 in
     let count = and_parts _ (is_between 1 8 (Some (length (map (core_sizes objects) t.cores)))) cores.0 in

@@ -204,7 +204,7 @@ pub fn are_objects_few(text: &ConfigText) -> bool
 /// Whether the text is of version 1 and within the limits, but for its scripts, whose operations are counted where they
 /// are read.
 pub fn is_numbered(text: &ConfigText, objects: &Objects) -> bool
-    requires objects { objects.now.declared ≡ declarations text.now.cores }
+    requires objects { objects.now.declared ≡ declarations text.now }
     ensures { result ≡ is_text_numbered text.now }
 {
     is_between(1, 1, text.version)
@@ -258,7 +258,7 @@ fn are_numbers_distinct(cores: &[CoreText]) -> bool
 
 /// Whether every core number stands once, and every name.
 pub fn is_each_once(text: &ConfigText, objects: &Objects) -> bool
-    requires objects { objects.now.declared ≡ declarations text.now.cores }
+    requires objects { objects.now.declared ≡ declarations text.now }
     ensures { result ≡ is_each_once text.now }
 {
     are_numbers_distinct(text.cores.as_slice()) && objects.are_named_apart()
@@ -340,7 +340,7 @@ fn are_cores_known(objects: &Objects, cores: &[CoreText]) -> bool
 }
 
 fn are_known(text: &ConfigText, objects: &Objects) -> bool
-    requires objects { objects.now.declared ≡ declarations text.now.cores }
+    requires objects { objects.now.declared ≡ declarations text.now }
     ensures { result ≡ are_known text.now }
 {
     let cores = text.cores.as_slice();
@@ -399,7 +399,7 @@ fn is_core_near(objects: &Objects, core: &CoreText) -> bool
 }
 
 fn are_near(text: &ConfigText, objects: &Objects) -> bool
-    requires objects { objects.now.declared ≡ declarations text.now.cores }
+    requires objects { objects.now.declared ≡ declarations text.now }
     ensures { result ≡ are_near text.now }
 {
     text.cores
@@ -452,7 +452,7 @@ fn are_masks(text: &ConfigText) -> bool
 
 /// Whether the points of each table come in order, with delays that its counter admits.
 pub fn are_timed(text: &ConfigText, objects: &Objects) -> bool
-    requires objects { objects.now.declared ≡ declarations text.now.cores }
+    requires objects { objects.now.declared ≡ declarations text.now }
     ensures { result ≡ are_timed text.now }
 {
     text.cores
@@ -465,7 +465,7 @@ pub fn are_timed(text: &ConfigText, objects: &Objects) -> bool
 // out of its range, the points of some table of which do not come in order, or some script or action of which is not in
 // form and in range.
 fn fault_of_names(text: &ConfigText, objects: &Objects) -> ConfFault
-    requires objects { objects.now.declared ≡ declarations text.now.cores }
+    requires objects { objects.now.declared ≡ declarations text.now }
     requires checked { (is_text_within text.now && is_each_once text.now) ≡ true }
     requires faulty { (are_known text.now && are_near text.now && are_masks text.now && are_timed text.now && are_operations text.now) ≡ false }
     ensures { first_fault (failing (tests_of text.now)) ≡ Some result }
@@ -486,7 +486,7 @@ fn fault_of_names(text: &ConfigText, objects: &Objects) -> ConfFault
 /// The fault of a text within its numbers' limits that means no plan.
 #[tactic(auto, using(crate::proofs::Counting::within_split, crate::proofs::Counting::readable_split))]
 pub fn fault_of(text: &ConfigText, objects: &Objects) -> ConfFault
-    requires objects { objects.now.declared ≡ declarations text.now.cores }
+    requires objects { objects.now.declared ≡ declarations text.now }
     requires numbered { is_text_numbered text.now ≡ true }
     requires faulty { (is_each_once text.now && (are_readable text.now && are_near text.now && are_masks text.now && are_timed text.now && are_operations text.now)) ≡ false }
     ensures { first_fault (failing (tests_of text.now)) ≡ Some result }

@@ -122,7 +122,7 @@ plan_of t = record {
   cap = byte_of t.cap;
   master = number_id t.master;
   modes = mode_name ∷ [];
-  cores = map (core_plan (declarations t.cores)) t.cores;
+  cores = map (core_plan (declarations t)) t.cores;
 }
 
 -- ---- a text's faults, in ascending order: past the first or the second nothing more is judged

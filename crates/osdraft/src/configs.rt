@@ -49,7 +49,7 @@ fn plan_if_faultless(alloc: Global, text: &ConfigText) -> Result<Plan, ConfFault
     if !are_objects_few(text) {
         return Err(ConfFault::Limit);
     }
-    let objects = Objects::of(alloc, text.cores.as_slice())?;
+    let objects = Objects::of(alloc, text)?;
     if !is_numbered(text, &objects) {
         return Err(ConfFault::Limit);
     }

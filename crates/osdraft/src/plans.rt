@@ -327,7 +327,7 @@ pub fn plan_of<'e>(
     text: &'e ConfigText<'e>,
     objects: &Objects<'e>,
 ) -> Result<Plan, Refusal>
-    requires objects { objects.now.declared ≡ declarations text.now.cores }
+    requires objects { objects.now.declared ≡ declarations text.now }
     ensures { Gives (λ x. x) result (value_if (are_readable text.now && are_near text.now && are_masks text.now && are_timed text.now && are_operations text.now) (plan_of text.now)) }
 {
     let cores = text.cores.as_slice();

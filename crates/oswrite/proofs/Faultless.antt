@@ -58,7 +58,7 @@ use Rattle.oswrite.proofs.Restored.{is_kept_task, is_kept_action, is_kept_alarm,
 
 module _ (plan : Plan) (inside : IsTrue (limits.is_within_limits plan)) (sayable : IsTrue (said.is_expressible plan)) where
   abbrev objects : List Declaration
-  objects = declarations (map (core_said plan) plan.cores)
+  objects = declarations (config_said plan)
 
   abbrev bounds : LimitParts plan
   bounds = limit-parts plan inside

@@ -214,7 +214,7 @@ kept-cores plan inside sayable =
 
 module _ (plan : Plan) (inside : IsTrue (limits.is_within_limits plan)) (sayable : IsTrue (said.is_expressible plan)) where
   abbrev objects : List Declaration
-  objects = declarations (map (core_said plan) plan.cores)
+  objects = declarations (config_said plan)
 
   abbrev parts : TextParts plan
   parts = text-parts plan sayable
@@ -317,7 +317,7 @@ module _ (plan : Plan) (inside : IsTrue (limits.is_within_limits plan)) (sayable
   pub counter-named : (id : CoreId) (counter : CounterRef) → limits.is_object plan (counter_object counter) ≡ true → NamedCounter plan objects id (counter_name plan counter)
   counter-named id counter known =
       let bounds = limit-parts plan inside in
-      named-counter plan (map (core_said plan) plan.cores) id (counter_name plan counter) apart (cores-have plan.cores (kept-cores plan inside sayable) (each-found plan.cores bounds.distinct)) (ap is_some (counter-placed counter known))
+      named-counter plan (config_said plan) id (counter_name plan counter) apart (cores-have plan.cores (kept-cores plan inside sayable) (each-found plan.cores bounds.distinct)) (ap is_some (counter-placed counter known))
 
   auto-back : (id : CoreId) (counter : CounterRef) (auto : Option AlarmStart) → limits.is_object plan (counter_object counter) ≡ true → is_alarm_within (option_map (start_sizes (option_map limits.counter_sizes (counter_in plan counter))) auto) ≡ true
       → list_all said.is_only_mode (option_map_or (λ (auto : AlarmStart). auto.modes) auto []) ≡ true → option_map start_plan (option_map (start_said plan) auto) ≡ auto
