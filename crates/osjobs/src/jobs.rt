@@ -14,8 +14,8 @@ use crate::priorities;
 use crate::slots::JobSlot;
 use arrayvec::ArrayVec;
 use osbase::{
-    HeldResource, IsrRef, Item, Job, Mark, RESOURCES, RUNNERS, Runner, ServiceId, Status, TaskEvents,
-    TaskRef,
+    HeldResource, IsrRef, Item, Job, Mark, RESOURCES, RUNNERS, Runner, ServiceId, Status,
+    TaskEvents, TaskRef,
 };
 use oscript::{Action, Frame, Op};
 use osevent::{with_awaited, with_cleared, with_none_set, with_set};
@@ -78,11 +78,7 @@ impl<const P: usize, const J: usize> Jobs<P, J> {
         ensures { self.new ≡ jobs_by [] (Printed (Mark.Activated task)) stamp self.old }
     {
         let runner = Runner::Task(task);
-        live::push(
-            &mut self.jobs,
-            &mut self.counts,
-            Job { runner, stamp },
-        );
+        live::push(&mut self.jobs, &mut self.counts, Job { runner, stamp });
         let events = self.rows.events(runner);
         self.rows.put_events(runner, with_none_set(events));
     }

@@ -20,6 +20,6 @@ returns-clause-counted g c =
     let found : oldest c.args.runner c.args.jobs.now.items ≡ Some c.remove-slot.result = oldest-at _ _ c.as_slice-2.result.now c.in_ok-place.place _ c.as_slice-2.ensures.value c.in_ok-place.ensures.job c.in_ok-place.ensures.within c.remove-slot.ensures.value in
     let rest : c.remove-slot.new.self.items ≡ without_oldest c.args.runner c.args.jobs.now.items = search rules in
     elim c.if-place-lt-RUNNERS.branch [
-      then-place-lt-RUNNERS w ↦ rw (w.counts-is, rest, c.slot-place.ensures) (counted-fewer c.args.jobs.now.items c.args.counts.now c.args.runner c.remove-slot.result c.requires.counted found (search rules) (search rules))
+      | then-place-lt-RUNNERS w ↦ rw (w.counts-is, rest, c.slot-place.ensures) (counted-fewer c.args.jobs.now.items c.args.counts.now c.args.runner c.remove-slot.result c.requires.counted found (search rules) (search rules))
       | else-place-lt-RUNNERS w ↦ rw (w.counts-is, rest) (counted-without c.args.jobs.now.items c.args.counts.now c.args.runner c.remove-slot.result c.requires.counted found (search rules))
     ]
