@@ -7,7 +7,7 @@ use Rattle.osplan.specs.declared.plans.Plan.{Plan}
 use Rattle.osplan.specs.declared.faults.ConfFault.{ConfFault}
 use Rattle.osplan.specs.declared.faults.ConfFault.TheVariants.{NoMemory}
 use Rattle.osgiven.specs.Given.{stimuli_meant}
-use Rattle.osread.specs.Faults.{IsLeast}
+use Rattle.osplan.specs.Fault.{IsLeast}
 use Rattle.osdraft.specs.Meaning.{config_of}
 use Rattle.mcos.specs.declared.faults.Fault.{Fault}
 use Rattle.mcos.specs.declared.faults.Fault.TheVariants.{Text}

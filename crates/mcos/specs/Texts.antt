@@ -5,7 +5,7 @@ use Rattle.std.specs.Str.{is_utf8}
 use Rattle.std.specs.declared.alloc.Global.{Global}
 use Rattle.osplan.specs.declared.faults.ConfFault.{ConfFault}
 use Rattle.osplan.specs.declared.faults.ConfFault.TheVariants.{NotJson}
-use Rattle.osread.specs.Faults.{IsLeast}
+use Rattle.osplan.specs.Fault.{IsLeast}
 use Rattle.mcos.specs.declared.faults.Fault.{Fault}
 use Rattle.mcos.specs.declared.faults.Fault.TheVariants.{Text, Unreadable}
 

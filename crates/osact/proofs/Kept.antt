@@ -18,7 +18,7 @@ use Rattle.osbase.specs.Answers.{reply}
 use Rattle.osbase.specs.History.{Entry, History, Took, Printed, Noted, Opened, Queued, same_core}
 use Rattle.osbase.specs.Marks.{core_of_runner, names_only}
 use Rattle.osplan.specs.declared.plans.Core.{Core}
-use Rattle.osplan.specs.View.{View}
+use Rattle.osplan.specs.View.{Around, View}
 use Rattle.ostable.specs.Waiting.{are_own}
 use Rattle.osstate.specs.Readings.{knows_started}
 use Rattle.osact.specs.Acts.{Act, Acts, Prints, Notes, Sends, nothing, one_then, both, when, if_started, look, act, does, for_each}
@@ -34,9 +34,9 @@ anybody core = true
 abbrev pub nobody : CoreId → Bool
 nobody core = false
 
--- What a core sees that differs only in who is the master and which cores there are.
-abbrev pub seen_as : View → Bool → List CoreId → View
-seen_as v master ids = record v { is_master = master; cores = ids }
+-- What a core sees that differs only in what is around it.
+abbrev pub seen_as : View → Around → View
+seen_as v around = record v { around = around }
 
 -- The core is the own one, or one that may be asked.
 abbrev pub is_within : View → (CoreId → Bool) → CoreId → Bool
@@ -96,12 +96,12 @@ pub record KeepsEntries (l : Leave) (R : History → History → Type 0) : Type 
   pub replied : (core : CoreId) (s : Status) (value : Option ℤ) (h k : History) → l.answered core ≡ true → R h k → R (act (Sends core (reply s value)) h) (act (Sends core (reply s value)) k)
   pub opened : (call : OpenCall) (h k : History) → may_await l.may call.awaits ≡ true → R h k → R (Noted (Opened call) ∷ h) (Noted (Opened call) ∷ k)
 
--- A relation of histories that they keep, and where it holds the core reads the same. The second history is that of a core that sees
--- another master and other cores.
-pub record IsKept (l : Leave) (master : Bool) (ids : List CoreId) (R : History → History → Type 0) : Type 0 where
+-- A relation of histories that they keep, and where it holds the core reads the same. The second history is that of a core
+-- with this around it.
+pub record IsKept (l : Leave) (around : Around) (R : History → History → Type 0) : Type 0 where
   pub holds : KeepsEntries l R
   pub started : (core : CoreId) (h k : History) → is_within l.view l.may core ≡ true → R h k → knows_started h core ≡ knows_started k core
-  pub reads : (h k : History) → R h k → seen_of l.view h ≡ seen_of (seen_as l.view master ids) k
+  pub reads : (h k : History) → R h k → seen_of l.view h ≡ seen_of (seen_as l.view around) k
   pub seen : (h k : History) → R h k → IsSeen l (seen_of l.view h)
 
 module _ (l : Leave) where
@@ -116,7 +116,7 @@ module _ (l : Leave) where
 
   -- ---- the law
 
-  module _ (master : Bool) (ids : List CoreId) (R : History → History → Type 0) (kept : IsKept l master ids R) where
+  module _ (around : Around) (R : History → History → Type 0) (kept : IsKept l around R) where
     one-kept : (a : Act) → is_allowed l a ≡ true → (h k : History) → R h k → R (act a h) (act a k)
     one-kept (Prints m) ok h k p = kept.holds.local (Printed m) h k ok p
     one-kept (Notes (Opened call)) ok h k p = kept.holds.opened call h k ok p
@@ -130,16 +130,16 @@ module _ (l : Leave) where
     either true h h' k k' p q = p refl
     either false h h' k k' p q = q refl
 
-    pub kept-by : (x : Acts) → AreAllowed x → (h k : History) → R h k → R (does x l.view h) (does x (seen_as l.view master ids) k)
+    pub kept-by : (x : Acts) → AreAllowed x → (h k : History) → R h k → R (does x l.view h) (does x (seen_as l.view around) k)
     kept-by nothing ok h k p = p
     kept-by (one_then a x) ok h k p = kept-by x ok.1 (act a h) (act a k) (one-kept a ok.0 h k p)
-    kept-by (both x y) ok h k p = kept-by y ok.1 (does x l.view h) (does x (seen_as l.view master ids) k) (kept-by x ok.0 h k p)
-    kept-by (when b x y) ok h k p = either b (does x l.view h) (does y l.view h) (does x (seen_as l.view master ids) k) (does y (seen_as l.view master ids) k) (λ e. kept-by x (ok.0 e) h k p) (λ e. kept-by y (ok.1 e) h k p)
+    kept-by (both x y) ok h k p = kept-by y ok.1 (does x l.view h) (does x (seen_as l.view around) k) (kept-by x ok.0 h k p)
+    kept-by (when b x y) ok h k p = either b (does x l.view h) (does y l.view h) (does x (seen_as l.view around) k) (does y (seen_as l.view around) k) (λ e. kept-by x (ok.0 e) h k p) (λ e. kept-by y (ok.1 e) h k p)
     kept-by (if_started core x y) ok h k p =
-        subst (λ (b : Bool). R (cond (knows_started h core) (does x l.view h) (does y l.view h)) (cond b (does x (seen_as l.view master ids) k) (does y (seen_as l.view master ids) k))) (kept.started core h k ok.0 p)
-        (either (knows_started h core) (does x l.view h) (does y l.view h) (does x (seen_as l.view master ids) k) (does y (seen_as l.view master ids) k) (λ e. kept-by x ok.1.0 h k p) (λ e. kept-by y ok.1.1 h k p))
+        subst (λ (b : Bool). R (cond (knows_started h core) (does x l.view h) (does y l.view h)) (cond b (does x (seen_as l.view around) k) (does y (seen_as l.view around) k))) (kept.started core h k ok.0 p)
+        (either (knows_started h core) (does x l.view h) (does y l.view h) (does x (seen_as l.view around) k) (does y (seen_as l.view around) k) (λ e. kept-by x ok.1.0 h k p) (λ e. kept-by y ok.1.1 h k p))
     kept-by (look f) ok h k p =
-        subst (λ (s : Seen). R (does (f (seen_of l.view h)) l.view h) (does (f s) (seen_as l.view master ids) k)) (kept.reads h k p) (kept-by (f (seen_of l.view h)) (ok (seen_of l.view h) (kept.seen h k p)) h k p)
+        subst (λ (s : Seen). R (does (f (seen_of l.view h)) l.view h) (does (f s) (seen_as l.view around) k)) (kept.reads h k p) (kept-by (f (seen_of l.view h)) (ok (seen_of l.view h) (kept.seen h k p)) h k p)
 
   -- ---- the parts of a service
 

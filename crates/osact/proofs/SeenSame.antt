@@ -2,7 +2,6 @@
 use Rattle.std.proofs.Common.{◌≡◌, ℕ, Bool, None, List, filter, filter_map, find, option_map}
 use Rattle.std.specs.Option.{option_map_or}
 use Rattle.osbase.specs.declared.references.AlarmRef.{AlarmRef}
-use Rattle.osbase.specs.declared.references.CoreId.{CoreId}
 use Rattle.osbase.specs.declared.references.CounterRef.{CounterRef}
 use Rattle.osbase.specs.declared.references.TableRef.{TableRef}
 use Rattle.osbase.specs.declared.references.Runner.{Runner}
@@ -11,7 +10,7 @@ use Rattle.osbase.specs.Counting.{Stopped, alarm_of, counted_once, counts_of, co
 use Rattle.osbase.specs.History.{History, agreement_of, job_count, live_jobs, open_call}
 use Rattle.osplan.specs.declared.plans.Alarm.{Alarm}
 use Rattle.osplan.specs.declared.plans.Table.{Table}
-use Rattle.osplan.specs.View.{View, own_alarm, own_table}
+use Rattle.osplan.specs.View.{Around, View, own_alarm, own_table}
 use Rattle.osclock.specs.Clocks.{attached_to, counts_to_value_by, max_for, max_of, setting_by, value_by}
 use Rattle.ostable.specs.Ahead.{due_at}
 use Rattle.ostable.specs.Tables.{due_by, due_table, next_by, state_by, table_refs, timed_by, waits_for}
@@ -50,9 +49,9 @@ module _ (v : View) (h k : History) (same : ReadsSame v h k) where
   due-same : (s : TableRef) → due_by v.own s h ≡ due_by v.own s k
   due-same s = λ i. option_map_or (λ (x : Table). due_at x (counted_once (same.tables x.counter s i))) (own_table v.own s) None
 
-  -- So the core sees the same, whoever is the master, and whichever cores there are.
-  pub seen-same : (master : Bool) (ids : List CoreId) → seen_of v h ≡ seen_of (seen_as v master ids) k
-  seen-same master ids = λ i. record {
+  -- So the core sees the same, whatever is around it.
+  pub seen-same : (around : Around) → seen_of v h ≡ seen_of (seen_as v around) k
+  seen-same around = λ i. record {
     id = v.core;
     core = v.own;
     jobs = λ r. same.jobs r i;

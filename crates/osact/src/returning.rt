@@ -2,7 +2,7 @@
 
 ghost use Rattle.std.specs.Prelude.{IsTrue, ◌≡◌, ◌<◌, None, length};
 ghost use Rattle.osbase.specs.declared.statuses.Status.TheVariants.{EOk};
-ghost use Rattle.osbase.specs.declared.turns.TheConstants.{CORES};
+ghost use Rattle.osbase.specs.declared.limits.TheConstants.{CORES};
 ghost use Rattle.osbase.specs.Answers.{returned};
 ghost use Rattle.osjobs.specs.Jobs.{is_plain};
 ghost use Rattle.osstate.specs.Does.{Effects, HasRoom};

@@ -1,5 +1,4 @@
 pub mod Ranges
-pub mod Places
 pub mod Filling
 pub mod Sums
 pub mod Members

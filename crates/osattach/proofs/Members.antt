@@ -6,14 +6,15 @@ use Rattle.std.proofs.lemmas.Bool.{and_from, false_from_ne_true, false≢true}
 use Rattle.std.proofs.lemmas.List.Elements.{All-weaker, filter-append, filter_passes}
 use Rattle.std.proofs.lemmas.List.{append-nil}
 use Rattle.std.proofs.lemmas.List.Sums.{sum_by-le-sum_by}
+use Rattle.osbase.specs.declared.references.CoreId.{CoreId}
 use Rattle.osbase.specs.declared.references.CounterRef.{CounterRef}
 use Rattle.osbase.specs.Counting.{same_counter}
+use Rattle.osbase.specs.Families.{Family, counter_at, goes_by, refs_of, those_by}
 use Rattle.osbase.specs.Sets.{numbers_from}
+use Rattle.osbase.proofs.Places.{CounterPlace}
 use Rattle.osbase.proofs.Same.{same_counter-refl, same_counter-true}
 use Rattle.osbase.proofs.Tables.{table-at, table-set}
-use Rattle.osplan.specs.declared.plans.Core.{Core}
-use Rattle.osattach.specs.Attached.{Family, IsMember, counter_ref, each_by, firsts_by, goes_by, refs_of, those_by}
-use Rattle.osattach.proofs.Places.{CounterPlace}
+use Rattle.osattach.specs.Attached.{IsMember, firsts_by}
 use Rattle.osattach.proofs.Ranges.{repeated, table-more}
 use Rattle.osattach.proofs.Sums.{at-most-once, sum-across, sum-kept}
 
@@ -33,12 +34,12 @@ stands {R} {X} f c r on = at (f.own r) refl on
     at (Some x) is on = record { value = x; is = is; by = same_counter-true c (f.counter x) on }
 
 -- and to no other
-pub goes-once : {R X : Type 0} (f : Family R X) (core : Core) (m n : ℕ) (r : R) → goes_by f (counter_ref core m) r ≡ true → goes_by f (counter_ref core n) r ≡ true → m ≡ n
+pub goes-once : {R X : Type 0} (f : Family R X) (core : CoreId) (m n : ℕ) (r : R) → goes_by f (counter_at core m) r ≡ true → goes_by f (counter_at core n) r ≡ true → m ≡ n
 goes-once {R} {X} f core m n r one other =
-    ap (λ (c : CounterRef). c.index) ((stands f (counter_ref core m) r one).by ∙ same ∙ sym (stands f (counter_ref core n) r other).by)
+    ap (λ (c : CounterRef). c.index) ((stands f (counter_at core m) r one).by ∙ same ∙ sym (stands f (counter_at core n) r other).by)
   where
-    same : f.counter (stands f (counter_ref core m) r one).value ≡ f.counter (stands f (counter_ref core n) r other).value
-    same = ap (λ (o : Option X). option_map_or f.counter o (counter_ref core m)) (sym (stands f (counter_ref core m) r one).is ∙ (stands f (counter_ref core n) r other).is)
+    same : f.counter (stands f (counter_at core m) r one).value ≡ f.counter (stands f (counter_at core n) r other).value
+    same = ap (λ (o : Option X). option_map_or f.counter o (counter_at core m)) (sym (stands f (counter_at core m) r one).is ∙ (stands f (counter_at core n) r other).is)
 
 -- ---- all of them
 
@@ -66,12 +67,12 @@ kept-passes q t (x ∷ xs) each = by (q x) refl (kept-passes q t xs each)
 
 -- ---- the lists of them, object by object
 
-module _ {R : Type 0} (core : Core) (goes : CounterRef → R → Bool) (ref : ℕ → R) where
+module _ {R : Type 0} (core : CoreId) (counters : ℕ) (goes : CounterRef → R → Bool) (ref : ℕ → R) where
   abbrev firsts : ℕ → List (List R)
-  firsts n = firsts_by core goes ref n
+  firsts n = firsts_by core counters goes ref n
 
-  pub firsts-none : (count : ℕ) → count ≡ length core.counters → replicate count [] ≡ firsts 0
-  firsts-none count is = ap (λ n. replicate n []) is ∙ repeated [] (λ (k : ℕ). filter (goes (counter_ref core k)) []) 0 (length core.counters) (λ k. refl)
+  pub firsts-none : (count : ℕ) → count ≡ counters → replicate count [] ≡ firsts 0
+  firsts-none count is = ap (λ n. replicate n []) is ∙ repeated [] (λ (k : ℕ). filter (goes (counter_at core k)) []) 0 counters (λ k. refl)
 
   kept-more : (c : CounterRef) (n : ℕ) (b : Bool) → goes c (ref n) ≡ b → filter (goes c) (map ref (numbers_from 0 (n + 1))) ≡ filter (goes c) (map ref (numbers_from 0 n)) ++ cond b (ref n ∷ []) []
   kept-more c n b is =
@@ -80,20 +81,20 @@ module _ {R : Type 0} (core : Core) (goes : CounterRef → R → Bool) (ref : �
       ∙ ap (λ d. filter (goes c) (map ref (numbers_from 0 n)) ++ cond d (ref n ∷ []) []) is
 
   -- the next object, which goes by a counter of the core
-  pub firsts-more : (n : ℕ) (counter : CounterRef) (r : R) → IsMember goes ref n counter r → CounterPlace core counter → slice_set (firsts n) counter.index (get_or (firsts n) counter.index [] ++ r ∷ []) ≡ firsts (n + 1)
+  pub firsts-more : (n : ℕ) (counter : CounterRef) (r : R) → IsMember core goes ref n counter r → CounterPlace core counters counter → slice_set (firsts n) counter.index (get_or (firsts n) counter.index [] ++ r ∷ []) ≡ firsts (n + 1)
   firsts-more n counter r next place =
-      ap (λ (l : List R). slice_set (firsts n) counter.index (l ++ r ∷ [])) (table-at list 0 (length core.counters) counter.index counter.index [] (omega arith) place.inside)
+      ap (λ (l : List R). slice_set (firsts n) counter.index (l ++ r ∷ [])) (table-at list 0 counters counter.index counter.index [] (omega arith) place.inside)
       ∙ ap (λ (x : R). slice_set (firsts n) counter.index (list counter.index ++ x ∷ [])) next.here
-      ∙ ap (slice_set (firsts n) counter.index) (sym (kept-more (counter_ref core counter.index) n true (next.by (counter_ref core counter.index) ∙ ap (λ (c : CounterRef). same_counter c counter) (sym place.ref) ∙ same_counter-refl counter)))
-      ∙ table-set list (λ (k : ℕ). filter (goes (counter_ref core k)) (map ref (numbers_from 0 (n + 1)))) 0 (length core.counters) counter.index counter.index (omega arith) place.inside others
+      ∙ ap (slice_set (firsts n) counter.index) (sym (kept-more (counter_at core counter.index) n true (next.by (counter_at core counter.index) ∙ ap (λ (c : CounterRef). same_counter c counter) (sym place.ref) ∙ same_counter-refl counter)))
+      ∙ table-set list (λ (k : ℕ). filter (goes (counter_at core k)) (map ref (numbers_from 0 (n + 1)))) 0 counters counter.index counter.index (omega arith) place.inside others
     where
       list : ℕ → List R
-      list k = filter (goes (counter_ref core k)) (map ref (numbers_from 0 n))
+      list k = filter (goes (counter_at core k)) (map ref (numbers_from 0 n))
 
-      others : (m : ℕ) → (m ≡ counter.index → ⊥) → list m ≡ filter (goes (counter_ref core m)) (map ref (numbers_from 0 (n + 1)))
+      others : (m : ℕ) → (m ≡ counter.index → ⊥) → list m ≡ filter (goes (counter_at core m)) (map ref (numbers_from 0 (n + 1)))
       others m other =
           sym (append-nil (list m))
-          ∙ sym (kept-more (counter_ref core m) n false (next.by (counter_ref core m) ∙ false_from_ne_true (same_counter (counter_ref core m) counter) (λ e. other (ap (λ (c : CounterRef). c.index) (same_counter-true (counter_ref core m) counter e)))))
+          ∙ sym (kept-more (counter_at core m) n false (next.by (counter_at core m) ∙ false_from_ne_true (same_counter (counter_at core m) counter) (λ e. other (ap (λ (c : CounterRef). c.index) (same_counter-true (counter_at core m) counter e)))))
 
 -- no list has more than there are objects
 pub few-more : {R : Type 0} (lists : List (List R)) (i n : ℕ) (r : R) → ((k : ℕ) → length (get_or lists k []) ≤ n) → (k : ℕ) → length (get_or (slice_set lists i (get_or lists i [] ++ r ∷ [])) k []) ≤ n + 1
@@ -111,20 +112,20 @@ none-few R zero k = omega arith
 none-few R (suc count) zero = omega arith
 none-few R (suc count) (suc k) = none-few R count k
 
-module _ {R X : Type 0} (core : Core) (f : Family R X) where
+module _ {R X : Type 0} (core : CoreId) (f : Family R X) where
   -- those of an own counter
-  pub list-at : (c : CounterRef) → CounterPlace core c → get_or (each_by core f (refs_of f)) c.index [] ≡ those_by f c
-  list-at c place =
-      table-at (λ (n : ℕ). those_by f (counter_ref core n)) 0 (length core.counters) c.index c.index [] (omega arith) place.inside
+  pub list-at : (counters : ℕ) (c : CounterRef) → CounterPlace core counters c → get_or (firsts_by core counters (goes_by f) f.ref f.count) c.index [] ≡ those_by f c
+  list-at counters c place =
+      table-at (λ (n : ℕ). those_by f (counter_at core n)) 0 counters c.index c.index [] (omega arith) place.inside
       ∙ ap (those_by f) (sym place.ref)
 
   -- ---- each goes by at most one counter: what those of all counters add up to
 
-  pub portions : (g : R → ℕ) (count : ℕ) → sum_by (λ (n : ℕ). sum_by g (those_by f (counter_ref core n))) (numbers_from 0 count) ≤ sum_by g (refs_of f)
+  pub portions : (g : R → ℕ) (count : ℕ) → sum_by (λ (n : ℕ). sum_by g (those_by f (counter_at core n))) (numbers_from 0 count) ≤ sum_by g (refs_of f)
   portions g count =
       omega (
         arith,
-        sum_by-le-sum_by (λ (n : ℕ). sum_by g (those_by f (counter_ref core n))) (λ (n : ℕ). sum_by (λ (r : R). cond (goes_by f (counter_ref core n) r) (g r) 0) (refs_of f)) (numbers_from 0 count) (λ n. omega (arith, sum-kept (goes_by f (counter_ref core n)) g (refs_of f))),
-        sum-across (λ (n : ℕ) (r : R). cond (goes_by f (counter_ref core n) r) (g r) 0) (numbers_from 0 count) (refs_of f),
-        sum_by-le-sum_by (λ (r : R). sum_by (λ (n : ℕ). cond (goes_by f (counter_ref core n) r) (g r) 0) (numbers_from 0 count)) g (refs_of f) (λ r. at-most-once (λ (n : ℕ). goes_by f (counter_ref core n) r) (g r) 0 count (λ m n. goes-once f core m n r)),
+        sum_by-le-sum_by (λ (n : ℕ). sum_by g (those_by f (counter_at core n))) (λ (n : ℕ). sum_by (λ (r : R). cond (goes_by f (counter_at core n) r) (g r) 0) (refs_of f)) (numbers_from 0 count) (λ n. omega (arith, sum-kept (goes_by f (counter_at core n)) g (refs_of f))),
+        sum-across (λ (n : ℕ) (r : R). cond (goes_by f (counter_at core n) r) (g r) 0) (numbers_from 0 count) (refs_of f),
+        sum_by-le-sum_by (λ (r : R). sum_by (λ (n : ℕ). cond (goes_by f (counter_at core n) r) (g r) 0) (numbers_from 0 count)) g (refs_of f) (λ r. at-most-once (λ (n : ℕ). goes_by f (counter_at core n) r) (g r) 0 count (λ m n. goes-once f core m n r)),
       )

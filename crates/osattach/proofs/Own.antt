@@ -3,59 +3,57 @@ use Rattle.std.proofs.Common.{◌≡◌, ℕ, ◌<◌, ◌&&◌, nat_lt, Bool, t
 use Rattle.std.specs.List.{list_all, slice_get, slice_set}
 use Rattle.std.specs.Option.{option_map_or}
 use Rattle.std.proofs.lemmas.Option.{slice_get-get_or}
-use Rattle.osbase.specs.declared.objects.ObjectKind.{ObjectKind}
 use Rattle.osbase.specs.declared.objects.Place.{Place}
+use Rattle.osbase.specs.declared.references.CoreId.{CoreId}
 use Rattle.osbase.specs.declared.references.CounterRef.{CounterRef}
 use Rattle.osbase.specs.Counting.{same_counter}
 use Rattle.osbase.specs.History.{same_core}
-use Rattle.osbase.specs.Objects.{counter_object, object_at, place_on, same_place}
+use Rattle.osbase.specs.Families.{Family, IsObjectOf, goes_by, is_place_on, refs_of, those_by}
+use Rattle.osbase.specs.Objects.{counter_place, place_on, same_place}
 use Rattle.osbase.specs.Sets.{numbers_from}
+use Rattle.osbase.proofs.Places.{apart, elsewhere, found-inside, own-at, own-passes, place-inside, place-is, place-of-counter, some-there, there}
 use Rattle.osbase.proofs.Tables.{table-at, table-set}
-use Rattle.osplan.specs.declared.plans.Core.{Core}
-use Rattle.osplan.specs.Objects.{is_own_object, object_count}
-use Rattle.osplan.proofs.Tests.{found-inside}
-use Rattle.osattach.specs.Attached.{Family, IsMember, IsObject, all_changed, changed_by, goes_by, refs_of, those_by}
+use Rattle.osattach.specs.Attached.{IsMember, all_changed, changed_by}
 use Rattle.osattach.proofs.Members.{kept-all, stands}
-use Rattle.osattach.proofs.Places.{apart, elsewhere, own-at, own-passes, place-inside, place-is, some-there, there}
 use Rattle.osattach.proofs.Ranges.{table-within}
 
--- A family that is all of a core's objects of one kind, by their places.
-pub record Placed {R X : Type 0} (core : Core) (f : Family R X) : Type 0 where
-  pub kind : ObjectKind
+-- A family that is all objects of one kind on a core with so many counters, by their places.
+pub record Placed {R X : Type 0} (core : CoreId) (counters : ℕ) (f : Family R X) : Type 0 where
   pub place : R → Place
   pub plans : List X
-  pub ref : (r : R) → place r ≡ place_on core.id (place r).index → r ≡ f.ref (place r).index
-  pub at : (n : ℕ) → place (f.ref n) ≡ place_on core.id n
-  pub own : (r : R) → f.own r ≡ cond (same_core (place r).core core.id) (slice_get plans (place r).index) None
-  pub many : object_count kind core ≡ f.count
+  pub ref : (r : R) → place r ≡ place_on core (place r).index → r ≡ f.ref (place r).index
+  pub at : (n : ℕ) → place (f.ref n) ≡ place_on core n
+  pub own : (r : R) → f.own r ≡ cond (same_core (place r).core core) (slice_get plans (place r).index) None
   pub all : f.count ≡ length plans
 
-module _ {R X : Type 0} {core : Core} {f : Family R X} (p : Placed core f) where
+module _ {R X : Type 0} {core : CoreId} {counters : ℕ} {f : Family R X} (p : Placed core counters f) where
   abbrev pub is_own : R → Bool
-  is_own r = is_own_object core (object_at p.kind (p.place r))
+  is_own r = is_place_on core f.count (p.place r)
+
+  abbrev is_known : CounterRef → Bool
+  is_known c = is_place_on core counters (counter_place c)
 
   -- an own object has its place
   pub own-ref : (r : R) → is_own r ≡ true → r ≡ f.ref (p.place r).index
-  own-ref r own = p.ref r (place-is core p.kind (p.place r) own)
+  own-ref r own = p.ref r (place-is core f.count (p.place r) own)
 
   pub own-inside : (r : R) → is_own r ≡ true → (p.place r).index < f.count
-  own-inside r own = subst (λ (n : ℕ). (p.place r).index < n) p.many (place-inside core p.kind (p.place r) own)
+  own-inside r own = place-inside core f.count (p.place r) own
 
   -- where it is configured
   pub own-is : (r : R) → is_own r ≡ true → f.own r ≡ slice_get p.plans (p.place r).index
-  own-is r own = p.own r ∙ there core p.kind p.plans (p.place r) own
+  own-is r own = p.own r ∙ there core f.count p.plans (p.place r) own
 
   pub own-some : (r : R) → is_own r ≡ true → is_some (f.own r) ≡ true
-  own-some r own = ap (λ (o : Option X). is_some o) (p.own r) ∙ some-there core p.kind p.plans (p.place r) (p.many ∙ p.all) own
+  own-some r own = ap (λ (o : Option X). is_some o) (p.own r) ∙ some-there core f.count p.plans (p.place r) p.all own
 
   -- what stands at a place is the core's own
   pub own-there : (n : ℕ) → n < f.count → is_own (f.ref n) ≡ true
-  own-there n inside =
-      ap (λ (q : Place). is_own_object core (object_at p.kind q)) (p.at n) ∙ own-at core p.kind n (subst (λ (m : ℕ). n < m) (sym p.many) inside)
+  own-there n inside = ap (is_place_on core f.count) (p.at n) ∙ own-at core f.count n inside
 
   -- and is not what is not its own
   pub not-own : (r : R) (n : ℕ) → is_own r ≡ false → n < f.count → same_place (p.place r) (p.place (f.ref n)) ≡ false
-  not-own r n other inside = apart core p.kind (p.place r) (p.place (f.ref n)) other (own-there n inside)
+  not-own r n other inside = apart core f.count (p.place r) (p.place (f.ref n)) other (own-there n inside)
 
   -- nor is it what stands at another place
   pub not-there : (r : R) (n : ℕ) → (n ≡ (p.place r).index → ⊥) → same_place (p.place r) (p.place (f.ref n)) ≡ false
@@ -65,8 +63,8 @@ module _ {R X : Type 0} {core : Core} {f : Family R X} (p : Placed core f) where
   pub goes-own : (c : CounterRef) (r : R) → goes_by f c r ≡ true → is_own r ≡ true
   goes-own c r on =
       let s = stands f c r on in
-      ap (λ (n : ℕ). same_core (p.place r).core core.id && nat_lt (p.place r).index n) (p.many ∙ p.all)
-      ∙ found-inside (same_core (p.place r).core core.id) p.plans (p.place r).index s.value (sym (p.own r) ∙ s.is)
+      ap (λ (n : ℕ). same_core (p.place r).core core && nat_lt (p.place r).index n) p.all
+      ∙ found-inside (same_core (p.place r).core core) p.plans (p.place r).index s.value (sym (p.own r) ∙ s.is)
 
   -- so each has a place in what is kept for all
   pub those-inside : (c : CounterRef) (n : ℕ) → n ≡ f.count → All (λ (r : R). (p.place r).index < n) (those_by f c)
@@ -74,12 +72,14 @@ module _ {R X : Type 0} {core : Core} {f : Family R X} (p : Placed core f) where
       kept-all (goes_by f c) (λ (r : R). (p.place r).index < n) (refs_of f) (λ r on. subst (λ (m : ℕ). (p.place r).index < m) (sym long) (own-inside r (goes-own c r on)))
 
   -- the counter of an own object is one of the core's own, if that of each is
-  pub refers : (r : R) (x : X) → list_all (λ (y : X). is_own_object core (counter_object (f.counter y))) p.plans ≡ true → f.own r ≡ Some x → is_own_object core (counter_object (f.counter x)) ≡ true
-  refers r x all is = own-passes (λ (y : X). is_own_object core (counter_object (f.counter y))) p.plans (same_core (p.place r).core core.id) (p.place r).index x all (sym (p.own r) ∙ is)
+  pub refers : (r : R) (x : X) → list_all (λ (y : X). is_known (f.counter y)) p.plans ≡ true → f.own r ≡ Some x → is_known (f.counter x) ≡ true
+  refers r x all is = own-passes (λ (y : X). is_known (f.counter y)) p.plans (same_core (p.place r).core core) (p.place r).index x all (sym (p.own r) ∙ is)
 
   -- the object of an index, whose counter is one of the core's
-  pub own-object : (xs : List X) (n : ℕ) (x : X) → list_all (λ (y : X). is_own_object core (counter_object (f.counter y))) p.plans ≡ true → xs ≡ p.plans → n < f.count → x ≡ get_or xs n x → IsObject core f n (f.counter x) (f.ref n)
-  own-object xs n x all are inside is = record { here = refl; refers = ap (option_map f.counter) here; own = refers (f.ref n) x all here }
+  pub own-object : (xs : List X) (n : ℕ) (x : X) → list_all (λ (y : X). is_known (f.counter y)) p.plans ≡ true → xs ≡ p.plans → n < f.count → x ≡ get_or xs n x → IsObjectOf core counters f n (f.counter x) (f.ref n)
+  own-object xs n x all are inside is =
+      let known = refers (f.ref n) x all here in
+      record { here = refl; refers = ap (option_map f.counter) here; own = known; inside = place-inside core counters (counter_place (f.counter x)) known }
     where
       here : f.own (f.ref n) ≡ Some x
       here =
@@ -118,8 +118,8 @@ module _ {R X : Type 0} {core : Core} {f : Family R X} (p : Placed core f) where
         (λ n inside. ap (changed_by f c change n) (table-at (λ (m : ℕ). F (f.ref m)) 0 f.count n n none (omega arith) (omega (arith, inside))) ∙ each (f.ref n))
 
 -- An object that is configured so goes by its counter alone.
-pub member : {R X : Type 0} (core : Core) (f : Family R X) (n : ℕ) (counter : CounterRef) (r : R) → IsObject core f n counter r → IsMember (goes_by f) f.ref n counter r
-member {R} {X} core f n counter r is = record { here = is.here; by = λ c. alone c (f.own (f.ref n)) is.refers }
+pub member : {R X : Type 0} (core : CoreId) (counters : ℕ) (f : Family R X) (n : ℕ) (counter : CounterRef) (r : R) → IsObjectOf core counters f n counter r → IsMember core (goes_by f) f.ref n counter r
+member {R} {X} core counters f n counter r is = record { here = is.here; on = (place-of-counter core counters counter is.own).ref; by = λ c. alone c (f.own (f.ref n)) is.refers }
   where
     alone : (c : CounterRef) (o : Option X) → option_map f.counter o ≡ Some counter → option_map_or (λ (x : X). same_counter c (f.counter x)) o false ≡ same_counter c counter
     alone c None refers = cc

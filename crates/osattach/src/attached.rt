@@ -1,19 +1,14 @@
 //! Which objects of a core go by which of its counters.
 
-ghost use Rattle.std.specs.Prelude.{◌≡◌, ◌<◌, ◌≤◌, ◌++◌, ◌∷◌, ℕ, Bool, IsTrue, [], length, replicate, slice_index_or};
+ghost use Rattle.std.specs.Prelude.{◌≡◌, ◌<◌, ◌≤◌, ◌++◌, ◌∷◌, ℕ, Bool, [], length, replicate, slice_index_or};
 ghost use Rattle.std.specs.List.{slice_set};
+ghost use Rattle.osbase.specs.declared.references.CoreId.{CoreId};
 ghost use Rattle.osbase.specs.declared.references.CounterRef.{CounterRef as CounterRefValue};
-ghost use Rattle.osbase.specs.Objects.{counter_object};
-ghost use Rattle.osplan.specs.Objects.{is_own_object};
 ghost use Rattle.osattach.specs.Attached.{IsMember, firsts_by};
 
 use arrayvec::ArrayVec;
-use osbase::CounterRef;
-use osplan::Core;
+use osbase::{COUNTERS, CounterRef};
 use std::marker::Model;
-
-/// The most counters of a core.
-pub const COUNTERS: usize = 8;
 
 /// For each counter of a core those objects of one kind that go by it, in index order, so that a count goes over no others
 /// (AUTOSAR SWS OS 4.x, OsAlarmCounterRef and OsScheduleTableCounterRef).
@@ -32,16 +27,16 @@ impl<R, const N: usize> Model for Attached<R, N> {
 }
 
 impl<R: Copy + Default, const N: usize> Attached<R, N> {
-    /// The core's first so many objects of one kind: the closure gives for each index the counter by which the object goes,
-    /// one of the core's, and how it is referred to.
-    pub fn new<F: Fn(usize) -> (CounterRef, R)>(core: &Core, count: usize, object: F) -> Self
-        requires counters { length core.now.counters ≤ COUNTERS }
+    /// The first so many objects of one kind of a core with so many counters: the closure gives for each index the counter by
+    /// which the object goes, one of the core's, and how it is referred to.
+    pub fn new<F: Fn(usize) -> (CounterRef, R)>(counters: usize, count: usize, object: F) -> Self
+        requires counters { counters ≤ COUNTERS }
         requires few { count ≤ N }
         requires called { (n : ℕ) → n < count → F.pre object n }
-        requires own { (n : ℕ) (x : _) → n < count → F.post object n x → IsTrue (is_own_object core.now (counter_object x.0)) }
-        ensures { (goes : CounterRefValue → R → Bool) (ref : ℕ → R) → ((n : ℕ) (x : _) → n < count → F.post object n x → IsMember goes ref n x.0 x.1) → result ≡ firsts_by core.now goes ref count }
+        requires own { (n : ℕ) (x : _) → n < count → F.post object n x → x.0.index < counters }
+        ensures { (core : CoreId) (goes : CounterRefValue → R → Bool) (ref : ℕ → R) → ((n : ℕ) (x : _) → n < count → F.post object n x → IsMember core goes ref n x.0 x.1) → result ≡ firsts_by core counters goes ref count }
     {
-        let mut attached = Attached::none(core.counters.len());
+        let mut attached = Attached::none(counters);
         for index in 0..count {
             let (counter, reference) = object(index);
             attached.attach(counter, reference);

@@ -5,4 +5,4 @@
 
 pub mod attached;
 
-pub use attached::{Attached, COUNTERS};
+pub use attached::Attached;

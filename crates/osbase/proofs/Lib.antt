@@ -1,3 +1,4 @@
 pub mod Same
 pub mod Phasing
 pub mod Tables
+pub mod Places

@@ -23,7 +23,7 @@ use Rattle.osbase.specs.declared.items.CoreSet.{CoreSet}
 use Rattle.osbase.specs.declared.items.Agreement.{Agreement}
 use Rattle.osbase.specs.declared.items.Item.{Item}
 use Rattle.osbase.specs.declared.marks.Mark.{Mark}
-use Rattle.osbase.specs.declared.turns.TheConstants.{CORES}
+use Rattle.osbase.specs.declared.limits.TheConstants.{CORES}
 use Rattle.osbase.specs.declared.histories.Job.{Job}
 use Rattle.osbase.specs.declared.histories.HeldResource.{HeldResource}
 use Rattle.osbase.specs.declared.histories.OpenCall.{OpenCall}

@@ -8,3 +8,4 @@ pub mod Answers
 pub mod Runs
 pub mod Sets
 pub mod Words
+pub mod Families

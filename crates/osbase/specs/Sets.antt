@@ -4,7 +4,7 @@ use Rattle.std.specs.Option.{option_map_or}
 use Rattle.osbase.specs.declared.references.CoreId.{CoreId}
 use Rattle.osbase.specs.declared.items.CoreSet.{CoreSet}
 use Rattle.osbase.specs.declared.references.Runner.{Runner}
-use Rattle.osbase.specs.declared.turns.TheConstants.{CORES, TASKS}
+use Rattle.osbase.specs.declared.limits.TheConstants.{CORES, TASKS}
 
 -- So many numbers from this one on.
 abbrev pub numbers_from : ℕ → ℕ → List ℕ

@@ -3,10 +3,10 @@
 ghost use Rattle.std.specs.Prelude.{◌≡◌, ◌<◌, IsTrue};
 ghost use Rattle.osbase.specs.Sets.{has_core};
 
+use crate::limits::CORES;
 use crate::messages::Message;
 use crate::references::{CoreId, IsrRef, ModeId, SpinlockId};
 use crate::statuses::Status;
-use crate::turns::CORES;
 
 /// What a core's environment gives it.
 #[derive(Clone, Copy, Debug, PartialEq, Eq)]
@@ -36,6 +36,13 @@ impl CoreSet {
             None => false,
         }
     }
+}
+
+/// The application mode with which a core calls StartOS (AUTOSAR SWS OS 4.x, SWS_Os_00608 to SWS_Os_00610).
+#[derive(Clone, Copy, Debug, PartialEq, Eq)]
+pub enum CoreMode {
+    Named(ModeId),
+    DontCare,
 }
 
 /// What the started cores' application modes came to at the first synchronisation point of

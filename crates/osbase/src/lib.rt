@@ -5,6 +5,7 @@
 
 pub mod histories;
 pub mod items;
+pub mod limits;
 pub mod lists;
 pub mod logic;
 pub mod marks;
@@ -16,7 +17,12 @@ pub mod statuses;
 pub mod turns;
 
 pub use histories::{Awaited, HeldResource, Job, OpenCall, Phase, Sent, TaskEvents};
-pub use items::{Agreement, CoreSet, Item, Stimulus};
+pub use items::{Agreement, CoreMode, CoreSet, Item, Stimulus};
+pub use limits::{
+    ACTIONS, ALARMS, CONFIGURED_CORES, CORE_NUMBERS, CORES, COUNTERS, GREATEST_DURATION,
+    GREATEST_VALUE, ISRS, JOBS, MAILBOX, MODES, OPERATIONS, POINTS, POSTED, RESOURCES, RUNNERS,
+    SPINLOCKS, TABLES, TASKS,
+};
 pub use lists::{List, Name};
 pub use logic::both;
 pub use marks::Mark;
@@ -28,7 +34,4 @@ pub use references::{
     TaskRef, Variable,
 };
 pub use statuses::{ServiceId, Status};
-pub use turns::{
-    CORE_NUMBERS, CORES, Choice, CoreStimuli, ISRS, RUNNERS, Report, Schedule, Stimuli, TASKS,
-    Turn, stimuli_for,
-};
+pub use turns::{Choice, CoreStimuli, Report, Schedule, Stimuli, Turn, stimuli_for};

@@ -5,7 +5,7 @@ ghost use Rattle.std.specs.Prelude.{◌≡◌};
 ghost use Rattle.osbase.specs.History.{same_runner};
 ghost use Rattle.osbase.specs.Sets.{slot_of};
 
-use crate::turns::TASKS;
+use crate::limits::TASKS;
 
 /// The number of a core, configured or not (AUTOSAR SWS OS 4.x, CoreIdType).
 #[derive(Clone, Copy, Debug, Default, PartialEq, Eq)]

@@ -9,21 +9,6 @@ use crate::lists::List;
 use crate::marks::Mark;
 use crate::references::CoreId;
 
-/// Configured cores are numbered below this.
-pub const CORES: usize = 16;
-
-/// The same bound in the type of a core's number.
-pub const CORE_NUMBERS: u8 = CORES as u8;
-
-/// The most tasks of a core.
-pub const TASKS: usize = 32;
-
-/// The most ISRs of a core.
-pub const ISRS: usize = 16;
-
-/// The most tasks and ISRs of a core: each has a place in what is kept of all.
-pub const RUNNERS: usize = TASKS + ISRS;
-
 /// The stimuli of one core, in order.
 #[derive(Debug, Drop)]
 pub struct CoreStimuli {

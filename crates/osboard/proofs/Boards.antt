@@ -11,8 +11,8 @@ use Rattle.osbase.specs.declared.references.CoreId.{CoreId}
 use Rattle.osbase.specs.declared.statuses.Status.{Status}
 use Rattle.osbase.specs.declared.statuses.Status.TheVariants.{EOk, EOsAccess, EOsCallevel, EOsId, EOsLimit, EOsNofunc, EOsResource, EOsState, EOsValue, EOsMissingend, EOsDisabledint, EOsProtectionTime, EOsCore, EOsSpinlock, EOsInterferenceDeadlock, EOsNestingDeadlock}
 use Rattle.osbase.specs.Words.{status_number}
-use Rattle.osplan.specs.declared.plans.CoreMode.{CoreMode}
-use Rattle.osplan.specs.declared.plans.CoreMode.TheVariants.{Named, DontCare}
+use Rattle.osbase.specs.declared.items.CoreMode.{CoreMode}
+use Rattle.osbase.specs.declared.items.CoreMode.TheVariants.{Named, DontCare}
 use Rattle.osseat.specs.declared.histories.Entry.{Entry}
 use Rattle.osseat.specs.Histories.{Continues}
 use Rattle.osseat.specs.Runs.{AreIdle}

@@ -6,8 +6,7 @@ ghost use Rattle.osboard.specs.Boards.{IsMode, ask_halt_call, drain_call, enter_
 
 use crate::calls::{BOARD_CORES, BoardCall, BoardView, BoardWords};
 use crate::words::{DRAINED, ENTERED, READY, STARTED, bit, halt_in, halt_word, mode_bits, view_in};
-use osbase::{CoreId, List, Status};
-use osplan::CoreMode;
+use osbase::{CoreId, CoreMode, List, Status};
 use osseat::{CoreSeat, Plan, SharedWords};
 use std::alloc::{AllocError, Global};
 use std::marker::{Brand, Model};

@@ -1,11 +1,7 @@
 //! What cores ask of the board, and what it answers.
 
-use osbase::{CORES, CoreId, CoreSet, Status};
-use osplan::CoreMode;
+use osbase::{CORES, CoreId, CoreMode, CoreSet, MODES, Status};
 use osseat::SharedObject;
-
-/// How many application modes there are at most.
-pub const MODES: usize = 8;
 
 /// The words of the board have room for the cores numbered below this.
 pub const BOARD_CORES: usize = 8;

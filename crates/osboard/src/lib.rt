@@ -11,9 +11,7 @@ mod views;
 mod words;
 
 pub use board::{Board, BoardSeat};
-pub use calls::{
-    BOARD_CORES, BoardCall, BoardReply, BoardState, BoardView, BoardWords, MODES, ModeSet,
-};
+pub use calls::{BOARD_CORES, BoardCall, BoardReply, BoardState, BoardView, BoardWords, ModeSet};
 pub use list::BoardList;
 
 #[cfg(test)]

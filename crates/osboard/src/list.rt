@@ -4,9 +4,8 @@ ghost use Rattle.std.specs.Prelude.{◌≡◌, Some};
 ghost use Rattle.osboard.specs.Boards.{ask_halt_call, board_after, board_reply, drain_call, enter_call, first_asked, first_board, look_call, look_halt_call, one_board, ready_call, start_answer, start_call, with_core, with_mode};
 ghost use Rattle.osseat.specs.Histories.{Continues};
 
-use crate::calls::{BoardCall, BoardReply, BoardState, BoardView, MODES, ModeSet};
-use osbase::{CORES, CoreId, CoreSet, Status};
-use osplan::CoreMode;
+use crate::calls::{BoardCall, BoardReply, BoardState, BoardView, ModeSet};
+use osbase::{CORES, CoreId, CoreMode, CoreSet, MODES, Status};
 use std::marker::Model;
 
 /// The board by what stands on it. It answers as `Board` does, by the same definition.

@@ -6,8 +6,7 @@ ghost use Rattle.osboard.specs.declared.calls.TheConstants.{BOARD_CORES};
 ghost use Rattle.osboard.specs.Boards.{IsLook, one_board};
 
 use crate::{BOARD_CORES, Board, BoardCall, BoardList, BoardReply, BoardSeat, BoardView};
-use osbase::{CoreId, List, ModeId, Status};
-use osplan::CoreMode;
+use osbase::{CoreId, CoreMode, List, ModeId, Status};
 use osseat::Entry;
 use std::alloc::{AllocError, Global};
 use std::test::Fail;

@@ -1,13 +1,13 @@
 //! The two words of the board: the phase word and the halt word.
 
 ghost use Rattle.std.specs.Prelude.{◌≡◌, ◌<◌, ◌≤◌, ◌+◌, ◌^◌, ◌&&◌, nat_lt};
-ghost use Rattle.osboard.specs.declared.calls.TheConstants.{BOARD_CORES, MODES};
+ghost use Rattle.osbase.specs.declared.limits.TheConstants.{MODES};
+ghost use Rattle.osboard.specs.declared.calls.TheConstants.{BOARD_CORES};
 ghost use Rattle.osboard.specs.Boards.{IsMode};
 ghost use Rattle.osboard.specs.Words.{cores_in, flags_in, halt_in, halt_word, has_bit, mode_bits, status_numbered, view_in};
 
 use crate::calls::{BOARD_CORES, BoardView, ModeSet};
-use osbase::{CoreId, CoreSet, Status};
-use osplan::CoreMode;
+use osbase::{CoreId, CoreMode, CoreSet, Status};
 use std::array;
 
 /// The places of the bytes of the phase word: one for each set of cores, and one for the modes.

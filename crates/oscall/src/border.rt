@@ -1,7 +1,7 @@
 //! Services on objects that may stand on another core, and what a core does for another one.
 
 ghost use Rattle.std.specs.Prelude.{◌≡◌, ◌<◌, IfSome, IsTrue, false};
-ghost use Rattle.osbase.specs.declared.turns.TheConstants.{CORES};
+ghost use Rattle.osbase.specs.declared.limits.TheConstants.{CORES};
 ghost use Rattle.osstate.specs.Does.{Effects, Reads, service_entries, service_marks};
 ghost use Rattle.osact.specs.Terms.{MayBegin, MayPost, MayServe};
 ghost use Rattle.osact.specs.Acts.{both, does, prints};

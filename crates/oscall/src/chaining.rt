@@ -1,7 +1,7 @@
 //! ChainTask.
 
 ghost use Rattle.std.specs.Prelude.{◌≡◌, ◌<◌, ◌&&◌, IsTrue, false, not};
-ghost use Rattle.osbase.specs.declared.turns.TheConstants.{CORES};
+ghost use Rattle.osbase.specs.declared.limits.TheConstants.{CORES};
 ghost use Rattle.osbase.specs.History.{same_runner};
 ghost use Rattle.osbase.specs.Objects.{task_object};
 ghost use Rattle.osbase.specs.Phases.{is_before_live};

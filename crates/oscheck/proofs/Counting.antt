@@ -78,13 +78,13 @@ within_split t =
     let s = sizes_of t in
     let before = is_between 1 8 (Some s.modes) && is_between 1 16 s.cap && is_between 1 8 (Some (length s.cores)) in
     let numbered = list_all (is_core_by is_task_numbered) s.cores in
-    rw (cores-split (declarations t.cores) t.cores) (ap (λ b. is_between 1 1 t.version && b) (and-assoc before numbered (are_scripts_short t)) ∙ and-assoc (is_between 1 1 t.version) (before && numbered) (are_scripts_short t))
+    rw (cores-split (declarations t) t.cores) (ap (λ b. is_between 1 1 t.version && b) (and-assoc before numbered (are_scripts_short t)) ∙ and-assoc (is_between 1 1 t.version) (before && numbered) (are_scripts_short t))
 
 -- what is left of a text's numbers when those beside its cores have been judged
 pub cores-left : (t : ConfigText) → is_between 1 1 t.version ≡ true → is_between 1 16 t.cap ≡ true
-    → (is_between 1 most_cores (Some (length t.cores)) && list_all (λ (core : CoreText). is_core_by is_task_numbered (core_sizes (declarations t.cores) core)) t.cores) ≡ is_text_numbered t
+    → (is_between 1 most_cores (Some (length t.cores)) && list_all (λ (core : CoreText). is_core_by is_task_numbered (core_sizes (declarations t) core)) t.cores) ≡ is_text_numbered t
 cores-left t version cap =
-    rw (version, cap, length-map t.cores (core_sizes (declarations t.cores)), list_all-map (is_core_by is_task_numbered) (core_sizes (declarations t.cores)) t.cores) refl
+    rw (version, cap, length-map t.cores (core_sizes (declarations t)), list_all-map (is_core_by is_task_numbered) (core_sizes (declarations t)) t.cores) refl
 
 -- ---- names
 
@@ -108,6 +108,6 @@ core-readable objects core =
 
 pub readable_split : (t : ConfigText) → are_readable t ≡ (are_known t && are_scripts_short t)
 readable_split t =
-    let objects = declarations t.cores in
+    let objects = declarations t in
     ap (λ b. has_number (numbers_of t.cores) t.master && b) (all-split (is_core_readable objects) (is_core_known objects) is_core_short (core-readable objects) t.cores)
     ∙ and-assoc (has_number (numbers_of t.cores) t.master) _ _

@@ -19,7 +19,7 @@ use Rattle.osshape.specs.Shape.{objects_in}
 use Rattle.oscheck.specs.Few.{are_objects_few, is_core_few}
 use Rattle.osshape.proofs.Lists.{list_all-every}
 use Rattle.oscheck.proofs.Counting.{within_split}
-use Rattle.osread.specs.Faults.{failing, first_fault}
+use Rattle.osplan.specs.Fault.{failing, first_fault}
 
 -- a text has sizes of as many objects of a kind as it has objects
 sizes-counted : (objects : List Declaration) (core : CoreText) (kind : ObjectKind) → count_in kind (core_sizes objects core) ≡ length (objects_in kind core)
@@ -31,7 +31,7 @@ core-few objects core h = list_all-every (λ (kind : ObjectKind). nat_le (length
 
 numbered-few : (t : ConfigText) → is_text_numbered t ≡ true → are_objects_few t ≡ true
 numbered-few t h =
-    let objects = declarations t.cores in
+    let objects = declarations t in
     let whole = and_parts (is_between 1 1 t.version) _ h in
     let cores = and_parts _ (list_all (is_core_by is_task_numbered) (map (core_sizes objects) t.cores)) whole.1 in
     let count = and_parts _ (is_between 1 8 (Some (length (map (core_sizes objects) t.cores)))) cores.0 in

@@ -2,8 +2,8 @@
 use Rattle.std.proofs.Common.{◌≡◌, Some, lit<}
 use Rattle.osplan.specs.declared.faults.ConfFault.{ConfFault}
 use Rattle.osshape.specs.declared.shapes.ConfigText.{ConfigText}
-use Rattle.osread.specs.Faults.{IsLeast, failing, first_fault}
-use Rattle.osread.proofs.Least.{least}
+use Rattle.osplan.specs.Fault.{IsLeast, failing, first_fault}
+use Rattle.osplan.proofs.Least.{least}
 use Rattle.oscheck.specs.Check.{tests_of}
 
 pub least-tests_of : (t : ConfigText) (found : ConfFault) → first_fault (failing (tests_of t)) ≡ Some found → IsLeast found (failing (tests_of t))

@@ -22,7 +22,7 @@ use Rattle.osshape.specs.declared.shapes.TaskText.{TaskText}
 use Rattle.osshape.specs.declared.table_shapes.PointText.{PointText}
 use Rattle.osshape.specs.declared.table_shapes.TableStartText.{TableStartText}
 use Rattle.osshape.specs.declared.table_shapes.TableText.{TableText}
-use Rattle.osread.specs.Faults.{Tests}
+use Rattle.osplan.specs.Fault.{Tests}
 use Rattle.osshape.specs.declared.declarations.Declaration.{Declaration}
 use Rattle.oscheck.specs.Action.{is_action_known, is_action_masked}
 use Rattle.osshape.specs.Declarations.{counter_declared, counter_ref, declarations, declared_sizes, id_of, names_of, place_of}
@@ -78,7 +78,7 @@ bare_sizes core = record (core_sizes [] core) { counters = []; alarms = []; tabl
 
 -- There is one mode.
 abbrev pub sizes_of : ConfigText → Sizes
-sizes_of t = record { modes = 1; cap = t.cap; cores = map (core_sizes (declarations t.cores)) t.cores }
+sizes_of t = record { modes = 1; cap = t.cap; cores = map (core_sizes (declarations t)) t.cores }
 
 -- Of version 1, which a text alone has, and within the limits.
 abbrev pub is_text_within : ConfigText → Bool
@@ -105,7 +105,7 @@ numbers_of cores = map (λ (core : CoreText). core.id) cores
 
 -- Every core number stands once, and every name.
 abbrev pub is_each_once : ConfigText → Bool
-is_each_once t = are_numbers_distinct (numbers_of t.cores) && are_distinct (names_of (declarations t.cores))
+is_each_once t = are_numbers_distinct (numbers_of t.cores) && are_distinct (names_of (declarations t))
 
 -- ---- names and numbers that name nothing
 
@@ -138,7 +138,7 @@ is_core_known objects core = list_all (is_task_known objects) core.tasks && list
 
 -- The master is a configured core, and each name in an autostart, an operation, an alarm or a table has its object.
 abbrev pub are_known : ConfigText → Bool
-are_known t = has_number (numbers_of t.cores) t.master && list_all (is_core_known (declarations t.cores)) t.cores
+are_known t = has_number (numbers_of t.cores) t.master && list_all (is_core_known (declarations t)) t.cores
 
 -- A script whose operations are few and whose names are known can be read into a plan.
 abbrev pub are_operations_readable : List Declaration → List ℕ → Bool
@@ -151,7 +151,7 @@ abbrev pub is_core_readable : List Declaration → CoreText → Bool
 is_core_readable objects core = list_all (is_task_readable objects) core.tasks && list_all (is_alarm_known objects) core.alarms && list_all (is_table_known objects) core.tables
 
 abbrev pub are_readable : ConfigText → Bool
-are_readable t = has_number (numbers_of t.cores) t.master && list_all (is_core_readable (declarations t.cores)) t.cores
+are_readable t = has_number (numbers_of t.cores) t.master && list_all (is_core_readable (declarations t)) t.cores
 
 -- ---- names of other cores' objects
 
@@ -176,7 +176,7 @@ is_core_near objects core = list_all (λ (task : TaskText). is_script_near objec
 
 -- So it is with each operation of each core's scripts, and with each alarm and each table.
 abbrev pub are_near : ConfigText → Bool
-are_near t = list_all (is_core_near (declarations t.cores)) t.cores
+are_near t = list_all (is_core_near (declarations t)) t.cores
 
 -- ---- masks
 
@@ -206,7 +206,7 @@ is_core_timed objects core = list_all (λ (table : TableText). is_table_timed (t
 
 -- The points of each table come in order, with delays that its counter admits.
 abbrev pub are_timed : ConfigText → Bool
-are_timed t = list_all (is_core_timed (declarations t.cores)) t.cores
+are_timed t = list_all (is_core_timed (declarations t)) t.cores
 
 -- ---- scripts
 
@@ -233,7 +233,7 @@ is_core_script objects core = list_all (is_task_script objects) core.tasks && li
 
 -- So it is with each script, each alarm and each table.
 abbrev pub are_operations : ConfigText → Bool
-are_operations t = list_all (is_core_script (declarations t.cores)) t.cores
+are_operations t = list_all (is_core_script (declarations t)) t.cores
 
 -- ---- the table, in ascending order of faults
 

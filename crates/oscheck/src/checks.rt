@@ -11,7 +11,7 @@ ghost use Rattle.osshape.specs.declared.shapes.ResourceText.{ResourceText as Res
 ghost use Rattle.osshape.specs.declared.shapes.TaskText.{TaskText as Task};
 ghost use Rattle.osforms.specs.Operation.{has_masks};
 ghost use Rattle.osplan.specs.Limits.{are_alarms_within, are_counters_within, are_numbers_distinct, has_number, is_alarm_within, is_between, is_ceiling, is_core_by, is_counter_within, is_start, is_start_within, is_task_numbered, jobs_of, most_activations, most_cores, same_number};
-ghost use Rattle.osread.specs.Faults.{failing, first_fault};
+ghost use Rattle.osplan.specs.Fault.{failing, first_fault};
 ghost use Rattle.oscheck.specs.Action.{is_action_known, is_action_masked};
 ghost use Rattle.osshape.specs.Declarations.{counter_ref, declarations, place_of};
 ghost use Rattle.oscheck.specs.Operation.{operations_of};
@@ -19,10 +19,13 @@ ghost use Rattle.oscheck.specs.Few.{are_objects_few, is_core_few};
 ghost use Rattle.oscheck.specs.Check.{are_masks, are_near, are_readable, are_scripts_short, is_core_short, is_text_numbered, is_core_masked, is_core_near, is_operation_near, is_script_near, task_sizes, counter_sizes, start_sizes, alarm_sizes, bare_sizes, core_sizes, sizes_of, numbers_of, is_text_within, is_each_once, are_operations_known, is_mode_name, alarm_modes, is_task_known, is_alarm_known, is_alarm_near, is_core_known, is_task_masked, is_alarm_masked, are_timed, are_known, are_operations, tests_of};
 
 use crate::table_checks::{
-    TABLES, are_posted_few, are_tables_known, are_tables_masked, are_tables_near, are_tables_timed,
+    are_posted_few, are_tables_known, are_tables_masked, are_tables_near, are_tables_timed,
     are_tables_within,
 };
-use osbase::{CoreId, ObjectKind, TASKS};
+use osbase::{
+    ALARMS, CONFIGURED_CORES, COUNTERS, CoreId, GREATEST_VALUE, JOBS, OPERATIONS, ObjectKind,
+    RESOURCES, TABLES, TASKS,
+};
 use osforms::{Places, has_masks, is_action, is_known, op_named};
 use osplan::{ConfFault, stays_on};
 use osread::{Text, Whole, part_count};
@@ -30,27 +33,6 @@ use osshape::{
     AlarmStartText, AlarmText, ConfigText, CoreText, CounterText, MODE, Objects, ResourceText,
     TaskText, number_id,
 };
-
-/// The most jobs of all a core's tasks at once.
-const JOBS: u64 = 64;
-
-/// The most resources of a core.
-const RESOURCES: usize = 16;
-
-/// The most counters of a core.
-const COUNTERS: usize = 8;
-
-/// The most alarms of a core.
-const ALARMS: usize = 32;
-
-/// The greatest value that a counter may have.
-const GREATEST: u64 = 1_000_000_000;
-
-/// The most cores.
-const CORES: usize = 8;
-
-/// The most operations of a script.
-pub const OPERATIONS: usize = 256;
 
 pub(crate) fn is_between(low: u64, high: u64, number: Whole) -> bool
     ensures { result ≡ is_between low high number }
@@ -103,7 +85,8 @@ fn are_ceilings_within(resources: &[ResourceText]) -> bool
 fn is_counter_within(counter: &CounterText) -> bool
     ensures { result ≡ is_counter_within (counter_sizes counter.now) }
 {
-    is_between(1, GREATEST, counter.max) && is_between(1, counter.max.unwrap_or(0), counter.min)
+    is_between(1, GREATEST_VALUE, counter.max)
+        && is_between(1, counter.max.unwrap_or(0), counter.min)
 }
 
 fn is_each_counter_within(counters: &[CounterText]) -> bool
@@ -190,7 +173,7 @@ fn are_cores_numbered(objects: &Objects, cores: &[CoreText]) -> bool
 fn are_cores_within(objects: &Objects, cores: &[CoreText]) -> bool
     ensures { result ≡ (is_between 1 most_cores (Some (length cores.now)) && list_all (λ (core : Core). is_core_by is_task_numbered (core_sizes objects.now.declared core)) cores.now) }
 {
-    1 <= cores.len() && cores.len() <= CORES && are_cores_numbered(objects, cores)
+    1 <= cores.len() && cores.len() <= CONFIGURED_CORES && are_cores_numbered(objects, cores)
 }
 
 #[tactic(auto, using(crate::proofs::Numbers::mapped))]
@@ -215,13 +198,13 @@ fn are_cores_few(cores: &[CoreText]) -> bool
 pub fn are_objects_few(text: &ConfigText) -> bool
     ensures { result ≡ are_objects_few text.now }
 {
-    text.cores.len() <= CORES && are_cores_few(text.cores.as_slice())
+    text.cores.len() <= CONFIGURED_CORES && are_cores_few(text.cores.as_slice())
 }
 
 /// Whether the text is of version 1 and within the limits, but for its scripts, whose operations are counted where they
 /// are read.
 pub fn is_numbered(text: &ConfigText, objects: &Objects) -> bool
-    requires objects { objects.now.declared ≡ declarations text.now.cores }
+    requires objects { objects.now.declared ≡ declarations text.now }
     ensures { result ≡ is_text_numbered text.now }
 {
     is_between(1, 1, text.version)
@@ -275,7 +258,7 @@ fn are_numbers_distinct(cores: &[CoreText]) -> bool
 
 /// Whether every core number stands once, and every name.
 pub fn is_each_once(text: &ConfigText, objects: &Objects) -> bool
-    requires objects { objects.now.declared ≡ declarations text.now.cores }
+    requires objects { objects.now.declared ≡ declarations text.now }
     ensures { result ≡ is_each_once text.now }
 {
     are_numbers_distinct(text.cores.as_slice()) && objects.are_named_apart()
@@ -357,7 +340,7 @@ fn are_cores_known(objects: &Objects, cores: &[CoreText]) -> bool
 }
 
 fn are_known(text: &ConfigText, objects: &Objects) -> bool
-    requires objects { objects.now.declared ≡ declarations text.now.cores }
+    requires objects { objects.now.declared ≡ declarations text.now }
     ensures { result ≡ are_known text.now }
 {
     let cores = text.cores.as_slice();
@@ -416,7 +399,7 @@ fn is_core_near(objects: &Objects, core: &CoreText) -> bool
 }
 
 fn are_near(text: &ConfigText, objects: &Objects) -> bool
-    requires objects { objects.now.declared ≡ declarations text.now.cores }
+    requires objects { objects.now.declared ≡ declarations text.now }
     ensures { result ≡ are_near text.now }
 {
     text.cores
@@ -469,7 +452,7 @@ fn are_masks(text: &ConfigText) -> bool
 
 /// Whether the points of each table come in order, with delays that its counter admits.
 pub fn are_timed(text: &ConfigText, objects: &Objects) -> bool
-    requires objects { objects.now.declared ≡ declarations text.now.cores }
+    requires objects { objects.now.declared ≡ declarations text.now }
     ensures { result ≡ are_timed text.now }
 {
     text.cores
@@ -482,7 +465,7 @@ pub fn are_timed(text: &ConfigText, objects: &Objects) -> bool
 // out of its range, the points of some table of which do not come in order, or some script or action of which is not in
 // form and in range.
 fn fault_of_names(text: &ConfigText, objects: &Objects) -> ConfFault
-    requires objects { objects.now.declared ≡ declarations text.now.cores }
+    requires objects { objects.now.declared ≡ declarations text.now }
     requires checked { (is_text_within text.now && is_each_once text.now) ≡ true }
     requires faulty { (are_known text.now && are_near text.now && are_masks text.now && are_timed text.now && are_operations text.now) ≡ false }
     ensures { first_fault (failing (tests_of text.now)) ≡ Some result }
@@ -503,7 +486,7 @@ fn fault_of_names(text: &ConfigText, objects: &Objects) -> ConfFault
 /// The fault of a text within its numbers' limits that means no plan.
 #[tactic(auto, using(crate::proofs::Counting::within_split, crate::proofs::Counting::readable_split))]
 pub fn fault_of(text: &ConfigText, objects: &Objects) -> ConfFault
-    requires objects { objects.now.declared ≡ declarations text.now.cores }
+    requires objects { objects.now.declared ≡ declarations text.now }
     requires numbered { is_text_numbered text.now ≡ true }
     requires faulty { (is_each_once text.now && (are_readable text.now && are_near text.now && are_masks text.now && are_timed text.now && are_operations text.now)) ≡ false }
     ensures { first_fault (failing (tests_of text.now)) ≡ Some result }

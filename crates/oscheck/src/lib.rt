@@ -8,7 +8,7 @@ mod checks;
 mod table_checks;
 
 pub use checks::{
-    OPERATIONS, are_alarm_modes, are_mode_names, are_objects_few, are_timed, fault_of, has_core,
-    is_each_once, is_numbered,
+    are_alarm_modes, are_mode_names, are_objects_few, are_timed, fault_of, has_core, is_each_once,
+    is_numbered,
 };
 pub use table_checks::are_table_modes;

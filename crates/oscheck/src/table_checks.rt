@@ -14,26 +14,11 @@ ghost use Rattle.oscheck.specs.Check.{alarm_sizes, is_mode_name, is_point_known,
 use crate::checks::{
     are_mode_names, is_action_known, is_action_masked, is_between, is_counter, is_counter_near,
 };
-use osbase::{CoreId, ObjectKind, Place};
+use osbase::{ACTIONS, CoreId, GREATEST_DURATION, ObjectKind, POINTS, POSTED, Place, TABLES};
 use oscript::action_of_op;
 use osforms::{Places, op_meant};
 use osread::Whole;
 use osshape::{AlarmText, CoreText, Declaration, Objects, PointText, TableText, number_id};
-
-/// The most schedule tables of a core.
-pub const TABLES: usize = 8;
-
-/// The longest period of a table, in counts.
-const GREATEST_DURATION: u64 = 1_000_000_000;
-
-/// The most points of a table.
-const POINTS: usize = 16;
-
-/// The most actions of a point.
-const ACTIONS: usize = 8;
-
-/// The most envelopes that a core's alarms and tables may add to its outbox at once.
-const POSTED: usize = 56;
 
 fn offset_of(point: &PointText) -> u64
     ensures { result ≡ unwrap_or point.now.offset 0 }

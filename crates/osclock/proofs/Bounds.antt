@@ -16,15 +16,16 @@ use Rattle.osplan.specs.Clocked.{are_clocks_within}
 use Rattle.osplan.specs.Objects.{is_own_object}
 use Rattle.osplan.specs.View.{own_alarm}
 use Rattle.osplan.proofs.Clocked.{clock-parts}
-use Rattle.osplan.proofs.Tests.{passes-at}
+use Rattle.osbase.proofs.Places.{passes-at}
+use Rattle.osbase.specs.declared.limits.TheConstants.{COUNTERS}
 use Rattle.osattach.proofs.Members.{list-at as own-list}
 use Rattle.osattach.proofs.Own.{own-inside, those-inside}
-use Rattle.osattach.proofs.Places.{counter-is, counter-place}
+use Rattle.osplan.proofs.Counters.{counter-is, counter-place}
 use Rattle.osattach.proofs.Ranges.{length-table}
 use Rattle.oscount.specs.declared.alarms.Alarm.{Alarm}
 use Rattle.oscount.specs.declared.alarms.Expiry.{Expiry}
 use Rattle.oscount.specs.declared.counters.Counter.{Counter}
-use Rattle.oscount.specs.Clocks.{counter_at, expiry_at}
+use Rattle.oscount.specs.Clocks.{advanced, counter_at, expiry_at}
 use Rattle.osclock.specs.Clocks.{AreClocks, ClockState, IsBounded, alarm_by, alarm_family, alarm_in, alarm_ref, attached_to, counter_by, counter_for, counter_in, counter_ref, max_for, max_of, no_counter, unset}
 use Rattle.osclock.proofs.Attached.{attached-all, attached-max, attached-own}
 use Rattle.osclock.proofs.Law.{alarm-at, attached, counter-at, read}
@@ -52,16 +53,24 @@ alarms-length core s clocks =
     ap (λ (t : ClockState). length t.alarms) clocks.is
     ∙ length-table (λ (n : ℕ). alarm_by core (alarm_ref core n) clocks.history) (length core.alarms)
 
+pub lists-length : (core : Core) (s : ClockState) → AreClocks core s → length s.attached ≡ length core.counters
+lists-length core s clocks =
+    ap (λ (t : ClockState). length t.attached) clocks.is
+    ∙ length-table (λ (n : ℕ). attached_to core (counter_ref core n)) (length core.counters)
+
 pub counter-inside : (core : Core) (s : ClockState) (c : CounterRef) → AreClocks core s → is_own_object core (counter_object c) ≡ true → c.index < length s.counters
 counter-inside core s c clocks own = omega (arith, counters-length core s clocks, (counter-place core c own).inside)
 
 pub alarm-inside : (core : Core) (s : ClockState) (a : AlarmRef) → AreClocks core s → is_own_object core (alarm_object a) ≡ true → a.index < length s.alarms
 alarm-inside core s a clocks own = omega (arith, alarms-length core s clocks, own-inside (placed core) a own)
 
+pub counter-few : (core : Core) (s : ClockState) (c : CounterRef) → AreClocks core s → is_own_object core (counter_object c) ≡ true → c.index < COUNTERS
+counter-few core s c clocks own = omega (arith, (counter-place core c own).inside, (clock-parts core clocks.within).counters)
+
 -- which of them are the counter's own
 pub list-at : (core : Core) (s : ClockState) (c : CounterRef) → AreClocks core s → is_own_object core (counter_object c) ≡ true → get_or s.attached c.index [] ≡ attached_to core c
 list-at core s c clocks own =
-    ap (λ (t : ClockState). get_or t.attached c.index []) clocks.is ∙ own-list core (alarm_family core) c (counter-place core c own)
+    ap (λ (t : ClockState). get_or t.attached c.index []) clocks.is ∙ own-list core.id (alarm_family core) (length core.counters) c (counter-place core c own)
 
 -- ---- values
 
@@ -111,6 +120,14 @@ alarm-within core s a clocks own =
     by : (o : Option AlarmValue) → IsBounded (option_map_or (λ (x : AlarmValue). max_of core x.counter) o 0) (option_map_or (read core a clocks.history) o unset)
     by None = tt
     by (Some x) = bounded-at (max_of core x.counter) (counts_of x.counter clocks.history) (alarm_of x.counter a clocks.history)
+
+-- the next value is one of the counter's own
+pub next-within : (counter : Counter) → counter.value ≤ counter.max → (advanced counter).value ≤ counter.max
+next-within counter value = by (nat_le (suc counter.value) counter.max) refl
+  where
+    by : (b : Bool) → nat_le (suc counter.value) counter.max ≡ b → cond b (suc counter.value) (suc counter.value - suc counter.max) ≤ counter.max
+    by true e = leb-true (suc counter.value) counter.max e
+    by false e = omega (arith, value)
 
 -- a counter whose value is one of its own stands for so many counts
 pub counter-stands : (counter : Counter) → counter.value ≤ counter.max → counter ≡ counter_at counter.max counter.value

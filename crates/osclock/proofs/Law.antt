@@ -17,14 +17,15 @@ use Rattle.osplan.specs.Clocked.{are_clocks_within}
 use Rattle.osplan.specs.Objects.{is_own_object}
 use Rattle.osplan.specs.View.{own_alarm}
 use Rattle.osplan.proofs.Clocked.{clock-parts}
+use Rattle.osattach.proofs.Members.{stands}
 use Rattle.osattach.proofs.Own.{kept-there, none-changed, one-changed, refers, those-changed}
-use Rattle.osattach.proofs.Places.{counter-apart, counter-other, counter-own, counter-place}
+use Rattle.osplan.proofs.Counters.{counter-apart, counter-other, counter-own, counter-place}
 use Rattle.osattach.proofs.Ranges.{table-within}
 use Rattle.oscount.specs.declared.counters.Counter.{Counter}
 use Rattle.oscount.specs.declared.alarms.Alarm.{Alarm}
 use Rattle.oscount.specs.Clocks.{advanced, alarm_at, alarm_beyond, counter_at, setting_of}
 use Rattle.oscount.proofs.Expiries.{beyond, counted as next}
-use Rattle.osclock.specs.Clocks.{ClockState, alarm_by, alarm_in, alarm_ref, all_passed, clocks_by, clocks_of, counted, counter_by, counter_for, counter_in, counter_ref, due_after, max_of, no_counter, unset, with_alarm}
+use Rattle.osclock.specs.Clocks.{ClockState, alarm_by, alarm_family, alarm_in, alarm_ref, all_passed, clocks_by, clocks_of, counted, counter_by, counter_for, counter_in, counter_ref, due_after, is_attached, max_of, no_counter, unset, with_alarm}
 use Rattle.osclock.proofs.Places.{alarm-some, placed}
 
 -- ---- what stands at an own object's place
@@ -74,6 +75,18 @@ alarm-on core c a h (Some x) = by (same_counter c x.counter) refl
     by true e =
         ap (λ (d : CounterRef). alarm_beyond (counter_by core d h) (read core a h x)) (same_counter-true c x.counter e)
         ∙ ap (λ y. let alarm : Alarm = record { expiry = y } in alarm) (beyond (max_of core x.counter) (counts_of x.counter h) (alarm_of x.counter a h))
+
+-- an alarm of another counter
+read-apart : (core : Core) (c : CounterRef) (a : AlarmRef) (x : AlarmValue) (h : History) → same_counter c x.counter ≡ false → read core a h x ≡ read core a (Noted (Counted c) ∷ h) x
+read-apart core c a x h apart =
+    ap (λ (t : Bool). alarm_at (max_of core x.counter) (cond t (suc (counts_of x.counter h)) (counts_of x.counter h)) (cond t (option_map one_count_more (alarm_of x.counter a h)) (alarm_of x.counter a h))) (sym apart)
+
+pub alarm-apart : (core : Core) (c d : CounterRef) (a : AlarmRef) (h : History) → same_counter c d ≡ false → is_attached core d a ≡ true → alarm_by core a h ≡ alarm_by core a (Noted (Counted c) ∷ h)
+alarm-apart core c d a h apart on =
+    let own = stands (alarm_family core) d a on in
+    ap (λ (o : Option AlarmValue). option_map_or (read core a h) o unset) own.is
+    ∙ read-apart core c a own.value h (ap (same_counter c) (sym own.by) ∙ apart)
+    ∙ ap (λ (o : Option AlarmValue). option_map_or (read core a (Noted (Counted c) ∷ h)) o unset) (sym own.is)
 
 alarms-on : (core : Core) (c : CounterRef) (h : History) → is_own_object core (counter_object c) ≡ true
     → all_passed core c (counter_in c (clocks_of core h)) (clocks_of core h).alarms ≡ (clocks_of core (Noted (Counted c) ∷ h)).alarms
@@ -132,9 +145,7 @@ count-off core c h within other =
 
     alarm-off : (a : AlarmRef) (o : Option AlarmValue) → own_alarm core a ≡ o → option_map_or (read core a h) o unset ≡ option_map_or (read core a (Noted (Counted c) ∷ h)) o unset
     alarm-off a None own = refl
-    alarm-off a (Some x) own =
-        ap (λ (t : Bool). alarm_at (max_of core x.counter) (cond t (suc (counts_of x.counter h)) (counts_of x.counter h)) (cond t (option_map one_count_more (alarm_of x.counter a h)) (alarm_of x.counter a h)))
-        (sym (counter-apart core c x.counter other (attached core a x within own)))
+    alarm-off a (Some x) own = read-apart core c a x h (counter-apart core c x.counter other (attached core a x within own))
 
 pub count-after : (core : Core) (c : CounterRef) (h : History) → are_clocks_within core ≡ true → clocks_by core (Noted (Counted c)) (clocks_of core h) ≡ clocks_of core (Noted (Counted c) ∷ h)
 count-after core c h within = by (is_own_object core (counter_object c)) refl

@@ -7,3 +7,4 @@ pub mod Begun
 pub mod Asked
 pub mod Portions
 pub mod Starts
+pub mod Quiet

@@ -1,19 +1,18 @@
 -- A core's own alarms, by place.
 use Rattle.std.proofs.Common.{◌≡◌, ℕ, ◌<◌, true, is_some, length, refl, ap}
 use Rattle.std.specs.List.{slice_get}
-use Rattle.osbase.specs.declared.objects.ObjectKind.TheVariants.{Alarm}
 use Rattle.osbase.specs.declared.references.AlarmRef.{AlarmRef}
 use Rattle.osbase.specs.Objects.{alarm_object, alarm_of, alarm_place}
 use Rattle.osplan.specs.declared.plans.Core.{Core}
 use Rattle.osplan.specs.Objects.{is_own_object}
 use Rattle.osplan.specs.View.{own_alarm}
-pub use Rattle.osattach.proofs.Places.{counter-own}
+pub use Rattle.osplan.proofs.Counters.{counter-own}
 use Rattle.osattach.proofs.Own.{Placed, own-is, own-some, own-there}
 use Rattle.osclock.specs.Clocks.{alarm_family, alarm_ref}
 
 -- They are all of the core's objects of their kind.
-abbrev pub placed : (core : Core) → Placed core (alarm_family core)
-placed core = record { kind = Alarm; place = alarm_place; plans = core.alarms; ref = (λ a is. ap alarm_of is); at = (λ n. refl); own = (λ a. refl); many = refl; all = refl }
+abbrev pub placed : (core : Core) → Placed core.id (length core.counters) (alarm_family core)
+placed core = record { place = alarm_place; plans = core.alarms; ref = (λ a is. ap alarm_of is); at = (λ n. refl); own = (λ a. refl); all = refl }
 
 pub alarm-is : (core : Core) (a : AlarmRef) → is_own_object core (alarm_object a) ≡ true → own_alarm core a ≡ slice_get core.alarms a.index
 alarm-is core a own = own-is (placed core) a own

@@ -22,6 +22,6 @@ attached-portions core p count =
     omega (
       arith,
       sum_by-le-sum_by (λ (n : ℕ). length (filter p (attached_to core (counter_ref core n)))) (λ (n : ℕ). sum_by (λ (a : AlarmRef). cond (p a) 1 0) (attached_to core (counter_ref core n))) (numbers_from 0 count) (λ n. omega (arith, passing p (attached_to core (counter_ref core n)))),
-      portions core (alarm_family core) (λ (a : AlarmRef). cond (p a) 1 0) count,
+      portions core.id (alarm_family core) (λ (a : AlarmRef). cond (p a) 1 0) count,
       passing p (alarm_refs core),
     )

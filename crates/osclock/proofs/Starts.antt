@@ -12,10 +12,11 @@ use Rattle.osplan.specs.Clocked.{are_clocks_within}
 use Rattle.osplan.specs.Limits.{alarm_sizes, is_alarm_within}
 use Rattle.osplan.specs.View.{own_alarm, own_counter}
 use Rattle.osplan.proofs.Clocked.{clock-parts, start-bounds}
-use Rattle.osplan.proofs.Tests.{some-at}
+use Rattle.osbase.proofs.Places.{some-at}
 use Rattle.osclock.specs.Clocks.{max_for, max_of}
 use Rattle.osclock.proofs.Law.{attached}
-use Rattle.osattach.proofs.Places.{counter-is, counter-place, own-passes}
+use Rattle.osbase.proofs.Places.{own-passes}
+use Rattle.osplan.proofs.Counters.{counter-is, counter-place}
 
 -- What setting an alarm asks of its first count and its cycle.
 pub record StartsWithin (max : ℕ) (auto : AlarmStart) : Type 0 where

@@ -1,5 +1,5 @@
 -- The counters and alarms of a core: what is read off its history, and what each entry does to it.
-use Rattle.std.specs.Prelude.{◌≡◌, ℕ, Bool, if◌then◌else◌, IsTrue, IfSome, ◌≤◌, is_some, Option, Some, None, List, filter, length, map, option_map, slice_index_or}
+use Rattle.std.specs.Prelude.{◌≡◌, ℕ, Bool, if◌then◌else◌, IsTrue, IfSome, ◌≤◌, ◌-◌, All, is_some, Option, Some, None, List, [], filter, length, map, option_map, slice_index_or}
 use Rattle.std.specs.List.{slice_set}
 use Rattle.std.specs.Option.{option_map_or}
 use Rattle.osbase.specs.declared.references.AlarmRef.{AlarmRef}
@@ -14,8 +14,10 @@ use Rattle.osplan.specs.declared.plans.Counter.{Counter as CounterValue}
 use Rattle.osplan.specs.Clocked.{are_clocks_within}
 use Rattle.osplan.specs.Objects.{is_own_object}
 use Rattle.osplan.specs.View.{own_alarm, own_counter}
-pub use Rattle.osattach.specs.Attached.{counter_ref}
-use Rattle.osattach.specs.Attached.{Family, all_changed, each_by, each_changed, goes_by, refs_of, those_by}
+pub use Rattle.osplan.specs.Counters.{counter_ref}
+use Rattle.osattach.specs.Attached.{all_changed, each_changed}
+use Rattle.osbase.specs.Families.{Family, goes_by, refs_of, those_by}
+use Rattle.osplan.specs.Counters.{each_by}
 use Rattle.oscount.specs.declared.counters.Counter.{Counter}
 use Rattle.oscount.specs.declared.alarms.Alarm.{Alarm}
 use Rattle.oscount.specs.Clocks.{advanced, alarm_at, alarm_beyond, counter_at, counts_until, is_due_next, setting_of}
@@ -170,3 +172,11 @@ pub record AreClocks (core : Core) (s : ClockState) : Type 0 where
   pub within : IsTrue (are_clocks_within core)
   pub history : History
   pub is : s ≡ clocks_of core history
+
+-- For so many counts of its counter an alarm is not due.
+abbrev pub IsQuiet : ℕ → Counter → Alarm → Type 0
+IsQuiet counts counter alarm = IfSome alarm.expiry (λ x. counts ≤ counts_until counter x - 1)
+
+-- For so many counts of each counter none of its alarms is due. [own]
+pub record AreQuiet (quiet : List ℕ) (s : ClockState) : Type 0 where
+  pub at : (n : ℕ) → All (λ (a : AlarmRef). IsQuiet (slice_index_or quiet n 0) (slice_index_or s.counters n no_counter) (alarm_in a s)) (slice_index_or s.attached n [])

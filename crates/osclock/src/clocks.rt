@@ -9,18 +9,15 @@ ghost use Rattle.osplan.specs.declared.plans.Counter.{Counter as CounterValue};
 ghost use Rattle.osplan.specs.Clocked.{are_clocks_within};
 ghost use Rattle.osplan.specs.Objects.{is_own_object};
 ghost use Rattle.oscount.specs.Clocks.{counter_at, is_due_next};
-ghost use Rattle.osattach.specs.Attached.{IsObject, each_by};
-ghost use Rattle.osclock.specs.Clocks.{AreClocks, IsBounded, alarm_family, alarm_in, alarm_refs, all_beyond, clocks_by, clocks_of, counter_for, counter_in, counts_to_in, counts_to_value_in, due_after, due_in, is_used, left_in, max_for, max_of, unset};
+ghost use Rattle.osplan.specs.Counters.{IsObject, each_by};
+ghost use Rattle.osclock.specs.Clocks.{AreClocks, IsBounded, IsQuiet, alarm_family, alarm_in, alarm_refs, all_beyond, clocks_by, clocks_of, counter_for, counter_in, counts_to_in, counts_to_value_in, due_after, due_in, is_used, left_in, max_for, max_of, unset};
 
 use arrayvec::ArrayVec;
-use osattach::{Attached, COUNTERS};
-use osbase::{AlarmRef, CounterRef};
+use osattach::Attached;
+use osbase::{ALARMS, AlarmRef, COUNTERS, CounterRef};
 use oscount::{Alarm, Counter};
 use osplan::{Core, own};
 use std::marker::Model;
-
-/// The most alarms of a core.
-pub const ALARMS: usize = 32;
 
 /// Some of a core's alarms, in index order.
 pub type AlarmList = ArrayVec<AlarmRef, ALARMS>;
@@ -31,14 +28,18 @@ pub struct Clocks {
     counters: ArrayVec<Counter, COUNTERS>,
     alarms: ArrayVec<Alarm, ALARMS>,
     attached: Attached<AlarmRef, ALARMS>,
+    // For so many counts of each counter none of its alarms is due, so that nobody looks at them until then.
+    quiet: [u32; COUNTERS],
 }
 
 impl Model for Clocks {
-    ghost use Rattle.osclock.specs.Clocks.{ClockState};
+    ghost use Rattle.osclock.specs.Clocks.{AreQuiet, ClockState};
 
     ghost Value = { ClockState };
 
     ghost view = { λ c. record { counters = c.counters.items; alarms = c.alarms.items; attached = c.attached } };
+
+    ghost invariant = { λ c. AreQuiet c.quiet (record { counters = c.counters.items; alarms = c.alarms.items; attached = c.attached }) };
 }
 
 impl Clocks {
@@ -51,6 +52,7 @@ impl Clocks {
             counters: new_counters(core),
             alarms: new_alarms(core.alarms.len()),
             attached: new_attached(core),
+            quiet: [0; COUNTERS],
         }
     }
 
@@ -62,10 +64,18 @@ impl Clocks {
         ensures { self.new ≡ clocks_by core.now (Noted (Counted counter)) self.old }
     {
         let before = self.counter(counter);
-        pass_alarms(&mut self.alarms, self.attached.of(counter), before);
         let mut after = before;
         after.advance();
         set_counter(&mut self.counters, counter, after);
+        let place = usize::from(counter.index);
+        let quiet = self.quiet[place];
+        if quiet > 0 {
+            self.quiet[place] = quiet - 1;
+        } else {
+            let attached = self.attached.of(counter);
+            pass_alarms(&mut self.alarms, attached, before);
+            self.quiet[place] = quiet_counts(self.alarms.as_slice(), attached, after);
+        }
     }
 
     /// An alarm of the core is due after so many counts of its counter, at most a full turn, and again after each cycle
@@ -80,6 +90,8 @@ impl Clocks {
     {
         let due = due_after(self.counter_for(core, alarm), first, cycle);
         set_alarm(&mut self.alarms, alarm, due);
+        // It may be due before the others, so the next count of a counter looks at its alarms again.
+        self.quiet = [0; COUNTERS];
     }
 
     /// An alarm of the core is not in use any longer (OSEK/VDX OS 2.2.3, section 13.6.3.5).
@@ -149,6 +161,9 @@ impl Clocks {
         requires own { IsTrue (is_own_object core.now (counter_object counter)) }
         ensures { result.items ≡ due_in core.now counter self.now }
     {
+        if self.quiet[usize::from(counter.index)] > 0 {
+            return ArrayVec::new();
+        }
         due_alarms(
             self.alarms.as_slice(),
             self.attached.of(counter),
@@ -212,7 +227,8 @@ fn new_attached(core: &Core) -> Attached<AlarmRef, ALARMS>
     requires { IsTrue (are_clocks_within core.now) }
     ensures { result ≡ each_by core.now (alarm_family core.now) (alarm_refs core.now) }
 {
-    Attached::new(core, core.alarms.len(), |index| object_at(core, index))
+    let counters = core.counters.len();
+    Attached::new(counters, core.alarms.len(), |index| object_at(core, index))
 }
 
 // The counter of the alarm of this index, and its reference.
@@ -240,10 +256,40 @@ fn pass_alarms(alarms: &mut ArrayVec<Alarm, ALARMS>, attached: &[AlarmRef], befo
     requires value { before.value ≤ before.max }
     requires places { All (λ (a : AlarmRef). a.index < length alarms.old.items) attached.now }
     requires bounded { All (λ (a : AlarmRef). IsBounded before.max (slice_index_or alarms.old.items a.index unset)) attached.now }
-    ensures { alarms.new.items ≡ all_beyond before attached.now alarms.old.items }
+    ensures state { alarms.new.items ≡ all_beyond before attached.now alarms.old.items }
+    ensures places { length alarms.new.items ≡ length alarms.old.items }
+    ensures bounded { All (λ (a : AlarmRef). IsBounded before.max (slice_index_or alarms.new.items a.index unset)) attached.now }
 {
     for alarm in attached {
         alarms.as_mut_slice()[usize::from(alarm.index)].advance(before);
+    }
+}
+
+// For how many counts none of a counter's alarms is due.
+fn quiet_counts(alarms: &[Alarm], attached: &[AlarmRef], counter: Counter) -> u32
+    requires max { counter.max < 2 ^ 31 }
+    requires value { counter.value ≤ counter.max }
+    requires places { All (λ (a : AlarmRef). a.index < length alarms.now) attached.now }
+    requires bounded { All (λ (a : AlarmRef). IsBounded counter.max (slice_index_or alarms.now a.index unset)) attached.now }
+    ensures { All (λ (a : AlarmRef). IsQuiet result counter (slice_index_or alarms.now a.index unset)) attached.now }
+{
+    let mut quiet = u32::MAX;
+    for alarm in attached {
+        quiet = quiet.min(counts_before(alarms[usize::from(alarm.index)], counter));
+    }
+    quiet
+}
+
+// For how many counts of its counter an alarm is not due.
+fn counts_before(alarm: Alarm, counter: Counter) -> u32
+    requires max { counter.max < 2 ^ 31 }
+    requires value { counter.value ≤ counter.max }
+    requires bounded { IsBounded counter.max alarm }
+    ensures { IsQuiet result counter alarm }
+{
+    match alarm.left(counter) {
+        Some(left) => left - 1,
+        None => u32::MAX,
     }
 }
 

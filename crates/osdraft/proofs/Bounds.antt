@@ -22,7 +22,7 @@ use Rattle.osforms.specs.Operation.{op_meant}
 use Rattle.osforms.proofs.Operations.{meant-passes}
 use Rattle.osplan.specs.declared.faults.ConfFault.{ConfFault}
 use Rattle.osplan.specs.declared.faults.ConfFault.TheVariants.{Limit, DuplicateName, UnknownName, WrongCore, BadMask, BadTable, BadScript}
-use Rattle.osread.specs.Faults.{failing}
+use Rattle.osplan.specs.Fault.{failing}
 use Rattle.osshape.specs.declared.shapes.AlarmStartText.{AlarmStartText}
 use Rattle.osshape.specs.declared.shapes.AlarmText.{AlarmText}
 use Rattle.osshape.specs.declared.shapes.ConfigText.{ConfigText}
@@ -48,46 +48,46 @@ use Rattle.osdraft.proofs.Known.{near_kept}
 
 -- What a name with a place stands for is an object of the plan.
 abbrev PlacesKnown : ConfigText → Type 0
-PlacesKnown t = (kind : ObjectKind) (name : List ℕ) (place : Place) → place_of (declarations t.cores) kind name ≡ Some place → limits.is_object (plan_of t) (record { kind = kind; place = place }) ≡ true
+PlacesKnown t = (kind : ObjectKind) (name : List ℕ) (place : Place) → place_of (declarations t) kind name ≡ Some place → limits.is_object (plan_of t) (record { kind = kind; place = place }) ≡ true
 
-op-known : (t : ConfigText) → PlacesKnown t → (text : List ℕ) → limits.is_op_known (plan_of t) (op_of (declarations t.cores) text) ≡ true
-op-known t known text = by (op_meant (place_of (declarations t.cores)) text) refl
+op-known : (t : ConfigText) → PlacesKnown t → (text : List ℕ) → limits.is_op_known (plan_of t) (op_of (declarations t) text) ≡ true
+op-known t known text = by (op_meant (place_of (declarations t)) text) refl
   where
-    by : (o : Option Op) → op_meant (place_of (declarations t.cores)) text ≡ o → limits.is_op_known (plan_of t) (unwrap_or o Work) ≡ true
+    by : (o : Option Op) → op_meant (place_of (declarations t)) text ≡ o → limits.is_op_known (plan_of t) (unwrap_or o Work) ≡ true
     by None e = refl
-    by (Some op) e = meant-passes (place_of (declarations t.cores)) (limits.is_object (plan_of t)) known text op e
+    by (Some op) e = meant-passes (place_of (declarations t)) (limits.is_object (plan_of t)) known text op e
 
-task-known : (t : ConfigText) → PlacesKnown t → (task : TaskText) → limits.is_task_known (plan_of t) (task_plan (declarations t.cores) task) ≡ true
+task-known : (t : ConfigText) → PlacesKnown t → (task : TaskText) → limits.is_task_known (plan_of t) (task_plan (declarations t) task) ≡ true
 task-known t known task =
-    and_from _ _ (list_all-total (limits.is_op_known (plan_of t)) (op_of (declarations t.cores)) (op-known t known) (operations_of task.script))
+    and_from _ _ (list_all-total (limits.is_op_known (plan_of t)) (op_of (declarations t)) (op-known t known) (operations_of task.script))
     (list_all-total (limits.is_mode (plan_of t)) (λ (name : List ℕ). only_mode) (λ name. refl) task.auto)
 
-counter-known : (t : ConfigText) → PlacesKnown t → (id : CoreId) (name : List ℕ) (o : Option Place) → place_of (declarations t.cores) ObjectKind.Counter name ≡ o → is_some o ≡ true → limits.is_object (plan_of t) (counter_object (counter_ref (declarations t.cores) id name)) ≡ true
+counter-known : (t : ConfigText) → PlacesKnown t → (id : CoreId) (name : List ℕ) (o : Option Place) → place_of (declarations t) ObjectKind.Counter name ≡ o → is_some o ≡ true → limits.is_object (plan_of t) (counter_object (counter_ref (declarations t) id name)) ≡ true
 counter-known t known id name None found there = absurd (true≢false (sym there))
 counter-known t known id name (Some place) found there = rw found (known ObjectKind.Counter name place found)
 
-action-known : (t : ConfigText) → PlacesKnown t → (text : List ℕ) → is_action text ≡ true → is_action_known (declarations t.cores) text ≡ true → limits.is_action_known (plan_of t) (action_of (declarations t.cores) text) ≡ true
+action-known : (t : ConfigText) → PlacesKnown t → (text : List ℕ) → is_action text ≡ true → is_action_known (declarations t) text ≡ true → limits.is_action_known (plan_of t) (action_of (declarations t) text) ≡ true
 action-known t known text acting there =
-    let meant = action-meant (declarations t.cores) text acting there in
-    let is : op_of (declarations t.cores) text ≡ meant.0 = ap (λ o. unwrap_or o Work) meant.1 in
-    let acts : is_action_op (op_of (declarations t.cores) text) ≡ true = rw is meant.2 in
-    and_from _ _ (action-acts (op_of (declarations t.cores) text) acts)
-    (action-passes (limits.is_object (plan_of t)) (op_of (declarations t.cores) text) acts (op-known t known text))
+    let meant = action-meant (declarations t) text acting there in
+    let is : op_of (declarations t) text ≡ meant.0 = ap (λ o. unwrap_or o Work) meant.1 in
+    let acts : is_action_op (op_of (declarations t) text) ≡ true = rw is meant.2 in
+    and_from _ _ (action-acts (op_of (declarations t) text) acts)
+    (action-passes (limits.is_object (plan_of t)) (op_of (declarations t) text) acts (op-known t known text))
 
 modes-known : (t : ConfigText) (auto : Option AlarmStartText) → list_all (limits.is_mode (plan_of t)) (option_map_or (λ (auto : AlarmStart). auto.modes) (option_map start_plan auto) []) ≡ true
 modes-known t None = refl
 modes-known t (Some auto) = list_all-total (limits.is_mode (plan_of t)) (λ (name : List ℕ). only_mode) (λ name. refl) auto.modes
 
-alarm-known : (t : ConfigText) → PlacesKnown t → (id : CoreId) (alarm : AlarmText) → (is_alarm_known (declarations t.cores) alarm && is_alarm_acting alarm) ≡ true → limits.is_alarm_known (plan_of t) (alarm_plan (declarations t.cores) id alarm) ≡ true
+alarm-known : (t : ConfigText) → PlacesKnown t → (id : CoreId) (alarm : AlarmText) → (is_alarm_known (declarations t) alarm && is_alarm_acting alarm) ≡ true → limits.is_alarm_known (plan_of t) (alarm_plan (declarations t) id alarm) ≡ true
 alarm-known t known id alarm h =
-    let objects = declarations t.cores in
+    let objects = declarations t in
     let parts = and_parts (is_alarm_known objects alarm) (is_alarm_acting alarm) h in
     let names = and_parts (is_some (place_of objects ObjectKind.Counter alarm.counter)) (is_action_known objects alarm.action) (and_parts _ (list_all is_mode_name (alarm_modes alarm)) parts.0).0 in
     and_from _ _ (and_from _ _ (counter-known t known id alarm.counter (place_of objects ObjectKind.Counter alarm.counter) refl names.0) (action-known t known alarm.action parts.1 names.1)) (modes-known t alarm.auto)
 
-point-known : (t : ConfigText) → PlacesKnown t → (point : PointText) → (is_point_known (declarations t.cores) point && is_point_acting point) ≡ true → list_all (limits.is_action_known (plan_of t)) (point_plan (declarations t.cores) point).actions ≡ true
+point-known : (t : ConfigText) → PlacesKnown t → (point : PointText) → (is_point_known (declarations t) point && is_point_acting point) ≡ true → list_all (limits.is_action_known (plan_of t)) (point_plan (declarations t) point).actions ≡ true
 point-known t known point h =
-    let objects = declarations t.cores in
+    let objects = declarations t in
     let parts = and_parts (is_point_known objects point) (is_point_acting point) h in
     list_all-by (λ (text : List ℕ). is_action_known objects text && is_action text) (limits.is_action_known (plan_of t)) (action_of objects)
     (λ (text : List ℕ) (e : (is_action_known objects text && is_action text) ≡ true). let both = and_parts (is_action_known objects text) (is_action text) e in action-known t known text both.1 both.0) point.actions
@@ -97,9 +97,9 @@ table-modes-known : (t : ConfigText) (auto : Option TableStartText) → list_all
 table-modes-known t None = refl
 table-modes-known t (Some auto) = list_all-total (limits.is_mode (plan_of t)) (λ (name : List ℕ). only_mode) (λ name. refl) auto.modes
 
-table-known : (t : ConfigText) → PlacesKnown t → (id : CoreId) (table : TableText) → (is_table_known (declarations t.cores) table && is_table_acting table) ≡ true → limits.is_table_known (plan_of t) (table_plan (declarations t.cores) id table) ≡ true
+table-known : (t : ConfigText) → PlacesKnown t → (id : CoreId) (table : TableText) → (is_table_known (declarations t) table && is_table_acting table) ≡ true → limits.is_table_known (plan_of t) (table_plan (declarations t) id table) ≡ true
 table-known t known id table h =
-    let objects = declarations t.cores in
+    let objects = declarations t in
     let parts = and_parts (is_table_known objects table) (is_table_acting table) h in
     let names = and_parts (is_some (place_of objects ObjectKind.Counter table.counter)) (list_all (is_point_known objects) table.points) (and_parts _ (list_all is_mode_name (table_modes table)) parts.0).0 in
     let points = all-both (is_point_known objects) is_point_acting table.points names.1 parts.1 in
@@ -108,9 +108,9 @@ table-known t known id table h =
     (list_all-by (λ (point : PointText). is_point_known objects point && is_point_acting point) (λ (point : ExpiryPoint). list_all (limits.is_action_known (plan_of t)) point.actions) (point_plan objects) (point-known t known) table.points points)))
     (table-modes-known t table.auto)
 
-core-known : (t : ConfigText) → PlacesKnown t → (core : CoreText) → (is_core_known (declarations t.cores) core && is_core_script (declarations t.cores) core) ≡ true → limits.is_core_known (plan_of t) (core_plan (declarations t.cores) core) ≡ true
+core-known : (t : ConfigText) → PlacesKnown t → (core : CoreText) → (is_core_known (declarations t) core && is_core_script (declarations t) core) ≡ true → limits.is_core_known (plan_of t) (core_plan (declarations t) core) ≡ true
 core-known t known core h =
-    let objects = declarations t.cores in
+    let objects = declarations t in
     let parts = and_parts (is_core_known objects core) (is_core_script objects core) h in
     let knows = and_parts _ (list_all (is_table_known objects) core.tables) parts.0 in
     let does = and_parts _ (list_all is_table_acting core.tables) parts.1 in
@@ -147,7 +147,7 @@ bounds-of t none =
     let passed = faultless t none in
     let inside = (and_parts (is_between 1 1 t.version) (is_within (sizes_of t)) passed.0).1 in
     let distinct = ap are_numbers_distinct (numbers-kept t inside) ∙ (and_parts (are_numbers_distinct (numbers_of t.cores)) _ passed.1).0 in
-    let objects = declarations t.cores in
+    let objects = declarations t in
     let cores = all-both (is_core_known objects) (is_core_script objects) t.cores (and_parts _ (list_all (is_core_known objects) t.cores) passed.2).1 passed.6 in
     let tested : Tested t = record { within = inside; once = passed.1; known = passed.2; timed = passed.5; operations = passed.6 } in
     and_from _ _ (and_from _ _ (and_from _ _ (and_from _ _ (and_from _ _ (ap is_within (plan-numbers t tested) ∙ inside) distinct) (master-found objects t.cores t.master (and_parts _ _ passed.2).0))

@@ -2,7 +2,7 @@
 use Rattle.std.proofs.Common.{◌≡◌, ◌&&◌, Bool, true, false, Some, [], refl, sym, ◌∙◌}
 use Rattle.std.proofs.lemmas.Bool.{and_from, and_parts}
 use Rattle.osplan.specs.declared.plans.Plan.{Plan}
-use Rattle.osread.specs.Faults.{failing}
+use Rattle.osplan.specs.Fault.{failing}
 use Rattle.osread.specs.Reading.{value_if}
 use Rattle.osshape.specs.declared.shapes.ConfigText.{ConfigText}
 use Rattle.oscheck.specs.Check.{are_known, are_masks, are_near, are_operations, are_readable, are_scripts_short, are_timed, is_each_once, is_text_numbered, is_text_within, tests_of}

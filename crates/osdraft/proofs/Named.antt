@@ -16,6 +16,7 @@ use Rattle.osplan.specs.Expressible.{are_distinct}
 use Rattle.osplan.specs.Limits as limits
 use Rattle.osplan.specs.Limits.{CounterSizes, are_counters_within, is_counter_within}
 use Rattle.osplan.specs.View.{core_of, counter_in}
+use Rattle.osshape.specs.declared.shapes.ConfigText.{ConfigText}
 use Rattle.osshape.specs.declared.shapes.CoreText.{CoreText}
 use Rattle.osshape.specs.declared.shapes.CounterText.{CounterText}
 use Rattle.osshape.specs.declared.shapes.Named.{Named}
@@ -85,9 +86,9 @@ module _ (plan : Plan) (text : CoreText) (has : HasCounters plan text) where
   kinds-sized [] = tt
   kinds-sized (kind ∷ kinds) = both-sized plan (declared_of text kind) (flat_map (declared_of text) kinds) (kind-sized kind) (kinds-sized kinds)
 
-all-sized : (plan : Plan) (cores : List CoreText) → AllByRecursion (HasCounters plan) cores → AreSized plan (declarations cores)
+all-sized : (plan : Plan) (cores : List CoreText) → AllByRecursion (HasCounters plan) cores → AreSized plan (flat_map declared_by cores)
 all-sized plan [] has = tt
-all-sized plan (core ∷ cores) has = both-sized plan (declared_by core) (declarations cores) (kinds-sized plan core has.0 KINDS) (all-sized plan cores has.1)
+all-sized plan (core ∷ cores) has = both-sized plan (declared_by core) (flat_map declared_by cores) (kinds-sized plan core has.0 KINDS) (all-sized plan cores has.1)
 
 -- ---- the counter of a name
 
@@ -127,6 +128,6 @@ counter-by plan objects id name None found apart sized known =
 counter-by plan objects id name (Some d) found apart sized known =
     counter-if plan objects id name d (same_kind d.kind ObjectKind.Counter) refl (alone objects name d apart found) found (found-sized plan (has_name name) objects d sized found) known
 
-pub named-counter : (plan : Plan) (cores : List CoreText) (id : CoreId) (name : List ℕ) → are_distinct (names_of (declarations cores)) ≡ true → AllByRecursion (HasCounters plan) cores → is_some (place_of (declarations cores) ObjectKind.Counter name) ≡ true
-    → NamedCounter plan (declarations cores) id name
-named-counter plan cores id name apart has known = counter-by plan (declarations cores) id name (find (has_name name) (declarations cores)) refl apart (all-sized plan cores has) known
+pub named-counter : (plan : Plan) (t : ConfigText) (id : CoreId) (name : List ℕ) → are_distinct (names_of (declarations t)) ≡ true → AllByRecursion (HasCounters plan) t.cores → is_some (place_of (declarations t) ObjectKind.Counter name) ≡ true
+    → NamedCounter plan (declarations t) id name
+named-counter plan t id name apart has known = counter-by plan (declarations t) id name (find (has_name name) (declarations t)) refl apart (all-sized plan t.cores has) known

@@ -106,14 +106,14 @@ cap-byte s h = is-byte _ _ s.cap (and_parts _ (is_between _ _ s.cap) (and_parts 
 abbrev pub is_inside : List Declaration → CoreText → Bool
 is_inside objects core = is_core_within (core_sizes objects core)
 
-pub cores-inside : (t : ConfigText) → is_within (sizes_of t) ≡ true → list_all (is_inside (declarations t.cores)) t.cores ≡ true
-cores-inside t h = sym (list_all-map is_core_within (core_sizes (declarations t.cores)) t.cores) ∙ (and_parts _ (list_all is_core_within (map (core_sizes (declarations t.cores)) t.cores)) h).1
+pub cores-inside : (t : ConfigText) → is_within (sizes_of t) ≡ true → list_all (is_inside (declarations t)) t.cores ≡ true
+cores-inside t h = sym (list_all-map is_core_within (core_sizes (declarations t)) t.cores) ∙ (and_parts _ (list_all is_core_within (map (core_sizes (declarations t)) t.cores)) h).1
 
 core-number : (objects : List Declaration) (core : CoreText) → is_inside objects core ≡ true → number_of (core_plan objects core).id ≡ core.id
 core-number objects core h = (core-bytes (core_sizes objects core) h).0
 
 pub numbers-kept : (t : ConfigText) → is_within (sizes_of t) ≡ true → limits.numbers_of (plan_of t).cores ≡ numbers_of t.cores
-numbers-kept t h = map-same (λ (c : Core). number_of c.id) (core_plan (declarations t.cores)) (λ (core : CoreText). core.id) (is_inside (declarations t.cores)) (core-number (declarations t.cores)) t.cores (cores-inside t h)
+numbers-kept t h = map-same (λ (c : Core). number_of c.id) (core_plan (declarations t)) (λ (core : CoreText). core.id) (is_inside (declarations t)) (core-number (declarations t)) t.cores (cores-inside t h)
 
 pub bytes-equal : (a b : Option ℕ) → same_number a b ≡ true → eqb (byte_of a) (byte_of b) ≡ true
 bytes-equal None b same = absurd (true≢false (sym same))

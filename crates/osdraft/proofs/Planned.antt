@@ -159,10 +159,10 @@ module _ (objects : List Declaration) where
         ) refl
 
 -- each core of the text is one of the plan
-cores-have : (t : ConfigText) (cores : List CoreText) → AllByRecursion (IsFound (plan_of t).cores) (map (core_plan (declarations t.cores)) cores) → list_all (is_inside (declarations t.cores)) cores ≡ true → AllByRecursion (HasCounters (plan_of t)) cores
+cores-have : (t : ConfigText) (cores : List CoreText) → AllByRecursion (IsFound (plan_of t).cores) (map (core_plan (declarations t)) cores) → list_all (is_inside (declarations t)) cores ≡ true → AllByRecursion (HasCounters (plan_of t)) cores
 cores-have t [] found inside = tt
 cores-have t (core ∷ cores) found inside =
-    let objects = declarations t.cores in
+    let objects = declarations t in
     let parts = and_parts (is_inside objects core) (list_all (is_inside objects) cores) inside in
     let here : HasCounters (plan_of t) core = record {
       core = core_plan objects core;
@@ -182,7 +182,7 @@ pub record Tested (t : ConfigText) : Type 0 where
 
 module _ (t : ConfigText) (tested : Tested t) where
   abbrev declared : List Declaration
-  declared = declarations t.cores
+  declared = declarations t
 
   apart : are_distinct (names_of declared) ≡ true
   apart = (and_parts (are_numbers_distinct (numbers_of t.cores)) (are_distinct (names_of declared)) tested.once).1
@@ -190,7 +190,7 @@ module _ (t : ConfigText) (tested : Tested t) where
   named : Counters (plan_of t) declared
   named name id known =
       let distinct = ap are_numbers_distinct (numbers-kept t tested.within) ∙ (and_parts (are_numbers_distinct (numbers_of t.cores)) (are_distinct (names_of declared)) tested.once).0 in
-      named-counter (plan_of t) t.cores id name apart (cores-have t t.cores (each-found (plan_of t).cores distinct) (cores-inside t tested.within)) known
+      named-counter (plan_of t) t id name apart (cores-have t t.cores (each-found (plan_of t).cores distinct) (cores-inside t tested.within)) known
 
   sound : list_all (is_sound declared) t.cores ≡ true
   sound =

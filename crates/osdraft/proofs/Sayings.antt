@@ -36,7 +36,7 @@ use Rattle.osshape.specs.declared.shapes.CounterText.{CounterText}
 use Rattle.osshape.specs.declared.shapes.Named.{Named}
 use Rattle.osshape.specs.declared.shapes.ResourceText.{ResourceText}
 use Rattle.osshape.specs.declared.shapes.TaskText.{TaskText}
-use Rattle.osread.specs.Faults.{failing}
+use Rattle.osplan.specs.Fault.{failing}
 use Rattle.osshape.specs.declared.table_shapes.PointText.{PointText}
 use Rattle.osshape.specs.declared.table_shapes.TableStartText.{TableStartText}
 use Rattle.osshape.specs.declared.table_shapes.TableText.{TableText}
@@ -63,12 +63,12 @@ kind-named objects core kind = simp map-map
 objects-named : (objects : List Declaration) (core : CoreText) → said.object_names (core_plan objects core) ≡ map (λ (d : Declaration). d.name) (declared_by core)
 objects-named objects core = sym (names-declared (core_plan objects core) core (kind-named objects core))
 
-names-kept : (objects : List Declaration) (cores : List CoreText) → flat_map said.object_names (map (core_plan objects) cores) ≡ map (λ (d : Declaration). d.name) (declarations cores)
+names-kept : (objects : List Declaration) (cores : List CoreText) → flat_map said.object_names (map (core_plan objects) cores) ≡ map (λ (d : Declaration). d.name) (flat_map declared_by cores)
 names-kept objects [] = refl
 names-kept objects (core ∷ cores) =
     ap (λ names. names ++ flat_map said.object_names (map (core_plan objects) cores)) (objects-named objects core)
     ∙ ap (λ names. map (λ (d : Declaration). d.name) (declared_by core) ++ names) (names-kept objects cores)
-    ∙ sym (map-append (λ (d : Declaration). d.name) (declared_by core) (declarations cores))
+    ∙ sym (map-append (λ (d : Declaration). d.name) (declared_by core) (flat_map declared_by cores))
 
 -- ---- the parts
 
@@ -155,7 +155,7 @@ pub expressible-of : (t : ConfigText) → list_all has_named_objects t.cores ≡
 expressible-of t named none =
     let passed = faultless t none in
     let once = and_parts (are_numbers_distinct (numbers_of t.cores)) _ passed.1 in
-    let objects = declarations t.cores in
+    let objects = declarations t in
     let masked = all-both has_named_objects is_core_masked t.cores named passed.4 in
     let cores = all-both (λ (core : CoreText). has_named_objects core && is_core_masked core) (is_core_script objects) t.cores masked passed.6 in
     and_from _ _ (list_all-by (λ (core : CoreText). has_named_objects core && is_core_masked core && is_core_script objects core) said.is_core_expressible (core_plan objects) (core-said objects) t.cores cores) (ap (λ names. said.are_distinct (mode_name ∷ names)) (names-kept objects t.cores) ∙ once.1)

@@ -1,6 +1,6 @@
 -- The objects that a text declares are objects of its plan.
 use Rattle.std.proofs.Common.{◌≡◌, ℕ, suc, ◌+◌, ◌≤◌, Bool, true, false, not, cond, List, [], ◌∷◌, length, map, Option, Some, None, option_and_then, refl, sym, ap, ◌∙◌, arith}
-use Rattle.std.specs.List.{list_all, enumerate_from, find, AllByRecursion}
+use Rattle.std.specs.List.{list_all, enumerate_from, find, flat_map, AllByRecursion}
 use Rattle.std.proofs.lemmas.Bool.{and_parts, and_from, or_parts, not-true, le-leb}
 use Rattle.std.proofs.lemmas.List.{length-map}
 use Rattle.std.proofs.lemmas.List.Folds.{list_all-append}
@@ -53,7 +53,7 @@ module _ (t : ConfigText) where
   is_there d = is_object (plan_of t) (object_of d)
 
   abbrev planned : CoreText → Core
-  planned core = core_plan (declarations t.cores) core
+  planned core = core_plan (declarations t) core
 
   as-many : (core : CoreText) (kind : ObjectKind) → length (objects_in kind core) ≡ object_count kind (planned core)
   as-many core ObjectKind.Task = simp length-map
@@ -70,10 +70,10 @@ module _ (t : ConfigText) where
       all-flat is_there (declared_of core) KINDS
       (list_all-every (λ (kind : ObjectKind). list_all is_there (declared_of core kind)) (λ kind. let many = as-many core kind in each-there core kind 0 (objects_in kind core) found (omega arith)) KINDS)
 
-  all-there : (cores : List CoreText) → AllByRecursion (IsFound (plan_of t).cores) (map planned cores) → list_all is_there (declarations cores) ≡ true
+  all-there : (cores : List CoreText) → AllByRecursion (IsFound (plan_of t).cores) (map planned cores) → list_all is_there (flat_map declared_by cores) ≡ true
   all-there [] found = refl
   all-there (core ∷ cores) found =
-      list_all-append is_there (declared_by core) (declarations cores) ∙ and_from _ _ (objects-there core found.0) (all-there cores found.1)
+      list_all-append is_there (declared_by core) (flat_map declared_by cores) ∙ and_from _ _ (objects-there core found.0) (all-there cores found.1)
 
 -- ---- what a name stands for
 
@@ -83,14 +83,14 @@ place-is kind d place true same is =
     ap (λ (k : ObjectKind). let o : Object = record { kind = k; place = (object_of d).place } in o) (same_kind-true d.kind kind same) ∙ ap (λ (p : Place). let o : Object = record { kind = kind; place = p } in o) there
 place-is kind d place false same is = cc
 
-found-there : (t : ConfigText) (kind : ObjectKind) (name : List ℕ) (place : Place) (o : Option Declaration) → find (has_name name) (declarations t.cores) ≡ o → option_and_then (place_in kind) o ≡ Some place → list_all (is_there t) (declarations t.cores) ≡ true
+found-there : (t : ConfigText) (kind : ObjectKind) (name : List ℕ) (place : Place) (o : Option Declaration) → find (has_name name) (declarations t) ≡ o → option_and_then (place_in kind) o ≡ Some place → list_all (is_there t) (declarations t) ≡ true
     → is_object (plan_of t) (record { kind = kind; place = place }) ≡ true
 found-there t kind name place None found is there = cc
 found-there t kind name place (Some d) found is there =
-    ap (is_object (plan_of t)) (sym (place-is kind d place (same_kind d.kind kind) refl is)) ∙ find-passes (has_name name) (is_there t) (declarations t.cores) d there found
+    ap (is_object (plan_of t)) (sym (place-is kind d place (same_kind d.kind kind) refl is)) ∙ find-passes (has_name name) (is_there t) (declarations t) d there found
 
 -- A name that has a place stands for an object of the plan.
-pub place-known : (t : ConfigText) → are_numbers_distinct (numbers_of (plan_of t).cores) ≡ true → (kind : ObjectKind) (name : List ℕ) (place : Place) → place_of (declarations t.cores) kind name ≡ Some place
+pub place-known : (t : ConfigText) → are_numbers_distinct (numbers_of (plan_of t).cores) ≡ true → (kind : ObjectKind) (name : List ℕ) (place : Place) → place_of (declarations t) kind name ≡ Some place
     → is_object (plan_of t) (record { kind = kind; place = place }) ≡ true
 place-known t distinct kind name place is =
-    found-there t kind name place (find (has_name name) (declarations t.cores)) refl is (all-there t t.cores (each-found (plan_of t).cores distinct))
+    found-there t kind name place (find (has_name name) (declarations t)) refl is (all-there t t.cores (each-found (plan_of t).cores distinct))

@@ -13,7 +13,7 @@ use Rattle.osplan.specs.declared.plans.ExpiryPoint.{ExpiryPoint}
 use Rattle.osplan.specs.declared.plans.Table.{Table}
 use Rattle.osplan.specs.declared.plans.TableStart.{TableStart}
 use Rattle.osplan.specs.declared.plans.Task.{Task}
-use Rattle.osplan.specs.declared.plans.CoreMode.TheVariants.{Named}
+use Rattle.osbase.specs.declared.items.CoreMode.TheVariants.{Named}
 use Rattle.serde_json.specs.Data.{Data}
 use Rattle.serde_json.specs.Read.{read}
 use Rattle.osplan.specs.declared.faults.ConfFault.{ConfFault}
@@ -29,7 +29,7 @@ use Rattle.osshape.specs.declared.table_shapes.PointText.{PointText}
 use Rattle.osshape.specs.declared.table_shapes.TableStartText.{TableStartText}
 use Rattle.osshape.specs.declared.table_shapes.TableText.{TableText}
 use Rattle.osplan.specs.Expressible.{mode_name}
-use Rattle.osread.specs.Faults.{IsLeast, failing, if_faultless}
+use Rattle.osplan.specs.Fault.{IsLeast, failing, if_faultless}
 use Rattle.osshape.specs.Shape.{config_shape}
 use Rattle.osshape.specs.declared.declarations.Declaration.{Declaration}
 use Rattle.oscheck.specs.Action.{action_of}
@@ -122,7 +122,7 @@ plan_of t = record {
   cap = byte_of t.cap;
   master = number_id t.master;
   modes = mode_name ∷ [];
-  cores = map (core_plan (declarations t.cores)) t.cores;
+  cores = map (core_plan (declarations t)) t.cores;
 }
 
 -- ---- a text's faults, in ascending order: past the first or the second nothing more is judged

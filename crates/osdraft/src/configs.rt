@@ -2,9 +2,10 @@
 
 ghost use Rattle.std.specs.Prelude.{◌≡◌, ◌≢◌, IfOk, IfErr, IsTrue, Some, []};
 ghost use Rattle.std.specs.List.{list_all};
+ghost use Rattle.serde_json.specs.Read.{read};
 ghost use Rattle.serde_json.specs.View.{view};
 ghost use Rattle.osshape.specs.Shape.{config_shape, has_named_objects};
-ghost use Rattle.osread.specs.Faults.{failing, first_fault, GivesOr};
+ghost use Rattle.osplan.specs.Fault.{failing, first_fault, GivesOr};
 ghost use Rattle.oscheck.specs.Check.{tests_of};
 ghost use Rattle.osdraft.specs.Meaning.{plan_of, config_of, IsLeastFault};
 
@@ -15,6 +16,17 @@ use osread::{JsonReader, Refusal, value_of};
 use osshape::{ConfigReader, ConfigText, Objects};
 use serde_json::Value;
 use std::alloc::Global;
+
+// The JSON value of a text.
+fn json_of(alloc: Global, text: &str) -> Result<Value, ConfFault>
+    ensures { GivesOr ConfFault.NotJson view result (read text.now) }
+{
+    match value_of(alloc, text) {
+        Ok(value) => Ok(value),
+        Err(Refusal::OutOfMemory) => Err(ConfFault::NoMemory),
+        Err(Refusal::Unfit) => Err(ConfFault::NotJson),
+    }
+}
 
 fn shape_of(alloc: Global, value: &Value) -> Result<ConfigText<'_>, ConfFault>
     ensures shape { GivesOr ConfFault.Shape (λ x. x) result (config_shape (view value.now)) }
@@ -37,7 +49,7 @@ fn plan_if_faultless(alloc: Global, text: &ConfigText) -> Result<Plan, ConfFault
     if !are_objects_few(text) {
         return Err(ConfFault::Limit);
     }
-    let objects = Objects::of(alloc, text.cores.as_slice())?;
+    let objects = Objects::of(alloc, text)?;
     if !is_numbered(text, &objects) {
         return Err(ConfFault::Limit);
     }
@@ -60,7 +72,7 @@ pub fn read_config(alloc: Global, text: &str) -> Result<Config, ConfFault>
     // The fault is the least that the text has.
     ensures fault { IfErr result (λ fault. fault ≢ ConfFault.NoMemory → IsLeastFault fault text.now) }
 {
-    let value = value_of(alloc, text)?;
+    let value = json_of(alloc, text)?;
     let text = shape_of(alloc, &value)?;
     Ok(Config::new(plan_if_faultless(alloc, &text)?))
 }

@@ -13,11 +13,13 @@ ghost use Rattle.oscheck.specs.Check.{are_operations_readable, is_task_readable,
 ghost use Rattle.osdraft.specs.Meaning.{only_mode, task_plan, resource_plan, counter_plan, start_plan, alarm_plan, core_plan, known_task, known_alarm, known_core, plan_of};
 
 use crate::table_plans::tables_of;
-use osbase::{CoreId, CounterRef, List, ModeId, Name, ObjectKind, Reference, RemoteCall};
-use oscheck::{OPERATIONS, are_alarm_modes, are_mode_names, are_timed, has_core};
+use osbase::{
+    CoreId, CoreMode, CounterRef, List, ModeId, Name, OPERATIONS, ObjectKind, Reference, RemoteCall,
+};
+use oscheck::{are_alarm_modes, are_mode_names, are_timed, has_core};
 use oscript::{Op, Script, action_of_op};
 use osforms::{Places, op_meant};
-use osplan::{Alarm, AlarmStart, Core, CoreMode, Counter, Plan, Resource, Task};
+use osplan::{Alarm, AlarmStart, Core, Counter, Plan, Resource, Task};
 use osread::{PartReader, Reader, Refusal, Text, Whole, read_each, read_parts};
 use osshape::{
     AlarmStartText, AlarmText, ConfigText, CoreText, CounterText, MODE, Objects, ResourceText,
@@ -325,7 +327,7 @@ pub fn plan_of<'e>(
     text: &'e ConfigText<'e>,
     objects: &Objects<'e>,
 ) -> Result<Plan, Refusal>
-    requires objects { objects.now.declared ≡ declarations text.now.cores }
+    requires objects { objects.now.declared ≡ declarations text.now }
     ensures { Gives (λ x. x) result (value_if (are_readable text.now && are_near text.now && are_masks text.now && are_timed text.now && are_operations text.now) (plan_of text.now)) }
 {
     let cores = text.cores.as_slice();

@@ -17,7 +17,8 @@ use Rattle.osplan.specs.declared.plans.Table.{Table}
 use Rattle.osplan.specs.Clocked.{are_clocks_within}
 use Rattle.osplan.specs.Objects.{core_actions, greatest_of, is_posting, may_act, posted_at, table_actions}
 use Rattle.osplan.specs.View.{own_alarm, own_table}
-use Rattle.osplan.proofs.Tests.{each-flat, passes-at}
+use Rattle.osplan.proofs.Tests.{each-flat}
+use Rattle.osbase.proofs.Places.{passes-at}
 use Rattle.osplan.proofs.Timing.{own-table-timed, own-table-within, table-parts}
 use Rattle.oscall.specs.Border.{is_known_call}
 use Rattle.osdue.specs.Passing.{first_point, if_at_once, is_known_point, is_of_kind, of_kind, point_of}

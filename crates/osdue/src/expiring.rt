@@ -1,7 +1,7 @@
 //! What an alarm does when it is due.
 
 ghost use Rattle.std.specs.Prelude.{◌≡◌, ◌<◌, ◌≤◌, ◌+◌, IsTrue, false, true, length, suc};
-ghost use Rattle.osbase.specs.declared.turns.TheConstants.{CORES};
+ghost use Rattle.osbase.specs.declared.limits.TheConstants.{CORES};
 ghost use Rattle.osbase.specs.History.{same_core};
 ghost use Rattle.osbase.specs.Objects.{alarm_object};
 ghost use Rattle.osplan.specs.Objects.{is_own_object};

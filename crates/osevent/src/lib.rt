@@ -4,7 +4,6 @@
 #![tactic(auto)]
 
 pub mod events;
-pub mod laws;
 
 pub use events::{
     awaits_one_of, have_common, is_waiting, no_events, with_awaited, with_cleared, with_none_set,

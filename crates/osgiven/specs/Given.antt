@@ -19,11 +19,11 @@ use Rattle.serde_json.specs.Read.{read}
 use Rattle.serde_json.specs.Find.{as_str, as_object}
 use Rattle.osplan.specs.declared.faults.ConfFault.{ConfFault}
 use Rattle.osplan.specs.declared.faults.ConfFault.TheVariants.{NotJson, Limit, BadStimulus, BadSchedule}
-use Rattle.osread.specs.Faults.{Tests, failing}
+use Rattle.osplan.specs.Fault.{Tests, failing}
 use Rattle.osgiven.specs.Word.{core_number}
 use Rattle.osread.specs.Reading.{◌>>=◌, each, parts_of, value_if}
 use Rattle.osread.specs.Json.{entries}
-use Rattle.osread.specs.Faults.{if_faultless}
+use Rattle.osplan.specs.Fault.{if_faultless}
 
 -- The configured core that these digits name.
 abbrev pub core_named : Plan → List ℕ → Option Core

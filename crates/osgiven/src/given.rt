@@ -12,9 +12,10 @@ ghost use Rattle.osbase.specs.declared.turns.Choice.{Choice};
 ghost use Rattle.osplan.specs.Stimuli.{AreKnown};
 ghost use Rattle.osread.specs.Reading.{Gives, each};
 ghost use Rattle.osread.specs.Json.{entries};
-ghost use Rattle.osread.specs.Faults.{IsLeast};
+ghost use Rattle.osplan.specs.Fault.{GivesOr, IsLeast};
 ghost use Rattle.osgiven.specs.Given.{core_named, stimulus_meant, stimulus_of, core_stimuli_of, stimuli_of_data, has_words_within, are_stimuli_within, schedule_of_data, digits_in, served, choice_of, turn_of, stimuli_meant, stimuli_faults, schedule_meant, schedule_faults};
 ghost use Rattle.osgiven.specs.Walk.{IsStep};
+ghost use Rattle.serde_json.specs.Read.{read};
 ghost use Rattle.serde_json.specs.View.{view, members_view};
 
 use crate::walks::{WordReader, cut_at_space, read_words};
@@ -30,6 +31,17 @@ const STIMULI: usize = 100_000;
 
 /// The most turns of a schedule.
 const TURNS: usize = 1_000_000;
+
+// The JSON value of a text.
+fn json_of(alloc: Global, text: &str) -> Result<Value, ConfFault>
+    ensures { GivesOr ConfFault.NotJson view result (read text.now) }
+{
+    match value_of(alloc, text) {
+        Ok(value) => Ok(value),
+        Err(Refusal::OutOfMemory) => Err(ConfFault::NoMemory),
+        Err(Refusal::Unfit) => Err(ConfFault::NotJson),
+    }
+}
 
 /// The configured core that these digits name.
 #[inline(always)]
@@ -171,7 +183,7 @@ pub fn read_stimuli(alloc: Global, config: &Config, text: &str) -> Result<Stimul
     ensures fault { IfErr result (λ fault. fault ≢ ConfFault.NoMemory → IsLeast fault (stimuli_faults config.now text.now)) }
     ensures known { IfOk result (AreKnown config.now) }
 {
-    let value = value_of(alloc, text)?;
+    let value = json_of(alloc, text)?;
     if !are_stimuli_within(&value) {
         return Err(ConfFault::Limit);
     }
@@ -290,7 +302,7 @@ pub fn read_schedule(alloc: Global, config: &Config, text: &str) -> Result<Sched
     ensures ok { IfOk result (λ turns. schedule_meant config.now text.now ≡ Some turns) }
     ensures fault { IfErr result (λ fault. fault ≢ ConfFault.NoMemory → IsLeast fault (schedule_faults config.now text.now)) }
 {
-    let value = value_of(alloc, text)?;
+    let value = json_of(alloc, text)?;
     if !has_words_within(TURNS, &value) {
         return Err(ConfFault::Limit);
     }

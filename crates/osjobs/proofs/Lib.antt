@@ -1,3 +1,4 @@
+pub mod Counting
 pub mod Removal
 pub mod Choosing
 pub mod Stamps

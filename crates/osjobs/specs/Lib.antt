@@ -1,2 +1,3 @@
 pub mod Priorities
 pub mod Jobs
+pub mod Live

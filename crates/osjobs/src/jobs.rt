@@ -1,24 +1,25 @@
 //! The live jobs of a core.
 
-ghost use Rattle.std.specs.Prelude.{◌≡◌, ◌<◌, ◌≤◌, [], false, length, remove, slice_get, None, IsTrue, IfSome, IfNone};
+ghost use Rattle.std.specs.Prelude.{◌≡◌, ◌<◌, [], false, length, None, IsTrue, IfSome};
 ghost use Rattle.std.specs.List.{All};
 ghost use Rattle.osbase.specs.declared.histories.Job.{Job as JobValue};
-ghost use Rattle.osbase.specs.History.{Took, Printed, Noted, Taken, Given, Done, giving_way_after, gives_way, job_count, left_by, oldest, stamped_anew, without_oldest};
+ghost use Rattle.osbase.specs.History.{Took, Printed, Noted, Taken, Given, Done, giving_way_after, gives_way, job_count, left_by};
 ghost use Rattle.oscript.specs.Frames.{action_at};
 ghost use Rattle.osrunner.specs.Rows.{events_in, frame_in, held_in, is_occupied};
 ghost use Rattle.osjobs.specs.Jobs.{Each, best_among, first_jobs, is_plain, jobs_by, running_among};
 ghost use Rattle.osjobs.specs.Priorities.{holds_any, is_newest, is_own_runner};
 
+use crate::live::{self, Counts};
 use crate::priorities;
 use crate::slots::JobSlot;
 use arrayvec::ArrayVec;
 use osbase::{
-    HeldResource, IsrRef, Item, Job, Mark, Runner, ServiceId, Status, TaskEvents, TaskRef,
+    HeldResource, IsrRef, Item, Job, Mark, RESOURCES, RUNNERS, Runner, ServiceId, Status,
+    TaskEvents, TaskRef,
 };
 use oscript::{Action, Frame, Op};
 use osevent::{with_awaited, with_cleared, with_none_set, with_set};
 use osplan::Core;
-use osres::RESOURCES;
 use osrunner::Rows;
 use std::marker::Model;
 
@@ -28,6 +29,8 @@ use std::marker::Model;
 pub struct Jobs<const P: usize, const J: usize> {
     // In the order of their stamps.
     jobs: ArrayVec<JobSlot, J>,
+    // How many of them each task and ISR has.
+    counts: Counts,
     // The task in the running state.
     current: Option<TaskRef>,
     // Who gives way within the item in hand.
@@ -37,13 +40,13 @@ pub struct Jobs<const P: usize, const J: usize> {
 
 impl<const P: usize, const J: usize> Model for Jobs<P, J> {
     ghost use Rattle.osjobs.specs.Jobs.{JobState};
-    ghost use Rattle.osjobs.specs.Jobs.{Ascending};
+    ghost use Rattle.osjobs.specs.Live.{AreInOrder};
 
     ghost Value = { JobState };
 
     ghost view = { λ s. record { jobs = s.jobs.items; current = s.current; giving_way = s.giving_way; rows = s.rows } };
 
-    ghost invariant = { λ s. Ascending s.jobs.items };
+    ghost invariant = { λ s. AreInOrder s.jobs.items s.counts };
 }
 
 impl<const P: usize, const J: usize> Jobs<P, J> {
@@ -53,6 +56,7 @@ impl<const P: usize, const J: usize> Jobs<P, J> {
     {
         Jobs {
             jobs: ArrayVec::new(),
+            counts: [0; RUNNERS],
             current: None,
             giving_way: None,
             rows: Rows::new(),
@@ -74,9 +78,7 @@ impl<const P: usize, const J: usize> Jobs<P, J> {
         ensures { self.new ≡ jobs_by [] (Printed (Mark.Activated task)) stamp self.old }
     {
         let runner = Runner::Task(task);
-        self.jobs.push(JobSlot {
-            job: Job { runner, stamp },
-        });
+        live::push(&mut self.jobs, &mut self.counts, Job { runner, stamp });
         let events = self.rows.events(runner);
         self.rows.put_events(runner, with_none_set(events));
     }
@@ -86,7 +88,7 @@ impl<const P: usize, const J: usize> Jobs<P, J> {
         ensures { self.new ≡ jobs_by [] (Printed (Mark.Terminated task)) 0 self.old }
     {
         self.leave(task);
-        take_oldest(&mut self.jobs, Runner::Task(task));
+        live::take_oldest(&mut self.jobs, &mut self.counts, Runner::Task(task));
         self.rows.end(Runner::Task(task));
     }
 
@@ -145,7 +147,7 @@ impl<const P: usize, const J: usize> Jobs<P, J> {
         ensures { self.new ≡ jobs_by [] (Printed (Mark.Released task)) stamp self.old }
     {
         let runner = Runner::Task(task);
-        stamp_anew(&mut self.jobs, runner, stamp);
+        live::stamp_anew(&mut self.jobs, &mut self.counts, runner, stamp);
         let events = self.rows.events(runner);
         self.rows.put_events(runner, with_awaited(events, None));
     }
@@ -195,14 +197,14 @@ impl<const P: usize, const J: usize> Jobs<P, J> {
         ensures { result ≡ running_among self.now }
     {
         let task = self.current?;
-        oldest_job(self.jobs.as_slice(), Runner::Task(task))
+        live::oldest(self.jobs.as_slice(), &self.counts, Runner::Task(task))
     }
 
     /// How many jobs of this runner are live.
     pub fn count(&self, runner: Runner) -> usize
         ensures { result ≡ job_count runner self.now.jobs }
     {
-        count_jobs(self.jobs.as_slice(), runner)
+        live::count(self.jobs.as_slice(), &self.counts, runner)
     }
 
     /// The job to run: of the able jobs of greatest current priority the oldest (OSEK/VDX OS 2.2.3, section 4.4
@@ -273,69 +275,6 @@ fn left_by(task: TaskRef, current: Option<TaskRef>) -> Option<TaskRef>
         Some(other) if task == other => None,
         _ => current,
     }
-}
-
-// Takes the oldest job of this runner, if it has one, out of the list.
-fn take_oldest<const J: usize>(jobs: &mut ArrayVec<JobSlot, J>, runner: Runner) -> Option<Job>
-    ensures job { result ≡ oldest runner jobs.old.items }
-    ensures rest { jobs.new.items ≡ without_oldest runner jobs.old.items }
-    ensures room { IfSome result (λ j. length jobs.new.items < J) }
-    ensures none { IfNone result (jobs.new.items ≡ jobs.old.items) }
-{
-    let place = oldest_place(jobs.as_slice(), runner)?;
-    let slot = jobs.remove(place);
-    Some(slot.job)
-}
-
-// Gives the oldest job of this runner, if it has one, this stamp, and a place behind all others.
-fn stamp_anew<const J: usize>(jobs: &mut ArrayVec<JobSlot, J>, runner: Runner, stamp: u64)
-    ensures { jobs.new.items ≡ stamped_anew runner stamp jobs.old.items }
-{
-    if let Some(job) = take_oldest(jobs, runner) {
-        let job = Job { stamp, ..job };
-        jobs.push(JobSlot { job });
-    }
-}
-
-// The place of the oldest job of this runner.
-fn oldest_place(jobs: &[JobSlot], runner: Runner) -> Option<usize>
-    ensures found { IfSome result (λ place. remove jobs.now place ≡ without_oldest runner jobs.now) }
-    ensures within { IfSome result (λ place. place < length jobs.now) }
-    ensures job { IfSome result (λ place. slice_get jobs.now place ≡ oldest runner jobs.now) }
-    ensures none { IfNone result (without_oldest runner jobs.now ≡ jobs.now) }
-    ensures absent { IfNone result (oldest runner jobs.now ≡ None) }
-{
-    for (place, slot) in jobs.iter().enumerate() {
-        if slot.job.runner.is(runner) {
-            return Some(place);
-        }
-    }
-    None
-}
-
-// The oldest job of this runner.
-fn oldest_job(jobs: &[JobSlot], runner: Runner) -> Option<Job>
-    ensures { result ≡ oldest runner jobs.now }
-{
-    for slot in jobs {
-        if slot.job.runner.is(runner) {
-            return Some(slot.job);
-        }
-    }
-    None
-}
-
-// How many jobs of this runner are live.
-fn count_jobs(jobs: &[JobSlot], runner: Runner) -> usize
-    ensures { result ≡ job_count runner jobs.now }
-{
-    let mut count = 0;
-    for slot in jobs {
-        if slot.job.runner.is(runner) {
-            count += 1;
-        }
-    }
-    count
 }
 
 // Whether a service that returned so makes its caller give way (OSEK/VDX OS 2.2.3, section 13.2.3.4).

@@ -4,6 +4,7 @@
 #![tactic(auto)]
 
 pub mod jobs;
+mod live;
 mod priorities;
 mod slots;
 

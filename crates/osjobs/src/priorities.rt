@@ -5,7 +5,6 @@ ghost use Rattle.std.specs.List.{All};
 ghost use Rattle.std.specs.Option.{option_map_or};
 ghost use Rattle.osbase.specs.History.{first_greatest as greatest_job, same_runner};
 ghost use Rattle.osplan.specs.View.{own_task};
-ghost use Rattle.osrunner.specs.Rows.{held_in};
 ghost use Rattle.osjobs.specs.Priorities.{highest_of, is_able_in, is_extended, is_own_runner, is_preemptable, priority_by, raised_of, static_priority};
 
 use crate::slots::JobSlot;
@@ -64,10 +63,10 @@ pub(crate) fn raised_of(
     Some(job)
 }
 
-// A job with its current priority.
+// A place of the live jobs, with the current priority of the job there.
 #[derive(Clone, Copy)]
 struct Ranked {
-    job: Job,
+    place: usize,
     priority: u8,
 }
 
@@ -87,14 +86,12 @@ pub(crate) fn first_greatest(
     while place > 0 {
         place -= 1;
         let slot = &jobs[place];
-        let job = slot.job;
-        let priority = priority_of(core, rows, raised, job);
-        best = better_of(rows, Ranked { job, priority }, best);
+        let priority = priority_of(core, rows, raised, slot.job);
+        best = better_of(rows, slot.job, Ranked { place, priority }, best);
     }
-    match best {
-        Some(ranked) => Some(ranked.job),
-        None => None,
-    }
+    let best = best?;
+    let slot = &jobs[best.place];
+    Some(slot.job)
 }
 
 // Whether a live job may run: one of a task that does not wait (OSEK/VDX OS 2.2.3, section 4.2.1).
@@ -113,16 +110,16 @@ fn is_beaten(priority: u8, best: Option<Ranked>) -> bool
     }
 }
 
-// The better of a job and the best of those behind it: of two able jobs of equal priority the first. Whether the job is able
-// is asked only where it would be the better one.
+// The better of a job at its place and the best of those behind it: of two able jobs of equal priority the first. Whether
+// the job is able is asked only where it would be the better one.
 #[inline(always)]
-fn better_of(rows: &Rows, ranked: Ranked, best: Option<Ranked>) -> Option<Ranked>
-    ensures { result ≡ (if not (option_map_or (λ other. nat_lt ranked.priority other.priority) best false) && is_able_in rows.now ranked.job then Some ranked else best) }
+fn better_of(rows: &Rows, job: Job, ranked: Ranked, best: Option<Ranked>) -> Option<Ranked>
+    ensures { result ≡ (if not (option_map_or (λ other. nat_lt ranked.priority other.priority) best false) && is_able_in rows.now job then Some ranked else best) }
 {
     if is_beaten(ranked.priority, best) {
         return best;
     }
-    if is_able(rows, ranked.job) {
+    if is_able(rows, job) {
         Some(ranked)
     } else {
         best
@@ -130,6 +127,7 @@ fn better_of(rows: &Rows, ranked: Ranked, best: Option<Ranked>) -> Option<Ranked
 }
 
 // The current priority of a job, where these are the runners' rows and this job is raised.
+#[inline(always)]
 fn priority_of(core: &Core, rows: &Rows, raised: Option<Job>, job: Job) -> u8
     requires { IsTrue (is_own_runner core.now job.runner) }
     ensures { result ≡ priority_by core.now rows.now raised job }

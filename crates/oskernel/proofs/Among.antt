@@ -15,7 +15,7 @@ use Rattle.osbase.specs.declared.items.Item.{Item}
 use Rattle.osbase.specs.declared.marks.Mark.{Mark}
 use Rattle.osbase.specs.declared.histories.Job.{Job}
 use Rattle.osbase.specs.Sets.{numbers_from}
-use Rattle.osbase.specs.declared.turns.TheConstants.{RUNNERS}
+use Rattle.osbase.specs.declared.limits.TheConstants.{RUNNERS}
 use Rattle.osbase.specs.Counting.{alarm_after, alarm_of, counts_after, counts_of, table_after, table_state}
 use Rattle.osbase.specs.History.{History, Entry, Took, Printed, agreement_after, agreement_of, better_of, current_after, current_job, current_task, first_greatest, giving_way, giving_way_after, greater, greatest_ceiling, job_count, jobs_after, live_jobs, marks_of, oldest, oldest_of, open_after, open_call, phase_after, phase_of, same_runner, stamped_anew, without_oldest}
 use Rattle.oscript.specs.declared.Op.{Op}

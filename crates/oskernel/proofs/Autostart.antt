@@ -16,7 +16,7 @@ use Rattle.osplan.specs.declared.plans.TableStart.{TableStart}
 use Rattle.osplan.specs.declared.plans.Task.{Task}
 use Rattle.osplan.specs.Clocked.{are_clocks_within}
 use Rattle.osplan.specs.View.{View, own_table}
-use Rattle.osplan.proofs.Tests.{passes-at}
+use Rattle.osbase.proofs.Places.{passes-at}
 use Rattle.osplan.proofs.Timing.{own-counter-there, own-table-attached, own-table-within, table-start-bounds}
 use Rattle.osstate.specs.Readings.{task_ref}
 use Rattle.osstate.specs.Sound.{activation_limit}

@@ -20,7 +20,7 @@ use Rattle.oscript.specs.declared.Op.{Op}
 use Rattle.oscript.specs.declared.Action.TheVariants.{Perform, End}
 use Rattle.oscript.specs.Rows.{objects_of}
 use Rattle.osplan.specs.Objects.{core_actions}
-use Rattle.osplan.specs.View.{View}
+use Rattle.osplan.specs.View.{Around, View}
 use Rattle.osclock.specs.Clocks.{counter_ref}
 use Rattle.ostable.proofs.Asked.{dues-own}
 use Rattle.osstate.specs.Readings.{best_job, running, script_of}
@@ -137,24 +137,24 @@ module _ (l : Leave) (allowed : NamesAllow l.view l.may) where
 
   -- ---- dispatch, and the whole step
 
-  module _ (master : Bool) (ids : List CoreId) (R : History → History → Type 0) (kept : IsKept l master ids R) (steers : (h k : History) → R h k → (current_task h ≡ current_task k) × (next_of l.view h ≡ next_of (seen_as l.view master ids) k)) (acting : (h k : History) → R h k → NamesActing l h) where
+  module _ (around : Around) (R : History → History → Type 0) (kept : IsKept l around R) (steers : (h k : History) → R h k → (current_task h ≡ current_task k) × (next_of l.view h ≡ next_of (seen_as l.view around) k)) (acting : (h k : History) → R h k → NamesActing l h) where
     goes-carried : (current : Option TaskRef) (next : Option Runner) (h k : History) → passes current (λ t. l.names t.core) ≡ true → passes next (λ r. l.names (core_of_runner r)) ≡ true → R h k → R (goes current next h) (goes current next k)
     goes-carried current None h k left n p = p
     goes-carried None (Some (Runner.Task t)) h k left n p = kept.holds.local _ h k n p
     goes-carried (Some u) (Some (Runner.Task t)) h k left n p = kept.holds.local _ _ _ n (kept.holds.local _ h k left p)
     goes-carried current (Some (Runner.Isr i)) h k left n p = kept.holds.local _ h k n p
 
-    dispatches-carried : (h k : History) → R h k → R (dispatches l.view h) (dispatches (seen_as l.view master ids) k)
+    dispatches-carried : (h k : History) → R h k → R (dispatches l.view h) (dispatches (seen_as l.view around) k)
     dispatches-carried h k p =
         let same = steers h k p in
         let acts = acting h k p in
-        subst (λ (d : History). R d (dispatches (seen_as l.view master ids) k)) (sym (dispatches-is l.view h))
-        (subst (R (goes (current_task h) (next_of l.view h) h)) ((λ i. goes (same.0 i) (same.1 i) k) ∙ sym (dispatches-is (seen_as l.view master ids) k))
+        subst (λ (d : History). R d (dispatches (seen_as l.view around) k)) (sym (dispatches-is l.view h))
+        (subst (R (goes (current_task h) (next_of l.view h) h)) ((λ i. goes (same.0 i) (same.1 i) k) ∙ sym (dispatches-is (seen_as l.view around) k))
         (goes-carried (current_task h) (next_of l.view h) h k acts.current acts.next p))
 
     -- Two items that are taken, with the same effect.
-    pub after-carried : (h k : History) (item item' : Item) → is_replied l.answered l.names item ≡ true → effect item ≡ effect item' → R (Took item ∷ h) (Took item' ∷ k) → R (after l.view h item) (after (seen_as l.view master ids) k item')
+    pub after-carried : (h k : History) (item item' : Item) → is_replied l.answered l.names item ≡ true → effect item ≡ effect item' → R (Took item ∷ h) (Took item' ∷ k) → R (after l.view h item) (after (seen_as l.view around) k item')
     after-carried h k item item' m same p =
-        dispatches-carried (does (effect item) l.view (Took item ∷ h)) (does (effect item') (seen_as l.view master ids) (Took item' ∷ k))
-        (subst (λ (x : Acts). R (does (effect item) l.view (Took item ∷ h)) (does x (seen_as l.view master ids) (Took item' ∷ k))) same
-        (kept-by l master ids R kept (effect item) (effect-ok item m) (Took item ∷ h) (Took item' ∷ k) p))
+        dispatches-carried (does (effect item) l.view (Took item ∷ h)) (does (effect item') (seen_as l.view around) (Took item' ∷ k))
+        (subst (λ (x : Acts). R (does (effect item) l.view (Took item ∷ h)) (does x (seen_as l.view around) (Took item' ∷ k))) same
+        (kept-by l around R kept (effect item) (effect-ok item m) (Took item ∷ h) (Took item' ∷ k) p))

@@ -44,7 +44,7 @@ module _ (l : Leave) (P : History → Type 0) (holds : Holds l.may l.answered l.
   both : (f : History → History) (h k : History) → Same h k → (P k → P (f k)) → Same (f h) (f k)
   both f h k p q = record { same = rw p.same refl; has = q p.has }
 
-  kept : IsKept l l.view.is_master l.view.cores Same
+  kept : IsKept l l.view.around Same
   kept = record {
     holds = record {
       local = λ e h k m p. both (λ n. e ∷ n) h k p (holds.local e k m);
@@ -59,7 +59,7 @@ module _ (l : Leave) (P : History → Type 0) (holds : Holds l.may l.answered l.
 
   pub holds-named : (h : History) (item : Item) → is_replied l.answered l.names item ≡ true → P (Took item ∷ h) → P (after l.view h item)
   holds-named h item m p =
-      (after-carried l allowed l.view.is_master l.view.cores Same kept (λ h k p. (ap current_task p.same, ap (next_of l.view) p.same)) (λ h k p. rw p.same (acting k p.has)) h h item item m refl (record { same = refl; has = p })).has
+      (after-carried l allowed l.view.around Same kept (λ h k p. (ap current_task p.same, ap (next_of l.view) p.same)) (λ h k p. rw p.same (acting k p.has)) h h item item m refl (record { same = refl; has = p })).has
 
 -- So it does where marks may name whatever there is.
 pub holds-after : (v : View) (may replies : CoreId → Bool) (P : History → Type 0) → Holds may replies anybody P → NamesAllow v may → (h : History) (item : Item) → is_replied replies anybody item ≡ true → P (Took item ∷ h) → P (after v h item)

@@ -11,7 +11,7 @@ use Rattle.osbase.specs.Phases.{is_scheduling}
 use Rattle.osbase.specs.Sets.{has_core}
 use Rattle.osbase.specs.History.{Entry, History, Took, Printed, Noted, current_task, same_core}
 use Rattle.osbase.proofs.Same.{same_core-true}
-use Rattle.osplan.specs.View.{View}
+use Rattle.osplan.specs.View.{Around, View}
 use Rattle.osstate.specs.Readings.{best_job, knows_started, running}
 use Rattle.osact.specs.Seen.{seen_of}
 use Rattle.osact.proofs.Kept.{IsKept, anybody, is_local, is_within, nobody, none-awaited, seen_as}
@@ -20,9 +20,13 @@ use Rattle.oskernel.specs.Step.{after, effect}
 use Rattle.oskernel.proofs.Among.{agreement-same, among, base_of, best-later, count-same, counts-same, current-same, delay, later, open-same, phase-same, rows-same, running-later, settings-same, stamp-later, tables-same}
 use Rattle.oskernel.proofs.Carried.{NamesAllow, acting-anybody, after-carried, is_replied, leave_all, next_job, next_of}
 
+-- What is around a core that is the master of these.
+abbrev pub around_master : List CoreId → Around
+around_master ids = record { is_master = true; cores = ids }
+
 -- What the core alone sees.
 abbrev pub alone_view : View → List CoreId → View
-alone_view v ids = seen_as v true ids
+alone_view v ids = seen_as v (around_master ids)
 
 module _ (v : View) (ids : List CoreId) (s : CoreSet) where
   abbrev self : View
@@ -30,7 +34,7 @@ module _ (v : View) (ids : List CoreId) (s : CoreSet) where
 
   -- The history in the world of one alone.
   abbrev here : History → History
-  here k = among s (base_of v.is_master) k
+  here k = among s (base_of v.around.is_master) k
 
   -- The histories in the world and alone, in both of which the core is started or in neither.
   record Along (h k : History) : Type 0 where
@@ -45,22 +49,22 @@ module _ (v : View) (ids : List CoreId) (s : CoreSet) where
 
   next-here : (k : History) → next_of v (here k) ≡ next_of self k
   next-here k =
-      let next = (λ i. next_job (best-later v s v.is_master k i) (running-later v s v.is_master k i)) ∙ later-next (delay v.is_master) (best_job self k) (running self k) in
-      λ i. cond (is_scheduling (phase-same s v.is_master k i) && is_none (open-same s v.is_master k i)) (next i) None
+      let next = (λ i. next_job (best-later v s v.around.is_master k i) (running-later v s v.around.is_master k i)) ∙ later-next (delay v.around.is_master) (best_job self k) (running self k) in
+      λ i. cond (is_scheduling (phase-same s v.around.is_master k i) && is_none (open-same s v.around.is_master k i)) (next i) None
 
   steers : (h k : History) → Along h k → (current_task h ≡ current_task k) × (next_of v h ≡ next_of self k)
-  steers h k p = (ap current_task p.same ∙ current-same s v.is_master k, ap (next_of v) p.same ∙ next-here k)
+  steers h k p = (ap current_task p.same ∙ current-same s v.around.is_master k, ap (next_of v) p.same ∙ next-here k)
 
   reads-here : (k : History) → ReadsSame v (here k) k
   reads-here k = record {
-    jobs = λ r. count-same s v.is_master r k;
-    rows = rows-same v.own s v.is_master k;
-    counts = λ c. counts-same c s v.is_master k;
-    settings = λ c a. settings-same c a s v.is_master k;
-    tables = λ c t. tables-same c t s v.is_master k;
-    agreement = agreement-same s v.is_master k;
-    running = (λ i. option_map (λ (j : Job). j.runner) (running-later v s v.is_master k i)) ∙ later-runner (delay v.is_master) (running v k);
-    awaits = open-same s v.is_master k;
+    jobs = λ r. count-same s v.around.is_master r k;
+    rows = rows-same v.own s v.around.is_master k;
+    counts = λ c. counts-same c s v.around.is_master k;
+    settings = λ c a. settings-same c a s v.around.is_master k;
+    tables = λ c t. tables-same c t s v.around.is_master k;
+    agreement = agreement-same s v.around.is_master k;
+    running = (λ i. option_map (λ (j : Job). j.runner) (running-later v s v.around.is_master k i)) ∙ later-runner (delay v.around.is_master) (running v k);
+    awaits = open-same s v.around.is_master k;
   }
 
   local : (e : Entry) (h k : History) → is_local anybody e ≡ true → Along h k → Along (e ∷ h) (e ∷ k)
@@ -75,7 +79,7 @@ module _ (v : View) (ids : List CoreId) (s : CoreSet) where
       own_only true e = refl
       own_only false e = e
 
-  kept : IsKept (leave_all v nobody nobody) true ids Along
+  kept : IsKept (leave_all v nobody nobody) (around_master ids) Along
   kept = record {
     holds = record {
       local = local;
@@ -84,14 +88,14 @@ module _ (v : View) (ids : List CoreId) (s : CoreSet) where
       opened = λ call h k m p. absurd (none-awaited call.awaits m);
     };
     started = own_started;
-    reads = λ h k p. ap (seen_of v) p.same ∙ seen-same v (here k) k (reads-here k) true ids;
+    reads = λ h k p. ap (seen_of v) p.same ∙ seen-same v (here k) k (reads-here k) (around_master ids);
     seen = λ h k p. (acting-anybody v nobody nobody h).seen;
   }
 
   module _ (allowed : NamesAllow v nobody) where
     -- Two items with one effect, the first taken in the world and the second alone.
     same-after : (k : History) (item item' : Item) → is_replied nobody anybody item ≡ true → effect item ≡ effect item' → Along (Took item ∷ here k) (Took item' ∷ k) → after v (here k) item ≡ here (after self k item')
-    same-after k item item' replied same along = (after-carried (leave_all v nobody nobody) allowed true ids Along kept steers (λ h n p. acting-anybody v nobody nobody h) (here k) k item item' replied same along).same
+    same-after k item item' replied same along = (after-carried (leave_all v nobody nobody) allowed (around_master ids) Along kept steers (λ h n p. acting-anybody v nobody nobody h) (here k) k item item' replied same along).same
 
     -- So it is with the next stimulus, the end of the stimuli, and the second gate.
     pub same-stimulus : (stimulus : Stimulus) (k : History) → knows_started (here k) v.core ≡ true → knows_started k v.core ≡ true → after v (here k) (Item.Stim stimulus) ≡ here (after self k (Item.Stim stimulus))

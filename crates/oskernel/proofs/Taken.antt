@@ -10,7 +10,7 @@ use Rattle.osbase.specs.declared.histories.OpenCall.{OpenCall}
 use Rattle.osbase.specs.declared.histories.Phase.{Phase}
 use Rattle.osbase.specs.declared.histories.Sent.{Sent}
 use Rattle.osbase.specs.declared.items.Item.{Item}
-use Rattle.osbase.specs.declared.turns.TheConstants.{CORES}
+use Rattle.osbase.specs.declared.limits.TheConstants.{CORES}
 use Rattle.osbase.specs.History.{Took, phase_after, outbox_after}
 use Rattle.osbase.specs.Phases.{is_before_live, is_past_first_gate, is_scheduling, stands_in}
 use Rattle.osplan.specs.Stimuli.{knows_stimulus}

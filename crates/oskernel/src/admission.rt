@@ -12,11 +12,10 @@ ghost use Rattle.oskernel.specs.Admission.{admits, answers_value, are_started_co
 use crate::free::is_settled;
 use osact::is_ok;
 use osbase::{
-    Agreement, Awaited, CORE_NUMBERS, CoreId, CoreSet, Item, Message, ModeId, OpenCall, Phase,
-    RemoteCall, ServiceId, Status, both,
+    Agreement, Awaited, CORE_NUMBERS, CoreId, CoreMode, CoreSet, Item, Message, ModeId, OpenCall,
+    Phase, RemoteCall, ServiceId, Status, both,
 };
 use oscript::is_action;
-use osplan::CoreMode;
 use osstate::CoreState;
 
 /// Whether an item may be taken, but for how many were taken.

@@ -1,7 +1,7 @@
 //! What follows from an item.
 
 ghost use Rattle.std.specs.Prelude.{◌≡◌, ◌+◌, ◌<◌, ◌≤◌, ◌∷◌, ◌||◌, [], IsSome, IsTrue, Some, false, length, vec_len, vec_capacity};
-ghost use Rattle.osbase.specs.declared.turns.TheConstants.{CORES};
+ghost use Rattle.osbase.specs.declared.limits.TheConstants.{CORES};
 ghost use Rattle.osbase.specs.History.{Took, outbox_after, phase_after};
 ghost use Rattle.osbase.specs.Phases.{is_before_live, is_past_first_gate};
 ghost use Rattle.osplan.specs.Objects.{posted_at_once};

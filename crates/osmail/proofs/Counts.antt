@@ -9,7 +9,7 @@ use Rattle.std.proofs.lemmas.List.Sums.{get_or-le-sum_by, sum_by-cons, sum_by-se
 use Rattle.osbase.specs.Sets.{numbers_from}
 use Rattle.osbase.specs.declared.references.CoreId.{CoreId}
 use Rattle.osbase.specs.declared.messages.Envelope.{Envelope}
-use Rattle.osbase.specs.declared.turns.TheConstants.{CORES}
+use Rattle.osbase.specs.declared.limits.TheConstants.{CORES}
 use Rattle.osbase.proofs.Tables.{table-at, table-same, table-set}
 use Rattle.osmail.specs.Mail.{AreCounted, box_of, has_mail, IsWithin, Mail, place_of, waiting_in}
 use Rattle.osmail.proofs.Boxes.{place_below}

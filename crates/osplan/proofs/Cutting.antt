@@ -17,8 +17,8 @@ use Rattle.oscript.specs.Rows.{objects_of}
 use Rattle.osplan.specs.declared.plans.Plan.{Plan}
 use Rattle.osplan.specs.declared.plans.Core.{Core}
 use Rattle.osplan.specs.declared.plans.Task.{Task}
-use Rattle.osplan.specs.declared.plans.CoreMode.{CoreMode}
-use Rattle.osplan.specs.declared.plans.CoreMode.TheVariants.{Named, DontCare}
+use Rattle.osbase.specs.declared.items.CoreMode.{CoreMode}
+use Rattle.osbase.specs.declared.items.CoreMode.TheVariants.{Named, DontCare}
 use Rattle.osplan.specs.declared.plans.Alarm.{Alarm}
 use Rattle.osplan.specs.declared.plans.Table.{Table}
 use Rattle.osbase.specs.declared.messages.RemoteCall.{RemoteCall}

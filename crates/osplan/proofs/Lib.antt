@@ -9,3 +9,5 @@ pub mod Reached
 pub mod Separating
 pub mod Cutting
 pub mod EveryKind
+pub mod Least
+pub mod Counters

@@ -3,10 +3,11 @@ use Rattle.std.proofs.Common.{◌≡◌, ℕ, zero, suc, ◌<◌, ◌≤◌, Boo
 use Rattle.std.specs.List.{list_all, list_any, find, slice_get}
 use Rattle.std.specs.Option.{option_copied}
 use Rattle.std.specs.Borrow.{Bor}
-use Rattle.std.proofs.lemmas.Bool.{and_parts, and_from, eqb-true, lt-ltb, not-true, not_from_false, or_left, or_parts, or_right}
+use Rattle.std.proofs.lemmas.Bool.{and_parts, and_from, eqb-true, not-true, not_from_false, or_left, or_parts, or_right}
 use Rattle.std.proofs.lemmas.List.{nil_from_length}
-use Rattle.std.proofs.lemmas.Option.{slice_get-map, slice_get_within}
+use Rattle.std.proofs.lemmas.Option.{slice_get-map}
 use Rattle.std.proofs.lemmas.List.Folds.{list_all-append, list_any-append}
+use Rattle.osbase.proofs.Places.{passes-at}
 
 pub all-weaker : {X : Type 0} (p q : X → Bool) → ((x : X) → p x ≡ true → q x ≡ true) → (xs : List X) → list_all p xs ≡ true → list_all q xs ≡ true
 all-weaker p q imply [] a = refl
@@ -75,14 +76,6 @@ any-found {X} p q (y ∷ ys) x e h = by (p y) e (λ f. any-found p q ys x f h)
     by true f rest = let same : x ≡ y = cc in or_left (q y) _ (ap q (sym same) ∙ h)
     by false f rest = or_right (q y) _ (rest f)
 
--- What all elements pass passes each, by its place.
-pub passes-at : {X : Type 0} (p : X → Bool) (xs : List X) (i : ℕ) (x : X) → list_all p xs ≡ true → slice_get xs i ≡ Some x → p x ≡ true
-passes-at p [] i x all e = cc
-passes-at p (y ∷ ys) zero x all e =
-    let same : y ≡ x = cc in
-    subst (λ z. p z ≡ true) same (and_parts (p y) (list_all p ys) all).0
-passes-at p (y ∷ ys) (suc i) x all e = passes-at p ys i x (and_parts (p y) (list_all p ys) all).1 e
-
 -- A test that no element passes: all fail it, and so does each, by its place or as the found one.
 pub all-not : {X : Type 0} (p : X → Bool) (xs : List X) → list_any p xs ≡ false → list_all (λ x. not (p x)) xs ≡ true
 all-not p [] e = refl
@@ -144,17 +137,6 @@ any-mapped p f (x ∷ xs) = ap (λ (b : Bool). p (f x) || b) (any-mapped p f xs)
 pub any-by : {X : Type 0} (p q : X → Bool) → ((x : X) → p x ≡ q x) → (xs : List X) → list_any p xs ≡ list_any q xs
 any-by p q same [] = refl
 any-by p q same (x ∷ xs) = ap (λ (b : Bool). b || list_any p xs) (same x) ∙ ap (λ (b : Bool). q x || b) (any-by p q same xs)
-
--- Something stands at each place of a list.
-pub some-at : {X : Type 0} (xs : List X) (i : ℕ) → i < length xs → is_some (slice_get xs i) ≡ true
-some-at [] i inside = absurd (omega (arith, inside))
-some-at (x ∷ xs) zero inside = refl
-some-at (x ∷ xs) (suc i) inside = some-at xs i (omega (arith, inside))
-
--- What is found at a place, if a test holds, is at a place of the list.
-pub found-inside : {X : Type 0} (b : Bool) (xs : List X) (i : ℕ) (x : X) → cond b (slice_get xs i) None ≡ Some x → (b && nat_lt i (length xs)) ≡ true
-found-inside true xs i x e = lt-ltb i (length xs) (slice_get_within xs i x e)
-found-inside false xs i x e = cc
 
 -- an element of a list that is made of another
 pub ruleset get_mapped = (slice_get-map)

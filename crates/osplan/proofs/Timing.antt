@@ -19,7 +19,7 @@ use Rattle.osplan.specs.Limits.{TableSizes, are_ascending, counter_sizes, delays
 use Rattle.osplan.specs.Objects.{is_own_object}
 use Rattle.osplan.specs.View.{own_counter, own_table}
 use Rattle.osplan.proofs.Clocked.{clock-parts}
-use Rattle.osplan.proofs.Tests.{passes-at, some-at}
+use Rattle.osbase.proofs.Places.{passes-at, some-at}
 use Rattle.osplan.proofs.Within.{between}
 
 -- ---- what all of a core's tables pass, each does

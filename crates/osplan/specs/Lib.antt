@@ -8,3 +8,4 @@ pub mod Expressible
 pub mod Separate
 pub mod Fault
 pub mod Flags
+pub mod Counters

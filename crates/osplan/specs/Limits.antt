@@ -4,6 +4,7 @@
 use Rattle.std.specs.Prelude.{ℕ, ◌-◌, ◌==◌, ◌&&◌, ◌||◌, nat_le, nat_lt, Bool, true, false, not, Option, Some, None, is_some, option_map, unwrap_or, List, [], ◌∷◌, length, map, sum_by}
 use Rattle.std.specs.List.{list_all, list_any}
 use Rattle.std.specs.Option.{option_map_or}
+use Rattle.osbase.specs.declared.limits.TheConstants.{ACTIONS, ALARMS, CONFIGURED_CORES, COUNTERS, GREATEST_DURATION, GREATEST_VALUE, JOBS, MAILBOX, MODES, OPERATIONS, POINTS, POSTED, RESOURCES, TABLES, TASKS}
 use Rattle.osbase.specs.declared.references.CoreId.{CoreId}
 use Rattle.osbase.specs.declared.references.CounterRef.{CounterRef}
 use Rattle.osbase.specs.declared.references.ModeId.{ModeId}
@@ -24,8 +25,8 @@ use Rattle.osplan.specs.declared.plans.Resource.{Resource}
 use Rattle.osplan.specs.declared.plans.Table.{Table}
 use Rattle.osplan.specs.declared.plans.TableStart.{TableStart}
 use Rattle.osplan.specs.declared.plans.Task.{Task}
-use Rattle.osplan.specs.declared.plans.CoreMode.{CoreMode}
-use Rattle.osplan.specs.declared.plans.CoreMode.TheVariants.{Named, DontCare}
+use Rattle.osbase.specs.declared.items.CoreMode.{CoreMode}
+use Rattle.osbase.specs.declared.items.CoreMode.TheVariants.{Named, DontCare}
 use Rattle.osplan.specs.Objects.{alarm_modes, has_index, posted_at_once, table_actions, table_modes}
 use Rattle.osplan.specs.Separate.{is_on, names_other}
 use Rattle.osplan.specs.View.{core_of, counter_in}
@@ -87,18 +88,18 @@ count_in ObjectKind.Table s = length s.tables
 -- ---- how many there may be at most, of each kind on a core, and of cores [own]
 
 abbrev pub most_cores : ℕ
-most_cores = 8
+most_cores = CONFIGURED_CORES
 
 abbrev pub most_of : ObjectKind → ℕ
-most_of ObjectKind.Task = 32
-most_of ObjectKind.Resource = 16
-most_of ObjectKind.Counter = 8
-most_of ObjectKind.Alarm = 32
-most_of ObjectKind.Table = 8
+most_of ObjectKind.Task = TASKS
+most_of ObjectKind.Resource = RESOURCES
+most_of ObjectKind.Counter = COUNTERS
+most_of ObjectKind.Alarm = ALARMS
+most_of ObjectKind.Table = TABLES
 
 -- Envelopes that alarms and tables add to a core's outbox at once.
 abbrev pub most_posted : ℕ
-most_posted = 56
+most_posted = POSTED
 
 -- ---- their limits
 
@@ -119,7 +120,7 @@ is_task_numbered s = is_between 0 31 s.priority && is_between 1 (most_activation
 
 -- And at most 256 operations, whatever they are. [own]
 abbrev pub is_task_short : TaskSizes → Bool
-is_task_short s = nat_le s.operations 256
+is_task_short s = nat_le s.operations OPERATIONS
 
 abbrev pub is_task_within : TaskSizes → Bool
 is_task_within s = is_task_numbered s && is_task_short s
@@ -135,7 +136,7 @@ is_ceiling number = is_between 0 31 number
 -- A counter's greatest value and its least cycle, which is no greater [AUTOSAR SWS OS 4.x, OsCounterMaxAllowedValue and
 -- OsCounterMinCycle; the most is own].
 abbrev pub is_counter_within : CounterSizes → Bool
-is_counter_within s = is_between 1 1000000000 s.max && is_between 1 (unwrap_or s.max 0) s.min
+is_counter_within s = is_between 1 GREATEST_VALUE s.max && is_between 1 (unwrap_or s.max 0) s.min
 
 -- And there are not too many. [own]
 abbrev pub are_counters_within : List CounterSizes → Bool
@@ -176,12 +177,12 @@ is_table_start_within s offset = option_map_or (λ (counter : CounterSizes). is_
 
 -- A point has 1 to 8 actions. [AUTOSAR SWS OS 4.x, SWS_Os_00407; the most is own]
 abbrev pub is_point_within : PointSizes → Bool
-is_point_within s = is_between 1 8 (Some s.actions)
+is_point_within s = is_between 1 ACTIONS (Some s.actions)
 
 -- A schedule table: its duration 1 to 1,000,000,000, and 1 to 16 points. [own]
 abbrev pub is_table_within : TableSizes → Bool
 is_table_within s =
-    is_between 1 1000000000 s.duration && is_between 1 16 (Some (length s.points)) && list_all is_point_within s.points
+    is_between 1 GREATEST_DURATION s.duration && is_between 1 POINTS (Some (length s.points)) && list_all is_point_within s.points
     && option_map_or (is_table_start_within s) s.auto true
 
 abbrev pub are_tables_within : List TableSizes → Bool
@@ -196,14 +197,14 @@ jobs_of s = unwrap_or s.activations 0
 abbrev pub is_core_by : (TaskSizes → Bool) → CoreSizes → Bool
 is_core_by test s =
     is_between 0 7 s.number && list_all is_start s.start
-    && nat_le (length s.tasks) (most_of ObjectKind.Task) && list_all test s.tasks && nat_le (sum_by jobs_of s.tasks) 64
+    && nat_le (length s.tasks) (most_of ObjectKind.Task) && list_all test s.tasks && nat_le (sum_by jobs_of s.tasks) JOBS
     && nat_le (length s.resources) (most_of ObjectKind.Resource) && list_all is_ceiling s.resources
     && are_counters_within s.counters && are_alarms_within s.alarms && are_tables_within s.tables && nat_le s.posted most_posted
 
 -- The whole: 1 to 8 application modes, mailboxes of 1 to 16 envelopes, 1 to 8 cores. [own]
 abbrev pub is_by : (TaskSizes → Bool) → Sizes → Bool
 is_by test s =
-    is_between 1 8 (Some s.modes) && is_between 1 16 s.cap && is_between 1 most_cores (Some (length s.cores))
+    is_between 1 MODES (Some s.modes) && is_between 1 MAILBOX s.cap && is_between 1 most_cores (Some (length s.cores))
     && list_all (is_core_by test) s.cores
 
 abbrev pub is_core_within : CoreSizes → Bool

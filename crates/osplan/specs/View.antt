@@ -16,7 +16,7 @@ use Rattle.osplan.specs.declared.plans.Isr.{Isr}
 use Rattle.osplan.specs.declared.plans.Resource.{Resource}
 use Rattle.osplan.specs.declared.plans.Table.{Table}
 use Rattle.osplan.specs.declared.plans.Task.{Task}
-use Rattle.osplan.specs.declared.plans.CoreMode.TheVariants.{DontCare}
+use Rattle.osbase.specs.declared.items.CoreMode.TheVariants.{DontCare}
 
 -- The core of this number, if one is configured.
 abbrev pub core_of : Plan → CoreId → Option Core
@@ -30,25 +30,28 @@ counter_in plan c = option_and_then (λ (core : Core). slice_get core.counters c
 abbrev pub no_core : CoreId → Core
 no_core id = record { id = id; mode = DontCare; start = []; tasks = []; resources = []; isrs = []; counters = []; alarms = []; tables = [] }
 
--- What a core is started with: its number and whether it is the master, and its own part of the configuration, which has
--- its mode, its start list and its objects; the configuration's modes, and the numbers of the configured cores. An
--- object of another core is known by its reference, which says its kind and its core.
+-- What a core sees of the others: whether it is the master, and the numbers of the configured cores.
+pub record Around : Type 0 where
+  pub is_master : Bool
+  pub cores : List CoreId
+
+-- What a core is started with: its number, and its own part of the configuration, which has its mode, its start list and
+-- its objects; the configuration's modes, and what it sees of the other cores. An object of another core is known by its
+-- reference, which says its kind and its core.
 -- [AUTOSAR SWS OS 4.x, section 7.9; the code holds one whole configuration.]
 pub record View : Type 0 where
   pub core : CoreId
-  pub is_master : Bool
   pub own : Core
   pub modes : List (List ℕ)
-  pub cores : List CoreId
+  pub around : Around
 
 -- What the core of this number sees whose own part this is.
 abbrev pub view_from : Plan → CoreId → Core → View
 view_from plan id own = record {
   core = id;
-  is_master = same_core id plan.master;
   own = own;
   modes = plan.modes;
-  cores = map (λ (c : Core). c.id) plan.cores;
+  around = record { is_master = same_core id plan.master; cores = map (λ (c : Core). c.id) plan.cores };
 }
 
 -- What the core of this number sees.
@@ -57,7 +60,7 @@ view_of plan id = view_from plan id (unwrap_or (core_of plan id) (no_core id))
 
 -- A core with this number is configured.
 abbrev pub is_configured : View → CoreId → Bool
-is_configured v id = is_some (find (same_core id) v.cores)
+is_configured v id = is_some (find (same_core id) v.around.cores)
 
 -- The task of this reference, if it is one of the core's own.
 abbrev pub own_task : Core → TaskRef → Option Task

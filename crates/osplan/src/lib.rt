@@ -15,8 +15,8 @@ mod sides;
 pub use cuts::cut;
 pub use faults::ConfFault;
 pub use plans::{
-    Alarm, AlarmStart, Config, Core, CoreMode, Counter, ExpiryPoint, Isr, KINDS, Plan, Resource,
-    Table, TableStart, Task,
+    Alarm, AlarmStart, Config, Core, Counter, ExpiryPoint, Isr, KINDS, Plan, Resource, Table,
+    TableStart, Task,
 };
 pub use separate::{Standing, is_separate, standing_of};
 pub use sides::stays_on;

@@ -11,7 +11,8 @@ ghost use Rattle.osplan.specs.declared.plans.Task.{Task as TaskValue};
 
 use crate::sides::{is_on, stays_on};
 use osbase::{
-    CoreId, CounterRef, List, ModeId, Name, Object, ObjectKind, Reference, RemoteCall, Stimulus,
+    CoreId, CoreMode, CounterRef, List, ModeId, Name, Object, ObjectKind, Reference, RemoteCall,
+    Stimulus,
 };
 use oscript::Script;
 use std::marker::Model;
@@ -118,13 +119,6 @@ pub struct Table {
     /// 1 to 16 points by ascending offset.
     pub points: List<ExpiryPoint>,
     pub auto: Option<TableStart>,
-}
-
-/// The application mode with which a core calls StartOS (AUTOSAR SWS OS 4.x, SWS_Os_00608 to SWS_Os_00610).
-#[derive(Clone, Copy, Debug, PartialEq, Eq)]
-pub enum CoreMode {
-    Named(ModeId),
-    DontCare,
 }
 
 /// A core and its objects, each kind in the order of the configuration.

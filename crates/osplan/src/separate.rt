@@ -3,14 +3,14 @@
 ghost use Rattle.std.specs.Prelude.{◌≡◌, ◌<◌, IsTrue};
 ghost use Rattle.osbase.specs.History.{same_core};
 ghost use Rattle.osbase.specs.Sets.{has_core};
-ghost use Rattle.osbase.specs.declared.turns.TheConstants.{CORES};
+ghost use Rattle.osbase.specs.declared.limits.TheConstants.{CORES};
 ghost use Rattle.osplan.specs.Limits.{is_within_limits};
 ghost use Rattle.osplan.specs.Flags.{is_named_by_one_of, is_next, AreStarted};
 ghost use Rattle.osplan.specs.Separate.{agree, is_among, is_named_elsewhere, is_agreed_mode, is_separate, is_separate_core, is_started, names_mode, standing_of};
 
-use crate::plans::{Config, Core, CoreMode, Plan};
+use crate::plans::{Config, Core, Plan};
 use crate::sides::Side;
-use osbase::{CORE_NUMBERS, CORES, CoreId, CoreSet};
+use osbase::{CORE_NUMBERS, CORES, CoreId, CoreMode, CoreSet};
 
 fn is_among(ids: &[CoreId], id: CoreId) -> bool
     ensures { result ≡ is_among ids.now id }

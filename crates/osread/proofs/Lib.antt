@@ -1,5 +1,4 @@
 pub mod Each
 pub mod Contents
 pub mod Splitting
-pub mod Least
 pub mod Parting

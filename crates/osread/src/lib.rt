@@ -4,23 +4,21 @@
 //! A reader's `shape` defines what a value is read as, or that it is not read. So an object of a kind is a
 //! chain of its members, in code as in its definition. Want of memory is never taken for a value that is
 //! not in form.
-//!
-//! What is read is judged by a table of faults in ascending order: the first that a text has is its least.
 #![tactic(auto)]
 
-mod faults;
 mod loops;
 mod members;
 mod parts;
 mod refusals;
+mod texts;
 mod values;
 mod words;
 
-pub use faults::value_of;
 pub use loops::{Reader, read_each};
 pub use members::{at, at_or, only_members};
 pub use parts::{PartReader, read_parts};
 pub use refusals::Refusal;
+pub use texts::value_of;
 pub use values::{
     BoolReader, JsonReader, ListOf, NameReader, OrNull, Text, TextReader, Whole, WholeReader,
 };

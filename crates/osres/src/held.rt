@@ -4,11 +4,8 @@ ghost use Rattle.std.specs.Prelude.{◌≡◌, ◌==◌, ◌<◌, ◌∷◌, [],
 ghost use Rattle.osbase.specs.History.{greater, greatest_ceiling};
 
 use arrayvec::ArrayVec;
-use osbase::HeldResource;
+use osbase::{HeldResource, RESOURCES};
 use std::marker::Model;
-
-/// The most resources of a core.
-pub const RESOURCES: usize = 16;
 
 // A resource as a place of the list keeps it: with a blank for a place that holds none.
 #[derive(Clone, Copy)]

@@ -5,4 +5,4 @@
 
 pub mod held;
 
-pub use held::{Held, RESOURCES, greater};
+pub use held::{Held, greater};

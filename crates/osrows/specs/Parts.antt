@@ -29,7 +29,7 @@ use Rattle.osplan.specs.declared.plans.Plan.{Plan}
 use Rattle.osplan.specs.declared.plans.Core.{Core}
 use Rattle.osplan.specs.declared.plans.Table.{Table}
 use Rattle.osplan.specs.declared.plans.Task.{Task}
-use Rattle.osplan.specs.declared.plans.CoreMode.TheVariants.{Named}
+use Rattle.osbase.specs.declared.items.CoreMode.TheVariants.{Named}
 use Rattle.osrows.specs.Example.{Example, core}
 
 -- ---- the configuration

@@ -5,8 +5,8 @@ use Rattle.std.proofs.lemmas.Bool.{false≢true, true≢false, eqb-true, eq-eqb}
 use Rattle.std.proofs.lemmas.List.{length-set}
 use Rattle.osbase.specs.declared.histories.HeldResource.{HeldResource}
 use Rattle.osbase.specs.History.{is_held}
-use Rattle.osres.specs.declared.held.TheConstants.{RESOURCES}
-use Rattle.osbase.specs.declared.turns.TheConstants.{RUNNERS}
+use Rattle.osbase.specs.declared.limits.TheConstants.{RESOURCES}
+use Rattle.osbase.specs.declared.limits.TheConstants.{RUNNERS}
 use Rattle.oscript.specs.Runners.{Row}
 use Rattle.osrunner.specs.Rows.{IsFlagged, flag_count, held_count, is_occupied, row_at, total_count}
 

@@ -4,7 +4,7 @@ use Rattle.std.specs.List.{list_any, slice_set}
 use Rattle.osbase.specs.declared.references.Runner.{Runner}
 use Rattle.osbase.specs.declared.histories.HeldResource.{HeldResource}
 use Rattle.osbase.specs.declared.histories.TaskEvents.{TaskEvents}
-use Rattle.osbase.specs.declared.turns.TheConstants.{RUNNERS}
+use Rattle.osbase.specs.declared.limits.TheConstants.{RUNNERS}
 use Rattle.osbase.specs.History.{Entry, is_held}
 use Rattle.osbase.specs.Sets.{slot_of}
 use Rattle.oscript.specs.declared.Op.{Op}

@@ -4,6 +4,7 @@
 //! Nothing here takes memory.
 #![tactic(auto)]
 
+pub mod laws;
 pub mod rows;
 
 pub use rows::Rows;

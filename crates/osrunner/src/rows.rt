@@ -7,10 +7,10 @@ ghost use Rattle.oscript.specs.Runners.{ended, first_row};
 ghost use Rattle.osrunner.specs.Rows.{events_in, frame_in, held_in, is_occupied, row_at, with_row, with_row_at};
 
 use arrayvec::ArrayVec;
-use osbase::{HeldResource, RUNNERS, Runner, Status, TaskEvents};
+use osbase::{HeldResource, RESOURCES, RUNNERS, Runner, Status, TaskEvents};
 use oscript::{Action, Frame, Op};
 use osevent::no_events;
-use osres::{Held, RESOURCES};
+use osres::Held;
 use std::marker::Model;
 
 // What belongs to one task or ISR.

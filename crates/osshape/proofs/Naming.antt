@@ -18,7 +18,7 @@ use Rattle.osshape.specs.declared.shapes.CoreText.{CoreText}
 use Rattle.osshape.specs.declared.shapes.Named.{Named}
 use Rattle.osshape.specs.declared.declarations.Declaration.{Declaration}
 use Rattle.osshape.specs.Shape.{has_named_objects, objects_in}
-use Rattle.osshape.specs.Declarations.{declaration, declared_of, declared_by, declarations, has_name}
+use Rattle.osshape.specs.Declarations.{declaration, declared_of, declared_by, has_name}
 
 each-named : (core : CoreText) (kind : ObjectKind) (n : ℕ) (objects : List Named) → list_all (λ (named : Named). is_name named.name) objects ≡ true → list_all (λ (d : Declaration). is_name d.name) (map (declaration core kind) (enumerate_from n objects)) ≡ true
 each-named core kind n [] named = refl
@@ -31,11 +31,11 @@ objects-named core named =
     all-flat (λ (d : Declaration). is_name d.name) (declared_of core) KINDS
     (all-weaker (λ (kind : ObjectKind). list_all (λ (named : Named). is_name named.name) (objects_in kind core)) (λ (kind : ObjectKind). list_all (λ (d : Declaration). is_name d.name) (declared_of core kind)) (λ kind named. each-named core kind 0 (objects_in kind core) named) KINDS named)
 
-pub declared-named : (cores : List CoreText) → list_all has_named_objects cores ≡ true → list_all (λ (d : Declaration). is_name d.name) (declarations cores) ≡ true
+pub declared-named : (cores : List CoreText) → list_all has_named_objects cores ≡ true → list_all (λ (d : Declaration). is_name d.name) (flat_map declared_by cores) ≡ true
 declared-named [] named = refl
 declared-named (core ∷ cores) named =
     let parts = and_parts (has_named_objects core) (list_all has_named_objects cores) named in
-    list_all-append (λ (d : Declaration). is_name d.name) (declared_by core) (declarations cores) ∙ and_from _ _ (objects-named core parts.0) (declared-named cores parts.1)
+    list_all-append (λ (d : Declaration). is_name d.name) (declared_by core) (flat_map declared_by cores) ∙ and_from _ _ (objects-named core parts.0) (declared-named cores parts.1)
 
 -- ---- the names of what a core declares are those of its objects
 

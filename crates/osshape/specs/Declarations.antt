@@ -11,6 +11,7 @@ use Rattle.osbase.specs.declared.objects.Place.{Place}
 use Rattle.osplan.specs.declared.plans.TheConstants.{KINDS}
 use Rattle.osplan.specs.Expressible.{mode_name}
 use Rattle.osplan.specs.Limits.{CounterSizes}
+use Rattle.osshape.specs.declared.shapes.ConfigText.{ConfigText}
 use Rattle.osshape.specs.declared.shapes.CoreText.{CoreText}
 use Rattle.osshape.specs.declared.shapes.Named.{Named}
 use Rattle.osshape.specs.declared.declarations.Declaration.{Declaration}
@@ -45,9 +46,9 @@ declared_of core kind = map (declaration core kind) (enumerate_from 0 (objects_i
 abbrev pub declared_by : CoreText → List Declaration
 declared_by core = flat_map (declared_of core) KINDS
 
--- All objects, core by core.
-abbrev pub declarations : List CoreText → List Declaration
-declarations cores = flat_map declared_by cores
+-- All objects of a text, core by core.
+abbrev pub declarations : ConfigText → List Declaration
+declarations t = flat_map declared_by t.cores
 
 -- The only mode's name, and those of all objects.
 abbrev pub names_of : List Declaration → List (List ℕ)

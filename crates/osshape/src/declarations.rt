@@ -4,7 +4,7 @@ ghost use Rattle.std.specs.Prelude.{◌≡◌, ◌++◌, IfOk, OnOk, map};
 ghost use Rattle.std.specs.List.{enumerate_from};
 ghost use Rattle.osshape.specs.Declarations.{byte_of, declaration, declarations, declared_by, number_id, word_of};
 
-use crate::shapes::{CoreText, Named};
+use crate::shapes::{ConfigText, CoreText, Named};
 use osbase::{CoreId, List, ObjectKind};
 use osplan::KINDS;
 use osread::{Text, Whole};
@@ -94,14 +94,15 @@ fn declare<'t>(
     Ok(())
 }
 
-/// The objects of these cores.
+/// The objects of a text, core by core.
 pub fn declarations_of<'t>(
     alloc: Global,
-    cores: &'t [CoreText<'t>],
+    text: &'t ConfigText<'t>,
 ) -> Result<List<Declaration<'t>>, AllocError>
-    ensures { IfOk result (λ declared. declared ≡ declarations cores.now) }
+    ensures { IfOk result (λ declared. declared ≡ declarations text.now) }
 {
     let mut declared = List::new(alloc);
+    let cores = text.cores.as_slice();
     for core in cores {
         declare(alloc, &mut declared, core)?;
     }

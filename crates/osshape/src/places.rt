@@ -11,7 +11,7 @@ ghost use Rattle.osshape.specs.Declarations.{counter_declared, declarations, has
 ghost use Rattle.osshape.specs.Index.{Indexes};
 
 use crate::declarations::{Declaration, byte_of, declarations_of};
-use crate::shapes::CoreText;
+use crate::shapes::ConfigText;
 use osbase::{List, ObjectKind, Place};
 use osforms::Places;
 use std::alloc::{AllocError, Global};
@@ -56,7 +56,7 @@ fn index_of<'t>(alloc: Global, declared: &[Declaration<'t>]) -> Result<Index<'t>
     Ok(Index { first, are_apart })
 }
 
-/// The objects that a text's cores declare.
+/// The objects that a text declares.
 #[derive(Drop)]
 pub struct Objects<'t> {
     declared: List<Declaration<'t>>,
@@ -66,12 +66,12 @@ pub struct Objects<'t> {
 }
 
 impl<'t> Objects<'t> {
-    /// The objects of these cores, whose names are in form, as in every shape.
-    pub fn of(alloc: Global, cores: &'t [CoreText<'t>]) -> Result<Self, AllocError>
-        requires named { IsTrue (list_all has_named_objects cores.now) }
-        ensures { IfOk result (λ objects. objects.declared ≡ declarations cores.now) }
+    /// The objects of this text, whose names are in form, as in every shape.
+    pub fn of(alloc: Global, text: &'t ConfigText<'t>) -> Result<Self, AllocError>
+        requires named { IsTrue (list_all has_named_objects text.now.cores) }
+        ensures { IfOk result (λ objects. objects.declared ≡ declarations text.now) }
     {
-        let declared = declarations_of(alloc, cores)?;
+        let declared = declarations_of(alloc, text)?;
         let index = index_of(alloc, declared.as_slice())?;
         Ok(Objects { declared, index })
     }

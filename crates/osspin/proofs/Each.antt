@@ -5,7 +5,7 @@ use Rattle.std.proofs.lemmas.Bool.{cases_eq, cond-false, cond-true, eq-eqb, ne_e
 use Rattle.osbase.specs.declared.references.CoreId.{CoreId}
 use Rattle.osbase.specs.declared.references.SpinlockId.{SpinlockId}
 use Rattle.osseat.specs.Histories.{IsLegal, IsLegalFrom, entry}
-use Rattle.osspin.specs.declared.calls.TheConstants.{SPINLOCKS}
+use Rattle.osbase.specs.declared.limits.TheConstants.{SPINLOCKS}
 use Rattle.osspin.specs.Spins.{SpinEntry, calls_on, holder_of, holders_after, lock_after, lock_reply, no_holders, one_lock, spinlocks}
 
 module _ (lock : SpinlockId) where

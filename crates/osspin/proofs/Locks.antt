@@ -11,7 +11,7 @@ use Rattle.osseat.specs.Histories.{Continues, entry}
 use Rattle.osseat.specs.Runs.{AreIdle}
 use Rattle.osseat.specs.Views.{IsStep}
 use Rattle.osseat.proofs.Steps.{continues}
-use Rattle.osspin.specs.declared.calls.TheConstants.{SPINLOCKS}
+use Rattle.osbase.specs.declared.limits.TheConstants.{SPINLOCKS}
 use Rattle.osspin.specs.declared.calls.SpinAction.{SpinAction}
 use Rattle.osspin.specs.declared.calls.SpinAction.TheVariants.{Take, Free, Look}
 use Rattle.osspin.specs.declared.calls.SpinCall.{SpinCall}

@@ -5,7 +5,7 @@ use Rattle.osbase.specs.declared.references.SpinlockId.{SpinlockId}
 use Rattle.osbase.specs.History.{same_core}
 use Rattle.osseat.specs.declared.histories.Entry.{Entry}
 use Rattle.osseat.specs.Histories.{Object, entry}
-use Rattle.osspin.specs.declared.calls.TheConstants.{SPINLOCKS}
+use Rattle.osbase.specs.declared.limits.TheConstants.{SPINLOCKS}
 use Rattle.osspin.specs.declared.calls.SpinAction.{SpinAction}
 use Rattle.osspin.specs.declared.calls.SpinAction.TheVariants.{Take, Free, Look}
 use Rattle.osspin.specs.declared.calls.SpinCall.{SpinCall}

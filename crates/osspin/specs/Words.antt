@@ -1,7 +1,7 @@
 -- The words of the spinlocks.
 use Rattle.std.specs.Prelude.{◌≡◌, ◌==◌, ℕ, ◌+◌, ◌-◌, ◌<◌, nat_lt, if◌then◌else◌, Option, Some, None, List, All, length, map}
 use Rattle.osbase.specs.declared.references.CoreId.{CoreId}
-use Rattle.osspin.specs.declared.calls.TheConstants.{SPINLOCKS}
+use Rattle.osbase.specs.declared.limits.TheConstants.{SPINLOCKS}
 use Rattle.osspin.specs.declared.calls.SpinAction.{SpinAction}
 use Rattle.osspin.specs.declared.calls.SpinAction.TheVariants.{Take, Free, Look}
 use Rattle.osspin.specs.declared.calls.SpinCall.{SpinCall}

@@ -4,8 +4,8 @@ ghost use Rattle.std.specs.Prelude.{◌≡◌, ◌<◌, map, IfOk};
 ghost use Rattle.osseat.specs.Seats.{AllApart, AllAt, Extends, IsOneHistory, cores_of, fresh};
 ghost use Rattle.osspin.specs.Spins.{free_call, look_call, spinlocks, try_take_call};
 
-use crate::calls::{SPINLOCKS, SpinAction, SpinCall, Spinlocks, holder_in, word_of};
-use osbase::{CoreId, List, SpinlockId};
+use crate::calls::{SpinAction, SpinCall, Spinlocks, holder_in, word_of};
+use osbase::{CoreId, List, SPINLOCKS, SpinlockId};
 use osseat::{CoreSeat, Plan, SharedWords};
 use std::alloc::{AllocError, Global};
 use std::marker::{Brand, Model};
@@ -24,7 +24,7 @@ pub struct SpinBank {
 impl Model for SpinBank {
     ghost use Rattle.std.specs.Prelude.{◌≡◌};
     ghost use Rattle.osseat.specs.Seats.{Place};
-    ghost use Rattle.osspin.specs.declared.calls.TheConstants.{SPINLOCKS};
+    ghost use Rattle.osbase.specs.declared.limits.TheConstants.{SPINLOCKS};
 
     ghost Value = { Place Unit };
 

@@ -7,9 +7,6 @@ use osbase::{CoreId, SpinlockId};
 use osseat::SharedObject;
 use std::collections::LinkedList;
 
-/// How many spinlocks there are at most.
-pub const SPINLOCKS: usize = 16;
-
 /// What a core does to a spinlock (AUTOSAR SWS OS 4.x, TryToGetSpinlock and ReleaseSpinlock; that one
 /// looks is this project's own).
 #[derive(Clone, Copy, Debug, PartialEq, Eq)]

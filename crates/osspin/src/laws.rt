@@ -3,7 +3,7 @@
 ghost use Rattle.std.specs.Prelude.{◌<◌, List};
 ghost use Rattle.osseat.specs.Histories.{IsLegal};
 ghost use Rattle.osbase.specs.declared.references.SpinlockId.{SpinlockId};
-ghost use Rattle.osspin.specs.declared.calls.TheConstants.{SPINLOCKS};
+ghost use Rattle.osbase.specs.declared.limits.TheConstants.{SPINLOCKS};
 ghost use Rattle.osspin.specs.Spins.{SpinEntry, calls_on, one_lock, spinlocks};
 
 /// Where the calls of all spinlocks are one legal history, so are those of each spinlock, as the calls of one lock.

@@ -9,7 +9,7 @@ pub mod laws;
 pub mod list;
 
 pub use bank::{SpinBank, SpinSeat};
-pub use calls::{SPINLOCKS, SpinAction, SpinCall, SpinReply, Spinlocks};
+pub use calls::{SpinAction, SpinCall, SpinReply, Spinlocks};
 pub use list::SpinList;
 
 #[cfg(test)]

@@ -4,8 +4,8 @@ ghost use Rattle.std.specs.Prelude.{◌≡◌, ◌<◌};
 ghost use Rattle.osseat.specs.Histories.{Continues, entry};
 ghost use Rattle.osspin.specs.Spins.{free_call, holder_of, holders_after, is_free, is_held_by, lock_after, lock_reply, look_call, no_holders, spin_call, spin_reply, spinlocks, try_take_call};
 
-use crate::calls::{SPINLOCKS, SpinAction, SpinCall, SpinReply};
-use osbase::{CoreId, SpinlockId};
+use crate::calls::{SpinAction, SpinCall, SpinReply};
+use osbase::{CoreId, SPINLOCKS, SpinlockId};
 use std::marker::Model;
 
 /// The spinlocks by who holds each. It answers as `SpinBank` does, by the same definition.

@@ -2,11 +2,11 @@ ghost use Rattle.std.specs.Prelude.{◌≡◌, ◌<◌, [], ℕ, All, IfOk, IfSo
 ghost use Rattle.osseat.specs.Histories.{Thinned};
 ghost use Rattle.osseat.specs.Runs.{IsOneRun, IsRunOf};
 ghost use Rattle.osseat.specs.Seats.{AllApart};
-ghost use Rattle.osspin.specs.declared.calls.TheConstants.{SPINLOCKS};
+ghost use Rattle.osbase.specs.declared.limits.TheConstants.{SPINLOCKS};
 ghost use Rattle.osspin.specs.Spins.{IsRefusedTry, spinlocks};
 
-use crate::{SPINLOCKS, SpinAction, SpinBank, SpinCall, SpinList, SpinReply, SpinSeat};
-use osbase::{CoreId, List, SpinlockId};
+use crate::{SpinAction, SpinBank, SpinCall, SpinList, SpinReply, SpinSeat};
+use osbase::{CoreId, List, SPINLOCKS, SpinlockId};
 use osseat::Entry;
 use std::alloc::{AllocError, Global};
 use std::test::Fail;

@@ -6,7 +6,7 @@ use Rattle.std.proofs.lemmas.Bool.{false≢true, and_parts}
 use Rattle.osbase.specs.declared.references.CoreId.{CoreId}
 use Rattle.osbase.specs.declared.references.Runner.{Runner}
 use Rattle.osbase.specs.declared.histories.Sent.{Sent}
-use Rattle.osbase.specs.declared.turns.TheConstants.{CORES, RUNNERS}
+use Rattle.osbase.specs.declared.limits.TheConstants.{CORES, RUNNERS}
 use Rattle.osbase.specs.History.{same_core}
 use Rattle.osbase.specs.Phases.{is_past_first_gate}
 use Rattle.osbase.specs.Sets.{numbers_from}
@@ -32,7 +32,8 @@ use Rattle.osstate.specs.Steps.{state_from, first_border, first_progress, first_
 use Rattle.osstate.specs.Readings.{script_of}
 use Rattle.osstate.specs.Sound.{IsSound, is_agreed, has_objects_of}
 use Rattle.osbase.proofs.Same.{same_core-comm, same_core-true}
-use Rattle.osplan.proofs.Tests.{all-weaker, find-holds, find-passes, passes-at}
+use Rattle.osplan.proofs.Tests.{all-weaker, find-holds, find-passes}
+use Rattle.osbase.proofs.Places.{passes-at}
 use Rattle.osplan.proofs.Alarming.{known-actions, known-named, known-parts}
 use Rattle.osplan.proofs.Clocked.{clocks_within}
 use Rattle.osplan.proofs.Within.{FitsKernel, limit-parts, core-fits, core-text-parts, text-parts}

@@ -7,7 +7,7 @@ use Rattle.osbase.specs.declared.references.CoreId.{CoreId}
 use Rattle.osbase.specs.declared.histories.Sent.{Sent}
 use Rattle.osbase.specs.declared.messages.Message.{Message}
 use Rattle.osbase.specs.declared.marks.Mark.{Mark}
-use Rattle.osbase.specs.declared.turns.TheConstants.{CORES}
+use Rattle.osbase.specs.declared.limits.TheConstants.{CORES}
 use Rattle.osbase.specs.History.{History, Entry, Note, Printed, Noted, Queued, queued_count}
 use Rattle.oscript.specs.Runners.{runner_of}
 use Rattle.osplan.specs.View.{View}

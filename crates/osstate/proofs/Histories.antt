@@ -11,7 +11,7 @@ use Rattle.osbase.specs.declared.references.Runner.{Runner}
 use Rattle.osbase.specs.declared.messages.Message.{Message}
 use Rattle.osbase.specs.declared.items.Item.{Item}
 use Rattle.osbase.specs.declared.marks.Mark.{Mark}
-use Rattle.osbase.specs.declared.turns.TheConstants.{CORES, ISRS, RUNNERS, TASKS}
+use Rattle.osbase.specs.declared.limits.TheConstants.{CORES, ISRS, RUNNERS, TASKS}
 use Rattle.osbase.specs.History.{History, Entry, Took, Printed, Noted, Queued, same_core, same_runner, queued_count, received_count}
 use Rattle.osbase.specs.Sets.{core_ids, numbers_from, slot_of}
 use Rattle.osbase.proofs.Same.{same_core-true, same_core-refl, same_runner-true, same_runner-refl}

@@ -20,7 +20,8 @@ use Rattle.osplan.specs.declared.plans.Table.{Table}
 use Rattle.osplan.specs.Clocked.{are_clocks_within}
 use Rattle.osplan.specs.Objects.{core_actions, is_own_object, may_act, table_actions}
 use Rattle.osplan.specs.View.{View, own_alarm, own_table}
-use Rattle.osplan.proofs.Tests.{each-flat, passes-at}
+use Rattle.osplan.proofs.Tests.{each-flat}
+use Rattle.osbase.proofs.Places.{passes-at}
 use Rattle.osclock.specs.Clocks.{alarm_in, counter_in, counts_to_by, counts_to_in, counts_to_value_by, counts_to_value_in, due_by, due_in, is_in_use_by, is_used, left_by, left_in, value_by}
 use Rattle.osclock.proofs.Asked.{counts_to-read, counts_to_value-read, dues-read, left-read, used-read, value-read}
 use Rattle.ostable.specs.declared.table.TableStatus.{TableStatus}

@@ -20,7 +20,7 @@ use Rattle.osbase.specs.History.{Printed, Took, agreement_after, began_after, cl
 use Rattle.osplan.specs.declared.plans.Core.{Core}
 use Rattle.osplan.specs.declared.plans.Task.{Task}
 use Rattle.osplan.specs.View.{own_task}
-use Rattle.osplan.proofs.Tests.{passes-at}
+use Rattle.osbase.proofs.Places.{passes-at}
 use Rattle.osclock.specs.Clocks.{AreClocks, ClockState}
 use Rattle.ostable.specs.Tables.{AreTables, TableStates}
 use Rattle.ostable.specs.Waiting.{all_wait_by_counter}

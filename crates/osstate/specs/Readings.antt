@@ -27,7 +27,7 @@ use Rattle.osplan.specs.declared.plans.Resource.{Resource}
 use Rattle.osplan.specs.declared.plans.Table.{Table}
 use Rattle.osplan.specs.declared.plans.Task.{Task}
 use Rattle.osplan.specs.View.{View, own_alarm, own_counter, own_isr, own_resource, own_table, own_task}
-use Rattle.osbase.specs.declared.turns.TheConstants.{RUNNERS, TASKS}
+use Rattle.osbase.specs.declared.limits.TheConstants.{RUNNERS, TASKS}
 use Rattle.osclock.specs.Clocks.{alarm_ref, counter_ref}
 use Rattle.ostable.specs.Tables.{table_ref}
 use Rattle.osrunner.specs.Rows.{row_in}
@@ -113,7 +113,7 @@ knows_started h id = has_core (started_cores h) id
 
 -- The phase of this core.
 abbrev pub phase_at : View → History → Phase
-phase_at v h = phase_of v.is_master h
+phase_at v h = phase_of v.around.is_master h
 
 -- The next core of the start list. [AUTOSAR SWS OS 4.x, StartCore; that there is a list is this project's own]
 abbrev pub next_start : View → ℕ → Option CoreId

@@ -7,7 +7,7 @@ use Rattle.osbase.specs.declared.histories.Job.{Job}
 use Rattle.osbase.specs.declared.histories.Phase.{Phase}
 use Rattle.osbase.specs.declared.items.Agreement.{Agreement}
 use Rattle.osbase.specs.declared.items.Item.{Item}
-use Rattle.osbase.specs.declared.turns.TheConstants.{CORES, ISRS, TASKS}
+use Rattle.osbase.specs.declared.limits.TheConstants.{CORES, ISRS, TASKS}
 use Rattle.osbase.specs.History.{job_count}
 use Rattle.osbase.specs.Phases.{is_before_live, is_past_first_gate}
 use Rattle.oscript.specs.declared.Op.{Op}
@@ -19,7 +19,7 @@ use Rattle.osplan.specs.declared.plans.Resource.{Resource}
 use Rattle.osplan.specs.declared.plans.Task.{Task}
 use Rattle.osplan.specs.Objects.{core_actions, may_act, may_name}
 use Rattle.osplan.specs.View.{own_task}
-use Rattle.osres.specs.declared.held.TheConstants.{RESOURCES}
+use Rattle.osbase.specs.declared.limits.TheConstants.{RESOURCES}
 use Rattle.osjobs.specs.Jobs.{Each}
 use Rattle.osjobs.specs.Priorities.{is_own_runner}
 use Rattle.osclock.specs.Clocks.{AreClocks, ClockState}

@@ -1,7 +1,7 @@
 //! What crosses a core's border: the open call, the outbox, and how many envelopes went each way.
 
 ghost use Rattle.std.specs.Prelude.{◌≡◌, ◌<◌, ◌^◌, ℕ, length, slice_index, IsTrue};
-ghost use Rattle.osbase.specs.declared.turns.TheConstants.{CORES};
+ghost use Rattle.osbase.specs.declared.limits.TheConstants.{CORES};
 ghost use Rattle.osbase.specs.History.{Took, closed_by as call_closed_by, open_after, outbox_after};
 ghost use Rattle.osstate.specs.Sound.{is_posted, is_sender_known};
 ghost use Rattle.osstate.specs.Steps.{one_more, received_after};

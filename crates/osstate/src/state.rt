@@ -3,7 +3,7 @@
 ghost use Rattle.std.specs.Prelude.{◌≡◌, ◌==◌, ◌||◌, ◌∷◌, ◌<◌, ◌≤◌, ◌^◌, [], nat_lt, IsTrue, IsSome, IfSome, false, true, length, nat_le, option_copied, option_map, Some, slice_get, slice_index, suc, sum_by};
 ghost use Rattle.std.specs.List.{list_all};
 ghost use Rattle.osbase.specs.declared.references.AlarmRef.{AlarmRef as AlarmRefValue};
-ghost use Rattle.osbase.specs.declared.turns.TheConstants.{CORES};
+ghost use Rattle.osbase.specs.declared.limits.TheConstants.{CORES};
 ghost use Rattle.osbase.specs.History.{Took, Printed, Noted, AlarmCancelled, AlarmSet, Counted, Opened, Queued, Taken, Given, Done, job_count, phase_after, queued_count, same_core};
 ghost use Rattle.osbase.specs.Objects.{alarm_object, counter_object};
 ghost use Rattle.osbase.specs.Phases.{is_before_live, is_past_first_gate};
@@ -35,15 +35,14 @@ use crate::scripts::script_of;
 use crate::slots::SentSlot;
 use arrayvec::ArrayVec;
 use osbase::{
-    Agreement, AlarmRef, CORES, CoreId, CounterRef, Envelope, HeldResource, IsrRef, Item, Job,
-    Mark, Message, Object, OpenCall, Phase, RemoteCall, ResourceRef, Runner, Sent, Status,
-    Stimulus, TaskEvents, TaskRef,
+    Agreement, AlarmRef, CORES, CoreId, CoreMode, CounterRef, Envelope, HeldResource, IsrRef, Item,
+    Job, Mark, Message, Object, OpenCall, Phase, RESOURCES, RemoteCall, ResourceRef, Runner, Sent,
+    Status, Stimulus, TaskEvents, TaskRef,
 };
 use osclock::{AlarmList, Clocks};
 use oscript::{Action, Frame};
 use osjobs::Jobs;
-use osplan::{Alarm, Config, Core, CoreMode, Counter, Task, own};
-use osres::RESOURCES;
+use osplan::{Alarm, Config, Core, Counter, Task, own};
 use ostable::Tables;
 use std::marker::Model;
 

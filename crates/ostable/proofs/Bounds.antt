@@ -7,7 +7,7 @@ use Rattle.osplan.specs.declared.plans.Core.{Core}
 use Rattle.osplan.specs.Objects.{is_own_object}
 use Rattle.osattach.proofs.Members.{list-at as own-list}
 use Rattle.osattach.proofs.Own.{own-inside, those-inside}
-use Rattle.osattach.proofs.Places.{counter-place}
+use Rattle.osplan.proofs.Counters.{counter-place}
 use Rattle.osattach.proofs.Ranges.{length-table}
 use Rattle.ostable.specs.Tables.{AreTables, TableStates, table_by, table_family, table_ref, timed_by}
 use Rattle.ostable.proofs.Places.{placed}
@@ -22,7 +22,7 @@ module _ (core : Core) (x : TableStates) (are : AreTables core x) where
   table-inside s own = omega (arith, tables-length, own-inside (placed core) s own)
 
   pub list-at : (c : CounterRef) → is_own_object core (counter_object c) ≡ true → get_or x.timed c.index [] ≡ timed_by core c
-  list-at c own = ap (λ (y : TableStates). get_or y.timed c.index []) are.is ∙ own-list core (table_family core) c (counter-place core c own)
+  list-at c own = ap (λ (y : TableStates). get_or y.timed c.index []) are.is ∙ own-list core.id (table_family core) (length core.counters) c (counter-place core c own)
 
   pub timed-inside : (c : CounterRef) → All (λ (s : TableRef). s.index < length x.tables) (timed_by core c)
   timed-inside c = those-inside (placed core) c (length x.tables) tables-length

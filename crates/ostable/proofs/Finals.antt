@@ -18,9 +18,9 @@ use Rattle.osplan.specs.Limits as limits
 use Rattle.osplan.specs.Objects.{is_own_object}
 use Rattle.osplan.specs.View.{own_counter, own_table}
 use Rattle.osplan.proofs.Clocked.{clock-parts}
-use Rattle.osplan.proofs.Tests.{passes-at, some-at}
+use Rattle.osbase.proofs.Places.{passes-at, some-at}
 use Rattle.osplan.proofs.Within.{between}
-use Rattle.osattach.proofs.Places.{counter-is, counter-place}
+use Rattle.osplan.proofs.Counters.{counter-is, counter-place}
 use Rattle.ostable.specs.declared.table.Due.{Due}
 use Rattle.ostable.specs.Periods.{count_in_period, counts_run, number_of_point}
 use Rattle.ostable.specs.Ahead.{due_at, due_in, if_any}

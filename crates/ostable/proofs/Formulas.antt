@@ -11,7 +11,7 @@ use Rattle.osbase.specs.Counting.{TableState, Stopped, NextOf, counted_once, cou
 use Rattle.osbase.specs.History.{History, Entry, Noted, Counted, TableStarted, TableQuit, TableNext}
 use Rattle.osplan.specs.declared.plans.ExpiryPoint.{ExpiryPoint}
 use Rattle.osplan.specs.declared.plans.Table.{Table as TablePlan}
-use Rattle.osplan.proofs.Tests.{passes-at}
+use Rattle.osbase.proofs.Places.{passes-at}
 use Rattle.ostable.specs.declared.table.Due.{Due}
 use Rattle.ostable.specs.Periods.{count_in_period, number_of_point}
 use Rattle.ostable.specs.Ahead.{IsTimed, due_in, if_any}

@@ -15,7 +15,7 @@ use Rattle.osplan.specs.Objects.{is_own_object}
 use Rattle.osplan.specs.View.{own_table}
 use Rattle.osplan.proofs.Clocked.{clock-parts}
 use Rattle.osattach.proofs.Own.{kept-there, none-changed, one-changed, own-some, refers, those-changed}
-use Rattle.osattach.proofs.Places.{counter-apart}
+use Rattle.osplan.proofs.Counters.{counter-apart}
 use Rattle.osattach.proofs.Ranges.{table-within}
 use Rattle.ostable.specs.declared.table.Table.{Table}
 use Rattle.ostable.specs.Ahead.{table_at, table_beyond}

@@ -1,7 +1,6 @@
 -- A core's own schedule tables, by place.
 use Rattle.std.proofs.Common.{◌≡◌, ℕ, ◌<◌, true, length, refl, ap}
 use Rattle.std.specs.List.{slice_get}
-use Rattle.osbase.specs.declared.objects.ObjectKind.TheVariants.{Table}
 use Rattle.osbase.specs.declared.references.TableRef.{TableRef}
 use Rattle.osbase.specs.Objects.{table_object, table_of, table_place}
 use Rattle.osplan.specs.declared.plans.Core.{Core}
@@ -11,8 +10,8 @@ use Rattle.osattach.proofs.Own.{Placed, own-is, own-there}
 use Rattle.ostable.specs.Tables.{table_family, table_ref}
 
 -- They are all of the core's objects of their kind.
-abbrev pub placed : (core : Core) → Placed core (table_family core)
-placed core = record { kind = Table; place = table_place; plans = core.tables; ref = (λ s is. ap table_of is); at = (λ n. refl); own = (λ s. refl); many = refl; all = refl }
+abbrev pub placed : (core : Core) → Placed core.id (length core.counters) (table_family core)
+placed core = record { place = table_place; plans = core.tables; ref = (λ s is. ap table_of is); at = (λ n. refl); own = (λ s. refl); all = refl }
 
 pub table-is : (core : Core) (s : TableRef) → is_own_object core (table_object s) ≡ true → own_table core s ≡ slice_get core.tables s.index
 table-is core s own = own-is (placed core) s own

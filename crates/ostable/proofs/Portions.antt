@@ -11,12 +11,12 @@ use Rattle.osbase.proofs.Same.{same_core-refl}
 use Rattle.osplan.specs.declared.plans.Core.{Core}
 use Rattle.osplan.specs.declared.plans.Table.{Table as TablePlan}
 use Rattle.osplan.specs.View.{own_table}
-use Rattle.osattach.specs.Attached.{counter_ref}
+use Rattle.osplan.specs.Counters.{counter_ref}
 use Rattle.osattach.proofs.Members.{portions}
 use Rattle.ostable.specs.Tables.{table_family, table_ref, table_refs, timed_by}
 
 pub timed-portions : (core : Core) (f : TableRef → ℕ) (count : ℕ) → sum_by (λ (n : ℕ). sum_by f (timed_by core (counter_ref core n))) (numbers_from 0 count) ≤ sum_by f (table_refs core)
-timed-portions core f count = portions core (table_family core) f count
+timed-portions core f count = portions core.id (table_family core) f count
 
 -- ---- of all tables, as they are configured
 

@@ -7,7 +7,7 @@ use Rattle.std.proofs.lemmas.Bool.{eq-eqb, eqb-false, eqb-true, leb-false, leb-t
 use Rattle.osbase.specs.Counting.{TableRun, TableState, Stopped, NextOf, Running, counted_once}
 use Rattle.osplan.specs.declared.plans.ExpiryPoint.{ExpiryPoint}
 use Rattle.osplan.specs.declared.plans.Table.{Table as TablePlan}
-use Rattle.osplan.proofs.Tests.{passes-at}
+use Rattle.osbase.proofs.Places.{passes-at}
 use Rattle.ostable.specs.declared.table.Ahead.{Ahead}
 use Rattle.ostable.specs.declared.table.Due.{Due}
 use Rattle.ostable.specs.declared.table.Table.{Table}

@@ -14,7 +14,7 @@ use Rattle.osplan.specs.Limits as limits
 use Rattle.osplan.specs.View.{own_table}
 use Rattle.osplan.proofs.Clocked.{clock-parts}
 use Rattle.osplan.proofs.Within.{between}
-use Rattle.osattach.proofs.Places.{own-passes as passes}
+use Rattle.osbase.proofs.Places.{own-passes as passes}
 use Rattle.ostable.specs.Ahead.{IsTimed}
 use Rattle.ostable.specs.Periods.{are_ascending}
 

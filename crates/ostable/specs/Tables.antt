@@ -13,7 +13,9 @@ use Rattle.osplan.specs.declared.plans.Table.{Table as TablePlan}
 use Rattle.osplan.specs.Clocked.{are_clocks_within}
 use Rattle.osplan.specs.Objects.{is_own_object}
 use Rattle.osplan.specs.View.{own_table}
-use Rattle.osattach.specs.Attached.{Family, all_changed, each_by, each_changed, goes_by, refs_of, those_by}
+use Rattle.osattach.specs.Attached.{all_changed, each_changed}
+use Rattle.osbase.specs.Families.{Family, goes_by, refs_of, those_by}
+use Rattle.osplan.specs.Counters.{each_by}
 use Rattle.ostable.specs.declared.tables.DueTable.{DueTable}
 use Rattle.ostable.specs.declared.table.Due.{Due}
 use Rattle.ostable.specs.declared.table.Table.{Table}

@@ -7,19 +7,16 @@ ghost use Rattle.osbase.specs.History.{Noted, Counted, TableStarted, TableQuit, 
 ghost use Rattle.osbase.specs.Objects.{counter_object, table_object};
 ghost use Rattle.osplan.specs.Clocked.{are_clocks_within};
 ghost use Rattle.osplan.specs.Objects.{is_own_object};
-ghost use Rattle.osattach.specs.Attached.{IsObject, each_by};
+ghost use Rattle.osplan.specs.Counters.{IsObject, each_by};
 ghost use Rattle.ostable.specs.Tables.{AreTables, due_in, due_table, due_tables_in, each_moved, next_in, started, status_in, table_family, table_in, table_refs, tables_by, tables_of};
 ghost use Rattle.ostable.specs.declared.table.Table.{Table as TableValue};
 
 use crate::table::{Due, Table, TableStatus};
 use arrayvec::ArrayVec;
 use osattach::Attached;
-use osbase::{CoreId, CounterRef, TableRef};
+use osbase::{CoreId, CounterRef, TABLES, TableRef};
 use osplan::{Core, own};
 use std::marker::Model;
-
-/// The most schedule tables of a core.
-pub const TABLES: usize = 8;
 
 /// What a table does at a count, and which table begins in its place where its period ends.
 #[derive(Clone, Copy, Debug, Default, PartialEq, Eq)]
@@ -172,7 +169,8 @@ fn new_timed(core: &Core) -> Attached<TableRef, TABLES>
     requires { IsTrue (are_clocks_within core.now) }
     ensures { result ≡ each_by core.now (table_family core.now) (table_refs core.now) }
 {
-    Attached::new(core, core.tables.len(), |index| object_at(core, index))
+    let counters = core.counters.len();
+    Attached::new(counters, core.tables.len(), |index| object_at(core, index))
 }
 
 // The counter of the table of this index, and its reference.

@@ -12,8 +12,8 @@ use Rattle.osbase.specs.declared.marks.Mark.{Mark}
 use Rattle.osbase.specs.declared.histories.Phase.{Phase}
 use Rattle.osbase.specs.History.{History, Took, Printed, began_count, item_count, marks_of, phase_of}
 use Rattle.osbase.specs.Sets.{core_ids, has_core}
-use Rattle.osplan.specs.declared.plans.CoreMode.{CoreMode}
-use Rattle.osplan.specs.declared.plans.CoreMode.TheVariants.{Named}
+use Rattle.osbase.specs.declared.items.CoreMode.{CoreMode}
+use Rattle.osbase.specs.declared.items.CoreMode.TheVariants.{Named}
 use Rattle.osplan.specs.Stimuli.{knows_stimulus}
 use Rattle.osplan.specs.View.{View, is_configured}
 use Rattle.osstate.specs.Readings.{knows_started, next_start, phase_at}
@@ -124,7 +124,7 @@ module _ (v : View) (ids : List CoreId) (allowed : NamesAllow v nobody) where
 
   module _ (s : CoreSet) where
     abbrev here : History → History
-    here k = among s (base_of v.is_master) k
+    here k = among s (base_of v.around.is_master) k
 
     -- A live core that is started, in the world and alone, without an open call or an envelope.
     record Steady (k : History) : Type 0 where
@@ -134,7 +134,7 @@ module _ (v : View) (ids : List CoreId) (allowed : NamesAllow v nobody) where
       pub alone : knows_started k v.core ≡ true
 
     phase-here : (k : History) → phase_at v (here k) ≡ phase_at self k
-    phase-here k = phase-same s v.is_master k
+    phase-here k = phase-same s v.around.is_master k
 
     steady-on : (stimulus : Stimulus) (k : History) → Steady k → Steady (after self k (Item.Stim stimulus))
     steady-on stimulus k steady = record {
@@ -150,7 +150,7 @@ module _ (v : View) (ids : List CoreId) (allowed : NamesAllow v nobody) where
 
     -- From live on: each stimulus is the same, and the end.
     live : (items : List Item) (k : History) (st : List Stimulus) → Steady k → Taken v (here k) items → IsBeginning (stimuli_in items) st → (has_drained items ≡ true → stimuli_in items ≡ st) → Goes v self (here k) k items (live_items st)
-    live [] k st steady taken begins drains = stops v self (here k) k (live_items st) (marks-same s v.is_master k)
+    live [] k st steady taken begins drains = stops v self (here k) k (live_items st) (marks-same s v.around.is_master k)
     live (Item.Stim stimulus ∷ is) k st steady taken begins drains =
         let ahead = stimuli_in is ++ begins.0 in
         let step = same-stimulus v ids s allowed stimulus k steady.there steady.alone in
@@ -164,7 +164,7 @@ module _ (v : View) (ids : List CoreId) (allowed : NamesAllow v nobody) where
       where
         ends : Ends v (after v (here k) Item.Drained) is
         ends = drained v (after v (here k) Item.Drained)
-            (drained-idle v (here k) (open-same s v.is_master k ∙ steady.calm.closed))
+            (drained-idle v (here k) (open-same s v.around.is_master k ∙ steady.calm.closed))
             (phase-after v (here k) Item.Drained)
             is (first v (here k) Item.Drained is taken).rest
 
@@ -172,7 +172,7 @@ module _ (v : View) (ids : List CoreId) (allowed : NamesAllow v nobody) where
         none = sym (drains refl) ∙ ends.1
 
         marks : marks_of (history_from v (after v (here k) Item.Drained) is) ≡ marks_of (after self k Item.Drained)
-        marks = ends.0 ∙ ap marks_of (same-drained v ids s allowed k steady.there steady.alone) ∙ marks-same s v.is_master (after self k Item.Drained)
+        marks = ends.0 ∙ ap marks_of (same-drained v ids s allowed k steady.there steady.alone) ∙ marks-same s v.around.is_master (after self k Item.Drained)
     live (i ∷ is) k st steady taken begins drains = let e : Some Phase.Live ≡ stage_of i = ap Some (sym (phase-here k ∙ steady.live)) ∙ (first v (here k) i is taken).at in cc
 
   -- ---- the gates
@@ -201,7 +201,7 @@ module _ (v : View) (ids : List CoreId) (allowed : NamesAllow v nobody) where
 
     -- From each gate on, and from the beginning of each part before the gates.
     second : (items : List Item) (st : List Stimulus) → Taken v (here own readied) items → FitsIn items st → Goes v self (here own readied) readied items (Item.Pass2 own ∷ live_items st)
-    second [] st taken fits = stops v self (here own readied) readied (Item.Pass2 own ∷ live_items st) (marks-same own v.is_master readied)
+    second [] st taken fits = stops v self (here own readied) readied (Item.Pass2 own ∷ live_items st) (marks-same own v.around.is_master readied)
     second (Item.Pass2 s ∷ is) st taken fits =
         let turn = first v (here own readied) (Item.Pass2 s) is taken in
         let s_in = (and_parts (has_core s v.core) (list_all (λ (id : CoreId). not (has_core s id) || is_configured v id) core_ids) turn.may).0 in
@@ -210,7 +210,7 @@ module _ (v : View) (ids : List CoreId) (allowed : NamesAllow v nobody) where
     second (i ∷ is) st taken fits = let e : Some Phase.SecondGate ≡ stage_of i = (first v (here own readied) i is taken).at in cc
 
     between : (items : List Item) (st : List Stimulus) → Taken v (here own (passed_first m)) items → FitsIn items st → Goes v self (here own (passed_first m)) (passed_first m) items (Item.Readied ∷ Item.Pass2 own ∷ live_items st)
-    between [] st taken fits = stops v self (here own (passed_first m)) (passed_first m) (Item.Readied ∷ Item.Pass2 own ∷ live_items st) (marks-same own v.is_master (passed_first m))
+    between [] st taken fits = stops v self (here own (passed_first m)) (passed_first m) (Item.Readied ∷ Item.Pass2 own ∷ live_items st) (marks-same own v.around.is_master (passed_first m))
     between (Item.Readied ∷ is) st taken fits = second is st (first v (here own (passed_first m)) Item.Readied is taken).rest fits
     between (i ∷ is) st taken fits = let e : Some Phase.BetweenGates ≡ stage_of i = (first v (here own (passed_first m)) i is taken).at in cc
 
@@ -228,7 +228,7 @@ module _ (v : View) (ids : List CoreId) (allowed : NamesAllow v nobody) where
     agreed Agreement.NoMode no_conflict e = absurd (false≢true (subst (λ (o : CoreMode). is_agreement v o Agreement.NoMode ≡ true) mode e))
 
     gate : (items : List Item) (st : List Stimulus) → Taken v (here own entered) items → FitsIn items st → Goes v self (here own entered) entered items (after_entering st)
-    gate [] st taken fits = stops v self (here own entered) entered (after_entering st) (marks-same own v.is_master entered)
+    gate [] st taken fits = stops v self (here own entered) entered (after_entering st) (marks-same own v.around.is_master entered)
     gate (Item.Pass1 a ∷ is) st taken fits =
         let turn = first v (here own entered) (Item.Pass1 a) is taken in
         let mine = agreed a turn.agreed turn.may in
@@ -236,19 +236,19 @@ module _ (v : View) (ids : List CoreId) (allowed : NamesAllow v nobody) where
         (between is st (subst (λ (b : Agreement). Taken v (after v (here own entered) (Item.Pass1 b)) is) mine turn.rest) fits)
     gate (i ∷ is) st taken fits = let e : Some Phase.FirstGate ≡ stage_of i = (first v (here own entered) i is taken).at in cc
 
-    boots : phase_at v (base_of v.is_master) ≡ Phase.Boot
-    boots = phase-same own v.is_master []
+    boots : phase_at v (base_of v.around.is_master) ≡ Phase.Boot
+    boots = phase-same own v.around.is_master []
 
-    boot : (items : List Item) (st : List Stimulus) → Taken v (base_of v.is_master) items → FitsIn items st → Goes v self (base_of v.is_master) [] items (boot_items m own st)
-    boot [] st taken fits = stops v self (base_of v.is_master) [] (boot_items m own st) (marks-same own v.is_master [])
-    boot (Item.Entered ∷ is) st taken fits = gate is st (first v (base_of v.is_master) Item.Entered is taken).rest fits
+    boot : (items : List Item) (st : List Stimulus) → Taken v (base_of v.around.is_master) items → FitsIn items st → Goes v self (base_of v.around.is_master) [] items (boot_items m own st)
+    boot [] st taken fits = stops v self (base_of v.around.is_master) [] (boot_items m own st) (marks-same own v.around.is_master [])
+    boot (Item.Entered ∷ is) st taken fits = gate is st (first v (base_of v.around.is_master) Item.Entered is taken).rest fits
     boot (Item.Began core status ∷ is) st taken fits =
-        let may = (first v (base_of v.is_master) (Item.Began core status) is taken).may in
-        let next = (and_parts _ (is_for core (next_start v (began_count (base_of v.is_master)))) (and_parts _ (is_start_answer v core status) may).0).1 in
-        absurd (false≢true (subst (λ (cores : List CoreId). is_for core (slice_get cores (began_count (base_of v.is_master))) ≡ true) start next))
-    boot (i ∷ is) st taken fits = let e : Some Phase.Boot ≡ stage_of i = ap Some (sym boots) ∙ (first v (base_of v.is_master) i is taken).at in cc
+        let may = (first v (base_of v.around.is_master) (Item.Began core status) is taken).may in
+        let next = (and_parts _ (is_for core (next_start v (began_count (base_of v.around.is_master)))) (and_parts _ (is_start_answer v core status) may).0).1 in
+        absurd (false≢true (subst (λ (cores : List CoreId). is_for core (slice_get cores (began_count (base_of v.around.is_master))) ≡ true) start next))
+    boot (i ∷ is) st taken fits = let e : Some Phase.Boot ≡ stage_of i = ap Some (sym boots) ∙ (first v (base_of v.around.is_master) i is taken).at in cc
 
-    off : v.is_master ≡ false → (items : List Item) (st : List Stimulus) → Taken v [] items → FitsIn items st → Goes v self [] [] items (boot_items m own st)
+    off : v.around.is_master ≡ false → (items : List Item) (st : List Stimulus) → Taken v [] items → FitsIn items st → Goes v self [] [] items (boot_items m own st)
     off other [] st taken fits = stops v self [] [] (boot_items m own st) refl
     off other (Item.On ∷ is) st taken fits =
         subst (λ (h : History). Goes v self h [] is (boot_items m own st)) (ap base_of other)
@@ -257,9 +257,9 @@ module _ (v : View) (ids : List CoreId) (allowed : NamesAllow v nobody) where
 
     -- A core by what it took from the beginning.
     pub goes-alone : (items : List Item) (st : List Stimulus) → Taken v [] items → FitsIn items st → Goes v self [] [] items (boot_items m own st)
-    goes-alone items st taken fits = by v.is_master refl
+    goes-alone items st taken fits = by v.around.is_master refl
       where
-        by : (b : Bool) → v.is_master ≡ b → Goes v self [] [] items (boot_items m own st)
+        by : (b : Bool) → v.around.is_master ≡ b → Goes v self [] [] items (boot_items m own st)
         by true e = subst (λ (h : History). Goes v self h [] items (boot_items m own st)) (ap base_of e) (boot items st (subst (λ (h : History). Taken v h items) (ap base_of (sym e)) taken) fits)
         by false e = off e items st taken fits
 

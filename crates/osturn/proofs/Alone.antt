@@ -16,13 +16,13 @@ use Rattle.osbase.specs.Sets.{core_ids, has_core}
 use Rattle.osbase.proofs.Same.{same_core-true, same_core-refl}
 use Rattle.osplan.specs.declared.plans.Plan.{Plan}
 use Rattle.osplan.specs.declared.plans.Core.{Core}
-use Rattle.osplan.specs.declared.plans.CoreMode.{CoreMode}
-use Rattle.osplan.specs.declared.plans.CoreMode.TheVariants.{Named, DontCare}
+use Rattle.osbase.specs.declared.items.CoreMode.{CoreMode}
+use Rattle.osbase.specs.declared.items.CoreMode.TheVariants.{Named, DontCare}
 use Rattle.osplan.specs.Limits.{is_within_limits}
 use Rattle.osplan.proofs.Within.{limit-parts}
 use Rattle.osplan.specs.Separate.{alone_of, cut_of, is_agreed_mode, is_named_elsewhere, is_separate_core, names_mode}
 use Rattle.osplan.specs.Stimuli.{AreKnown}
-use Rattle.osplan.specs.View.{View, core_of, is_configured, no_core, view_of}
+use Rattle.osplan.specs.View.{Around, View, core_of, is_configured, no_core, view_of}
 use Rattle.osplan.proofs.Separating.{SeparateParts, separate-parts}
 use Rattle.osplan.proofs.Starting.{configured-low}
 use Rattle.osplan.proofs.Tests.{all-weaker, find-holds}
@@ -34,7 +34,7 @@ use Rattle.oskernel.proofs.Carried.{NamesAllow}
 use Rattle.oskernel.proofs.Own.{inward-items}
 use Rattle.oskernel.proofs.Scripts.{other-allow, own-allow}
 use Rattle.oskernel.proofs.Stages.{is_mail}
-use Rattle.oskernel.proofs.Stepping.{alone_view}
+use Rattle.oskernel.proofs.Stepping.{alone_view, around_master}
 use Rattle.ostext.specs.Trace.{line_end, line_of, lines_of, title_of}
 use Rattle.ostext.proofs.Named.{lines-same}
 use Rattle.osturn.specs.Sound.{alone_block, alone_items, alone_report, ArePrintedAlone, IsAlone, own_agreement}
@@ -78,13 +78,12 @@ module _ (plan : Plan) (stimuli : List CoreStimuli) (lists : List (CoreId × Lis
   v = view_of plan id
 
   -- The core alone sees what it sees in the whole configuration, but that it is the master and no other core is there.
-  abbrev seen : Bool → Option Core → List CoreId → View
-  seen master o ids = record {
+  abbrev seen : Option Core → Around → View
+  seen o around = record {
     core = id;
-    is_master = master;
     own = unwrap_or o (no_core id);
     modes = plan.modes;
-    cores = ids;
+    around = around;
   }
 
   own_id : same_core core.id id ≡ true
@@ -96,10 +95,10 @@ module _ (plan : Plan) (stimuli : List CoreStimuli) (lists : List (CoreId × Lis
   view_alone : view_of (cut_of plan id) id ≡ alone_view v (id ∷ [])
   view_alone =
       ap (λ (o : Option Core). view_of (option_map_or (alone_of plan id) o (record plan { master = id; cores = [] })) id) found
-      ∙ ap (λ (master : Bool). seen master (cond (same_core core.id id) (Some core) None) (core.id ∷ [])) (same_core-refl id)
-      ∙ ap (λ (b : Bool). seen true (cond b (Some core) None) (core.id ∷ [])) own_id
-      ∙ ap (λ (k : CoreId). seen true (Some core) (k ∷ [])) same
-      ∙ ap (λ (o : Option Core). seen true o (id ∷ [])) (sym found)
+      ∙ ap (λ (master : Bool). seen (cond (same_core core.id id) (Some core) None) (record { is_master = master; cores = core.id ∷ [] })) (same_core-refl id)
+      ∙ ap (λ (b : Bool). seen (cond b (Some core) None) (around_master (core.id ∷ []))) own_id
+      ∙ ap (λ (k : CoreId). seen (Some core) (around_master (k ∷ []))) same
+      ∙ ap (λ (o : Option Core). seen o (around_master (id ∷ []))) (sym found)
 
   low : id.number < 16
   low = configured-low plan id limits (ap is_some found)

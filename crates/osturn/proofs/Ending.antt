@@ -49,7 +49,7 @@ end-later v h i (j ∷ js) each = end-later v (after v h i) j js (solo-parts v h
 
 -- Where a core could take its items in turn, it has ended exactly where they end.
 pub ended-by : (v : View) (items : List Item) → solo v items ≡ Some (history_from v [] items) → is_ended_phase (phase_at v (history_from v [] items)) ≡ end_by items
-ended-by v [] each = by v.is_master
+ended-by v [] each = by v.around.is_master
   where
     by : (b : Bool) → is_ended_phase (first_phase b) ≡ false
     by true = refl

@@ -5,10 +5,10 @@ ghost use Rattle.osbase.specs.declared.references.CoreId.{CoreId as CoreIdValue}
 ghost use Rattle.osplan.specs.View.{is_configured, view_of};
 ghost use Rattle.osturn.specs.Asking.{going_on, halted, look_asked, named_by, own_asked, passing, replied, spin_call_of, spun, starting};
 
-use osbase::{CoreId, Envelope, Item, SpinlockId, Status, Stimulus};
+use osbase::{CoreId, CoreMode, Envelope, Item, SpinlockId, Status, Stimulus};
 use osboard::{BoardCall, BoardReply, BoardView};
 use oskernel::{Want, Watch};
-use osplan::{CoreMode, Plan};
+use osplan::Plan;
 use osspin::{SpinAction, SpinCall, SpinReply};
 
 /// What a core asks of a spinlock.

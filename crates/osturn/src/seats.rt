@@ -1,7 +1,7 @@
 //! One core of a run.
 
 ghost use Rattle.std.specs.Prelude.{◌++◌, ◌∷◌, [], IsTrue, IsSome, ◌≡◌, ◌+◌, ◌<◌, ◌≤◌, OnOk, slice_get, vec_len, vec_capacity};
-ghost use Rattle.osbase.specs.declared.turns.TheConstants.{CORES};
+ghost use Rattle.osbase.specs.declared.limits.TheConstants.{CORES};
 ghost use Rattle.osplan.specs.View.{core_of, view_of};
 ghost use Rattle.osplan.specs.Limits.{is_within_limits};
 ghost use Rattle.osstate.specs.Does.{Does};

@@ -11,7 +11,7 @@ use Rattle.osbase.specs.declared.messages.Envelope.{Envelope}
 use Rattle.osbase.specs.declared.turns.Choice.{Choice}
 use Rattle.osbase.specs.declared.turns.Choice.TheVariants.{Serve}
 use Rattle.osbase.specs.declared.turns.CoreStimuli.{CoreStimuli}
-use Rattle.osbase.specs.declared.turns.TheConstants.{CORES}
+use Rattle.osbase.specs.declared.limits.TheConstants.{CORES}
 use Rattle.osmail.specs.Mail.{has_mail, oldest_of}
 use Rattle.osmail.proofs.Counts.{no_mail}
 use Rattle.osplan.specs.declared.plans.Plan.{Plan}

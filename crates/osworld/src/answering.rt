@@ -1,7 +1,7 @@
 //! What a turn is answered, and what it changes beside the core that takes its item.
 
 ghost use Rattle.std.specs.Prelude.{◌≡◌, ◌<◌, ◌≤◌, ◌&&◌, nat_lt, if◌then◌else◌, None, IfNone, IfOk, IfSome};
-ghost use Rattle.osbase.specs.declared.turns.TheConstants.{CORES};
+ghost use Rattle.osbase.specs.declared.limits.TheConstants.{CORES};
 ghost use Rattle.osmail.specs.Mail.{empty_mail, has_mail, has_room, oldest_of};
 ghost use Rattle.osboard.specs.Boards.{first_board};
 ghost use Rattle.osspin.specs.Spins.{no_holders};
@@ -9,7 +9,7 @@ ghost use Rattle.oskernel.specs.Wants.{watch_in};
 ghost use Rattle.osturn.specs.Asking.{leads_to};
 ghost use Rattle.osworld.specs.Answering.{answer_by, carried, is_undisturbed, IsPlaced, next_by, told};
 
-use osbase::{CORES, Choice, CoreId, Envelope, Item};
+use osbase::{CORES, Choice, CoreId, Envelope, Item, MAILBOX};
 use osboard::BoardList;
 use oskernel::Watch;
 use osmail::ListMail;
@@ -17,9 +17,6 @@ use osplan::Plan;
 use osspin::SpinList;
 use osturn::{Answer, Ask, Seat};
 use std::alloc::{AllocError, Global};
-
-/// How many envelopes a mailbox may hold at most, whatever the configuration says.
-pub const MAILBOX: usize = 16;
 
 /// The mailboxes of a listed run.
 pub type Mailboxes = ListMail<MAILBOX>;

@@ -3,7 +3,7 @@
 ghost use Rattle.std.specs.Prelude.{IsTrue, ◌≡◌, ◌+◌, ◌<◌, ◌≤◌, ◌∷◌, [], Some, IfSome, IfOk, OnErr, false, vec_len, vec_capacity, map, not, ◌||◌, position, slice_get};
 ghost use Rattle.std.specs.List.{list_all};
 ghost use Rattle.std.proofs.Props.{props};
-ghost use Rattle.osbase.specs.declared.turns.TheConstants.{CORES};
+ghost use Rattle.osbase.specs.declared.limits.TheConstants.{CORES};
 ghost use Rattle.osbase.specs.declared.references.CoreId.{CoreId as CoreIdValue};
 ghost use Rattle.osbase.specs.declared.turns.Choice.{Choice as ChoiceValue};
 ghost use Rattle.osbase.specs.History.{same_core};

@@ -31,10 +31,10 @@ use Rattle.osplan.specs.Objects.{posted_at_once}
 use Rattle.osplan.specs.View.{counter_in}
 use Rattle.serde_json.specs.Data.{Data}
 use Rattle.serde_json.specs.Read.{read}
-use Rattle.osread.specs.Faults.{if_faultless}
+use Rattle.osplan.specs.Fault.{if_faultless}
 use Rattle.osdraft.specs.Meaning.{config_of, config_of_shape, plan_of}
 use Rattle.osshape.specs.Shape.{config_shape}
-use Rattle.osread.specs.Faults.{failing}
+use Rattle.osplan.specs.Fault.{failing}
 use Rattle.osshape.specs.declared.declarations.Declaration.{Declaration}
 use Rattle.osshape.specs.declared.shapes.AlarmStartText.{AlarmStartText}
 use Rattle.osshape.specs.declared.shapes.ResourceText.{ResourceText}
@@ -58,7 +58,7 @@ use Rattle.oswrite.proofs.Restored.{is_kept_task, is_kept_action, is_kept_alarm,
 
 module _ (plan : Plan) (inside : IsTrue (limits.is_within_limits plan)) (sayable : IsTrue (said.is_expressible plan)) where
   abbrev objects : List Declaration
-  objects = declarations (map (core_said plan) plan.cores)
+  objects = declarations (config_said plan)
 
   abbrev bounds : LimitParts plan
   bounds = limit-parts plan inside

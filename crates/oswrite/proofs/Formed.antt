@@ -15,7 +15,8 @@ use Rattle.osplan.specs.Objects.{object_count}
 use Rattle.osplan.specs.View.{core_of}
 use Rattle.osplan.specs.Limits.{is_object, is_within_limits}
 use Rattle.osplan.specs.Expressible.{is_core_expressible, is_expressible}
-use Rattle.osplan.proofs.Tests.{find-passes, passes-at}
+use Rattle.osplan.proofs.Tests.{find-passes}
+use Rattle.osbase.proofs.Places.{passes-at}
 use Rattle.osplan.proofs.Within.{CoreTextParts, FitsKernel, core-fits, core-text-parts, few-objects, names-formed, text-parts}
 use Rattle.osplan.specs.Names.{name_in, name_of}
 use Rattle.osshape.specs.declared.shapes.Named.{Named as ObjectText}

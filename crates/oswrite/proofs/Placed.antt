@@ -21,7 +21,7 @@ use Rattle.osplan.proofs.Tests.{any-mapped, find-holds}
 use Rattle.osshape.specs.declared.shapes.CoreText.{CoreText}
 use Rattle.osshape.specs.declared.shapes.Named.{Named}
 use Rattle.osshape.specs.declared.declarations.Declaration.{Declaration}
-use Rattle.osshape.specs.Declarations.{byte_of, id_of, declaration, declared_of, declared_by, declarations, has_name, place_in, place_of}
+use Rattle.osshape.specs.Declarations.{byte_of, id_of, declaration, declared_of, declared_by, has_name, place_in, place_of}
 use Rattle.osshape.specs.Shape.{objects_in}
 use Rattle.osshape.proofs.Naming.{names-declared}
 use Rattle.osdraft.proofs.Numbers.{byte-small}
@@ -95,11 +95,11 @@ module _ (plan : Plan) where
   objects-named : (core : Core) → names (declared_by (core_said plan core)) ≡ object_names core
   objects-named core = names-declared core (core_said plan core) (kind-named core)
 
-  pub names-said : (cores : List Core) → names (declarations (map (core_said plan) cores)) ≡ flat_map object_names cores
+  pub names-said : (cores : List Core) → names (flat_map declared_by (map (core_said plan) cores)) ≡ flat_map object_names cores
   names-said [] = refl
   names-said (core ∷ cores) =
-      map-append (λ (d : Declaration). d.name) (declared_by (core_said plan core)) (declarations (map (core_said plan) cores))
-      ∙ ap (λ first. first ++ names (declarations (map (core_said plan) cores))) (objects-named core) ∙ ap (λ rest. object_names core ++ rest) (names-said cores)
+      map-append (λ (d : Declaration). d.name) (declared_by (core_said plan core)) (flat_map declared_by (map (core_said plan) cores))
+      ∙ ap (λ first. first ++ names (flat_map declared_by (map (core_said plan) cores))) (objects-named core) ∙ ap (λ rest. object_names core ++ rest) (names-said cores)
 
   -- ---- the objects of a core
 
@@ -125,17 +125,17 @@ module _ (plan : Plan) where
   in-cores-if core rest found others d false e among later = stands-back (declared_by (core_said plan core)) rest d (later e)
 
   in-cores : (cores : List Core) (target : Place) (found : Core) (d : Declaration) → find (λ (c : Core). same_core c.id target.core) cores ≡ Some found → Stands (declared_by (core_said plan found)) d
-      → Stands (declarations (map (core_said plan) cores)) d
+      → Stands (flat_map declared_by (map (core_said plan) cores)) d
   in-cores [] target found d e among = cc
   in-cores (core ∷ cores) target found d e among =
-      in-cores-if core (declarations (map (core_said plan) cores)) found (find (λ (c : Core). same_core c.id target.core) cores) d (same_core core.id target.core) e among (λ later. in-cores cores target found d later among)
+      in-cores-if core (flat_map declared_by (map (core_said plan) cores)) found (find (λ (c : Core). same_core c.id target.core) cores) d (same_core core.id target.core) e among (λ later. in-cores cores target found d later among)
 
   pub placed : (cores : List Core) (kind : ObjectKind) (target : Place) (found : Core) (name : List ℕ) (max min : Option ℕ) → are_distinct (flat_map object_names cores) ≡ true → target.core.number ≤ 255 → target.index ≤ 255
-      → find (λ (c : Core). same_core c.id target.core) cores ≡ Some found → Stands (declared_by (core_said plan found)) (declared_at found kind name target.index max min) → place_of (declarations (map (core_said plan) cores)) kind name ≡ Some target
+      → find (λ (c : Core). same_core c.id target.core) cores ≡ Some found → Stands (declared_by (core_said plan found)) (declared_at found kind name target.index max min) → place_of (flat_map declared_by (map (core_said plan) cores)) kind name ≡ Some target
   placed cores kind target found name max min distinct low index e among =
       let number : found.id.number ≡ target.core.number = eqb-true found.id.number target.core.number (find-holds (λ (c : Core). same_core c.id target.core) cores found e) in
       let id : byte_of (Some found.id.number) ≡ target.core.number = ap (λ n. byte_of (Some n)) number ∙ byte-small target.core.number low in
-      ap (option_and_then (place_in kind)) (stands-found (declarations (map (core_said plan) cores)) (declared_at found kind name target.index max min) (ap are_distinct (names-said cores) ∙ distinct) (in-cores cores target found _ e among))
+      ap (option_and_then (place_in kind)) (stands-found (flat_map declared_by (map (core_said plan) cores)) (declared_at found kind name target.index max min) (ap are_distinct (names-said cores) ∙ distinct) (in-cores cores target found _ e among))
       ∙ rw (same_kind-self kind)
       (ap (λ (n : ℕ). let p : Place = record { core = record { number = n }; index = byte_of (Some target.index) } in Some p) id
       ∙ ap (λ (n : ℕ). let p : Place = record { core = target.core; index = n } in Some p) (byte-small target.index index))

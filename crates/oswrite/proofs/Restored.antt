@@ -31,8 +31,8 @@ use Rattle.osplan.specs.declared.plans.Core.{Core}
 use Rattle.osplan.specs.declared.plans.Counter.{Counter}
 use Rattle.osplan.specs.declared.plans.Resource.{Resource}
 use Rattle.osplan.specs.declared.plans.Task.{Task}
-use Rattle.osplan.specs.declared.plans.CoreMode.{CoreMode}
-use Rattle.osplan.specs.declared.plans.CoreMode.TheVariants.{Named, DontCare}
+use Rattle.osbase.specs.declared.items.CoreMode.{CoreMode}
+use Rattle.osbase.specs.declared.items.CoreMode.TheVariants.{Named, DontCare}
 use Rattle.osplan.specs.Limits as limits
 use Rattle.osplan.specs.Limits.{CounterSizes, PointSizes, TableSizes, task_sizes, alarm_sizes, start_sizes, point_sizes, table_sizes, core_sizes, number_of, are_ascending, are_counters_within, is_alarm_within, is_between, is_point_within, is_start, is_table_start_within, is_table_timed, is_table_within, is_task_within, is_timed_by, is_core_within, last_offset}
 use Rattle.osplan.specs.Objects.{alarm_modes, table_actions, table_modes}
@@ -214,7 +214,7 @@ kept-cores plan inside sayable =
 
 module _ (plan : Plan) (inside : IsTrue (limits.is_within_limits plan)) (sayable : IsTrue (said.is_expressible plan)) where
   abbrev objects : List Declaration
-  objects = declarations (map (core_said plan) plan.cores)
+  objects = declarations (config_said plan)
 
   abbrev parts : TextParts plan
   parts = text-parts plan sayable
@@ -317,7 +317,7 @@ module _ (plan : Plan) (inside : IsTrue (limits.is_within_limits plan)) (sayable
   pub counter-named : (id : CoreId) (counter : CounterRef) → limits.is_object plan (counter_object counter) ≡ true → NamedCounter plan objects id (counter_name plan counter)
   counter-named id counter known =
       let bounds = limit-parts plan inside in
-      named-counter plan (map (core_said plan) plan.cores) id (counter_name plan counter) apart (cores-have plan.cores (kept-cores plan inside sayable) (each-found plan.cores bounds.distinct)) (ap is_some (counter-placed counter known))
+      named-counter plan (config_said plan) id (counter_name plan counter) apart (cores-have plan.cores (kept-cores plan inside sayable) (each-found plan.cores bounds.distinct)) (ap is_some (counter-placed counter known))
 
   auto-back : (id : CoreId) (counter : CounterRef) (auto : Option AlarmStart) → limits.is_object plan (counter_object counter) ≡ true → is_alarm_within (option_map (start_sizes (option_map limits.counter_sizes (counter_in plan counter))) auto) ≡ true
       → list_all said.is_only_mode (option_map_or (λ (auto : AlarmStart). auto.modes) auto []) ≡ true → option_map start_plan (option_map (start_said plan) auto) ≡ auto

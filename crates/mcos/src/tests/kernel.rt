@@ -10,12 +10,12 @@ ghost use Rattle.osplan.specs.View.{core_of, view_of};
 ghost use Rattle.osplan.specs.Objects.{posted_at_once};
 
 use osbase::{
-    Agreement, CORES, CoreId, CoreSet, Item, List, Mark, Message, ModeId, Name, RemoteCall, Runner,
-    ServiceId, Status, Stimulus, TaskRef,
+    Agreement, CORES, CoreId, CoreMode, CoreSet, Item, List, Mark, Message, ModeId, Name,
+    RemoteCall, Runner, ServiceId, Status, Stimulus, TaskRef,
 };
 use oscript::Op;
 use oskernel::{Kernel, Want};
-use osplan::{Config, Core, CoreMode, Plan, Task};
+use osplan::{Config, Core, Plan, Task};
 use std::alloc::{AllocError, Global};
 use std::test::Fail;
 

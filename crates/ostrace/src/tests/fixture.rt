@@ -4,9 +4,10 @@ ghost use Rattle.std.specs.Prelude.{◌≡◌, [], Some};
 
 use crate::sinks::Sink;
 use osbase::{
-    CoreId, List, Mark, ModeId, Name, Place, Reference, RemoteCall, Report, Status, TaskRef,
+    CoreId, CoreMode, List, Mark, ModeId, Name, Place, Reference, RemoteCall, Report, Status,
+    TaskRef,
 };
-use osplan::{Alarm, Config, Core, CoreMode, Isr, Plan, Table, Task};
+use osplan::{Alarm, Config, Core, Isr, Plan, Table, Task};
 use std::alloc::{AllocError, Global};
 
 pub const ZERO: CoreId = CoreId { number: 0 };

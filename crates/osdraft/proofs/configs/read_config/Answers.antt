@@ -3,9 +3,9 @@ use Rattle.std.proofs.lemmas.Result.{err_from_is_err_and}
 use Rattle.std.specs.Option.{option_map_or}
 use Rattle.osplan.specs.declared.faults.ConfFault.{ConfFault}
 use Rattle.osplan.specs.declared.faults.ConfFault.TheVariants.{NotJson, Shape}
-use Rattle.osread.specs.Faults.{failing}
+use Rattle.osplan.specs.Fault.{failing}
 use Rattle.oscheck.specs.Check.{tests_of}
-use Rattle.osread.specs.Faults.{IsLeast}
+use Rattle.osplan.specs.Fault.{IsLeast}
 use Rattle.osdraft.specs.Meaning.{faults_of, faults_of_data}
 use Rattle.oscheck.proofs.Least.{least-tests_of}
 use Rattle.osdraft.proofs.Bounds.{bounds-of}

@@ -2,7 +2,7 @@ use Rattle.std.proofs.Common.{◌≡◌, ◌||◌, ◌&&◌, ◌-◌, ◌+◌, �
 use Rattle.std.specs.List.{list_all}
 use Rattle.osbase.specs.declared.references.CoreId.{CoreId}
 use Rattle.osbase.specs.declared.items.CoreSet.{CoreSet}
-use Rattle.osbase.specs.declared.turns.TheConstants.{CORES}
+use Rattle.osbase.specs.declared.limits.TheConstants.{CORES}
 use Rattle.osbase.specs.Sets.{has_core, numbers_from}
 use Rattle.osbase.proofs.Tables.{numbers-next}
 use Rattle.osplan.specs.View.{View, is_configured}

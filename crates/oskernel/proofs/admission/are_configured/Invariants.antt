@@ -1,7 +1,7 @@
 use Rattle.std.proofs.Common.{◌≡◌, ◌||◌, ◌-◌, ℕ, not, map}
 use Rattle.std.specs.List.{list_all}
 use Rattle.osbase.specs.declared.references.CoreId.{CoreId}
-use Rattle.osbase.specs.declared.turns.TheConstants.{CORES}
+use Rattle.osbase.specs.declared.limits.TheConstants.{CORES}
 use Rattle.osbase.specs.Sets.{core_ids, has_core, numbers_from}
 use Rattle.osplan.specs.View.{is_configured}
 use Rattle.oskernel.proofs.admission.are_configured.Given as goal

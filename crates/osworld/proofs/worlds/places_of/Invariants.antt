@@ -1,5 +1,5 @@
 use Rattle.std.proofs.Common.{◌≡◌, length}
-use Rattle.osbase.specs.declared.turns.TheConstants.{CORES}
+use Rattle.osbase.specs.declared.limits.TheConstants.{CORES}
 use Rattle.osworld.proofs.Places.{ArePlaces}
 use Rattle.osworld.proofs.worlds.places_of.Given as goal
 

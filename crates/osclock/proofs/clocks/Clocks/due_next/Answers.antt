@@ -1,7 +1,17 @@
-use Rattle.std.proofs.Common.{◌∙◌}
+use Rattle.std.proofs.Common.{◌<◌, [], get_or, ap, refl, rules, ◌∙◌}
+use Rattle.osclock.specs.Clocks.{counter_in}
 use Rattle.osclock.proofs.Asked.{dues-in}
 use Rattle.osclock.proofs.Bounds.{attached-inside, counter-inside, counter-within}
+use Rattle.osclock.proofs.Quiet.{none-due}
 use Rattle.osclock.proofs.clocks.Clocks.due_next.Goals as goal
+
+pub returns-then-self-from-gt0 : goal.returns-then-self-from-gt0
+returns-then-self-from-gt0 c =
+    let some : 0 < get_or c.self.inside.quiet c.args.counter.index 0 = search rules in
+    let list = get_or c.self.inside.attached c.args.counter.index [] in
+    c.new.ensures
+    ∙ none-due c.self.inside.alarms.items _ _ list some (c.self.invariant.at c.args.counter.index)
+    ∙ dues-in c.args.core.now c.args.counter _ _ _ list _ c.self.view_is c.requires.clocks c.requires.own (ap (counter_in c.args.counter) c.self.view_is) refl refl
 
 pub counter-requires : goal.counter-requires
 counter-requires c = counter-inside c.args.core.now _ c.args.counter c.requires.clocks c.requires.own

@@ -1,6 +1,6 @@
 use Rattle.std.proofs.Common.{◌≡◌, ◌<◌, ◌≤◌, ◌+◌, ◌-◌, ◌∙◌, [], Some, arith, rules, length, ap, sym, get_or, length-drop}
 use Rattle.std.proofs.lemmas.Option.{slice_get_within}
-use Rattle.osbase.specs.declared.turns.TheConstants.{CORES}
+use Rattle.osbase.specs.declared.limits.TheConstants.{CORES}
 use Rattle.osmail.specs.Mail.{place_of, waiting_in}
 use Rattle.osmail.proofs.Counts.{counted-set, read-at, waiting-part}
 use Rattle.osmail.proofs.list.ListMail.take.Goals as goal

@@ -10,7 +10,7 @@ use Rattle.osbase.specs.declared.references.Runner.{Runner}
 use Rattle.osbase.specs.History.{History, Entry, Printed, Noted, Taken, Given, Done, same_runner, same_task, with_cleared, with_none_set, with_set}
 use Rattle.oscript.specs.declared.Op.{Op}
 use Rattle.oscript.specs.Runners.{Row, row_after, row_of, row_step}
-use Rattle.osevent.specs.Laws.{is_in_mask, has_mask, last_word, said_by}
+use Rattle.osrunner.specs.Laws.{is_in_mask, has_mask, last_word, said_by}
 
 set-word : (x y : ℕ) (word : Bool) → x < 2 → y < 2 → nat_eq x 1 ≡ word → nat_eq (max x y) 1 ≡ unwrap_or (cond (nat_eq y 1) (Some true) None) word
 set-word zero zero word h k e = e

@@ -1,0 +1,61 @@
+//! How many there may be at most, and how great a number: each limit that several crates ask for, once.
+
+/// A set of cores has a place for each number below this.
+pub const CORES: usize = 16;
+
+/// The same bound in the type of a core's number.
+pub const CORE_NUMBERS: u8 = CORES as u8;
+
+/// The most cores of a configuration.
+pub const CONFIGURED_CORES: usize = 8;
+
+/// The most application modes of a configuration.
+pub const MODES: usize = 8;
+
+/// The most spinlocks of a configuration.
+pub const SPINLOCKS: usize = 16;
+
+/// The most envelopes of a mailbox.
+pub const MAILBOX: usize = 16;
+
+/// The most tasks of a core.
+pub const TASKS: usize = 32;
+
+/// The most ISRs of a core.
+pub const ISRS: usize = 16;
+
+/// The most tasks and ISRs of a core: each has a place in what is kept of all.
+pub const RUNNERS: usize = TASKS + ISRS;
+
+/// The most resources of a core.
+pub const RESOURCES: usize = 16;
+
+/// The most counters of a core.
+pub const COUNTERS: usize = 8;
+
+/// The most alarms of a core.
+pub const ALARMS: usize = 32;
+
+/// The most schedule tables of a core.
+pub const TABLES: usize = 8;
+
+/// The most jobs of all a core's tasks at once.
+pub const JOBS: u64 = 64;
+
+/// The most operations of a script.
+pub const OPERATIONS: usize = 256;
+
+/// The greatest value that a counter may have.
+pub const GREATEST_VALUE: u64 = 1_000_000_000;
+
+/// The longest period of a schedule table, in counts.
+pub const GREATEST_DURATION: u64 = 1_000_000_000;
+
+/// The most points of a schedule table.
+pub const POINTS: usize = 16;
+
+/// The most actions of a point.
+pub const ACTIONS: usize = 8;
+
+/// The most envelopes that a core's alarms and tables may add to its outbox at once.
+pub const POSTED: usize = 56;

@@ -1,0 +1,5 @@
+use Rattle.osjobs.proofs.Counting.{none-counted}
+use Rattle.osjobs.proofs.jobs.Jobs.new.Goals as goal
+
+pub invariant_of-result : goal.invariant_of-result
+invariant_of-result g c = rw c.new.ensures (record { ascending = tt; counted = none-counted })

@@ -1,0 +1,20 @@
+-- What the code keeps beside the live jobs.
+use Rattle.std.specs.Prelude.{◌≡◌, ℕ, suc, ◌<◌, ◌==◌, if◌then◌else◌, List, [], ◌∷◌, slice_index_or}
+use Rattle.osbase.specs.declared.histories.Job.{Job}
+use Rattle.osbase.specs.declared.limits.TheConstants.{RUNNERS}
+use Rattle.osbase.specs.Sets.{slot_of}
+use Rattle.osjobs.specs.Jobs.{Ascending}
+
+-- How many of these jobs are of the task or ISR with this place among its core's.
+abbrev pub place_count : ℕ → List Job → ℕ
+place_count place [] = 0
+place_count place (j ∷ js) = if slot_of j.runner == place then suc (place_count place js) else place_count place js
+
+-- Of each place there are so many jobs.
+pub record AreCounted (jobs : List Job) (counts : List ℕ) : Type 0 where
+  pub each : (place : ℕ) → place < RUNNERS → slice_index_or counts place 0 ≡ place_count place jobs
+
+-- The list is in the order of its stamps, and counted.
+pub record AreInOrder (jobs : List Job) (counts : List ℕ) : Type 0 where
+  pub ascending : Ascending jobs
+  pub counted : AreCounted jobs counts

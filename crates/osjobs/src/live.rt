@@ -1,0 +1,137 @@
+//! The list of the live jobs, and how many of it each task and ISR has.
+
+ghost use Rattle.std.specs.Prelude.{◌≡◌, ◌<◌, ◌≤◌, ◌++◌, ◌∷◌, [], length, remove, slice_get, None, IfSome, IfNone};
+ghost use Rattle.osbase.specs.History.{job_count, oldest, stamped_anew, without_oldest};
+ghost use Rattle.osjobs.specs.Live.{AreCounted};
+
+use crate::slots::JobSlot;
+use arrayvec::ArrayVec;
+use osbase::{Job, RUNNERS, Runner};
+
+/// How many live jobs there are of the task or ISR with each place: a runner's jobs are looked for from the newest end on,
+/// and no further than there are any.
+pub(crate) type Counts = [usize; RUNNERS];
+
+/// One job more, behind all others.
+pub(crate) fn push<const J: usize>(jobs: &mut ArrayVec<JobSlot, J>, counts: &mut Counts, job: Job)
+    requires room { length jobs.old.items < J }
+    requires counted { AreCounted jobs.old.items counts.old }
+    ensures jobs { jobs.new.items ≡ jobs.old.items ++ job ∷ [] }
+    ensures counted { AreCounted jobs.new.items counts.new }
+{
+    jobs.push(JobSlot { job });
+    let place = job.runner.slot();
+    if place < RUNNERS {
+        counts[place] += 1;
+    }
+}
+
+/// Takes the oldest job of this runner, if it has one, out of the list.
+pub(crate) fn take_oldest<const J: usize>(
+    jobs: &mut ArrayVec<JobSlot, J>,
+    counts: &mut Counts,
+    runner: Runner,
+) -> Option<Job>
+    requires counted { AreCounted jobs.old.items counts.old }
+    ensures job { result ≡ oldest runner jobs.old.items }
+    ensures rest { jobs.new.items ≡ without_oldest runner jobs.old.items }
+    ensures counted { AreCounted jobs.new.items counts.new }
+    ensures room { IfSome result (λ j. length jobs.new.items < J) }
+    ensures none { IfNone result (jobs.new.items ≡ jobs.old.items) }
+{
+    let most = most_of(jobs.as_slice(), counts, runner);
+    let place = oldest_place(jobs.as_slice(), runner, most)?;
+    let slot = jobs.remove(place);
+    let place = runner.slot();
+    if place < RUNNERS {
+        counts[place] -= 1;
+    }
+    Some(slot.job)
+}
+
+/// Gives the oldest job of this runner, if it has one, this stamp, and a place behind all others.
+pub(crate) fn stamp_anew<const J: usize>(
+    jobs: &mut ArrayVec<JobSlot, J>,
+    counts: &mut Counts,
+    runner: Runner,
+    stamp: u64,
+)
+    requires counted { AreCounted jobs.old.items counts.old }
+    ensures jobs { jobs.new.items ≡ stamped_anew runner stamp jobs.old.items }
+    ensures counted { AreCounted jobs.new.items counts.new }
+{
+    if let Some(job) = take_oldest(jobs, counts, runner) {
+        push(jobs, counts, Job { stamp, ..job });
+    }
+}
+
+/// The oldest job of this runner.
+pub(crate) fn oldest(jobs: &[JobSlot], counts: &Counts, runner: Runner) -> Option<Job>
+    requires counted { AreCounted jobs.now counts.now }
+    ensures { result ≡ oldest runner jobs.now }
+{
+    let place = oldest_place(jobs, runner, most_of(jobs, counts, runner))?;
+    let slot = &jobs[place];
+    Some(slot.job)
+}
+
+/// How many jobs of this runner are live.
+pub(crate) fn count(jobs: &[JobSlot], counts: &Counts, runner: Runner) -> usize
+    requires counted { AreCounted jobs.now counts.now }
+    ensures { result ≡ job_count runner jobs.now }
+{
+    count_jobs(jobs, runner, most_of(jobs, counts, runner))
+}
+
+// How many jobs of this runner there are at most.
+fn most_of(jobs: &[JobSlot], counts: &Counts, runner: Runner) -> usize
+    requires counted { AreCounted jobs.now counts.now }
+    ensures { job_count runner jobs.now ≤ result }
+{
+    let place = runner.slot();
+    if place < RUNNERS {
+        counts[place]
+    } else {
+        jobs.len()
+    }
+}
+
+// The place of the oldest job of this runner, of which there are so many at most.
+fn oldest_place(jobs: &[JobSlot], runner: Runner, most: usize) -> Option<usize>
+    requires most { job_count runner jobs.now ≤ most }
+    ensures found { IfSome result (λ place. remove jobs.now place ≡ without_oldest runner jobs.now) }
+    ensures within { IfSome result (λ place. place < length jobs.now) }
+    ensures job { IfSome result (λ place. slice_get jobs.now place ≡ oldest runner jobs.now) }
+    ensures none { IfNone result (without_oldest runner jobs.now ≡ jobs.now) }
+    ensures absent { IfNone result (oldest runner jobs.now ≡ None) }
+{
+    let mut found = None;
+    let mut left = most;
+    let mut place = jobs.len();
+    while place > 0 && left > 0 {
+        place -= 1;
+        let slot = &jobs[place];
+        if slot.job.runner.is(runner) {
+            found = Some(place);
+            left -= 1;
+        }
+    }
+    found
+}
+
+// How many jobs of this runner there are, which are so many at most.
+fn count_jobs(jobs: &[JobSlot], runner: Runner, most: usize) -> usize
+    requires most { job_count runner jobs.now ≤ most }
+    ensures { result ≡ job_count runner jobs.now }
+{
+    let mut count = 0;
+    let mut place = jobs.len();
+    while place > 0 && count < most {
+        place -= 1;
+        let slot = &jobs[place];
+        if slot.job.runner.is(runner) {
+            count += 1;
+        }
+    }
+    count
+}
