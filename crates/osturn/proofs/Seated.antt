@@ -15,7 +15,7 @@ use Rattle.oskernel.specs.Step.{after, solo, takes, outbox_size}
 use Rattle.osturn.specs.declared.seats.Seat.{Seat}
 use Rattle.osturn.specs.Fits.{history_by}
 use Rattle.osturn.specs.Seats.{stimulus_count, left_after, IsSeated, is_ended_phase, report_of}
-use Rattle.osturn.proofs.Longer.{history_from-push, solo-push}
+use Rattle.osturn.proofs.Longer.{history_from-push, solo-push, stimulus_count-push}
 use Rattle.osbase.specs.declared.marks.Mark.{Mark}
 use Rattle.osbase.specs.declared.turns.Report.{Report}
 use Rattle.osturn.specs.Sound.{IsOwn, report_by}
