@@ -18,6 +18,7 @@ use Rattle.osturn.specs.declared.asks.Answer.TheVariants.{HasRoom, Found}
 use Rattle.osturn.specs.Asking.{named_by, spin_call_of}
 use Rattle.osworld.specs.World.{World, answer_in, board_in, has_room, history_in, holders_in, items_in, next_stimulus}
 use Rattle.osturn.specs.Seats.{stimulus_count}
+use Rattle.osturn.proofs.Asked.{IsOwnAsk}
 use Rattle.osturn.proofs.Leading.{halted-item, is-item, passing-item, spun-item}
 
 -- What is known of an item that a turn of this core names.
