@@ -4,7 +4,6 @@ use Rattle.std.specs.List.{list_all}
 use Rattle.std.specs.Option.{option_map_or}
 use Rattle.std.proofs.lemmas.Bool.{and_parts}
 use Rattle.osbase.specs.declared.statuses.Status.{Status}
-use Rattle.osbase.specs.declared.statuses.Status.TheVariants.{EOk}
 use Rattle.osbase.specs.declared.statuses.ServiceId.{ServiceId}
 use Rattle.osbase.specs.declared.references.CoreId.{CoreId}
 use Rattle.osbase.specs.declared.references.CounterRef.{CounterRef}
@@ -68,7 +67,7 @@ is_allowed l (Notes (Opened call)) = may_await l.may call.awaits
 is_allowed l (Notes (Queued core envelope)) = false
 is_allowed l (Notes n) = true
 is_allowed l (Sends core (Message.Reply status)) = l.answered core
-is_allowed l (Sends core (Message.Value n)) = l.answered core
+is_allowed l (Sends core (Message.Value status n)) = l.answered core
 is_allowed l (Sends core message) = l.may core
 
 -- A note of the core itself, or a mark that names only objects of cores that pass: neither an item nor what goes to
@@ -123,7 +122,7 @@ module _ (l : Leave) where
     one-kept (Notes (Queued core envelope)) ok h k p = cc
     one-kept (Notes n) ok h k p = kept.holds.local (Noted n) h k ok p
     one-kept (Sends core (Message.Reply status)) ok h k p = kept.holds.replied core status None h k ok p
-    one-kept (Sends core (Message.Value n)) ok h k p = kept.holds.replied core EOk (Some n) h k ok p
+    one-kept (Sends core (Message.Value status n)) ok h k p = kept.holds.replied core status (Some n) h k ok p
     one-kept (Sends core message) ok h k p = kept.holds.asked core message h k ok p
 
     either : (b : Bool) (h h' k k' : History) → (b ≡ true → R h k) → (b ≡ false → R h' k') → R (cond b h h') (cond b k k')

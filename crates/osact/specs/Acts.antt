@@ -6,7 +6,7 @@ use Rattle.std.specs.Prelude.{Bool, if◌then◌else◌, List, [], ◌∷◌}
 use Rattle.osbase.specs.declared.references.CoreId.{CoreId}
 use Rattle.osbase.specs.declared.messages.Message.{Message}
 use Rattle.osbase.specs.declared.marks.Mark.{Mark}
-use Rattle.osbase.specs.History.{History, Note, Printed, Noted, Queued, queued_count}
+use Rattle.osbase.specs.History.{History, Note, Printed, Noted, Queued, queued_count, envelope_with}
 use Rattle.osplan.specs.View.{View}
 use Rattle.osstate.specs.Readings.{knows_started}
 use Rattle.osact.specs.Seen.{Seen, seen_of}
@@ -21,7 +21,7 @@ pub data Act : Type 0 where
 abbrev pub act : Act → History → History
 act (Prints m) h = Printed m ∷ h
 act (Notes n) h = Noted n ∷ h
-act (Sends core message) h = Noted (Queued core (record { number = queued_count core h; message = message })) ∷ h
+act (Sends core message) h = Noted (Queued core (envelope_with (queued_count core h) message)) ∷ h
 
 -- Acts: none, one and then others, some and then others, of two the first where a test holds, of two the first where a
 -- core was started, and those that follow from what is read now. [own]

@@ -22,4 +22,4 @@ served core call status value = Mark.CallServed core status call
 -- The reply to a request. [own]
 abbrev pub reply : Status → Option ℤ → Message
 reply status None = Message.Reply status
-reply status (Some n) = Message.Value n
+reply status (Some n) = Message.Value status n

@@ -19,6 +19,7 @@ use Rattle.osbase.specs.declared.references.AlarmRef.{AlarmRef}
 use Rattle.osbase.specs.declared.references.TableRef.{TableRef}
 use Rattle.osbase.specs.declared.references.Runner.{Runner}
 use Rattle.osbase.specs.declared.messages.Envelope.{Envelope}
+use Rattle.osbase.specs.declared.messages.Message.{Message}
 use Rattle.osbase.specs.declared.items.CoreSet.{CoreSet}
 use Rattle.osbase.specs.declared.items.Agreement.{Agreement}
 use Rattle.osbase.specs.declared.items.Item.{Item}
@@ -270,6 +271,9 @@ received_count s [] = 0
 received_count s (Took (Item.Received from number m) ∷ h) = if same_core from s then suc (received_count s h) else received_count s h
 received_count s (e ∷ h) = received_count s h
 
+abbrev pub envelope_with : ℕ → Message → Envelope
+envelope_with number message = record { number = number; message = message }
+
 -- The streams between cores: what this core queued for d, what of it left by posts, and what it
 -- received from s, the oldest first. [own; the code has mailboxes.]
 abbrev pub sent : CoreId → History → List Envelope
@@ -288,7 +292,7 @@ posted d (e ∷ h) = posted d h
 
 abbrev pub received : CoreId → History → List Envelope
 received s [] = []
-received s (Took (Item.Received from number m) ∷ h) = if same_core from s then received s h ++ record { number = number; message = m } ∷ [] else received s h
+received s (Took (Item.Received from number m) ∷ h) = if same_core from s then received s h ++ envelope_with number m ∷ [] else received s h
 received s (e ∷ h) = received s h
 
 -- The phase that an item leads to: the master begins in boot, another core off, and items lead on.

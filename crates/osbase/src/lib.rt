@@ -7,7 +7,6 @@ pub mod histories;
 pub mod items;
 pub mod limits;
 pub mod lists;
-pub mod logic;
 pub mod marks;
 pub mod messages;
 pub mod names;
@@ -24,7 +23,6 @@ pub use limits::{
     SPINLOCKS, TABLES, TASKS,
 };
 pub use lists::{List, Name};
-pub use logic::both;
 pub use marks::Mark;
 pub use messages::{Envelope, Message, RemoteCall};
 pub use names::is_name;

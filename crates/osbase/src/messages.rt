@@ -55,8 +55,8 @@ pub enum Message {
     Request(RemoteCall),
     Action(RemoteCall),
     Reply(Status),
-    /// The reply to GetAlarm with E_OK: the value.
-    Value(i64),
+    /// A reply with a value, as GetAlarm has with E_OK.
+    Value(Status, i64),
 }
 
 /// A message with its number: each ordered pair of cores counts its envelopes 0, 1, 2 and so on.

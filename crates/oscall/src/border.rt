@@ -138,7 +138,7 @@ fn reply_of(answer: Answer) -> Message
     ensures { result ≡ reply answer.status answer.value }
 {
     match answer.value {
-        Some(value) => Message::Value(value),
+        Some(value) => Message::Value(answer.status, value),
         None => Message::Reply(answer.status),
     }
 }

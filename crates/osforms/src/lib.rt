@@ -13,6 +13,8 @@ mod words;
 mod writing;
 
 pub use actions::is_action;
+pub use numbers::{int_of, number_in};
 pub use parsing::{has_masks, is_known, op_meant, op_named};
 pub use places::Places;
+pub use words::cut;
 pub use writing::{Names, op_text};

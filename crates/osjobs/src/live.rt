@@ -27,6 +27,7 @@ pub(crate) fn push<const J: usize>(jobs: &mut ArrayVec<JobSlot, J>, counts: &mut
 }
 
 /// Takes the oldest job of this runner, if it has one, out of the list.
+#[inline(always)]
 pub(crate) fn take_oldest<const J: usize>(
     jobs: &mut ArrayVec<JobSlot, J>,
     counts: &mut Counts,
@@ -84,6 +85,7 @@ pub(crate) fn count(jobs: &[JobSlot], counts: &Counts, runner: Runner) -> usize
 }
 
 // How many jobs of this runner there are at most.
+#[inline(always)]
 fn most_of(jobs: &[JobSlot], counts: &Counts, runner: Runner) -> usize
     requires counted { AreCounted jobs.now counts.now }
     ensures { job_count runner jobs.now ≤ result }
@@ -97,6 +99,7 @@ fn most_of(jobs: &[JobSlot], counts: &Counts, runner: Runner) -> usize
 }
 
 // The place of the oldest job of this runner, of which there are so many at most.
+#[inline(always)]
 fn oldest_place(jobs: &[JobSlot], runner: Runner, most: usize) -> Option<usize>
     requires most { job_count runner jobs.now ≤ most }
     ensures found { IfSome result (λ place. remove jobs.now place ≡ without_oldest runner jobs.now) }

@@ -5,7 +5,6 @@ use Rattle.std.specs.List.{list_all, slice_get}
 use Rattle.std.specs.Option.{option_map_or}
 use Rattle.std.proofs.lemmas.Bool.{and_from, and_parts, or_right}
 use Rattle.osbase.specs.declared.statuses.Status.{Status}
-use Rattle.osbase.specs.declared.statuses.Status.TheVariants.{EOk}
 use Rattle.osbase.specs.declared.references.CoreId.{CoreId}
 use Rattle.osbase.specs.declared.references.TaskRef.{TaskRef}
 use Rattle.osbase.specs.declared.references.Runner.{Runner}
@@ -132,7 +131,7 @@ module _ (l : Leave) (allowed : NamesAllow l.view l.may) where
       let answer = answer_of (service_of call s) in
       assumption (service-ok l call m s, served-ok l from call answer.status answer.value m, reports-ok l answer.status)
   effect-ok (Item.Received from number (Message.Reply status)) m = λ s seen. closes-ok s seen status None
-  effect-ok (Item.Received from number (Message.Value n)) m = λ s seen. closes-ok s seen EOk (Some n)
+  effect-ok (Item.Received from number (Message.Value status n)) m = λ s seen. closes-ok s seen status (Some n)
   effect-ok item m = assumption
 
   -- ---- dispatch, and the whole step

@@ -3,7 +3,6 @@ use Rattle.std.proofs.Common.{◌≡◌, ℕ, ◌≤◌, ◌<◌, Bool, true, fa
 use Rattle.std.specs.Option.{option_map_or}
 use Rattle.std.proofs.lemmas.Bool.{false≢true, and_parts, ltb-true}
 use Rattle.osbase.specs.declared.statuses.Status.{Status}
-use Rattle.osbase.specs.declared.statuses.Status.TheVariants.{EOk}
 use Rattle.osbase.specs.declared.references.CoreId.{CoreId}
 use Rattle.osbase.specs.declared.messages.Message.{Message}
 use Rattle.osbase.specs.declared.histories.OpenCall.{OpenCall}
@@ -64,7 +63,7 @@ filling places s (Item.Received from number (Message.Request call)) some a b =
     ltb-true (length s.border.outbox) places (and_parts (is_served s.view call) (nat_lt (length s.border.outbox) places) (and_parts _ (is_awaited places s from (Message.Request call)) (and_parts (is_scheduling s.progress.phase) _ a).1).1).1
 filling places s (Item.Received from number (Message.Action call)) some a b = absurd (false≢true b)
 filling places s (Item.Received from number (Message.Reply status)) some a b = absurd (false≢true b)
-filling places s (Item.Received from number (Message.Value n)) some a b = absurd (false≢true b)
+filling places s (Item.Received from number (Message.Value status n)) some a b = absurd (false≢true b)
 filling places s item some a b = absurd (false≢true b)
 
 empty : (xs : List Sent) → is_empty xs ≡ true → xs ≡ []
@@ -84,7 +83,7 @@ message-known : (places : ℕ) (s : KernelState) (from : CoreId) (message : Mess
 message-known places s from (Message.Request call) a = (and_parts (is_served s.view call) _ a).0
 message-known places s from (Message.Action call) a = (and_parts (is_action call) _ a).1
 message-known places s from (Message.Reply status) a = reply-known status false from s.border.open_call a
-message-known places s from (Message.Value n) a = reply-known EOk true from s.border.open_call a
+message-known places s from (Message.Value status n) a = reply-known status true from s.border.open_call a
 
 pub known : (places : ℕ) (s : KernelState) (item : Item) → admits places s item ≡ true → is_known s item ≡ true
 known places s (Item.Stim stimulus) a = (and_parts _ (knows_stimulus s.view.own stimulus) (and_parts _ (is_settled s) a).0).1

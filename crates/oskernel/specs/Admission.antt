@@ -84,7 +84,7 @@ abbrev pub is_awaited : ℕ → KernelState → CoreId → Message → Bool
 is_awaited places s from (Message.Request call) = is_served s.view call && nat_lt (length s.border.outbox) places
 is_awaited places s from (Message.Action call) = is_action call && is_served s.view call
 is_awaited places s from (Message.Reply status) = option_map_or (is_reply_to from status false) s.border.open_call false
-is_awaited places s from (Message.Value n) = option_map_or (is_reply_to from EOk true) s.border.open_call false
+is_awaited places s from (Message.Value status n) = option_map_or (is_reply_to from status true) s.border.open_call false
 
 -- An envelope may be taken: its sender was started and is another core, its number is the next from there.
 -- [own]

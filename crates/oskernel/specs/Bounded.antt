@@ -1,7 +1,7 @@
 -- What holds of every kernel.
 use Rattle.std.specs.Prelude.{ℕ, ◌+◌, ◌*◌, ◌≤◌}
 use Rattle.osstate.specs.State.{KernelState}
-use Rattle.osplan.specs.Objects.{posted_at_once}
+use Rattle.osplan.specs.Objects.{outbox_needed}
 
 -- How many entries a step adds to the history at most: the item, what follows from it, and dispatch.
 abbrev pub step_entries : ℕ
@@ -10,5 +10,5 @@ step_entries = 1024
 -- The outbox has places for all that the core's alarms and schedule tables may post at once, and 8 more. The history has no more entries
 -- than its steps may have added.
 pub record IsBounded (places : ℕ) (s : KernelState) : Type 0 where
-  pub outbox : 8 + posted_at_once s.view.own ≤ places
+  pub outbox : outbox_needed s.view.own ≤ places
   pub entries : s.progress.entries ≤ step_entries * s.progress.items

@@ -3,7 +3,6 @@ use Rattle.std.specs.Prelude.{ℕ, ℤ, ◌==◌, Bool, false, if◌then◌else�
 use Rattle.std.specs.List.{enumerate_from, list_any}
 use Rattle.std.specs.Option.{option_map_or}
 use Rattle.osbase.specs.declared.statuses.Status.{Status}
-use Rattle.osbase.specs.declared.statuses.Status.TheVariants.{EOk}
 use Rattle.osbase.specs.declared.references.CoreId.{CoreId}
 use Rattle.osbase.specs.declared.references.ModeId.{ModeId}
 use Rattle.osbase.specs.declared.references.TaskRef.{TaskRef}
@@ -120,7 +119,7 @@ abbrev pub receives : CoreId → Message → Acts
 receives from (Message.Request call) = serves_request from call
 receives from (Message.Action call) = serves_action from call
 receives from (Message.Reply status) = look (λ s. closes s.awaits status None)
-receives from (Message.Value n) = look (λ s. closes s.awaits EOk (Some n))
+receives from (Message.Value status n) = look (λ s. closes s.awaits status (Some n))
 
 -- What follows from an item at once, in the history with it. The last four of those that follow nothing cannot be taken
 -- yet. [OSEK/VDX OS 2.2.3, section 11.3; AUTOSAR SWS OS 4.x, SWS_Os_00608 to SWS_Os_00610; items are this project's own]

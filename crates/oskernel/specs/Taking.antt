@@ -42,7 +42,7 @@ abbrev pub is_answered : KernelState → Message → Bool
 is_answered s (Message.Request call) = is_served s.view call
 is_answered s (Message.Action call) = is_served s.view call
 is_answered s (Message.Reply status) = is_some s.border.open_call
-is_answered s (Message.Value n) = is_some s.border.open_call
+is_answered s (Message.Value status n) = is_some s.border.open_call
 
 -- The item is a stimulus that the core knows, or a message that is answered, or neither kind.
 abbrev pub is_known : KernelState → Item → Bool

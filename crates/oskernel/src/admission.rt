@@ -221,7 +221,7 @@ fn is_awaited<const P: usize, const J: usize, const OUT: usize>(
         Message::Request(call) => both(state.has(call.object()), state.has_place()),
         Message::Action(call) => both(is_action(*call), state.has(call.object())),
         Message::Reply(status) => is_awaited_reply(state, from, *status, false),
-        Message::Value(_) => is_awaited_reply(state, from, Status::EOk, true),
+        Message::Value(status, _) => is_awaited_reply(state, from, *status, true),
     }
 }
 

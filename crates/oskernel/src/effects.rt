@@ -4,7 +4,7 @@ ghost use Rattle.std.specs.Prelude.{◌≡◌, ◌+◌, ◌<◌, ◌≤◌, ◌�
 ghost use Rattle.osbase.specs.declared.limits.TheConstants.{CORES};
 ghost use Rattle.osbase.specs.History.{Took, outbox_after, phase_after};
 ghost use Rattle.osbase.specs.Phases.{is_before_live, is_past_first_gate};
-ghost use Rattle.osplan.specs.Objects.{posted_at_once};
+ghost use Rattle.osplan.specs.Objects.{posted_at_once, outbox_needed};
 ghost use Rattle.osplan.specs.Stimuli.{knows_stimulus};
 ghost use Rattle.osjobs.specs.Jobs.{is_plain};
 ghost use Rattle.osstate.specs.Does.{Adds, Does, Effects, HasRoom, item_entries, item_marks, service_entries, service_marks};
@@ -30,7 +30,7 @@ pub(crate) fn take<const P: usize, const J: usize, const OUT: usize>(
     marks: &mut Vec<Mark>,
 )
     requires admitted { IsTrue (admits OUT state.old item.now) }
-    requires outbox { 8 + posted_at_once state.old.view.own ≤ OUT }
+    requires outbox { outbox_needed state.old.view.own ≤ OUT }
     requires room { HasRoom step_entries item_marks state.old marks.old }
     ensures does { Does (λ v h. does (effect item.now) v (Took item.now ∷ h)) state.old state.new marks.old.items marks.new.items }
     ensures takes { TakesItem (item_entries + 1) state.old state.new }
@@ -76,7 +76,7 @@ fn follow<const P: usize, const J: usize, const OUT: usize>(
     requires fresh { IsTrue (is_second_gate item.now) → state.old.tasks.jobs ≡ [] }
     requires outbox { IsTrue (is_filling item.now) → length state.old.border.outbox < OUT }
     requires empty { IsTrue (is_going_on item.now) → state.old.border.outbox ≡ [] }
-    requires places { 8 + posted_at_once state.old.view.own ≤ OUT }
+    requires places { outbox_needed state.old.view.own ≤ OUT }
     requires room { HasRoom item_entries item_marks state.old marks.old }
     ensures { Effects item_entries item_marks (does (effect item.now)) state.old state.new marks.old marks.new }
 {
@@ -179,7 +179,7 @@ fn receive<const P: usize, const J: usize, const OUT: usize>(
         Message::Request(call) => oscall::serve_request(state, from, *call, marks),
         Message::Action(call) => oscall::serve_action(state, from, *call, marks),
         Message::Reply(status) => close(state, *status, None, marks),
-        Message::Value(value) => close(state, Status::EOk, Some(*value), marks),
+        Message::Value(status, value) => close(state, *status, Some(*value), marks),
     }
 }
 

@@ -3,7 +3,6 @@
 ghost use Rattle.std.specs.Prelude.{◌≡◌};
 ghost use Rattle.oskernel.specs.Free.{is_free, is_settled, may_dispatch};
 
-use osbase::both;
 use osstate::CoreState;
 
 /// No call is open.
@@ -21,7 +20,7 @@ pub(crate) fn is_settled<const P: usize, const J: usize, const OUT: usize>(
 ) -> bool
     ensures { result ≡ is_settled state.now }
 {
-    both(is_free(state), state.is_outbox_empty())
+    is_free(state) & state.is_outbox_empty()
 }
 
 /// The core schedules, and no call is open (OSEK/VDX OS 2.2.3, section 4.6).

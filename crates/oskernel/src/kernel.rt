@@ -10,7 +10,7 @@ ghost use Rattle.osstate.specs.Readings.{phase_at};
 ghost use Rattle.osstate.specs.State.{state_of};
 ghost use Rattle.osstate.specs.Does.{Adds, Does, Reads};
 ghost use Rattle.oskernel.specs.declared.kernel.TheConstants.{STEP_MARKS};
-ghost use Rattle.osplan.specs.Objects.{posted_at_once};
+ghost use Rattle.osplan.specs.Objects.{outbox_needed};
 ghost use Rattle.oskernel.specs.Step.{after, takes};
 ghost use Rattle.oskernel.specs.Wants.{front_of, go_on_if_free, post_or as front_or, want_in, want_of, watch_if_free, watch_in, watch_of};
 ghost use Rattle.oskernel.specs.Admission.{takes_in};
@@ -56,7 +56,7 @@ impl<'a, const P: usize, const J: usize, const OUT: usize> Kernel<'a, P, J, OUT>
         requires priorities { IsTrue (list_all (λ (t : TaskValue). nat_lt t.priority P) (view_of config.now core).own.tasks) }
         requires ceilings { IsTrue (list_all (λ (r : ResourceValue). nat_lt r.ceiling P) (view_of config.now core).own.resources) }
         requires activations { sum_by (λ (t : TaskValue). t.activations) (view_of config.now core).own.tasks ≤ J }
-        requires outbox { 8 + posted_at_once (view_of config.now core).own ≤ OUT }
+        requires outbox { outbox_needed (view_of config.now core).own ≤ OUT }
         ensures { result ≡ state_of (view_of config.now core) [] }
     {
         Kernel {

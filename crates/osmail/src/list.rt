@@ -126,11 +126,11 @@ fn place(from: CoreId, to: CoreId) -> usize
 #[cfg(test)]
 mod tests {
     use super::*;
-    use osbase::Message;
+    use osbase::{Message, Status};
     use std::test::Fail;
 
     fn envelope(number: u64) -> Envelope {
-        let message = Message::Value(-3);
+        let message = Message::Value(Status::EOk, -3);
         Envelope { number, message }
     }
 

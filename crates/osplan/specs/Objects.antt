@@ -92,3 +92,7 @@ greatest_posted core table = greatest_of (map (posted_at core) table.points)
 -- How many envelopes the core's alarms and tables may add to its outbox at once: each alarm one, and each table those of one point. [own]
 abbrev pub posted_at_once : Core → ℕ
 posted_at_once core = count_by (λ (alarm : AlarmValue). is_posting core alarm.action) core.alarms + sum_by (greatest_posted core) core.tables
+
+-- How many places a core's outbox needs at least: for all that its alarms and schedule tables may post at once, and 8 more. [own]
+abbrev pub outbox_needed : Core → ℕ
+outbox_needed core = 8 + posted_at_once core

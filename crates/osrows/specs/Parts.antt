@@ -129,7 +129,7 @@ abbrev pub replied : ℕ → ℕ → Status → Item
 replied from number status = Item.Received (core from) number (Message.Reply status)
 
 abbrev pub replied_with : ℕ → ℕ → ℕ → Item
-replied_with from number value = Item.Received (core from) number (Message.Value (pos value))
+replied_with from number value = Item.Received (core from) number (Message.Value EOk (pos value))
 
 -- the stimuli as items, and the items after the last stimulus of a core to its end
 abbrev pub taken : List Word → List Item

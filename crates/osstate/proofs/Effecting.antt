@@ -8,7 +8,7 @@ use Rattle.osbase.specs.declared.histories.Sent.{Sent}
 use Rattle.osbase.specs.declared.messages.Message.{Message}
 use Rattle.osbase.specs.declared.marks.Mark.{Mark}
 use Rattle.osbase.specs.declared.limits.TheConstants.{CORES}
-use Rattle.osbase.specs.History.{History, Entry, Note, Printed, Noted, Queued, queued_count}
+use Rattle.osbase.specs.History.{History, Entry, Note, Printed, Noted, Queued, queued_count, envelope_with}
 use Rattle.oscript.specs.Runners.{runner_of}
 use Rattle.osplan.specs.View.{View}
 use Rattle.osjobs.specs.Priorities.{is_own_runner}
@@ -92,10 +92,10 @@ noting {n = n} {s = s} {s' = s'} sound own numbers is = record {
 -- One envelope more.
 pub queueing : {priorities room : ℕ} {to : CoreId} {message : Message} {s old : KernelState} {waiting : List Sent} {counts : List ℕ} → IsSound priorities room s → s ≡ old → to.number < CORES
     → waiting ≡ s.border.outbox ++ (let x : Sent = record { to = to; envelope = next_envelope s to message } in x) ∷ [] → counts ≡ one_more to s.border.queued
-    → Remarks 1 (λ v h. Noted (Queued to (record { number = queued_count to h; message = message })) ∷ h) old
+    → Remarks 1 (λ v h. Noted (Queued to (envelope_with (queued_count to h) message)) ∷ h) old
     (record s { progress = record s.progress { entries = s.progress.entries + 1 }; border = record s.border { outbox = waiting; queued = counts } })
 queueing {to = to} {message = message} {s = s} {old = old} {waiting = waiting} {counts = counts} sound same known joins more =
-    subst (λ (q : KernelState). Remarks 1 (λ v h. Noted (Queued to (record { number = queued_count to h; message = message })) ∷ h) q new) same (record {
+    subst (λ (q : KernelState). Remarks 1 (λ v h. Noted (Queued to (envelope_with (queued_count to h) message)) ∷ h) q new) same (record {
       notes = notes_queued (own_entry (Noted (Queued to (next_envelope s to message))) sound refl (lt-ltb to.number CORES known)) known is;
       silent = (λ v h. refl);
       stays = stays_in s new (Noted (Queued to (next_envelope s to message))) is (record { view = refl; phase = refl; items = refl; entries = omega arith });

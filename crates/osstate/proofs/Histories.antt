@@ -12,7 +12,7 @@ use Rattle.osbase.specs.declared.messages.Message.{Message}
 use Rattle.osbase.specs.declared.items.Item.{Item}
 use Rattle.osbase.specs.declared.marks.Mark.{Mark}
 use Rattle.osbase.specs.declared.limits.TheConstants.{CORES, ISRS, RUNNERS, TASKS}
-use Rattle.osbase.specs.History.{History, Entry, Took, Printed, Noted, Queued, same_core, same_runner, queued_count, received_count}
+use Rattle.osbase.specs.History.{History, Entry, Took, Printed, Noted, Queued, same_core, same_runner, queued_count, received_count, envelope_with}
 use Rattle.osbase.specs.Sets.{core_ids, numbers_from, slot_of}
 use Rattle.osbase.proofs.Same.{same_core-true, same_core-refl, same_runner-true, same_runner-refl}
 use Rattle.osbase.proofs.Tables.{table-at, table-set}
@@ -178,13 +178,13 @@ notes {e} is own v h stands =
 
 -- and so one that queued the next envelope
 pub notes_queued : {to : CoreId} {message : Message} {old new : KernelState} → IsOwnEntry old.view.own (Noted (Queued to (next_envelope old to message))) → to.number < CORES → new ≡ state_after (Noted (Queued to (next_envelope old to message))) old
-    → Notes (λ v h. Noted (Queued to (record { number = queued_count to h; message = message })) ∷ h) old new
+    → Notes (λ v h. Noted (Queued to (envelope_with (queued_count to h) message)) ∷ h) old new
 notes_queued {to} {message} own known is v h stands =
     record {
       is = is ∙ ap (λ (q : KernelState). state_after (Noted (Queued to (next_envelope q to message))) q) stands.is
-          ∙ ap (λ (n : ℕ). state_after (Noted (Queued to (record { number = n; message = message }))) (state_of v h)) (count_at (λ (d : CoreId). queued_count d h) to known)
-          ∙ state-stands v (Noted (Queued to (record { number = queued_count to h; message = message }))) h numbered;
+          ∙ ap (λ (n : ℕ). state_after (Noted (Queued to (envelope_with n message))) (state_of v h)) (count_at (λ (d : CoreId). queued_count d h) to known)
+          ∙ state-stands v (Noted (Queued to (envelope_with (queued_count to h) message))) h numbered;
     }
   where
-    numbered : IsOwnEntry v.own (Noted (Queued to (record { number = queued_count to h; message = message })))
+    numbered : IsOwnEntry v.own (Noted (Queued to (envelope_with (queued_count to h) message)))
     numbered = record { placed = (λ r is. cc); clocks = ap (λ (s : KernelState). are_clocks_within s.view.own) (sym stands.is) ∙ own.clocks; numbers = own.numbers }

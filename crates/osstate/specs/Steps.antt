@@ -6,7 +6,7 @@ use Rattle.osbase.specs.declared.messages.Message.{Message}
 use Rattle.osbase.specs.declared.messages.Envelope.{Envelope}
 use Rattle.osbase.specs.declared.items.Item.TheVariants as Item
 use Rattle.osbase.specs.declared.limits.TheConstants.{CORES}
-use Rattle.osbase.specs.History.{Entry, Took, Noted, Queued, first_phase, phase_after, began_after, agreement_after, started_after, items_after, open_after, outbox_after, no_cores}
+use Rattle.osbase.specs.History.{Entry, Took, Noted, Queued, first_phase, phase_after, began_after, agreement_after, started_after, items_after, open_after, outbox_after, no_cores, envelope_with}
 use Rattle.oscript.specs.declared.Op.{Op}
 use Rattle.oscript.specs.Runners.{Row, runner_of}
 use Rattle.osplan.specs.declared.plans.Plan.{Plan}
@@ -77,7 +77,7 @@ first_border = record { open_call = None; outbox = []; queued = replicate CORES 
 
 -- What comes next for this core, with the number that is next on the way there.
 abbrev pub next_envelope : KernelState → CoreId → Message → Envelope
-next_envelope s to message = record { number = slice_index s.border.queued to.number; message = message }
+next_envelope s to message = envelope_with (slice_index s.border.queued to.number) message
 
 -- ---- the whole
 

@@ -4,7 +4,7 @@ ghost use Rattle.std.specs.Prelude.{◌≡◌, ◌==◌, ◌||◌, ◌∷◌, �
 ghost use Rattle.std.specs.List.{list_all};
 ghost use Rattle.osbase.specs.declared.references.AlarmRef.{AlarmRef as AlarmRefValue};
 ghost use Rattle.osbase.specs.declared.limits.TheConstants.{CORES};
-ghost use Rattle.osbase.specs.History.{Took, Printed, Noted, AlarmCancelled, AlarmSet, Counted, Opened, Queued, Taken, Given, Done, job_count, phase_after, queued_count, same_core};
+ghost use Rattle.osbase.specs.History.{Took, Printed, Noted, AlarmCancelled, AlarmSet, Counted, Opened, Queued, Taken, Given, Done, job_count, phase_after, queued_count, same_core, envelope_with};
 ghost use Rattle.osbase.specs.Objects.{alarm_object, counter_object};
 ghost use Rattle.osbase.specs.Phases.{is_before_live, is_past_first_gate};
 ghost use Rattle.osbase.specs.Sets.{has_core};
@@ -245,7 +245,7 @@ impl<'a, const P: usize, const J: usize, const OUT: usize> CoreState<'a, P, J, O
         requires room { length self.old.border.outbox < OUT }
         requires count { self.old.progress.entries < 2 ^ 63 }
         ensures state { self.new ≡ state_after (Noted (Queued to (next_envelope self.old to message))) self.old }
-        ensures remarks { Remarks 1 (λ v h. Noted (Queued to (record { number = queued_count to h; message = message })) ∷ h) self.old self.new }
+        ensures remarks { Remarks 1 (λ v h. Noted (Queued to (envelope_with (queued_count to h) message)) ∷ h) self.old self.new }
     {
         let number = self.border.queued[usize::from(to.number)];
         let envelope = Envelope { number, message };

@@ -9,12 +9,11 @@ use Rattle.osbase.specs.declared.references.CoreId.{CoreId}
 use Rattle.osbase.specs.declared.messages.Envelope.{Envelope}
 use Rattle.osbase.specs.declared.messages.Message.{Message}
 use Rattle.osbase.specs.declared.statuses.Status.{Status}
-use Rattle.osbase.specs.declared.statuses.Status.TheVariants.{EOk}
 use Rattle.osbase.specs.declared.items.Item.{Item}
 use Rattle.osbase.specs.declared.histories.OpenCall.{OpenCall}
 use Rattle.osbase.specs.declared.histories.Sent.{Sent}
 use Rattle.osbase.specs.Answers.{reply}
-use Rattle.osbase.specs.History.{Entry, History, Took, Noted, Opened, Queued, front_envelope, outbox, posted, queued_count, received, same_core}
+use Rattle.osbase.specs.History.{Entry, History, Took, Noted, Opened, Queued, front_envelope, outbox, posted, queued_count, received, same_core, envelope_with}
 use Rattle.osbase.specs.Phases.{is_scheduling}
 use Rattle.osbase.proofs.Same.{same_core-true, same_core-refl}
 use Rattle.osplan.specs.View.{View}
@@ -38,10 +37,10 @@ is_reply e = by e.message
   where
     by : Message → Bool
     by (Message.Reply s) = true
-    by (Message.Value n) = true
+    by (Message.Value s n) = true
     by message = false
 
-replies-pass : (s : Status) (value : Option ℤ) (number : ℕ) → is_reply (record { number = number; message = reply s value }) ≡ true
+replies-pass : (s : Status) (value : Option ℤ) (number : ℕ) → is_reply (envelope_with number (reply s value)) ≡ true
 replies-pass s None number = refl
 replies-pass s (Some n) number = refl
 
@@ -111,8 +110,8 @@ received-more v from h i = subst (IsBeginning (received from h)) (sym (quiet_aft
     by : (j : Item) → IsBeginning (received from h) (received from (Took j ∷ h))
     by (Item.Received core number message) = choose (same_core core from)
       where
-        choose : (b : Bool) → IsBeginning (received from h) (cond b (received from h ++ record { number = number; message = message } ∷ []) (received from h))
-        choose true = begins-longer (received from h) (record { number = number; message = message } ∷ [])
+        choose : (b : Bool) → IsBeginning (received from h) (cond b (received from h ++ envelope_with number message ∷ []) (received from h))
+        choose true = begins-longer (received from h) (envelope_with number message ∷ [])
         choose false = begins-itself (received from h)
     by j = begins-itself (received from h)
 
@@ -137,7 +136,7 @@ module _ (v : View) (allowed : NamesAllow v nobody) where
       other = not-true (same_core from v.core) (and_parts _ (not (is_own v from)) (and_parts _ (nat_eq number (slice_index (state_of v h).border.received from.number)) awaited.0).0).1
 
       envelope : Envelope
-      envelope = record { number = number; message = message }
+      envelope = envelope_with number message
 
       got : is_reply envelope ≡ true
       got = (and_parts _ true (and_parts (list_all is_reply (received from h)) _ (sym (list_all-append is_reply (received from h) (envelope ∷ [])) ∙ last)).1).0
@@ -150,9 +149,9 @@ module _ (v : View) (allowed : NamesAllow v nobody) where
               sym (ap (λ (t : Bool). list_all is_reply (cond t (received from h ++ envelope ∷ []) (received from h))) (same_core-refl from))
               ∙ ap (list_all is_reply) (sym (quiet_after (received from) (λ m k. refl) (λ n k. refl) v h (Item.Received from number message))) ∙ late
 
-      by : (m : Message) → is_awaited outbox_size (state_of v h) from m ≡ true → is_reply (record { number = number; message = m }) ≡ true → is_mail (Item.Received from number m) ≡ false
+      by : (m : Message) → is_awaited outbox_size (state_of v h) from m ≡ true → is_reply (envelope_with number m) ≡ true → is_mail (Item.Received from number m) ≡ false
       by (Message.Reply s) awaits replying = absurd (false≢true (ap (λ (o : Option OpenCall). option_map_or (is_reply_to from s false) o false) (sym calm.closed) ∙ awaits))
-      by (Message.Value n) awaits replying = absurd (false≢true (ap (λ (o : Option OpenCall). option_map_or (is_reply_to from EOk true) o false) (sym calm.closed) ∙ awaits))
+      by (Message.Value s n) awaits replying = absurd (false≢true (ap (λ (o : Option OpenCall). option_map_or (is_reply_to from s true) o false) (sym calm.closed) ∙ awaits))
       by m awaits replying = absurd (false≢true replying)
   no-mail h i is calm taken replies = refl
 

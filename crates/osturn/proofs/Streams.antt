@@ -3,7 +3,7 @@ use Rattle.std.proofs.Common.{◌≡◌, suc, Bool, true, false, cond, List, [],
 use Rattle.osbase.specs.declared.references.CoreId.{CoreId}
 use Rattle.osbase.specs.declared.messages.Envelope.{Envelope}
 use Rattle.osbase.specs.declared.items.Item.{Item}
-use Rattle.osbase.specs.History.{History, Took, front_envelope, outbox, posted, received_count, same_core, Printed, Noted, received}
+use Rattle.osbase.specs.History.{History, Took, front_envelope, outbox, posted, received_count, same_core, Printed, Noted, received, envelope_with}
 use Rattle.osplan.specs.View.{View}
 use Rattle.oskernel.specs.Step.{after}
 use Rattle.oskernel.proofs.Holding.{quiet_after}
@@ -33,7 +33,7 @@ received-after v s item h = quiet_after (received_count s) (λ m k. refl) (λ n 
 
 -- The envelope that was received.
 abbrev pub envelope_in : Item → List Envelope
-envelope_in (Item.Received from number m) = record { number = number; message = m } ∷ []
+envelope_in (Item.Received from number m) = envelope_with number m ∷ []
 envelope_in item = []
 
 envelopes-took : (s : CoreId) (item : Item) (h : History) → received s (Took item ∷ h) ≡ cond (is_from item s) (received s h ++ envelope_in item) (received s h)
@@ -52,7 +52,7 @@ length-received s (Took i ∷ h) = by i (length-received s h)
     by : (i : Item) → length (received s h) ≡ received_count s h → length (received s (Took i ∷ h)) ≡ received_count s (Took i ∷ h)
     by (Item.Received from number m) rest = here (same_core from s) rest
       where
-        here : (b : Bool) → length (received s h) ≡ received_count s h → length (cond b (received s h ++ record { number = number; message = m } ∷ []) (received s h)) ≡ cond b (suc (received_count s h)) (received_count s h)
-        here true rest = let longer = length-append (received s h) (record { number = number; message = m } ∷ []) in omega arith
+        here : (b : Bool) → length (received s h) ≡ received_count s h → length (cond b (received s h ++ envelope_with number m ∷ []) (received s h)) ≡ cond b (suc (received_count s h)) (received_count s h)
+        here true rest = let longer = length-append (received s h) (envelope_with number m ∷ []) in omega arith
         here false rest = rest
     by i rest = rest

@@ -134,8 +134,8 @@ pub fn look_asked(watch: Watch) -> Ask
 }
 
 /// The item to which the answer leads a core that watches for this: none where it leads to none, as at a gate that
-/// is still closed. It is a call of its own: put in the place of the call, the item is put together byte by byte.
-#[inline(never)]
+/// is still closed.
+#[inline(always)]
 pub fn named(id: CoreId, watch: Watch, ask: Ask, answer: &Answer) -> Option<Item>
     ensures { result ≡ named_by id watch ask answer.now }
 {

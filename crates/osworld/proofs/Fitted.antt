@@ -7,7 +7,7 @@ use Rattle.osbase.specs.declared.messages.Envelope.{Envelope}
 use Rattle.osbase.specs.declared.items.Item.{Item}
 use Rattle.osbase.specs.declared.turns.Choice.{Choice}
 use Rattle.osbase.specs.declared.turns.CoreStimuli.{CoreStimuli}
-use Rattle.osbase.specs.History.{History, front_envelope, outbox, posted, received, received_count, same_core}
+use Rattle.osbase.specs.History.{History, front_envelope, outbox, posted, received, received_count, same_core, envelope_with}
 use Rattle.osbase.specs.Runs.{stimuli_of}
 use Rattle.osplan.specs.declared.plans.Plan.{Plan}
 use Rattle.osplan.specs.View.{view_of}
@@ -41,7 +41,7 @@ WorldFits plan stimuli w = FitsBy plan stimuli w.items w.calls
 next-envelope : (plan : Plan) (stimuli : List CoreStimuli) (w : World) (core from : CoreId) (i : Item) → is_from i from ≡ true → IsNext plan stimuli w core i
     → (e : Envelope) × (envelope_in i ≡ e ∷ []) × (slice_get (posted core (history_in plan w from)) (received_count from (history_in plan w core)) ≡ Some e) × ((d : CoreId) → is_post_to i d ≡ false)
 next-envelope plan stimuli w core from (Item.Received f number m) is next =
-    (record { number = number; message = m }, refl, subst (λ (c : CoreId). slice_get (posted core (history_in plan w c)) (received_count c (history_in plan w core)) ≡ Some (record { number = number; message = m })) (same_core-true f from is) next, λ d. refl)
+    (envelope_with number m, refl, subst (λ (c : CoreId). slice_get (posted core (history_in plan w c)) (received_count c (history_in plan w core)) ≡ Some (envelope_with number m)) (same_core-true f from is) next, λ d. refl)
 next-envelope plan stimuli w core from i is next = absurd (false≢true is)
 
 -- an item that a turn names is in turn

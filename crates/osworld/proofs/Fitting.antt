@@ -5,7 +5,7 @@ use Rattle.osbase.specs.declared.references.CoreId.{CoreId}
 use Rattle.osbase.specs.declared.messages.Envelope.{Envelope}
 use Rattle.osbase.specs.declared.items.Item.{Item}
 use Rattle.osbase.specs.declared.turns.CoreStimuli.{CoreStimuli}
-use Rattle.osbase.specs.History.{posted, received_count}
+use Rattle.osbase.specs.History.{posted, received_count, envelope_with}
 use Rattle.osbase.specs.Runs.{stimuli_of}
 use Rattle.osplan.specs.declared.plans.Plan.{Plan}
 use Rattle.osplan.specs.View.{view_of}
@@ -25,7 +25,7 @@ use Rattle.osturn.proofs.Leading.{halted-item, is-item, passing-item, spun-item}
 abbrev pub IsNext : Plan → List CoreStimuli → World → CoreId → Item → Type 0
 IsNext plan stimuli w id (Item.Stim s) = slice_get (stimuli_of stimuli id) (stimulus_count (items_in w id)) ≡ Some s
 IsNext plan stimuli w id Item.Drained = slice_get (stimuli_of stimuli id) (stimulus_count (items_in w id)) ≡ None
-IsNext plan stimuli w id (Item.Received from number m) = slice_get (posted id (history_in plan w from)) (received_count from (history_in plan w id)) ≡ Some (record { number = number; message = m })
+IsNext plan stimuli w id (Item.Received from number m) = slice_get (posted id (history_in plan w from)) (received_count from (history_in plan w id)) ≡ Some (envelope_with number m)
 IsNext plan stimuli w id item = Unit {0}
 
 module _ (plan : Plan) (stimuli : List CoreStimuli) (w : World) (id : CoreId) where

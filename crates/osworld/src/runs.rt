@@ -7,7 +7,7 @@ ghost use Rattle.osworld.specs.World.{first_world};
 ghost use Rattle.osworld.specs.Runs.{round_by, rounds as rounds_of, turns_in_round, AreReports, HasNoSchedule, IsBrokenOff, IsDefaultBrokenOff, IsDefaultRun, IsDefaultSchedule};
 ghost use Rattle.osworld.specs.Playing.{IsBegun, IsRound, Plays, PlaysDefault, StopsDefaultShort};
 
-use crate::worlds::{World, either};
+use crate::worlds::World;
 use osbase::{Choice, CoreId, List, Report, Schedule, Stimuli, Turn};
 use osplan::Config;
 use osturn::ids_of;
@@ -111,7 +111,7 @@ fn play_rounds(world: &mut World, ids: &[CoreId]) -> Result<u64, AllocError>
 {
     for rounds in 1..u64::MAX {
         let changed = world.play_round(ids)?;
-        if either(world.is_over(), !changed) {
+        if world.is_over() | !changed {
             return Ok(rounds);
         }
     }

@@ -77,7 +77,7 @@ impl<'a> World<'a> {
     {
         let mut changed = false;
         for turn in turns {
-            changed = either(self.turn(turn.0, turn.1)?, changed);
+            changed = self.turn(turn.0, turn.1)? | changed;
         }
         Ok(changed)
     }
@@ -93,7 +93,7 @@ impl<'a> World<'a> {
     {
         let mut changed = false;
         for id in ids {
-            changed = either(self.play_core(ids, *id)?, changed);
+            changed = self.play_core(ids, *id)? | changed;
         }
         Ok(changed)
     }
@@ -109,7 +109,7 @@ impl<'a> World<'a> {
         let served = self.serve_all(ids, id)?;
         let own = self.turn(id, Choice::Own)?;
         let looked = self.turn(id, Choice::Look)?;
-        Ok(either(looked, either(own, served)))
+        Ok(looked | (own | served))
     }
 
     // The core serves every other one of these, as long as an envelope waits for it.
@@ -125,7 +125,7 @@ impl<'a> World<'a> {
             if !self.between.has_mail(id) {
                 return Ok(changed);
             }
-            changed = either(self.serve(id, *other)?, changed);
+            changed = self.serve(id, *other)? | changed;
         }
         Ok(changed)
     }
@@ -259,11 +259,4 @@ fn place_in(seats: &[Seat], core: CoreId) -> Option<usize>
     ensures { result ≡ position (λ (s : SeatValue). same_core s.id core) seats.now }
 {
     seats.iter().position(|seat| seat.id.number == core.number)
-}
-
-/// Whether one of both holds. Unlike `||` it is a function, whose answer a proof reads as one fact.
-pub fn either(first: bool, second: bool) -> bool
-    ensures { result ≡ (first || second) }
-{
-    first || second
 }

@@ -7,7 +7,7 @@ ghost use Rattle.osplan.specs.declared.plans.Task.{Task as TaskValue};
 ghost use Rattle.osplan.specs.Limits.{is_within_limits};
 ghost use Rattle.osplan.specs.Expressible.{is_expressible};
 ghost use Rattle.osplan.specs.View.{core_of, view_of};
-ghost use Rattle.osplan.specs.Objects.{posted_at_once};
+ghost use Rattle.osplan.specs.Objects.{outbox_needed};
 
 use osbase::{
     Agreement, CORES, CoreId, CoreMode, CoreSet, Item, List, Mark, Message, ModeId, Name,
@@ -76,7 +76,7 @@ fn two_cores(alloc: Global) -> Result<Plan, AllocError>
     ensures priorities { IfOk result (λ plan. IsTrue (list_all (λ (t : TaskValue). nat_lt t.priority 32) (view_of plan CORE_0).own.tasks)) }
     ensures ceilings { IfOk result (λ plan. IsTrue (list_all (λ (r : ResourceValue). nat_lt r.ceiling 32) (view_of plan CORE_0).own.resources)) }
     ensures activations { IfOk result (λ plan. sum_by (λ (t : TaskValue). t.activations) (view_of plan CORE_0).own.tasks ≤ 64) }
-    ensures outbox { IfOk result (λ plan. 8 + posted_at_once (view_of plan CORE_0).own ≤ 64) }
+    ensures outbox { IfOk result (λ plan. outbox_needed (view_of plan CORE_0).own ≤ 64) }
 {
     let mut modes = List::new(alloc);
     modes.push(Name::new(alloc, "M")?)?;

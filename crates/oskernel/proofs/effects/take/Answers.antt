@@ -2,7 +2,7 @@ use Rattle.std.proofs.Common.{◌≡◌, ◌+◌, ◌<◌, ◌≤◌, ◌^◌, �
 use Rattle.osbase.specs.declared.items.Item.{Item}
 use Rattle.osbase.specs.History.{Took}
 use Rattle.osbase.specs.Phases.{is_before_live, is_past_first_gate}
-use Rattle.osplan.specs.Objects.{posted_at_once}
+use Rattle.osplan.specs.Objects.{outbox_needed}
 use Rattle.osstate.specs.Does.{Tracks, item_entries, item_marks}
 use Rattle.osstate.specs.State.{KernelState}
 use Rattle.osstate.specs.Steps.{state_after}
@@ -25,7 +25,7 @@ follow-requires g c =
     let fresh : (IsTrue (is_second_gate item) → c.take_item.new.self.tasks.jobs ≡ []) = (λ e. subst (λ (s : KernelState). s.tasks.jobs ≡ []) told (c.take_item.ensures.idle (c.show_admitted.ensures.fresh e))) in
     let outbox : (IsTrue (is_filling item) → length c.take_item.new.self.border.outbox < g.row.OUT) = subst (λ (s : KernelState). IsTrue (is_filling item) → length s.border.outbox < g.row.OUT) told c.show_admitted.ensures.filling in
     let empty : (IsTrue (is_going_on item) → c.take_item.new.self.border.outbox ≡ []) = subst (λ (s : KernelState). IsTrue (is_going_on item) → s.border.outbox ≡ []) told c.show_admitted.ensures.empty in
-    let places : 8 + posted_at_once c.take_item.new.self.view.own ≤ g.row.OUT = subst (λ (s : KernelState). 8 + posted_at_once s.view.own ≤ g.row.OUT) told c.requires.outbox in
+    let places : outbox_needed c.take_item.new.self.view.own ≤ g.row.OUT = subst (λ (s : KernelState). outbox_needed s.view.own ≤ g.row.OUT) told c.requires.outbox in
     let entries = ap (λ (s : KernelState). s.progress.entries) c.take_item.ensures.state in
     let count : c.take_item.new.self.progress.entries + item_entries ≤ 2 ^ 63 = omega (arith, entries, c.requires.room.count) in
     let place : vec_len c.args.marks.now + item_marks ≤ vec_capacity c.args.marks.now = c.requires.room.place in

@@ -15,7 +15,7 @@ loop-turn-preserved c = (
   c.in_ok-turn.ensures.config ∙ c.loop-turn.invariant.0,
   c.in_ok-turn.ensures.reports ∙ c.loop-turn.invariant.1,
   c.in_ok-turn.ensures.len ∙ c.loop-turn.invariant.2,
-  λ stimuli w plays. rw (c.either-changed.ensures)
+  λ stimuli w plays.
       (played-more c.args.self.now.config.now c.loop-turn.self.config.now (ap (λ (b : Bor Plan). b.now) c.loop-turn.invariant.0) stimuli w c.args.turns.now c.loop-turn.turn-index _ c.loop-turn.changed c.in_ok-turn.field-0 _ _ _ _ c.loop-turn-test.true (c.loop-turn.invariant.3 stimuli w plays)
       (c.in_ok-turn.ensures.ok stimuli)),
 )

@@ -33,7 +33,6 @@ returns-clause-ok c =
     let serves : List (CoreId × Choice) = serves_of c.args.ids.now c.args.id in
     let own : List (CoreId × Choice) = (c.args.id, Own) ∷ [] in
     let look : List (CoreId × Choice) = (c.args.id, Look) ∷ [] in
-    rw (c.either-2.ensures, c.either.ensures)
     (subst (λ (ts : List (CoreId × Choice)). PlaysTurns ts c.args.self.now (c.in_ok-looked.looked || (c.in_ok-own.own || c.in_ok-served.served)) c.turn-2.new.self) (append_assoc serves own look)
     (plays-on c.args.self.now c.turn.new.self c.turn-2.new.self (c.in_ok-own.ensures.config ∙ c.in_ok-served.ensures.config) (serves ++ own) look (c.in_ok-own.own || c.in_ok-served.served)
     (plays-on c.args.self.now c.serve_all.new.self c.turn.new.self c.in_ok-served.ensures.config serves own c.in_ok-served.served c.in_ok-served.ensures.ok c.in_ok-own.own c.in_ok-own.ensures.ok)

@@ -21,8 +21,7 @@ loop-id-preserved c = (
   c.in_ok-play_core.ensures.config ∙ c.loop-id.invariant.0,
   c.in_ok-play_core.ensures.reports ∙ c.loop-id.invariant.1,
   c.in_ok-play_core.ensures.len ∙ c.loop-id.invariant.2,
-  rw (c.either-changed.ensures)
-      (plays-next (flat_map (turns_in_round c.args.ids.now)) (flat_map-append (turns_in_round c.args.ids.now)) c.args.ids.now c.loop-id.id-index _ c.loop-id-test.true c.args.self.now c.loop-id.self c.play_core.new.self c.loop-id.invariant.0 c.loop-id.changed c.loop-id.invariant.3 c.in_ok-play_core.field-0
+  (plays-next (flat_map (turns_in_round c.args.ids.now)) (flat_map-append (turns_in_round c.args.ids.now)) c.args.ids.now c.loop-id.id-index _ c.loop-id-test.true c.args.self.now c.loop-id.self c.play_core.new.self c.loop-id.invariant.0 c.loop-id.changed c.loop-id.invariant.3 c.in_ok-play_core.field-0
       (subst (λ (ts : List (CoreId × Choice)). PlaysTurns ts c.loop-id.self c.in_ok-play_core.field-0 c.play_core.new.self) (sym (flat_map-one (turns_in_round c.args.ids.now) _)) c.in_ok-play_core.ensures.ok)),
 )
 

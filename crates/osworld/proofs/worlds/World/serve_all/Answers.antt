@@ -32,8 +32,7 @@ loop-other-preserved c = (
   c.in_ok-serve.ensures.config ∙ c.loop-other.invariant.0,
   c.in_ok-serve.ensures.reports ∙ c.loop-other.invariant.1,
   c.in_ok-serve.ensures.len ∙ c.loop-other.invariant.2,
-  rw (c.either-changed.ensures)
-      (plays-next (serves c.args.id) (λ xs ys. serves-append xs ys c.args.id) c.args.ids.now c.loop-other.other-index _ c.loop-other-test.true c.args.self.now c.loop-other.self c.serve.new.self c.loop-other.invariant.0 c.loop-other.changed c.loop-other.invariant.3 c.in_ok-serve.field-0 c.in_ok-serve.ensures.ok),
+  (plays-next (serves c.args.id) (λ xs ys. serves-append xs ys c.args.id) c.args.ids.now c.loop-other.other-index _ c.loop-other-test.true c.args.self.now c.loop-other.self c.serve.new.self c.loop-other.invariant.0 c.loop-other.changed c.loop-other.invariant.3 c.in_ok-serve.field-0 c.in_ok-serve.ensures.ok),
 )
 
 pub returns-clause-ok : goal.returns-clause-ok
