@@ -1,0 +1,7 @@
+mod Kinds
+mod Reading
+mod Naming
+mod Lines
+mod Calls
+mod Cores
+mod Sound
