@@ -38,7 +38,7 @@ item_of L.Posted parts = Item.Posted parts.core
 item_of L.Request parts = received parts (Message.Request parts.call)
 item_of L.Action parts = received parts (Message.Action parts.call)
 item_of L.Reply parts = received parts (Message.Reply parts.status)
-item_of L.Value parts = received parts (Message.Value parts.value)
+item_of L.Value parts = received parts (Message.Value parts.status parts.value)
 item_of L.On parts = Item.On
 item_of L.Began parts = Item.Began parts.core parts.status
 item_of L.Entered parts = Item.Entered
@@ -62,7 +62,7 @@ abbrev pub message_form : Parts → Message → Line × Parts
 message_form parts (Message.Request call) = (L.Request, record parts { call = call })
 message_form parts (Message.Action call) = (L.Action, record parts { call = call })
 message_form parts (Message.Reply status) = (L.Reply, record parts { status = status })
-message_form parts (Message.Value value) = (L.Value, record parts { value = value })
+message_form parts (Message.Value status value) = (L.Value, record parts { status = status; value = value })
 
 abbrev pub form_of : Item → Line × Parts
 form_of Item.On = (L.On, no_parts)
