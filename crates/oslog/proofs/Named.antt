@@ -1,11 +1,11 @@
 -- What has a name in a configuration: each has a name of its own, in form, and is found by it.
-use Rattle.std.proofs.Common.{◌≡◌, ℕ, zero, suc, ◌+◌, ◌<◌, ◌≤◌, ◌⊎◌, nat_lt, Bool, true, false, not, cond, List, [], ◌∷◌, ◌++◌, length, map, get_or, Option, Some, None, is_some, option_and_then, slice_get, unwrap_or, IsTrue, inl, inr, refl, sym, ap, ◌∙◌, subst, arith}
+use Rattle.std.proofs.Common.{◌≡◌, ℕ, zero, suc, ◌+◌, ◌<◌, ◌⊎◌, nat_lt, Bool, true, false, not, cond, List, [], ◌∷◌, ◌++◌, length, map, get_or, Option, Some, None, option_and_then, slice_get, unwrap_or, IsTrue, inl, inr, refl, sym, ap, ◌∙◌, subst, arith}
 use Rattle.std.specs.List.{AllByRecursion, find, flat_map, list_all, list_any}
 use Rattle.std.specs.Option.{option_map_or}
 use Rattle.std.specs.Str.{bytes_eq}
 use Rattle.std.proofs.lemmas.Bool.{and_from, and_parts, cases_Bool, lt-ltb, ltb-true, not-true, or_cases, or_left, or_parts, or_right, true≢false}
 use Rattle.std.proofs.lemmas.List.{append-nil, length-map, map-append}
-use Rattle.std.proofs.lemmas.List.Folds.{list_all-append, list_all-map}
+use Rattle.std.proofs.lemmas.List.Folds.{list_all-map}
 use Rattle.std.proofs.lemmas.Option.{slice_get-get_or}
 use Rattle.std.proofs.lemmas.Simd.{map-map}
 use Rattle.std.proofs.lemmas.Slice.Eq.{bytes_eq-Decides}
@@ -31,7 +31,7 @@ use Rattle.osplan.specs.View.{core_of}
 use Rattle.osplan.specs.declared.plans.Core.{Core}
 use Rattle.osplan.specs.declared.plans.Plan.{Plan}
 use Rattle.osplan.specs.declared.plans.TheConstants.{KINDS}
-use Rattle.oslog.specs.Naming.{HasFew, all_named, if_isr, if_mode, if_object, isr_at, isrs_in, mode_at, mode_named, modes_in, name_of_named, named_by, named_in, object_at, objects_in, place_named}
+use Rattle.oslog.specs.Naming.{HasFew, all_named, if_mode, if_object, isr_at, isrs_in, mode_at, mode_named, modes_in, name_of_named, named_by, named_in, object_at, objects_in, place_named}
 use Rattle.oslog.specs.declared.names.Named.{Named}
 use Rattle.oslog.specs.declared.names.Named.TheVariants as N
 

@@ -1,5 +1,5 @@
 -- The words of a row in turn: what was read is the text of what it says.
-use Rattle.std.proofs.Common.{◌≡◌, ◌&&◌, Bool, true, Option, Some, None, option_map, option_and_then, List, [], ◌∷◌, ◌++◌, map, ℕ, IsTrue, refl, sym, ap, ◌∙◌}
+use Rattle.std.proofs.Common.{◌≡◌, ◌&&◌, Bool, true, Option, Some, List, [], ◌∷◌, ◌++◌, map, ℕ, IsTrue, refl, sym, ap, ◌∙◌}
 use Rattle.std.specs.List.{list_all}
 use Rattle.std.proofs.lemmas.Bool.{and_parts, and_from}
 use Rattle.osforms.proofs.RoundTrip.{chained}

@@ -1,10 +1,10 @@
 -- The text of items, and the items of a text.
-use Rattle.std.proofs.Common.{◌≡◌, ◌≢◌, ◌⊎◌, ℕ, ◌≤◌, ◌==◌, ◌&&◌, Bool, true, false, not, cond, nat_le, Option, Some, None, option_map, option_and_then, List, [], ◌∷◌, ◌++◌, ◌+◌, length, map, IsTrue, IfOk, Result, Ok, Err, inl, inr, refl, sym, ap, ◌∙◌, arith, length-append}
+use Rattle.std.proofs.Common.{◌≡◌, ◌≢◌, ◌⊎◌, ℕ, ◌≤◌, ◌==◌, Bool, true, false, not, cond, nat_le, Some, None, option_map, option_and_then, List, [], ◌∷◌, ◌++◌, ◌+◌, length, map, IsTrue, IfOk, Result, Ok, Err, inl, inr, refl, sym, ap, ◌∙◌, arith}
 use Rattle.std.specs.List.{flat_map, join_with_byte, list_all, slice_split}
 use Rattle.std.proofs.lemmas.Bool.{and_from, and_parts, eqb-true, le-leb, not-true}
 use Rattle.std.proofs.Math.Dec.{eqb-suc-zero}
 use Rattle.std.proofs.lemmas.List.{append-nil, append_assoc}
-use Rattle.std.proofs.lemmas.List.Folds.{flat_map-map, list_all-map}
+use Rattle.std.proofs.lemmas.List.Folds.{flat_map-map}
 use Rattle.std.proofs.lemmas.List.Splits.{join_with_byte-slice_split, length-slice_split}
 use Rattle.std.proofs.lemmas.List.Sums.{count_by-le-length}
 use Rattle.osbase.specs.declared.items.Item.{Item}
@@ -16,7 +16,7 @@ use Rattle.osplan.specs.Limits.{is_within_limits}
 use Rattle.osplan.specs.declared.plans.Plan.{Plan}
 use Rattle.osread.specs.Reading.{each, each_of_few, parts_of}
 use Rattle.oslog.specs.Items.{item_meant, line_of}
-use Rattle.oslog.specs.Logs.{IsLog, IsTextOf, before_end, is_sayable, line_end, log_meant, log_text, without_last_end}
+use Rattle.oslog.specs.Logs.{IsLog, IsTextOf, before_end, is_sayable, log_meant, log_text, without_last_end}
 use Rattle.oslog.specs.declared.faults.LogFault.{LogFault}
 use Rattle.oslog.proofs.Complete.{line-none, line-read, line-some}
 use Rattle.oslog.proofs.Sound.{line-back}

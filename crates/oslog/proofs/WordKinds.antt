@@ -1,9 +1,9 @@
 -- What a word of each kind says, and its text: a word that is read is the text of what it says, and that can be said.
-use Rattle.std.proofs.Common.{rules, inl, inr, ◌≡◌, ℕ, suc, ◌+◌, ◌-◌, ◌<◌, ◌≤◌, ◌^◌, ◌==◌, ◌&&◌, nat_le, ℤ, pos, negsuc, Bool, true, false, cond, Option, Some, None, option_map, option_and_then, List, [], ◌∷◌, ◌++◌, length, get_or, IsTrue, refl, sym, ap, subst, ◌∙◌, arith}
+use Rattle.std.proofs.Common.{rules, inl, inr, ◌≡◌, ℕ, suc, ◌-◌, ◌<◌, ◌≤◌, ◌^◌, ◌==◌, ◌&&◌, nat_le, ℤ, pos, negsuc, Bool, true, false, Some, option_map, List, [], ◌∷◌, length, get_or, IsTrue, refl, sym, ap, ◌∙◌, arith}
 use Rattle.std.specs.Fmt.{decimal, signed_decimal}
 use Rattle.std.specs.Str.{bytes_eq}
 use Rattle.std.specs.Str.Parse.{digits_value}
-use Rattle.std.proofs.lemmas.Bool.{and_from, and_parts, false≢true, le-leb, leb-true}
+use Rattle.std.proofs.lemmas.Bool.{and_parts, false≢true, le-leb}
 use Rattle.std.proofs.lemmas.Fmt.{decimal-digits_value}
 use Rattle.std.proofs.lemmas.Slice.Eq.{bytes_eq-Decides}
 use Rattle.osbase.specs.Words.{status_name}

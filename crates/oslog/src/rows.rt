@@ -37,7 +37,7 @@ pub enum Line {
     LastHalted,
 }
 
-/// Every form. A line is looked for from the front, so what logs have most stands first.
+/// Every form. A line is looked for from the front, so what logs have most stands first, and a keyword before a name.
 pub const LINES: [Line; 25] = [
     Line::Op,
     Line::Tick,

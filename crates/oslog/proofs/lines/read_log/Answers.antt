@@ -1,4 +1,4 @@
-use Rattle.std.proofs.Common.{◌≡◌, IfOk, IsTrue, None, Some, subst, sym, ap, ◌∙◌}
+use Rattle.std.proofs.Common.{◌≡◌, IfOk, IsTrue, Some, subst, sym, ap, ◌∙◌}
 use Rattle.osplan.specs.Expressible.{is_expressible}
 use Rattle.osplan.specs.Limits.{is_within_limits}
 use Rattle.osplan.specs.declared.plans.Plan.{Plan}

@@ -1,5 +1,4 @@
-use Rattle.std.proofs.Common.{◌≡◌, ◌<◌, ◌++◌, ◌∷◌, [], sym, ap, ◌∙◌, arith}
-use Rattle.osplan.specs.Objects.{object_count}
+use Rattle.std.proofs.Common.{◌++◌, ◌∷◌, [], sym, ap, ◌∙◌, arith}
 use Rattle.oslog.specs.Naming.{object_at}
 use Rattle.oslog.specs.declared.names.Named.{Named}
 use Rattle.oslog.proofs.Naming.{one-pushed, own-within}
