@@ -42,7 +42,7 @@ use Rattle.oslog.specs.Naming.{if_object, name_of_named, named_by, place_named}
 use Rattle.oslog.specs.Words.{call_in, call_of, op_said}
 use Rattle.oslog.specs.declared.names.Named.{Named}
 use Rattle.oslog.specs.declared.names.Named.TheVariants as N
-use Rattle.oslog.specs.Logs.{is_call_sayable}
+use Rattle.oslog.specs.Logs.{is_call_representable}
 use Rattle.oslog.proofs.WordKinds.{int-word, named-is, number-word}
 use Rattle.oslog.proofs.Joining.{end-apart, joined-parts, split-none}
 use Rattle.oslog.proofs.Named.{is_there, named-formed, named-there, place-found}
@@ -213,8 +213,8 @@ module _ (plan : Plan) (limits : IsTrue (is_within_limits plan)) (expressible : 
         there = ap (λ (as_ : List (Arg Place)). list_all (is_object plan) (objects_in as_)) args ∙ args-there c.0.1 r.0 r.1;
       }
 
-  -- a call that is read has these words, and can be said
-  pub call-back : (words : List (List ℕ)) (call : RemoteCall) → call_of plan words ≡ Some call → (call_words (name_of plan) call ≡ words) × (is_call_sayable plan call ≡ true)
+  -- a call that is read has these words, and is representable
+  pub call-back : (words : List (List ℕ)) (call : RemoteCall) → call_of plan words ≡ Some call → (call_words (name_of plan) call ≡ words) × (is_call_representable plan call ≡ true)
   call-back words call e =
       let c = chained call_in (op_said plan words) call e in
       let m = cond-some (has_masks c.0) (named_call c.0) call c.2 in
@@ -233,17 +233,17 @@ module _ (plan : Plan) (limits : IsTrue (is_within_limits plan)) (expressible : 
       let c = chained (if_object object.kind) (named_by plan (name_of plan object.kind object.place)) object.place found in
       record { in_form = named-formed plan limits expressible (name_of plan object.kind object.place) c.0 c.1; found = found }
 
-  -- A call that can be said is what its words say; none of these has a space or a line end.
+  -- A representable call is what its words say; none of these has a space or a line end.
   pub record CallRead (call : RemoteCall) : Type 0 where
     pub read : call_of plan (call_words (name_of plan) call) ≡ Some call
     pub no_space : list_all (has_none 32) (call_words (name_of plan) call) ≡ true
     pub no_end : list_all (has_none 10) (call_words (name_of plan) call) ≡ true
 
-  pub call-read : (call : RemoteCall) → is_call_sayable plan call ≡ true → CallRead call
-  call-read call sayable =
+  pub call-read : (call : RemoteCall) → is_call_representable plan call ≡ true → CallRead call
+  call-read call representable =
       let op = op_of_call call in
       let text = op_text (name_of plan) op in
-      let object = and_parts (is_in_form op && has_masks op) (is_object plan (object_of_call call)) sayable in
+      let object = and_parts (is_in_form op && has_masks op) (is_object plan (object_of_call call)) representable in
       let parts = and_parts (is_in_form op) (has_masks op) object.0 in
       let there : list_all (is_object plan) (objects_of op) ≡ true = ap (list_all (is_object plan)) (call-objects call) ∙ and_from _ _ object.1 refl in
       let meant = text-meant (place_named plan) (name_of plan) (is_object plan) named-back op parts.0 parts.1 there in

@@ -1,4 +1,4 @@
--- What a word of each kind says, and its text: a word that is read is the text of what it says, and that can be said.
+-- What a word of each kind says, and its text: a word that is read is the text of what it says, and that is representable.
 use Rattle.std.proofs.Common.{rules, inl, inr, ◌≡◌, ℕ, suc, ◌-◌, ◌<◌, ◌≤◌, ◌^◌, ◌==◌, ◌&&◌, nat_le, ℤ, pos, negsuc, Bool, true, false, Some, option_map, List, [], ◌∷◌, length, get_or, IsTrue, refl, sym, ap, ◌∙◌, arith}
 use Rattle.std.specs.Fmt.{decimal, signed_decimal}
 use Rattle.std.specs.Str.{bytes_eq}
@@ -107,20 +107,20 @@ status-word w s e = (bytes_eq-Decides (status_name s) w).0 (find-holds (λ (s : 
 
 -- ---- any kind
 
--- What the parts have for a kind can be said.
-abbrev pub is_part_sayable : Plan → Parts → Kind → Bool
-is_part_sayable plan q (K.Keyword word) = true
-is_part_sayable plan q K.Core = nat_le q.core.number 255
-is_part_sayable plan q K.Count = nat_le q.count 18446744073709551615
-is_part_sayable plan q K.Status = true
-is_part_sayable plan q K.Value = is_int q.value
-is_part_sayable plan q K.Mode = is_mode plan q.mode
-is_part_sayable plan q K.Irq = false
-is_part_sayable plan q K.Spinlock = false
+-- What the parts have for a kind is representable.
+abbrev pub is_part_representable : Plan → Parts → Kind → Bool
+is_part_representable plan q (K.Keyword word) = true
+is_part_representable plan q K.Core = nat_le q.core.number 255
+is_part_representable plan q K.Count = nat_le q.count 18446744073709551615
+is_part_representable plan q K.Status = true
+is_part_representable plan q K.Value = is_int q.value
+is_part_representable plan q K.Mode = is_mode plan q.mode
+is_part_representable plan q K.Irq = false
+is_part_representable plan q K.Spinlock = false
 
--- Its text, and whether it can be said.
-abbrev pub said : Plan → Parts → Kind → List ℕ × Bool
-said plan q k = (word_text plan q k, is_part_sayable plan q k)
+-- Its text, and whether it is representable.
+abbrev pub part_view : Plan → Parts → Kind → List ℕ × Bool
+part_view plan q k = (word_text plan q k, is_part_representable plan q k)
 
 pair : (text w : List ℕ) (b : Bool) → text ≡ w → b ≡ true → ◌≡◌ {A = List ℕ × Bool} (text, b) (w, true)
 pair text w b is passes = ap (λ (t : List ℕ). (t, b)) is ∙ ap (λ (p : Bool). (w, p)) passes
@@ -139,27 +139,27 @@ module _ (plan : Plan) (limits : IsTrue (is_within_limits plan)) (expressible : 
       let c = chained if_isr (named_by plan b.0) i b.2 in
       false≢true (ap (is_there plan) (sym (isr-is c.0 i c.2)) ∙ named-there plan limits expressible b.0 c.0 c.1)
 
-  pub word-back : (k : Kind) (w : List ℕ) (p q : Parts) → with_word plan k w p ≡ Some q → ◌≡◌ {A = List ℕ × Bool} (said plan q k) (w, true)
+  pub word-back : (k : Kind) (w : List ℕ) (p q : Parts) → with_word plan k w p ≡ Some q → ◌≡◌ {A = List ℕ × Bool} (part_view plan q k) (w, true)
   word-back (K.Keyword word) w p q e = let c = cond-some (bytes_eq w (keyword_text word)) (Some p) q e in ap (λ (t : List ℕ). (t, true)) (sym ((bytes_eq-Decides w (keyword_text word)).0 c.0))
   word-back K.Core w p q e =
       let m = mapped (λ core. record p { core = core }) (core_of w) q e in
       let n = mapped (λ (n : ℕ). record { number = n }) (number_in 0 255 w) m.0 m.1 in
-      ap (λ (r : Parts). said plan r K.Core) (sym m.2) ∙ ap (λ (c : CoreId). (decimal c.number, nat_le c.number 255)) (sym n.2)
+      ap (λ (r : Parts). part_view plan r K.Core) (sym m.2) ∙ ap (λ (c : CoreId). (decimal c.number, nat_le c.number 255)) (sym n.2)
       ∙ pair (decimal n.0) w (nat_le n.0 255) (number-word 0 255 w n.0 (omega arith) n.1) (le-leb n.0 255 (number-within 0 255 w n.0 n.1).1)
   word-back K.Count w p q e =
       let m = mapped (λ n. record p { count = n }) (number_in 0 18446744073709551615 w) q e in
-      ap (λ (r : Parts). said plan r K.Count) (sym m.2)
+      ap (λ (r : Parts). part_view plan r K.Count) (sym m.2)
       ∙ pair (decimal m.0) w (nat_le m.0 18446744073709551615) (number-word 0 18446744073709551615 w m.0 (omega arith) m.1) (le-leb m.0 18446744073709551615 (number-within 0 18446744073709551615 w m.0 m.1).1)
   word-back K.Status w p q e =
       let m = mapped (λ status. record p { status = status }) (status_of w) q e in
-      ap (λ (r : Parts). said plan r K.Status) (sym m.2) ∙ ap (λ (t : List ℕ). (t, true)) (status-word w m.0 m.1)
+      ap (λ (r : Parts). part_view plan r K.Status) (sym m.2) ∙ ap (λ (t : List ℕ). (t, true)) (status-word w m.0 m.1)
   word-back K.Value w p q e =
       let m = mapped (λ z. record p { value = z }) (int_of w) q e in
-      ap (λ (r : Parts). said plan r K.Value) (sym m.2) ∙ pair (signed_decimal m.0) w (is_int m.0) (int-word w m.0 m.1) (int-fits w m.0 m.1)
+      ap (λ (r : Parts). part_view plan r K.Value) (sym m.2) ∙ pair (signed_decimal m.0) w (is_int m.0) (int-word w m.0 m.1) (int-fits w m.0 m.1)
   word-back K.Mode w p q e =
       let m = mapped (λ mode. record p { mode = mode }) (mode_named plan w) q e in
       let back = mode-back w m.0 m.1 in
-      ap (λ (r : Parts). said plan r K.Mode) (sym m.2) ∙ pair (name_of_mode plan m.0) w (is_mode plan m.0) back.0 back.1
+      ap (λ (r : Parts). part_view plan r K.Mode) (sym m.2) ∙ pair (name_of_mode plan m.0) w (is_mode plan m.0) back.0 back.1
   word-back K.Irq w p q e = let m = mapped (λ isr. record p { isr = isr }) (irq_of plan w) q e in absurd (no-isr w m.0 m.1)
   word-back K.Spinlock w p q e = cc
 
@@ -175,36 +175,36 @@ apart K.Irq K.Irq = false
 apart k other = true
 
 module _ (plan : Plan) (p : Parts) where
-  core-stays : (other : Kind) → apart K.Core other ≡ true → (core : CoreId) → said plan (record p { core = core }) other ≡ said plan p other
+  core-stays : (other : Kind) → apart K.Core other ≡ true → (core : CoreId) → part_view plan (record p { core = core }) other ≡ part_view plan p other
   core-stays K.Core away core = cc
   core-stays other away core = refl
 
-  count-stays : (other : Kind) → apart K.Count other ≡ true → (n : ℕ) → said plan (record p { count = n }) other ≡ said plan p other
+  count-stays : (other : Kind) → apart K.Count other ≡ true → (n : ℕ) → part_view plan (record p { count = n }) other ≡ part_view plan p other
   count-stays K.Count away n = cc
   count-stays other away n = refl
 
-  status-stays : (other : Kind) → apart K.Status other ≡ true → (status : Status) → said plan (record p { status = status }) other ≡ said plan p other
+  status-stays : (other : Kind) → apart K.Status other ≡ true → (status : Status) → part_view plan (record p { status = status }) other ≡ part_view plan p other
   status-stays K.Status away status = cc
   status-stays other away status = refl
 
-  value-stays : (other : Kind) → apart K.Value other ≡ true → (z : ℤ) → said plan (record p { value = z }) other ≡ said plan p other
+  value-stays : (other : Kind) → apart K.Value other ≡ true → (z : ℤ) → part_view plan (record p { value = z }) other ≡ part_view plan p other
   value-stays K.Value away z = cc
   value-stays other away z = refl
 
-  mode-stays : (other : Kind) → apart K.Mode other ≡ true → (mode : ModeId) → said plan (record p { mode = mode }) other ≡ said plan p other
+  mode-stays : (other : Kind) → apart K.Mode other ≡ true → (mode : ModeId) → part_view plan (record p { mode = mode }) other ≡ part_view plan p other
   mode-stays K.Mode away mode = cc
   mode-stays other away mode = refl
 
-  isr-stays : (other : Kind) → apart K.Irq other ≡ true → (isr : IsrRef) → said plan (record p { isr = isr }) other ≡ said plan p other
+  isr-stays : (other : Kind) → apart K.Irq other ≡ true → (isr : IsrRef) → part_view plan (record p { isr = isr }) other ≡ part_view plan p other
   isr-stays K.Irq away isr = cc
   isr-stays other away isr = refl
 
-  pub word-stays : (k other : Kind) (w : List ℕ) (q : Parts) → apart k other ≡ true → with_word plan k w p ≡ Some q → said plan q other ≡ said plan p other
-  word-stays (K.Keyword word) other w q away e = let c = cond-some (bytes_eq w (keyword_text word)) (Some p) q e in let same : p ≡ q = cc in ap (λ (r : Parts). said plan r other) (sym same)
-  word-stays K.Core other w q away e = let m = mapped (λ core. record p { core = core }) (core_of w) q e in ap (λ (r : Parts). said plan r other) (sym m.2) ∙ core-stays other away m.0
-  word-stays K.Count other w q away e = let m = mapped (λ n. record p { count = n }) (number_in 0 18446744073709551615 w) q e in ap (λ (r : Parts). said plan r other) (sym m.2) ∙ count-stays other away m.0
-  word-stays K.Status other w q away e = let m = mapped (λ status. record p { status = status }) (status_of w) q e in ap (λ (r : Parts). said plan r other) (sym m.2) ∙ status-stays other away m.0
-  word-stays K.Value other w q away e = let m = mapped (λ z. record p { value = z }) (int_of w) q e in ap (λ (r : Parts). said plan r other) (sym m.2) ∙ value-stays other away m.0
-  word-stays K.Mode other w q away e = let m = mapped (λ mode. record p { mode = mode }) (mode_named plan w) q e in ap (λ (r : Parts). said plan r other) (sym m.2) ∙ mode-stays other away m.0
-  word-stays K.Irq other w q away e = let m = mapped (λ isr. record p { isr = isr }) (irq_of plan w) q e in ap (λ (r : Parts). said plan r other) (sym m.2) ∙ isr-stays other away m.0
+  pub word-stays : (k other : Kind) (w : List ℕ) (q : Parts) → apart k other ≡ true → with_word plan k w p ≡ Some q → part_view plan q other ≡ part_view plan p other
+  word-stays (K.Keyword word) other w q away e = let c = cond-some (bytes_eq w (keyword_text word)) (Some p) q e in let same : p ≡ q = cc in ap (λ (r : Parts). part_view plan r other) (sym same)
+  word-stays K.Core other w q away e = let m = mapped (λ core. record p { core = core }) (core_of w) q e in ap (λ (r : Parts). part_view plan r other) (sym m.2) ∙ core-stays other away m.0
+  word-stays K.Count other w q away e = let m = mapped (λ n. record p { count = n }) (number_in 0 18446744073709551615 w) q e in ap (λ (r : Parts). part_view plan r other) (sym m.2) ∙ count-stays other away m.0
+  word-stays K.Status other w q away e = let m = mapped (λ status. record p { status = status }) (status_of w) q e in ap (λ (r : Parts). part_view plan r other) (sym m.2) ∙ status-stays other away m.0
+  word-stays K.Value other w q away e = let m = mapped (λ z. record p { value = z }) (int_of w) q e in ap (λ (r : Parts). part_view plan r other) (sym m.2) ∙ value-stays other away m.0
+  word-stays K.Mode other w q away e = let m = mapped (λ mode. record p { mode = mode }) (mode_named plan w) q e in ap (λ (r : Parts). part_view plan r other) (sym m.2) ∙ mode-stays other away m.0
+  word-stays K.Irq other w q away e = let m = mapped (λ isr. record p { isr = isr }) (irq_of plan w) q e in ap (λ (r : Parts). part_view plan r other) (sym m.2) ∙ isr-stays other away m.0
   word-stays K.Spinlock other w q away e = cc
