@@ -41,13 +41,14 @@ _mcos_read_words() {
     local index word
     for ((index = 1; index < COMP_CWORD; index++)); do
         word=${COMP_WORDS[index]}
-        if [[ $wants_schedule && $word == = ]]; then
+        if [[ $wanted && $word == = ]]; then
             # bash divides `--schedule=FILE` into three words.
             continue
-        elif [[ $wants_schedule ]]; then
-            wants_schedule=
-        elif [[ $word == --schedule ]]; then
-            wants_schedule=yes has_schedule=yes
+        elif [[ $wanted ]]; then
+            wanted=
+        elif [[ $word == --schedule || $word == --items ]]; then
+            wanted=$word
+            given+=" $word "
         elif [[ $word == -* ]]; then
             continue
         elif [[ $command ]]; then
@@ -62,29 +63,33 @@ _mcos_offer_options() {
     case $command in
         '') _mcos_offer "$1" '-h --help -V --version' ;;
         run)
-            [[ $has_schedule ]] || _mcos_offer "$1" '--schedule'
+            [[ $given == *' --schedule '* ]] || _mcos_offer "$1" '--schedule'
+            [[ $given == *' --items '* ]] || _mcos_offer "$1" '--items'
             _mcos_offer "$1" '-h --help'
             ;;
-        check | cut) _mcos_offer "$1" '-h --help' ;;
+        check | cut | replay) _mcos_offer "$1" '-h --help' ;;
     esac
 }
 
 _mcos_offer_arguments() {
     case $command:${#arguments[@]} in
-        :0 | help:0) _mcos_offer "$1" 'run check cut help' ;;
-        run:[01] | check:0 | cut:0) _mcos_offer_files "$1" ;;
-        cut:1) _mcos_offer_cores "$1" "${arguments[0]}" ;;
+        :0 | help:0) _mcos_offer "$1" 'run check cut replay help' ;;
+        run:[01] | check:0 | cut:0 | replay:0) _mcos_offer_files "$1" ;;
+        cut:1 | replay:1) _mcos_offer_cores "$1" "${arguments[0]}" ;;
+        replay:2) compopt -o default 2>/dev/null ;;
     esac
 }
 
 _mcos() {
     local current=${COMP_WORDS[COMP_CWORD]}
-    local command= wants_schedule= has_schedule=
+    local command= wanted= given=
     local -a arguments=()
     COMPREPLY=()
     _mcos_read_words
-    if [[ $wants_schedule ]]; then
+    if [[ $wanted == --schedule ]]; then
         _mcos_offer_files "${current#=}"
+    elif [[ $wanted == --items ]]; then
+        _mcos_offer_cores "${current#=}" "${arguments[0]}"
     elif [[ $current == -* ]]; then
         _mcos_offer_options "$current"
     else

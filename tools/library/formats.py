@@ -36,6 +36,8 @@ BAD_SCRIPT = Fault(10, "BadScript")
 NO_MEMORY = Fault(11, "NoMemory")
 BAD_STIMULUS = Fault(12, "BadStimulus")
 BAD_SCHEDULE = Fault(13, "BadSchedule")
+BAD_LOG = Fault(14, "BadLog")
+ITEM_REFUSED = Fault(15, "ItemRefused")
 NO_MEMORY_IN_RUN = Fault(16, "NoMemory")
 WRITE_FAILED = Fault(19, "WriteFailed")
 NOT_SEPARATE = Fault(20, "NotSeparate")
@@ -55,6 +57,8 @@ FAULTS = (
     NO_MEMORY,
     BAD_STIMULUS,
     BAD_SCHEDULE,
+    BAD_LOG,
+    ITEM_REFUSED,
     NO_MEMORY_IN_RUN,
     WRITE_FAILED,
     NOT_SEPARATE,

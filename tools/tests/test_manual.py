@@ -124,18 +124,23 @@ def page_section(title):
 
 
 def words_of(macros):
-    """The words that a line of mdoc prints: `Cm run Ar CFG Op Fl \\-schedule Ar FILE` is `run CFG [--schedule FILE]`."""
+    """The words that a line of mdoc prints: `Cm run Ar CFG Op Fl \\-schedule Ar FILE` is `run CFG [--schedule FILE]`.
+
+    `Oo .. Oc` is the same as `Op`, where more follows in the line."""
     words, is_flag, is_optional = [], False, False
     for macro in macros.split():
         if macro in ("Cm", "Ar", "Fl"):
             is_flag = macro == "Fl"
-        elif macro == "Op":
+        elif macro in ("Op", "Oo"):
             is_optional = True
             words.append("[")
+        elif macro == "Oc":
+            is_optional = False
+            words.append("]")
         else:
             has_dash = is_flag and macro not in ("|", ",")
             words.append(("-" if has_dash else "") + macro.replace("\\-", "-"))
-    return " ".join(words).replace("[ ", "[") + ("]" if is_optional else "")
+    return " ".join(words).replace("[ ", "[").replace(" ]", "]") + ("]" if is_optional else "")
 
 
 def synopsis():
@@ -244,12 +249,12 @@ ANY_FILE = ["-o default"]
 
 # The words before the key TAB, and the replies in any order. bash divides `--schedule=x` into three words.
 BASH_CASES = [
-    ([""], ["check", "cut", "help", "run"]),
+    ([""], ["check", "cut", "help", "replay", "run"]),
     (["c"], ["check", "cut"]),
     (["x"], []),
     (["-"], ["--help", "--version", "-V", "-h"]),
     (["--v"], ["--version"]),
-    (["help", ""], ["check", "cut", "help", "run"]),
+    (["help", ""], ["check", "cut", "help", "replay", "run"]),
     (["help", "run", ""], []),
     (["run", ""], FILES),
     (["run", "st"], ["-o filenames", "stimuli.json"]),
@@ -258,11 +263,14 @@ BASH_CASES = [
     (["run", "config.json", ""], FILES),
     (["run", "config.json", "stimuli.json", ""], []),
     (["run", "config.json", "stimuli.json", "--s"], ["--schedule"]),
-    (["run", "-"], ["--help", "--schedule", "-h"]),
+    (["run", "-"], ["--help", "--items", "--schedule", "-h"]),
     (["run", "--schedule", ""], FILES),
     (["run", "--schedule", "="], FILES),
     (["run", "--schedule", "=", "con"], ["-o filenames", "config.json"]),
-    (["run", "--schedule", "turns.json", "-"], ["--help", "-h"]),
+    (["run", "--schedule", "turns.json", "-"], ["--help", "--items", "-h"]),
+    (["run", "config.json", "--items", ""], ["0", "12", "17"]),
+    (["run", "config.json", "--items", "=", "1"], ["12", "17"]),
+    (["run", "--items", "0", "--schedule", "turns.json", "-"], ["--help", "-h"]),
     (["run", "--schedule", "=", "turns.json", "config.json", "st"], ["-o filenames", "stimuli.json"]),
     (["run", "--schedule", "turns.json", "config.json", "stimuli.json", ""], []),
     (["check", ""], FILES),
@@ -278,6 +286,10 @@ BASH_CASES = [
     (["cut", "notes.txt", ""], []),
     (["cut", "old", ""], []),
     (["cut", "nothing.json", ""], []),
+    (["replay", ""], FILES),
+    (["replay", "config.json", ""], ["0", "12", "17"]),
+    (["replay", "config.json", "0", ""], ANY_FILE),
+    (["replay", "config.json", "0", "notes.txt", ""], []),
 ]
 
 BASH_FOLDER = {

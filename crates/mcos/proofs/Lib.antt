@@ -4,3 +4,4 @@ pub mod Reading
 pub mod Standings
 pub mod Unread
 pub mod Usage
+pub mod Logging

@@ -78,6 +78,19 @@ module _ (id : Text) (Q : Text → Type 0) where
       go true is given rest = first r.values (h.0 is)
       go false is given rest = rest given
 
+  -- and one that may be left out has it where it was given
+  pub any_first : (rows : List Row) → RowsFit rows → IfSome (first_of id rows) Q
+  any_first [] h = tt
+  any_first (r ∷ rs) h = go (bytes_eq r.id id) refl (any_first rs h.1)
+    where
+      first : (vs : List Text) → FirstFits vs → IfSome (slice_get vs 0) Q
+      first [] fits = absurd fits
+      first (v ∷ vs) fits = fits
+
+      go : (b : Bool) → bytes_eq r.id id ≡ b → IfSome (first_of id rs) Q → IfSome (option_and_then (λ (x : Row). slice_get x.values 0) (cond b (Some r) (find (λ x. bytes_eq x.id id) rs))) Q
+      go true is rest = first r.values (h.0 is)
+      go false is rest = rest
+
   -- ---- uses
 
   module _ (again : Bool) where
@@ -406,6 +419,16 @@ no_defaults [] rows e = refl
 no_defaults (a ∷ rest) rows e =
     let parts = both _ _ e in
     ap (λ r. fold with_default r rest) (no_default a rows parts.0) ∙ no_defaults rest rows parts.1
+
+-- an id that may be left out has its first value where it is given
+pub leaf_any : (id : Text) (Q : Text → Type 0) (s : Shape) → AllKeep id Q s.args_override_self s.rules → have_no_defaults s.rules ≡ true
+    → (words : List Text) → level_fault s [] nothing_held words false [] ≡ [] → IfSome (first_of id (rows_after s.rules [] words)) Q
+leaf_any id Q s all undefaulted words e =
+    let parts = level_parts s [] words false [] e in
+    let end = (walk s.rules [] nothing_held words).held in
+    let fit : RowsFit id Q (settled s.rules end).rows = settled_fit id Q s all end parts.2 (walk_fit id Q s all [] words (walk_from nothing_held) parts.0 tt) in
+    let rows : RowsFit id Q (finished s.rules end) = subst (RowsFit id Q) (sym (no_defaults s.rules (settled s.rules end).rows undefaulted)) fit in
+    any_first id Q (finished s.rules end) rows
 
 -- an id that the checks at the end want has its first value
 pub leaf_first : (id : Text) (Q : Text → Type 0) (s : Shape) → AllKeep id Q s.args_override_self s.rules → have_no_defaults s.rules ≡ true

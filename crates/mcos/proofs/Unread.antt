@@ -5,7 +5,7 @@ use Rattle.std.specs.Borrow.{Bor}
 use Rattle.osplan.specs.declared.faults.ConfFault.TheVariants.{NoMemory}
 use Rattle.mcos.specs.declared.faults.Fault.TheVariants.{Text, Unreadable}
 use Rattle.mcos.specs.declared.jobs.Job.{Job}
-use Rattle.mcos.specs.declared.jobs.Job.TheVariants.{Run, Check, Cut}
+use Rattle.mcos.specs.declared.jobs.Job.TheVariants.{Run, Check, Cut, Replay}
 use Rattle.mcos.specs.Jobs.{paths_of}
 use Rattle.mcos.specs.Performs.{HasNoOutput, fails}
 use Rattle.mcos.specs.Program.{PrintsJob}
@@ -17,9 +17,10 @@ pub listed_paths : (paths : List (Bor (List ℕ))) (job : Job) → map (λ (path
 listed_paths paths job are = sym (length-map paths (λ (path : Bor (List ℕ)). path.now)) ∙ ap length are
 
 no_memory-output : (job : Job) (files : List File) → HasNoOutput job files (Text NoMemory)
-no_memory-output (Run config stimuli schedule) files = λ apart. absurd (apart refl)
+no_memory-output (Run config stimuli schedule items) files = λ apart. absurd (apart refl)
 no_memory-output (Check config) files = λ apart. absurd (apart refl)
 no_memory-output (Cut config core) files = λ apart. absurd (apart refl)
+no_memory-output (Replay config core log) files = λ apart. absurd (apart refl)
 
 readable : Text NoMemory ≡ Unreadable → ⊥
 readable e = cc

@@ -1,6 +1,6 @@
 -- What the words of the program's command line give, where they have no fault.
 use Rattle.std.proofs.Common.{◌≡◌, ◌∙◌, ◌⊎◌, ◌||◌, Bool, cond, not, true, false, true≢false, refl, sym, inl, inr, codes, List, [], ◌∷◌}
-use Rattle.std.specs.Prelude.{⊤, IsSomeAnd}
+use Rattle.std.specs.Prelude.{⊤, IfSome, IsSomeAnd}
 use Rattle.std.specs.Str.{bytes_eq}
 use Rattle.std.proofs.lemmas.Slice.Eq.{bytes_eq-Decides}
 use Rattle.clap.specs.Faults.{check_fault}
@@ -10,8 +10,8 @@ use Rattle.clap.specs.Words.{IsUnsignedIn, Row, Rule, Text, fault_of, first_of, 
 use Rattle.clap.specs.declared.error.kind.ErrorKind.{ErrorKind}
 use Rattle.clap.specs.declared.builder.ValueParser.TheVariants.{Unsigned}
 use Rattle.clap.proofs.ValueTestLemmas.{accepts-Accepts}
-use Rattle.mcos.specs.CommandLine.{check_command, command_line, config_rule, core_rule, cut_command, run_command, schedule_rule, stimuli_rule}
-use Rattle.mcos.proofs.Parsed.{AllGive, AllKeep, help_keeps, leaf_first, one_keeps, subcommand_gives}
+use Rattle.mcos.specs.CommandLine.{check_command, command_line, config_rule, core_rule, cut_command, items_rule, log_rule, replay_command, run_command, schedule_rule, stimuli_rule}
+use Rattle.mcos.proofs.Parsed.{AllGive, AllKeep, help_keeps, leaf_any, leaf_first, one_keeps, subcommand_gives}
 
 -- the arguments as they are built
 abbrev config : Rule
@@ -23,6 +23,9 @@ stimuli = with_index 2 (filled stimuli_rule)
 abbrev core : Rule
 core = with_index 2 (filled core_rule)
 
+abbrev log : Rule
+log = with_index 3 (filled log_rule)
+
 abbrev run_leaf : Shape
 run_leaf = built_leaf run_command.top
 
@@ -31,6 +34,9 @@ check_leaf = built_leaf check_command.top
 
 abbrev cut_leaf : Shape
 cut_leaf = built_leaf cut_command.top
+
+abbrev replay_leaf : Shape
+replay_leaf = built_leaf replay_command.top
 
 abbrev Anything : Text → Type 0
 Anything text = ⊤
@@ -42,7 +48,25 @@ run_keeps id = (
   one_keeps id Anything false config (λ is v ok. tt),
   (
     one_keeps id Anything false stimuli (λ is v ok. tt),
-    (one_keeps id Anything false (filled schedule_rule) (λ is v ok. tt), (help_keeps id Anything false (filled help_rule), tt)),
+    (
+      one_keeps id Anything false (filled schedule_rule) (λ is v ok. tt),
+      (one_keeps id Anything false (filled items_rule) (λ is v ok. tt), (help_keeps id Anything false (filled help_rule), tt)),
+    ),
+  ),
+)
+
+items_keeps : AllKeep (codes "items") (IsUnsignedIn 0 255) false run_leaf.rules
+items_keeps = (
+  one_keeps (codes "items") (IsUnsignedIn 0 255) false config (λ is v ok. absurd (true≢false (sym is))),
+  (
+    one_keeps (codes "items") (IsUnsignedIn 0 255) false stimuli (λ is v ok. absurd (true≢false (sym is))),
+    (
+      one_keeps (codes "items") (IsUnsignedIn 0 255) false (filled schedule_rule) (λ is v ok. absurd (true≢false (sym is))),
+      (
+        one_keeps (codes "items") (IsUnsignedIn 0 255) false (filled items_rule) (λ is v ok. accepts-Accepts false (Unsigned 0 255) v ok),
+        (help_keeps (codes "items") (IsUnsignedIn 0 255) false (filled help_rule), tt),
+      ),
+    ),
   ),
 )
 
@@ -64,6 +88,24 @@ core_keeps = (
   ),
 )
 
+replay_keeps : (id : Text) → AllKeep id Anything false replay_leaf.rules
+replay_keeps id = (
+  one_keeps id Anything false config (λ is v ok. tt),
+  (one_keeps id Anything false core (λ is v ok. tt), (one_keeps id Anything false log (λ is v ok. tt), (help_keeps id Anything false (filled help_rule), tt))),
+)
+
+replay_core_keeps : AllKeep (codes "CORE") (IsUnsignedIn 0 255) false replay_leaf.rules
+replay_core_keeps = (
+  one_keeps (codes "CORE") (IsUnsignedIn 0 255) false config (λ is v ok. absurd (true≢false (sym is))),
+  (
+    one_keeps (codes "CORE") (IsUnsignedIn 0 255) false core (λ is v ok. accepts-Accepts false (Unsigned 0 255) v ok),
+    (
+      one_keeps (codes "CORE") (IsUnsignedIn 0 255) false log (λ is v ok. absurd (true≢false (sym is))),
+      (help_keeps (codes "CORE") (IsUnsignedIn 0 255) false (filled help_rule), tt),
+    ),
+  ),
+)
+
 -- ---- what the checks at the end want
 
 first_wanted : (first rest : Bool) (k : ErrorKind) → cond (not first || rest) (k ∷ []) [] ≡ [] → first ≡ true
@@ -75,6 +117,12 @@ second_wanted first true rest k e = refl
 second_wanted true false rest k e = cc
 second_wanted false false rest k e = cc
 
+third_wanted : (first second third rest : Bool) (k : ErrorKind) → cond (not first || (not second || (not third || rest))) (k ∷ []) [] ≡ [] → third ≡ true
+third_wanted first second true rest k e = refl
+third_wanted true true false rest k e = cc
+third_wanted true false false rest k e = cc
+third_wanted false second false rest k e = cc
+
 run_wants : (rows : List Row) → check_fault run_leaf rows false ≡ [] → (is_given (codes "CFG") rows ≡ true) × (is_given (codes "STIM") rows ≡ true)
 run_wants rows e = (first_wanted (is_given (codes "CFG") rows) _ _ e, second_wanted (is_given (codes "CFG") rows) (is_given (codes "STIM") rows) _ _ e)
 
@@ -83,6 +131,18 @@ check_wants rows e = first_wanted (is_given (codes "CFG") rows) _ _ e
 
 cut_wants : (rows : List Row) → check_fault cut_leaf rows false ≡ [] → (is_given (codes "CFG") rows ≡ true) × (is_given (codes "CORE") rows ≡ true)
 cut_wants rows e = (first_wanted (is_given (codes "CFG") rows) _ _ e, second_wanted (is_given (codes "CFG") rows) (is_given (codes "CORE") rows) _ _ e)
+
+record ReplayWants (rows : List Row) : Type 0 where
+  config : is_given (codes "CFG") rows ≡ true
+  core : is_given (codes "CORE") rows ≡ true
+  log : is_given (codes "LOG") rows ≡ true
+
+replay_wants : (rows : List Row) → check_fault replay_leaf rows false ≡ [] → ReplayWants rows
+replay_wants rows e = record {
+  config = first_wanted (is_given (codes "CFG") rows) _ _ e;
+  core = second_wanted (is_given (codes "CFG") rows) (is_given (codes "CORE") rows) _ _ e;
+  log = third_wanted (is_given (codes "CFG") rows) (is_given (codes "CORE") rows) (is_given (codes "LOG") rows) _ _ e;
+}
 
 -- ---- what the subcommand has
 
@@ -93,6 +153,7 @@ pub record IsRun (name : Text) (rows : List Row) : Type 0 where
   pub is : name ≡ codes "run"
   pub config : Has (codes "CFG") rows
   pub stimuli : Has (codes "STIM") rows
+  pub items : IfSome (first_of (codes "items") rows) (IsUnsignedIn 0 255)
 
 pub record IsCheck (name : Text) (rows : List Row) : Type 0 where
   pub is : name ≡ codes "check"
@@ -103,8 +164,14 @@ pub record IsCut (name : Text) (rows : List Row) : Type 0 where
   pub config : Has (codes "CFG") rows
   pub core : IsSomeAnd (first_of (codes "CORE") rows) (IsUnsignedIn 0 255)
 
+pub record IsReplay (name : Text) (rows : List Row) : Type 0 where
+  pub is : name ≡ codes "replay"
+  pub config : Has (codes "CFG") rows
+  pub core : IsSomeAnd (first_of (codes "CORE") rows) (IsUnsignedIn 0 255)
+  pub log : Has (codes "LOG") rows
+
 abbrev pub IsJob : Text × List Row → Type 0
-IsJob p = IsRun p.0 p.1 ⊎ (IsCheck p.0 p.1 ⊎ IsCut p.0 p.1)
+IsJob p = IsRun p.0 p.1 ⊎ (IsCheck p.0 p.1 ⊎ (IsCut p.0 p.1 ⊎ IsReplay p.0 p.1))
 
 no_help : (name : Text) → bytes_eq name (codes "help") ≡ false → (bytes_eq (codes "help") name || false) ≡ true → ⊥
 no_help name other is =
@@ -122,6 +189,7 @@ jobs_give = (
     is = refl;
     config = leaf_first (codes "CFG") Anything run_leaf (run_keeps _) refl (λ rows c. (run_wants rows c).0) words e;
     stimuli = leaf_first (codes "STIM") Anything run_leaf (run_keeps _) refl (λ rows c. (run_wants rows c).1) words e;
+    items = leaf_any (codes "items") (IsUnsignedIn 0 255) run_leaf items_keeps refl words e;
   })),
   (
     (λ name other is words e. inr (inl (record {
@@ -129,12 +197,20 @@ jobs_give = (
       config = leaf_first (codes "CFG") Anything check_leaf (check_keeps _) refl check_wants words e;
     }))),
     (
-      (λ name other is words e. inr (inr (record {
+      (λ name other is words e. inr (inr (inl (record {
         is = refl;
         config = leaf_first (codes "CFG") Anything cut_leaf (cut_keeps _) refl (λ rows c. (cut_wants rows c).0) words e;
         core = leaf_first (codes "CORE") (IsUnsignedIn 0 255) cut_leaf core_keeps refl (λ rows c. (cut_wants rows c).1) words e;
-      }))),
-      ((λ name other is words e. absurd (no_help name other is)), tt),
+      })))),
+      (
+        (λ name other is words e. inr (inr (inr (record {
+          is = refl;
+          config = leaf_first (codes "CFG") Anything replay_leaf (replay_keeps _) refl (λ rows c. (replay_wants rows c).config) words e;
+          core = leaf_first (codes "CORE") (IsUnsignedIn 0 255) replay_leaf replay_core_keeps refl (λ rows c. (replay_wants rows c).core) words e;
+          log = leaf_first (codes "LOG") Anything replay_leaf (replay_keeps _) refl (λ rows c. (replay_wants rows c).log) words e;
+        })))),
+        ((λ name other is words e. absurd (no_help name other is)), tt),
+      ),
     ),
   ),
 )
@@ -150,14 +226,23 @@ apart a b differ same = true≢false (sym ((bytes_eq-Decides a b).1 same) ∙ di
 pub run_has : (rows : List Row) → IsJob (codes "run", rows) → IsRun (codes "run") rows
 run_has rows (inl run) = run
 run_has rows (inr (inl check)) = absurd (apart (codes "run") (codes "check") refl check.is)
-run_has rows (inr (inr cut)) = absurd (apart (codes "run") (codes "cut") refl cut.is)
+run_has rows (inr (inr (inl cut))) = absurd (apart (codes "run") (codes "cut") refl cut.is)
+run_has rows (inr (inr (inr replay))) = absurd (apart (codes "run") (codes "replay") refl replay.is)
 
 pub check_has : (rows : List Row) → IsJob (codes "check", rows) → IsCheck (codes "check") rows
 check_has rows (inl run) = absurd (apart (codes "check") (codes "run") refl run.is)
 check_has rows (inr (inl check)) = check
-check_has rows (inr (inr cut)) = absurd (apart (codes "check") (codes "cut") refl cut.is)
+check_has rows (inr (inr (inl cut))) = absurd (apart (codes "check") (codes "cut") refl cut.is)
+check_has rows (inr (inr (inr replay))) = absurd (apart (codes "check") (codes "replay") refl replay.is)
 
 pub cut_has : (rows : List Row) → IsJob (codes "cut", rows) → IsCut (codes "cut") rows
 cut_has rows (inl run) = absurd (apart (codes "cut") (codes "run") refl run.is)
 cut_has rows (inr (inl check)) = absurd (apart (codes "cut") (codes "check") refl check.is)
-cut_has rows (inr (inr cut)) = cut
+cut_has rows (inr (inr (inl cut))) = cut
+cut_has rows (inr (inr (inr replay))) = absurd (apart (codes "cut") (codes "replay") refl replay.is)
+
+pub replay_has : (rows : List Row) → IsJob (codes "replay", rows) → IsReplay (codes "replay") rows
+replay_has rows (inl run) = absurd (apart (codes "replay") (codes "run") refl run.is)
+replay_has rows (inr (inl check)) = absurd (apart (codes "replay") (codes "check") refl check.is)
+replay_has rows (inr (inr (inl cut))) = absurd (apart (codes "replay") (codes "cut") refl cut.is)
+replay_has rows (inr (inr (inr replay))) = replay

@@ -1,11 +1,12 @@
 -- The program's command line, in the terms of `clap`. [own]
-use Rattle.std.specs.Prelude.{◌≡◌, ℕ, true, Option, Some, List, codes}
+use Rattle.std.specs.Prelude.{◌≡◌, ℕ, true, Option, Some, None, List, codes}
 use Rattle.std.specs.Str.Parse.{digits_value, without_leading_plus}
 use Rattle.clap.specs.Words.{App, Row, Rule, first_of, new_app, new_rule, subcommand_of, with_rule, with_subcommand}
 use Rattle.clap.specs.declared.builder.ArgAction.TheVariants.{Set}
 use Rattle.clap.specs.declared.builder.ValueParser.TheVariants.{Unsigned}
+use Rattle.osbase.specs.declared.references.CoreId.{CoreId}
 use Rattle.mcos.specs.declared.jobs.Job.{Job}
-use Rattle.mcos.specs.declared.jobs.Job.TheVariants.{Run, Check, Cut}
+use Rattle.mcos.specs.declared.jobs.Job.TheVariants.{Run, Check, Cut, Replay}
 use Rattle.mcos.specs.Jobs.{path_in}
 
 abbrev pub config_rule : Rule
@@ -17,13 +18,19 @@ stimuli_rule = record (new_rule (codes "STIM")) { required = true }
 abbrev pub schedule_rule : Rule
 schedule_rule = record (new_rule (codes "schedule")) { long = Some (codes "schedule"); value_names = 1; action = Some Set }
 
+abbrev pub items_rule : Rule
+items_rule = record (new_rule (codes "items")) { long = Some (codes "items"); value_names = 1; action = Some Set; parser = Some (Unsigned 0 255) }
+
+abbrev pub log_rule : Rule
+log_rule = record (new_rule (codes "LOG")) { required = true }
+
 -- A core is a number of 0 to 255.
 abbrev pub core_rule : Rule
 core_rule = record (new_rule (codes "CORE")) { required = true; parser = Some (Unsigned 0 255) }
 
--- `run CFG STIM [--schedule FILE]`
+-- `run CFG STIM [--schedule FILE] [--items CORE]`
 abbrev pub run_command : App
-run_command = with_rule (with_rule (with_rule (new_app (codes "run")) config_rule) stimuli_rule) schedule_rule
+run_command = with_rule (with_rule (with_rule (with_rule (new_app (codes "run")) config_rule) stimuli_rule) schedule_rule) items_rule
 
 -- `check CFG`
 abbrev pub check_command : App
@@ -33,6 +40,10 @@ check_command = with_rule (new_app (codes "check")) config_rule
 abbrev pub cut_command : App
 cut_command = with_rule (with_rule (new_app (codes "cut")) config_rule) core_rule
 
+-- `replay CFG CORE LOG`
+abbrev pub replay_command : App
+replay_command = with_rule (with_rule (with_rule (new_app (codes "replay")) config_rule) core_rule) log_rule
+
 -- `mcos --version`, or one of its subcommands
 abbrev pub requires_subcommand : App → App
 requires_subcommand app = record app { top = record app.top { subcommand_required = true } }
@@ -41,7 +52,7 @@ abbrev pub tells_version : App → App
 tells_version app = record app { top = record app.top { has_version = true } }
 
 abbrev pub command_line : App
-command_line = with_subcommand (with_subcommand (with_subcommand (requires_subcommand (tells_version (new_app (codes "mcos")))) run_command.top) check_command.top) cut_command.top
+command_line = with_subcommand (with_subcommand (with_subcommand (with_subcommand (requires_subcommand (tells_version (new_app (codes "mcos")))) run_command.top) check_command.top) cut_command.top) replay_command.top
 
 -- A text that is there says this number.
 pub record SaysNumber (entry : Option (List ℕ)) (number : ℕ) : Type 0 where
@@ -49,20 +60,30 @@ pub record SaysNumber (entry : Option (List ℕ)) (number : ℕ) : Type 0 where
   pub is_there : entry ≡ Some text
   pub says : digits_value 10 (without_leading_plus text) ≡ number
 
+-- A text that is there says the core's number, and none is there where there is no core.
+abbrev pub SaysCore : Option (List ℕ) → Option CoreId → Type 0
+SaysCore entry None = entry ≡ None
+SaysCore entry (Some core) = SaysNumber entry core.number
+
 -- The entries of a subcommand are the job's.
 abbrev pub HasEntries : List Row → Job → Type 0
-HasEntries rows (Run config stimuli schedule) =
+HasEntries rows (Run config stimuli schedule items) =
     (first_of (codes "CFG") rows ≡ Some config.now)
     × (first_of (codes "STIM") rows ≡ Some stimuli.now)
     × (first_of (codes "schedule") rows ≡ path_in schedule)
+    × SaysCore (first_of (codes "items") rows) items
 HasEntries rows (Check config) = first_of (codes "CFG") rows ≡ Some config.now
 HasEntries rows (Cut config core) =
     (first_of (codes "CFG") rows ≡ Some config.now) × SaysNumber (first_of (codes "CORE") rows) core.number
+HasEntries rows (Replay config core log) =
+    (first_of (codes "CFG") rows ≡ Some config.now) × SaysNumber (first_of (codes "CORE") rows) core.number
+    × (first_of (codes "LOG") rows ≡ Some log.now)
 
 abbrev pub subcommand_name : Job → List ℕ
-subcommand_name (Run config stimuli schedule) = codes "run"
+subcommand_name (Run config stimuli schedule items) = codes "run"
 subcommand_name (Check config) = codes "check"
 subcommand_name (Cut config core) = codes "cut"
+subcommand_name (Replay config core log) = codes "replay"
 
 -- The words, of which the first is the program's name, name the job's subcommand with the job's entries.
 pub record AsksFor (words : List (List ℕ)) (job : Job) : Type 0 where

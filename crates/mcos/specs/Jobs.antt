@@ -2,25 +2,29 @@
 use Rattle.std.specs.Prelude.{ℕ, List, [], ◌∷◌, ◌++◌, Option, Some, None, option_map}
 use Rattle.std.specs.Borrow.{Bor}
 use Rattle.mcos.specs.declared.jobs.Job.{Job}
-use Rattle.mcos.specs.declared.jobs.Job.TheVariants.{Run, Check, Cut}
+use Rattle.mcos.specs.declared.jobs.Job.TheVariants.{Run, Check, Cut, Replay}
 
 abbrev pub config_path : Job → List ℕ
-config_path (Run config stimuli schedule) = config.now
+config_path (Run config stimuli schedule items) = config.now
 config_path (Check config) = config.now
 config_path (Cut config core) = config.now
+config_path (Replay config core log) = config.now
 
+-- The stimuli of a run, or the log of a replay.
 abbrev pub stimuli_path : Job → Option (List ℕ)
-stimuli_path (Run config stimuli schedule) = Some stimuli.now
+stimuli_path (Run config stimuli schedule items) = Some stimuli.now
 stimuli_path (Check config) = None
 stimuli_path (Cut config core) = None
+stimuli_path (Replay config core log) = Some log.now
 
 abbrev pub path_in : Option (Bor (List ℕ)) → Option (List ℕ)
 path_in path = option_map (λ (p : Bor (List ℕ)). p.now) path
 
 abbrev pub schedule_path : Job → Option (List ℕ)
-schedule_path (Run config stimuli schedule) = path_in schedule
+schedule_path (Run config stimuli schedule items) = path_in schedule
 schedule_path (Check config) = None
 schedule_path (Cut config core) = None
+schedule_path (Replay config core log) = None
 
 -- A path that is there.
 abbrev pub listed : Option (List ℕ) → List (List ℕ)

@@ -8,3 +8,5 @@ pub mod Performs
 pub mod Program
 pub mod Runs
 pub mod Texts
+pub mod LogTexts
+pub mod Replays

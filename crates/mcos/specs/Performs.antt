@@ -1,12 +1,12 @@
 -- What a job comes to: what it prints, its status, and the fault that it tells. [own]
-use Rattle.std.specs.Prelude.{◌≡◌, ◌≢◌, ℕ, Bool, true, false, Option, Result, Ok, Err, List, IsSome, IfErr}
+use Rattle.std.specs.Prelude.{◌≡◌, ◌≢◌, ℕ, Bool, true, false, Option, Some, Result, Ok, Err, List, IsSome, IfErr}
 use Rattle.std.specs.Result.{IsOkAnd}
 use Rattle.osbase.specs.declared.references.CoreId.{CoreId}
 use Rattle.osbase.specs.declared.turns.Choice.{Choice}
 use Rattle.osbase.specs.declared.turns.CoreStimuli.{CoreStimuli}
 use Rattle.osbase.specs.declared.turns.Report.{Report}
 use Rattle.osplan.specs.declared.plans.Plan.{Plan}
-use Rattle.osplan.specs.declared.faults.ConfFault.TheVariants.{NoMemory, NotSeparate}
+use Rattle.osplan.specs.declared.faults.ConfFault.TheVariants.{NoMemory, NotSeparate, UnknownName}
 use Rattle.osplan.specs.Separate.{cut_of, is_separate}
 use Rattle.osdraft.specs.Meaning.{config_of, faults_of}
 use Rattle.osgiven.specs.Given.{schedule_faults, stimuli_faults}
@@ -16,14 +16,15 @@ use Rattle.osturn.specs.Ends.{have_all_ended}
 use Rattle.mcos.specs.declared.faults.Fault.{Fault}
 use Rattle.mcos.specs.declared.faults.Fault.TheVariants.{Text, NoMemoryToRun, WriteFailed}
 use Rattle.mcos.specs.declared.jobs.Job.{Job}
-use Rattle.mcos.specs.declared.jobs.Job.TheVariants.{Run, Check, Cut}
+use Rattle.mcos.specs.declared.jobs.Job.TheVariants.{Run, Check, Cut, Replay}
 use Rattle.mcos.specs.declared.outcomes.Outcome.{Outcome}
 use Rattle.mcos.specs.declared.outcomes.Outcome.TheVariants.{Done, Stalled}
 use Rattle.oswrite.specs.Writing.{config_text}
 use Rattle.mcos.specs.Checks.{check_text, cut_text}
 use Rattle.mcos.specs.Faults.{fault_text}
 use Rattle.mcos.specs.Jobs.{path_in}
-use Rattle.mcos.specs.Runs.{IsGiven, IsInput, IsPlayed, run_text}
+use Rattle.mcos.specs.Replays.{HasNoReplay, IsReplayOutput}
+use Rattle.mcos.specs.Runs.{IsGiven, IsInput, IsPlayed, are_items_known, printed_text}
 use Rattle.mcos.specs.Texts.{File, IsAsked, IsFaultOf, Means, text_at}
 
 -- ---- how a job ends
@@ -49,33 +50,45 @@ NoFault Output text ending = IsOkAnd ending (Output text)
 -- ---- run
 
 -- What a run prints of the reports that its files come to, and how it ends. [own]
-pub record IsRunOutput (schedule : Option (List ℕ)) (files : List File) (text : List ℕ) (outcome : Outcome) : Type 0 where
+pub record IsRunOutput (schedule : Option (List ℕ)) (items : Option CoreId) (files : List File) (text : List ℕ) (outcome : Outcome) : Type 0 where
   pub plan : Plan
   pub reports : List Report
+  pub known : are_items_known plan items ≡ true
   pub played : IsPlayed schedule files plan reports
-  pub text_is : text ≡ run_text plan reports
+  pub text_is : text ≡ printed_text plan reports items
   pub outcome_is : outcome ≡ outcome_of (have_all_ended plan reports)
 
--- The fault of the first file that has one, in the order configuration, stimuli, schedule; or want of memory in a run of files
--- that have meanings. [own]
-pub data IsRunFault (schedule : Option (List ℕ)) (files : List File) (fault : Fault) : Type 0 where
-  in_config : IsFaultOf faults_of (text_at files 0) fault → IsRunFault schedule files fault
-  in_stimuli : (plan : Plan) → Means config_of (text_at files 0) plan →
-      IsFaultOf (stimuli_faults plan) (text_at files 1) fault → IsRunFault schedule files fault
+-- The log of a core that is not configured is asked for, which is the fault.
+abbrev pub HasNoItems : Plan → Option CoreId → Fault → Type 0
+HasNoItems plan items fault = (are_items_known plan items ≡ false) × (fault ≡ Text UnknownName)
+
+-- The fault of the first file that has one, in the order configuration, stimuli, schedule; behind the configuration, that the core
+-- whose log is to be printed is not in it; or want of memory in a run of files that have meanings. [own]
+pub data IsRunFault (schedule : Option (List ℕ)) (items : Option CoreId) (files : List File) (fault : Fault) : Type 0 where
+  in_config : IsFaultOf faults_of (text_at files 0) fault → IsRunFault schedule items files fault
+  in_items : (plan : Plan) → Means config_of (text_at files 0) plan → HasNoItems plan items fault → IsRunFault schedule items files fault
+  in_stimuli : (plan : Plan) → Means config_of (text_at files 0) plan → are_items_known plan items ≡ true →
+      IsFaultOf (stimuli_faults plan) (text_at files 1) fault → IsRunFault schedule items files fault
   in_schedule : (plan : Plan) (stimuli : List CoreStimuli) → IsSome schedule → IsGiven files plan stimuli →
-      IsFaultOf (schedule_faults plan) (text_at files 2) fault → IsRunFault schedule files fault
+      are_items_known plan items ≡ true → IsFaultOf (schedule_faults plan) (text_at files 2) fault → IsRunFault schedule items files fault
   broken_off : (plan : Plan) (stimuli : List CoreStimuli) (turns : Option (List (CoreId × Choice))) →
-      IsInput schedule files plan stimuli turns → fault ≡ NoMemoryToRun → IsRunFault schedule files fault
+      IsInput schedule files plan stimuli turns → are_items_known plan items ≡ true → fault ≡ NoMemoryToRun →
+      IsRunFault schedule items files fault
+
+-- What is printed of a run where the log of a core is asked for, and how it ends.
+pub record IsLogOutput (plan : Plan) (reports : List Report) (core : CoreId) (text : List ℕ) (ending : Result Outcome Fault) : Type 0 where
+  pub text_is : text ≡ printed_text plan reports (Some core)
+  pub ending_is : ending ≡ Ok (outcome_of (have_all_ended plan reports))
 
 -- Why a run prints nothing: a fault of its files, or want of memory in the run. Nothing is said of the files where memory was
 -- wanting while they were read.
-abbrev pub HasNoReports : Option (List ℕ) → List File → Fault → Type 0
-HasNoReports schedule files fault = fault ≢ Text NoMemory → IsRunFault schedule files fault
+abbrev pub HasNoReports : Option (List ℕ) → Option CoreId → List File → Fault → Type 0
+HasNoReports schedule items files fault = fault ≢ Text NoMemory → IsRunFault schedule items files fault
 
 -- What a run reads of its files, of so many as there are: what they mean, or why it has no reports. [own]
-abbrev pub IsRead : Option (List ℕ) → List File → ℕ → Result (Plan × List CoreStimuli × Option (List (CoreId × Choice))) Fault → Type 0
-IsRead schedule files count (Ok input) = IsInput schedule files input.0 input.1 input.2
-IsRead schedule files count (Err fault) = HasNoReports schedule files fault × IsAsked count files fault
+abbrev pub IsRead : Option (List ℕ) → Option CoreId → List File → ℕ → Result (Plan × List CoreStimuli × Option (List (CoreId × Choice))) Fault → Type 0
+IsRead schedule items files count (Ok input) = IsInput schedule files input.0 input.1 input.2 × (are_items_known input.0 items ≡ true)
+IsRead schedule items files count (Err fault) = HasNoReports schedule items files fault × IsAsked count files fault
 
 -- ---- check
 
@@ -120,14 +133,16 @@ IsNotCut plan core fault = fault ≢ Text NoMemory → (is_separate plan core �
 
 -- What a job prints, and how it ends then: with an outcome, or by a fault that is told behind the text.
 abbrev pub IsOutput : Job → List File → List ℕ → Result Outcome Fault → Type 0
-IsOutput (Run config stimuli schedule) files = NoFault (IsRunOutput (path_in schedule) files)
+IsOutput (Run config stimuli schedule items) files = NoFault (IsRunOutput (path_in schedule) items files)
 IsOutput (Check config) files = NoFault (IsCheckOutput files)
 IsOutput (Cut config core) files = NoFault (IsCutOutput core files)
+IsOutput (Replay config core log) files = IsReplayOutput core files
 
 abbrev pub HasNoOutput : Job → List File → Fault → Type 0
-HasNoOutput (Run config stimuli schedule) files fault = HasNoReports (path_in schedule) files fault
+HasNoOutput (Run config stimuli schedule items) files fault = HasNoReports (path_in schedule) items files fault
 HasNoOutput (Check config) files fault = HasNoConfig files fault
 HasNoOutput (Cut config core) files fault = HasNoCut core files fault
+HasNoOutput (Replay config core log) files fault = HasNoReplay core files fault
 
 -- ---- printing
 
@@ -163,10 +178,10 @@ pub record PrintsFrom {O : Type 0} (taken : O → Option (List ℕ)) (failed : O
   pub asked : IfErr result (IsAsked count files)
 
 -- What a run of these files comes to: its reports are printed, or there is a fault.
-abbrev pub IsRunPrinted : {O : Type 0} → (O → Option (List ℕ)) → (O → ℕ) → O → O → Option (List ℕ) → List File → ℕ →
+abbrev pub IsRunPrinted : {O : Type 0} → (O → Option (List ℕ)) → (O → ℕ) → O → O → Option (List ℕ) → Option CoreId → List File → ℕ →
     Result Outcome Fault → Type 0
-IsRunPrinted taken failed old new schedule files count result =
-    PrintsFrom taken failed old new (NoFault (IsRunOutput schedule files)) (HasNoReports schedule files) files count result
+IsRunPrinted taken failed old new schedule items files count result =
+    PrintsFrom taken failed old new (NoFault (IsRunOutput schedule items files)) (HasNoReports schedule items files) files count result
 
 -- What a job over these files comes to: it prints what it asks for, or has a fault. [own]
 abbrev pub IsPrinted : {O : Type 0} → (O → Option (List ℕ)) → (O → ℕ) → O → O → Job → List File → ℕ → Result Outcome Fault → Type 0

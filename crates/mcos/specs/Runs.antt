@@ -1,5 +1,10 @@
 -- What the files of a run come to: its reports, and what is printed of them. [own]
-use Rattle.std.specs.Prelude.{ℕ, ◌≡◌, ◌≤◌, max, Bool, true, false, Option, Some, None, List, ◌++◌, codes, length}
+use Rattle.std.specs.Prelude.{ℕ, ◌≡◌, ◌≤◌, max, Bool, true, false, Option, Some, None, is_some, List, [], ◌++◌, codes, find, length}
+use Rattle.std.specs.Option.{option_map_or}
+use Rattle.osbase.specs.History.{same_core}
+use Rattle.osbase.specs.declared.items.Item.{Item}
+use Rattle.osplan.specs.View.{core_of}
+use Rattle.oslog.specs.Logs.{log_text}
 use Rattle.osbase.specs.declared.references.CoreId.{CoreId}
 use Rattle.osbase.specs.declared.turns.Choice.{Choice}
 use Rattle.osbase.specs.declared.turns.CoreStimuli.{CoreStimuli}
@@ -18,7 +23,7 @@ pub record IsGiven (files : List File) (plan : Plan) (stimuli : List CoreStimuli
   pub listed : Means (stimuli_meant plan) (text_at files 1) stimuli
 
 -- No file is read after one with a fault: beyond the files that were read before, there are at most the configuration;
--- the stimuli, where the configuration has a meaning; and the schedule, where both have one. [own]
+-- the stimuli or the log, where the configuration has a meaning; and the schedule, where both have one. [own]
 pub data StopsAtFaults (before : ℕ) (files : List File) : Type 0 where
   at_config : length files ≤ max before 1 → StopsAtFaults before files
   at_stimuli : (plan : Plan) → Means config_of (text_at files 0) plan → length files ≤ max before 2 → StopsAtFaults before files
@@ -65,6 +70,20 @@ abbrev pub last_line : Bool → List ℕ
 last_line true = codes "ended\n"
 last_line false = codes "stalled\n"
 
+-- The core whose log is to be printed is configured, if there is one.
+abbrev pub are_items_known : Plan → Option CoreId → Bool
+are_items_known plan None = true
+are_items_known plan (Some core) = is_some (core_of plan core)
+
+-- The items of a core's report; none of a core without one.
+abbrev pub items_in : List Report → CoreId → List Item
+items_in reports core = option_map_or (λ (r : Report). r.items) (find (λ (r : Report). same_core r.core core) reports) []
+
 -- What a run prints: each core's block by ascending number, and the last line. [own]
 abbrev pub run_text : Plan → List Report → List ℕ
 run_text plan reports = text_of plan reports ++ last_line (have_all_ended plan reports)
+
+-- Or the log of one core alone. [own]
+abbrev pub printed_text : Plan → List Report → Option CoreId → List ℕ
+printed_text plan reports None = run_text plan reports
+printed_text plan reports (Some core) = log_text plan (items_in reports core)

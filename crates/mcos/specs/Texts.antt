@@ -21,10 +21,14 @@ bytes_at files at = option_map (λ (bytes : Vec ℕ Global). bytes.items) (optio
 abbrev pub KeepsBelow : ℕ → List File → List File → Type 0
 KeepsBelow at old new = (i : ℕ) → i < at → bytes_at new i ≡ bytes_at old i
 
--- Bytes as a text: a file that is absent or could not be read is unreadable, and bytes that are not UTF-8 are not JSON. [own]
+-- Bytes as a text: a file that is absent or could not be read is unreadable, and bytes that are not UTF-8 have this fault. [own]
+abbrev pub text_or : Fault → Option (List ℕ) → Result (List ℕ) Fault
+text_or no_text None = Err Unreadable
+text_or no_text (Some bytes) = if is_utf8 bytes then Ok bytes else Err no_text
+
+-- Bytes that are not UTF-8 are not JSON. [own]
 abbrev pub text_in : Option (List ℕ) → Result (List ℕ) Fault
-text_in None = Err Unreadable
-text_in (Some bytes) = if is_utf8 bytes then Ok bytes else Err (Text NotJson)
+text_in bytes = text_or (Text NotJson) bytes
 
 abbrev pub text_at : List File → ℕ → Result (List ℕ) Fault
 text_at files at = text_in (bytes_at files at)

@@ -9,6 +9,7 @@ ghost use Rattle.mcos.specs.Program.{Closes, SendsOff};
 use crate::faults::Fault;
 use crate::outcomes::{FAULT, Outcome};
 use crate::outputs::Output;
+use itoa::Buffer;
 use ostrace::{Sink, Word, WriteFailed, write_ended_words};
 
 /// Sends off what was printed, also before a fault is told, and then tells the fault. Answers the exit status.
@@ -50,5 +51,16 @@ pub fn fault_line<E: Sink>(err: &mut E, fault: Fault) -> Result<(), WriteFailed>
     ensures { Writes E.taken E.failed err.old err.new (fault_text fault) result }
 {
     let number = Word::Whole(u32::from(fault.number()));
-    write_ended_words(err, "fault", &[number, Word::Text(fault.name())])
+    let name = Word::Text(fault.name());
+    match fault {
+        Fault::ItemRefused(item) => {
+            let mut place = Buffer::new();
+            write_ended_words(
+                err,
+                "fault",
+                &[number, name, Word::Text(place.format(item))],
+            )
+        }
+        _ => write_ended_words(err, "fault", &[number, name]),
+    }
 }

@@ -1,11 +1,12 @@
 //! The faults that the program prints.
 
 ghost use Rattle.std.specs.Prelude.{◌≡◌};
-ghost use Rattle.mcos.specs.Faults.{fault_number, fault_name};
+ghost use Rattle.mcos.specs.Faults.{fault_number, fault_name, of_log};
 ghost use Rattle.osplan.specs.declared.faults.ConfFault.TheVariants.{NoMemory};
 ghost use Rattle.mcos.specs.declared.faults.Fault.TheVariants.{NoMemoryToRun, Text, WriteFailed};
 
 use osconf::ConfFault;
+use oslog::LogFault;
 use ostrace::WriteFailed;
 use osworld::RunFault;
 use std::alloc::AllocError;
@@ -16,6 +17,10 @@ pub enum Fault {
     /// A text is not what it has to be, the core to cut is not separate, or memory was refused before a run:
     /// for the words, a file's bytes, a configuration.
     Text(ConfFault),
+    /// A line of a log is not that of an item.
+    BadLog,
+    /// The item of this number, counted from 1, may not be taken.
+    ItemRefused(u64),
     /// A growth was refused in a run.
     NoMemoryToRun,
     /// The output was refused.
@@ -31,6 +36,8 @@ impl Fault {
     {
         match self {
             Fault::Text(fault) => fault.number(),
+            Fault::BadLog => 14,
+            Fault::ItemRefused(_) => 15,
             Fault::NoMemoryToRun => 16,
             Fault::WriteFailed => 19,
             Fault::Unreadable => 21,
@@ -43,6 +50,8 @@ impl Fault {
     {
         match self {
             Fault::Text(fault) => fault.name(),
+            Fault::BadLog => "BadLog",
+            Fault::ItemRefused(_) => "ItemRefused",
             Fault::NoMemoryToRun => "NoMemory",
             Fault::WriteFailed => "WriteFailed",
             Fault::Unreadable => "Unreadable",
@@ -63,6 +72,17 @@ impl From<AllocError> for Fault {
 
     fn from(_refused: AllocError) -> Fault {
         Fault::Text(ConfFault::NoMemory)
+    }
+}
+
+impl From<LogFault> for Fault {
+    ghost from_gives = { λ log fault. fault ≡ of_log log };
+
+    fn from(fault: LogFault) -> Fault {
+        match fault {
+            LogFault::BadLog => Fault::BadLog,
+            LogFault::NoMemory => Fault::NoMemoryToRun,
+        }
     }
 }
 

@@ -1,8 +1,9 @@
 //! What the program is asked to do.
 
-ghost use Rattle.std.specs.Prelude.{◌≡◌, IfOk, IsSome, IsSomeAnd, codes, false, map};
-ghost use Rattle.clap.specs.Words.{FailsBy, IsUnsignedIn, app_of, fault_of, first_value, found_of, rows_of, rule_of};
-ghost use Rattle.mcos.specs.CommandLine.{AsksFor, HasEntries, check_command, command_line, config_rule, cut_command, run_command, subcommand_name};
+ghost use Rattle.std.specs.Prelude.{◌≡◌, IfOk, IfSome, IsSome, IsSomeAnd, codes, false, map};
+ghost use Rattle.std.specs.Str.Parse.{digits_value, without_leading_plus};
+ghost use Rattle.clap.specs.Words.{FailsBy, IsUnsignedIn, app_of, fault_of, first_of, first_value, found_of, rows_of, rule_of};
+ghost use Rattle.mcos.specs.CommandLine.{AsksFor, HasEntries, SaysCore, check_command, command_line, config_rule, core_rule, cut_command, replay_command, run_command, subcommand_name};
 ghost use Rattle.mcos.specs.Jobs.{paths_of};
 
 use clap::builder::ValueParser;
@@ -17,6 +18,8 @@ const VERSION: &str = "0.1.0";
 const RUN_HELP: &str = "\
 Reads a configuration, the stimuli of its cores and, with --schedule, the turns in order.
 Prints a block of lines for each core, and then `ended`, or `stalled` where a core did not end.
+
+With --items prints the log of that core in their place: a line for each item that it took.
 
 Exit status: 0 ended, 1 a fault (`fault N Name`), 2 wrong usage, 3 stalled.
 
@@ -36,14 +39,24 @@ Exit status: 0 done, 1 a fault (`fault N Name`; 20 where the core is not separat
 
 Example: mcos cut config.json 2";
 
+const REPLAY_HELP: &str = "\
+Reads a configuration and the log of one of its cores, as `run --items` prints it.
+Plays that core by itself, and prints its block of lines. An item that the core may not take is
+fault 15, told with its number behind the block of the items before.
+
+Exit status: 0 done, 1 a fault (`fault N Name`), 2 wrong usage.
+
+Example: mcos replay config.json 0 log.txt";
+
 /// What the program is asked to do, with the paths of its files.
 #[derive(Clone, Copy, Debug, PartialEq, Eq)]
 pub enum Job<'a> {
-    /// Plays the listed turns, or else the default schedule, and prints each core's trace.
+    /// Plays the listed turns, or else the default schedule, and prints each core's trace, or one core's log.
     Run {
         config: &'a str,
         stimuli: &'a str,
         schedule: Option<&'a str>,
+        items: Option<CoreId>,
     },
     /// Prints which cores are separate.
     Check {
@@ -53,6 +66,12 @@ pub enum Job<'a> {
     Cut {
         config: &'a str,
         core: CoreId,
+    },
+    /// Plays a core by itself with the items of its log, and prints its trace.
+    Replay {
+        config: &'a str,
+        core: CoreId,
+        log: &'a str,
     },
 }
 
@@ -67,6 +86,7 @@ impl<'a> Job<'a> {
                 config,
                 stimuli,
                 schedule,
+                ..
             } => {
                 paths.push(*config)?;
                 paths.push(*stimuli)?;
@@ -76,6 +96,10 @@ impl<'a> Job<'a> {
             }
             Job::Check { config } => paths.push(*config)?,
             Job::Cut { config, .. } => paths.push(*config)?,
+            Job::Replay { config, log, .. } => {
+                paths.push(*config)?;
+                paths.push(*log)?;
+            }
         }
         Ok(paths)
     }
@@ -94,16 +118,31 @@ pub fn job_of<'a, S: AsStr>(alloc: Global, words: &'a [S]) -> Result<Job<'a>, Er
     if let Some(check) = matches.subcommand_matches("check") {
         return Ok(check_job(check));
     }
-    let Some(cut) = matches.subcommand_matches("cut") else {
+    if let Some(cut) = matches.subcommand_matches("cut") {
+        return Ok(cut_job(cut));
+    }
+    let Some(replay) = matches.subcommand_matches("replay") else {
         unreachable!();
     };
-    Ok(cut_job(cut))
+    Ok(replay_job(replay))
+}
+
+// The core of a number that a byte can hold.
+fn core_in(word: &str) -> CoreId
+    requires { IsUnsignedIn 0 255 word.now }
+    ensures { result.number ≡ digits_value 10 (without_leading_plus word.now) }
+{
+    let Ok(number) = word.parse::<u8>() else {
+        unreachable!();
+    };
+    CoreId { number }
 }
 
 // The entries of `run`, whose required arguments are there.
 fn run_job<'a>(run: &ArgMatches<'a>) -> Job<'a>
     requires config { IsSome (first_value (found_of run.now) (codes "CFG")) }
     requires stimuli { IsSome (first_value (found_of run.now) (codes "STIM")) }
+    requires items { IfSome (first_value (found_of run.now) (codes "items")) (IsUnsignedIn 0 255) }
     ensures { HasEntries (rows_of (found_of run.now)) result × (subcommand_name result ≡ codes "run") }
 {
     let (Some(config), Some(stimuli)) = (run.get_str("CFG"), run.get_str("STIM")) else {
@@ -113,6 +152,18 @@ fn run_job<'a>(run: &ArgMatches<'a>) -> Job<'a>
         config,
         stimuli,
         schedule: run.get_str("schedule"),
+        items: items_core(run),
+    }
+}
+
+// The core of `--items`, if that is there.
+fn items_core(run: &ArgMatches) -> Option<CoreId>
+    requires { IfSome (first_value (found_of run.now) (codes "items")) (IsUnsignedIn 0 255) }
+    ensures { SaysCore (first_of (codes "items") (rows_of (found_of run.now))) result }
+{
+    match run.get_str("items") {
+        Some(core) => Some(core_in(core)),
+        None => None,
     }
 }
 
@@ -136,12 +187,30 @@ fn cut_job<'a>(cut: &ArgMatches<'a>) -> Job<'a>
     let (Some(config), Some(core)) = (cut.get_str("CFG"), cut.get_str("CORE")) else {
         unreachable!();
     };
-    let Ok(number) = core.parse::<u8>() else {
-        unreachable!();
-    };
     Job::Cut {
         config,
-        core: CoreId { number },
+        core: core_in(core),
+    }
+}
+
+// The entries of `replay`, whose required arguments are there; the core is a number that a byte can hold.
+fn replay_job<'a>(replay: &ArgMatches<'a>) -> Job<'a>
+    requires config { IsSome (first_value (found_of replay.now) (codes "CFG")) }
+    requires core { IsSomeAnd (first_value (found_of replay.now) (codes "CORE")) (IsUnsignedIn 0 255) }
+    requires log { IsSome (first_value (found_of replay.now) (codes "LOG")) }
+    ensures { HasEntries (rows_of (found_of replay.now)) result × (subcommand_name result ≡ codes "replay") }
+{
+    let (Some(config), Some(core), Some(log)) = (
+        replay.get_str("CFG"),
+        replay.get_str("CORE"),
+        replay.get_str("LOG"),
+    ) else {
+        unreachable!();
+    };
+    Job::Replay {
+        config,
+        core: core_in(core),
+        log,
     }
 }
 
@@ -155,7 +224,8 @@ fn command<'a>(alloc: Global) -> Result<Command<'a>, AllocError>
         .subcommand_required(true)
         .subcommand(run_command(alloc)?)?
         .subcommand(check_command(alloc)?)?
-        .subcommand(cut_command(alloc)?)
+        .subcommand(cut_command(alloc)?)?
+        .subcommand(replay_command(alloc)?)
 }
 
 fn run_command<'a>(alloc: Global) -> Result<Command<'a>, AllocError>
@@ -169,12 +239,19 @@ fn run_command<'a>(alloc: Global) -> Result<Command<'a>, AllocError>
         .value_name("FILE")
         .action(ArgAction::Set)
         .help("the turns in order, a JSON file; without it the default schedule runs");
+    let items = Arg::new(alloc, "items")
+        .long("items")
+        .value_name("CORE")
+        .value_parser(ValueParser::unsigned(0, 255))
+        .action(ArgAction::Set)
+        .help("prints the log of the core of this number alone");
     Command::new(alloc, "run")
         .about("Runs the cores turn by turn, and prints each core's trace")
         .after_help(RUN_HELP)
         .arg(config_arg(alloc))?
         .arg(stimuli)?
-        .arg(schedule)
+        .arg(schedule)?
+        .arg(items)
 }
 
 fn check_command<'a>(alloc: Global) -> Result<Command<'a>, AllocError>
@@ -189,15 +266,35 @@ fn check_command<'a>(alloc: Global) -> Result<Command<'a>, AllocError>
 fn cut_command<'a>(alloc: Global) -> Result<Command<'a>, AllocError>
     ensures { IfOk result (λ command. app_of command ≡ cut_command) }
 {
-    let core = Arg::new(alloc, "CORE")
-        .required(true)
-        .value_parser(ValueParser::unsigned(0, 255))
-        .help("the core's number");
     Command::new(alloc, "cut")
         .about("Prints the configuration of a separate core alone")
         .after_help(CUT_HELP)
         .arg(config_arg(alloc))?
-        .arg(core)
+        .arg(core_arg(alloc))
+}
+
+fn replay_command<'a>(alloc: Global) -> Result<Command<'a>, AllocError>
+    ensures { IfOk result (λ command. app_of command ≡ replay_command) }
+{
+    let log = Arg::new(alloc, "LOG")
+        .required(true)
+        .help("the core's log, a text file");
+    Command::new(alloc, "replay")
+        .about("Plays a core by itself with the items of its log, and prints its trace")
+        .after_help(REPLAY_HELP)
+        .arg(config_arg(alloc))?
+        .arg(core_arg(alloc))?
+        .arg(log)
+}
+
+fn core_arg<'a>(alloc: Global) -> Arg<'a>
+    ensures rule { rule_of result ≡ core_rule }
+    ensures own { result.global ≡ false }
+{
+    Arg::new(alloc, "CORE")
+        .required(true)
+        .value_parser(ValueParser::unsigned(0, 255))
+        .help("the core's number")
 }
 
 fn config_arg<'a>(alloc: Global) -> Arg<'a>

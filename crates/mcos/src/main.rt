@@ -11,6 +11,7 @@ mod outputs;
 mod performs;
 mod program;
 mod readings;
+mod replays;
 mod runs;
 mod sources;
 #[cfg(test)]

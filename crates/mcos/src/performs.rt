@@ -10,6 +10,7 @@ use crate::endings::tell;
 use crate::faults::Fault;
 use crate::jobs::Job;
 use crate::outcomes::Outcome;
+use crate::replays::replay_out;
 use crate::runs::run;
 use crate::sources::{Given, Source};
 use ostrace::Sink;
@@ -48,8 +49,13 @@ pub fn print_from<S: Source + Drop, O: Sink>(
         (λ files. IsPrinted O.taken O.failed out.old out.new job.now files (S.count source) result) }
 {
     match job {
-        Job::Run { schedule, .. } => run(alloc, *schedule, source, out),
+        Job::Run {
+            schedule,
+            items,
+            ..
+        } => run(alloc, *schedule, *items, source, out),
         Job::Check { .. } => check(alloc, &mut source, out),
         Job::Cut { core, .. } => cut_out(alloc, *core, &mut source, out),
+        Job::Replay { core, .. } => replay_out(alloc, *core, &mut source, out),
     }
 }

@@ -5,6 +5,7 @@ mod counters;
 mod events;
 mod kernel;
 mod limits;
+mod logs;
 mod program;
 mod tables;
 
@@ -221,6 +222,7 @@ fn run_of(schedule: Option<&'static str>) -> Job<'static> {
         config: "config.json",
         stimuli: "stim.json",
         schedule,
+        items: None,
     }
 }
 
@@ -484,6 +486,7 @@ fn words_make_the_job(rt: HostRuntime) -> Result<(), Fail> {
         config: "a",
         stimuli: "b",
         schedule: Some("c"),
+        items: None,
     };
     assert_eq!(rt; job_of(alloc, words.as_slice()).ok(), Some(run));
     let check = Job::Check { config: "a" };

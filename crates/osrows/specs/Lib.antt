@@ -5,3 +5,4 @@ pub mod Clocks
 pub mod Laws
 pub mod Resources
 pub mod Tasks
+pub mod Logs

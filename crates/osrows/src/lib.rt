@@ -4,5 +4,6 @@
 pub mod border;
 pub mod clocks;
 pub mod laws;
+pub mod logs;
 pub mod resources;
 pub mod tasks;

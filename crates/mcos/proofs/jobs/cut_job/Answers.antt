@@ -8,4 +8,4 @@ returns c =
     let found = found_of c.args.cut.now in
     let config = sym (first_value-rows found (codes "CFG")) ∙ sym c.in-Some-Some.ensures in
     let core = sym (first_value-rows found (codes "CORE")) ∙ sym c.in-Some-Some.ensures' in
-    ((config, record { text = c.in-Some-Some.core.now; is_there = core; says = sym (c.in-Ok.ensures.value.0.1) }), refl)
+    ((config, record { text = c.in-Some-Some.core.now; is_there = core; says = sym c.core_in.ensures }), refl)

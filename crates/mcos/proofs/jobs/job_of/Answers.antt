@@ -1,5 +1,5 @@
 use Rattle.std.proofs.Common.{refl, sym, subst, true, false, true≢false, inl, inr, is_some, ap, codes, ◌≡◌, ◌∙◌, List, [], Option, Some, None, option_map, map}
-use Rattle.std.specs.Prelude.{IsSome, IsSomeAnd}
+use Rattle.std.specs.Prelude.{IfSome, IsSome, IsSomeAnd}
 use Rattle.clap.specs.Words.{App, HasMatchesOf, IsUnsignedIn, Row, Text, app_of, fault_of, first_of, first_value, found_of, is_simple, is_simple_and_free, rows_of, subcommand_name_of, subcommand_of, subcommand_rows_of}
 use Rattle.clap.specs.declared.parser.matches.ArgMatches.{ArgMatches}
 use Rattle.clap.specs.declared.parser.matches.Found.{Found}
@@ -7,7 +7,7 @@ use Rattle.clap.proofs.OnLiterals.{clap_on_literals}
 use Rattle.clap.proofs.WalkLemmas.{first_value-rows}
 use Rattle.mcos.specs.declared.jobs.Job.{Job}
 use Rattle.mcos.specs.CommandLine.{AsksFor, HasEntries, command_line, subcommand_name}
-use Rattle.mcos.proofs.Usage.{IsJob, check_has, cut_has, names_job, run_has}
+use Rattle.mcos.proofs.Usage.{IsJob, check_has, cut_has, names_job, replay_has, run_has}
 use Rattle.mcos.proofs.jobs.job_of.Goals as goal
 
 -- the program's command line is one whose matches and faults are known
@@ -72,11 +72,12 @@ value_there f id P has = ap (λ (o : Option Text). is_some o) (first_value-rows 
 -- there is no other job
 no_other : {X : Type 0} (f : X → Text) (g : X → List Row) (o : Option X) → IsSomeAnd (option_map {U = Text × List Row} (λ x. (f x, g x)) o) IsJob
     → (option_map f o ≡ Some (codes "run") → false ≡ true) → (option_map f o ≡ Some (codes "check") → false ≡ true)
-    → (option_map f o ≡ Some (codes "cut") → false ≡ true) → ⊥
-no_other f g None job run check cut = job
-no_other f g (Some x) (inl j) run check cut = true≢false (sym (run (ap (λ (n : Text). Some n) j.is)))
-no_other f g (Some x) (inr (inl j)) run check cut = true≢false (sym (check (ap (λ (n : Text). Some n) j.is)))
-no_other f g (Some x) (inr (inr j)) run check cut = true≢false (sym (cut (ap (λ (n : Text). Some n) j.is)))
+    → (option_map f o ≡ Some (codes "cut") → false ≡ true) → (option_map f o ≡ Some (codes "replay") → false ≡ true) → ⊥
+no_other f g None job run check cut replay = job
+no_other f g (Some x) (inl j) run check cut replay = true≢false (sym (run (ap (λ (n : Text). Some n) j.is)))
+no_other f g (Some x) (inr (inl j)) run check cut replay = true≢false (sym (check (ap (λ (n : Text). Some n) j.is)))
+no_other f g (Some x) (inr (inr (inl j))) run check cut replay = true≢false (sym (cut (ap (λ (n : Text). Some n) j.is)))
+no_other f g (Some x) (inr (inr (inr j))) run check cut replay = true≢false (sym (replay (ap (λ (n : Text). Some n) j.is)))
 
 pub run_job-requires : goal.run_job-requires
 run_job-requires g c =
@@ -85,7 +86,11 @@ run_job-requires g c =
     record { is = c.in_ok-command.ensures; matches = c.in_ok-matches.ensures.matches; kinds = c.in_ok-matches.ensures.kinds } in
     let found = found_of c.in-Some.run'.now in
     let run = run_has (rows_of found) (entered _ words _ (codes "run") (rows_of found) parse (c.in-Some.ensures.found.0 refl) c.in-Some.ensures.rows).job in
-    record { config = value_there found (codes "CFG") _ run.config; stimuli = value_there found (codes "STIM") _ run.stimuli }
+    record {
+      config = value_there found (codes "CFG") _ run.config;
+      stimuli = value_there found (codes "STIM") _ run.stimuli;
+      items = subst (λ (o : Option Text). IfSome o (IsUnsignedIn 0 255)) (sym (first_value-rows found (codes "items"))) run.items;
+    }
 
 pub returns-in-Some-clause-job : goal.returns-in-Some-clause-job
 returns-in-Some-clause-job g c =
@@ -130,7 +135,7 @@ unreachable-requires g c =
     let parse : Succeeds (app_of c.in_ok-command.field-0) words c.in_ok-matches.matches =
     record { is = c.in_ok-command.ensures; matches = c.in_ok-matches.ensures.matches; kinds = c.in_ok-matches.ensures.kinds } in
     no_other _ _ _ (has_job _ words c.in_ok-matches.matches parse) c.in_default.ensures.found.1
-    c.in_default-subcommand_matches.ensures.found.1 c.in_default-subcommand_matches-2.ensures.found.1
+    c.in_default-subcommand_matches.ensures.found.1 c.in_default-subcommand_matches-2.ensures.found.1 c.in_default-subcommand_matches-3.ensures.found.1
 
 pub cut_job-requires : goal.cut_job-requires
 cut_job-requires g c =
@@ -145,14 +150,42 @@ cut_job-requires g c =
       core = subst (λ (o : Option Text). IsSomeAnd o (IsUnsignedIn 0 255)) (sym (first_value-rows found (codes "CORE"))) cut.core;
     }
 
-pub returns-clause-job : goal.returns-clause-job
-returns-clause-job g c =
+pub returns-in-Some-subcommand_matches-2-clause-job : goal.returns-in-Some-subcommand_matches-2-clause-job
+returns-in-Some-subcommand_matches-2-clause-job g c =
     let words = map g.S.AsStr.text c.args.words.now in
     let parse : Succeeds (app_of c.in_ok-command.field-0) words c.in_ok-matches.matches =
     record { is = c.in_ok-command.ensures; matches = c.in_ok-matches.ensures.matches; kinds = c.in_ok-matches.ensures.kinds } in
     let sub = c.in-Some-subcommand_matches-2 in
     let rows = rows_of (found_of sub.cut.now) in
     asks_for words rows (codes "cut") c.cut_job.result (entered _ words _ (codes "cut") rows parse (sub.ensures.found.0 refl) sub.ensures.rows) c.cut_job.ensures
+
+pub returns-in-Some-subcommand_matches-2-clause-fault : goal.returns-in-Some-subcommand_matches-2-clause-fault
+returns-in-Some-subcommand_matches-2-clause-fault g c =
+    no_fault (app_of c.in_ok-command.field-0) _ c.in_ok-matches.matches
+    (record { is = c.in_ok-command.ensures; matches = c.in_ok-matches.ensures.matches; kinds = c.in_ok-matches.ensures.kinds })
+
+pub replay_job-requires : goal.replay_job-requires
+replay_job-requires g c =
+    let words = map g.S.AsStr.text c.args.words.now in
+    let parse : Succeeds (app_of c.in_ok-command.field-0) words c.in_ok-matches.matches =
+    record { is = c.in_ok-command.ensures; matches = c.in_ok-matches.ensures.matches; kinds = c.in_ok-matches.ensures.kinds } in
+    let sub = c.in-Some-subcommand_matches-3 in
+    let found = found_of sub.replay.now in
+    let replay = replay_has (rows_of found) (entered _ words _ (codes "replay") (rows_of found) parse (sub.ensures.found.0 refl) sub.ensures.rows).job in
+    record {
+      config = value_there found (codes "CFG") _ replay.config;
+      core = subst (λ (o : Option Text). IsSomeAnd o (IsUnsignedIn 0 255)) (sym (first_value-rows found (codes "CORE"))) replay.core;
+      log = value_there found (codes "LOG") _ replay.log;
+    }
+
+pub returns-clause-job : goal.returns-clause-job
+returns-clause-job g c =
+    let words = map g.S.AsStr.text c.args.words.now in
+    let parse : Succeeds (app_of c.in_ok-command.field-0) words c.in_ok-matches.matches =
+    record { is = c.in_ok-command.ensures; matches = c.in_ok-matches.ensures.matches; kinds = c.in_ok-matches.ensures.kinds } in
+    let sub = c.in-Some-subcommand_matches-3 in
+    let rows = rows_of (found_of sub.replay.now) in
+    asks_for words rows (codes "replay") c.replay_job.result (entered _ words _ (codes "replay") rows parse (sub.ensures.found.0 refl) sub.ensures.rows) c.replay_job.ensures
 
 pub returns-clause-fault : goal.returns-clause-fault
 returns-clause-fault g c =

@@ -9,4 +9,4 @@ returns c =
     let config = sym (first_value-rows found (codes "CFG")) ∙ sym c.in-Some-Some.ensures in
     let stimuli = sym (first_value-rows found (codes "STIM")) ∙ sym c.in-Some-Some.ensures' in
     let schedule = sym (first_value-rows found (codes "schedule")) ∙ sym c.get_str-3.ensures in
-    ((config, stimuli, schedule), refl)
+    ((config, stimuli, schedule, c.items_core.ensures), refl)

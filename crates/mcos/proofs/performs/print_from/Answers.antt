@@ -26,3 +26,13 @@ returns-in-Cut g c =
       named = rw c.in-Cut.is (omega (arith, c.cut_out.ensures.ahead));
       known_is = c.cut_out.ensures.known;
     }
+
+pub returns-in-Replay : goal.returns-in-Replay
+returns-in-Replay g c =
+    record {
+      last = _;
+      comes = record { comes = rw c.in-Replay.is c.replay_out.ensures.comes; asked = rw c.replay_out.ensures.count at c.replay_out.ensures.asked };
+      stops = c.replay_out.ensures.stops;
+      named = rw c.in-Replay.is (omega (arith, c.replay_out.ensures.ahead));
+      known_is = c.replay_out.ensures.known;
+    }

@@ -2,7 +2,7 @@ use Rattle.std.proofs.Common.{◌∙◌, arith, refl}
 use Rattle.std.specs.Prelude.{IsSome}
 use Rattle.std.proofs.lemmas.Result.{err_from_is_err_and}
 use Rattle.mcos.specs.Jobs.{path_in}
-use Rattle.mcos.specs.Performs.{in_config, in_schedule, in_stimuli}
+use Rattle.mcos.specs.Performs.{in_config, in_items, in_schedule, in_stimuli}
 use Rattle.osgiven.specs.Given.{stimuli_meant}
 use Rattle.osdraft.specs.Meaning.{config_of}
 use Rattle.mcos.specs.Runs.{at_config, at_schedule, at_stimuli}
@@ -26,6 +26,19 @@ returns-in_err-config-clause-input g c =
       known_is = c.in_err-config.ensures.known;
     }
 
+pub returns-in_err-known_items-clause-input : goal.returns-in_err-known_items-clause-input
+returns-in_err-known_items-clause-input g c =
+    let p = err_from_is_err_and c.from_residual-in_err-known_items.result c.from_residual-in_err-known_items.ensures.1 in
+    let plan = c.in_ok-config.config in
+    let unknown = c.in_err-known_items.ensures.fault in
+    record {
+      last = c.config_in.new.source;
+      comes = rw (p.1, p.2) ((λ apart. in_items plan c.in_ok-config.ensures.ok unknown), (λ e. let same = unknown.1 in cc));
+      stops = at_config c.in_ok-config.ensures.ahead;
+      named = omega (arith, c.in_ok-config.ensures.ahead);
+      known_is = c.in_ok-config.ensures.known;
+    }
+
 pub returns-in_err-stimuli-clause-input : goal.returns-in_err-stimuli-clause-input
 returns-in_err-stimuli-clause-input g c =
     let p = err_from_is_err_and c.from_residual-in_err-stimuli.result c.from_residual-in_err-stimuli.ensures.1 in
@@ -34,7 +47,7 @@ returns-in_err-stimuli-clause-input g c =
     record {
       last = c.stimuli_in.new.source;
       comes = rw (p.1, p.2) (
-        (λ apart. in_stimuli plan config (c.in_err-stimuli.ensures.fault apart)),
+        (λ apart. in_stimuli plan config c.in_ok-known_items.ensures.ok (c.in_err-stimuli.ensures.fault apart)),
         rw (c.in_err-stimuli.ensures.count, c.in_ok-config.ensures.count) at c.in_err-stimuli.ensures.asked,
       );
       stops = at_stimuli plan config (omega (arith, c.in_ok-config.ensures.ahead, c.in_err-stimuli.ensures.ahead));
@@ -53,7 +66,7 @@ returns-in_err-turns-in-Some-clause-input g c =
     record {
       last = c.schedule_in.new.source;
       comes = rw (p.1, p.2) (
-        (λ apart. in_schedule plan stimuli listed given (c.in_err-turns-in-Some.ensures.fault apart)),
+        (λ apart. in_schedule plan stimuli listed given c.in_ok-known_items.ensures.ok (c.in_err-turns-in-Some.ensures.fault apart)),
         rw (c.in_err-turns-in-Some.ensures.count, c.in_ok-stimuli.ensures.count, c.in_ok-config.ensures.count) at c.in_err-turns-in-Some.ensures.asked,
       );
       stops = at_schedule plan stimuli given (omega (arith, c.in_ok-config.ensures.ahead, c.in_ok-stimuli.ensures.ahead, c.in_err-turns-in-Some.ensures.ahead));
@@ -68,7 +81,7 @@ returns-in-None-clause-input g c =
     let given = IsGiven-read _ _ plan stimuli c.in_ok-stimuli.ensures.keeps c.in_ok-config.ensures.ok c.in_ok-stimuli.ensures.ok in
     record {
       last = c.stimuli_in.new.source;
-      comes = rw c.in-None.is (record { given = given; listed = refl });
+      comes = rw c.in-None.is (record { given = given; listed = refl }, c.in_ok-known_items.ensures.ok);
       stops = at_schedule plan stimuli given (omega (arith, c.in_ok-config.ensures.ahead, c.in_ok-stimuli.ensures.ahead));
       named = omega (arith, c.in_ok-config.ensures.ahead, c.in_ok-stimuli.ensures.ahead);
       known_is = c.in_ok-stimuli.ensures.known ∙ c.in_ok-config.ensures.known;
@@ -82,7 +95,7 @@ returns-clause-input g c =
     (IsGiven-read _ _ plan stimuli c.in_ok-stimuli.ensures.keeps c.in_ok-config.ensures.ok c.in_ok-stimuli.ensures.ok) in
     record {
       last = c.schedule_in.new.source;
-      comes = rw c.in-Some.is (record { given = given; listed = c.in_ok-turns-in-Some.ensures.ok });
+      comes = rw c.in-Some.is (record { given = given; listed = c.in_ok-turns-in-Some.ensures.ok }, c.in_ok-known_items.ensures.ok);
       stops = at_schedule plan stimuli given (omega (arith, c.in_ok-config.ensures.ahead, c.in_ok-stimuli.ensures.ahead, c.in_ok-turns-in-Some.ensures.ahead));
       named = rw c.in-Some.is (omega (arith, c.in_ok-config.ensures.ahead, c.in_ok-stimuli.ensures.ahead, c.in_ok-turns-in-Some.ensures.ahead));
       known_is = c.in_ok-turns-in-Some.ensures.known ∙ c.in_ok-stimuli.ensures.known ∙ c.in_ok-config.ensures.known;

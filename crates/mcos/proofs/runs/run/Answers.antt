@@ -1,8 +1,9 @@
-use Rattle.std.proofs.Common.{Ok, refl, rules}
+use Rattle.std.proofs.Common.{Ok, refl, rules, ap, ◌∙◌}
 use Rattle.std.proofs.lemmas.Result.{err_from_is_err_and}
 use Rattle.osturn.specs.Ends.{have_all_ended}
 use Rattle.mcos.specs.Performs.{broken_off, fails, outcome_of, prints}
-use Rattle.mcos.specs.Runs.{run_text}
+use Rattle.mcos.specs.Runs.{printed_text, run_text}
+use Rattle.mcos.proofs.Logging.{log-comes}
 use Rattle.mcos.proofs.runs.run.Goals as goal
 
 pub returns-in_err-config : goal.returns-in_err-config
@@ -24,7 +25,7 @@ returns-in_err-reports g c =
     record {
       last = used.last;
       comes = rw p.1 (record {
-        comes = fails p.0 refl (λ apart. broken_off c.in_ok-config.config c.in_ok-config.stimuli c.in_ok-config.turns used.comes p.2) refl;
+        comes = fails p.0 refl (λ apart. broken_off c.in_ok-config.config c.in_ok-config.stimuli c.in_ok-config.turns used.comes.0 used.comes.1 p.2) refl;
         asked = rw p.2 (λ e. cc);
       });
       stops = used.stops;
@@ -32,25 +33,40 @@ returns-in_err-reports g c =
       known_is = used.known_is;
     }
 
-pub returns : goal.returns
-returns g c =
+pub returns-in-None : goal.returns-in-None
+returns-in-None g c =
     let used = c.in_ok-config.ensures.input in
     let plan = c.in_ok-config.config in
     let reports = c.in_ok-reports.reports.items in
     record {
       last = used.last;
-      comes = record {
+      comes = rw c.in-None.is (record {
         comes = prints (run_text plan reports) (Ok (outcome_of (have_all_ended plan reports)))
             (record {
               plan = plan;
               reports = reports;
-              played = record { stimuli = c.in_ok-config.stimuli; turns = c.in_ok-config.turns; input = used.comes; are = c.in_ok-reports.ensures };
+              known = refl;
+              played = record { stimuli = c.in_ok-config.stimuli; turns = c.in_ok-config.turns; input = used.comes.0; are = c.in_ok-reports.ensures };
               text_is = refl;
               outcome_is = refl;
             })
             (rw c.as_slice.ensures.value at c.print.ensures);
         asked = search rules;
-      };
+      });
+      stops = used.stops;
+      named = used.named;
+      known_is = used.known_is;
+    }
+
+pub returns-in-Some : goal.returns-in-Some
+returns-in-Some g c =
+    let used = c.in_ok-config.ensures.input in
+    let plan = c.in_ok-config.config in
+    let reports = c.in_ok-reports.reports.items in
+    let played = record { stimuli = c.in_ok-config.stimuli; turns = c.in_ok-config.turns; input = used.comes.0; are = c.in_ok-reports.ensures } in
+    record {
+      last = used.last;
+      comes = rw c.in-Some.is (log-comes _ _ _ _ _ _ plan reports c.in-Some.core _ _ played (rw c.in-Some.is at used.comes.1) used.comes.0 (rw c.as_slice.ensures.value at c.print_log.ensures));
       stops = used.stops;
       named = used.named;
       known_is = used.known_is;

@@ -1,0 +1,5 @@
+use Rattle.std.proofs.Common.{sym}
+use Rattle.mcos.proofs.jobs.core_in.Goals as goal
+
+pub returns : goal.returns
+returns c = c.in-Ok.ensures.value.0.1

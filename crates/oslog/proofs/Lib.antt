@@ -1,0 +1,12 @@
+mod Joining
+mod Named
+mod WordKinds
+mod ReadWords
+mod Naming
+mod Steps
+mod Calls
+mod Cores
+mod Sound
+mod Complete
+mod Texts
+mod ItemText

@@ -1,0 +1,49 @@
+-- The line of an item, and the item of a line. [own]
+use Rattle.std.specs.Prelude.{ℕ, ◌++◌, Option, None, option_map, option_and_then, if◌then◌else◌, List, [], ◌∷◌, map}
+use Rattle.std.specs.Option.{option_or}
+use Rattle.std.specs.Str.{bytes_eq}
+use Rattle.osbase.specs.declared.items.Item.{Item}
+use Rattle.osforms.specs.Form.{words_of}
+use Rattle.osplan.specs.declared.plans.Plan.{Plan}
+use Rattle.oslog.specs.Forms.{form_of, item_of, no_parts}
+use Rattle.oslog.specs.Rows.{keyword_text, row_of}
+use Rattle.oslog.specs.Words.{read_words, tail_words, with_tail, word_text}
+use Rattle.oslog.specs.declared.forms.Parts.{Parts}
+use Rattle.oslog.specs.declared.rows.Line.{Line}
+use Rattle.oslog.specs.declared.rows.TheConstants.{LINES}
+
+-- ---- writing
+
+-- The words of a form behind the first.
+abbrev pub later_words : Plan → Line × Parts → List (List ℕ)
+later_words plan form = map (word_text plan form.1) (row_of form.0).1 ++ tail_words plan form.1 (row_of form.0).2
+
+-- Words, each after a space.
+abbrev pub led : List (List ℕ) → List ℕ
+led [] = []
+led (word ∷ words) = (32 ∷ word) ++ led words
+
+-- The line of an item, without its end: its words, divided by one space. [own]
+abbrev pub line_of : Plan → Item → List ℕ
+line_of plan item = keyword_text (row_of (form_of item).0).0 ++ led (later_words plan (form_of item))
+
+-- ---- reading
+
+-- The item of the words behind the first, in a line of this form.
+abbrev pub item_behind : Plan → List (List ℕ) → Line → Option Item
+item_behind plan words line =
+    option_map (item_of line) (option_and_then (λ (p : Parts × List (List ℕ)). with_tail plan (row_of line).2 p.1 p.0) (read_words plan (row_of line).1 words no_parts))
+
+-- The item of words that are a line of this form.
+abbrev pub item_as : Plan → List (List ℕ) → Line → Option Item
+item_as plan [] line = None
+item_as plan (first ∷ words) line = if bytes_eq first (keyword_text (row_of line).0) then item_behind plan words line else None
+
+-- The first item that some form gives.
+abbrev pub first_item : (Line → Option Item) → List Line → Option Item
+first_item read [] = None
+first_item read (line ∷ lines) = option_or (read line) (first_item read lines)
+
+-- The item of a line, without its end: that of the first form which the line has.
+abbrev pub item_meant : Plan → List ℕ → Option Item
+item_meant plan text = first_item (item_as plan (words_of text)) LINES

@@ -1,0 +1,84 @@
+-- The log of items, and the items of a log. [own]
+use Rattle.std.specs.Prelude.{◌≡◌, ◌⊎◌, ℕ, ◌==◌, ◌&&◌, ◌++◌, nat_le, if◌then◌else◌, Bool, true, false, Option, Some, List, [], ◌∷◌, codes, length}
+use Rattle.std.specs.List.{flat_map, list_all}
+use Rattle.osbase.specs.Objects.{object_of_call}
+use Rattle.osbase.specs.declared.items.Agreement.{Agreement}
+use Rattle.osbase.specs.declared.items.Item.{Item}
+use Rattle.osbase.specs.declared.items.Stimulus.{Stimulus}
+use Rattle.osbase.specs.declared.limits.TheConstants.{CORES}
+use Rattle.osbase.specs.declared.messages.Message.{Message}
+use Rattle.osbase.specs.declared.messages.RemoteCall.{RemoteCall}
+use Rattle.osbase.specs.declared.references.CoreId.{CoreId}
+use Rattle.oscript.specs.Calls.{op_of_call}
+use Rattle.oscript.specs.Rows.{has_masks, is_in_form, is_int}
+use Rattle.osplan.specs.Limits.{is_mode, is_object}
+use Rattle.osplan.specs.declared.plans.Plan.{Plan}
+use Rattle.osread.specs.Reading.{each, parts_of}
+use Rattle.oslog.specs.Items.{item_meant, line_of}
+
+-- A line end.
+abbrev pub line_end : List ℕ
+line_end = codes "\n"
+
+-- The log of items: the line of each with its end, in their order. [own]
+abbrev pub log_text : Plan → List Item → List ℕ
+log_text plan items = flat_map (λ item. line_of plan item ++ line_end) items
+
+-- ---- which items are representable: those whose numbers have the sizes of their types, and that refer to modes and objects
+-- of the configuration
+
+abbrev pub is_core_number : CoreId → Bool
+is_core_number core = nat_le core.number 255
+
+abbrev pub is_call_representable : Plan → RemoteCall → Bool
+is_call_representable plan call = is_in_form (op_of_call call) && has_masks (op_of_call call) && is_object plan (object_of_call call)
+
+abbrev pub is_message_representable : Plan → Message → Bool
+is_message_representable plan (Message.Request call) = is_call_representable plan call
+is_message_representable plan (Message.Action call) = is_call_representable plan call
+is_message_representable plan (Message.Reply status) = true
+is_message_representable plan (Message.Value status value) = is_int value
+
+-- No ISR and no spinlock can be configured yet.
+abbrev pub is_representable : Plan → Item → Bool
+is_representable plan (Item.Began core status) = is_core_number core
+is_representable plan (Item.Pass1 (Agreement.Mode mode)) = is_mode plan mode
+is_representable plan (Item.Pass2 cores) = length cores.members == CORES
+is_representable plan (Item.Stim (Stimulus.Irq isr)) = false
+is_representable plan (Item.Posted core) = is_core_number core
+is_representable plan (Item.Received from number message) = is_core_number from && nat_le number 18446744073709551615 && is_message_representable plan message
+is_representable plan (Item.Granted spinlock) = false
+is_representable plan (Item.Tried spinlock taken) = false
+is_representable plan (Item.Freed spinlock) = false
+is_representable plan (Item.Halt core status) = is_core_number core
+is_representable plan (Item.Last (Some p)) = is_core_number p.0
+is_representable plan item = true
+
+-- ---- which items a log has
+
+-- The text is the log of these items, or lacks but the end of its last line.
+abbrev pub IsTextOf : Plan → List ℕ → List Item → Type 0
+IsTextOf plan text items = (text ≡ log_text plan items) ⊎ (text ++ line_end ≡ log_text plan items)
+
+-- A log says these items. [own]
+pub record IsLog (plan : Plan) (text : List ℕ) (items : List Item) : Type 0 where
+  pub representable : list_all (is_representable plan) items ≡ true
+  pub text_is : IsTextOf plan text items
+
+-- ---- reading
+
+-- A text without the line end at its end, if it has one.
+abbrev pub before_end : List ℕ → List ℕ
+before_end [] = []
+before_end (c ∷ []) = if c == 10 then [] else c ∷ []
+before_end (c ∷ d ∷ text) = c ∷ before_end (d ∷ text)
+
+-- The same where something stands before that end. A line end alone stays: its line is empty, and no item's.
+abbrev pub without_last_end : List ℕ → List ℕ
+without_last_end [] = []
+without_last_end (c ∷ []) = c ∷ []
+without_last_end (c ∷ d ∷ text) = c ∷ before_end (d ∷ text)
+
+-- The items of a log, line by line.
+abbrev pub log_meant : Plan → List ℕ → Option (List Item)
+log_meant plan text = each (item_meant plan) (parts_of 10 (without_last_end text))

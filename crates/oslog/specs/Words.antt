@@ -1,0 +1,116 @@
+-- The words of a line: what they say, and how they are written. [own]
+use Rattle.std.specs.Prelude.{ℕ, ◌+◌, ◌==◌, ◌++◌, Option, Some, None, option_map, option_and_then, if◌then◌else◌, List, [], ◌∷◌, codes, filter, find, map, slice_set, true}
+use Rattle.std.specs.Fmt.{decimal, signed_decimal}
+use Rattle.std.specs.Str.{bytes_eq}
+use Rattle.osbase.specs.History.{no_cores}
+use Rattle.osbase.specs.Sets.{core_ids, has_core}
+use Rattle.osbase.specs.Words.{status_name}
+use Rattle.osbase.specs.declared.items.CoreSet.{CoreSet}
+use Rattle.osbase.specs.declared.messages.RemoteCall.{RemoteCall}
+use Rattle.osbase.specs.declared.references.CoreId.{CoreId}
+use Rattle.osbase.specs.declared.references.IsrRef.{IsrRef}
+use Rattle.osbase.specs.declared.statuses.Status.{Status}
+use Rattle.oscript.specs.Calls.{named_call}
+use Rattle.oscript.specs.Rows.{has_masks}
+use Rattle.oscript.specs.declared.Op.{Op}
+use Rattle.osforms.specs.Call.{call_words}
+use Rattle.osforms.specs.Form.{form_of_words}
+use Rattle.osforms.specs.Operation.{resolved}
+use Rattle.osforms.specs.Word.{int_of, number_in}
+use Rattle.osplan.specs.Names.{isr_name, name_of, name_of_mode}
+use Rattle.osplan.specs.declared.plans.Plan.{Plan}
+use Rattle.oscript.specs.Rows as rows
+use Rattle.oslog.specs.Naming.{isr_named, mode_named, place_named}
+use Rattle.oslog.specs.Rows.{keyword_text}
+use Rattle.oslog.specs.declared.forms.Parts.{Parts}
+use Rattle.oslog.specs.declared.rows.Kind.{Kind}
+use Rattle.oslog.specs.declared.rows.Kind.TheVariants as K
+use Rattle.oslog.specs.declared.rows.Tail.{Tail}
+use Rattle.oslog.specs.declared.rows.Tail.TheVariants as T
+use Rattle.oslog.specs.declared.words.TheConstants.{STATUSES}
+
+-- ---- writing
+
+abbrev pub irq_prefix : List ℕ
+irq_prefix = codes "irq="
+
+-- A word of this kind. No spinlock has a name yet.
+abbrev pub word_text : Plan → Parts → Kind → List ℕ
+word_text plan parts (K.Keyword word) = keyword_text word
+word_text plan parts K.Core = decimal parts.core.number
+word_text plan parts K.Count = decimal parts.count
+word_text plan parts K.Status = status_name parts.status
+word_text plan parts K.Value = signed_decimal parts.value
+word_text plan parts K.Mode = name_of_mode plan parts.mode
+word_text plan parts K.Irq = irq_prefix ++ isr_name plan parts.isr
+word_text plan parts K.Spinlock = []
+
+-- The numbers of a set's cores, ascending.
+abbrev pub core_words : CoreSet → List (List ℕ)
+core_words cores = map (λ (id : CoreId). decimal id.number) (filter (has_core cores) core_ids)
+
+-- The words behind those of a row. A call has the words of its operation.
+abbrev pub tail_words : Plan → Parts → Tail → List (List ℕ)
+tail_words plan parts T.Nothing = []
+tail_words plan parts T.Call = call_words (name_of plan) parts.call
+tail_words plan parts T.Cores = core_words parts.cores
+
+-- ---- reading
+
+abbrev pub status_of : List ℕ → Option Status
+status_of word = find (λ (s : Status). bytes_eq (status_name s) word) STATUSES
+
+abbrev pub core_of : List ℕ → Option CoreId
+core_of word = option_map (λ n. record { number = n }) (number_in 0 255 word)
+
+-- What stands behind a text at the front of a word.
+abbrev pub behind : List ℕ → List ℕ → Option (List ℕ)
+behind [] word = Some word
+behind (f ∷ front) [] = None
+behind (f ∷ front) (c ∷ word) = if f == c then behind front word else None
+
+abbrev pub irq_of : Plan → List ℕ → Option IsrRef
+irq_of plan word = option_and_then (isr_named plan) (behind irq_prefix word)
+
+-- The parts with what a word of a kind says.
+abbrev pub with_word : Plan → Kind → List ℕ → Parts → Option Parts
+with_word plan (K.Keyword keyword) word parts = if bytes_eq word (keyword_text keyword) then Some parts else None
+with_word plan K.Core word parts = option_map (λ core. record parts { core = core }) (core_of word)
+with_word plan K.Count word parts = option_map (λ n. record parts { count = n }) (number_in 0 18446744073709551615 word)
+with_word plan K.Status word parts = option_map (λ status. record parts { status = status }) (status_of word)
+with_word plan K.Value word parts = option_map (λ z. record parts { value = z }) (int_of word)
+with_word plan K.Mode word parts = option_map (λ mode. record parts { mode = mode }) (mode_named plan word)
+with_word plan K.Irq word parts = option_map (λ isr. record parts { isr = isr }) (irq_of plan word)
+with_word plan K.Spinlock word parts = None
+
+-- The words of a row in turn, and what follows them.
+abbrev pub read_words : Plan → List Kind → List (List ℕ) → Parts → Option (Parts × List (List ℕ))
+read_words plan [] words parts = Some (parts, words)
+read_words plan (kind ∷ kinds) [] parts = None
+read_words plan (kind ∷ kinds) (word ∷ words) parts = option_and_then (read_words plan kinds words) (with_word plan kind word parts)
+
+abbrev pub with_core : ℕ → CoreSet → CoreSet
+with_core number cores = record { members = slice_set cores.members number true }
+
+-- Cores of ascending numbers, from this one on.
+abbrev pub cores_from : ℕ → CoreSet → List (List ℕ) → Option CoreSet
+cores_from least cores [] = Some cores
+cores_from least cores (word ∷ words) = option_and_then (λ n. cores_from (n + 1) (with_core n cores) words) (number_in least 15 word)
+
+-- The operation that words say, where its names have places.
+abbrev pub op_said : Plan → List (List ℕ) → Option Op
+op_said plan words = option_map rows.op_of (option_and_then (resolved (place_named plan)) (form_of_words words))
+
+-- The call of an operation whose masks are in their range, if it goes across cores and refers to an object.
+abbrev pub call_in : Op → Option RemoteCall
+call_in op = if has_masks op then named_call op else None
+
+abbrev pub call_of : Plan → List (List ℕ) → Option RemoteCall
+call_of plan words = option_and_then call_in (op_said plan words)
+
+-- The parts with what stands behind the words of a row.
+abbrev pub with_tail : Plan → Tail → List (List ℕ) → Parts → Option Parts
+with_tail plan T.Nothing [] parts = Some parts
+with_tail plan T.Nothing (word ∷ words) parts = None
+with_tail plan T.Call words parts = option_map (λ call. record parts { call = call }) (call_of plan words)
+with_tail plan T.Cores words parts = option_map (λ cores. record parts { cores = cores }) (cores_from 0 no_cores words)

@@ -1,0 +1,243 @@
+//! An item as its form and the parts of its line, and the item of them again.
+
+ghost use Rattle.std.specs.Prelude.{◌≡◌, true};
+ghost use Rattle.osbase.specs.History.{no_cores};
+ghost use Rattle.oslog.specs.Forms.{form_of, item_of, message_form, no_parts, received};
+ghost use Rattle.oslog.specs.declared.rows.Line.{Line as LineValue};
+
+use crate::rows::Line;
+use osbase::{
+    Agreement, CORES, CoreId, CoreSet, IsrRef, Item, Message, ModeId, RemoteCall, SpinlockId,
+    Status, Stimulus, TaskRef,
+};
+
+/// What the parts of a line say, one of each kind. What the row of a form does not have is not asked.
+#[derive(Clone, Copy, Debug, PartialEq, Eq)]
+pub struct Parts {
+    pub core: CoreId,
+    pub count: u64,
+    pub status: Status,
+    pub value: i64,
+    pub mode: ModeId,
+    pub isr: IsrRef,
+    pub spinlock: SpinlockId,
+    pub call: RemoteCall,
+    pub cores: CoreSet,
+}
+
+impl Parts {
+    /// Before any part is read.
+    pub fn none() -> Parts
+        ensures { result ≡ no_parts }
+    {
+        let core = CoreId { number: 0 };
+        Parts {
+            core,
+            count: 0,
+            status: Status::EOk,
+            value: 0,
+            mode: ModeId { index: 0 },
+            isr: IsrRef { core, index: 0 },
+            spinlock: SpinlockId { index: 0 },
+            call: RemoteCall::ActivateTask(TaskRef { core, index: 0 }),
+            cores: no_cores(),
+        }
+    }
+}
+
+/// The set without a core.
+pub fn no_cores() -> CoreSet
+    ensures { result ≡ no_cores }
+{
+    CoreSet {
+        members: [false; CORES],
+    }
+}
+
+/// The item of a form and the parts of its line.
+pub fn item_of(line: Line, parts: &Parts) -> Item
+    ensures { result ≡ item_of line parts.now }
+{
+    match line {
+        Line::Op => Item::Stim(Stimulus::Op),
+        Line::Tick => Item::Stim(Stimulus::Tick),
+        Line::Irq => Item::Stim(Stimulus::Irq(parts.isr)),
+        Line::Posted => Item::Posted(parts.core),
+        Line::Request => received(parts, Message::Request(parts.call)),
+        Line::Action => received(parts, Message::Action(parts.call)),
+        Line::Reply => received(parts, Message::Reply(parts.status)),
+        Line::Value => received(parts, Message::Value(parts.status, parts.value)),
+        Line::On => Item::On,
+        Line::Began => Item::Began {
+            core: parts.core,
+            status: parts.status,
+        },
+        Line::Entered => Item::Entered,
+        Line::Conflict => Item::Pass1(Agreement::Conflict),
+        Line::Agreed => Item::Pass1(Agreement::Mode(parts.mode)),
+        Line::NoMode => Item::Pass1(Agreement::NoMode),
+        Line::Readied => Item::Readied,
+        Line::Started => Item::Pass2(parts.cores),
+        Line::Granted => Item::Granted(parts.spinlock),
+        Line::Taken => tried(parts, true),
+        Line::NotTaken => tried(parts, false),
+        Line::Freed => Item::Freed(parts.spinlock),
+        Line::Halt => Item::Halt {
+            core: parts.core,
+            status: parts.status,
+        },
+        Line::Drained => Item::Drained,
+        Line::PassEnd => Item::PassEnd,
+        Line::Last => Item::Last(None),
+        Line::LastHalted => Item::Last(Some((parts.core, parts.status))),
+    }
+}
+
+fn received(parts: &Parts, message: Message) -> Item
+    ensures { result ≡ received parts.now message }
+{
+    Item::Received {
+        from: parts.core,
+        number: parts.count,
+        message,
+    }
+}
+
+fn tried(parts: &Parts, taken: bool) -> Item
+    ensures { result ≡ Item.Tried parts.now.spinlock taken }
+{
+    Item::Tried {
+        spinlock: parts.spinlock,
+        taken,
+    }
+}
+
+/// The form of an item, and the parts of its line.
+pub fn form_of(item: &Item) -> (Line, Parts)
+    ensures { result ≡ form_of item.now }
+{
+    match *item {
+        Item::On => plain(Line::On),
+        Item::Began { core, status } => answered(Line::Began, core, status),
+        Item::Entered => plain(Line::Entered),
+        Item::Pass1(agreement) => agreed(agreement),
+        Item::Readied => plain(Line::Readied),
+        Item::Pass2(cores) => (
+            Line::Started,
+            Parts {
+                cores,
+                ..Parts::none()
+            },
+        ),
+        Item::Stim(stimulus) => stimulated(stimulus),
+        Item::Posted(core) => (
+            Line::Posted,
+            Parts {
+                core,
+                ..Parts::none()
+            },
+        ),
+        Item::Received {
+            from,
+            number,
+            message,
+        } => message_form(from, number, message),
+        Item::Granted(spinlock) => spinning(Line::Granted, spinlock),
+        Item::Tried { spinlock, taken } => {
+            let line = if taken { Line::Taken } else { Line::NotTaken };
+            spinning(line, spinlock)
+        }
+        Item::Freed(spinlock) => spinning(Line::Freed, spinlock),
+        Item::Halt { core, status } => answered(Line::Halt, core, status),
+        Item::Drained => plain(Line::Drained),
+        Item::PassEnd => plain(Line::PassEnd),
+        Item::Last(None) => plain(Line::Last),
+        Item::Last(Some((core, status))) => answered(Line::LastHalted, core, status),
+    }
+}
+
+fn plain(line: Line) -> (Line, Parts)
+    ensures { result ≡ (line, no_parts) }
+{
+    (line, Parts::none())
+}
+
+fn answered(line: Line, core: CoreId, status: Status) -> (Line, Parts)
+    ensures { result ≡ (line, record no_parts { core = core; status = status }) }
+{
+    (
+        line,
+        Parts {
+            core,
+            status,
+            ..Parts::none()
+        },
+    )
+}
+
+fn spinning(line: Line, spinlock: SpinlockId) -> (Line, Parts)
+    ensures { result ≡ (line, record no_parts { spinlock = spinlock }) }
+{
+    (
+        line,
+        Parts {
+            spinlock,
+            ..Parts::none()
+        },
+    )
+}
+
+fn agreed(agreement: Agreement) -> (Line, Parts)
+    ensures { result ≡ form_of (Item.Pass1 agreement) }
+{
+    match agreement {
+        Agreement::Conflict => plain(Line::Conflict),
+        Agreement::NoMode => plain(Line::NoMode),
+        Agreement::Mode(mode) => (
+            Line::Agreed,
+            Parts {
+                mode,
+                ..Parts::none()
+            },
+        ),
+    }
+}
+
+fn stimulated(stimulus: Stimulus) -> (Line, Parts)
+    ensures { result ≡ form_of (Item.Stim stimulus) }
+{
+    match stimulus {
+        Stimulus::Op => plain(Line::Op),
+        Stimulus::Tick => plain(Line::Tick),
+        Stimulus::Irq(isr) => (
+            Line::Irq,
+            Parts {
+                isr,
+                ..Parts::none()
+            },
+        ),
+    }
+}
+
+fn message_form(core: CoreId, count: u64, message: Message) -> (Line, Parts)
+    ensures { result ≡ message_form (record no_parts { core = core; count = count }) message }
+{
+    let parts = Parts {
+        core,
+        count,
+        ..Parts::none()
+    };
+    match message {
+        Message::Request(call) => (Line::Request, Parts { call, ..parts }),
+        Message::Action(call) => (Line::Action, Parts { call, ..parts }),
+        Message::Reply(status) => (Line::Reply, Parts { status, ..parts }),
+        Message::Value(status, value) => (
+            Line::Value,
+            Parts {
+                status,
+                value,
+                ..parts
+            },
+        ),
+    }
+}

@@ -1,0 +1,70 @@
+//! Reading: the items of a log.
+
+ghost use Rattle.std.specs.Prelude.{◌≡◌, List as ListOf, Err, IfOk, IsSome, None, Some};
+ghost use Rattle.osbase.specs.declared.items.Item.{Item as ItemValue};
+ghost use Rattle.osplan.specs.View.{core_of};
+ghost use Rattle.oslog.specs.Items.{item_meant};
+ghost use Rattle.oslog.specs.Logs.{IsLog, log_meant, without_last_end};
+
+use crate::faults::LogFault;
+use crate::names::NameIndex;
+use crate::reading::item_meant;
+use osbase::{CoreId, Item, List};
+use osplan::Config;
+use osread::{PartReader, Refusal, read_parts};
+use std::alloc::Global;
+
+// Reads a line.
+#[derive(Clone, Copy)]
+struct LineReader<'n, 'p> {
+    names: &'n NameIndex<'p>,
+}
+
+impl PartReader<Item> for LineReader<'_, '_> {
+    ghost shape = { λ reader. item_meant reader.names.now.config.now };
+
+    fn read(&self, part: &str) -> Option<Item> {
+        item_meant(self.names, part)
+    }
+}
+
+// The text without the end of its last line. A text of nothing but a line end has an empty line, which is no item.
+fn without_last_end(text: &str) -> &str
+    ensures { result.now ≡ without_last_end text.now }
+{
+    match text.strip_suffix('\n') {
+        Some(rest) if !rest.is_empty() => rest,
+        _ => text,
+    }
+}
+
+// The items of a log, line by line.
+fn items_meant(alloc: Global, names: &NameIndex, text: &str) -> Result<List<Item>, LogFault>
+    ensures ok { IfOk result (λ items. log_meant names.now.config.now text.now ≡ Some items) }
+    ensures bad { result ≡ Err LogFault.BadLog → log_meant names.now.config.now text.now ≡ None }
+{
+    let reader = LineReader { names };
+    let body = without_last_end(text);
+    // There are at most as many line ends as bytes.
+    match read_parts(alloc, &reader, body, '\n', body.len() + 1) {
+        Ok(items) => Ok(items),
+        Err(Refusal::OutOfMemory) => Err(LogFault::NoMemory),
+        Err(Refusal::Unfit) => Err(LogFault::BadLog),
+    }
+}
+
+/// The items of a core's log, in order: those whose text it is. The end of the last line may be missing. `BadLog`
+/// where it is the text of no items. Every core of the configuration reads a log alike.
+pub fn read_log(
+    alloc: Global,
+    config: &Config,
+    _core: CoreId,
+    text: &str,
+) -> Result<List<Item>, LogFault>
+    requires { IsSome (core_of config.now _core) }
+    ensures ok { IfOk result (IsLog config.now text.now) }
+    ensures bad { result ≡ Err LogFault.BadLog → (items : ListOf ItemValue) → IsLog config.now text.now items → ⊥ }
+{
+    let names = NameIndex::new(alloc, config)?;
+    items_meant(alloc, &names, text)
+}

@@ -1,0 +1,6 @@
+//! Replaying items: what one core does by itself with the items that another run gave it.
+#![tactic(auto)]
+
+mod replays;
+
+pub use replays::{ReplayFault, replay};
