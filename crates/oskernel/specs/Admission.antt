@@ -116,3 +116,7 @@ admits places s (Item.Last shutdown) = stands_in Phase.Closing s.progress.phase 
 -- An item may be taken while fewer than 2 ^ 48 were. [own]
 abbrev pub takes_in : ℕ → KernelState → Item → Bool
 takes_in places s item = nat_lt s.progress.items (2 ^ 48) && admits places s item
+
+-- A core may serve, whatever it is sent: it may take one item more, schedules, and has a place for the reply to a request. [own]
+abbrev pub serves_in : ℕ → KernelState → Bool
+serves_in places s = nat_lt s.progress.items (2 ^ 48) && (is_scheduling s.progress.phase && nat_lt (length s.border.outbox) places)

@@ -38,13 +38,17 @@ use Rattle.ostaskcall.specs.Tasks.{activates, ends_unasked}
 use Rattle.oscall.specs.Border.{serves_request, serves_action}
 use Rattle.oscall.specs.Chaining.{resumes}
 use Rattle.oskernel.specs.Operations.{operates}
-use Rattle.oskernel.specs.Admission.{takes_in}
+use Rattle.oskernel.specs.Admission.{serves_in, takes_in}
 use Rattle.oskernel.specs.Free.{may_dispatch}
 
 -- An item may be taken where the state may take it to which the history leads. `places` is how many envelopes the outbox
 -- may hold. [own]
 abbrev pub takes : ℕ → View → History → Item → Bool
 takes places v h item = takes_in places (state_of v h) item
+
+-- A core may serve. [own]
+abbrev pub serves : ℕ → View → History → Bool
+serves places v h = serves_in places (state_of v h)
 
 -- The line of the first gate: StartupHook, or that the modes conflict.
 -- [AUTOSAR SWS OS 4.x, SWS_Os_00608 to SWS_Os_00610; OSEK/VDX OS 2.2.3, section 11.3]

@@ -13,7 +13,7 @@ use crate::free::is_settled;
 use osact::is_ok;
 use osbase::{
     Agreement, Awaited, CORE_NUMBERS, CoreId, CoreMode, CoreSet, Item, Message, ModeId, OpenCall,
-    Phase, RemoteCall, ServiceId, Status, both,
+    Phase, RemoteCall, ServiceId, Status,
 };
 use oscript::is_action;
 use osstate::CoreState;
@@ -30,34 +30,21 @@ pub(crate) fn is_admitted<const P: usize, const J: usize, const OUT: usize>(
         Item::On => phase.stands_in(Phase::Off),
         Item::Began { core, status } => {
             let is_next = is_next_start(state, *core);
-            both(
-                both(phase.stands_in(Phase::Boot), is_next),
-                is_answer(state, *core, *status),
-            )
+            phase.stands_in(Phase::Boot) & is_next & is_answer(state, *core, *status)
         }
-        Item::Entered => both(phase.stands_in(Phase::Boot), state.next_start().is_none()),
-        Item::Pass1(agreement) => both(
-            phase.stands_in(Phase::FirstGate),
-            is_agreed(state, *agreement),
-        ),
+        Item::Entered => phase.stands_in(Phase::Boot) & state.next_start().is_none(),
+        Item::Pass1(agreement) => phase.stands_in(Phase::FirstGate) & is_agreed(state, *agreement),
         Item::Readied => phase.stands_in(Phase::BetweenGates),
-        Item::Pass2(cores) => both(
-            phase.stands_in(Phase::SecondGate),
-            are_started(state, cores),
-        ),
+        Item::Pass2(cores) => phase.stands_in(Phase::SecondGate) & are_started(state, cores),
         Item::Stim(stimulus) => {
-            let is_due = both(phase.stands_in(Phase::Live), state.knows(*stimulus));
-            both(is_due, is_settled(state))
+            phase.stands_in(Phase::Live) & state.knows(*stimulus) & is_settled(state)
         }
-        Item::Posted(core) => both(phase.is_scheduling(), is_front(state, *core)),
+        Item::Posted(core) => phase.is_scheduling() & is_front(state, *core),
         Item::Received {
             from,
             number,
             message,
-        } => both(
-            phase.is_scheduling(),
-            is_next_envelope(state, *from, *number, message),
-        ),
+        } => phase.is_scheduling() & is_next_envelope(state, *from, *number, message),
         Item::Granted(_) => false,
         Item::Tried {
             spinlock: _,
@@ -65,9 +52,9 @@ pub(crate) fn is_admitted<const P: usize, const J: usize, const OUT: usize>(
         } => false,
         Item::Freed(_) => false,
         Item::Halt { core: _, status: _ } => false,
-        Item::Drained => both(phase.stands_in(Phase::Live), is_settled(state)),
+        Item::Drained => phase.stands_in(Phase::Live) & is_settled(state),
         Item::PassEnd => phase.stands_in(Phase::Drained),
-        Item::Last(shutdown) => both(phase.stands_in(Phase::Closing), shutdown.is_none()),
+        Item::Last(shutdown) => phase.stands_in(Phase::Closing) & shutdown.is_none(),
     }
 }
 
@@ -158,7 +145,7 @@ fn are_started<const P: usize, const J: usize, const OUT: usize>(
     ensures { result ≡ are_started_cores state.now.view cores.now }
 {
     let has_own = cores.contains(state.id());
-    both(has_own, are_configured(state, cores))
+    has_own & are_configured(state, cores)
 }
 
 // Each core of the set is configured.
@@ -204,10 +191,7 @@ fn is_next_envelope<const P: usize, const J: usize, const OUT: usize>(
     }
     let is_foreign = !state.is_own(from);
     let is_in_order = number == state.received_from(from);
-    both(
-        both(is_foreign, is_in_order),
-        is_awaited(state, from, message),
-    )
+    is_foreign & is_in_order & is_awaited(state, from, message)
 }
 
 fn is_awaited<const P: usize, const J: usize, const OUT: usize>(
@@ -218,8 +202,8 @@ fn is_awaited<const P: usize, const J: usize, const OUT: usize>(
     ensures { result ≡ is_awaited OUT state.now from message.now }
 {
     match message {
-        Message::Request(call) => both(state.has(call.object()), state.has_place()),
-        Message::Action(call) => both(is_action(*call), state.has(call.object())),
+        Message::Request(call) => state.has(call.object()) & state.has_place(),
+        Message::Action(call) => is_action(*call) & state.has(call.object()),
         Message::Reply(status) => is_awaited_reply(state, from, *status, false),
         Message::Value(status, _) => is_awaited_reply(state, from, *status, true),
     }
@@ -245,9 +229,9 @@ fn is_reply(from: CoreId, status: Status, has_value: bool, call: OpenCall) -> bo
 {
     match call.awaits {
         Awaited::Reply { service, core } => {
-            let wants_value = both(gives_value(service), is_ok(status));
+            let wants_value = gives_value(service) & is_ok(status);
             let is_wanted = if wants_value { has_value } else { !has_value };
-            both(core == from, is_wanted)
+            (core == from) & is_wanted
         }
         _ => false,
     }

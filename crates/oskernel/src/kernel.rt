@@ -11,9 +11,9 @@ ghost use Rattle.osstate.specs.State.{state_of};
 ghost use Rattle.osstate.specs.Does.{Adds, Does, Reads};
 ghost use Rattle.oskernel.specs.declared.kernel.TheConstants.{STEP_MARKS};
 ghost use Rattle.osplan.specs.Objects.{outbox_needed};
-ghost use Rattle.oskernel.specs.Step.{after, takes};
+ghost use Rattle.oskernel.specs.Step.{after, serves, takes};
 ghost use Rattle.oskernel.specs.Wants.{front_of, go_on_if_free, post_or as front_or, want_in, want_of, watch_if_free, watch_in, watch_of};
-ghost use Rattle.oskernel.specs.Admission.{takes_in};
+ghost use Rattle.oskernel.specs.Admission.{serves_in, takes_in};
 
 use crate::admission::is_admitted;
 use crate::free::is_free;
@@ -156,6 +156,17 @@ impl<'a, const P: usize, const J: usize, const OUT: usize> Kernel<'a, P, J, OUT>
     {
         if self.state.items() < MOST_ITEMS {
             return is_admitted(&self.state, item);
+        }
+        false
+    }
+
+    /// Whether the core may serve: it may take one item more, schedules, and has a place for the reply to a request.
+    pub fn may_serve(&self) -> bool
+        ensures state { result ≡ serves_in OUT self.now }
+        ensures reads { Reads (λ v h. serves OUT v h) self.now result }
+    {
+        if self.state.items() < MOST_ITEMS {
+            return self.state.phase().is_scheduling() & self.state.has_place();
         }
         false
     }

@@ -183,6 +183,7 @@ fn a_second_reply_is_refused(rt: HostRuntime) -> Result<(), Fail> {
         kernel.step(*item, &mut printed);
     }
     assert!(rt; !kernel.may_take(&reply()));
+    assert!(rt; kernel.may_serve());
     assert_eq!(rt; kernel.want(), Want::GoOn);
     assert_eq!(rt; kernel.front(), None);
     Ok(())
