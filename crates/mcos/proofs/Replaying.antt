@@ -22,7 +22,7 @@ use Rattle.mcos.proofs.Logging.{written-asked}
 
 -- A reader's fault is the fault of the file.
 pub IsLogFault-read : (plan : Plan) (file : Result (List ℕ) Fault) (text : List ℕ) (read : LogFault) (fault : Fault) → Ok text ≡ file → fault ≡ of_log read
-    → (Err {A = List Item} read ≡ Err log.BadLog → (items : List Item) → IsLog plan text items → ⊥) → IsLogFault plan file fault
+    → (◌≡◌ {A = Result (List Item) LogFault} (Err read) (Err log.BadLog) → (items : List Item) → IsLog plan text items → ⊥) → IsLogFault plan file fault
 IsLogFault-read plan file text log.BadLog fault is named bad = rw (← is, named) (bad refl)
 IsLogFault-read plan file text log.NoMemory fault is named bad = rw (← is, named) tt
 

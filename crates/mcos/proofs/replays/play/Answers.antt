@@ -10,10 +10,10 @@ returns-in-Ok g c =
     let report = c.in-Ok.report in
     prints (block_of c.args.config.now report) (Ok Done) (record { report = report; text_is = refl; ends = (c.in-Ok.ensures.ok, refl) }) c.print.ensures
 
-pub returns-in-ItemRefused : goal.returns-in-ItemRefused
-returns-in-ItemRefused g c =
-    let report = c.in-ItemRefused.report in
-    prints (block_of c.args.config.now report) (Err (ItemRefused c.in-ItemRefused.number)) (record { report = report; text_is = refl; ends = c.in-ItemRefused.ensures.fault }) c.print.ensures
+pub returns-in-Err-ItemRefused : goal.returns-in-Err-ItemRefused
+returns-in-Err-ItemRefused g c =
+    let report = c.in-Err-ItemRefused.report in
+    prints (block_of c.args.config.now report) (Err (ItemRefused c.in-Err-ItemRefused.number)) (record { report = report; text_is = refl; ends = c.in-Err-ItemRefused.ensures.fault }) c.print.ensures
 
-pub returns-in-NoMemory : goal.returns-in-NoMemory
-returns-in-NoMemory g c = fails NoMemoryToRun refl refl refl
+pub returns : goal.returns
+returns g c = fails NoMemoryToRun refl refl refl

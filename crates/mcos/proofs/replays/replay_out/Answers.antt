@@ -49,7 +49,7 @@ pub returns-clause-comes : goal.returns-clause-comes
 returns-clause-comes g c =
     let plan = c.in_ok-config.config in
     replay-comes _ _ _ _ plan c.args.core c.in_ok-items.items _ _ (config-kept _ _ plan c.in_ok-items.ensures.keeps c.in_ok-config.ensures.ok)
-    c.in_ok-known_core.ensures.ok c.in_ok-items.ensures.ok (rw c.as_slice.ensures.value at c.play.ensures)
+    c.in_ok-known_core.ensures.ok c.in_ok-items.ensures.ok (rw c.as_slice.ensures at c.play.ensures)
 
 pub returns-clause-stops : goal.returns-clause-stops
 returns-clause-stops g c =
@@ -57,4 +57,4 @@ returns-clause-stops g c =
     at_stimuli plan (config-kept _ _ plan c.in_ok-items.ensures.keeps c.in_ok-config.ensures.ok) (omega (arith, c.in_ok-config.ensures.ahead, c.in_ok-items.ensures.ahead))
 
 pub returns-clause-asked : goal.returns-clause-asked
-returns-clause-asked g c = replay-asked _ _ _ _ c.in_ok-config.config c.args.core c.in_ok-items.items _ _ _ (rw c.as_slice.ensures.value at c.play.ensures)
+returns-clause-asked g c = replay-asked _ _ _ _ c.in_ok-config.config c.args.core c.in_ok-items.items _ _ _ (rw c.as_slice.ensures at c.play.ensures)
