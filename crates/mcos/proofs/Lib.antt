@@ -5,3 +5,4 @@ pub mod Standings
 pub mod Unread
 pub mod Usage
 pub mod Logging
+pub mod Replaying

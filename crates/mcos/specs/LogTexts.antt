@@ -1,5 +1,5 @@
 -- A core's log as a file, and a core of the configuration. [own]
-use Rattle.std.specs.Prelude.{◌≡◌, ⊥, ℕ, None, Result, Ok, Err, List}
+use Rattle.std.specs.Prelude.{◌≡◌, ℕ, None, Result, Ok, Err, List}
 use Rattle.osbase.specs.declared.items.Item.{Item}
 use Rattle.osbase.specs.declared.references.CoreId.{CoreId}
 use Rattle.osplan.specs.declared.faults.ConfFault.TheVariants.{UnknownName}

@@ -1,5 +1,5 @@
 -- What a replay prints, and how it ends. [own]
-use Rattle.std.specs.Prelude.{◌≡◌, ◌≢◌, ⊥, ℕ, Result, Ok, Err, List, IsSome}
+use Rattle.std.specs.Prelude.{◌≡◌, ◌≢◌, ℕ, Result, Ok, Err, List, IsSome}
 use Rattle.osbase.specs.declared.items.Item.{Item}
 use Rattle.osbase.specs.declared.references.CoreId.{CoreId}
 use Rattle.osbase.specs.declared.turns.Report.{Report}

@@ -3,7 +3,7 @@
 ghost use Rattle.std.specs.Prelude.{◌≡◌, IfOk, IfSome, IsSome, IsSomeAnd, codes, false, map};
 ghost use Rattle.std.specs.Str.Parse.{digits_value, without_leading_plus};
 ghost use Rattle.clap.specs.Words.{FailsBy, IsUnsignedIn, app_of, fault_of, first_of, first_value, found_of, rows_of, rule_of};
-ghost use Rattle.mcos.specs.CommandLine.{AsksFor, HasEntries, SaysCore, check_command, command_line, config_rule, core_rule, cut_command, replay_command, run_command, subcommand_name};
+ghost use Rattle.mcos.specs.CommandLine.{AsksFor, HasEntries, SaysCore, check_command, command_line, config_rule, core_rule, cut_command, items_rule, replay_command, run_command, schedule_rule, stimuli_rule, subcommand_name};
 ghost use Rattle.mcos.specs.Jobs.{paths_of};
 
 use clap::builder::ValueParser;
@@ -231,27 +231,45 @@ fn command<'a>(alloc: Global) -> Result<Command<'a>, AllocError>
 fn run_command<'a>(alloc: Global) -> Result<Command<'a>, AllocError>
     ensures { IfOk result (λ command. app_of command ≡ run_command) }
 {
-    let stimuli = Arg::new(alloc, "STIM")
-        .required(true)
-        .help("each core's stimuli, a JSON file");
-    let schedule = Arg::new(alloc, "schedule")
-        .long("schedule")
-        .value_name("FILE")
-        .action(ArgAction::Set)
-        .help("the turns in order, a JSON file; without it the default schedule runs");
-    let items = Arg::new(alloc, "items")
-        .long("items")
-        .value_name("CORE")
-        .value_parser(ValueParser::unsigned(0, 255))
-        .action(ArgAction::Set)
-        .help("prints the log of the core of this number alone");
     Command::new(alloc, "run")
         .about("Runs the cores turn by turn, and prints each core's trace")
         .after_help(RUN_HELP)
         .arg(config_arg(alloc))?
-        .arg(stimuli)?
-        .arg(schedule)?
-        .arg(items)
+        .arg(stimuli_arg(alloc))?
+        .arg(schedule_arg(alloc))?
+        .arg(items_arg(alloc))
+}
+
+fn stimuli_arg<'a>(alloc: Global) -> Arg<'a>
+    ensures rule { rule_of result ≡ stimuli_rule }
+    ensures own { result.global ≡ false }
+{
+    Arg::new(alloc, "STIM")
+        .required(true)
+        .help("each core's stimuli, a JSON file")
+}
+
+fn schedule_arg<'a>(alloc: Global) -> Arg<'a>
+    ensures rule { rule_of result ≡ schedule_rule }
+    ensures own { result.global ≡ false }
+{
+    Arg::new(alloc, "schedule")
+        .long("schedule")
+        .value_name("FILE")
+        .action(ArgAction::Set)
+        .help("the turns in order, a JSON file; without it the default schedule runs")
+}
+
+fn items_arg<'a>(alloc: Global) -> Arg<'a>
+    ensures rule { rule_of result ≡ items_rule }
+    ensures own { result.global ≡ false }
+{
+    Arg::new(alloc, "items")
+        .long("items")
+        .value_name("CORE")
+        .value_parser(ValueParser::unsigned(0, 255))
+        .action(ArgAction::Set)
+        .help("prints the log of the core of this number alone")
 }
 
 fn check_command<'a>(alloc: Global) -> Result<Command<'a>, AllocError>

@@ -117,6 +117,7 @@ pub fn known_core(config: &Config, core: CoreId) -> Result<(), Fault>
 fn text_at<'a, S: Source>(source: &'a S, at: usize, no_text: Fault) -> Result<&'a str, Fault>
     requires read { at < S.count source.now → at < length (S.files source.now) }
     requires next { at ≤ length (S.files source.now) }
+    requires apart { no_text ≢ Fault.Unreadable }
     ensures text { result_map_both (λ text. text.now) (λ fault. fault) result ≡ text_or no_text (bytes_at (S.files source.now) at) }
     ensures asked { IfErr result (IsAsked (S.count source.now) (S.files source.now)) }
 {

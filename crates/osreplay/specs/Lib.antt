@@ -1,2 +1,1 @@
 pub mod Replays
-pub mod Players

@@ -2,7 +2,7 @@ use Rattle.std.proofs.Common.{Bool, ap, ap₂, codes, refl, true, false, not, �
 use Rattle.std.proofs.lemmas.Result.{IfOk-weaker}
 use Rattle.clap.specs.Simple.{app_of_fields}
 use Rattle.clap.specs.Words.{App, app_of, new_app, with_subcommand}
-use Rattle.mcos.specs.CommandLine.{check_command, requires_subcommand, run_command, tells_version}
+use Rattle.mcos.specs.CommandLine.{check_command, cut_command, requires_subcommand, run_command, tells_version}
 use Rattle.mcos.proofs.jobs.command.Goals as goal
 
 -- a command that is plain has no global argument
@@ -15,12 +15,23 @@ local true true true others e = cc
 abbrev above : App
 above = requires_subcommand (tells_version (new_app (codes "mcos")))
 
+abbrev with_run : App
+with_run = with_subcommand above run_command.top
+
+abbrev with_check : App
+with_check = with_subcommand with_run check_command.top
+
+abbrev with_cut : App
+with_cut = with_subcommand with_check cut_command.top
+
 pub returns : goal.returns
 returns c =
     let named : app_of c.about.result ≡ tells_version (new_app (codes "mcos")) = ap app_of_fields c.about.ensures ∙ ap app_of_fields c.version.ensures ∙ ap tells_version c.new.ensures.app in
     let is_above : app_of c.subcommand_required.result ≡ above = ap app_of_fields c.subcommand_required.ensures ∙ ap requires_subcommand named in
-    let with_run : app_of c.in_ok-subcommand.field-0 ≡ with_subcommand above run_command.top =
+    let runs : app_of c.in_ok-subcommand.field-0 ≡ with_run =
     c.in_ok-subcommand.ensures.shape (local _ _ _ _ (ap (λ (a : App). a.top.is_plain) c.in_ok-run_command.ensures)) ∙ ap₂ with_subcommand is_above (ap (λ (a : App). a.top) c.in_ok-run_command.ensures) in
-    let with_check : app_of c.in_ok-subcommand-2.field-0 ≡ with_subcommand (with_subcommand above run_command.top) check_command.top =
-    c.in_ok-subcommand-2.ensures.shape (local _ _ _ _ (ap (λ (a : App). a.top.is_plain) c.in_ok-check_command.ensures)) ∙ ap₂ with_subcommand with_run (ap (λ (a : App). a.top) c.in_ok-check_command.ensures) in
-    IfOk-weaker c.subcommand-3.result _ _ (λ r h. h.shape (local _ _ _ _ (ap (λ (a : App). a.top.is_plain) c.in_ok-cut_command.ensures)) ∙ ap₂ with_subcommand with_check (ap (λ (a : App). a.top) c.in_ok-cut_command.ensures)) c.subcommand-3.ensures
+    let checks : app_of c.in_ok-subcommand-2.field-0 ≡ with_check =
+    c.in_ok-subcommand-2.ensures.shape (local _ _ _ _ (ap (λ (a : App). a.top.is_plain) c.in_ok-check_command.ensures)) ∙ ap₂ with_subcommand runs (ap (λ (a : App). a.top) c.in_ok-check_command.ensures) in
+    let cuts : app_of c.in_ok-subcommand-3.field-0 ≡ with_cut =
+    c.in_ok-subcommand-3.ensures.shape (local _ _ _ _ (ap (λ (a : App). a.top.is_plain) c.in_ok-cut_command.ensures)) ∙ ap₂ with_subcommand checks (ap (λ (a : App). a.top) c.in_ok-cut_command.ensures) in
+    IfOk-weaker c.subcommand-4.result _ _ (λ r h. h.shape (local _ _ _ _ (ap (λ (a : App). a.top.is_plain) c.in_ok-replay_command.ensures)) ∙ ap₂ with_subcommand cuts (ap (λ (a : App). a.top) c.in_ok-replay_command.ensures)) c.subcommand-4.ensures

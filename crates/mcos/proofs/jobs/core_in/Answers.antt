@@ -1,4 +1,3 @@
-use Rattle.std.proofs.Common.{sym}
 use Rattle.mcos.proofs.jobs.core_in.Goals as goal
 
 pub returns : goal.returns

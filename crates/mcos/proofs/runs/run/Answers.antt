@@ -1,9 +1,9 @@
-use Rattle.std.proofs.Common.{Ok, refl, rules, ap, ◌∙◌}
+use Rattle.std.proofs.Common.{Ok, refl}
 use Rattle.std.proofs.lemmas.Result.{err_from_is_err_and}
 use Rattle.osturn.specs.Ends.{have_all_ended}
 use Rattle.mcos.specs.Performs.{broken_off, fails, outcome_of, prints}
 use Rattle.mcos.specs.Runs.{printed_text, run_text}
-use Rattle.mcos.proofs.Logging.{log-comes}
+use Rattle.mcos.proofs.Logging.{log-comes, written-asked}
 use Rattle.mcos.proofs.runs.run.Goals as goal
 
 pub returns-in_err-config : goal.returns-in_err-config
@@ -51,15 +51,15 @@ returns-in-None g c =
               outcome_is = refl;
             })
             (rw c.as_slice.ensures.value at c.print.ensures);
-        asked = search rules;
+        asked = written-asked c.print.ensures.written (Ok (outcome_of (have_all_ended plan c.as_slice.result.now))) c.print.result _ _ tt c.print.ensures.result_is;
       });
       stops = used.stops;
       named = used.named;
       known_is = used.known_is;
     }
 
-pub returns-in-Some : goal.returns-in-Some
-returns-in-Some g c =
+pub returns : goal.returns
+returns g c =
     let used = c.in_ok-config.ensures.input in
     let plan = c.in_ok-config.config in
     let reports = c.in_ok-reports.reports.items in

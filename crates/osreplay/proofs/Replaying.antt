@@ -1,0 +1,72 @@
+-- A seat that took the first of some items.
+use Rattle.std.proofs.Common.{◌≡◌, ◌<◌, ◌+◌, ℕ, Bool, true, false, Some, List, [], ◌∷◌, ◌++◌, length, take, sym, ap, ◌∙◌}
+use Rattle.std.specs.List.{slice_get}
+use Rattle.std.proofs.lemmas.List.{take_more}
+use Rattle.std.proofs.lemmas.Option.{get_or_from_slice_get, slice_get_within}
+use Rattle.osbase.specs.declared.items.Item.{Item}
+use Rattle.osbase.specs.declared.references.CoreId.{CoreId}
+use Rattle.osbase.specs.declared.turns.Report.{Report}
+use Rattle.osplan.specs.declared.plans.Plan.{Plan}
+use Rattle.osplan.specs.View.{view_of}
+use Rattle.osstate.specs.Does.{Reads}
+use Rattle.oskernel.specs.Step.{outbox_size, takes}
+use Rattle.osturn.specs.declared.seats.Seat.{Seat}
+use Rattle.osturn.specs.Fits.{history_by}
+use Rattle.osturn.specs.Seats.{IsSeated, report_of}
+use Rattle.osturn.specs.Sound.{report_by}
+use Rattle.osturn.proofs.Seated.{Keeps, Took, seated-kept, seated-on, seated-own, took-kept}
+use Rattle.osreplay.specs.Replays.{IsCutShort, IsRefused, IsReplayed}
+
+pub record HasTaken (plan : Plan) (id : CoreId) (items : List Item) (seat : Seat) : Type 0 where
+  pub seated : IsSeated plan [] seat
+  pub id_is : seat.id ≡ id
+  pub items_are : seat.items.items ≡ items
+
+-- What it reports is the report of those items.
+pub reports : (plan : Plan) (id : CoreId) (items : List Item) (seat : Seat) (report : Report) → HasTaken plan id items seat → report ≡ report_of seat → IsReplayed plan id items report
+reports plan id items seat report taken is = record {
+  alone = rw (taken.id_is, taken.items_are) at taken.seated.alone;
+  report_is = is ∙ seated-own plan [] seat taken.seated ∙ ap (λ (i : CoreId). report_by plan i seat.items.items) taken.id_is ∙ ap (report_by plan id) taken.items_are;
+}
+
+-- There is no room for the next item.
+pub cut-short : (plan : Plan) (id : CoreId) (items : List Item) (n : ℕ) → n < length items → (seat roomy : Seat) → HasTaken plan id (take n items) seat → Keeps seat roomy → (report : Report) → report ≡ report_of roomy → IsCutShort plan id items report
+cut-short plan id items n within seat roomy taken keeps report is = record {
+  before = n;
+  within = within;
+  replayed = reports plan id (take n items) roomy report (record {
+    seated = seated-kept plan [] seat roomy keeps taken.seated;
+    id_is = keeps.id ∙ taken.id_is;
+    items_are = keeps.items ∙ taken.items_are;
+  }) is;
+}
+
+-- The seat before the next item.
+module _ (plan : Plan) (id : CoreId) (items : List Item) (n : ℕ) (seat : Seat) (taken : HasTaken plan id (take n items) seat) (item : Item) (next : slice_get items n ≡ Some item) where
+  -- it may not take it
+  pub refuses : (may : Bool) → Reads (λ v h. takes outbox_size v h item) seat.kernel may → may ≡ false → (number : ℕ) → number ≡ n → (report : Report) → report ≡ report_of seat → IsRefused plan id items (number + 1) report
+  refuses may reads may_not number counted report is = record {
+    before = n;
+    item = item;
+    number_is = ap (λ (k : ℕ). k + 1) counted;
+    item_is = next;
+    replayed = reports plan id (take n items) seat report taken is;
+    refused =
+        ap (λ (i : CoreId). takes outbox_size (view_of plan i) (history_by plan i (take n items)) item) (sym taken.id_is)
+        ∙ ap (λ (is : List Item). takes outbox_size (view_of plan seat.id) (history_by plan seat.id is) item) (sym taken.items_are)
+        ∙ sym (reads (view_of plan seat.id) (history_by plan seat.id seat.items.items) taken.seated.tracks.stands)
+        ∙ may_not;
+  }
+
+  -- it takes it
+  pub takes-on : (may : Bool) → Reads (λ v h. takes outbox_size v h item) seat.kernel may → may ≡ true → (roomy new : Seat) → Keeps seat roomy → Took roomy new item → HasTaken plan id (take (n + 1) items) new
+  takes-on may reads may_take roomy new keeps took =
+      let on : Took seat new item = took-kept seat roomy new item keeps took in
+      record {
+        seated = seated-on plan [] seat new item taken.seated (sym (reads (view_of plan seat.id) (history_by plan seat.id seat.items.items) taken.seated.tracks.stands) ∙ may_take) on;
+        id_is = on.id ∙ taken.id_is;
+        items_are = on.items
+            ∙ ap (λ (is : List Item). is ++ item ∷ []) taken.items_are
+            ∙ ap (λ (i : Item). take n items ++ i ∷ []) (sym (get_or_from_slice_get items n item item next))
+            ∙ sym (take_more items n item (slice_get_within items n item next));
+      }
