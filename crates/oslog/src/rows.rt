@@ -152,6 +152,12 @@ pub enum Kind {
     Spinlock,
 }
 
+const REPLY: Kind = Kind::Keyword(Keyword::Reply);
+
+const YES: Kind = Kind::Keyword(Keyword::Yes);
+
+const NO: Kind = Kind::Keyword(Keyword::No);
+
 /// What stands behind the words of a line.
 #[derive(Clone, Copy, Debug, PartialEq, Eq)]
 pub enum Tail {
@@ -204,22 +210,11 @@ pub fn row_of(line: Line) -> Row
         Line::Action => call(&[Kind::Core, Kind::Count, Kind::Keyword(Keyword::Action)]),
         Line::Reply => words(
             Keyword::Received,
-            &[
-                Kind::Core,
-                Kind::Count,
-                Kind::Keyword(Keyword::Reply),
-                Kind::Status,
-            ],
+            &[Kind::Core, Kind::Count, REPLY, Kind::Status],
         ),
         Line::Value => words(
             Keyword::Received,
-            &[
-                Kind::Core,
-                Kind::Count,
-                Kind::Keyword(Keyword::Reply),
-                Kind::Status,
-                Kind::Value,
-            ],
+            &[Kind::Core, Kind::Count, REPLY, Kind::Status, Kind::Value],
         ),
         Line::On => words(Keyword::On, &[]),
         Line::Began => words(Keyword::Began, &[Kind::Core, Kind::Status]),
@@ -234,14 +229,8 @@ pub fn row_of(line: Line) -> Row
             tail: Tail::Cores,
         },
         Line::Granted => words(Keyword::Granted, &[Kind::Spinlock]),
-        Line::Taken => words(
-            Keyword::Tried,
-            &[Kind::Spinlock, Kind::Keyword(Keyword::Yes)],
-        ),
-        Line::NotTaken => words(
-            Keyword::Tried,
-            &[Kind::Spinlock, Kind::Keyword(Keyword::No)],
-        ),
+        Line::Taken => words(Keyword::Tried, &[Kind::Spinlock, YES]),
+        Line::NotTaken => words(Keyword::Tried, &[Kind::Spinlock, NO]),
         Line::Freed => words(Keyword::Freed, &[Kind::Spinlock]),
         Line::Halt => words(Keyword::Halt, &[Kind::Core, Kind::Status]),
         Line::Drained => words(Keyword::Drained, &[]),
