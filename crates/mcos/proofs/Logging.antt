@@ -2,8 +2,6 @@
 use Rattle.std.proofs.Common.{◌≡◌, ◌≢◌, ◌∙◌, ℕ, true, List, Option, Some, Result, Ok, Err, refl, sym}
 use Rattle.std.specs.Prelude.{IfErr}
 use Rattle.osbase.specs.declared.references.CoreId.{CoreId}
-use Rattle.osbase.specs.declared.turns.Choice.{Choice}
-use Rattle.osbase.specs.declared.turns.CoreStimuli.{CoreStimuli}
 use Rattle.osbase.specs.declared.turns.Report.{Report}
 use Rattle.osplan.specs.declared.plans.Plan.{Plan}
 use Rattle.ostrace.specs.declared.sinks.WriteFailed.{WriteFailed as SinkFailed}

@@ -1,6 +1,8 @@
 -- What was read of a job's files, and what stays of it.
-use Rattle.std.proofs.Common.{◌≡◌, ◌≢◌, ◌+◌, ◌≤◌, ◌∙◌, ap, arith, refl, ℕ, List, Option, Some, None, Result, Ok, Vec, length, option_map, option_and_then, slice_get}
-use Rattle.std.proofs.lemmas.Option.{slice_get_within}
+use Rattle.std.proofs.Common.{◌≡◌, ◌≢◌, ◌⊎◌, ◌+◌, ◌<◌, ◌≤◌, ◌∙◌, inl, inr, ap, arith, refl, ℕ, List, Option, Some, None, Result, Ok, Vec, length, get_or, option_map, option_and_then, slice_get}
+use Rattle.std.specs.List.{Contains}
+use Rattle.std.proofs.lemmas.Bool.{cases_lt}
+use Rattle.std.proofs.lemmas.Option.{slice_get-get_or, slice_get_within}
 use Rattle.std.specs.declared.alloc.Global.{Global}
 use Rattle.osbase.specs.declared.turns.CoreStimuli.{CoreStimuli}
 use Rattle.osplan.specs.declared.plans.Plan.{Plan}
@@ -46,3 +48,17 @@ Means-there meaning files at x means = by (slice_get files at) refl means
     by : (o : Option File) → slice_get files at ≡ o → Means meaning (text_in (option_map (λ (bytes : Vec ℕ Global). bytes.items) (option_and_then (λ (file : File). file) o))) x → at + 1 ≤ length files
     by None e none = absurd none
     by (Some file) e means = let within = slice_get_within files at file e in omega arith
+
+-- What is not there where all before it was read: all files were read, or one of them could not be.
+pub absent-asked : (count : ℕ) (files : List File) (at : ℕ) → (at < count → at < length files) → at ≤ length files → None ≡ bytes_at files at → (count ≤ length files) ⊎ Contains files None
+absent-asked count files at read next absent = elim (cases_lt at (length files)) as (λ _. (count ≤ length files) ⊎ Contains files None) [
+  | inl within ↦ inr (at, within, by (get_or files at None) refl (absent ∙ ap (λ (o : Option File). option_map (λ (bytes : Vec ℕ Global). bytes.items) (option_and_then (λ (file : File). file) o)) (slice_get-get_or files at None within)))
+  | inr past ↦ elim (cases_lt at count) as (λ _. (count ≤ length files) ⊎ Contains files None) [
+    | inl wanted ↦ let within = read wanted in absurd (omega arith)
+    | inr read_all ↦ inl (omega arith)
+  ]
+]
+  where
+    by : (file : File) → get_or files at None ≡ file → None ≡ option_map (λ (bytes : Vec ℕ Global). bytes.items) file → get_or files at None ≡ None
+    by None is e = is
+    by (Some bytes) is e = cc

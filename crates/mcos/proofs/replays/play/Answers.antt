@@ -13,7 +13,7 @@ returns-in-Ok g c =
 pub returns-in-Err-ItemRefused : goal.returns-in-Err-ItemRefused
 returns-in-Err-ItemRefused g c =
     let report = c.in-Err-ItemRefused.report in
-    prints (block_of c.args.config.now report) (Err (ItemRefused c.in-Err-ItemRefused.number)) (record { report = report; text_is = refl; ends = c.in-Err-ItemRefused.ensures.fault }) c.print.ensures
+    prints (block_of c.args.config.now report) (Err (ItemRefused c.in-Err-ItemRefused.number)) (record { report = report; text_is = refl; ends = rw c.in-Err-ItemRefused.field-0-is at c.in-Err-ItemRefused.ensures.fault }) c.print-in-Err-ItemRefused.ensures
 
 pub returns : goal.returns
 returns g c = fails NoMemoryToRun refl refl refl

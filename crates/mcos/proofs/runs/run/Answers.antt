@@ -2,7 +2,7 @@ use Rattle.std.proofs.Common.{Ok, refl}
 use Rattle.std.proofs.lemmas.Result.{err_from_is_err_and}
 use Rattle.osturn.specs.Ends.{have_all_ended}
 use Rattle.mcos.specs.Performs.{broken_off, fails, outcome_of, prints}
-use Rattle.mcos.specs.Runs.{printed_text, run_text}
+use Rattle.mcos.specs.Runs.{run_text}
 use Rattle.mcos.proofs.Logging.{log-comes, written-asked}
 use Rattle.mcos.proofs.runs.run.Goals as goal
 
@@ -63,10 +63,12 @@ returns g c =
     let used = c.in_ok-config.ensures.input in
     let plan = c.in_ok-config.config in
     let reports = c.in_ok-reports.reports.items in
-    let played = record { stimuli = c.in_ok-config.stimuli; turns = c.in_ok-config.turns; input = used.comes.0; are = c.in_ok-reports.ensures } in
     record {
       last = used.last;
-      comes = rw c.in-Some.is (log-comes _ _ _ _ _ _ plan reports c.in-Some.core _ _ played (rw c.in-Some.is at used.comes.1) used.comes.0 (rw c.as_slice.ensures.value at c.print_log.ensures));
+      comes = rw c.in-Some.is
+          (log-comes _ _ _ _ _ _ plan reports c.in-Some.core _ _
+          (record { stimuli = c.in_ok-config.stimuli; turns = c.in_ok-config.turns; input = used.comes.0; are = c.in_ok-reports.ensures })
+          (rw c.in-Some.is at used.comes.1) used.comes.0 (rw c.as_slice-in-Some.ensures.value at c.print_log.ensures));
       stops = used.stops;
       named = used.named;
       known_is = used.known_is;
