@@ -1,4 +1,5 @@
 -- The text of items, and the items of a text.
+use Rattle.std.proofs.lemmas.Option.{same_Some}
 use Rattle.std.proofs.Common.{◌≡◌, ◌≢◌, ◌⊎◌, ℕ, ◌≤◌, ◌==◌, Bool, true, false, not, cond, nat_le, Some, None, option_map, option_and_then, List, [], ◌∷◌, ◌++◌, ◌+◌, length, map, IsTrue, IfOk, Result, Ok, Err, inl, inr, refl, sym, ap, ◌∙◌, arith}
 use Rattle.std.specs.List.{flat_map, join_with_byte, list_all, slice_split}
 use Rattle.std.proofs.lemmas.Bool.{and_from, and_parts, eqb-true, le-leb, not-true}
@@ -215,3 +216,7 @@ if-log plan limits expressible text (Err fault) e = e
 
 pub no-log : (plan : Plan) → IsTrue (is_within_limits plan) → IsTrue (is_expressible plan) → (text : List ℕ) → log_meant plan text ≡ None → (items : List Item) → IsLog plan text items → ⊥
 no-log plan limits expressible text none items log = let both : Some items ≡ None = sym (log-read plan limits expressible text items log) ∙ none in cc
+
+pub only-log : (plan : Plan) → IsTrue (is_within_limits plan) → IsTrue (is_expressible plan) → (text : List ℕ) (result : Result (List Item) LogFault) → IfOk result (λ items. log_meant plan text ≡ Some items) → IfOk result (λ items. (others : List Item) → IsLog plan text others → others ≡ items)
+only-log plan limits expressible text (Ok items) e = λ others log. same_Some _ _ (sym (log-read plan limits expressible text others log) ∙ e)
+only-log plan limits expressible text (Err fault) e = e

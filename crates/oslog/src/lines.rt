@@ -63,6 +63,8 @@ pub fn read_log(
 ) -> Result<List<Item>, LogFault>
     requires { IsSome (core_of config.now _core) }
     ensures ok { IfOk result (IsLog config.now text.now) }
+    // No other items have this text.
+    ensures only { IfOk result (λ items. (others : ListOf ItemValue) → IsLog config.now text.now others → others ≡ items) }
     ensures bad { result ≡ Err LogFault.BadLog → (items : ListOf ItemValue) → IsLog config.now text.now items → ⊥ }
 {
     let names = NameIndex::new(alloc, config)?;
