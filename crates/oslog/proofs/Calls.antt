@@ -1,13 +1,16 @@
--- The call of an operation's words has these words.
-use Rattle.std.proofs.Common.{rules, inl, inr, ◌≡◌, ℕ, ◌+◌, ◌-◌, ◌<◌, ◌≤◌, ◌^◌, ◌==◌, ◌&&◌, nat_le, ℤ, pos, Bool, true, false, cond, Option, Some, None, option_map, option_and_then, unwrap_or, List, [], ◌∷◌, ◌++◌, map, length, codes, refl, sym, ap, subst, ◌∙◌, arith}
+-- The call of an operation's words has these words, and a call's words say the call.
+use Rattle.std.proofs.Common.{rules, inl, inr, ◌≡◌, ℕ, ◌+◌, ◌-◌, ◌≤◌, ◌==◌, ◌&&◌, nat_le, true, cond, Option, Some, None, option_and_then, unwrap_or, List, [], ◌∷◌, map, codes, refl, sym, ap, subst, IsTrue, ◌∙◌, arith}
 use Rattle.std.specs.Fmt.{decimal}
-use Rattle.std.specs.List.{list_all}
+use Rattle.std.specs.List.{join_with_byte, list_all}
 use Rattle.std.specs.Str.{bytes_eq}
-use Rattle.std.proofs.lemmas.Bool.{and_parts, leb-true, true≢false}
+use Rattle.std.proofs.lemmas.Bool.{and_from, and_parts, leb-true}
 use Rattle.std.proofs.lemmas.Fmt.{decimal_digit}
+use Rattle.std.proofs.lemmas.List.Splits.{join_with_byte-slice_split}
 use Rattle.std.proofs.lemmas.Slice.Eq.{bytes_eq-Decides}
 use Rattle.osbase.specs.Names.{is_name}
+use Rattle.osbase.specs.Objects.{object_of_call}
 use Rattle.osbase.specs.declared.messages.RemoteCall.{RemoteCall}
+use Rattle.osbase.specs.declared.objects.Object.{Object as ObjectOf}
 use Rattle.osbase.specs.declared.objects.ObjectKind.{ObjectKind}
 use Rattle.osbase.specs.declared.objects.Place.{Place}
 use Rattle.osbase.proofs.Same.{same_kind-true}
@@ -18,36 +21,47 @@ use Rattle.oscript.specs.declared.rows.Kind.{Kind}
 use Rattle.oscript.specs.declared.rows.TheConstants.{VERBS}
 use Rattle.oscript.specs.declared.rows.Verb.{Verb}
 use Rattle.oscript.specs.Calls.{named_call, op_of_call}
-use Rattle.oscript.specs.Rows.{are_of, form_of_op, has_event, has_masks, kinds_of, op_of, word_of}
+use Rattle.oscript.specs.Rows.{are_of, form_of_op, has_event, has_masks, is_in_form, kinds_of, objects_in, objects_of, op_of, word_of}
+use Rattle.oscript.proofs.Acting.{call-back as table-back, call-objects}
 use Rattle.osforms.specs.Call.{call_words, form_words}
-use Rattle.osforms.specs.Form.{arg_of, arg_text, args_of, form_of_verb, form_of_words, verb_of}
-use Rattle.osforms.specs.Operation.{named, resolve_arg, resolve_args, resolved}
+use Rattle.osforms.specs.Form.{arg_of, arg_text, args_of, form_of_verb, form_of_words, verb_of, words_of}
+use Rattle.osforms.specs.Operation.{named, op_text, resolve_arg, resolve_args, resolved}
 use Rattle.osforms.specs.Word.{is_decimal, mask_of, number_in, target_of, variable_of, int_of}
 use Rattle.osforms.proofs.Fitting.{args-fit, formed-args}
+use Rattle.osforms.proofs.Joining.{has_none}
 use Rattle.osforms.proofs.KindTexts.{cond-some, either, is_kind, mapped}
+use Rattle.osforms.proofs.Operations.{IsNamed, text-meant, text-none}
 use Rattle.osforms.proofs.RoundTrip.{both, chained}
 use Rattle.osforms.proofs.Rows.{is-row}
 use Rattle.osplan.proofs.Tests.{find-holds}
+use Rattle.osplan.specs.Expressible.{is_expressible}
+use Rattle.osplan.specs.Limits.{is_object, is_within_limits}
 use Rattle.osplan.specs.Names.{name_of}
 use Rattle.osplan.specs.declared.plans.Plan.{Plan}
 use Rattle.oslog.specs.Naming.{if_object, name_of_named, named_by, place_named}
 use Rattle.oslog.specs.Words.{call_in, call_of, op_said}
 use Rattle.oslog.specs.declared.names.Named.{Named}
 use Rattle.oslog.specs.declared.names.Named.TheVariants as N
-use Rattle.oslog.proofs.Kinds.{int-word, named-is, number-word}
+use Rattle.oslog.specs.Logs.{is_call_representable}
+use Rattle.oslog.proofs.WordKinds.{int-word, named-is, number-word}
+use Rattle.oslog.proofs.Joining.{end-apart, joined-parts, split-none}
+use Rattle.oslog.proofs.Named.{is_there, named-formed, named-there, place-found}
 
 -- ---- names
 
-object-is : (plan : Plan) (kind : ObjectKind) (n : Named) (found : Place) → if_object kind n ≡ Some found → name_of_named plan n ≡ name_of plan kind found
-object-is plan kind (N.Object object) found e =
+object-is : (kind : ObjectKind) (n : Named) (found : Place) → if_object kind n ≡ Some found → n ≡ N.Object (record { kind = kind; place = found })
+object-is kind (N.Object object) found e =
     let c = cond-some _ (Some object.place) found e in
     let place : object.place ≡ found = cc in
-    ap (λ (k : ObjectKind). name_of plan k object.place) (same_kind-true object.kind kind c.0) ∙ ap (name_of plan kind) place
-object-is plan kind (N.Mode mode) found e = cc
-object-is plan kind (N.Isr isr) found e = cc
+    ap (λ (k : ObjectKind). let n : Named = N.Object (record { kind = k; place = object.place }) in n) (same_kind-true object.kind kind c.0)
+    ∙ ap (λ (p : Place). let n : Named = N.Object (record { kind = kind; place = p }) in n) place
+object-is kind (N.Mode mode) found e = cc
+object-is kind (N.Isr isr) found e = cc
 
-pub place-spells : (plan : Plan) (kind : ObjectKind) (name : List ℕ) (found : Place) → place_named plan kind name ≡ Some found → name_of plan kind found ≡ name
-place-spells plan kind name found e = let c = chained (if_object kind) (named_by plan name) found e in sym (object-is plan kind c.0 found c.2) ∙ named-is plan name c.0 c.1
+-- an operation that calls for an object is the one that a script has for that call
+call-op : (op : Op) (call : RemoteCall) → named_call op ≡ Some call → op ≡ op_of_call call
+call-op Op.Work call e = cc
+call-op op call e = grind arith
 
 -- ---- arguments
 
@@ -76,9 +90,12 @@ variable-word (v ∷ d ∷ []) x e =
     ap (λ (ds : List ℕ). 118 ∷ ds) (decimal_digit x (omega (arith, is, most)) ∙ ap (λ (b : ℕ). b ∷ []) digit) ∙ ap (λ (b : ℕ). b ∷ d ∷ []) (sym letter)
 variable-word (v ∷ d ∷ f ∷ fs) x e = cc
 
-module _ (plan : Plan) where
-  place : ObjectKind → List ℕ → Option Place
-  place = place_named plan
+module _ (plan : Plan) (limits : IsTrue (is_within_limits plan)) (expressible : IsTrue (is_expressible plan)) where
+  place-spells : (kind : ObjectKind) (name : List ℕ) (found : Place) → place_named plan kind name ≡ Some found → name_of plan kind found ≡ name
+  place-spells kind name found e = let c = chained (if_object kind) (named_by plan name) found e in ap (name_of_named plan) (sym (object-is kind c.0 found c.2)) ∙ named-is plan name c.0 c.1
+
+  place-there : (kind : ObjectKind) (name : List ℕ) (found : Place) → place_named plan kind name ≡ Some found → is_object plan (record { kind = kind; place = found }) ≡ true
+  place-there kind name found e = let c = chained (if_object kind) (named_by plan name) found e in ap (is_there plan) (sym (object-is kind c.0 found c.2)) ∙ named-there plan limits expressible name c.0 c.1
 
   target-word : (k : ObjectKind) (w : List ℕ) (t : Option (List ℕ)) (b : Arg Place) → target_of w ≡ Some t → resolve_arg (place_named plan) (Object k t) ≡ Some b → arg_text (named (name_of plan) b) ≡ w
   target-word k w t b e r =
@@ -93,7 +110,7 @@ module _ (plan : Plan) where
             let some : Some w ≡ t = cc in
             let found : resolve_arg (place_named plan) (Object k (Some w)) ≡ Some b = subst (λ (t : Option (List ℕ)). resolve_arg (place_named plan) (Object k t) ≡ Some b) (sym some) r in
             let m = mapped (λ at. Object k (Some at)) (place_named plan k w) b found in
-            ap (λ (b : Arg Place). arg_text (named (name_of plan) b)) (sym m.2) ∙ place-spells plan k w m.0 m.1
+            ap (λ (b : Arg Place). arg_text (named (name_of plan) b)) (sym m.2) ∙ place-spells k w m.0 m.1
       ]
 
   arg-word : (k : Kind) (w : List ℕ) (a : Arg (List ℕ)) (b : Arg Place) → is_kind k ≡ true → arg_of k w ≡ Some a → resolve_arg (place_named plan) a ≡ Some b → has_event b ≡ true → arg_text (named (name_of plan) b) ≡ w
@@ -140,6 +157,23 @@ module _ (plan : Plan) where
       ∙ ap (λ (text : List ℕ). text ∷ map (λ (a : Arg Place). arg_text (named (name_of plan) a)) n.1) (arg-word k w m.0 n.0 fits.0 m.2 n.2 events.0)
       ∙ ap (λ (texts : List (List ℕ)). w ∷ texts) (args-words ks ws m.1 n.1 fits.1 m.3 n.3 events.1)
 
+  -- each object is there
+  arg-there : (shown : Arg (List ℕ)) (arg : Arg Place) (args : List (Arg Place)) → resolve_arg (place_named plan) shown ≡ Some arg → list_all (is_object plan) (objects_in args) ≡ true → list_all (is_object plan) (objects_in (arg ∷ args)) ≡ true
+  arg-there (Object kind None) arg args e all = let is : Object kind None ≡ arg = cc in rw (← is) all
+  arg-there (Object kind (Some name)) arg args e all =
+      let m = mapped (λ found. Object kind (Some found)) (place_named plan kind name) arg e in
+      rw (← m.2) (and_from _ _ (place-there kind name m.0 m.1) all)
+  arg-there (Mask mask) arg args e all = let is : Mask mask ≡ arg = cc in rw (← is) all
+  arg-there (Number n) arg args e all = let is : Number n ≡ arg = cc in rw (← is) all
+  arg-there (Int z) arg args e all = let is : Int z ≡ arg = cc in rw (← is) all
+  arg-there (Variable x) arg args e all = let is : Variable x ≡ arg = cc in rw (← is) all
+
+  args-there : (shown : List (Arg (List ℕ))) (args : List (Arg Place)) → resolve_args (place_named plan) shown ≡ Some args → list_all (is_object plan) (objects_in args) ≡ true
+  args-there [] args e = let is : [] ≡ args = cc in rw (← is) refl
+  args-there (a ∷ shown) args e =
+      let m = both (resolve_arg (place_named plan) a) (resolve_args (place_named plan) shown) args e in
+      rw (← m.4) (arg-there a m.0 m.1 m.2 (args-there shown m.1 m.3))
+
   -- ---- operations
 
   -- the words of a form that words say are these
@@ -154,8 +188,14 @@ module _ (plan : Plan) where
       ∙ ap (λ (word : List ℕ). word ∷ map (λ (a : Arg Place). arg_text (named (name_of plan) a)) args) verb
       ∙ ap (λ (texts : List (List ℕ)). w ∷ texts) (args-words (kinds_of c.0) ws m.0 args (is-row c.0).2 m.1 shown some)
 
-  op-words : (words : List (List ℕ)) (op : Op) → op_said plan words ≡ Some op → has_masks op ≡ true → form_words (name_of plan) (form_of_op op) ≡ words
-  op-words words op e masks =
+  -- What words say of an operation whose masks have events.
+  record OpBack (words : List (List ℕ)) (op : Op) : Type 0 where
+    words_are : form_words (name_of plan) (form_of_op op) ≡ words
+    in_form : is_in_form op ≡ true
+    there : list_all (is_object plan) (objects_of op) ≡ true
+
+  op-back : (words : List (List ℕ)) (op : Op) → op_said plan words ≡ Some op → has_masks op ≡ true → OpBack words op
+  op-back words op e masks =
       let m = mapped op_of (option_and_then (resolved (place_named plan)) (form_of_words words)) op e in
       let c = chained (resolved (place_named plan)) (form_of_words words) m.0 m.1 in
       let r = mapped (λ args. (c.0.0, args)) (resolve_args (place_named plan) c.0.1) m.0 c.2 in
@@ -164,16 +204,54 @@ module _ (plan : Plan) where
       let back : op ≡ op_of (c.0.0, r.0) = sym m.2 ∙ ap op_of (sym r.2) in
       let verb : (form_of_op op).0 ≡ c.0.0 = ap (λ (o : Op). (form_of_op o).0) back ∙ (is-row c.0.0).3 r.0 in
       let args : (form_of_op op).1 ≡ r.0 = ap (λ (o : Op). (form_of_op o).1) back ∙ (is-row c.0.0).4 r.0 fit in
-      ap (λ (v : Verb). form_words (name_of plan) (v, (form_of_op op).1)) verb
-      ∙ ap (λ (as_ : List (Arg Place)). form_words (name_of plan) (c.0.0, as_)) args
-      ∙ form-said words c.0 r.0 c.1 r.1 (ap (list_all has_event) (sym args) ∙ masks)
+      record {
+        words_are =
+            ap (λ (v : Verb). form_words (name_of plan) (v, (form_of_op op).1)) verb
+            ∙ ap (λ (as_ : List (Arg Place)). form_words (name_of plan) (c.0.0, as_)) args
+            ∙ form-said words c.0 r.0 c.1 r.1 (ap (list_all has_event) (sym args) ∙ masks);
+        in_form = rw (verb, args) fit;
+        there = ap (λ (as_ : List (Arg Place)). list_all (is_object plan) (objects_in as_)) args ∙ args-there c.0.1 r.0 r.1;
+      }
 
--- an operation's call is that of its object
-call-op : (op : Op) (call : RemoteCall) → named_call op ≡ Some call → op ≡ op_of_call call
-call-op op call e = grind arith
+  -- a call that is read has these words, and is representable
+  pub call-back : (words : List (List ℕ)) (call : RemoteCall) → call_of plan words ≡ Some call → (call_words (name_of plan) call ≡ words) × (is_call_representable plan call ≡ true)
+  call-back words call e =
+      let c = chained call_in (op_said plan words) call e in
+      let m = cond-some (has_masks c.0) (named_call c.0) call c.2 in
+      let op = call-op c.0 call m.1 in
+      let back = op-back words c.0 c.1 m.0 in
+      let object : list_all (is_object plan) (object_of_call call ∷ []) ≡ true = ap (list_all (is_object plan)) (sym (call-objects call)) ∙ ap (λ (o : Op). list_all (is_object plan) (objects_of o)) (sym op) ∙ back.there in (
+        ap (λ (o : Op). form_words (name_of plan) (form_of_op o)) (sym op) ∙ back.words_are,
+        and_from _ _ (and_from _ _ (ap is_in_form (sym op) ∙ back.in_form) (ap has_masks (sym op) ∙ m.0)) (and_parts (is_object plan (object_of_call call)) true object).0,
+      )
 
-pub call-words : (plan : Plan) (words : List (List ℕ)) (call : RemoteCall) → call_of plan words ≡ Some call → call_words (name_of plan) call ≡ words
-call-words plan words call e =
-    let c = chained call_in (op_said plan words) call e in
-    let m = cond-some (has_masks c.0) (named_call c.0) call c.2 in
-    ap (λ (op : Op). form_words (name_of plan) (form_of_op op)) (sym (call-op c.0 call m.1)) ∙ op-words plan words c.0 c.1 m.0
+  -- ---- from a call to its words and back
+
+  named-back : (object : ObjectOf) → is_object plan object ≡ true → IsNamed (place_named plan) (name_of plan) object
+  named-back object is =
+      let found = place-found plan limits expressible object is in
+      let c = chained (if_object object.kind) (named_by plan (name_of plan object.kind object.place)) object.place found in
+      record { in_form = named-formed plan limits expressible (name_of plan object.kind object.place) c.0 c.1; found = found }
+
+  -- A representable call is what its words say; none of these has a space or a line end.
+  pub record CallRead (call : RemoteCall) : Type 0 where
+    pub read : call_of plan (call_words (name_of plan) call) ≡ Some call
+    pub no_space : list_all (has_none 32) (call_words (name_of plan) call) ≡ true
+    pub no_end : list_all (has_none 10) (call_words (name_of plan) call) ≡ true
+
+  pub call-read : (call : RemoteCall) → is_call_representable plan call ≡ true → CallRead call
+  call-read call representable =
+      let op = op_of_call call in
+      let text = op_text (name_of plan) op in
+      let object = and_parts (is_in_form op && has_masks op) (is_object plan (object_of_call call)) representable in
+      let parts = and_parts (is_in_form op) (has_masks op) object.0 in
+      let there : list_all (is_object plan) (objects_of op) ≡ true = ap (list_all (is_object plan)) (call-objects call) ∙ and_from _ _ object.1 refl in
+      let meant = text-meant (place_named plan) (name_of plan) (is_object plan) named-back op parts.0 parts.1 there in
+      let read : call_of plan (words_of text) ≡ Some call = ap (option_and_then call_in) meant ∙ rw parts.1 (table-back call) in
+      let words : call_words (name_of plan) call ≡ words_of text = (call-back (words_of text) call read).0 in
+      let plain = text-none (place_named plan) (name_of plan) (is_object plan) named-back 10 end-apart refl op parts.0 parts.1 there in
+      record {
+        read = ap (call_of plan) words ∙ read;
+        no_space = ap (list_all (has_none 32)) words ∙ split-none 32 text;
+        no_end = joined-parts 32 10 (call_words (name_of plan) call) (ap (has_none 10) (ap (join_with_byte 32) words ∙ join_with_byte-slice_split 32 text) ∙ plain);
+      }

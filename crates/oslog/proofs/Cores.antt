@@ -1,16 +1,28 @@
--- The numbers of a set's cores are the words that say it.
-use Rattle.std.proofs.Common.{rules, ◌≡◌, ◌≢◌, ℕ, zero, suc, ◌+◌, ◌-◌, ◌<◌, ◌≤◌, ◌&&◌, nat_lt, Bool, true, false, Option, Some, None, option_and_then, List, [], ◌∷◌, map, length, replicate, set, filter, refl, sym, ap, ◌∙◌, arith, get_or-set_other, get_or-set_same, length-set}
+-- The numbers of a set's cores are the words that say it, and back.
+use Rattle.std.proofs.Common.{rules, inl, inr, ◌≡◌, ◌≢◌, ℕ, zero, suc, ◌+◌, ◌-◌, ◌<◌, ◌≤◌, ◌&&◌, nat_lt, Bool, true, false, cond, Some, option_and_then, List, [], ◌∷◌, ◌++◌, map, length, replicate, set, filter, refl, sym, ap, ◌∙◌, arith, get_or-set_other, get_or-set_same, length-set}
+use Rattle.std.specs.Char.{is_ascii_digit}
 use Rattle.std.specs.Fmt.{decimal}
+use Rattle.std.specs.List.{list_all}
+use Rattle.std.proofs.lemmas.Bool.{cases_eq, ltb-true}
+use Rattle.std.proofs.lemmas.Fmt.{digits_decimal}
+use Rattle.std.proofs.lemmas.List.{append-nil, append_assoc, ext_get_or}
+use Rattle.std.proofs.lemmas.List.Folds.{list_all-map}
 use Rattle.osbase.specs.declared.items.CoreSet.{CoreSet}
 use Rattle.osbase.specs.declared.limits.TheConstants.{CORES}
 use Rattle.osbase.specs.declared.references.CoreId.{CoreId}
 use Rattle.osbase.specs.History.{no_cores}
-use Rattle.osbase.specs.Sets.{has_core, numbers_from}
+use Rattle.osbase.specs.Sets.{core_ids, has_core, numbers_from}
 use Rattle.osforms.specs.Word.{number_in}
+use Rattle.osforms.proofs.Joining.{all-none, has_none}
+use Rattle.osforms.proofs.KindTexts.{number-back}
+use Rattle.osforms.proofs.Numerals.{own}
 use Rattle.osforms.proofs.RoundTrip.{chained}
-use Rattle.osplan.proofs.Starting.{flag-read, no-flag}
+use Rattle.osplan.proofs.Starting.{flag-read, has_core-flag, no-flag}
+use Rattle.osplan.proofs.Tests.{all-filter, all-weaker}
+use Rattle.oslog.specs.Items.{led}
 use Rattle.oslog.specs.Words.{core_words, cores_from, with_core}
-use Rattle.oslog.proofs.Kinds.{number-within, number-word}
+use Rattle.oslog.proofs.Joining.{led-append}
+use Rattle.oslog.proofs.WordKinds.{number-within, number-word}
 
 abbrev pub at : ℕ → CoreId
 at n = record { number = n }
@@ -29,6 +41,35 @@ skip cores first (suc k) count none =
     let many : suc k + count ≡ suc (k + count) = omega arith in
     let on : first + suc k ≡ first + 1 + k = omega arith in
     rw (many, on, none first (omega arith) (omega arith)) (skip cores (first + 1) k count (λ n least most. none n (omega (arith, least)) (omega (arith, most))))
+
+-- ---- one number more
+
+from-more : (cores : CoreSet) (first count : ℕ) → words_from cores first (count + 1) ≡ words_from cores first count ++ words_from cores (first + count) 1
+from-more cores first zero = ap (λ n. words_from cores n 1) (let here : first ≡ first + 0 = omega arith in here)
+from-more cores first (suc count) =
+    let many : suc count + 1 ≡ suc (count + 1) = omega arith in
+    let on : first + suc count ≡ first + 1 + count = omega arith in
+    rw (many, on) (by (has_core cores (at first)) (from-more cores (first + 1) count))
+  where
+    by : (b : Bool) → words_from cores (first + 1) (count + 1) ≡ words_from cores (first + 1) count ++ words_from cores (first + 1 + count) 1
+        → map (λ (id : CoreId). decimal id.number) (cond b (at first ∷ filter (has_core cores) (map at (numbers_from (first + 1) (count + 1)))) (filter (has_core cores) (map at (numbers_from (first + 1) (count + 1)))))
+        ≡ map (λ (id : CoreId). decimal id.number) (cond b (at first ∷ filter (has_core cores) (map at (numbers_from (first + 1) count))) (filter (has_core cores) (map at (numbers_from (first + 1) count)))) ++ words_from cores (first + 1 + count) 1
+    by true rest = ap (λ (ws : List (List ℕ)). decimal first ∷ ws) rest
+    by false rest = rest
+
+pub core-more : (cores : CoreSet) (n : ℕ) (initial text : List ℕ) → has_core cores (at n) ≡ true → text ≡ initial ++ led (words_from cores 0 n) → text ++ 32 ∷ decimal n ≡ initial ++ led (words_from cores 0 (n + 1))
+core-more cores n initial text here is =
+    let there : 0 + n ≡ n = omega arith in
+    let one : words_from cores (0 + n) 1 ≡ decimal n ∷ [] = rw (there, here) refl in
+    let words : led (words_from cores 0 (n + 1)) ≡ led (words_from cores 0 n) ++ 32 ∷ decimal n
+    = ap led (from-more cores 0 n ∙ ap (λ (ws : List (List ℕ)). words_from cores 0 n ++ ws) one) ∙ led-append (words_from cores 0 n) (decimal n ∷ []) ∙ ap (λ (w : List ℕ). led (words_from cores 0 n) ++ w) (append-nil (32 ∷ decimal n)) in
+    ap (λ (t : List ℕ). t ++ 32 ∷ decimal n) is ∙ append_assoc initial (led (words_from cores 0 n)) (32 ∷ decimal n) ∙ ap (λ (w : List ℕ). initial ++ w) (sym words)
+
+pub no-core-more : (cores : CoreSet) (n : ℕ) (initial text : List ℕ) → has_core cores (at n) ≡ false → text ≡ initial ++ led (words_from cores 0 n) → text ≡ initial ++ led (words_from cores 0 (n + 1))
+no-core-more cores n initial text none is =
+    let there : 0 + n ≡ n = omega arith in
+    let one : words_from cores (0 + n) 1 ≡ [] = rw (there, none) refl in
+    is ∙ ap (λ (ws : List (List ℕ)). initial ++ led ws) (sym (from-more cores 0 n ∙ ap (λ (ws : List (List ℕ)). words_from cores 0 n ++ ws) one ∙ append-nil (words_from cores 0 n)))
 
 -- ---- one core more
 
@@ -54,6 +95,7 @@ none-there n = ap (λ (b : Bool). nat_lt n CORES && b) (flag-read (replicate 16 
 record Said (words : List (List ℕ)) (least count : ℕ) (old cores : CoreSet) : Type 0 where
   words_are : words_from cores least count ≡ words
   below : (n : ℕ) → n < least → has_core cores (at n) ≡ has_core old (at n)
+  long : length cores.members ≡ 16
 
 said : (words : List (List ℕ)) (least count : ℕ) (old cores : CoreSet) → least + count ≡ 16 → length old.members ≡ 16 → ((n : ℕ) → least ≤ n → has_core old (at n) ≡ false) → cores_from least old words ≡ Some cores → Said words least count old cores
 said [] least count old cores all long none e =
@@ -62,6 +104,7 @@ said [] least count old cores all long none e =
     record {
       words_are = ap (λ (n : ℕ). words_from cores least n) (sym many) ∙ skip cores least count 0 (λ n at_least most. ap (λ (c : CoreSet). has_core c (at n)) (sym same) ∙ none n at_least);
       below = λ n lt. ap (λ (c : CoreSet). has_core c (at n)) (sym same);
+      long = ap (λ (c : CoreSet). length c.members) (sym same) ∙ long;
     }
 said (w ∷ words) least count old cores all long none e =
     let c = chained (λ n. cores_from (n + 1) (with_core n old) words) (number_in least 15 w) cores e in
@@ -78,7 +121,60 @@ said (w ∷ words) least count old cores all long none e =
           ap (words_from cores least) many ∙ skipped ∙ ap (λ (m : ℕ). words_from cores m (suc (15 - n))) there
           ∙ rw here (ap (λ (word : List ℕ). word ∷ words_from cores (n + 1) (15 - n)) (number-word least 15 w n (omega arith) c.1) ∙ ap (λ (ws : List (List ℕ)). w ∷ ws) later.words_are);
       below = λ m lt. later.below m (omega (arith, lt, between.0)) ∙ has-other n m old (λ same. omega (arith, same, lt, between.0));
+      long = later.long;
     }
 
-pub cores-words : (words : List (List ℕ)) (cores : CoreSet) → cores_from 0 no_cores words ≡ Some cores → core_words cores ≡ words
-cores-words words cores e = (said words 0 16 no_cores cores refl refl (λ n least. none-there n) e).words_are
+pub cores-back : (words : List (List ℕ)) (cores : CoreSet) → cores_from 0 no_cores words ≡ Some cores → (core_words cores ≡ words) × (length cores.members ≡ 16)
+cores-back words cores e = let back = said words 0 16 no_cores cores refl refl (λ n least. none-there n) e in (back.words_are, back.long)
+
+-- ---- from a set to its words and back
+
+-- a set by its flags
+same-set : (a b : CoreSet) → length a.members ≡ 16 → length b.members ≡ 16 → ((n : ℕ) → n < 16 → has_core a (at n) ≡ has_core b (at n)) → a ≡ b
+same-set a b long also same =
+    ap (λ (members : List Bool). let s : CoreSet = record { members = members } in s)
+    (ext_get_or false a.members b.members (long ∙ sym also) (λ n lt. sym (has_core-flag a (at n) (omega (arith, lt, long))) ∙ same n (omega (arith, lt, long)) ∙ has_core-flag b (at n) (omega (arith, lt, long))))
+
+-- the first number of some is that of a core, or is not
+module _ (cores old : CoreSet) (first count least : ℕ) (all : first + suc count ≡ 16) (low : least ≤ first) (long : length old.members ≡ 16) (below : (n : ℕ) → n < first → has_core old (at n) ≡ has_core cores (at n)) (above : (n : ℕ) → first ≤ n → has_core old (at n) ≡ false) where
+  below-with : has_core cores (at first) ≡ true → (n : ℕ) → n < first + 1 → has_core (with_core first old) (at n) ≡ has_core cores (at n)
+  below-with here n lt = elim (cases_eq n first) as (λ _. has_core (with_core first old) (at n) ≡ has_core cores (at n)) [
+    | inl same ↦ ap (λ m. has_core (with_core first old) (at m)) same ∙ has-same first old (omega (arith, all, long)) (omega (arith, all)) ∙ sym here ∙ ap (λ m. has_core cores (at m)) (sym same)
+    | inr other ↦ has-other first n old other ∙ below n (omega (arith, lt, other))
+  ]
+
+  below-without : has_core cores (at first) ≡ false → (n : ℕ) → n < first + 1 → has_core old (at n) ≡ has_core cores (at n)
+  below-without here n lt = elim (cases_eq n first) as (λ _. has_core old (at n) ≡ has_core cores (at n)) [
+    | inl same ↦ ap (λ m. has_core old (at m)) same ∙ above first (omega arith) ∙ sym here ∙ ap (λ m. has_core cores (at m)) (sym same)
+    | inr other ↦ below n (omega (arith, lt, other))
+  ]
+
+  above-with : (n : ℕ) → first + 1 ≤ n → has_core (with_core first old) (at n) ≡ false
+  above-with n at_least = has-other first n old (λ same. omega (arith, same, at_least)) ∙ above n (omega (arith, at_least))
+
+  with-first : (b : Bool) → has_core cores (at first) ≡ b → (has_core cores (at first) ≡ true → cores_from (first + 1) (with_core first old) (words_from cores (first + 1) count) ≡ Some cores)
+      → (has_core cores (at first) ≡ false → cores_from least old (words_from cores (first + 1) count) ≡ Some cores) → cores_from least old (words_from cores first (suc count)) ≡ Some cores
+  with-first true here there none =
+      let number = number-back least 15 first low (omega (arith, all)) (omega (arith, all)) in
+      rw here (ap (option_and_then (λ n. cores_from (n + 1) (with_core n old) (words_from cores (first + 1) count))) number ∙ there here)
+  with-first false here there none = rw here (none here)
+
+read : (cores : CoreSet) (first count least : ℕ) (old : CoreSet) → first + count ≡ 16 → least ≤ first → length cores.members ≡ 16 → length old.members ≡ 16 → ((n : ℕ) → n < first → has_core old (at n) ≡ has_core cores (at n)) → ((n : ℕ) → first ≤ n → has_core old (at n) ≡ false)
+    → cores_from least old (words_from cores first count) ≡ Some cores
+read cores first zero least old all low long long-old below above = ap Some (same-set old cores long-old long (λ n lt. below n (omega (arith, lt, all))))
+read cores first (suc count) least old all low long long-old below above =
+    with-first cores old first count least all low long-old below above (has_core cores (at first)) refl
+    (λ here. read cores (first + 1) count (first + 1) (with_core first old) (omega (arith, all)) (omega arith) long (length-set old.members first true ∙ long-old)
+    (below-with cores old first count least all low long-old below above here) (above-with cores old first count least all low long-old below above))
+    (λ here. read cores (first + 1) count least old (omega (arith, all)) (omega (arith, low)) long long-old
+    (below-without cores old first count least all low long-old below above here) (λ n at_least. above n (omega (arith, at_least))))
+
+pub cores-read : (cores : CoreSet) → length cores.members ≡ 16 → cores_from 0 no_cores (core_words cores) ≡ Some cores
+cores-read cores long = read cores 0 16 0 no_cores refl (omega arith) long refl (λ n lt. absurd (omega (arith, lt))) (λ n least. none-there n)
+
+-- no word has a byte that no digit is
+pub cores-none : (byte : ℕ) (cores : CoreSet) → is_ascii_digit byte ≡ false → list_all (has_none byte) (core_words cores) ≡ true
+cores-none byte cores other =
+    list_all-map (has_none byte) (λ (id : CoreId). decimal id.number) (filter (has_core cores) core_ids)
+    ∙ all-filter (λ (id : CoreId). has_none byte (decimal id.number)) (has_core cores) core_ids
+    (all-weaker (λ (id : CoreId). nat_lt id.number 16) (λ (id : CoreId). has_none byte (decimal id.number)) (λ id low. let below = ltb-true id.number 16 low in all-none is_ascii_digit byte (decimal id.number) other (digits_decimal own id.number (omega arith))) core_ids refl)

@@ -1,7 +1,12 @@
-mod Kinds
-mod Reading
+mod Joining
+mod Named
+mod WordKinds
+mod ReadWords
 mod Naming
-mod Lines
+mod Steps
 mod Calls
 mod Cores
 mod Sound
+mod Complete
+mod Texts
+mod ItemText

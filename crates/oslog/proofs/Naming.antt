@@ -1,17 +1,44 @@
--- Making an index, from the last name on.
-use Rattle.std.proofs.Common.{◌≡◌, ℕ, ◌+◌, ◌<◌, Bool, cond, List, ◌∷◌, length, drop, get_or, Some, refl, sym, ap, subst, ◌∙◌}
+-- The list of all that has a name, and its index, made from the last name on.
+use Rattle.std.proofs.Common.{◌≡◌, ℕ, zero, suc, ◌+◌, ◌<◌, cond, List, [], ◌∷◌, ◌++◌, length, map, drop, get_or, nat_lt, true, Some, sym, ap, subst, ◌∙◌, add-one, append_assoc, arith}
 use Rattle.std.specs.Borrow.{Bor}
 use Rattle.std.specs.HashMap.{HashMap}
 use Rattle.std.specs.Map.{update}
 use Rattle.std.specs.Str.{bytes_eq}
+use Rattle.std.proofs.lemmas.Bool.{and_parts, ltb-true}
+use Rattle.std.proofs.lemmas.List.{get_or_default}
+use Rattle.osbase.specs.Sets.{numbers_from}
 use Rattle.osread.proofs.Each.{drop-here}
+use Rattle.osbase.specs.declared.objects.Object.{Object}
+use Rattle.osbase.specs.declared.objects.ObjectKind.{ObjectKind}
+use Rattle.osplan.specs.Objects.{is_own_object, object_count}
+use Rattle.osplan.specs.declared.plans.Core.{Core}
 use Rattle.osplan.specs.declared.plans.Plan.{Plan}
-use Rattle.oslog.specs.Naming.{Indexes, index_in, name_of_named, named_among}
+use Rattle.oslog.specs.Naming.{Indexes, index_in, name_of_named, object_at}
 use Rattle.oslog.specs.declared.names.Named.{Named}
+use Rattle.oslog.specs.declared.names.Named.TheVariants as N
 
 -- one more in front of those that are indexed
-pub one-more : {S : Type 0} (plan : Plan) (all : List Named) (n : Named) (place : ℕ) (old new : HashMap (Bor (List ℕ)) Named S) → place < length all → n ≡ get_or all place n → Indexes plan old (drop (place + 1) all)
-    → ((name : List ℕ) → index_in new name ≡ update bytes_eq (index_in old) (name_of_named plan n) (Some n) name) → Indexes plan new (drop place all)
-one-more plan all n place old new within is so_far updates =
-    subst (Indexes plan new) (sym (drop-here all n place within is))
+pub one-more : {S : Type 0} (plan : Plan) (all : List Named) (d : Named) (place : ℕ) (old new : HashMap (Bor (List ℕ)) Named S) → place < length all → Indexes plan old (drop (place + 1) all)
+    → ((name : List ℕ) → index_in new name ≡ update bytes_eq (index_in old) (name_of_named plan (get_or all place d)) (Some (get_or all place d)) name) → Indexes plan new (drop place all)
+one-more plan all d place old new within so_far updates =
+    let n = get_or all place d in
+    subst (Indexes plan new) (sym (drop-here all place n within (get_or_default all place d n within)))
     (λ name. updates name ∙ ap (cond (bytes_eq (name_of_named plan n) name) (Some n)) (so_far name))
+
+-- an object that the core has stands below their number
+pub own-within : (core : Core) (kind : ObjectKind) (i : ℕ) (object : Object) → N.Object object ≡ object_at core kind i → is_own_object core object ≡ true → i < object_count kind core
+own-within core kind i object is own =
+    let same : object ≡ record { kind = kind; place = record { core = core.id; index = i } } = cc in
+    ltb-true i (object_count kind core) (and_parts _ (nat_lt i (object_count kind core)) (ap (is_own_object core) (sym same) ∙ own)).1
+
+-- one place more
+pub place-more : {A : Type 0} (at : ℕ → A) (count : ℕ) → map at (numbers_from 0 (count + 1)) ≡ map at (numbers_from 0 count) ++ at count ∷ []
+place-more {A} at count = ap (λ n. map at (numbers_from 0 n)) (add-one count) ∙ from 0 count count (omega arith)
+  where
+    from : (first many last : ℕ) → last ≡ first + many → map at (numbers_from first (suc many)) ≡ map at (numbers_from first many) ++ at last ∷ []
+    from first zero last is = ap (λ n. at n ∷ []) (let here : first ≡ last = omega (arith, is) in here)
+    from first (suc many) last is = ap (λ xs. at first ∷ xs) (from (first + 1) many last (omega (arith, is)))
+
+pub one-pushed : {A : Type 0} (at : ℕ → A) (count : ℕ) (initial old : List A) → old ≡ initial ++ map at (numbers_from 0 count) → old ++ at count ∷ [] ≡ initial ++ map at (numbers_from 0 (count + 1))
+one-pushed at count initial old is =
+    ap (λ xs. xs ++ at count ∷ []) is ∙ append_assoc initial (map at (numbers_from 0 count)) (at count ∷ []) ∙ ap (λ xs. initial ++ xs) (sym (place-more at count))

@@ -1,11 +1,10 @@
 -- Items as forms: which form an item has, with the parts of its line, and the item of them again. [own]
-use Rattle.std.specs.Prelude.{ℕ, pos, true, false, if◌then◌else◌, Some, None}
+use Rattle.std.specs.Prelude.{pos, true, false, if◌then◌else◌, Some, None}
 use Rattle.osbase.specs.History.{no_cores}
 use Rattle.osbase.specs.declared.items.Agreement.TheVariants as Agreement
 use Rattle.osbase.specs.declared.items.Item.{Item}
 use Rattle.osbase.specs.declared.items.Stimulus.TheVariants as Stimulus
 use Rattle.osbase.specs.declared.messages.Message.{Message}
-use Rattle.osbase.specs.declared.messages.Message.TheVariants as Message
 use Rattle.osbase.specs.declared.statuses.Status.TheVariants.{EOk}
 use Rattle.oscript.specs.Calls.{any_action}
 use Rattle.oslog.specs.declared.forms.Parts.{Parts}
@@ -38,7 +37,7 @@ item_of L.Posted parts = Item.Posted parts.core
 item_of L.Request parts = received parts (Message.Request parts.call)
 item_of L.Action parts = received parts (Message.Action parts.call)
 item_of L.Reply parts = received parts (Message.Reply parts.status)
-item_of L.Value parts = received parts (Message.Value parts.value)
+item_of L.Value parts = received parts (Message.Value parts.status parts.value)
 item_of L.On parts = Item.On
 item_of L.Began parts = Item.Began parts.core parts.status
 item_of L.Entered parts = Item.Entered
@@ -62,7 +61,7 @@ abbrev pub message_form : Parts → Message → Line × Parts
 message_form parts (Message.Request call) = (L.Request, record parts { call = call })
 message_form parts (Message.Action call) = (L.Action, record parts { call = call })
 message_form parts (Message.Reply status) = (L.Reply, record parts { status = status })
-message_form parts (Message.Value value) = (L.Value, record parts { value = value })
+message_form parts (Message.Value status value) = (L.Value, record parts { status = status; value = value })
 
 abbrev pub form_of : Item → Line × Parts
 form_of Item.On = (L.On, no_parts)

@@ -1,5 +1,5 @@
 -- The line of an item, and the item of a line. [own]
-use Rattle.std.specs.Prelude.{ℕ, ◌++◌, Option, Some, None, option_map, option_and_then, if◌then◌else◌, List, [], ◌∷◌, map}
+use Rattle.std.specs.Prelude.{ℕ, ◌++◌, Option, None, option_map, option_and_then, if◌then◌else◌, List, [], ◌∷◌, map}
 use Rattle.std.specs.Option.{option_or}
 use Rattle.std.specs.Str.{bytes_eq}
 use Rattle.osbase.specs.declared.items.Item.{Item}

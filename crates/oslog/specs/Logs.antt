@@ -1,5 +1,5 @@
 -- The log of items, and the items of a log. [own]
-use Rattle.std.specs.Prelude.{◌≡◌, ◌⊎◌, ℕ, ◌==◌, ◌&&◌, ◌++◌, nat_le, nat_lt, if◌then◌else◌, Bool, true, false, Option, Some, List, [], ◌∷◌, codes, length}
+use Rattle.std.specs.Prelude.{◌≡◌, ◌⊎◌, ℕ, ◌==◌, ◌&&◌, ◌++◌, nat_le, if◌then◌else◌, Bool, true, false, Option, Some, List, [], ◌∷◌, codes, length}
 use Rattle.std.specs.List.{flat_map, list_all}
 use Rattle.osbase.specs.Objects.{object_of_call}
 use Rattle.osbase.specs.declared.items.Agreement.{Agreement}
@@ -8,16 +8,12 @@ use Rattle.osbase.specs.declared.items.Stimulus.{Stimulus}
 use Rattle.osbase.specs.declared.limits.TheConstants.{CORES}
 use Rattle.osbase.specs.declared.messages.Message.{Message}
 use Rattle.osbase.specs.declared.messages.RemoteCall.{RemoteCall}
-use Rattle.osbase.specs.declared.objects.Object.{Object}
 use Rattle.osbase.specs.declared.references.CoreId.{CoreId}
 use Rattle.oscript.specs.Calls.{op_of_call}
 use Rattle.oscript.specs.Rows.{has_masks, is_in_form, is_int}
-use Rattle.osplan.specs.Objects.{has_index}
-use Rattle.osplan.specs.View.{core_of}
-use Rattle.osplan.specs.declared.plans.Core.{Core}
+use Rattle.osplan.specs.Limits.{is_mode, is_object}
 use Rattle.osplan.specs.declared.plans.Plan.{Plan}
 use Rattle.osread.specs.Reading.{each, parts_of}
-use Rattle.std.specs.Option.{option_map_or}
 use Rattle.oslog.specs.Items.{item_meant, line_of}
 
 -- A line end.
@@ -28,38 +24,35 @@ line_end = codes "\n"
 abbrev pub log_text : Plan → List Item → List ℕ
 log_text plan items = flat_map (λ item. line_of plan item ++ line_end) items
 
--- ---- which items a log can say: those whose numbers have the sizes of their types, and that refer to modes and objects
+-- ---- which items are representable: those whose numbers have the sizes of their types, and that refer to modes and objects
 -- of the configuration
 
 abbrev pub is_core_number : CoreId → Bool
 is_core_number core = nat_le core.number 255
 
-abbrev pub is_configured_object : Plan → Object → Bool
-is_configured_object plan object = option_map_or (λ (core : Core). has_index core object) (core_of plan object.place.core) false
+abbrev pub is_call_representable : Plan → RemoteCall → Bool
+is_call_representable plan call = is_in_form (op_of_call call) && has_masks (op_of_call call) && is_object plan (object_of_call call)
 
-abbrev pub is_call_sayable : Plan → RemoteCall → Bool
-is_call_sayable plan call = is_in_form (op_of_call call) && has_masks (op_of_call call) && is_configured_object plan (object_of_call call)
-
-abbrev pub is_message_sayable : Plan → Message → Bool
-is_message_sayable plan (Message.Request call) = is_call_sayable plan call
-is_message_sayable plan (Message.Action call) = is_call_sayable plan call
-is_message_sayable plan (Message.Reply status) = true
-is_message_sayable plan (Message.Value value) = is_int value
+abbrev pub is_message_representable : Plan → Message → Bool
+is_message_representable plan (Message.Request call) = is_call_representable plan call
+is_message_representable plan (Message.Action call) = is_call_representable plan call
+is_message_representable plan (Message.Reply status) = true
+is_message_representable plan (Message.Value status value) = is_int value
 
 -- No ISR and no spinlock can be configured yet.
-abbrev pub is_sayable : Plan → Item → Bool
-is_sayable plan (Item.Began core status) = is_core_number core
-is_sayable plan (Item.Pass1 (Agreement.Mode mode)) = nat_lt mode.index (length plan.modes)
-is_sayable plan (Item.Pass2 cores) = length cores.members == CORES
-is_sayable plan (Item.Stim (Stimulus.Irq isr)) = false
-is_sayable plan (Item.Posted core) = is_core_number core
-is_sayable plan (Item.Received from number message) = is_core_number from && nat_le number 18446744073709551615 && is_message_sayable plan message
-is_sayable plan (Item.Granted spinlock) = false
-is_sayable plan (Item.Tried spinlock taken) = false
-is_sayable plan (Item.Freed spinlock) = false
-is_sayable plan (Item.Halt core status) = is_core_number core
-is_sayable plan (Item.Last (Some p)) = is_core_number p.0
-is_sayable plan item = true
+abbrev pub is_representable : Plan → Item → Bool
+is_representable plan (Item.Began core status) = is_core_number core
+is_representable plan (Item.Pass1 (Agreement.Mode mode)) = is_mode plan mode
+is_representable plan (Item.Pass2 cores) = length cores.members == CORES
+is_representable plan (Item.Stim (Stimulus.Irq isr)) = false
+is_representable plan (Item.Posted core) = is_core_number core
+is_representable plan (Item.Received from number message) = is_core_number from && nat_le number 18446744073709551615 && is_message_representable plan message
+is_representable plan (Item.Granted spinlock) = false
+is_representable plan (Item.Tried spinlock taken) = false
+is_representable plan (Item.Freed spinlock) = false
+is_representable plan (Item.Halt core status) = is_core_number core
+is_representable plan (Item.Last (Some p)) = is_core_number p.0
+is_representable plan item = true
 
 -- ---- which items a log has
 
@@ -69,7 +62,7 @@ IsTextOf plan text items = (text ≡ log_text plan items) ⊎ (text ++ line_end 
 
 -- A log says these items. [own]
 pub record IsLog (plan : Plan) (text : List ℕ) (items : List Item) : Type 0 where
-  pub sayable : list_all (is_sayable plan) items ≡ true
+  pub representable : list_all (is_representable plan) items ≡ true
   pub text_is : IsTextOf plan text items
 
 -- ---- reading

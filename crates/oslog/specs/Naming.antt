@@ -6,7 +6,6 @@ use Rattle.std.specs.List.{flat_map}
 use Rattle.std.specs.Str.{bytes_eq}
 use Rattle.osbase.specs.Objects.{same_kind}
 use Rattle.osbase.specs.Sets.{numbers_from}
-use Rattle.osbase.specs.declared.objects.Object.{Object}
 use Rattle.osbase.specs.declared.objects.ObjectKind.{ObjectKind}
 use Rattle.osbase.specs.declared.objects.Place.{Place}
 use Rattle.osbase.specs.declared.references.IsrRef.{IsrRef}

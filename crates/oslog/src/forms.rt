@@ -66,7 +66,7 @@ pub fn item_of(line: Line, parts: &Parts) -> Item
         Line::Request => received(parts, Message::Request(parts.call)),
         Line::Action => received(parts, Message::Action(parts.call)),
         Line::Reply => received(parts, Message::Reply(parts.status)),
-        Line::Value => received(parts, Message::Value(parts.value)),
+        Line::Value => received(parts, Message::Value(parts.status, parts.value)),
         Line::On => Item::On,
         Line::Began => Item::Began {
             core: parts.core,
@@ -231,6 +231,13 @@ fn message_form(core: CoreId, count: u64, message: Message) -> (Line, Parts)
         Message::Request(call) => (Line::Request, Parts { call, ..parts }),
         Message::Action(call) => (Line::Action, Parts { call, ..parts }),
         Message::Reply(status) => (Line::Reply, Parts { status, ..parts }),
-        Message::Value(value) => (Line::Value, Parts { value, ..parts }),
+        Message::Value(status, value) => (
+            Line::Value,
+            Parts {
+                status,
+                value,
+                ..parts
+            },
+        ),
     }
 }

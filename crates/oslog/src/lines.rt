@@ -1,6 +1,6 @@
 //! Reading: the items of a log.
 
-ghost use Rattle.std.specs.Prelude.{◌≡◌, ⊥, List as ListOf, Err, IfOk, IsSome, None, Some};
+ghost use Rattle.std.specs.Prelude.{◌≡◌, List as ListOf, Err, IfOk, IsSome, None, Some};
 ghost use Rattle.osbase.specs.declared.items.Item.{Item as ItemValue};
 ghost use Rattle.osplan.specs.View.{core_of};
 ghost use Rattle.oslog.specs.Items.{item_meant};
@@ -39,13 +39,14 @@ fn without_last_end(text: &str) -> &str
 }
 
 // The items of a log, line by line.
-fn items_meant(alloc: Global, config: &Config, text: &str) -> Result<List<Item>, LogFault>
-    ensures ok { IfOk result (λ items. log_meant config.now text.now ≡ Some items) }
-    ensures bad { result ≡ Err LogFault.BadLog → log_meant config.now text.now ≡ None }
+fn items_meant(alloc: Global, names: &NameIndex, text: &str) -> Result<List<Item>, LogFault>
+    ensures ok { IfOk result (λ items. log_meant names.now.config.now text.now ≡ Some items) }
+    ensures bad { result ≡ Err LogFault.BadLog → log_meant names.now.config.now text.now ≡ None }
 {
-    let names = NameIndex::new(alloc, config)?;
-    let reader = LineReader { names: &names };
-    match read_parts(alloc, &reader, without_last_end(text), '\n', usize::MAX) {
+    let reader = LineReader { names };
+    let body = without_last_end(text);
+    // There are at most as many line ends as bytes.
+    match read_parts(alloc, &reader, body, '\n', body.len() + 1) {
         Ok(items) => Ok(items),
         Err(Refusal::OutOfMemory) => Err(LogFault::NoMemory),
         Err(Refusal::Unfit) => Err(LogFault::BadLog),
@@ -62,7 +63,10 @@ pub fn read_log(
 ) -> Result<List<Item>, LogFault>
     requires { IsSome (core_of config.now _core) }
     ensures ok { IfOk result (IsLog config.now text.now) }
+    // No other items have this text.
+    ensures only { IfOk result (λ items. (others : ListOf ItemValue) → IsLog config.now text.now others → others ≡ items) }
     ensures bad { result ≡ Err LogFault.BadLog → (items : ListOf ItemValue) → IsLog config.now text.now items → ⊥ }
 {
-    items_meant(alloc, config, text)
+    let names = NameIndex::new(alloc, config)?;
+    items_meant(alloc, &names, text)
 }

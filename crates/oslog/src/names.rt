@@ -1,6 +1,7 @@
 //! What the names of a configuration stand for, by an index.
 
 ghost use Rattle.std.specs.Prelude.{◌≡◌, ◌≤◌, ◌++◌, IfOk, IsTrue, OnOk, length};
+ghost use Rattle.osplan.specs.Expressible.{is_expressible};
 ghost use Rattle.osplan.specs.Limits.{is_within_limits};
 ghost use Rattle.osplan.specs.Objects.{object_count};
 ghost use Rattle.oslog.specs.Naming.{HasFew, Indexes, all_named, isr_named, isrs_in, mode_named, object_at, modes_in, name_of_named, named_in, objects_in};
@@ -110,7 +111,8 @@ fn push_core(named: &mut List<Named>, core: &Core) -> Result<(), AllocError>
 
 // All that has a name.
 fn all_named(alloc: Global, plan: &Plan) -> Result<List<Named>, AllocError>
-    requires { IsTrue (is_within_limits plan.now) }
+    requires limits { IsTrue (is_within_limits plan.now) }
+    requires expressible { IsTrue (is_expressible plan.now) }
     ensures { IfOk result (λ named. named ≡ all_named plan.now) }
 {
     let mut named = List::new(alloc);
@@ -144,6 +146,8 @@ fn index_of<'p>(
 pub struct NameIndex<'p> {
     config: &'p Config,
     index: HashMap<&'p str, Named>,
+    ghost limits: { IsTrue (is_within_limits config.now) },
+    ghost expressible: { IsTrue (is_expressible config.now) },
     ghost indexed: { Indexes config.now index (all_named config.now) },
 }
 

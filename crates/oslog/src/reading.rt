@@ -1,6 +1,6 @@
 //! Reading: the item of a line.
 
-ghost use Rattle.std.specs.Prelude.{◌≡◌, List, Option, option_map, ℕ};
+ghost use Rattle.std.specs.Prelude.{◌≡◌, ◌∷◌, List, Option, option_map, ℕ};
 ghost use Rattle.std.specs.Borrow.{Bor};
 ghost use Rattle.osforms.specs.Form.{rest_words, words_of};
 ghost use Rattle.oslog.specs.Items.{first_item, item_as, item_behind, item_meant};
@@ -71,7 +71,7 @@ fn read_words<'t>(
     kinds: &[Kind],
     text: Option<&'t str>,
 ) -> Option<(Parts, Option<&'t str>)>
-    ensures { option_map (λ (read : PartsValue × Option (Bor (List ℕ))). (read.0, rest_words read.1)) result.entry ≡ read_words names.now.config.now kinds.now (rest_words text.entry) no_parts }
+    ensures { option_map (λ (read : PartsValue × Option (Bor (List ℕ))). (read.0, rest_words read.1)) result ≡ read_words names.now.config.now kinds.now (rest_words text.entry) no_parts }
 {
     let mut parts = Parts::none();
     let mut left = text;
@@ -126,16 +126,23 @@ fn item_as(names: &NameIndex, line: Line, first: &str, rest: Option<&str>) -> Op
     Some(item_of(line, &parts))
 }
 
-/// The item of a line: that of the first form which the line has.
-pub fn item_meant(names: &NameIndex, text: &str) -> Option<Item>
-    ensures { result ≡ item_meant names.now.config.now text.now }
+// The item of the first of these forms that the line has.
+fn first_item(names: &NameIndex, lines: &[Line], first: &str, rest: Option<&str>) -> Option<Item>
+    ensures { result ≡ first_item (item_as names.now.config.now (first.now ∷ rest_words rest.entry)) lines.now }
 {
-    let (first, rest) = cut(text);
-    for line in LINES.iter() {
+    for line in lines {
         let item = item_as(names, *line, first, rest);
         if item.is_some() {
             return item;
         }
     }
     None
+}
+
+/// The item of a line: that of the first form which the line has.
+pub fn item_meant(names: &NameIndex, text: &str) -> Option<Item>
+    ensures { result ≡ item_meant names.now.config.now text.now }
+{
+    let (first, rest) = cut(text);
+    first_item(names, &LINES, first, rest)
 }

@@ -15,7 +15,7 @@ pub enum Line {
     Request,
     Action,
     Reply,
-    /// The reply to GetAlarm with E_OK, which has a value.
+    /// A reply with a value.
     Value,
     On,
     Began,
@@ -37,7 +37,7 @@ pub enum Line {
     LastHalted,
 }
 
-/// Every form. A line is looked for from the front, so what logs have most stands first.
+/// Every form. A line is looked for from the front, so what logs have most stands first, and a keyword before a name.
 pub const LINES: [Line; 25] = [
     Line::Op,
     Line::Tick,
@@ -51,8 +51,8 @@ pub const LINES: [Line; 25] = [
     Line::Began,
     Line::Entered,
     Line::Conflict,
-    Line::Agreed,
     Line::NoMode,
+    Line::Agreed,
     Line::Readied,
     Line::Started,
     Line::Granted,
@@ -85,8 +85,6 @@ pub enum Keyword {
     Request,
     Action,
     Reply,
-    /// The status beside a value.
-    Ok,
     Granted,
     Tried,
     Freed,
@@ -121,7 +119,6 @@ impl Keyword {
             Keyword::Request => "req",
             Keyword::Action => "act",
             Keyword::Reply => "rep",
-            Keyword::Ok => "E_OK",
             Keyword::Granted => "granted",
             Keyword::Tried => "tried",
             Keyword::Freed => "freed",
@@ -154,6 +151,12 @@ pub enum Kind {
     /// The name of a spinlock.
     Spinlock,
 }
+
+const REPLY: Kind = Kind::Keyword(Keyword::Reply);
+
+const YES: Kind = Kind::Keyword(Keyword::Yes);
+
+const NO: Kind = Kind::Keyword(Keyword::No);
 
 /// What stands behind the words of a line.
 #[derive(Clone, Copy, Debug, PartialEq, Eq)]
@@ -207,22 +210,11 @@ pub fn row_of(line: Line) -> Row
         Line::Action => call(&[Kind::Core, Kind::Count, Kind::Keyword(Keyword::Action)]),
         Line::Reply => words(
             Keyword::Received,
-            &[
-                Kind::Core,
-                Kind::Count,
-                Kind::Keyword(Keyword::Reply),
-                Kind::Status,
-            ],
+            &[Kind::Core, Kind::Count, REPLY, Kind::Status],
         ),
         Line::Value => words(
             Keyword::Received,
-            &[
-                Kind::Core,
-                Kind::Count,
-                Kind::Keyword(Keyword::Reply),
-                Kind::Keyword(Keyword::Ok),
-                Kind::Value,
-            ],
+            &[Kind::Core, Kind::Count, REPLY, Kind::Status, Kind::Value],
         ),
         Line::On => words(Keyword::On, &[]),
         Line::Began => words(Keyword::Began, &[Kind::Core, Kind::Status]),
@@ -237,14 +229,8 @@ pub fn row_of(line: Line) -> Row
             tail: Tail::Cores,
         },
         Line::Granted => words(Keyword::Granted, &[Kind::Spinlock]),
-        Line::Taken => words(
-            Keyword::Tried,
-            &[Kind::Spinlock, Kind::Keyword(Keyword::Yes)],
-        ),
-        Line::NotTaken => words(
-            Keyword::Tried,
-            &[Kind::Spinlock, Kind::Keyword(Keyword::No)],
-        ),
+        Line::Taken => words(Keyword::Tried, &[Kind::Spinlock, YES]),
+        Line::NotTaken => words(Keyword::Tried, &[Kind::Spinlock, NO]),
         Line::Freed => words(Keyword::Freed, &[Kind::Spinlock]),
         Line::Halt => words(Keyword::Halt, &[Kind::Core, Kind::Status]),
         Line::Drained => words(Keyword::Drained, &[]),

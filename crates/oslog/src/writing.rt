@@ -1,6 +1,7 @@
 //! Writing: the text of items.
 
 ghost use Rattle.std.specs.Prelude.{◌≡◌, ◌++◌, ◌∷◌, IfOk, OnOk, List, ℕ, map, string_bytes};
+ghost use Rattle.std.specs.Fmt.{decimal};
 ghost use Rattle.oslog.specs.Items.{led, line_of};
 ghost use Rattle.oslog.specs.Logs.{log_text};
 ghost use Rattle.oslog.specs.Words.{core_words, word_text};
@@ -65,14 +66,21 @@ fn push_call(
     text.push_str(words.as_str())
 }
 
-// Adds each core of the set after a space, by ascending number.
+// Adds a space and a core's number.
+fn push_number(text: &mut String, number: u8) -> Result<(), AllocError>
+    ensures { OnOk result (string_bytes text.new ≡ string_bytes text.old ++ 32 ∷ decimal number) }
+{
+    text.push_str(" ")?;
+    text.push_str(Buffer::new().format(number))
+}
+
+// Adds the cores of the set, by ascending number.
 fn push_cores(text: &mut String, cores: &CoreSet) -> Result<(), AllocError>
     ensures { OnOk result (string_bytes text.new ≡ string_bytes text.old ++ led (core_words cores.now)) }
 {
     for number in 0..CORE_NUMBERS {
         if cores.contains(CoreId { number }) {
-            text.push_str(" ")?;
-            text.push_str(Buffer::new().format(number))?;
+            push_number(text, number)?;
         }
     }
     Ok(())

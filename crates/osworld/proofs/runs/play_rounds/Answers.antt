@@ -15,12 +15,12 @@ returns-in_err-changed-clause-err c =
     default-cut c.args.world.now.config.now stimuli c.loop-rounds.rounds _ _ underway _ _
     (round-cut c.args.world.now.config.now c.loop-rounds.world.config.now (ap (λ (b : Bor Plan). b.now) c.loop-rounds.invariant.0) stimuli (round_by c.args.ids.now) c.requires.round _ _ _ _ _ underway.plays (c.in_err-changed.ensures.err stimuli)))
 
-pub returns-then-either-clause-ok : goal.returns-then-either-clause-ok
-returns-then-either-clause-ok c stimuli plays =
+pub returns-then-is_over-changed-clause-ok : goal.returns-then-is_over-changed-clause-ok
+returns-then-is_over-changed-clause-ok c stimuli plays =
     let underway = c.loop-rounds.invariant.3 stimuli plays in
     default-played c.args.world.now.config.now stimuli c.loop-rounds.rounds _ _ underway c.in_ok-changed.changed c.is_over.result _ _
     (round-played c.args.world.now.config.now c.loop-rounds.world.config.now (ap (λ (b : Bor Plan). b.now) c.loop-rounds.invariant.0) stimuli (round_by c.args.ids.now) c.requires.round _ _ _ _ _ underway.plays c.in_ok-changed.changed (c.in_ok-changed.ensures.ok stimuli))
-    c.is_over.ensures c.if-cond.true
+    c.is_over.ensures c.if-is_over-changed.true
 
 pub loop-rounds-preserved : goal.loop-rounds-preserved
 loop-rounds-preserved c = (
@@ -31,7 +31,7 @@ loop-rounds-preserved c = (
       let underway = c.loop-rounds.invariant.3 stimuli plays in
       underway-on c.args.world.now.config.now stimuli c.loop-rounds.rounds _ _ underway c.in_ok-changed.changed c.is_over.result _ _
       (round-played c.args.world.now.config.now c.loop-rounds.world.config.now (ap (λ (b : Bor Plan). b.now) c.loop-rounds.invariant.0) stimuli (round_by c.args.ids.now) c.requires.round _ _ _ _ _ underway.plays c.in_ok-changed.changed (c.in_ok-changed.ensures.ok stimuli))
-      c.is_over.ensures c.if-cond.false,
+      c.is_over.ensures c.if-is_over-changed.false,
 )
 
 pub unreachable-requires : goal.unreachable-requires

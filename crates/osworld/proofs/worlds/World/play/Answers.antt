@@ -4,20 +4,20 @@ use Rattle.osworld.proofs.Turned.{on_err}
 use Rattle.osworld.proofs.Played.{cut-before, played-all, played-more}
 use Rattle.osworld.proofs.worlds.World.play.Goals as goal
 
-pub returns-in_err-turn-clause-err : goal.returns-in_err-turn-clause-err
-returns-in_err-turn-clause-err c =
+pub returns-in_err-changed-clause-err : goal.returns-in_err-changed-clause-err
+returns-in_err-changed-clause-err c =
     on_err c.from_residual.result (λ stimuli w plays.
     cut-before c.args.self.now.config.now c.loop-turn.self.config.now (ap (λ (b : Bor Plan). b.now) c.loop-turn.invariant.0) stimuli w c.args.turns.now c.loop-turn.turn-index _ c.loop-turn.changed _ _ _ _ c.loop-turn-test.true (c.loop-turn.invariant.3 stimuli w plays)
-    (c.in_err-turn.ensures.err stimuli))
+    (c.in_err-changed.ensures.err stimuli))
 
 pub loop-turn-preserved : goal.loop-turn-preserved
 loop-turn-preserved c = (
-  c.in_ok-turn.ensures.config ∙ c.loop-turn.invariant.0,
-  c.in_ok-turn.ensures.reports ∙ c.loop-turn.invariant.1,
-  c.in_ok-turn.ensures.len ∙ c.loop-turn.invariant.2,
+  c.in_ok-changed.ensures.config ∙ c.loop-turn.invariant.0,
+  c.in_ok-changed.ensures.reports ∙ c.loop-turn.invariant.1,
+  c.in_ok-changed.ensures.len ∙ c.loop-turn.invariant.2,
   λ stimuli w plays.
-      (played-more c.args.self.now.config.now c.loop-turn.self.config.now (ap (λ (b : Bor Plan). b.now) c.loop-turn.invariant.0) stimuli w c.args.turns.now c.loop-turn.turn-index _ c.loop-turn.changed c.in_ok-turn.field-0 _ _ _ _ c.loop-turn-test.true (c.loop-turn.invariant.3 stimuli w plays)
-      (c.in_ok-turn.ensures.ok stimuli)),
+      (played-more c.args.self.now.config.now c.loop-turn.self.config.now (ap (λ (b : Bor Plan). b.now) c.loop-turn.invariant.0) stimuli w c.args.turns.now c.loop-turn.turn-index _ c.loop-turn.changed c.in_ok-changed.field-0 _ _ _ _ c.loop-turn-test.true (c.loop-turn.invariant.3 stimuli w plays)
+      (c.in_ok-changed.ensures.ok stimuli)),
 )
 
 pub returns-clause-ok : goal.returns-clause-ok

@@ -10,19 +10,19 @@ use Rattle.osworld.proofs.Played.{flat_map-one, plays-next, stops-next}
 use Rattle.osworld.proofs.Turned.{on_err}
 use Rattle.osworld.proofs.worlds.World.play_round.Goals as goal
 
-pub returns-in_err-play_core-clause-err : goal.returns-in_err-play_core-clause-err
-returns-in_err-play_core-clause-err c =
+pub returns-in_err-changed-clause-err : goal.returns-in_err-changed-clause-err
+returns-in_err-changed-clause-err c =
     on_err c.from_residual.result
     (stops-next (flat_map (turns_in_round c.args.ids.now)) (flat_map-append (turns_in_round c.args.ids.now)) c.args.ids.now c.loop-id.id-index _ c.loop-id-test.true c.args.self.now c.loop-id.self c.play_core.new.self c.loop-id.invariant.0 c.loop-id.changed c.loop-id.invariant.3
-    (subst (λ (ts : List (CoreId × Choice)). StopsShort ts c.loop-id.self c.play_core.new.self) (sym (flat_map-one (turns_in_round c.args.ids.now) _)) c.in_err-play_core.ensures.err))
+    (subst (λ (ts : List (CoreId × Choice)). StopsShort ts c.loop-id.self c.play_core.new.self) (sym (flat_map-one (turns_in_round c.args.ids.now) _)) c.in_err-changed.ensures.err))
 
 pub loop-id-preserved : goal.loop-id-preserved
 loop-id-preserved c = (
-  c.in_ok-play_core.ensures.config ∙ c.loop-id.invariant.0,
-  c.in_ok-play_core.ensures.reports ∙ c.loop-id.invariant.1,
-  c.in_ok-play_core.ensures.len ∙ c.loop-id.invariant.2,
-  (plays-next (flat_map (turns_in_round c.args.ids.now)) (flat_map-append (turns_in_round c.args.ids.now)) c.args.ids.now c.loop-id.id-index _ c.loop-id-test.true c.args.self.now c.loop-id.self c.play_core.new.self c.loop-id.invariant.0 c.loop-id.changed c.loop-id.invariant.3 c.in_ok-play_core.field-0
-      (subst (λ (ts : List (CoreId × Choice)). PlaysTurns ts c.loop-id.self c.in_ok-play_core.field-0 c.play_core.new.self) (sym (flat_map-one (turns_in_round c.args.ids.now) _)) c.in_ok-play_core.ensures.ok)),
+  c.in_ok-changed.ensures.config ∙ c.loop-id.invariant.0,
+  c.in_ok-changed.ensures.reports ∙ c.loop-id.invariant.1,
+  c.in_ok-changed.ensures.len ∙ c.loop-id.invariant.2,
+  (plays-next (flat_map (turns_in_round c.args.ids.now)) (flat_map-append (turns_in_round c.args.ids.now)) c.args.ids.now c.loop-id.id-index _ c.loop-id-test.true c.args.self.now c.loop-id.self c.play_core.new.self c.loop-id.invariant.0 c.loop-id.changed c.loop-id.invariant.3 c.in_ok-changed.field-0
+      (subst (λ (ts : List (CoreId × Choice)). PlaysTurns ts c.loop-id.self c.in_ok-changed.field-0 c.play_core.new.self) (sym (flat_map-one (turns_in_round c.args.ids.now) _)) c.in_ok-changed.ensures.ok)),
 )
 
 pub returns-clause-ok : goal.returns-clause-ok

@@ -22,17 +22,17 @@ returns-then-not-has_mail-clause-ok c =
     (plays-on c.args.self.now c.loop-other.self c.loop-other.self c.loop-other.invariant.0 (serves c.args.id before) (serves c.args.id rest) c.loop-other.changed c.loop-other.invariant.3 false
     (λ stimuli w plays. unserved-played c.loop-other.self.config.now stimuli w c.loop-other.self.seats.items c.loop-other.self.between plays c.args.id (sym c.has_mail.ensures ∙ c.if-not-has_mail.true) (filter (λ (from : CoreId). not (same_core from c.args.id)) rest)))
 
-pub returns-in_err-serve-clause-err : goal.returns-in_err-serve-clause-err
-returns-in_err-serve-clause-err c =
+pub returns-in_err-changed-clause-err : goal.returns-in_err-changed-clause-err
+returns-in_err-changed-clause-err c =
     on_err c.from_residual.result
-    (stops-next (serves c.args.id) (λ xs ys. serves-append xs ys c.args.id) c.args.ids.now c.loop-other.other-index _ c.loop-other-test.true c.args.self.now c.loop-other.self c.serve.new.self c.loop-other.invariant.0 c.loop-other.changed c.loop-other.invariant.3 c.in_err-serve.ensures.err)
+    (stops-next (serves c.args.id) (λ xs ys. serves-append xs ys c.args.id) c.args.ids.now c.loop-other.other-index _ c.loop-other-test.true c.args.self.now c.loop-other.self c.serve.new.self c.loop-other.invariant.0 c.loop-other.changed c.loop-other.invariant.3 c.in_err-changed.ensures.err)
 
 pub loop-other-preserved : goal.loop-other-preserved
 loop-other-preserved c = (
-  c.in_ok-serve.ensures.config ∙ c.loop-other.invariant.0,
-  c.in_ok-serve.ensures.reports ∙ c.loop-other.invariant.1,
-  c.in_ok-serve.ensures.len ∙ c.loop-other.invariant.2,
-  (plays-next (serves c.args.id) (λ xs ys. serves-append xs ys c.args.id) c.args.ids.now c.loop-other.other-index _ c.loop-other-test.true c.args.self.now c.loop-other.self c.serve.new.self c.loop-other.invariant.0 c.loop-other.changed c.loop-other.invariant.3 c.in_ok-serve.field-0 c.in_ok-serve.ensures.ok),
+  c.in_ok-changed.ensures.config ∙ c.loop-other.invariant.0,
+  c.in_ok-changed.ensures.reports ∙ c.loop-other.invariant.1,
+  c.in_ok-changed.ensures.len ∙ c.loop-other.invariant.2,
+  (plays-next (serves c.args.id) (λ xs ys. serves-append xs ys c.args.id) c.args.ids.now c.loop-other.other-index _ c.loop-other-test.true c.args.self.now c.loop-other.self c.serve.new.self c.loop-other.invariant.0 c.loop-other.changed c.loop-other.invariant.3 c.in_ok-changed.field-0 c.in_ok-changed.ensures.ok),
 )
 
 pub returns-clause-ok : goal.returns-clause-ok

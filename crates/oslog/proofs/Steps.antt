@@ -1,0 +1,28 @@
+-- What is left to read gives the whole, a step further.
+use Rattle.std.proofs.Common.{◌≡◌, ℕ, zero, suc, ◌<◌, false, Option, Some, None, is_none, List, [], ◌∷◌, length, drop, refl, sym, ap, ◌∙◌, arith}
+use Rattle.std.specs.Borrow.{Bor}
+use Rattle.osforms.specs.Form.{rest_words, words_of}
+use Rattle.osforms.proofs.Wording.{some-word}
+use Rattle.osplan.specs.declared.plans.Plan.{Plan}
+use Rattle.oslog.specs.Words.{read_words, with_tail}
+use Rattle.oslog.specs.declared.forms.Parts.{Parts}
+use Rattle.oslog.specs.declared.rows.Kind.{Kind}
+use Rattle.oslog.specs.declared.rows.Tail.{Tail}
+use Rattle.oslog.specs.declared.rows.Tail.TheVariants as T
+
+-- ---- the words of a row
+
+-- a row that goes on wants a word
+pub no-word : (plan : Plan) (kinds : List Kind) (i : ℕ) (parts : Parts) → i < length kinds → read_words plan (drop i kinds) [] parts ≡ None
+no-word plan [] i parts within = absurd (omega (arith, within))
+no-word plan (k ∷ kinds) zero parts within = refl
+no-word plan (k ∷ kinds) (suc i) parts within = no-word plan kinds i parts (omega (arith, within))
+
+-- where a text is left, a word is too many
+pub no-tail : (plan : Plan) (tail : Tail) (text : Option (Bor (List ℕ))) (parts : Parts) → tail ≡ T.Nothing → is_none text ≡ false → None ≡ with_tail plan tail (rest_words text) parts
+no-tail plan tail None parts is some = cc
+no-tail plan tail (Some text) parts is some = by (words_of text.now) refl ∙ ap (λ (t : Tail). with_tail plan t (words_of text.now) parts) (sym is)
+  where
+    by : (words : List (List ℕ)) → words_of text.now ≡ words → None ≡ with_tail plan T.Nothing (words_of text.now) parts
+    by [] none = absurd (some-word text.now none)
+    by (word ∷ words) is = rw is refl

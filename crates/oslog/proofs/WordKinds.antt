@@ -1,0 +1,210 @@
+-- What a word of each kind says, and its text: a word that is read is the text of what it says, and that is representable.
+use Rattle.std.proofs.Common.{rules, inl, inr, ◌≡◌, ℕ, suc, ◌-◌, ◌<◌, ◌≤◌, ◌^◌, ◌==◌, ◌&&◌, nat_le, ℤ, pos, negsuc, Bool, true, false, Some, option_map, List, [], ◌∷◌, length, get_or, IsTrue, refl, sym, ap, ◌∙◌, arith}
+use Rattle.std.specs.Fmt.{decimal, signed_decimal}
+use Rattle.std.specs.Str.{bytes_eq}
+use Rattle.std.specs.Str.Parse.{digits_value}
+use Rattle.std.proofs.lemmas.Bool.{and_parts, false≢true, le-leb}
+use Rattle.std.proofs.lemmas.Fmt.{decimal-digits_value}
+use Rattle.std.proofs.lemmas.Slice.Eq.{bytes_eq-Decides}
+use Rattle.osbase.specs.Words.{status_name}
+use Rattle.osbase.specs.declared.references.CoreId.{CoreId}
+use Rattle.osbase.specs.declared.references.IsrRef.{IsrRef}
+use Rattle.osbase.specs.declared.references.ModeId.{ModeId}
+use Rattle.osbase.specs.declared.statuses.Status.{Status}
+use Rattle.oscript.specs.Rows.{is_int}
+use Rattle.osforms.specs.Word.{bounded, int_of, is_decimal, is_unpadded, number_in}
+use Rattle.osforms.proofs.KindTexts.{cond-some, either, mapped}
+use Rattle.osforms.proofs.Numerals.{decimal-digits, decimal-some, own}
+use Rattle.osforms.proofs.RoundTrip.{chained}
+use Rattle.osplan.proofs.Tests.{find-holds}
+use Rattle.osplan.specs.Expressible.{is_expressible}
+use Rattle.osplan.specs.Limits.{is_mode, is_within_limits}
+use Rattle.osplan.specs.Names.{name_of_mode}
+use Rattle.osplan.specs.declared.plans.Plan.{Plan}
+use Rattle.oslog.specs.Naming.{all_named, if_isr, if_mode, isr_named, mode_named, name_of_named, named_by}
+use Rattle.oslog.specs.Rows.{keyword_text}
+use Rattle.oslog.specs.Words.{behind, core_of, irq_of, irq_prefix, status_of, with_word, word_text}
+use Rattle.oslog.specs.declared.forms.Parts.{Parts}
+use Rattle.oslog.specs.declared.names.Named.{Named}
+use Rattle.oslog.specs.declared.names.Named.TheVariants as N
+use Rattle.oslog.specs.declared.rows.Kind.{Kind}
+use Rattle.oslog.specs.declared.rows.Kind.TheVariants as K
+use Rattle.oslog.specs.declared.words.TheConstants.{STATUSES}
+use Rattle.oslog.proofs.Named.{is_there, named-there}
+
+-- ---- numbers
+
+unpadded-lead : (w : List ℕ) → is_unpadded w ≡ true → get_or w 0 0 ≡ 48 → length w ≡ 1
+unpadded-lead [] e is = cc
+unpadded-lead (d ∷ []) e is = refl
+unpadded-lead (d ∷ c ∷ cs) e is = let test : (d == 48) ≡ true = search (rules, is) in cc
+
+pub number-word : (low high : ℕ) (w : List ℕ) (n : ℕ) → high < 2 ^ 64 → number_in low high w ≡ Some n → decimal n ≡ w
+number-word low high w n short e =
+    let v = digits_value 10 w in
+    let p = cond-some (is_decimal w) (bounded low high v) n e in
+    let q = cond-some (nat_le low v && nat_le v high) (Some v) n p.1 in
+    let most : v ≤ high = search (rules, (and_parts (nat_le low v) (nat_le v high) q.0).1) in
+    let same : v ≡ n = cc in
+    let unpadded = (and_parts (is_unpadded w) _ p.0).0 in
+    ap decimal (sym same) ∙ decimal-digits_value own w (decimal-digits w p.0) (decimal-some w p.0) (unpadded-lead w unpadded) (omega (arith, most, short))
+
+pub number-within : (low high : ℕ) (w : List ℕ) (n : ℕ) → number_in low high w ≡ Some n → (low ≤ n) × (n ≤ high)
+number-within low high w n e =
+    let v = digits_value 10 w in
+    let p = cond-some (is_decimal w) (bounded low high v) n e in
+    let q = cond-some (nat_le low v && nat_le v high) (Some v) n p.1 in
+    let parts = and_parts (nat_le low v) (nat_le v high) q.0 in
+    let least : low ≤ v = search (rules, parts.0) in
+    let most : v ≤ high = search (rules, parts.1) in
+    let same : v ≡ n = cc in
+    (omega (arith, least, same), omega (arith, most, same))
+
+pub int-word : (w : List ℕ) (z : ℤ) → int_of w ≡ Some z → signed_decimal z ≡ w
+int-word [] z e = cc
+int-word (c ∷ cs) z e =
+    elim (either (c == 45) (option_map (λ n. negsuc (n - 1)) (number_in 1 9223372036854775808 cs)) (option_map (λ n. pos n) (number_in 0 9223372036854775807 (c ∷ cs))) z e) as (λ _. signed_decimal z ≡ c ∷ cs) [
+      | inl p ↦
+          let m = mapped (λ n. negsuc (n - 1)) (number_in 1 9223372036854775808 cs) z p.1 in
+          let is : c ≡ 45 = search (rules, p.0) in
+          let back : suc (m.0 - 1) ≡ m.0 = omega (arith, (number-within 1 9223372036854775808 cs m.0 m.1).0) in
+          ap signed_decimal (sym m.2) ∙ ap (λ n. 45 ∷ decimal n) back ∙ ap (λ text. 45 ∷ text) (number-word 1 9223372036854775808 cs m.0 (omega arith) m.1) ∙ ap (λ b. b ∷ cs) (sym is)
+      | inr p ↦
+          let m = mapped (λ n. pos n) (number_in 0 9223372036854775807 (c ∷ cs)) z p.1 in
+          ap signed_decimal (sym m.2) ∙ number-word 0 9223372036854775807 (c ∷ cs) m.0 (omega arith) m.1
+    ]
+
+int-fits : (w : List ℕ) (z : ℤ) → int_of w ≡ Some z → is_int z ≡ true
+int-fits [] z e = cc
+int-fits (c ∷ cs) z e =
+    elim (either (c == 45) (option_map (λ n. negsuc (n - 1)) (number_in 1 9223372036854775808 cs)) (option_map (λ n. pos n) (number_in 0 9223372036854775807 (c ∷ cs))) z e) as (λ _. is_int z ≡ true) [
+      | inl p ↦
+          let m = mapped (λ n. negsuc (n - 1)) (number_in 1 9223372036854775808 cs) z p.1 in
+          let most = (number-within 1 9223372036854775808 cs m.0 m.1).1 in
+          rw (← m.2) (le-leb (m.0 - 1) 9223372036854775807 (omega (arith, most)))
+      | inr p ↦
+          let m = mapped (λ n. pos n) (number_in 0 9223372036854775807 (c ∷ cs)) z p.1 in
+          rw (← m.2) (le-leb m.0 9223372036854775807 (number-within 0 9223372036854775807 (c ∷ cs) m.0 m.1).1)
+    ]
+
+-- ---- names
+
+pub named-is : (plan : Plan) (w : List ℕ) (n : Named) → named_by plan w ≡ Some n → name_of_named plan n ≡ w
+named-is plan w n e = (bytes_eq-Decides (name_of_named plan n) w).0 (find-holds (λ (n : Named). bytes_eq (name_of_named plan n) w) (all_named plan) n e)
+
+mode-is : (n : Named) (m : ModeId) → if_mode n ≡ Some m → n ≡ N.Mode m
+mode-is (N.Mode mode) m e = cc
+mode-is (N.Object object) m e = cc
+mode-is (N.Isr isr) m e = cc
+
+isr-is : (n : Named) (i : IsrRef) → if_isr n ≡ Some i → n ≡ N.Isr i
+isr-is (N.Isr isr) i e = cc
+isr-is (N.Mode mode) i e = cc
+isr-is (N.Object object) i e = cc
+
+status-word : (w : List ℕ) (s : Status) → status_of w ≡ Some s → status_name s ≡ w
+status-word w s e = (bytes_eq-Decides (status_name s) w).0 (find-holds (λ (s : Status). bytes_eq (status_name s) w) STATUSES s e)
+
+-- ---- any kind
+
+-- What the parts have for a kind is representable.
+abbrev pub is_part_representable : Plan → Parts → Kind → Bool
+is_part_representable plan q (K.Keyword word) = true
+is_part_representable plan q K.Core = nat_le q.core.number 255
+is_part_representable plan q K.Count = nat_le q.count 18446744073709551615
+is_part_representable plan q K.Status = true
+is_part_representable plan q K.Value = is_int q.value
+is_part_representable plan q K.Mode = is_mode plan q.mode
+is_part_representable plan q K.Irq = false
+is_part_representable plan q K.Spinlock = false
+
+-- Its text, and whether it is representable.
+abbrev pub part_view : Plan → Parts → Kind → List ℕ × Bool
+part_view plan q k = (word_text plan q k, is_part_representable plan q k)
+
+pair : (text w : List ℕ) (b : Bool) → text ≡ w → b ≡ true → ◌≡◌ {A = List ℕ × Bool} (text, b) (w, true)
+pair text w b is passes = ap (λ (t : List ℕ). (t, b)) is ∙ ap (λ (p : Bool). (w, p)) passes
+
+module _ (plan : Plan) (limits : IsTrue (is_within_limits plan)) (expressible : IsTrue (is_expressible plan)) where
+  mode-back : (w : List ℕ) (m : ModeId) → mode_named plan w ≡ Some m → (name_of_mode plan m ≡ w) × (is_mode plan m ≡ true)
+  mode-back w m e =
+      let c = chained if_mode (named_by plan w) m e in
+      let is = mode-is c.0 m c.2 in
+      (ap (name_of_named plan) (sym is) ∙ named-is plan w c.0 c.1, ap (is_there plan) (sym is) ∙ named-there plan limits expressible w c.0 c.1)
+
+  -- no name is that of an ISR
+  no-isr : (w : List ℕ) (i : IsrRef) → irq_of plan w ≡ Some i → ⊥
+  no-isr w i e =
+      let b = chained (isr_named plan) (behind irq_prefix w) i e in
+      let c = chained if_isr (named_by plan b.0) i b.2 in
+      false≢true (ap (is_there plan) (sym (isr-is c.0 i c.2)) ∙ named-there plan limits expressible b.0 c.0 c.1)
+
+  pub word-back : (k : Kind) (w : List ℕ) (p q : Parts) → with_word plan k w p ≡ Some q → ◌≡◌ {A = List ℕ × Bool} (part_view plan q k) (w, true)
+  word-back (K.Keyword word) w p q e = let c = cond-some (bytes_eq w (keyword_text word)) (Some p) q e in ap (λ (t : List ℕ). (t, true)) (sym ((bytes_eq-Decides w (keyword_text word)).0 c.0))
+  word-back K.Core w p q e =
+      let m = mapped (λ core. record p { core = core }) (core_of w) q e in
+      let n = mapped (λ (n : ℕ). record { number = n }) (number_in 0 255 w) m.0 m.1 in
+      ap (λ (r : Parts). part_view plan r K.Core) (sym m.2) ∙ ap (λ (c : CoreId). (decimal c.number, nat_le c.number 255)) (sym n.2)
+      ∙ pair (decimal n.0) w (nat_le n.0 255) (number-word 0 255 w n.0 (omega arith) n.1) (le-leb n.0 255 (number-within 0 255 w n.0 n.1).1)
+  word-back K.Count w p q e =
+      let m = mapped (λ n. record p { count = n }) (number_in 0 18446744073709551615 w) q e in
+      ap (λ (r : Parts). part_view plan r K.Count) (sym m.2)
+      ∙ pair (decimal m.0) w (nat_le m.0 18446744073709551615) (number-word 0 18446744073709551615 w m.0 (omega arith) m.1) (le-leb m.0 18446744073709551615 (number-within 0 18446744073709551615 w m.0 m.1).1)
+  word-back K.Status w p q e =
+      let m = mapped (λ status. record p { status = status }) (status_of w) q e in
+      ap (λ (r : Parts). part_view plan r K.Status) (sym m.2) ∙ ap (λ (t : List ℕ). (t, true)) (status-word w m.0 m.1)
+  word-back K.Value w p q e =
+      let m = mapped (λ z. record p { value = z }) (int_of w) q e in
+      ap (λ (r : Parts). part_view plan r K.Value) (sym m.2) ∙ pair (signed_decimal m.0) w (is_int m.0) (int-word w m.0 m.1) (int-fits w m.0 m.1)
+  word-back K.Mode w p q e =
+      let m = mapped (λ mode. record p { mode = mode }) (mode_named plan w) q e in
+      let back = mode-back w m.0 m.1 in
+      ap (λ (r : Parts). part_view plan r K.Mode) (sym m.2) ∙ pair (name_of_mode plan m.0) w (is_mode plan m.0) back.0 back.1
+  word-back K.Irq w p q e = let m = mapped (λ isr. record p { isr = isr }) (irq_of plan w) q e in absurd (no-isr w m.0 m.1)
+  word-back K.Spinlock w p q e = cc
+
+-- ---- a word of one kind leaves those of the others
+
+abbrev pub apart : Kind → Kind → Bool
+apart K.Core K.Core = false
+apart K.Count K.Count = false
+apart K.Status K.Status = false
+apart K.Value K.Value = false
+apart K.Mode K.Mode = false
+apart K.Irq K.Irq = false
+apart k other = true
+
+module _ (plan : Plan) (p : Parts) where
+  core-stays : (other : Kind) → apart K.Core other ≡ true → (core : CoreId) → part_view plan (record p { core = core }) other ≡ part_view plan p other
+  core-stays K.Core away core = cc
+  core-stays other away core = refl
+
+  count-stays : (other : Kind) → apart K.Count other ≡ true → (n : ℕ) → part_view plan (record p { count = n }) other ≡ part_view plan p other
+  count-stays K.Count away n = cc
+  count-stays other away n = refl
+
+  status-stays : (other : Kind) → apart K.Status other ≡ true → (status : Status) → part_view plan (record p { status = status }) other ≡ part_view plan p other
+  status-stays K.Status away status = cc
+  status-stays other away status = refl
+
+  value-stays : (other : Kind) → apart K.Value other ≡ true → (z : ℤ) → part_view plan (record p { value = z }) other ≡ part_view plan p other
+  value-stays K.Value away z = cc
+  value-stays other away z = refl
+
+  mode-stays : (other : Kind) → apart K.Mode other ≡ true → (mode : ModeId) → part_view plan (record p { mode = mode }) other ≡ part_view plan p other
+  mode-stays K.Mode away mode = cc
+  mode-stays other away mode = refl
+
+  isr-stays : (other : Kind) → apart K.Irq other ≡ true → (isr : IsrRef) → part_view plan (record p { isr = isr }) other ≡ part_view plan p other
+  isr-stays K.Irq away isr = cc
+  isr-stays other away isr = refl
+
+  pub word-stays : (k other : Kind) (w : List ℕ) (q : Parts) → apart k other ≡ true → with_word plan k w p ≡ Some q → part_view plan q other ≡ part_view plan p other
+  word-stays (K.Keyword word) other w q away e = let c = cond-some (bytes_eq w (keyword_text word)) (Some p) q e in let same : p ≡ q = cc in ap (λ (r : Parts). part_view plan r other) (sym same)
+  word-stays K.Core other w q away e = let m = mapped (λ core. record p { core = core }) (core_of w) q e in ap (λ (r : Parts). part_view plan r other) (sym m.2) ∙ core-stays other away m.0
+  word-stays K.Count other w q away e = let m = mapped (λ n. record p { count = n }) (number_in 0 18446744073709551615 w) q e in ap (λ (r : Parts). part_view plan r other) (sym m.2) ∙ count-stays other away m.0
+  word-stays K.Status other w q away e = let m = mapped (λ status. record p { status = status }) (status_of w) q e in ap (λ (r : Parts). part_view plan r other) (sym m.2) ∙ status-stays other away m.0
+  word-stays K.Value other w q away e = let m = mapped (λ z. record p { value = z }) (int_of w) q e in ap (λ (r : Parts). part_view plan r other) (sym m.2) ∙ value-stays other away m.0
+  word-stays K.Mode other w q away e = let m = mapped (λ mode. record p { mode = mode }) (mode_named plan w) q e in ap (λ (r : Parts). part_view plan r other) (sym m.2) ∙ mode-stays other away m.0
+  word-stays K.Irq other w q away e = let m = mapped (λ isr. record p { isr = isr }) (irq_of plan w) q e in ap (λ (r : Parts). part_view plan r other) (sym m.2) ∙ isr-stays other away m.0
+  word-stays K.Spinlock other w q away e = cc
