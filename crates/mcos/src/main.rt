@@ -26,8 +26,9 @@ use std::env;
 use std::io::{BufWriter, ErrorKind};
 use std::process::ExitCode;
 
-/// How many bytes of output are gathered before they are written.
-const BUFFER: usize = 65536;
+/// How many bytes of output are gathered before they are written. The lines of reports come in pieces of more, which are
+/// written as they are.
+const BUFFER: usize = 8192;
 
 fn main(rt: HostRuntime) -> ExitCode {
     let mut err = WriteSink::new(rt.stderr());
