@@ -1,9 +1,9 @@
-//! Logs: the text of a core's items, and the items of that text.
+//! Logs: the items of a core's log.
 
 ghost use Rattle.osrows.specs.Border.{activation};
-ghost use Rattle.osrows.specs.Logs.{HasLog, activation_log};
+ghost use Rattle.osrows.specs.Logs.{SaysItems, activation_log};
 
-/// One activation across the border: the log of the core that asks for it.
-pub fn activation_has_this_log()
-    ensures { HasLog activation 0 activation_log }
+/// One activation across the border: the log of the core that asks for it says the items that the core takes.
+pub fn activation_log_says_its_items()
+    ensures { SaysItems activation 0 activation_log }
 {}
