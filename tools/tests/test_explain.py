@@ -904,7 +904,8 @@ class Examples(unittest.TestCase):
         judged = 0
         for folder in sorted(os.listdir(os.path.join(ROOT, "examples"))):
             for words, fault in session(os.path.join(ROOT, "examples", folder)):
-                if fault == "fault 20 NotSeparate":
+                # What CORE and a log have is no fault of a file that explain judges.
+                if fault == "fault 20 NotSeparate" or words[0] == "replay":
                     continue
                 with self.subTest(folder=folder, words=words):
                     files = [word for word in words[1:] if word.endswith(".json")]
