@@ -1,15 +1,16 @@
 -- Whether a text begins with a word, which is seen without looking for the end of its first one.
-use Rattle.std.proofs.Common.{inl, inr, ◌≡◌, ℕ, ◌==◌, Bool, true, false, not, cond, List, [], ◌∷◌, ◌++◌, drop, length, Option, Some, None, is_some, option_map, refl, sym, ap, ◌∙◌}
+use Rattle.std.proofs.Common.{inl, inr, ◌≡◌, ℕ, ◌==◌, true, false, not, List, [], ◌∷◌, ◌++◌, drop, find, length, Some, None, refl, sym, ap, subst, ◌∙◌}
 use Rattle.std.specs.List.{join_with_byte}
 use Rattle.std.specs.Str.{bytes_eq}
 use Rattle.std.proofs.lemmas.Bool.{and_parts, cases_Bool}
 use Rattle.std.proofs.lemmas.List.{append-nil, append_cancel_left}
 use Rattle.std.proofs.lemmas.List.Splits.{join_with_byte-slice_split}
+use Rattle.std.proofs.lemmas.Option.{same_Some}
 use Rattle.std.proofs.lemmas.Slice.Eq.{bytes_eq-Decides}
 use Rattle.osbase.specs.Names.{is_name_part}
 use Rattle.oscript.specs.declared.rows.Verb.{Verb}
 use Rattle.oscript.specs.Rows.{word_of}
-use Rattle.osforms.specs.Form.{is_first, words_behind, words_of}
+use Rattle.osforms.specs.Form.{first_read, is_first, words_behind, words_of}
 use Rattle.osforms.proofs.Joining.{all-none, has_none, split-cut, split-lone}
 use Rattle.osforms.proofs.Rows.{is-row}
 
@@ -58,12 +59,36 @@ goes_no_further verb = ap (words_behind (word_of verb)) (split-lone 32 (word_of 
 pub goes_on : (verb : Verb) (rest : List ℕ) → words_behind (word_of verb) (words_of (word_of verb ++ 32 ∷ rest)) ≡ Some (words_of rest)
 goes_on verb rest = ap (words_behind (word_of verb)) (split-cut 32 (word_of verb) rest refl (no-space verb)) ∙ rw (same-word verb) refl
 
--- Where there are words behind a word, it is the first.
-pub behind-first : {A : Type 0} (f : A → List (List ℕ)) (o : Option A) (word : List ℕ) (words : List (List ℕ)) → option_map f o ≡ words_behind word words → is_some o ≡ is_first word words
-behind-first {A} f o word words = by (is_first word words) o
-  where
-    by : (b : Bool) (o : Option A) → option_map f o ≡ cond b (Some (drop 1 words)) None → is_some o ≡ b
-    by true None e = cc
-    by true (Some a) e = refl
-    by false None e = refl
-    by false (Some a) e = cc
+-- The first verb that is read is the first whose word is the first word, with the words behind it.
+pub read-found : (words : List (List ℕ)) (verbs : List Verb) (verb : Verb) (behind : List (List ℕ)) → first_read words verbs ≡ Some (verb, behind) → (find (λ v. is_first (word_of v) words) verbs ≡ Some verb) × (words_behind (word_of verb) words ≡ Some behind)
+read-found words [] verb behind e = cc
+read-found words (v ∷ verbs) verb behind e =
+    elim (cases_Bool (is_first (word_of v) words)) as (λ _. (find (λ u. is_first (word_of u) words) (v ∷ verbs) ≡ Some verb) × (words_behind (word_of verb) words ≡ Some behind)) [
+      | inl first ↦
+          let here : first_read words (v ∷ verbs) ≡ Some (v, drop 1 words) = rw first refl in
+          let same : (v, drop 1 words) ≡ (verb, behind) = same_Some _ _ (sym here ∙ e) in
+          let is : v ≡ verb = ap (λ (f : Verb × List (List ℕ)). f.0) same in
+          let rest : drop 1 words ≡ behind = ap (λ (f : Verb × List (List ℕ)). f.1) same in
+          let found : find (λ u. is_first (word_of u) words) (v ∷ verbs) ≡ Some v = rw first refl in
+          let read : words_behind (word_of v) words ≡ Some (drop 1 words) = rw first refl in
+          (found ∙ ap Some is, subst (λ (u : Verb). words_behind (word_of u) words ≡ Some behind) is (read ∙ ap Some rest))
+      | inr other ↦
+          let later : first_read words (v ∷ verbs) ≡ first_read words verbs = rw other refl in
+          let sought : find (λ u. is_first (word_of u) words) (v ∷ verbs) ≡ find (λ u. is_first (word_of u) words) verbs = rw other refl in
+          let rest = read-found words verbs verb behind (sym later ∙ e) in
+          (sought ∙ rest.0, rest.1)
+    ]
+
+pub read-none : (words : List (List ℕ)) (verbs : List Verb) → first_read words verbs ≡ None → find (λ v. is_first (word_of v) words) verbs ≡ None
+read-none words [] e = refl
+read-none words (v ∷ verbs) e =
+    elim (cases_Bool (is_first (word_of v) words)) as (λ _. find (λ u. is_first (word_of u) words) (v ∷ verbs) ≡ None) [
+      | inl first ↦
+          let found : Verb × List (List ℕ) = (v, drop 1 words) in
+          let here : first_read words (v ∷ verbs) ≡ Some found = rw first refl in
+          let never : Some found ≡ None = sym here ∙ e in cc
+      | inr other ↦
+          let later : first_read words (v ∷ verbs) ≡ first_read words verbs = rw other refl in
+          let sought : find (λ u. is_first (word_of u) words) (v ∷ verbs) ≡ find (λ u. is_first (word_of u) words) verbs = rw other refl in
+          sought ∙ read-none words verbs (sym later ∙ e)
+    ]

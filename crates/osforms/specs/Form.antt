@@ -2,6 +2,7 @@
 use Rattle.std.specs.Prelude.{ℕ, ◌==◌, Bool, false, if◌then◌else◌, Option, Some, None, option_map, option_and_then, List, [], ◌∷◌, drop, map, find, codes}
 use Rattle.std.specs.Borrow.{Bor}
 use Rattle.std.specs.List.{slice_split, join_with_byte}
+use Rattle.std.specs.Option.{option_or}
 use Rattle.std.specs.Str.{bytes_eq}
 use Rattle.std.specs.Fmt.{decimal, signed_decimal}
 use Rattle.oscript.specs.declared.rows.Verb.{Verb}
@@ -48,6 +49,14 @@ is_first word (first ∷ words) = bytes_eq word first
 
 abbrev pub words_behind : List ℕ → List (List ℕ) → Option (List (List ℕ))
 words_behind word words = if is_first word words then Some (drop 1 words) else None
+
+-- The first of these verbs whose word stands first, and the words behind it.
+abbrev pub first_read : List (List ℕ) → List Verb → Option (Verb × List (List ℕ))
+first_read words [] = None
+first_read words (verb ∷ verbs) = option_or (option_map (λ behind. (verb, behind)) (words_behind (word_of verb) words)) (first_read words verbs)
+
+abbrev pub verb_and_words : Verb × Option (Bor (List ℕ)) → Verb × List (List ℕ)
+verb_and_words found = (found.0, rest_words found.1)
 
 -- The operation of a word.
 abbrev pub verb_of : List ℕ → Option Verb

@@ -58,6 +58,9 @@ last_of a = a ∷ []
 abbrev pub two_of : Arg Place × Arg Place → List (Arg Place)
 two_of two = two.0 ∷ two.1 ∷ []
 
+abbrev pub three_of : Arg Place × Arg Place × Arg Place → List (Arg Place)
+three_of three = three.0 ∷ three.1 ∷ three.2 ∷ []
+
 -- The operation of a verb and the words of its arguments.
 abbrev pub verb_meant : (ObjectKind → List ℕ → Option Place) → List (List ℕ) → Verb → Option Op
 verb_meant place words verb = option_map (λ args. op_of (verb, args)) (args_meant place (kinds_of verb) words)

@@ -1,10 +1,10 @@
 //! Reading: operations in form, with the places of their names.
 
-ghost use Rattle.std.specs.Prelude.{◌≡◌, ◌∷◌, [], find, map, option_map, List};
+ghost use Rattle.std.specs.Prelude.{◌≡◌, ◌∷◌, [], map, option_map, List};
 ghost use Rattle.oscript.specs.declared.rows.Kind.{Kind};
 ghost use Rattle.oscript.specs.Rows.{word_of, items};
-ghost use Rattle.osforms.specs.Form.{is_first, rest_words, words_behind, words_of};
-ghost use Rattle.osforms.specs.Operation.{arg_meant, args_after, args_meant, has_masks, is_known, last_of, op_meant, op_named, two_of, unranged, verb_meant, verb_named};
+ghost use Rattle.osforms.specs.Form.{first_read, rest_words, verb_and_words, words_behind, words_of};
+ghost use Rattle.osforms.specs.Operation.{arg_meant, args_after, args_meant, has_masks, is_known, last_of, op_meant, op_named, three_of, two_of, unranged, verb_meant, verb_named};
 
 use crate::numbers::{int_of, mask_of, number_in, variable_of};
 use crate::places::{AnyName, Places};
@@ -68,7 +68,7 @@ fn last_arg<P: Places>(places: &P, kind: Kind, rest: Option<&str>) -> Option<Arg
     }
 }
 
-#[inline(always)]
+#[inline(never)]
 fn last_two<P: Places>(
     places: &P,
     kind: Kind,
@@ -86,6 +86,27 @@ fn last_two<P: Places>(
     }
 }
 
+#[inline(never)]
+fn last_three<P: Places>(
+    places: &P,
+    kind: Kind,
+    next: Kind,
+    last: Kind,
+    rest: Option<&str>,
+) -> Option<(Arg<Place>, Arg<Place>, Arg<Place>)>
+    ensures { option_map three_of result ≡ args_meant (P.place places.now) (kind ∷ next ∷ last ∷ []) (rest_words rest.entry) }
+{
+    match next_arg(places, kind, rest) {
+        Some((a, rest)) => match last_two(places, next, last, rest) {
+            Some((b, c)) => Some((a, b, c)),
+            None => None,
+        },
+        None => None,
+    }
+}
+
+// Most operations have one argument, which is read here. Those of more are read by calls of their own, which cost these
+// nothing.
 #[inline(always)]
 fn args_meant<P: Places>(
     places: &P,
@@ -107,11 +128,8 @@ fn args_meant<P: Places>(
             Some((a, b)) => Some(Args::Two(a, b)),
             None => None,
         },
-        Args::Three(kind, next, last) => match next_arg(places, kind, rest) {
-            Some((a, rest)) => match last_two(places, next, last, rest) {
-                Some((b, c)) => Some(Args::Three(a, b, c)),
-                None => None,
-            },
+        Args::Three(kind, next, last) => match last_three(places, kind, next, last, rest) {
+            Some((a, b, c)) => Some(Args::Three(a, b, c)),
             None => None,
         },
     }
@@ -132,20 +150,26 @@ fn rest_of(verb: Verb, text: &str) -> Option<Option<&str>>
     }
 }
 
+// The first of these verbs whose word a text begins with, and what follows that word.
 #[inline(always)]
-fn begins(text: &str, verb: Verb) -> bool
-    ensures { result ≡ is_first (word_of verb) (words_of text.now) }
+fn first_of<'t>(verbs: &[Verb], text: &'t str) -> Option<(Verb, Option<&'t str>)>
+    ensures { option_map verb_and_words result ≡ first_read (words_of text.now) verbs.now }
 {
-    rest_of(verb, text).is_some()
+    for verb in verbs {
+        if let Some(rest) = rest_of(*verb, text) {
+            return Some((*verb, rest));
+        }
+    }
+    None
 }
 
-// The verb of a text's first word. The words are short, so each is compared where it would stand, and the end of
-// the first one is not looked for.
+// The verb of a text's first word, and what follows it. The words are short, so each is compared where it would stand, and
+// the end of the first one is not looked for.
 #[inline(always)]
-fn first_verb(text: &str) -> Option<Verb>
-    ensures { result ≡ find (λ verb. is_first (word_of verb) (words_of text.now)) VERBS }
+fn first_verb(text: &str) -> Option<(Verb, Option<&str>)>
+    ensures { option_map verb_and_words result ≡ first_read (words_of text.now) VERBS }
 {
-    VERBS.iter().copied().find(|verb| begins(text, *verb))
+    first_of(&VERBS, text)
 }
 
 #[inline(always)]
@@ -164,10 +188,7 @@ pub fn op_meant<P: Places>(places: &P, text: &str) -> Option<Op>
     ensures { result ≡ op_meant (P.place places.now) text.now }
 {
     match first_verb(text) {
-        Some(verb) => match rest_of(verb, text) {
-            Some(rest) => verb_meant(places, verb, rest),
-            None => None,
-        },
+        Some((verb, rest)) => verb_meant(places, verb, rest),
         None => None,
     }
 }
@@ -211,10 +232,7 @@ pub fn op_named<P: Places>(places: &P, text: &str) -> Option<Op>
     ensures { result ≡ op_named (P.place places.now) text.now }
 {
     match first_verb(text) {
-        Some(verb) => match rest_of(verb, text) {
-            Some(rest) => verb_named(places, verb, rest),
-            None => None,
-        },
+        Some((verb, rest)) => verb_named(places, verb, rest),
         None => None,
     }
 }

@@ -150,6 +150,7 @@ impl<'a, const P: usize, const J: usize, const OUT: usize> Kernel<'a, P, J, OUT>
     }
 
     /// Whether the item may be taken now.
+    #[inline(always)]
     pub fn may_take(&self, item: &Item) -> bool
         ensures state { result ≡ takes_in OUT self.now item.now }
         ensures reads { Reads (λ v h. takes OUT v h item.now) self.now result }
@@ -172,6 +173,7 @@ impl<'a, const P: usize, const J: usize, const OUT: usize> Kernel<'a, P, J, OUT>
     }
 
     /// Takes an item that may be taken, and prints its marks.
+    #[inline(always)]
     pub fn step(&mut self, item: Item, marks: &mut Vec<Mark>)
         requires taken { IsTrue (takes_in OUT self.old item) }
         requires room { vec_len marks.old + STEP_MARKS ≤ vec_capacity marks.old }

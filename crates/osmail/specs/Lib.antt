@@ -1,1 +1,3 @@
 pub mod Mail
+pub mod Ends
+pub mod Mailboxes

@@ -99,6 +99,7 @@ impl<'a> Seat<'a> {
     }
 
     /// Takes an item: the kernel steps, and a stimulus is used up.
+    #[inline(always)]
     pub fn take(&mut self, item: Item)
         requires items { vec_len self.old.items < vec_capacity self.old.items }
         requires marks { vec_len self.old.marks + STEP_MARKS ≤ vec_capacity self.old.marks }

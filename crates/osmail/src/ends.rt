@@ -1,0 +1,84 @@
+//! One core's end of the mail, and the record of what it sent and took.
+
+ghost use Rattle.std.specs.Prelude.{◌≡◌, IfOk, IfErr, OnOk, IfSome, IfNone};
+ghost use Rattle.osmail.specs.Ends.{AreUnchanged, HasOneMore, sent_to, taken_from};
+
+use osbase::{CoreId, Envelope};
+use std::alloc::{AllocError, Global};
+
+/// What an end did.
+#[derive(Clone, Copy)]
+pub enum MailStep {
+    /// It sent an envelope to this core.
+    Sent(CoreId, Envelope),
+    /// It took one from this core.
+    Taken(CoreId, Envelope),
+}
+
+/// One core's end of the mail: from it the core sends to the others, and takes what they sent to it.
+pub trait Mail {
+    ghost use Rattle.osmail.specs.Ends.{Streams};
+
+    /// What this end sent to each core, in order.
+    ghost sent: { Self → Streams };
+
+    /// What this end took from each core, in order.
+    ghost taken: { Self → Streams };
+
+    /// There is room to record what one more call sends or takes.
+    ghost has_room: { Self → Type 0 };
+
+    /// Makes room for one more call.
+    fn room(&mut self) -> Result<(), AllocError>
+        ensures sent { AreUnchanged (sent self.old) (sent self.new) }
+        ensures taken { AreUnchanged (taken self.old) (taken self.new) }
+        ensures ok { OnOk result (has_room self.new) };
+
+    /// Sends an envelope to a core, or hands it back and changes nothing.
+    fn send(&mut self, to: CoreId, envelope: Envelope) -> Result<(), Envelope>
+        requires { has_room self.old }
+        ensures ok { OnOk result (HasOneMore to envelope (sent self.old) (sent self.new)) }
+        ensures err { IfErr result (λ e. (e ≡ envelope) × AreUnchanged (sent self.old) (sent self.new) × has_room self.new) }
+        ensures taken { AreUnchanged (taken self.old) (taken self.new) };
+
+    /// Takes the oldest envelope from a core, if one came.
+    fn take(&mut self, from: CoreId) -> Option<Envelope>
+        requires { has_room self.old }
+        ensures some { IfSome result (λ e. HasOneMore from e (taken self.old) (taken self.new)) }
+        ensures none { IfNone result (AreUnchanged (taken self.old) (taken self.new) × has_room self.new) }
+        ensures sent { AreUnchanged (sent self.old) (sent self.new) };
+}
+
+/// What was sent to a core.
+pub fn sent_to(alloc: Global, steps: &[MailStep], to: CoreId) -> Result<Vec<Envelope>, AllocError>
+    ensures { IfOk result (λ v. v.items ≡ sent_to steps.now to) }
+{
+    let mut all = Vec::new(alloc);
+    for step in steps {
+        if let MailStep::Sent(core, envelope) = step {
+            if core.number == to.number {
+                all.push(*envelope)?;
+            }
+        }
+    }
+    Ok(all)
+}
+
+/// What was taken from a core.
+pub fn taken_from(
+    alloc: Global,
+    steps: &[MailStep],
+    from: CoreId,
+) -> Result<Vec<Envelope>, AllocError>
+    ensures { IfOk result (λ v. v.items ≡ taken_from steps.now from) }
+{
+    let mut all = Vec::new(alloc);
+    for step in steps {
+        if let MailStep::Taken(core, envelope) = step {
+            if core.number == from.number {
+                all.push(*envelope)?;
+            }
+        }
+    }
+    Ok(all)
+}

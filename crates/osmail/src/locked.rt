@@ -1,0 +1,210 @@
+//! The mailboxes of cores on threads of their own, each under a lock.
+
+ghost use Rattle.std.specs.Prelude.{◌≡◌, ◌<◌, ◌≤◌, ◌∷◌, ◌++◌, [], slice_get, IfErr, OnOk, IfSome, IfNone, vec_len, vec_capacity};
+ghost use Rattle.osmail.specs.Ends.{sent_to, taken_from};
+ghost use Rattle.osmail.specs.Mailboxes.{after_pop, after_push};
+ghost use Rattle.osmail.specs.declared.ends.MailStep.TheVariants.{Sent, Taken};
+
+use crate::ends::{Mail, MailStep};
+use crate::mailbox::Mailbox;
+use crossbeam_utils::CachePadded;
+use osbase::{CONFIGURED_CORES, CoreId, Envelope};
+use std::alloc::{AllocError, Global};
+use std::sync::{Mutex, Wait};
+
+// Two mailboxes share no cache line, so that a core that uses one does not slow those that use another.
+type Locked<const CAP: usize> = CachePadded<Mutex<Mailbox<CAP>>>;
+
+/// A mailbox under a lock of its own for each ordered pair of cores: a row of them for each sender.
+#[derive(Drop)]
+pub struct LockedMail<const CAP: usize> {
+    rows: Vec<Vec<Locked<CAP>>>,
+}
+
+impl<const CAP: usize> LockedMail<CAP> {
+    /// Empty mailboxes, in each of which at most `cap` envelopes may stand. All the memory that the
+    /// mailboxes ever need is taken here.
+    pub fn new(alloc: Global, cap: usize) -> Result<Self, AllocError>
+        requires { cap ≤ CAP }
+    {
+        let mut rows = Vec::with_capacity(alloc, CONFIGURED_CORES)?;
+        for number in 0..CONFIGURED_CORES as u8 {
+            rows.push(row(alloc, CoreId { number }, cap)?)?;
+        }
+        Ok(LockedMail { rows })
+    }
+
+    // The mailbox of an ordered pair.
+    fn mailbox(&self, from: CoreId, to: CoreId) -> Option<&Mutex<Mailbox<CAP>>> {
+        let row = self.rows.as_slice().get(usize::from(from.number))?;
+        let mailbox = row.as_slice().get(usize::from(to.number))?;
+        Some(mailbox)
+    }
+
+    /// The mailbox of an ordered pair, when no end of it is left.
+    pub fn left(&mut self, from: CoreId, to: CoreId) -> Option<&mut Mailbox<CAP>> {
+        let row = self.rows.get_mut(usize::from(from.number))?;
+        let mailbox = row.get_mut(usize::from(to.number))?;
+        Some(mailbox.get_mut())
+    }
+
+    /// One core's end, which sent and took nothing.
+    pub fn end<'a, R: Wait>(
+        &'a self,
+        rt: &'a R,
+        alloc: Global,
+        core: CoreId,
+    ) -> LockedEnd<'a, R, CAP>
+        ensures { result.steps.items ≡ [] }
+    {
+        LockedEnd {
+            rt,
+            mail: self,
+            core,
+            steps: Vec::new(alloc),
+        }
+    }
+}
+
+// The mailboxes to which one core sends.
+fn row<const CAP: usize>(
+    alloc: Global,
+    from: CoreId,
+    cap: usize,
+) -> Result<Vec<Locked<CAP>>, AllocError>
+    requires { cap ≤ CAP }
+{
+    let mut row = Vec::with_capacity(alloc, CONFIGURED_CORES)?;
+    for number in 0..CONFIGURED_CORES as u8 {
+        let mailbox = Mailbox::new(alloc, from, CoreId { number }, cap)?;
+        row.push(CachePadded::new(Mutex::new(mailbox)))?;
+    }
+    Ok(row)
+}
+
+/// One core's end of the locked mail. It records what it sent and took, so that two ends can be compared
+/// once nobody uses them.
+#[derive(Drop)]
+pub struct LockedEnd<'a, R, const CAP: usize> {
+    rt: &'a R,
+    mail: &'a LockedMail<CAP>,
+    core: CoreId,
+    steps: Vec<MailStep>,
+}
+
+impl<'a, R: Wait, const CAP: usize> LockedEnd<'a, R, CAP> {
+    /// What it sent and took, in order.
+    pub fn into_steps(self) -> Vec<MailStep>
+        ensures { result.items ≡ self.entry.steps.items }
+    {
+        self.steps
+    }
+}
+
+// Sends an envelope, and records it.
+fn post<const CAP: usize>(
+    mailbox: &mut Mailbox<CAP>,
+    steps: &mut Vec<MailStep>,
+    to: CoreId,
+    envelope: Envelope,
+) -> Result<(), Envelope>
+    requires { vec_len steps.old < vec_capacity steps.old }
+    ensures ok { OnOk result ((mailbox.new ≡ after_push mailbox.old envelope) × (steps.new.items ≡ steps.old.items ++ Sent to envelope ∷ [])) }
+    ensures err { IfErr result (λ e. (e ≡ envelope) × (mailbox.new ≡ mailbox.old) × (steps.new ≡ steps.old)) }
+{
+    let sent = mailbox.push(envelope);
+    if sent.is_ok() {
+        steps.push_reserved(MailStep::Sent(to, envelope));
+    }
+    sent
+}
+
+// Takes the oldest envelope, and records it.
+fn fetch<const CAP: usize>(
+    mailbox: &mut Mailbox<CAP>,
+    steps: &mut Vec<MailStep>,
+    from: CoreId,
+) -> Option<Envelope>
+    requires { vec_len steps.old < vec_capacity steps.old }
+    ensures oldest { result ≡ slice_get mailbox.old.envelopes 0 }
+    ensures rest { mailbox.new ≡ after_pop mailbox.old }
+    ensures some { IfSome result (λ e. steps.new.items ≡ steps.old.items ++ Taken from e ∷ []) }
+    ensures none { IfNone result (steps.new ≡ steps.old) }
+{
+    let taken = mailbox.pop();
+    if let Some(envelope) = &taken {
+        steps.push_reserved(MailStep::Taken(from, *envelope));
+    }
+    taken
+}
+
+impl<'a, R: Wait, const CAP: usize> Mail for LockedEnd<'a, R, CAP> {
+    ghost sent = { λ end. sent_to end.steps.items };
+
+    ghost taken = { λ end. taken_from end.steps.items };
+
+    ghost has_room = { λ end. vec_len end.steps < vec_capacity end.steps };
+
+    fn room(&mut self) -> Result<(), AllocError> {
+        self.steps.reserve(1)
+    }
+
+    #[tactic(auto, using(crate::proofs::Steps::sent_after_sent, crate::proofs::Steps::taken_after_sent))]
+    fn send(&mut self, to: CoreId, envelope: Envelope) -> Result<(), Envelope> {
+        let Some(lock) = self.mail.mailbox(self.core, to) else {
+            return Err(envelope);
+        };
+        post(&mut lock.lock(self.rt), &mut self.steps, to, envelope)
+    }
+
+    #[tactic(auto, using(crate::proofs::Steps::taken_after_taken, crate::proofs::Steps::sent_after_taken))]
+    fn take(&mut self, from: CoreId) -> Option<Envelope> {
+        let lock = self.mail.mailbox(from, self.core)?;
+        fetch(&mut lock.lock(self.rt), &mut self.steps, from)
+    }
+}
+
+#[cfg(test)]
+mod tests {
+    use super::*;
+    use osbase::{Message, Status};
+    use std::test::Fail;
+
+    fn envelope(number: u64) -> Envelope {
+        let message = Message::Reply(Status::EOk);
+        Envelope { number, message }
+    }
+
+    #[test]
+    fn what_is_taken_and_left_is_what_was_sent(rt: HostRuntime) -> Result<(), Fail> {
+        let (first, second) = (CoreId { number: 0 }, CoreId { number: 7 });
+        let mut mail: LockedMail<4> = LockedMail::new(rt.alloc(), 2)?;
+        let mut sender = mail.end(&rt, rt.alloc(), first);
+        let mut receiver = mail.end(&rt, rt.alloc(), second);
+        for number in 0..2u64 {
+            sender.room()?;
+            assert_eq!(rt; sender.send(second, envelope(number)), Ok(()));
+        }
+        sender.room()?;
+        assert_eq!(rt; sender.send(second, envelope(2)), Err(envelope(2)));
+        assert_eq!(rt; sender.take(second), None);
+        receiver.room()?;
+        assert_eq!(rt; receiver.take(first), Some(envelope(0)));
+        assert_eq!(rt; sender.send(second, envelope(3)), Err(envelope(3)));
+        assert_eq!(rt; sender.send(second, envelope(2)), Ok(()));
+        let (sent, taken) = (sender.into_steps(), receiver.into_steps());
+        let Some(left) = mail.left(first, second) else {
+            panic!(rt; "a mailbox")
+        };
+        let (sent, taken) = (sent.as_slice(), taken.as_slice());
+        assert_eq!(rt;
+            left.settles(rt.alloc(), first, sent, second, taken),
+            Ok(true)
+        );
+        assert_eq!(rt;
+            left.settles(rt.alloc(), first, sent, second, &[]),
+            Ok(false)
+        );
+        Ok(())
+    }
+}

@@ -1,0 +1,106 @@
+//! The mailbox of one ordered pair of cores.
+
+ghost use Rattle.std.specs.Prelude.{◌≡◌, ◌++◌, ◌<◌, ◌≤◌, ◌↔◌, ◌⊎◌, length, slice_get, IfOk, IfErr, OnOk, IsTrue};
+ghost use Rattle.osmail.specs.Ends.{sent_to, taken_from};
+ghost use Rattle.osmail.specs.Mailboxes.{IsNext, after_pop, after_push, empty_mailbox};
+
+use crate::ends::{MailStep, sent_to, taken_from};
+use crate::sameness::are_same;
+use osbase::{CoreId, Envelope};
+use std::alloc::{AllocError, Global};
+use std::collections::VecDeque;
+use std::marker::Model;
+
+/// A mailbox that keeps who sends and who receives, that its envelopes are numbered one after another, and that at most
+/// `cap` stand in it. It has place for `cap` from the start.
+#[derive(Drop)]
+pub struct Mailbox<const CAP: usize> {
+    from: CoreId,
+    to: CoreId,
+    cap: usize,
+    next: u64,
+    envelopes: VecDeque<Envelope>,
+}
+
+impl<const CAP: usize> Model for Mailbox<CAP> {
+    ghost use Rattle.std.specs.Prelude.{◌≤◌};
+    ghost use Rattle.std.specs.VecDeque.{deque_capacity};
+    ghost use Rattle.osmail.specs.Mailboxes.{IsMailbox, MailboxState};
+
+    ghost Value = { MailboxState };
+
+    ghost view = { λ m. record { from = m.from; to = m.to; cap = m.cap; next = m.next; envelopes = m.envelopes.items } };
+
+    ghost invariant = { λ m. (m.cap ≤ deque_capacity m.envelopes) × IsMailbox CAP (record { from = m.from; to = m.to; cap = m.cap; next = m.next; envelopes = m.envelopes.items }) };
+}
+
+impl<const CAP: usize> Mailbox<CAP> {
+    /// A mailbox in which nothing stands.
+    pub fn new(alloc: Global, from: CoreId, to: CoreId, cap: usize) -> Result<Self, AllocError>
+        requires { cap ≤ CAP }
+        ensures { IfOk result (λ m. m ≡ empty_mailbox from to cap) }
+    {
+        let envelopes = VecDeque::with_capacity(alloc, cap)?;
+        Ok(Mailbox {
+            from,
+            to,
+            cap,
+            next: 0,
+            envelopes,
+        })
+    }
+
+    // Whether the envelope has the sender's next number.
+    fn is_next(&self, envelope: &Envelope) -> bool
+        ensures { IsTrue result ↔ IsNext self.now envelope.now }
+    {
+        envelope.number < 1 << 62 && envelope.number == self.next + self.envelopes.len() as u64
+    }
+
+    /// Puts the next envelope behind the others. One for which there is no place, or which is not the next, is handed back.
+    pub fn push(&mut self, envelope: Envelope) -> Result<(), Envelope>
+        ensures ok { OnOk result ((self.new ≡ after_push self.old envelope) × IsNext self.old envelope × (length self.old.envelopes < self.old.cap)) }
+        ensures err { IfErr result (λ e. (e ≡ envelope) × (self.new ≡ self.old) × ((self.old.cap ≤ length self.old.envelopes) ⊎ (IsNext self.old envelope → ⊥))) }
+    {
+        if !self.is_next(&envelope) {
+            return Err(envelope);
+        }
+        if self.envelopes.len() >= self.cap {
+            return Err(envelope);
+        }
+        let Ok(()) = self.envelopes.push_back(envelope) else {
+            unreachable!()
+        };
+        Ok(())
+    }
+
+    /// Takes the oldest envelope, if one stands here.
+    pub fn pop(&mut self) -> Option<Envelope>
+        ensures oldest { result ≡ slice_get self.old.envelopes 0 }
+        ensures rest { self.new ≡ after_pop self.old }
+    {
+        let Some(oldest) = self.envelopes.pop_front() else {
+            return None;
+        };
+        self.next += 1;
+        Some(oldest)
+    }
+
+    /// Whether what `to` took from `from`, and then what is left here, is what `from` sent to `to`.
+    pub fn settles(
+        &self,
+        alloc: Global,
+        from: CoreId,
+        sent: &[MailStep],
+        to: CoreId,
+        taken: &[MailStep],
+    ) -> Result<bool, AllocError>
+        ensures { IfOk result (λ b. IsTrue b → taken_from taken.now from ++ self.now.envelopes ≡ sent_to sent.now to) }
+    {
+        let posted = sent_to(alloc, sent, to)?;
+        let mut received = taken_from(alloc, taken, from)?;
+        let mut left: Vec<Envelope> = self.envelopes.iter().copied().collect(alloc)?;
+        received.append(&mut left)?;
+        Ok(are_same(received.as_slice(), posted.as_slice()))
+    }
+}
