@@ -4,9 +4,9 @@ use Rattle.std.proofs.lemmas.List.{length-map}
 use Rattle.std.specs.Borrow.{Bor}
 use Rattle.osplan.specs.declared.faults.ConfFault.TheVariants.{NoMemory}
 use Rattle.mcos.specs.declared.faults.Fault.TheVariants.{Text, Unreadable}
-use Rattle.mcos.specs.declared.jobs.Job.{Job}
-use Rattle.mcos.specs.declared.jobs.Job.TheVariants.{Run, Check, Cut, Replay}
-use Rattle.mcos.specs.Jobs.{paths_of}
+use Rattle.oscommand.specs.declared.jobs.Job.{Job}
+use Rattle.oscommand.specs.declared.jobs.Job.TheVariants.{Run, Check, Cut, Replay}
+use Rattle.oscommand.specs.Jobs.{paths_of}
 use Rattle.mcos.specs.Performs.{HasNoOutput, fails}
 use Rattle.mcos.specs.Program.{PrintsJob}
 use Rattle.mcos.specs.Runs.{at_config}

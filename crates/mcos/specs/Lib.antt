@@ -1,8 +1,6 @@
 pub mod Checks
-pub mod CommandLine
 pub mod Faults
 pub mod Files
-pub mod Jobs
 pub mod Outputs
 pub mod Performs
 pub mod Program

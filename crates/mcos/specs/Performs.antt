@@ -15,14 +15,14 @@ use Rattle.ostrace.specs.Taken.{Writes}
 use Rattle.osturn.specs.Ends.{have_all_ended}
 use Rattle.mcos.specs.declared.faults.Fault.{Fault}
 use Rattle.mcos.specs.declared.faults.Fault.TheVariants.{Text, NoMemoryToRun, WriteFailed}
-use Rattle.mcos.specs.declared.jobs.Job.{Job}
-use Rattle.mcos.specs.declared.jobs.Job.TheVariants.{Run, Check, Cut, Replay}
+use Rattle.oscommand.specs.declared.jobs.Job.{Job}
+use Rattle.oscommand.specs.declared.jobs.Job.TheVariants.{Run, Check, Cut, Replay}
 use Rattle.mcos.specs.declared.outcomes.Outcome.{Outcome}
 use Rattle.mcos.specs.declared.outcomes.Outcome.TheVariants.{Done, Stalled}
 use Rattle.oswrite.specs.Writing.{config_text}
 use Rattle.mcos.specs.Checks.{check_text, cut_text}
 use Rattle.mcos.specs.Faults.{fault_text}
-use Rattle.mcos.specs.Jobs.{path_in}
+use Rattle.oscommand.specs.Jobs.{path_in}
 use Rattle.mcos.specs.Replays.{HasNoReplay, IsReplayOutput}
 use Rattle.mcos.specs.Runs.{IsGiven, IsInput, IsPlayed, are_items_known, printed_text}
 use Rattle.mcos.specs.Texts.{File, IsAsked, IsFaultOf, Means, text_at}

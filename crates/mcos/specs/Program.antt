@@ -8,13 +8,13 @@ use Rattle.ostrace.specs.declared.sinks.WriteFailed.{WriteFailed as SinkFailed}
 use Rattle.ostrace.specs.Taken.{Writes}
 use Rattle.mcos.specs.declared.faults.Fault.{Fault}
 use Rattle.mcos.specs.declared.faults.Fault.TheVariants.{Text}
-use Rattle.mcos.specs.declared.jobs.Job.{Job}
+use Rattle.oscommand.specs.declared.jobs.Job.{Job}
 use Rattle.mcos.specs.declared.outcomes.Outcome.{Outcome}
 use Rattle.mcos.specs.declared.outcomes.Outcome.TheVariants.{Done}
 use Rattle.mcos.specs.declared.program.NoWords.{NoWords}
 use Rattle.mcos.specs.declared.program.NoWords.TheVariants as none
-use Rattle.mcos.specs.CommandLine.{AsksFor, command_line}
-use Rattle.mcos.specs.Jobs.{paths_of}
+use Rattle.oscommand.specs.CommandLine.{AsksFor, command_line}
+use Rattle.oscommand.specs.Jobs.{paths_of}
 use Rattle.mcos.specs.Outputs.{Sends}
 use Rattle.mcos.specs.Performs.{IsPrinted, Prints, Tells, status_of, unless_refused}
 use Rattle.mcos.specs.Runs.{StopsAtFaults}

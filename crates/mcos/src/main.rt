@@ -5,7 +5,6 @@ mod checks;
 mod endings;
 mod faults;
 mod files;
-mod jobs;
 mod outcomes;
 mod outputs;
 mod performs;

@@ -1,18 +1,18 @@
 //! Doing a job over its files' bytes.
 
 ghost use Rattle.std.specs.Prelude.{◌<◌, ◌^◌, length};
-ghost use Rattle.mcos.specs.Jobs.{paths_of};
+ghost use Rattle.oscommand.specs.Jobs.{paths_of};
 ghost use Rattle.mcos.specs.Performs.{IsPrinted, Performs};
 ghost use Rattle.mcos.specs.Runs.{UsesUp};
 
 use crate::checks::{check, cut_out};
 use crate::endings::tell;
 use crate::faults::Fault;
-use crate::jobs::Job;
 use crate::outcomes::Outcome;
 use crate::replays::replay_out;
 use crate::runs::run;
 use crate::sources::{Given, Source};
+use oscommand::Job;
 use ostrace::Sink;
 use std::alloc::Global;
 

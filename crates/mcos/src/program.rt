@@ -13,12 +13,12 @@ ghost use Rattle.mcos.specs.Program.{Answers, DoesJob, IsMistaken, PrintsJob, Re
 use crate::endings::close;
 use crate::faults::Fault;
 use crate::files::Paths;
-use crate::jobs::{Job, job_of};
 use crate::outcomes::{Outcome, USAGE};
 use crate::outputs::Output;
 use crate::performs::print_from;
 use clap::Error;
 use clap::error::ErrorKind;
+use oscommand::{Job, job_of};
 use ostrace::{Sink, write_all};
 use std::alloc::{AllocError, Global};
 use std::convert::AsStr;

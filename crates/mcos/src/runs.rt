@@ -7,7 +7,7 @@ ghost use Rattle.ostrace.specs.Taken.{Writes};
 ghost use Rattle.ostext.specs.Trace.{text_of};
 ghost use Rattle.osplan.specs.Stimuli.{AreKnown};
 ghost use Rattle.osturn.specs.Ends.{have_all_ended};
-ghost use Rattle.mcos.specs.Jobs.{listed, path_in};
+ghost use Rattle.oscommand.specs.Jobs.{listed, path_in};
 ghost use Rattle.mcos.specs.Performs.{Comes, HasNoItems, IsLogOutput, IsRunPrinted, IsRead, Prints, outcome_of};
 ghost use Rattle.mcos.specs.Runs.{AreOfTurns, UsesUp, are_items_known, items_in, last_line, run_text};
 

@@ -11,11 +11,11 @@ mod tables;
 
 ghost use Rattle.std.specs.Prelude.{◌≡◌, None, Some, length};
 
-use crate::jobs::{Job, job_of};
 use crate::outputs::Output;
 use crate::performs::{perform, print_from};
 use crate::sources::{Given, Source};
 use osbase::CoreId;
+use oscommand::Job;
 use osconf::{Config, read_config, read_stimuli};
 use ostrace::{MemorySink, Sink, WriteFailed, write_reports};
 use osworld::{default_schedule, run_world};
@@ -474,54 +474,6 @@ fn no_file_is_read_after_one_with_a_fault(rt: HostRuntime) -> Result<(), Fail> {
         let mut out = MemorySink::new(Vec::new(alloc));
         let _ = print_from(alloc, job, source, &mut out);
         assert_eq!(rt; read.get(), *count);
-    }
-    Ok(())
-}
-
-#[test]
-fn words_make_the_job(rt: HostRuntime) -> Result<(), Fail> {
-    let alloc = rt.alloc();
-    let words = ["mcos", "run", "a", "--schedule", "c", "b"];
-    let run = Job::Run {
-        config: "a",
-        stimuli: "b",
-        schedule: Some("c"),
-        items: None,
-    };
-    assert_eq!(rt; job_of(alloc, words.as_slice()).ok(), Some(run));
-    let check = Job::Check { config: "a" };
-    assert_eq!(rt;
-        job_of(alloc, ["mcos", "check", "a"].as_slice()).ok(),
-        Some(check)
-    );
-    let cut = Job::Cut {
-        config: "a",
-        core: CoreId { number: 255 },
-    };
-    assert_eq!(rt;
-        job_of(alloc, ["mcos", "cut", "a", "255"].as_slice()).ok(),
-        Some(cut)
-    );
-    Ok(())
-}
-
-#[test]
-fn other_words_are_wrong_usage(rt: HostRuntime) -> Result<(), Fail> {
-    let refused = [
-        ["mcos", "run", "a"].as_slice(),
-        ["mcos", "walk", "a"].as_slice(),
-        ["mcos"].as_slice(),
-        ["mcos", "check"].as_slice(),
-        ["mcos", "cut", "a"].as_slice(),
-        ["mcos", "cut", "a", "256"].as_slice(),
-        ["mcos", "cut", "a", "-1"].as_slice(),
-        ["mcos", "cut", "a", "x"].as_slice(),
-    ];
-    for words in refused.as_slice() {
-        let Err(error) = job_of(rt.alloc(), *words) else {
-            return Err(Fail::from("a job"));
-        };
-        assert_eq!(rt; error.exit_code(), 2);
     }
     Ok(())
 }

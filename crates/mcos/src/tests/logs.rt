@@ -1,8 +1,8 @@
 //! Logs and their replays, from text to text.
 
 use super::{BESIDE, BORDER, compare, print};
-use crate::jobs::{Job, job_of};
 use osbase::CoreId;
+use oscommand::Job;
 use std::alloc::Global;
 use std::process::Abort;
 use std::test::Fail;
@@ -231,16 +231,4 @@ fn a_core_that_is_not_configured_has_no_log(rt: HostRuntime) -> Result<(), Fail>
     compare(&rt, alloc, &replay_of(3), &[Some("x"), None], bad)?;
     let unreadable = ("", "fault 21 Unreadable\n", 1);
     compare(&rt, alloc, &replay_of(0), &[Some(BORDER), None], unreadable)
-}
-
-#[test]
-fn the_words_of_both_commands_name_their_jobs(rt: HostRuntime) -> Result<(), Fail> {
-    let alloc = rt.alloc();
-    let words = ["mcos", "replay", "config.json", "7", "log.txt"];
-    assert_eq!(rt; job_of(alloc, words.as_slice()).ok(), Some(replay_of(7)));
-    let words = ["mcos", "run", "config.json", "stim.json", "--items", "255"];
-    assert_eq!(rt; job_of(alloc, words.as_slice()).ok(), Some(items_of(255)));
-    let words = ["mcos", "run", "config.json", "stim.json", "--items", "256"];
-    assert!(rt; job_of(alloc, words.as_slice()).is_err());
-    Ok(())
 }

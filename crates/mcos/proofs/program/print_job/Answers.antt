@@ -1,6 +1,6 @@
 use Rattle.std.proofs.Common.{◌≡◌, ◌∙◌, Err, ap, arith, length}
 use Rattle.std.proofs.lemmas.Result.{err_from_is_err_and}
-use Rattle.mcos.specs.Jobs.{paths_of}
+use Rattle.oscommand.specs.Jobs.{paths_of}
 use Rattle.mcos.proofs.Unread.{unread, listed_paths}
 use Rattle.mcos.proofs.program.print_job.Goals as goal
 

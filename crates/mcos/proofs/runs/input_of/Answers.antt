@@ -1,7 +1,7 @@
 use Rattle.std.proofs.Common.{◌∙◌, arith, refl}
 use Rattle.std.specs.Prelude.{IsSome}
 use Rattle.std.proofs.lemmas.Result.{err_from_is_err_and}
-use Rattle.mcos.specs.Jobs.{path_in}
+use Rattle.oscommand.specs.Jobs.{path_in}
 use Rattle.mcos.specs.Performs.{in_config, in_items, in_schedule, in_stimuli}
 use Rattle.osgiven.specs.Given.{stimuli_meant}
 use Rattle.osdraft.specs.Meaning.{config_of}

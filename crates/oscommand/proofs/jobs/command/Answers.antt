@@ -2,8 +2,8 @@ use Rattle.std.proofs.Common.{Bool, ap, ap₂, codes, refl, true, false, not, �
 use Rattle.std.proofs.lemmas.Result.{IfOk-weaker}
 use Rattle.clap.specs.Simple.{app_of_fields}
 use Rattle.clap.specs.Words.{App, app_of, new_app, with_subcommand}
-use Rattle.mcos.specs.CommandLine.{check_command, cut_command, requires_subcommand, run_command, tells_version}
-use Rattle.mcos.proofs.jobs.command.Goals as goal
+use Rattle.oscommand.specs.CommandLine.{check_command, cut_command, requires_subcommand, run_command, tells_version}
+use Rattle.oscommand.proofs.jobs.command.Goals as goal
 
 -- a command that is plain has no global argument
 local : (groups external globals others : Bool) → (groups && (external && (not globals && others))) ≡ true → globals ≡ false

@@ -1,8 +1,8 @@
 -- The files of a job. [own]
 use Rattle.std.specs.Prelude.{ℕ, List, [], ◌∷◌, ◌++◌, Option, Some, None, option_map}
 use Rattle.std.specs.Borrow.{Bor}
-use Rattle.mcos.specs.declared.jobs.Job.{Job}
-use Rattle.mcos.specs.declared.jobs.Job.TheVariants.{Run, Check, Cut, Replay}
+use Rattle.oscommand.specs.declared.jobs.Job.{Job}
+use Rattle.oscommand.specs.declared.jobs.Job.TheVariants.{Run, Check, Cut, Replay}
 
 abbrev pub config_path : Job → List ℕ
 config_path (Run config stimuli schedule items) = config.now

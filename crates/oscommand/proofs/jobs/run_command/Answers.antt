@@ -2,7 +2,7 @@ use Rattle.std.proofs.Common.{ap, ap₂, codes, ◌≡◌, ◌∙◌}
 use Rattle.std.proofs.lemmas.Result.{IfOk-weaker}
 use Rattle.clap.specs.Simple.{app_of_fields}
 use Rattle.clap.specs.Words.{app_of, new_app, with_rule}
-use Rattle.mcos.proofs.jobs.run_command.Goals as goal
+use Rattle.oscommand.proofs.jobs.run_command.Goals as goal
 
 pub returns : goal.returns
 returns c =

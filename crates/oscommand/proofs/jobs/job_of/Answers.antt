@@ -5,10 +5,10 @@ use Rattle.clap.specs.declared.parser.matches.ArgMatches.{ArgMatches}
 use Rattle.clap.specs.declared.parser.matches.Found.{Found}
 use Rattle.clap.proofs.OnLiterals.{clap_on_literals}
 use Rattle.clap.proofs.WalkLemmas.{first_value-rows}
-use Rattle.mcos.specs.declared.jobs.Job.{Job}
-use Rattle.mcos.specs.CommandLine.{AsksFor, HasEntries, command_line, subcommand_name}
-use Rattle.mcos.proofs.Usage.{IsJob, check_has, cut_has, names_job, replay_has, run_has}
-use Rattle.mcos.proofs.jobs.job_of.Goals as goal
+use Rattle.oscommand.specs.declared.jobs.Job.{Job}
+use Rattle.oscommand.specs.CommandLine.{AsksFor, HasEntries, command_line, subcommand_name}
+use Rattle.oscommand.proofs.Usage.{IsJob, check_has, cut_has, names_job, replay_has, run_has}
+use Rattle.oscommand.proofs.jobs.job_of.Goals as goal
 
 -- the program's command line is one whose matches and faults are known
 is_known : is_simple command_line ≡ true

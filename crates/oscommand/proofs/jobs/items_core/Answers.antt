@@ -1,7 +1,7 @@
 use Rattle.std.proofs.Common.{sym, codes, ◌∙◌}
 use Rattle.clap.specs.Words.{found_of}
 use Rattle.clap.proofs.WalkLemmas.{first_value-rows}
-use Rattle.mcos.proofs.jobs.items_core.Goals as goal
+use Rattle.oscommand.proofs.jobs.items_core.Goals as goal
 
 pub returns-in-Some : goal.returns-in-Some
 returns-in-Some c = record {

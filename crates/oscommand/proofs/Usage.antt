@@ -10,8 +10,8 @@ use Rattle.clap.specs.Words.{IsUnsignedIn, Row, Rule, Text, fault_of, first_of, 
 use Rattle.clap.specs.declared.error.kind.ErrorKind.{ErrorKind}
 use Rattle.clap.specs.declared.builder.ValueParser.TheVariants.{Unsigned}
 use Rattle.clap.proofs.ValueTestLemmas.{accepts-Accepts}
-use Rattle.mcos.specs.CommandLine.{check_command, command_line, config_rule, core_rule, cut_command, items_rule, log_rule, replay_command, run_command, schedule_rule, stimuli_rule}
-use Rattle.mcos.proofs.Parsed.{AllGive, AllKeep, help_keeps, leaf_any, leaf_first, one_keeps, subcommand_gives}
+use Rattle.oscommand.specs.CommandLine.{check_command, command_line, config_rule, core_rule, cut_command, items_rule, log_rule, replay_command, run_command, schedule_rule, stimuli_rule}
+use Rattle.oscommand.proofs.Parsed.{AllGive, AllKeep, help_keeps, leaf_any, leaf_first, one_keeps, subcommand_gives}
 
 -- the arguments as they are built
 abbrev config : Rule

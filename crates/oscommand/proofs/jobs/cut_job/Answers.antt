@@ -1,7 +1,7 @@
 use Rattle.std.proofs.Common.{refl, sym, codes, ◌∙◌}
 use Rattle.clap.specs.Words.{found_of}
 use Rattle.clap.proofs.WalkLemmas.{first_value-rows}
-use Rattle.mcos.proofs.jobs.cut_job.Goals as goal
+use Rattle.oscommand.proofs.jobs.cut_job.Goals as goal
 
 pub returns : goal.returns
 returns c =

@@ -1,4 +1,4 @@
-use Rattle.mcos.proofs.jobs.core_in.Goals as goal
+use Rattle.oscommand.proofs.jobs.core_in.Goals as goal
 
 pub returns : goal.returns
 returns c = c.in-Ok.ensures.value.0.1

@@ -3,8 +3,8 @@
 ghost use Rattle.std.specs.Prelude.{◌≡◌, IfOk, IfSome, IsSome, IsSomeAnd, codes, false, map};
 ghost use Rattle.std.specs.Str.Parse.{digits_value, without_leading_plus};
 ghost use Rattle.clap.specs.Words.{FailsBy, IsUnsignedIn, app_of, fault_of, first_of, first_value, found_of, rows_of, rule_of};
-ghost use Rattle.mcos.specs.CommandLine.{AsksFor, HasEntries, SaysCore, check_command, command_line, config_rule, core_rule, cut_command, items_rule, replay_command, run_command, schedule_rule, stimuli_rule, subcommand_name};
-ghost use Rattle.mcos.specs.Jobs.{paths_of};
+ghost use Rattle.oscommand.specs.CommandLine.{AsksFor, HasEntries, SaysCore, check_command, command_line, config_rule, core_rule, cut_command, items_rule, replay_command, run_command, schedule_rule, stimuli_rule, subcommand_name};
+ghost use Rattle.oscommand.specs.Jobs.{paths_of};
 
 use clap::builder::ValueParser;
 use clap::{Arg, ArgAction, ArgMatches, Command, Error};

@@ -5,9 +5,9 @@ use Rattle.clap.specs.Words.{App, Row, Rule, first_of, new_app, new_rule, subcom
 use Rattle.clap.specs.declared.builder.ArgAction.TheVariants.{Set}
 use Rattle.clap.specs.declared.builder.ValueParser.TheVariants.{Unsigned}
 use Rattle.osbase.specs.declared.references.CoreId.{CoreId}
-use Rattle.mcos.specs.declared.jobs.Job.{Job}
-use Rattle.mcos.specs.declared.jobs.Job.TheVariants.{Run, Check, Cut, Replay}
-use Rattle.mcos.specs.Jobs.{path_in}
+use Rattle.oscommand.specs.declared.jobs.Job.{Job}
+use Rattle.oscommand.specs.declared.jobs.Job.TheVariants.{Run, Check, Cut, Replay}
+use Rattle.oscommand.specs.Jobs.{path_in}
 
 abbrev pub config_rule : Rule
 config_rule = record (new_rule (codes "CFG")) { required = true }

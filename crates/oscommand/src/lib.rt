@@ -1,0 +1,8 @@
+//! The program's command line: the job that its words ask for.
+#![tactic(auto)]
+
+pub mod jobs;
+#[cfg(test)]
+mod tests;
+
+pub use jobs::{Job, job_of};
