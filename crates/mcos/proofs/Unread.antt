@@ -5,7 +5,7 @@ use Rattle.std.specs.Borrow.{Bor}
 use Rattle.osplan.specs.declared.faults.ConfFault.TheVariants.{NoMemory}
 use Rattle.mcos.specs.declared.faults.Fault.TheVariants.{Text, Unreadable}
 use Rattle.oscommand.specs.declared.jobs.Job.{Job}
-use Rattle.oscommand.specs.declared.jobs.Job.TheVariants.{Run, Check, Cut, Replay}
+use Rattle.oscommand.specs.declared.jobs.Job.TheVariants.{Run, Check, Cut, Replay, Threads}
 use Rattle.oscommand.specs.Jobs.{paths_of}
 use Rattle.mcos.specs.Performs.{HasNoOutput, fails}
 use Rattle.mcos.specs.Program.{PrintsJob}
@@ -21,6 +21,7 @@ no_memory-output (Run config stimuli schedule items) files = λ apart. absurd (a
 no_memory-output (Check config) files = λ apart. absurd (apart refl)
 no_memory-output (Cut config core) files = λ apart. absurd (apart refl)
 no_memory-output (Replay config core log) files = λ apart. absurd (apart refl)
+no_memory-output (Threads config stimuli turns items) files = λ apart. absurd (apart refl)
 
 readable : Text NoMemory ≡ Unreadable → ⊥
 readable e = cc

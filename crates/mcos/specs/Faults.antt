@@ -5,8 +5,10 @@ use Rattle.osplan.specs.Fault.{fault_number as conf_fault_number, fault_name as 
 use Rattle.ostext.specs.Trace.{line_end, spaced}
 use Rattle.oslog.specs.declared.faults.LogFault.{LogFault}
 use Rattle.oslog.specs.declared.faults.LogFault.TheVariants as log
+use Rattle.osthreads.specs.declared.runs.ThreadReason.{ThreadReason}
+use Rattle.osthreads.specs.declared.runs.ThreadReason.TheVariants as threads
 use Rattle.mcos.specs.declared.faults.Fault.{Fault}
-use Rattle.mcos.specs.declared.faults.Fault.TheVariants.{Text, BadLog, ItemRefused, NoMemoryToRun, WriteFailed, Unreadable}
+use Rattle.mcos.specs.declared.faults.Fault.TheVariants.{Text, BadLog, ItemRefused, NoMemoryToRun, NoThread, MailBreak, WriteFailed, Unreadable}
 
 -- The printed number of a fault. Of a text's fault it is that of `osplan/specs/Fault.antt`. [own]
 abbrev pub fault_number : Fault → ℕ
@@ -14,6 +16,8 @@ fault_number (Text fault) = conf_fault_number fault
 fault_number BadLog = 14
 fault_number (ItemRefused number) = 15
 fault_number NoMemoryToRun = 16
+fault_number NoThread = 17
+fault_number MailBreak = 18
 fault_number WriteFailed = 19
 fault_number Unreadable = 21
 
@@ -23,6 +27,8 @@ fault_name (Text fault) = conf_fault_name fault
 fault_name BadLog = codes "BadLog"
 fault_name (ItemRefused number) = codes "ItemRefused"
 fault_name NoMemoryToRun = codes "NoMemory"
+fault_name NoThread = codes "NoThread"
+fault_name MailBreak = codes "MailBreak"
 fault_name WriteFailed = codes "WriteFailed"
 fault_name Unreadable = codes "Unreadable"
 
@@ -39,3 +45,9 @@ fault_text fault = spaced (codes "fault" ∷ decimal (fault_number fault) ∷ fa
 abbrev pub of_log : LogFault → Fault
 of_log log.BadLog = BadLog
 of_log log.NoMemory = NoMemoryToRun
+
+-- The fault of a run by threads.
+abbrev pub of_threads : ThreadReason → Fault
+of_threads threads.NoMemory = NoMemoryToRun
+of_threads threads.NoThread = NoThread
+of_threads threads.MailBreak = MailBreak

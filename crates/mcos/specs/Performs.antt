@@ -1,5 +1,5 @@
 -- What a job comes to: what it prints, its status, and the fault that it tells. [own]
-use Rattle.std.specs.Prelude.{◌≡◌, ◌≢◌, ℕ, Bool, true, false, Option, Some, Result, Ok, Err, List, IsSome, IfErr}
+use Rattle.std.specs.Prelude.{◌≡◌, ◌≢◌, ℕ, Bool, true, false, Option, None, Result, Ok, Err, List, IsSome, IfErr}
 use Rattle.std.specs.Result.{IsOkAnd}
 use Rattle.osbase.specs.declared.references.CoreId.{CoreId}
 use Rattle.osbase.specs.declared.turns.Choice.{Choice}
@@ -14,9 +14,9 @@ use Rattle.ostrace.specs.declared.sinks.WriteFailed.{WriteFailed as SinkFailed}
 use Rattle.ostrace.specs.Taken.{Writes}
 use Rattle.osturn.specs.Ends.{have_all_ended}
 use Rattle.mcos.specs.declared.faults.Fault.{Fault}
-use Rattle.mcos.specs.declared.faults.Fault.TheVariants.{Text, NoMemoryToRun, WriteFailed}
+use Rattle.mcos.specs.declared.faults.Fault.TheVariants.{MailBreak, NoMemoryToRun, NoThread, Text, WriteFailed}
 use Rattle.oscommand.specs.declared.jobs.Job.{Job}
-use Rattle.oscommand.specs.declared.jobs.Job.TheVariants.{Run, Check, Cut, Replay}
+use Rattle.oscommand.specs.declared.jobs.Job.TheVariants.{Run, Check, Cut, Replay, Threads}
 use Rattle.mcos.specs.declared.outcomes.Outcome.{Outcome}
 use Rattle.mcos.specs.declared.outcomes.Outcome.TheVariants.{Done, Stalled}
 use Rattle.oswrite.specs.Writing.{config_text}
@@ -24,7 +24,7 @@ use Rattle.mcos.specs.Checks.{check_text, cut_text}
 use Rattle.mcos.specs.Faults.{fault_text}
 use Rattle.oscommand.specs.Jobs.{path_in}
 use Rattle.mcos.specs.Replays.{HasNoReplay, IsReplayOutput}
-use Rattle.mcos.specs.Runs.{IsGiven, IsInput, IsPlayed, are_items_known, printed_text}
+use Rattle.mcos.specs.Runs.{IsGiven, IsInput, IsPlayed, IsThreaded, are_items_known, printed_text}
 use Rattle.mcos.specs.Texts.{File, IsAsked, IsFaultOf, Means, text_at}
 
 -- ---- how a job ends
@@ -47,48 +47,71 @@ status_of (Err fault) = 1
 abbrev pub NoFault : (List ℕ → Outcome → Type 0) → List ℕ → Result Outcome Fault → Type 0
 NoFault Output text ending = IsOkAnd ending (Output text)
 
--- ---- run
+-- ---- run and threads
 
--- What a run prints of the reports that its files come to, and how it ends. [own]
-pub record IsRunOutput (schedule : Option (List ℕ)) (items : Option CoreId) (files : List File) (text : List ℕ) (outcome : Outcome) : Type 0 where
+-- What a run prints of its reports, and how it ends. Which reports it may have is the first argument. [own]
+pub record IsReportOutput (Played : Plan → List Report → Type 0) (items : Option CoreId) (text : List ℕ) (outcome : Outcome) : Type 0 where
   pub plan : Plan
   pub reports : List Report
   pub known : are_items_known plan items ≡ true
-  pub played : IsPlayed schedule files plan reports
+  pub played : Played plan reports
   pub text_is : text ≡ printed_text plan reports items
   pub outcome_is : outcome ≡ outcome_of (have_all_ended plan reports)
+
+-- A run of turns has the reports of the listed turns, or of the default schedule. [own]
+abbrev pub IsRunOutput : Option (List ℕ) → Option CoreId → List File → List ℕ → Outcome → Type 0
+IsRunOutput schedule items files = IsReportOutput (IsPlayed schedule files) items
+
+-- A run by threads has sound reports, and nothing says which. [own]
+abbrev pub IsThreadsOutput : Option CoreId → List File → List ℕ → Outcome → Type 0
+IsThreadsOutput items files = IsReportOutput (IsThreaded files) items
 
 -- The log of a core that is not configured is asked for, which is the fault.
 abbrev pub HasNoItems : Plan → Option CoreId → Fault → Type 0
 HasNoItems plan items fault = (are_items_known plan items ≡ false) × (fault ≡ Text UnknownName)
 
--- The fault of the first file that has one, in the order configuration, stimuli, schedule; behind the configuration, that the core
--- whose log is to be printed is not in it; or want of memory in a run of files that have meanings. [own]
-pub data IsRunFault (schedule : Option (List ℕ)) (items : Option CoreId) (files : List File) (fault : Fault) : Type 0 where
-  in_config : IsFaultOf faults_of (text_at files 0) fault → IsRunFault schedule items files fault
-  in_items : (plan : Plan) → Means config_of (text_at files 0) plan → HasNoItems plan items fault → IsRunFault schedule items files fault
+-- The fault of the first file that has one, in the order configuration, stimuli, schedule; or, behind the configuration, that the
+-- core whose log is to be printed is not in it. [own]
+pub data IsInputFault (schedule : Option (List ℕ)) (items : Option CoreId) (files : List File) (fault : Fault) : Type 0 where
+  in_config : IsFaultOf faults_of (text_at files 0) fault → IsInputFault schedule items files fault
+  in_items : (plan : Plan) → Means config_of (text_at files 0) plan → HasNoItems plan items fault → IsInputFault schedule items files fault
   in_stimuli : (plan : Plan) → Means config_of (text_at files 0) plan → are_items_known plan items ≡ true →
-      IsFaultOf (stimuli_faults plan) (text_at files 1) fault → IsRunFault schedule items files fault
+      IsFaultOf (stimuli_faults plan) (text_at files 1) fault → IsInputFault schedule items files fault
   in_schedule : (plan : Plan) (stimuli : List CoreStimuli) → IsSome schedule → IsGiven files plan stimuli →
-      are_items_known plan items ≡ true → IsFaultOf (schedule_faults plan) (text_at files 2) fault → IsRunFault schedule items files fault
-  broken_off : (plan : Plan) (stimuli : List CoreStimuli) (turns : Option (List (CoreId × Choice))) →
-      IsInput schedule files plan stimuli turns → are_items_known plan items ≡ true → fault ≡ NoMemoryToRun →
-      IsRunFault schedule items files fault
+      are_items_known plan items ≡ true → IsFaultOf (schedule_faults plan) (text_at files 2) fault → IsInputFault schedule items files fault
 
--- What is printed of a run where the log of a core is asked for, and how it ends.
-pub record IsLogOutput (plan : Plan) (reports : List Report) (core : CoreId) (text : List ℕ) (ending : Result Outcome Fault) : Type 0 where
-  pub text_is : text ≡ printed_text plan reports (Some core)
+-- Why a run has no reports: a fault of its files; or, where these have meanings, what breaks off such a run, which is the first
+-- argument. [own]
+pub data IsRunFault (Breaks : Fault → Type 0) (schedule : Option (List ℕ)) (items : Option CoreId) (files : List File) (fault : Fault) : Type 0 where
+  in_files : IsInputFault schedule items files fault → IsRunFault Breaks schedule items files fault
+  broken_off : (plan : Plan) (stimuli : List CoreStimuli) (turns : Option (List (CoreId × Choice))) →
+      IsInput schedule files plan stimuli turns → are_items_known plan items ≡ true → Breaks fault →
+      IsRunFault Breaks schedule items files fault
+
+-- A run of turns breaks off only where memory ran out.
+abbrev pub BreaksTurns : Fault → Type 0
+BreaksTurns fault = fault ≡ NoMemoryToRun
+
+-- A run by threads breaks off also where a thread could not be started, or where the mail between two cores broke. [own]
+abbrev pub BreaksThreads : Fault → Type 0
+BreaksThreads NoMemoryToRun = Unit {0}
+BreaksThreads NoThread = Unit {0}
+BreaksThreads MailBreak = Unit {0}
+BreaksThreads fault = ⊥
+
+-- What is printed of reports, or the log of one core, and how the run ends.
+pub record IsReported (plan : Plan) (reports : List Report) (items : Option CoreId) (text : List ℕ) (ending : Result Outcome Fault) : Type 0 where
+  pub text_is : text ≡ printed_text plan reports items
   pub ending_is : ending ≡ Ok (outcome_of (have_all_ended plan reports))
 
--- Why a run prints nothing: a fault of its files, or want of memory in the run. Nothing is said of the files where memory was
--- wanting while they were read.
-abbrev pub HasNoReports : Option (List ℕ) → Option CoreId → List File → Fault → Type 0
-HasNoReports schedule items files fault = fault ≢ Text NoMemory → IsRunFault schedule items files fault
+-- Why a run prints nothing. Where memory ran out while the files were read, nothing is said of them.
+abbrev pub HasNoReports : (Fault → Type 0) → Option (List ℕ) → Option CoreId → List File → Fault → Type 0
+HasNoReports Breaks schedule items files fault = fault ≢ Text NoMemory → IsRunFault Breaks schedule items files fault
 
--- What a run reads of its files, of so many as there are: what they mean, or why it has no reports. [own]
+-- What a run reads of its files, of so many as there are: what they mean, or their fault. [own]
 abbrev pub IsRead : Option (List ℕ) → Option CoreId → List File → ℕ → Result (Plan × List CoreStimuli × Option (List (CoreId × Choice))) Fault → Type 0
 IsRead schedule items files count (Ok input) = IsInput schedule files input.0 input.1 input.2 × (are_items_known input.0 items ≡ true)
-IsRead schedule items files count (Err fault) = HasNoReports schedule items files fault × IsAsked count files fault
+IsRead schedule items files count (Err fault) = (fault ≢ Text NoMemory → IsInputFault schedule items files fault) × IsAsked count files fault
 
 -- ---- check
 
@@ -137,12 +160,14 @@ IsOutput (Run config stimuli schedule items) files = NoFault (IsRunOutput (path_
 IsOutput (Check config) files = NoFault (IsCheckOutput files)
 IsOutput (Cut config core) files = NoFault (IsCutOutput core files)
 IsOutput (Replay config core log) files = IsReplayOutput core files
+IsOutput (Threads config stimuli turns items) files = NoFault (IsThreadsOutput items files)
 
 abbrev pub HasNoOutput : Job → List File → Fault → Type 0
-HasNoOutput (Run config stimuli schedule items) files fault = HasNoReports (path_in schedule) items files fault
+HasNoOutput (Run config stimuli schedule items) files fault = HasNoReports BreaksTurns (path_in schedule) items files fault
 HasNoOutput (Check config) files fault = HasNoConfig files fault
 HasNoOutput (Cut config core) files fault = HasNoCut core files fault
 HasNoOutput (Replay config core log) files fault = HasNoReplay core files fault
+HasNoOutput (Threads config stimuli turns items) files fault = HasNoReports BreaksThreads None items files fault
 
 -- ---- printing
 
@@ -181,7 +206,13 @@ pub record PrintsFrom {O : Type 0} (taken : O → Option (List ℕ)) (failed : O
 abbrev pub IsRunPrinted : {O : Type 0} → (O → Option (List ℕ)) → (O → ℕ) → O → O → Option (List ℕ) → Option CoreId → List File → ℕ →
     Result Outcome Fault → Type 0
 IsRunPrinted taken failed old new schedule items files count result =
-    PrintsFrom taken failed old new (NoFault (IsRunOutput schedule items files)) (HasNoReports schedule items files) files count result
+    PrintsFrom taken failed old new (NoFault (IsRunOutput schedule items files)) (HasNoReports BreaksTurns schedule items files) files count result
+
+-- The same of a run by threads.
+abbrev pub IsThreadsPrinted : {O : Type 0} → (O → Option (List ℕ)) → (O → ℕ) → O → O → Option CoreId → List File → ℕ →
+    Result Outcome Fault → Type 0
+IsThreadsPrinted taken failed old new items files count result =
+    PrintsFrom taken failed old new (NoFault (IsThreadsOutput items files)) (HasNoReports BreaksThreads None items files) files count result
 
 -- What a job over these files comes to: it prints what it asks for, or has a fault. [own]
 abbrev pub IsPrinted : {O : Type 0} → (O → Option (List ℕ)) → (O → ℕ) → O → O → Job → List File → ℕ → Result Outcome Fault → Type 0

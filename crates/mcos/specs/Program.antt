@@ -1,6 +1,7 @@
 -- What the program answers to its words. [own]
-use Rattle.std.specs.Prelude.{◌≡◌, ◌≢◌, ◌≤◌, ◌⊎◌, ℕ, Bool, true, false, Option, Result, Ok, Err, List, codes, length}
-use Rattle.clap.specs.Words.{IsAmong, fault_of}
+use Rattle.std.specs.Prelude.{◌≡◌, ◌≢◌, ◌≤◌, ℕ, Bool, true, false, Option, Result, Ok, Err, List, codes, length}
+use Rattle.clap.specs.Words.{kind_of}
+use Rattle.clap.specs.declared.error.Error.{Error}
 use Rattle.clap.specs.declared.error.kind.ErrorKind.{ErrorKind}
 use Rattle.clap.specs.declared.error.kind.ErrorKind.TheVariants.{DisplayHelp, DisplayVersion, OutOfMemory}
 use Rattle.osplan.specs.declared.faults.ConfFault.TheVariants.{NoMemory}
@@ -13,7 +14,7 @@ use Rattle.mcos.specs.declared.outcomes.Outcome.{Outcome}
 use Rattle.mcos.specs.declared.outcomes.Outcome.TheVariants.{Done}
 use Rattle.mcos.specs.declared.program.NoWords.{NoWords}
 use Rattle.mcos.specs.declared.program.NoWords.TheVariants as none
-use Rattle.oscommand.specs.CommandLine.{AsksFor, command_line}
+use Rattle.oscommand.specs.CommandLine.{AsksFor, FailsByWords}
 use Rattle.oscommand.specs.Jobs.{paths_of}
 use Rattle.mcos.specs.Outputs.{Sends}
 use Rattle.mcos.specs.Performs.{IsPrinted, Prints, Tells, status_of, unless_refused}
@@ -87,8 +88,7 @@ module _ {O E : Type 0} (out_taken out_sent : O → Option (List ℕ)) (out_fail
   pub data Obeys (words : List (List ℕ)) (status : ℕ) : Type 0 where
     does : (job : Job) → AsksFor words job →
         DoesJob out_taken out_sent out_failed old_out new_out err_taken err_failed old_err new_err job status → Obeys words status
-    refuses : (kind : ErrorKind) → (kind ≡ OutOfMemory) ⊎ IsAmong kind (fault_of command_line words) → Refuses kind status →
-        Obeys words status
+    refuses : (error : Error) → FailsByWords words (Err error) → Refuses (kind_of error) status → Obeys words status
 
   -- What the words come to, or that they could not be read. [own]
   abbrev pub Answers : Result (List (List ℕ)) NoWords → ℕ → Type 0

@@ -14,6 +14,7 @@ use Rattle.osdraft.specs.Meaning.{config_of}
 use Rattle.osgiven.specs.Given.{schedule_meant, stimuli_meant}
 use Rattle.ostext.specs.Trace.{text_of}
 use Rattle.osturn.specs.Ends.{have_all_ended}
+use Rattle.osturn.specs.Sound.{AreSound}
 use Rattle.osworld.specs.Runs.{AreReports, IsDefaultRun}
 use Rattle.mcos.specs.Texts.{File, Means, text_at}
 
@@ -64,6 +65,14 @@ pub record IsPlayed (schedule : Option (List ℕ)) (files : List File) (plan : P
   pub turns : Option (List (CoreId × Choice))
   pub input : IsInput schedule files plan stimuli turns
   pub are : AreOfTurns plan stimuli turns reports
+
+-- The files have meanings, and these reports are sound: each says what its own items say, the items fit one another and the
+-- stimuli, and each separate core prints what it prints alone. So it is of a run by threads, of which nothing else is said: in
+-- which order the turns of its cores come is up to the threads. [own]
+pub record IsThreaded (files : List File) (plan : Plan) (reports : List Report) : Type 0 where
+  pub stimuli : List CoreStimuli
+  pub given : IsGiven files plan stimuli
+  pub sound : AreSound plan stimuli reports
 
 -- The last line of a run's output: whether every started core has ended. [own]
 abbrev pub last_line : Bool → List ℕ

@@ -1,12 +1,13 @@
 //! The faults that the program prints.
 
 ghost use Rattle.std.specs.Prelude.{◌≡◌};
-ghost use Rattle.mcos.specs.Faults.{fault_number, fault_name, of_log};
+ghost use Rattle.mcos.specs.Faults.{fault_number, fault_name, of_log, of_threads};
 ghost use Rattle.osplan.specs.declared.faults.ConfFault.TheVariants.{NoMemory};
 ghost use Rattle.mcos.specs.declared.faults.Fault.TheVariants.{NoMemoryToRun, Text, WriteFailed};
 
 use osconf::ConfFault;
 use oslog::LogFault;
+use osthreads::{ThreadFault, ThreadReason};
 use ostrace::WriteFailed;
 use osworld::RunFault;
 use std::alloc::AllocError;
@@ -23,6 +24,10 @@ pub enum Fault {
     ItemRefused(u64),
     /// A growth was refused in a run.
     NoMemoryToRun,
+    /// A core's thread could not be started.
+    NoThread,
+    /// A core could not take an envelope, or what two cores sent and took of each other differs.
+    MailBreak,
     /// The output was refused.
     WriteFailed,
     /// A file could not be read.
@@ -39,6 +44,8 @@ impl Fault {
             Fault::BadLog => 14,
             Fault::ItemRefused(_) => 15,
             Fault::NoMemoryToRun => 16,
+            Fault::NoThread => 17,
+            Fault::MailBreak => 18,
             Fault::WriteFailed => 19,
             Fault::Unreadable => 21,
         }
@@ -53,6 +60,8 @@ impl Fault {
             Fault::BadLog => "BadLog",
             Fault::ItemRefused(_) => "ItemRefused",
             Fault::NoMemoryToRun => "NoMemory",
+            Fault::NoThread => "NoThread",
+            Fault::MailBreak => "MailBreak",
             Fault::WriteFailed => "WriteFailed",
             Fault::Unreadable => "Unreadable",
         }
@@ -91,6 +100,18 @@ impl From<RunFault> for Fault {
 
     fn from(_refused: RunFault) -> Fault {
         Fault::NoMemoryToRun
+    }
+}
+
+impl From<ThreadFault> for Fault {
+    ghost from_gives = { λ broken fault. fault ≡ of_threads broken.reason };
+
+    fn from(broken: ThreadFault) -> Fault {
+        match broken.reason {
+            ThreadReason::NoMemory => Fault::NoMemoryToRun,
+            ThreadReason::NoThread => Fault::NoThread,
+            ThreadReason::MailBreak => Fault::MailBreak,
+        }
     }
 }
 

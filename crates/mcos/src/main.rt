@@ -15,6 +15,7 @@ mod runs;
 mod sources;
 #[cfg(test)]
 mod tests;
+mod threads;
 
 use crate::endings::tell;
 use crate::faults::Fault;

@@ -23,6 +23,8 @@ use ostrace::{Sink, write_all};
 use std::alloc::{AllocError, Global};
 use std::convert::AsStr;
 use std::rt::Files;
+use std::sync::Wait;
+use std::thread::Threads;
 
 /// Why the words of the command line could not be read.
 #[derive(Clone, Copy, Debug, PartialEq, Eq)]
@@ -43,7 +45,7 @@ impl From<AllocError> for NoWords {
 
 /// Does the job that the words ask for, the program's name first: prints to `out` and sends that off, tells a
 /// fault or a mistake in the words to `err`, and answers the exit status.
-pub fn answer<R: Files + AllocGlobal, S: AsStr + Drop, O: Output, E: Sink>(
+pub fn answer<R: Files + AllocGlobal + Threads + Wait + Sync, S: AsStr + Drop, O: Output, E: Sink>(
     rt: &R,
     words: Result<Vec<S>, NoWords>,
     out: &mut O,
@@ -68,7 +70,7 @@ pub fn answer<R: Files + AllocGlobal, S: AsStr + Drop, O: Output, E: Sink>(
 }
 
 // Does the job over the files at its paths.
-fn do_job<R: Files + AllocGlobal, O: Output, E: Sink>(
+fn do_job<R: Files + AllocGlobal + Threads + Wait + Sync, O: Output, E: Sink>(
     rt: &R,
     job: &Job,
     out: &mut O,
@@ -83,7 +85,7 @@ fn do_job<R: Files + AllocGlobal, O: Output, E: Sink>(
 }
 
 // Prints what the job asks for, over the files at its paths.
-fn print_job<R: Files + AllocGlobal, O: Sink>(
+fn print_job<R: Files + AllocGlobal + Threads + Wait + Sync, O: Sink>(
     rt: &R,
     job: &Job,
     out: &mut O,
@@ -92,7 +94,7 @@ fn print_job<R: Files + AllocGlobal, O: Sink>(
     ensures { PrintsJob O.taken O.failed out.old out.new job.now result }
 {
     let paths = job.paths(rt.alloc())?;
-    print_from(rt.alloc(), job, Paths::new(rt, paths), out)
+    print_from(rt, rt.alloc(), job, Paths::new(rt, paths), out)
 }
 
 // Prints the help or the version that is asked for in place of a job, or tells a mistake in the words, each in

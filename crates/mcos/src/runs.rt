@@ -1,6 +1,6 @@
 //! A run: its files are read and played, and the reports printed.
 
-ghost use Rattle.std.specs.Prelude.{◌≡◌, ◌+◌, ◌<◌, ◌^◌, ◌++◌, IfErr, IfOk, Ok, OnOk, find, length, option_copied, true};
+ghost use Rattle.std.specs.Prelude.{◌≡◌, ◌+◌, ◌<◌, ◌^◌, ◌++◌, IfErr, IfOk, Ok, OnOk, Some, find, length, option_copied, true};
 ghost use Rattle.osbase.specs.History.{same_core};
 ghost use Rattle.osbase.specs.declared.turns.Report.{Report as ReportValue};
 ghost use Rattle.ostrace.specs.Taken.{Writes};
@@ -8,7 +8,7 @@ ghost use Rattle.ostext.specs.Trace.{text_of};
 ghost use Rattle.osplan.specs.Stimuli.{AreKnown};
 ghost use Rattle.osturn.specs.Ends.{have_all_ended};
 ghost use Rattle.oscommand.specs.Jobs.{listed, path_in};
-ghost use Rattle.mcos.specs.Performs.{Comes, HasNoItems, IsLogOutput, IsRunPrinted, IsRead, Prints, outcome_of};
+ghost use Rattle.mcos.specs.Performs.{Comes, HasNoItems, IsReported, IsRunPrinted, IsRead, Prints, outcome_of};
 ghost use Rattle.mcos.specs.Runs.{AreOfTurns, UsesUp, are_items_known, items_in, last_line, run_text};
 
 use crate::faults::Fault;
@@ -38,17 +38,15 @@ pub fn run<S: Source + Drop, O: Sink>(
 {
     let (config, stimuli, turns) = input_of(alloc, schedule, items, source)?;
     let reports = play(alloc, &config, &stimuli, turns)?;
-    match items {
-        None => print(&config, out, reports.as_slice()),
-        Some(core) => print_log(alloc, &config, core, out, reports.as_slice()),
-    }
+    print_reports(alloc, &config, items, out, reports.as_slice())
 }
 
-/// What a run is given: the turns are None where the default schedule runs.
-type Input = (Config, Stimuli, Option<Schedule>);
+/// What a run is given: the turns are None where none are listed.
+pub type Input = (Config, Stimuli, Option<Schedule>);
 
-// Reads the texts, and lets them go.
-fn input_of<S: Source + Drop>(
+/// Reads the texts, and lets them go. `schedule` is the path of the listed turns, and the core of `items` has to be
+/// configured.
+pub fn input_of<S: Source + Drop>(
     alloc: Global,
     schedule: Option<&str>,
     items: Option<CoreId>,
@@ -96,6 +94,24 @@ fn play(
     }
 }
 
+/// Prints the reports, or the log of one core alone, and answers whether the run ended or stalled.
+pub fn print_reports<O: Sink>(
+    alloc: Global,
+    config: &Config,
+    items: Option<CoreId>,
+    out: &mut O,
+    reports: &[Report],
+) -> Result<Outcome, Fault>
+    requires { O.failed out.old < 2 ^ 48 }
+    ensures { Comes O.taken O.failed out.old out.new (IsReported config.now reports.now items)
+        (λ fault. fault ≡ Fault.NoMemoryToRun) result }
+{
+    match items {
+        None => print(config, out, reports),
+        Some(core) => print_log(alloc, config, core, out, reports),
+    }
+}
+
 // Prints the reports, and whether the run ended or stalled; answers which.
 fn print<O: Sink>(config: &Config, out: &mut O, reports: &[Report]) -> Result<Outcome, Fault>
     requires { O.failed out.old < 2 ^ 48 }
@@ -116,7 +132,7 @@ fn print_log<O: Sink>(
     reports: &[Report],
 ) -> Result<Outcome, Fault>
     requires { O.failed out.old < 2 ^ 48 }
-    ensures { Comes O.taken O.failed out.old out.new (IsLogOutput config.now reports.now core)
+    ensures { Comes O.taken O.failed out.old out.new (IsReported config.now reports.now (Some core))
         (λ fault. fault ≡ Fault.NoMemoryToRun) result }
 {
     let Ok(text) = items_text(alloc, config, items_of(reports, core)) else {

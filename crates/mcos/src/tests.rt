@@ -8,6 +8,7 @@ mod limits;
 mod logs;
 mod program;
 mod tables;
+mod threads;
 
 ghost use Rattle.std.specs.Prelude.{◌≡◌, None, Some, length};
 
@@ -22,7 +23,9 @@ use osworld::{default_schedule, run_world};
 use std::alloc::{AllocError, Global};
 use std::cell::Cell;
 use std::process::Abort;
+use std::sync::Wait;
 use std::test::Fail;
+use std::thread::Threads;
 
 /// One activation across the border.
 const BORDER: &str =
@@ -247,11 +250,16 @@ struct Printed {
     status: u8,
 }
 
-fn print(alloc: Global, job: &Job, texts: &[Option<&str>]) -> Result<Printed, AllocError> {
+fn print(
+    rt: &(impl Threads + Wait + Sync),
+    alloc: Global,
+    job: &Job,
+    texts: &[Option<&str>],
+) -> Result<Printed, AllocError> {
     let files = files_of(alloc, texts)?;
     let mut out = MemorySink::new(Vec::new(alloc));
     let mut err = MemorySink::new(Vec::new(alloc));
-    let status = perform(alloc, job, files.as_slice(), &mut out, &mut err);
+    let status = perform(rt, alloc, job, files.as_slice(), &mut out, &mut err);
     Ok(Printed {
         out: out.bytes,
         err: err.bytes,
@@ -261,13 +269,13 @@ fn print(alloc: Global, job: &Job, texts: &[Option<&str>]) -> Result<Printed, Al
 
 // Does the job with these texts. Compares what it prints, what it tells, and its status.
 fn compare(
-    rt: &impl Abort,
+    rt: &(impl Abort + Threads + Wait + Sync),
     alloc: Global,
     job: &Job,
     texts: &[Option<&str>],
     (out, err, status): (&str, &str, u8),
 ) -> Result<(), Fail> {
-    let printed = print(alloc, job, texts)?;
+    let printed = print(rt, alloc, job, texts)?;
     assert_eq!(rt; printed.out.as_slice(), out.as_bytes());
     assert_eq!(rt; printed.err.as_slice(), err.as_bytes());
     assert_eq!(rt; printed.status, status);
@@ -275,7 +283,11 @@ fn compare(
 }
 
 // Plays runs of the default schedule.
-fn play(rt: &impl Abort, alloc: Global, runs: &[Run]) -> Result<(), Fail> {
+fn play(
+    rt: &(impl Abort + Threads + Wait + Sync),
+    alloc: Global,
+    runs: &[Run],
+) -> Result<(), Fail> {
     for (config, stimuli, out) in runs {
         let texts = [Some(*config), Some(*stimuli), None];
         compare(rt, alloc, &run_of(None), &texts, (out, "", 0))?;
@@ -366,6 +378,7 @@ fn cores_are_separate_bound_or_off(rt: HostRuntime) -> Result<(), Fail> {
 fn a_separate_core_is_cut_and_runs_alone(rt: HostRuntime) -> Result<(), Fail> {
     let alloc = rt.alloc();
     let whole = print(
+        &rt,
         alloc,
         &run_of(None),
         &[Some(BESIDE), Some(r#"{"0":"op op","2":"op"}"#)],
@@ -417,10 +430,17 @@ fn files_that_are_no_text_or_unreadable_are_faults(rt: HostRuntime) -> Result<()
 }
 
 // What a run of these files prints as its fault; it prints nothing else.
-fn fault_of(rt: &impl Abort, alloc: Global, files: &[Option<Vec<u8>>]) -> Result<Vec<u8>, Fail> {
+fn fault_of(
+    rt: &(impl Abort + Threads + Wait + Sync),
+    alloc: Global,
+    files: &[Option<Vec<u8>>],
+) -> Result<Vec<u8>, Fail> {
     let mut out = MemorySink::new(Vec::new(alloc));
     let mut err = MemorySink::new(Vec::new(alloc));
-    assert_eq!(rt; perform(alloc, &run_of(None), files, &mut out, &mut err), 1);
+    assert_eq!(rt;
+        perform(rt, alloc, &run_of(None), files, &mut out, &mut err),
+        1
+    );
     assert!(rt; out.bytes.is_empty());
     Ok(err.bytes)
 }
@@ -472,7 +492,7 @@ fn no_file_is_read_after_one_with_a_fault(rt: HostRuntime) -> Result<(), Fail> {
             count: &read,
         };
         let mut out = MemorySink::new(Vec::new(alloc));
-        let _ = print_from(alloc, job, source, &mut out);
+        let _ = print_from(&rt, alloc, job, source, &mut out);
         assert_eq!(rt; read.get(), *count);
     }
     Ok(())
@@ -540,7 +560,14 @@ fn a_refused_write_leaves_a_beginning_of_the_text(rt: HostRuntime) -> Result<(),
     for left in 0..210 {
         let mut out = Failing::new(Vec::new(alloc), left);
         let mut err = MemorySink::new(Vec::new(alloc));
-        let status = perform(alloc, &run_of(None), files.as_slice(), &mut out, &mut err);
+        let status = perform(
+            &rt,
+            alloc,
+            &run_of(None),
+            files.as_slice(),
+            &mut out,
+            &mut err,
+        );
         if status == 1 {
             assert_eq!(rt; err.bytes.as_slice(), b"fault 19 WriteFailed\n".as_slice());
             assert_eq!(rt; out.bytes.len() as u64, left);

@@ -10,7 +10,8 @@ use Rattle.clap.specs.Words.{IsUnsignedIn, Row, Rule, Text, fault_of, first_of, 
 use Rattle.clap.specs.declared.error.kind.ErrorKind.{ErrorKind}
 use Rattle.clap.specs.declared.builder.ValueParser.TheVariants.{Unsigned}
 use Rattle.clap.proofs.ValueTestLemmas.{accepts-Accepts}
-use Rattle.oscommand.specs.CommandLine.{check_command, command_line, config_rule, core_rule, cut_command, items_rule, log_rule, replay_command, run_command, schedule_rule, stimuli_rule}
+use Rattle.oscommand.specs.CommandLine.{MailKinds, check_command, command_line, config_rule, core_rule, cut_command, items_rule, log_rule, mail_rule, replay_command, run_command, schedule_rule, stimuli_rule, threads_command, turns_rule}
+use Rattle.oscommand.specs.declared.jobs.TheConstants.{MOST_TURNS}
 use Rattle.oscommand.proofs.Parsed.{AllGive, AllKeep, help_keeps, leaf_any, leaf_first, one_keeps, subcommand_gives}
 
 -- the arguments as they are built
@@ -37,6 +38,9 @@ cut_leaf = built_leaf cut_command.top
 
 abbrev replay_leaf : Shape
 replay_leaf = built_leaf replay_command.top
+
+abbrev threads_leaf : MailKinds → Shape
+threads_leaf kinds = built_leaf (threads_command kinds).top
 
 abbrev Anything : Text → Type 0
 Anything text = ⊤
@@ -106,6 +110,57 @@ replay_core_keeps = (
   ),
 )
 
+threads_keeps : (kinds : MailKinds) (id : Text) → AllKeep id Anything false (threads_leaf kinds).rules
+threads_keeps kinds id = (
+  one_keeps id Anything false config (λ is v ok. tt),
+  (
+    one_keeps id Anything false stimuli (λ is v ok. tt),
+    (
+      one_keeps id Anything false (filled turns_rule) (λ is v ok. tt),
+      (
+        one_keeps id Anything false (filled (mail_rule kinds)) (λ is v ok. tt),
+        (one_keeps id Anything false (filled items_rule) (λ is v ok. tt), (help_keeps id Anything false (filled help_rule), tt)),
+      ),
+    ),
+  ),
+)
+
+turns_keeps : (kinds : MailKinds) → AllKeep (codes "turns") (IsUnsignedIn 1 MOST_TURNS) false (threads_leaf kinds).rules
+turns_keeps kinds = (
+  one_keeps (codes "turns") (IsUnsignedIn 1 MOST_TURNS) false config (λ is v ok. absurd (true≢false (sym is))),
+  (
+    one_keeps (codes "turns") (IsUnsignedIn 1 MOST_TURNS) false stimuli (λ is v ok. absurd (true≢false (sym is))),
+    (
+      one_keeps (codes "turns") (IsUnsignedIn 1 MOST_TURNS) false (filled turns_rule) (λ is v ok. accepts-Accepts false (Unsigned 1 MOST_TURNS) v ok),
+      (
+        one_keeps (codes "turns") (IsUnsignedIn 1 MOST_TURNS) false (filled (mail_rule kinds)) (λ is v ok. absurd (true≢false (sym is))),
+        (
+          one_keeps (codes "turns") (IsUnsignedIn 1 MOST_TURNS) false (filled items_rule) (λ is v ok. absurd (true≢false (sym is))),
+          (help_keeps (codes "turns") (IsUnsignedIn 1 MOST_TURNS) false (filled help_rule), tt),
+        ),
+      ),
+    ),
+  ),
+)
+
+threads_items_keeps : (kinds : MailKinds) → AllKeep (codes "items") (IsUnsignedIn 0 255) false (threads_leaf kinds).rules
+threads_items_keeps kinds = (
+  one_keeps (codes "items") (IsUnsignedIn 0 255) false config (λ is v ok. absurd (true≢false (sym is))),
+  (
+    one_keeps (codes "items") (IsUnsignedIn 0 255) false stimuli (λ is v ok. absurd (true≢false (sym is))),
+    (
+      one_keeps (codes "items") (IsUnsignedIn 0 255) false (filled turns_rule) (λ is v ok. absurd (true≢false (sym is))),
+      (
+        one_keeps (codes "items") (IsUnsignedIn 0 255) false (filled (mail_rule kinds)) (λ is v ok. absurd (true≢false (sym is))),
+        (
+          one_keeps (codes "items") (IsUnsignedIn 0 255) false (filled items_rule) (λ is v ok. accepts-Accepts false (Unsigned 0 255) v ok),
+          (help_keeps (codes "items") (IsUnsignedIn 0 255) false (filled help_rule), tt),
+        ),
+      ),
+    ),
+  ),
+)
+
 -- ---- what the checks at the end want
 
 first_wanted : (first rest : Bool) (k : ErrorKind) → cond (not first || rest) (k ∷ []) [] ≡ [] → first ≡ true
@@ -144,6 +199,9 @@ replay_wants rows e = record {
   log = third_wanted (is_given (codes "CFG") rows) (is_given (codes "CORE") rows) (is_given (codes "LOG") rows) _ _ e;
 }
 
+threads_wants : (kinds : MailKinds) (rows : List Row) → check_fault (threads_leaf kinds) rows false ≡ [] → (is_given (codes "CFG") rows ≡ true) × (is_given (codes "STIM") rows ≡ true)
+threads_wants kinds rows e = (first_wanted (is_given (codes "CFG") rows) _ _ e, second_wanted (is_given (codes "CFG") rows) (is_given (codes "STIM") rows) _ _ e)
+
 -- ---- what the subcommand has
 
 abbrev Has : Text → List Row → Type 0
@@ -170,8 +228,15 @@ pub record IsReplay (name : Text) (rows : List Row) : Type 0 where
   pub core : IsSomeAnd (first_of (codes "CORE") rows) (IsUnsignedIn 0 255)
   pub log : Has (codes "LOG") rows
 
+pub record IsThreads (name : Text) (rows : List Row) : Type 0 where
+  pub is : name ≡ codes "threads"
+  pub config : Has (codes "CFG") rows
+  pub stimuli : Has (codes "STIM") rows
+  pub turns : IfSome (first_of (codes "turns") rows) (IsUnsignedIn 1 MOST_TURNS)
+  pub items : IfSome (first_of (codes "items") rows) (IsUnsignedIn 0 255)
+
 abbrev pub IsJob : Text × List Row → Type 0
-IsJob p = IsRun p.0 p.1 ⊎ (IsCheck p.0 p.1 ⊎ (IsCut p.0 p.1 ⊎ IsReplay p.0 p.1))
+IsJob p = IsRun p.0 p.1 ⊎ (IsCheck p.0 p.1 ⊎ (IsCut p.0 p.1 ⊎ (IsReplay p.0 p.1 ⊎ IsThreads p.0 p.1)))
 
 no_help : (name : Text) → bytes_eq name (codes "help") ≡ false → (bytes_eq (codes "help") name || false) ≡ true → ⊥
 no_help name other is =
@@ -183,8 +248,8 @@ no_help name other is =
     either_one true e = refl
     either_one false e = e
 
-jobs_give : AllGive IsJob (built command_line).subs
-jobs_give = (
+jobs_give : (kinds : MailKinds) → AllGive IsJob (built (command_line kinds)).subs
+jobs_give kinds = (
   (λ name other is words e. inl (record {
     is = refl;
     config = leaf_first (codes "CFG") Anything run_leaf (run_keeps _) refl (λ rows c. (run_wants rows c).0) words e;
@@ -203,21 +268,30 @@ jobs_give = (
         core = leaf_first (codes "CORE") (IsUnsignedIn 0 255) cut_leaf core_keeps refl (λ rows c. (cut_wants rows c).1) words e;
       })))),
       (
-        (λ name other is words e. inr (inr (inr (record {
+        (λ name other is words e. inr (inr (inr (inl (record {
           is = refl;
           config = leaf_first (codes "CFG") Anything replay_leaf (replay_keeps _) refl (λ rows c. (replay_wants rows c).config) words e;
           core = leaf_first (codes "CORE") (IsUnsignedIn 0 255) replay_leaf replay_core_keeps refl (λ rows c. (replay_wants rows c).core) words e;
           log = leaf_first (codes "LOG") Anything replay_leaf (replay_keeps _) refl (λ rows c. (replay_wants rows c).log) words e;
-        })))),
-        ((λ name other is words e. absurd (no_help name other is)), tt),
+        }))))),
+        (
+          (λ name other is words e. inr (inr (inr (inr (record {
+            is = refl;
+            config = leaf_first (codes "CFG") Anything (threads_leaf kinds) (threads_keeps kinds _) refl (λ rows c. (threads_wants kinds rows c).0) words e;
+            stimuli = leaf_first (codes "STIM") Anything (threads_leaf kinds) (threads_keeps kinds _) refl (λ rows c. (threads_wants kinds rows c).1) words e;
+            turns = leaf_any (codes "turns") (IsUnsignedIn 1 MOST_TURNS) (threads_leaf kinds) (turns_keeps kinds) refl words e;
+            items = leaf_any (codes "items") (IsUnsignedIn 0 255) (threads_leaf kinds) (threads_items_keeps kinds) refl words e;
+          }))))),
+          ((λ name other is words e. absurd (no_help name other is)), tt),
+        ),
       ),
     ),
   ),
 )
 
 -- the words name one of the subcommands, and give its required arguments
-pub names_job : (words : List Text) → fault_of command_line words ≡ [] → IsSomeAnd (subcommand_of command_line words) IsJob
-names_job words e = subcommand_gives IsJob (built command_line) _ refl refl jobs_give e
+pub names_job : (kinds : MailKinds) (words : List Text) → fault_of (command_line kinds) words ≡ [] → IsSomeAnd (subcommand_of (command_line kinds) words) IsJob
+names_job kinds words e = subcommand_gives IsJob (built (command_line kinds)) _ refl refl (jobs_give kinds) e
 
 -- and so what the subcommand of a name has
 apart : (a b : Text) → bytes_eq a b ≡ false → a ≡ b → ⊥
@@ -227,22 +301,33 @@ pub run_has : (rows : List Row) → IsJob (codes "run", rows) → IsRun (codes "
 run_has rows (inl run) = run
 run_has rows (inr (inl check)) = absurd (apart (codes "run") (codes "check") refl check.is)
 run_has rows (inr (inr (inl cut))) = absurd (apart (codes "run") (codes "cut") refl cut.is)
-run_has rows (inr (inr (inr replay))) = absurd (apart (codes "run") (codes "replay") refl replay.is)
+run_has rows (inr (inr (inr (inl replay)))) = absurd (apart (codes "run") (codes "replay") refl replay.is)
+run_has rows (inr (inr (inr (inr threads)))) = absurd (apart (codes "run") (codes "threads") refl threads.is)
 
 pub check_has : (rows : List Row) → IsJob (codes "check", rows) → IsCheck (codes "check") rows
 check_has rows (inl run) = absurd (apart (codes "check") (codes "run") refl run.is)
 check_has rows (inr (inl check)) = check
 check_has rows (inr (inr (inl cut))) = absurd (apart (codes "check") (codes "cut") refl cut.is)
-check_has rows (inr (inr (inr replay))) = absurd (apart (codes "check") (codes "replay") refl replay.is)
+check_has rows (inr (inr (inr (inl replay)))) = absurd (apart (codes "check") (codes "replay") refl replay.is)
+check_has rows (inr (inr (inr (inr threads)))) = absurd (apart (codes "check") (codes "threads") refl threads.is)
 
 pub cut_has : (rows : List Row) → IsJob (codes "cut", rows) → IsCut (codes "cut") rows
 cut_has rows (inl run) = absurd (apart (codes "cut") (codes "run") refl run.is)
 cut_has rows (inr (inl check)) = absurd (apart (codes "cut") (codes "check") refl check.is)
 cut_has rows (inr (inr (inl cut))) = cut
-cut_has rows (inr (inr (inr replay))) = absurd (apart (codes "cut") (codes "replay") refl replay.is)
+cut_has rows (inr (inr (inr (inl replay)))) = absurd (apart (codes "cut") (codes "replay") refl replay.is)
+cut_has rows (inr (inr (inr (inr threads)))) = absurd (apart (codes "cut") (codes "threads") refl threads.is)
 
 pub replay_has : (rows : List Row) → IsJob (codes "replay", rows) → IsReplay (codes "replay") rows
 replay_has rows (inl run) = absurd (apart (codes "replay") (codes "run") refl run.is)
 replay_has rows (inr (inl check)) = absurd (apart (codes "replay") (codes "check") refl check.is)
 replay_has rows (inr (inr (inl cut))) = absurd (apart (codes "replay") (codes "cut") refl cut.is)
-replay_has rows (inr (inr (inr replay))) = replay
+replay_has rows (inr (inr (inr (inl replay)))) = replay
+replay_has rows (inr (inr (inr (inr threads)))) = absurd (apart (codes "replay") (codes "threads") refl threads.is)
+
+pub threads_has : (rows : List Row) → IsJob (codes "threads", rows) → IsThreads (codes "threads") rows
+threads_has rows (inl run) = absurd (apart (codes "threads") (codes "run") refl run.is)
+threads_has rows (inr (inl check)) = absurd (apart (codes "threads") (codes "check") refl check.is)
+threads_has rows (inr (inr (inl cut))) = absurd (apart (codes "threads") (codes "cut") refl cut.is)
+threads_has rows (inr (inr (inr (inl replay)))) = absurd (apart (codes "threads") (codes "replay") refl replay.is)
+threads_has rows (inr (inr (inr (inr threads)))) = threads

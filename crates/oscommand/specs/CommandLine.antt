@@ -1,12 +1,15 @@
 -- The program's command line, in the terms of `clap`. [own]
-use Rattle.std.specs.Prelude.{◌≡◌, ℕ, true, Option, Some, None, List, codes}
+use Rattle.std.specs.Borrow.{Bor}
+use Rattle.std.specs.Prelude.{◌≡◌, ℕ, true, Option, Some, None, Result, List, [], ◌∷◌, codes, map}
 use Rattle.std.specs.Str.Parse.{digits_value, without_leading_plus}
-use Rattle.clap.specs.Words.{App, Row, Rule, first_of, new_app, new_rule, subcommand_of, with_rule, with_subcommand}
+use Rattle.clap.specs.Words.{App, FailsBy, Row, Rule, fault_of, first_of, new_app, new_rule, subcommand_of, with_rule, with_subcommand}
+use Rattle.clap.specs.declared.error.Error.{Error}
 use Rattle.clap.specs.declared.builder.ArgAction.TheVariants.{Set}
-use Rattle.clap.specs.declared.builder.ValueParser.TheVariants.{Unsigned}
+use Rattle.clap.specs.declared.builder.ValueParser.TheVariants.{Names, Unsigned}
 use Rattle.osbase.specs.declared.references.CoreId.{CoreId}
 use Rattle.oscommand.specs.declared.jobs.Job.{Job}
-use Rattle.oscommand.specs.declared.jobs.Job.TheVariants.{Run, Check, Cut, Replay}
+use Rattle.oscommand.specs.declared.jobs.Job.TheVariants.{Run, Check, Cut, Replay, Threads}
+use Rattle.oscommand.specs.declared.jobs.TheConstants.{DEFAULT_TURNS, MOST_TURNS}
 use Rattle.oscommand.specs.Jobs.{path_in}
 
 abbrev pub config_rule : Rule
@@ -23,6 +26,20 @@ items_rule = record (new_rule (codes "items")) { long = Some (codes "items"); va
 
 abbrev pub log_rule : Rule
 log_rule = record (new_rule (codes "LOG")) { required = true }
+
+-- A number of 1 to 1,000,000,000.
+abbrev pub turns_rule : Rule
+turns_rule = record (new_rule (codes "turns")) { long = Some (codes "turns"); value_names = 1; action = Some Set; parser = Some (Unsigned 1 MOST_TURNS) }
+
+-- The names of the kinds of mail, wherever they stand in memory.
+abbrev pub MailKinds : Type 0
+MailKinds = Bor (List (Bor (List ℕ)))
+
+abbrev pub AreMailKinds : MailKinds → Type 0
+AreMailKinds kinds = map (λ (name : Bor (List ℕ)). name.now) kinds.now ≡ codes "locked" ∷ []
+
+abbrev pub mail_rule : MailKinds → Rule
+mail_rule kinds = record (new_rule (codes "mail")) { long = Some (codes "mail"); value_names = 1; action = Some Set; parser = Some (Names kinds) }
 
 -- A core is a number of 0 to 255.
 abbrev pub core_rule : Rule
@@ -44,6 +61,11 @@ cut_command = with_rule (with_rule (new_app (codes "cut")) config_rule) core_rul
 abbrev pub replay_command : App
 replay_command = with_rule (with_rule (with_rule (new_app (codes "replay")) config_rule) core_rule) log_rule
 
+-- `threads CFG STIM [--turns N] [--mail KIND] [--items CORE]`
+abbrev pub threads_command : MailKinds → App
+threads_command kinds =
+    with_rule (with_rule (with_rule (with_rule (with_rule (new_app (codes "threads")) config_rule) stimuli_rule) turns_rule) (mail_rule kinds)) items_rule
+
 -- `mcos --version`, or one of its subcommands
 abbrev pub requires_subcommand : App → App
 requires_subcommand app = record app { top = record app.top { subcommand_required = true } }
@@ -51,8 +73,8 @@ requires_subcommand app = record app { top = record app.top { subcommand_require
 abbrev pub tells_version : App → App
 tells_version app = record app { top = record app.top { has_version = true } }
 
-abbrev pub command_line : App
-command_line = with_subcommand (with_subcommand (with_subcommand (with_subcommand (requires_subcommand (tells_version (new_app (codes "mcos")))) run_command.top) check_command.top) cut_command.top) replay_command.top
+abbrev pub command_line : MailKinds → App
+command_line kinds = with_subcommand (with_subcommand (with_subcommand (with_subcommand (with_subcommand (requires_subcommand (tells_version (new_app (codes "mcos")))) run_command.top) check_command.top) cut_command.top) replay_command.top) (threads_command kinds).top
 
 -- A text that is there says this number.
 pub record SaysNumber (entry : Option (List ℕ)) (number : ℕ) : Type 0 where
@@ -64,6 +86,11 @@ pub record SaysNumber (entry : Option (List ℕ)) (number : ℕ) : Type 0 where
 abbrev pub SaysCore : Option (List ℕ) → Option CoreId → Type 0
 SaysCore entry None = entry ≡ None
 SaysCore entry (Some core) = SaysNumber entry core.number
+
+-- A text that is there says the number of turns, which else is the default.
+abbrev pub SaysTurns : Option (List ℕ) → ℕ → Type 0
+SaysTurns None turns = turns ≡ DEFAULT_TURNS
+SaysTurns (Some text) turns = turns ≡ digits_value 10 (without_leading_plus text)
 
 -- The entries of a subcommand are the job's.
 abbrev pub HasEntries : List Row → Job → Type 0
@@ -78,15 +105,29 @@ HasEntries rows (Cut config core) =
 HasEntries rows (Replay config core log) =
     (first_of (codes "CFG") rows ≡ Some config.now) × SaysNumber (first_of (codes "CORE") rows) core.number
     × (first_of (codes "LOG") rows ≡ Some log.now)
+HasEntries rows (Threads config stimuli turns items) =
+    (first_of (codes "CFG") rows ≡ Some config.now)
+    × (first_of (codes "STIM") rows ≡ Some stimuli.now)
+    × SaysTurns (first_of (codes "turns") rows) turns
+    × SaysCore (first_of (codes "items") rows) items
 
 abbrev pub subcommand_name : Job → List ℕ
 subcommand_name (Run config stimuli schedule items) = codes "run"
 subcommand_name (Check config) = codes "check"
 subcommand_name (Cut config core) = codes "cut"
 subcommand_name (Replay config core log) = codes "replay"
+subcommand_name (Threads config stimuli turns items) = codes "threads"
 
 -- The words, of which the first is the program's name, name the job's subcommand with the job's entries.
 pub record AsksFor (words : List (List ℕ)) (job : Job) : Type 0 where
+  pub kinds : MailKinds
+  pub kinds_are : AreMailKinds kinds
   pub rows : List Row
-  pub names : subcommand_of command_line words ≡ Some (subcommand_name job, rows)
+  pub names : subcommand_of (command_line kinds) words ≡ Some (subcommand_name job, rows)
   pub entries : HasEntries rows job
+
+-- The words have no fault where there is a job; else the error is of a kind that they have, or memory ran out.
+pub record FailsByWords (words : List (List ℕ)) (job : Result Job Error) : Type 0 where
+  pub kinds : MailKinds
+  pub kinds_are : AreMailKinds kinds
+  pub fails : FailsBy (fault_of (command_line kinds) words) job

@@ -2,8 +2,9 @@
 
 ghost use Rattle.std.specs.Prelude.{◌≡◌, IfOk, IfSome, IsSome, IsSomeAnd, codes, false, map};
 ghost use Rattle.std.specs.Str.Parse.{digits_value, without_leading_plus};
-ghost use Rattle.clap.specs.Words.{FailsBy, IsUnsignedIn, app_of, fault_of, first_of, first_value, found_of, rows_of, rule_of};
-ghost use Rattle.oscommand.specs.CommandLine.{AsksFor, HasEntries, SaysCore, check_command, command_line, config_rule, core_rule, cut_command, items_rule, replay_command, run_command, schedule_rule, stimuli_rule, subcommand_name};
+ghost use Rattle.clap.specs.Words.{IsUnsignedIn, app_of, first_of, first_value, found_of, rows_of, rule_of};
+ghost use Rattle.oscommand.specs.CommandLine.{AsksFor, FailsByWords, HasEntries, SaysCore, SaysTurns, check_command, command_line, config_rule, core_rule, cut_command, items_rule, mail_rule, replay_command, run_command, schedule_rule, stimuli_rule, subcommand_name, threads_command, turns_rule};
+ghost use Rattle.oscommand.specs.declared.jobs.TheConstants.{MOST_TURNS};
 ghost use Rattle.oscommand.specs.Jobs.{paths_of};
 
 use clap::builder::ValueParser;
@@ -14,6 +15,15 @@ use std::convert::AsStr;
 
 /// What `mcos --version` prints behind the name.
 const VERSION: &str = "0.1.0";
+
+/// How many turns in a row may change nothing in a run by threads, where the words do not say it.
+pub const DEFAULT_TURNS: u64 = 1_000_000;
+
+/// The greatest number that `--turns` takes.
+pub const MOST_TURNS: u64 = 1_000_000_000;
+
+/// The names of the kinds of mail between threads.
+const MAIL_KINDS: &[&str] = &["locked"];
 
 const RUN_HELP: &str = "\
 Reads a configuration, the stimuli of its cores and, with --schedule, the turns in order.
@@ -48,6 +58,19 @@ Exit status: 0 done, 1 a fault (`fault N Name`), 2 wrong usage.
 
 Example: mcos replay config.json 0 log.txt";
 
+const THREADS_HELP: &str = "\
+Reads a configuration and the stimuli of its cores, and runs each core on a thread of its own.
+Prints a block of lines for each core, and then `ended`, or `stalled` where a core did not end.
+The order of the cores' turns is that of the threads, so two runs may print different texts.
+
+A core gives up once N of its turns in a row (--turns) changed nothing, also one that is never started.
+
+With --items prints the log of that core in their place: a line for each item that it took.
+
+Exit status: 0 ended, 1 a fault (`fault N Name`), 2 wrong usage, 3 stalled.
+
+Example: mcos threads config.json stimuli.json";
+
 /// What the program is asked to do, with the paths of its files.
 #[derive(Clone, Copy, Debug, PartialEq, Eq)]
 pub enum Job<'a> {
@@ -72,6 +95,14 @@ pub enum Job<'a> {
         config: &'a str,
         core: CoreId,
         log: &'a str,
+    },
+    /// Runs each core on a thread of its own, and prints each core's trace, or one core's log. A core whose turns change
+    /// nothing so many times in a row gives up.
+    Threads {
+        config: &'a str,
+        stimuli: &'a str,
+        turns: u64,
+        items: Option<CoreId>,
     },
 }
 
@@ -100,6 +131,14 @@ impl<'a> Job<'a> {
                 paths.push(*config)?;
                 paths.push(*log)?;
             }
+            Job::Threads {
+                config,
+                stimuli,
+                ..
+            } => {
+                paths.push(*config)?;
+                paths.push(*stimuli)?;
+            }
         }
         Ok(paths)
     }
@@ -109,9 +148,9 @@ impl<'a> Job<'a> {
 /// of memory is its `OutOfMemory`.
 pub fn job_of<'a, S: AsStr>(alloc: Global, words: &'a [S]) -> Result<Job<'a>, Error>
     ensures job { IfOk result (AsksFor (map S.text words.entry.now)) }
-    ensures fault { FailsBy (fault_of command_line (map S.text words.entry.now)) result }
+    ensures fault { FailsByWords (map S.text words.entry.now) result }
 {
-    let matches = command(alloc)?.try_get_matches_from(words)?;
+    let matches = command(alloc, MAIL_KINDS)?.try_get_matches_from(words)?;
     if let Some(run) = matches.subcommand_matches("run") {
         return Ok(run_job(run));
     }
@@ -121,10 +160,13 @@ pub fn job_of<'a, S: AsStr>(alloc: Global, words: &'a [S]) -> Result<Job<'a>, Er
     if let Some(cut) = matches.subcommand_matches("cut") {
         return Ok(cut_job(cut));
     }
-    let Some(replay) = matches.subcommand_matches("replay") else {
+    if let Some(replay) = matches.subcommand_matches("replay") {
+        return Ok(replay_job(replay));
+    }
+    let Some(threads) = matches.subcommand_matches("threads") else {
         unreachable!();
     };
-    Ok(replay_job(replay))
+    Ok(threads_job(threads))
 }
 
 // The core of a number that a byte can hold.
@@ -214,9 +256,49 @@ fn replay_job<'a>(replay: &ArgMatches<'a>) -> Job<'a>
     }
 }
 
-// The program's command line.
-fn command<'a>(alloc: Global) -> Result<Command<'a>, AllocError>
-    ensures { IfOk result (λ command. app_of command ≡ command_line) }
+// The entries of `threads`, whose required arguments are there.
+fn threads_job<'a>(threads: &ArgMatches<'a>) -> Job<'a>
+    requires config { IsSome (first_value (found_of threads.now) (codes "CFG")) }
+    requires stimuli { IsSome (first_value (found_of threads.now) (codes "STIM")) }
+    requires turns { IfSome (first_value (found_of threads.now) (codes "turns")) (IsUnsignedIn 1 MOST_TURNS) }
+    requires items { IfSome (first_value (found_of threads.now) (codes "items")) (IsUnsignedIn 0 255) }
+    ensures { HasEntries (rows_of (found_of threads.now)) result × (subcommand_name result ≡ codes "threads") }
+{
+    let (Some(config), Some(stimuli)) = (threads.get_str("CFG"), threads.get_str("STIM")) else {
+        unreachable!();
+    };
+    Job::Threads {
+        config,
+        stimuli,
+        turns: turns_of(threads),
+        items: items_core(threads),
+    }
+}
+
+// The number of `--turns`, or else the default.
+fn turns_of(threads: &ArgMatches) -> u64
+    requires { IfSome (first_value (found_of threads.now) (codes "turns")) (IsUnsignedIn 1 MOST_TURNS) }
+    ensures { SaysTurns (first_of (codes "turns") (rows_of (found_of threads.now))) result }
+{
+    match threads.get_str("turns") {
+        Some(turns) => turns_in(turns),
+        None => DEFAULT_TURNS,
+    }
+}
+
+fn turns_in(word: &str) -> u64
+    requires { IsUnsignedIn 1 MOST_TURNS word.now }
+    ensures { result ≡ digits_value 10 (without_leading_plus word.now) }
+{
+    let Ok(turns) = word.parse::<u64>() else {
+        unreachable!();
+    };
+    turns
+}
+
+// The program's command line, with these kinds of mail.
+fn command<'a>(alloc: Global, kinds: &'a [&'a str]) -> Result<Command<'a>, AllocError>
+    ensures { IfOk result (λ command. app_of command ≡ command_line kinds.entry) }
 {
     Command::new(alloc, "mcos")
         .version(VERSION)
@@ -225,7 +307,8 @@ fn command<'a>(alloc: Global) -> Result<Command<'a>, AllocError>
         .subcommand(run_command(alloc)?)?
         .subcommand(check_command(alloc)?)?
         .subcommand(cut_command(alloc)?)?
-        .subcommand(replay_command(alloc)?)
+        .subcommand(replay_command(alloc)?)?
+        .subcommand(threads_command(alloc, kinds)?)
 }
 
 fn run_command<'a>(alloc: Global) -> Result<Command<'a>, AllocError>
@@ -303,6 +386,45 @@ fn replay_command<'a>(alloc: Global) -> Result<Command<'a>, AllocError>
         .arg(config_arg(alloc))?
         .arg(core_arg(alloc))?
         .arg(log)
+}
+
+fn threads_command<'a>(alloc: Global, kinds: &'a [&'a str]) -> Result<Command<'a>, AllocError>
+    ensures { IfOk result (λ command. app_of command ≡ threads_command kinds.entry) }
+{
+    Command::new(alloc, "threads")
+        .about("Runs each core on a thread of its own, and prints each core's trace")
+        .after_help(THREADS_HELP)
+        .arg(config_arg(alloc))?
+        .arg(stimuli_arg(alloc))?
+        .arg(turns_arg(alloc))?
+        .arg(mail_arg(alloc, kinds))?
+        .arg(items_arg(alloc))
+}
+
+fn turns_arg<'a>(alloc: Global) -> Arg<'a>
+    ensures rule { rule_of result ≡ turns_rule }
+    ensures own { result.global ≡ false }
+{
+    Arg::new(alloc, "turns")
+        .long("turns")
+        .value_name("N")
+        .value_parser(ValueParser::unsigned(1, MOST_TURNS))
+        .action(ArgAction::Set)
+        .help(
+            "how many turns of a core in a row may change nothing, 1 to 1000000000; without it 1000000",
+        )
+}
+
+fn mail_arg<'a>(alloc: Global, kinds: &'a [&'a str]) -> Arg<'a>
+    ensures rule { rule_of result ≡ mail_rule kinds.entry }
+    ensures own { result.global ≡ false }
+{
+    Arg::new(alloc, "mail")
+        .long("mail")
+        .value_name("KIND")
+        .value_parser(ValueParser::Names(kinds))
+        .action(ArgAction::Set)
+        .help("how envelopes go from core to core; without it locked")
 }
 
 fn core_arg<'a>(alloc: Global) -> Arg<'a>

@@ -60,6 +60,37 @@ fn the_words_of_both_commands_name_their_jobs(rt: HostRuntime) -> Result<(), Fai
     Ok(())
 }
 
+fn threads_of(turns: u64, items: Option<CoreId>) -> Job<'static> {
+    Job::Threads {
+        config: "config.json",
+        stimuli: "stim.json",
+        turns,
+        items,
+    }
+}
+
+#[test]
+fn the_words_of_threads_make_its_job(rt: HostRuntime) -> Result<(), Fail> {
+    let core = Some(CoreId { number: 2 });
+    let examples = [
+        (threads_of(1_000_000, None), ["--mail=locked"].as_slice()),
+        (threads_of(1, None), ["--turns", "1"].as_slice()),
+        (
+            threads_of(1_000_000_000, core),
+            ["--items=2", "--turns=1000000000"].as_slice(),
+        ),
+    ];
+    for (job, options) in examples.as_slice() {
+        let mut words = Vec::from_slice(
+            rt.alloc(),
+            &["mcos", "threads", "config.json", "stim.json"],
+        )?;
+        words.extend_from_slice(options)?;
+        assert_eq!(rt; job_of(rt.alloc(), words.as_slice()).ok(), Some(*job));
+    }
+    Ok(())
+}
+
 #[test]
 fn other_words_are_wrong_usage(rt: HostRuntime) -> Result<(), Fail> {
     let refused = [
@@ -71,6 +102,10 @@ fn other_words_are_wrong_usage(rt: HostRuntime) -> Result<(), Fail> {
         ["mcos", "cut", "a", "256"].as_slice(),
         ["mcos", "cut", "a", "-1"].as_slice(),
         ["mcos", "cut", "a", "x"].as_slice(),
+        ["mcos", "threads", "a"].as_slice(),
+        ["mcos", "threads", "a", "b", "--turns", "0"].as_slice(),
+        ["mcos", "threads", "a", "b", "--turns", "1000000001"].as_slice(),
+        ["mcos", "threads", "a", "b", "--mail", "ring"].as_slice(),
     ];
     for words in refused.as_slice() {
         let Err(error) = job_of(rt.alloc(), *words) else {

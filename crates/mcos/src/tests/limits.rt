@@ -3,7 +3,9 @@
 use super::{check_of, compare, run_of};
 use std::alloc::{AllocError, Global};
 use std::process::Abort;
+use std::sync::Wait;
 use std::test::Fail;
+use std::thread::Threads;
 
 const CORES: u8 = 8;
 
@@ -143,7 +145,7 @@ fn the_largest_configuration_is_read(rt: HostRuntime) -> Result<(), Fail> {
 
 // Runs a configuration and stimuli by the default schedule and by these turns: both print this.
 fn play_both(
-    rt: &impl Abort,
+    rt: &(impl Abort + Threads + Wait + Sync),
     alloc: Global,
     [config, stimuli, turns]: &[String; 3],
     trace: &str,

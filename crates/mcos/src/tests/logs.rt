@@ -5,7 +5,9 @@ use osbase::CoreId;
 use oscommand::Job;
 use std::alloc::Global;
 use std::process::Abort;
+use std::sync::Wait;
 use std::test::Fail;
+use std::thread::Threads;
 
 /// The log of the first example's core 0.
 const LOG: &str =
@@ -37,7 +39,7 @@ fn items_of(number: u8) -> Job<'static> {
     }
 }
 
-fn replay_of(number: u8) -> Job<'static> {
+pub fn replay_of(number: u8) -> Job<'static> {
     Job::Replay {
         config: "config.json",
         core: CoreId { number },
@@ -46,7 +48,12 @@ fn replay_of(number: u8) -> Job<'static> {
 }
 
 // What core 0 of the first example prints by this log.
-fn replays(rt: &impl Abort, alloc: Global, log: &str, came: (&str, &str, u8)) -> Result<(), Fail> {
+fn replays(
+    rt: &(impl Abort + Threads + Wait + Sync),
+    alloc: Global,
+    log: &str,
+    came: (&str, &str, u8),
+) -> Result<(), Fail> {
     let texts = [Some(BORDER), Some(log)];
     compare(rt, alloc, &replay_of(0), &texts, came)
 }
@@ -98,7 +105,12 @@ fn replies_with_values_and_actions_have_their_lines(rt: HostRuntime) -> Result<(
         items: Some(CoreId { number: 0 }),
     };
     compare(&rt, alloc, &job, &run, (ALARMED_LOG, "", 0))?;
-    let replayed = print(alloc, &replay_of(0), &[Some(ALARMED), Some(ALARMED_LOG)])?;
+    let replayed = print(
+        &rt,
+        alloc,
+        &replay_of(0),
+        &[Some(ALARMED), Some(ALARMED_LOG)],
+    )?;
     assert_eq!(rt; replayed.status, 0);
     Ok(())
 }

@@ -27,6 +27,11 @@ returns-in-Cut g c =
       known_is = c.cut_out.ensures.known;
     }
 
+pub returns-in-Threads : goal.returns-in-Threads
+returns-in-Threads g c =
+    let used = c.run_by_threads.ensures in
+    record { last = used.last; comes = rw c.in-Threads.is used.comes; stops = used.stops; named = rw c.in-Threads.is (omega (arith, used.named)); known_is = used.known_is }
+
 pub returns-in-Replay : goal.returns-in-Replay
 returns-in-Replay g c =
     record {

@@ -2,7 +2,7 @@ use Rattle.std.proofs.Common.{Bool, ap, ap₂, codes, refl, true, false, not, �
 use Rattle.std.proofs.lemmas.Result.{IfOk-weaker}
 use Rattle.clap.specs.Simple.{app_of_fields}
 use Rattle.clap.specs.Words.{App, app_of, new_app, with_subcommand}
-use Rattle.oscommand.specs.CommandLine.{check_command, cut_command, requires_subcommand, run_command, tells_version}
+use Rattle.oscommand.specs.CommandLine.{check_command, cut_command, replay_command, requires_subcommand, run_command, tells_version}
 use Rattle.oscommand.proofs.jobs.command.Goals as goal
 
 -- a command that is plain has no global argument
@@ -24,6 +24,9 @@ with_check = with_subcommand with_run check_command.top
 abbrev with_cut : App
 with_cut = with_subcommand with_check cut_command.top
 
+abbrev with_replay : App
+with_replay = with_subcommand with_cut replay_command.top
+
 pub returns : goal.returns
 returns c =
     let named : app_of c.about.result ≡ tells_version (new_app (codes "mcos")) = ap app_of_fields c.about.ensures ∙ ap app_of_fields c.version.ensures ∙ ap tells_version c.new.ensures.app in
@@ -34,4 +37,6 @@ returns c =
     c.in_ok-subcommand-2.ensures.shape (local _ _ _ _ (ap (λ (a : App). a.top.is_plain) c.in_ok-check_command.ensures)) ∙ ap₂ with_subcommand runs (ap (λ (a : App). a.top) c.in_ok-check_command.ensures) in
     let cuts : app_of c.in_ok-subcommand-3.field-0 ≡ with_cut =
     c.in_ok-subcommand-3.ensures.shape (local _ _ _ _ (ap (λ (a : App). a.top.is_plain) c.in_ok-cut_command.ensures)) ∙ ap₂ with_subcommand checks (ap (λ (a : App). a.top) c.in_ok-cut_command.ensures) in
-    IfOk-weaker c.subcommand-4.result _ _ (λ r h. h.shape (local _ _ _ _ (ap (λ (a : App). a.top.is_plain) c.in_ok-replay_command.ensures)) ∙ ap₂ with_subcommand cuts (ap (λ (a : App). a.top) c.in_ok-replay_command.ensures)) c.subcommand-4.ensures
+    let replays : app_of c.in_ok-subcommand-4.field-0 ≡ with_replay =
+    c.in_ok-subcommand-4.ensures.shape (local _ _ _ _ (ap (λ (a : App). a.top.is_plain) c.in_ok-replay_command.ensures)) ∙ ap₂ with_subcommand cuts (ap (λ (a : App). a.top) c.in_ok-replay_command.ensures) in
+    IfOk-weaker c.subcommand-5.result _ _ (λ r h. h.shape (local _ _ _ _ (ap (λ (a : App). a.top.is_plain) c.in_ok-threads_command.ensures)) ∙ ap₂ with_subcommand replays (ap (λ (a : App). a.top) c.in_ok-threads_command.ensures)) c.subcommand-5.ensures

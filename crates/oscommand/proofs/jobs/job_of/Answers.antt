@@ -1,41 +1,63 @@
-use Rattle.std.proofs.Common.{refl, sym, subst, true, false, true≢false, inl, inr, is_some, ap, codes, ◌≡◌, ◌∙◌, List, [], Option, Some, None, option_map, map}
-use Rattle.std.specs.Prelude.{IfSome, IsSome, IsSomeAnd}
-use Rattle.clap.specs.Words.{App, HasMatchesOf, IsUnsignedIn, Row, Text, app_of, fault_of, first_of, first_value, found_of, is_simple, is_simple_and_free, rows_of, subcommand_name_of, subcommand_of, subcommand_rows_of}
+use Rattle.std.proofs.Common.{refl, sym, subst, true, false, true≢false, inl, inr, is_some, ap, codes, ◌≡◌, ◌∙◌, List, [], Option, Some, None, Result, Ok, Err, option_map, map}
+use Rattle.std.specs.Prelude.{IfOk, IfSome, IsSome, IsSomeAnd}
+use Rattle.std.proofs.lemmas.Result.{err_from_is_err_and}
+use Rattle.std.specs.declared.alloc.AllocError.{AllocError}
+use Rattle.clap.specs.Words.{App, HasKind, HasMatchesOf, IsUnsignedIn, Row, Text, app_of, fault_of, first_of, first_value, found_of, is_simple, is_simple_and_free, kind_of, rows_of, subcommand_name_of, subcommand_of, subcommand_rows_of}
+use Rattle.clap.specs.declared.builder.command.Command.{Command}
+use Rattle.clap.specs.declared.error.Error.{Error}
+use Rattle.clap.specs.declared.error.kind.ErrorKind.TheVariants.{OutOfMemory}
 use Rattle.clap.specs.declared.parser.matches.ArgMatches.{ArgMatches}
 use Rattle.clap.specs.declared.parser.matches.Found.{Found}
 use Rattle.clap.proofs.OnLiterals.{clap_on_literals}
 use Rattle.clap.proofs.WalkLemmas.{first_value-rows}
 use Rattle.oscommand.specs.declared.jobs.Job.{Job}
-use Rattle.oscommand.specs.CommandLine.{AsksFor, HasEntries, command_line, subcommand_name}
-use Rattle.oscommand.proofs.Usage.{IsJob, check_has, cut_has, names_job, replay_has, run_has}
+use Rattle.oscommand.specs.declared.jobs.TheConstants.{MOST_TURNS}
+use Rattle.oscommand.specs.CommandLine.{AreMailKinds, AsksFor, FailsByWords, HasEntries, MailKinds, command_line, subcommand_name}
+use Rattle.oscommand.proofs.Usage.{IsJob, check_has, cut_has, names_job, replay_has, run_has, threads_has}
 use Rattle.oscommand.proofs.jobs.job_of.Goals as goal
 
 -- the program's command line is one whose matches and faults are known
-is_known : is_simple command_line ≡ true
+is_known : (kinds : MailKinds) → is_simple (command_line kinds) ≡ true
 unfolding clap_on_literals
-is_known = refl
+is_known kinds = refl
 
-is_free : is_simple_and_free command_line ≡ true
+is_free : (kinds : MailKinds) → is_simple_and_free (command_line kinds) ≡ true
 unfolding clap_on_literals
-is_free = refl
+is_free kinds = refl
 
 -- what `clap` says of a parse that succeeds
-record Succeeds (app : App) (words : List Text) (m : ArgMatches) : Type 0 where
-  is : app ≡ command_line
+record Succeeds (kinds : MailKinds) (app : App) (words : List Text) (m : ArgMatches) : Type 0 where
+  is : app ≡ command_line kinds
   matches : HasMatchesOf app words m
-  kinds : is_simple_and_free app ≡ true → fault_of app words ≡ []
+  faults : is_simple_and_free app ≡ true → fault_of app words ≡ []
 
-rows_known : (app : App) (words : List Text) (m : ArgMatches) → Succeeds app words m → subcommand_rows_of m ≡ subcommand_of command_line words
-rows_known app words m parse =
-    let at : HasMatchesOf command_line words m = subst (λ (a : App). HasMatchesOf a words m) parse.is parse.matches in
-    (at is_known).1
+rows_known : (kinds : MailKinds) (app : App) (words : List Text) (m : ArgMatches) → Succeeds kinds app words m → subcommand_rows_of m ≡ subcommand_of (command_line kinds) words
+rows_known kinds app words m parse =
+    let at : HasMatchesOf (command_line kinds) words m = subst (λ (a : App). HasMatchesOf a words m) parse.is parse.matches in
+    (at (is_known kinds)).1
 
-no_fault : (app : App) (words : List Text) (m : ArgMatches) → Succeeds app words m → fault_of command_line words ≡ []
-no_fault app words m parse = subst (λ (a : App). is_simple_and_free a ≡ true → fault_of a words ≡ []) parse.is parse.kinds is_free
+no_fault : (kinds : MailKinds) (app : App) (words : List Text) (m : ArgMatches) → Succeeds kinds app words m → fault_of (command_line kinds) words ≡ []
+no_fault kinds app words m parse = subst (λ (a : App). is_simple_and_free a ≡ true → fault_of a words ≡ []) parse.is parse.faults (is_free kinds)
 
-has_job : (app : App) (words : List Text) (m : ArgMatches) → Succeeds app words m → IsSomeAnd (subcommand_rows_of m) IsJob
-has_job app words m parse =
-    subst (λ (o : Option (Text × List Row)). IsSomeAnd o IsJob) (sym (rows_known app words m parse)) (names_job words (no_fault app words m parse))
+has_none : (kinds : MailKinds) → AreMailKinds kinds → (app : App) (words : List Text) (m : ArgMatches) → Succeeds kinds app words m → (job : Job) → FailsByWords words (Ok job)
+has_none kinds are app words m parse job = record { kinds = kinds; kinds_are = are; fails = no_fault kinds app words m parse }
+
+has_fault : (kinds : MailKinds) → AreMailKinds kinds → (app : App) → app ≡ command_line kinds → (words : List Text) (error : Error)
+    → (is_simple_and_free app ≡ true → HasKind (fault_of app words) error) → FailsByWords words (Err error)
+has_fault kinds are app is words error fails = record {
+  kinds = kinds;
+  kinds_are = are;
+  fails = subst (λ (a : App). is_simple_and_free a ≡ true → HasKind (fault_of a words) error) is fails (is_free kinds);
+}
+
+-- out of memory is an error of any words
+has_no_memory : (kinds : MailKinds) → AreMailKinds kinds → (made : Result Command AllocError) → IfOk made (λ command. app_of command ≡ command_line kinds)
+    → (words : List Text) (error : Error) → kind_of error ≡ OutOfMemory → FailsByWords words (Err error)
+has_no_memory kinds are made is words error out = record { kinds = kinds; kinds_are = are; fails = inl out }
+
+has_job : (kinds : MailKinds) (app : App) (words : List Text) (m : ArgMatches) → Succeeds kinds app words m → IsSomeAnd (subcommand_rows_of m) IsJob
+has_job kinds app words m parse =
+    subst (λ (o : Option (Text × List Row)). IsSomeAnd o IsJob) (sym (rows_known kinds app words m parse)) (names_job kinds words (no_fault kinds app words m parse))
 
 -- a subcommand's name and its rows
 named_rows : {X A B : Type 0} (f : X → A) (g : X → B) (o : Option X) (a : A) (b : B) → option_map f o ≡ Some a
@@ -43,24 +65,24 @@ named_rows : {X A B : Type 0} (f : X → A) (g : X → B) (o : Option X) (a : A)
 named_rows f g None a b e h = cc
 named_rows f g (Some x) a b e h = cc
 
-record IsEntered (words : List Text) (name : Text) (rows : List Row) : Type 0 where
-  names : subcommand_of command_line words ≡ Some (name, rows)
+record IsEntered (kinds : MailKinds) (words : List Text) (name : Text) (rows : List Row) : Type 0 where
+  names : subcommand_of (command_line kinds) words ≡ Some (name, rows)
   job : IsJob (name, rows)
 
-entered : (app : App) (words : List Text) (m : ArgMatches) (name : Text) (rows : List Row) → Succeeds app words m → subcommand_name_of m ≡ Some name
-    → option_map (λ (p : Text × List Row). p.1) (subcommand_rows_of m) ≡ Some rows → IsEntered words name rows
-entered app words m name rows parse is has =
+entered : (kinds : MailKinds) (app : App) (words : List Text) (m : ArgMatches) (name : Text) (rows : List Row) → Succeeds kinds app words m → subcommand_name_of m ≡ Some name
+    → option_map (λ (p : Text × List Row). p.1) (subcommand_rows_of m) ≡ Some rows → IsEntered kinds words name rows
+entered kinds app words m name rows parse is has =
     let both : subcommand_rows_of m ≡ Some (name, rows) = named_rows _ _ _ _ _ is has in
     record {
-      names = sym (rows_known app words m parse) ∙ both;
-      job = subst (λ (o : Option (Text × List Row)). IsSomeAnd o IsJob) both (has_job app words m parse);
+      names = sym (rows_known kinds app words m parse) ∙ both;
+      job = subst (λ (o : Option (Text × List Row)). IsSomeAnd o IsJob) both (has_job kinds app words m parse);
     }
 
 -- the subcommand's entries are what the words ask for
-asks_for : (words : List Text) (rows : List Row) (name : Text) (job : Job) → IsEntered words name rows
+asks_for : (kinds : MailKinds) → AreMailKinds kinds → (words : List Text) (rows : List Row) (name : Text) (job : Job) → IsEntered kinds words name rows
     → HasEntries rows job × (subcommand_name job ≡ name) → AsksFor words job
-asks_for words rows name job enters has =
-    record { rows = rows; names = enters.names ∙ ap (λ (n : Text). Some (n, rows)) (sym has.1); entries = has.0 }
+asks_for kinds are words rows name job enters has =
+    record { kinds = kinds; kinds_are = are; rows = rows; names = enters.names ∙ ap (λ (n : Text). Some (n, rows)) (sym has.1); entries = has.0 }
 
 is_there : {X : Type 0} (P : X → Type 0) (o : Option X) → IsSomeAnd o P → IsSome o
 is_there P None h = absurd h
@@ -72,20 +94,32 @@ value_there f id P has = ap (λ (o : Option Text). is_some o) (first_value-rows 
 -- there is no other job
 no_other : {X : Type 0} (f : X → Text) (g : X → List Row) (o : Option X) → IsSomeAnd (option_map {U = Text × List Row} (λ x. (f x, g x)) o) IsJob
     → (option_map f o ≡ Some (codes "run") → false ≡ true) → (option_map f o ≡ Some (codes "check") → false ≡ true)
-    → (option_map f o ≡ Some (codes "cut") → false ≡ true) → (option_map f o ≡ Some (codes "replay") → false ≡ true) → ⊥
-no_other f g None job run check cut replay = job
-no_other f g (Some x) (inl j) run check cut replay = true≢false (sym (run (ap (λ (n : Text). Some n) j.is)))
-no_other f g (Some x) (inr (inl j)) run check cut replay = true≢false (sym (check (ap (λ (n : Text). Some n) j.is)))
-no_other f g (Some x) (inr (inr (inl j))) run check cut replay = true≢false (sym (cut (ap (λ (n : Text). Some n) j.is)))
-no_other f g (Some x) (inr (inr (inr j))) run check cut replay = true≢false (sym (replay (ap (λ (n : Text). Some n) j.is)))
+    → (option_map f o ≡ Some (codes "cut") → false ≡ true) → (option_map f o ≡ Some (codes "replay") → false ≡ true)
+    → (option_map f o ≡ Some (codes "threads") → false ≡ true) → ⊥
+no_other f g None job run check cut replay threads = job
+no_other f g (Some x) (inl j) run check cut replay threads = true≢false (sym (run (ap (λ (n : Text). Some n) j.is)))
+no_other f g (Some x) (inr (inl j)) run check cut replay threads = true≢false (sym (check (ap (λ (n : Text). Some n) j.is)))
+no_other f g (Some x) (inr (inr (inl j))) run check cut replay threads = true≢false (sym (cut (ap (λ (n : Text). Some n) j.is)))
+no_other f g (Some x) (inr (inr (inr (inl j)))) run check cut replay threads = true≢false (sym (replay (ap (λ (n : Text). Some n) j.is)))
+no_other f g (Some x) (inr (inr (inr (inr j)))) run check cut replay threads = true≢false (sym (threads (ap (λ (n : Text). Some n) j.is)))
+
+pub returns-in_err-command-clause-fault : goal.returns-in_err-command-clause-fault
+returns-in_err-command-clause-fault g c =
+    let p = err_from_is_err_and c.from_residual.result c.from_residual.ensures.1 in
+    rw p.1 (has_no_memory _ refl _ c.command.ensures _ p.0 p.2)
+
+pub returns-in_err-matches-clause-fault : goal.returns-in_err-matches-clause-fault
+returns-in_err-matches-clause-fault g c =
+    let p = err_from_is_err_and c.from_residual-in_err-matches.result c.from_residual-in_err-matches.ensures.1 in
+    rw (p.1, p.2) (has_fault _ refl _ c.in_ok-command.ensures _ _ c.in_err-matches.ensures.kinds)
 
 pub run_job-requires : goal.run_job-requires
 run_job-requires g c =
     let words = map g.S.AsStr.text c.args.words.now in
-    let parse : Succeeds (app_of c.in_ok-command.field-0) words c.in_ok-matches.matches =
-    record { is = c.in_ok-command.ensures; matches = c.in_ok-matches.ensures.matches; kinds = c.in_ok-matches.ensures.kinds } in
+    let parse : Succeeds _ (app_of c.in_ok-command.field-0) words c.in_ok-matches.matches =
+    record { is = c.in_ok-command.ensures; matches = c.in_ok-matches.ensures.matches; faults = c.in_ok-matches.ensures.kinds } in
     let found = found_of c.in-Some.run'.now in
-    let run = run_has (rows_of found) (entered _ words _ (codes "run") (rows_of found) parse (c.in-Some.ensures.found.0 refl) c.in-Some.ensures.rows).job in
+    let run = run_has (rows_of found) (entered _ _ words _ (codes "run") (rows_of found) parse (c.in-Some.ensures.found.0 refl) c.in-Some.ensures.rows).job in
     record {
       config = value_there found (codes "CFG") _ run.config;
       stimuli = value_there found (codes "STIM") _ run.stimuli;
@@ -95,56 +129,57 @@ run_job-requires g c =
 pub returns-in-Some-clause-job : goal.returns-in-Some-clause-job
 returns-in-Some-clause-job g c =
     let words = map g.S.AsStr.text c.args.words.now in
-    let parse : Succeeds (app_of c.in_ok-command.field-0) words c.in_ok-matches.matches =
-    record { is = c.in_ok-command.ensures; matches = c.in_ok-matches.ensures.matches; kinds = c.in_ok-matches.ensures.kinds } in
+    let parse : Succeeds _ (app_of c.in_ok-command.field-0) words c.in_ok-matches.matches =
+    record { is = c.in_ok-command.ensures; matches = c.in_ok-matches.ensures.matches; faults = c.in_ok-matches.ensures.kinds } in
     let rows = rows_of (found_of c.in-Some.run'.now) in
-    asks_for words rows (codes "run") c.run_job.result (entered _ words _ (codes "run") rows parse (c.in-Some.ensures.found.0 refl) c.in-Some.ensures.rows) c.run_job.ensures
+    asks_for _ refl words rows (codes "run") c.run_job.result (entered _ _ words _ (codes "run") rows parse (c.in-Some.ensures.found.0 refl) c.in-Some.ensures.rows) c.run_job.ensures
 
 pub returns-in-Some-clause-fault : goal.returns-in-Some-clause-fault
 returns-in-Some-clause-fault g c =
-    no_fault (app_of c.in_ok-command.field-0) _ c.in_ok-matches.matches
-    (record { is = c.in_ok-command.ensures; matches = c.in_ok-matches.ensures.matches; kinds = c.in_ok-matches.ensures.kinds })
+    has_none _ refl (app_of c.in_ok-command.field-0) _ c.in_ok-matches.matches
+    (record { is = c.in_ok-command.ensures; matches = c.in_ok-matches.ensures.matches; faults = c.in_ok-matches.ensures.kinds }) _
 
 pub check_job-requires : goal.check_job-requires
 check_job-requires g c =
     let words = map g.S.AsStr.text c.args.words.now in
-    let parse : Succeeds (app_of c.in_ok-command.field-0) words c.in_ok-matches.matches =
-    record { is = c.in_ok-command.ensures; matches = c.in_ok-matches.ensures.matches; kinds = c.in_ok-matches.ensures.kinds } in
+    let parse : Succeeds _ (app_of c.in_ok-command.field-0) words c.in_ok-matches.matches =
+    record { is = c.in_ok-command.ensures; matches = c.in_ok-matches.ensures.matches; faults = c.in_ok-matches.ensures.kinds } in
     let sub = c.in-Some-subcommand_matches in
     let found = found_of sub.check.now in
-    let check = check_has (rows_of found) (entered _ words _ (codes "check") (rows_of found) parse (sub.ensures.found.0 refl) sub.ensures.rows).job in
+    let check = check_has (rows_of found) (entered _ _ words _ (codes "check") (rows_of found) parse (sub.ensures.found.0 refl) sub.ensures.rows).job in
     record { config = value_there found (codes "CFG") _ check.config }
 
 pub returns-in-Some-subcommand_matches-clause-job : goal.returns-in-Some-subcommand_matches-clause-job
 returns-in-Some-subcommand_matches-clause-job g c =
     let words = map g.S.AsStr.text c.args.words.now in
-    let parse : Succeeds (app_of c.in_ok-command.field-0) words c.in_ok-matches.matches =
-    record { is = c.in_ok-command.ensures; matches = c.in_ok-matches.ensures.matches; kinds = c.in_ok-matches.ensures.kinds } in
+    let parse : Succeeds _ (app_of c.in_ok-command.field-0) words c.in_ok-matches.matches =
+    record { is = c.in_ok-command.ensures; matches = c.in_ok-matches.ensures.matches; faults = c.in_ok-matches.ensures.kinds } in
     let sub = c.in-Some-subcommand_matches in
     let rows = rows_of (found_of sub.check.now) in
-    asks_for words rows (codes "check") c.check_job.result (entered _ words _ (codes "check") rows parse (sub.ensures.found.0 refl) sub.ensures.rows) c.check_job.ensures
+    asks_for _ refl words rows (codes "check") c.check_job.result (entered _ _ words _ (codes "check") rows parse (sub.ensures.found.0 refl) sub.ensures.rows) c.check_job.ensures
 
 pub returns-in-Some-subcommand_matches-clause-fault : goal.returns-in-Some-subcommand_matches-clause-fault
 returns-in-Some-subcommand_matches-clause-fault g c =
-    no_fault (app_of c.in_ok-command.field-0) _ c.in_ok-matches.matches
-    (record { is = c.in_ok-command.ensures; matches = c.in_ok-matches.ensures.matches; kinds = c.in_ok-matches.ensures.kinds })
+    has_none _ refl (app_of c.in_ok-command.field-0) _ c.in_ok-matches.matches
+    (record { is = c.in_ok-command.ensures; matches = c.in_ok-matches.ensures.matches; faults = c.in_ok-matches.ensures.kinds }) _
 
 pub unreachable-requires : goal.unreachable-requires
 unreachable-requires g c =
     let words = map g.S.AsStr.text c.args.words.now in
-    let parse : Succeeds (app_of c.in_ok-command.field-0) words c.in_ok-matches.matches =
-    record { is = c.in_ok-command.ensures; matches = c.in_ok-matches.ensures.matches; kinds = c.in_ok-matches.ensures.kinds } in
-    no_other _ _ _ (has_job _ words c.in_ok-matches.matches parse) c.in_default.ensures.found.1
+    let parse : Succeeds _ (app_of c.in_ok-command.field-0) words c.in_ok-matches.matches =
+    record { is = c.in_ok-command.ensures; matches = c.in_ok-matches.ensures.matches; faults = c.in_ok-matches.ensures.kinds } in
+    no_other _ _ _ (has_job _ _ words c.in_ok-matches.matches parse) c.in_default.ensures.found.1
     c.in_default-subcommand_matches.ensures.found.1 c.in_default-subcommand_matches-2.ensures.found.1 c.in_default-subcommand_matches-3.ensures.found.1
+    c.in_default-subcommand_matches-4.ensures.found.1
 
 pub cut_job-requires : goal.cut_job-requires
 cut_job-requires g c =
     let words = map g.S.AsStr.text c.args.words.now in
-    let parse : Succeeds (app_of c.in_ok-command.field-0) words c.in_ok-matches.matches =
-    record { is = c.in_ok-command.ensures; matches = c.in_ok-matches.ensures.matches; kinds = c.in_ok-matches.ensures.kinds } in
+    let parse : Succeeds _ (app_of c.in_ok-command.field-0) words c.in_ok-matches.matches =
+    record { is = c.in_ok-command.ensures; matches = c.in_ok-matches.ensures.matches; faults = c.in_ok-matches.ensures.kinds } in
     let sub = c.in-Some-subcommand_matches-2 in
     let found = found_of sub.cut.now in
-    let cut = cut_has (rows_of found) (entered _ words _ (codes "cut") (rows_of found) parse (sub.ensures.found.0 refl) sub.ensures.rows).job in
+    let cut = cut_has (rows_of found) (entered _ _ words _ (codes "cut") (rows_of found) parse (sub.ensures.found.0 refl) sub.ensures.rows).job in
     record {
       config = value_there found (codes "CFG") _ cut.config;
       core = subst (λ (o : Option Text). IsSomeAnd o (IsUnsignedIn 0 255)) (sym (first_value-rows found (codes "CORE"))) cut.core;
@@ -153,41 +188,70 @@ cut_job-requires g c =
 pub returns-in-Some-subcommand_matches-2-clause-job : goal.returns-in-Some-subcommand_matches-2-clause-job
 returns-in-Some-subcommand_matches-2-clause-job g c =
     let words = map g.S.AsStr.text c.args.words.now in
-    let parse : Succeeds (app_of c.in_ok-command.field-0) words c.in_ok-matches.matches =
-    record { is = c.in_ok-command.ensures; matches = c.in_ok-matches.ensures.matches; kinds = c.in_ok-matches.ensures.kinds } in
+    let parse : Succeeds _ (app_of c.in_ok-command.field-0) words c.in_ok-matches.matches =
+    record { is = c.in_ok-command.ensures; matches = c.in_ok-matches.ensures.matches; faults = c.in_ok-matches.ensures.kinds } in
     let sub = c.in-Some-subcommand_matches-2 in
     let rows = rows_of (found_of sub.cut.now) in
-    asks_for words rows (codes "cut") c.cut_job.result (entered _ words _ (codes "cut") rows parse (sub.ensures.found.0 refl) sub.ensures.rows) c.cut_job.ensures
+    asks_for _ refl words rows (codes "cut") c.cut_job.result (entered _ _ words _ (codes "cut") rows parse (sub.ensures.found.0 refl) sub.ensures.rows) c.cut_job.ensures
 
 pub returns-in-Some-subcommand_matches-2-clause-fault : goal.returns-in-Some-subcommand_matches-2-clause-fault
 returns-in-Some-subcommand_matches-2-clause-fault g c =
-    no_fault (app_of c.in_ok-command.field-0) _ c.in_ok-matches.matches
-    (record { is = c.in_ok-command.ensures; matches = c.in_ok-matches.ensures.matches; kinds = c.in_ok-matches.ensures.kinds })
+    has_none _ refl (app_of c.in_ok-command.field-0) _ c.in_ok-matches.matches
+    (record { is = c.in_ok-command.ensures; matches = c.in_ok-matches.ensures.matches; faults = c.in_ok-matches.ensures.kinds }) _
 
 pub replay_job-requires : goal.replay_job-requires
 replay_job-requires g c =
     let words = map g.S.AsStr.text c.args.words.now in
-    let parse : Succeeds (app_of c.in_ok-command.field-0) words c.in_ok-matches.matches =
-    record { is = c.in_ok-command.ensures; matches = c.in_ok-matches.ensures.matches; kinds = c.in_ok-matches.ensures.kinds } in
+    let parse : Succeeds _ (app_of c.in_ok-command.field-0) words c.in_ok-matches.matches =
+    record { is = c.in_ok-command.ensures; matches = c.in_ok-matches.ensures.matches; faults = c.in_ok-matches.ensures.kinds } in
     let sub = c.in-Some-subcommand_matches-3 in
     let found = found_of sub.replay.now in
-    let replay = replay_has (rows_of found) (entered _ words _ (codes "replay") (rows_of found) parse (sub.ensures.found.0 refl) sub.ensures.rows).job in
+    let replay = replay_has (rows_of found) (entered _ _ words _ (codes "replay") (rows_of found) parse (sub.ensures.found.0 refl) sub.ensures.rows).job in
     record {
       config = value_there found (codes "CFG") _ replay.config;
       core = subst (λ (o : Option Text). IsSomeAnd o (IsUnsignedIn 0 255)) (sym (first_value-rows found (codes "CORE"))) replay.core;
       log = value_there found (codes "LOG") _ replay.log;
     }
 
+pub returns-in-Some-subcommand_matches-3-clause-job : goal.returns-in-Some-subcommand_matches-3-clause-job
+returns-in-Some-subcommand_matches-3-clause-job g c =
+    let words = map g.S.AsStr.text c.args.words.now in
+    let parse : Succeeds _ (app_of c.in_ok-command.field-0) words c.in_ok-matches.matches =
+    record { is = c.in_ok-command.ensures; matches = c.in_ok-matches.ensures.matches; faults = c.in_ok-matches.ensures.kinds } in
+    let sub = c.in-Some-subcommand_matches-3 in
+    let rows = rows_of (found_of sub.replay.now) in
+    asks_for _ refl words rows (codes "replay") c.replay_job.result (entered _ _ words _ (codes "replay") rows parse (sub.ensures.found.0 refl) sub.ensures.rows) c.replay_job.ensures
+
+pub returns-in-Some-subcommand_matches-3-clause-fault : goal.returns-in-Some-subcommand_matches-3-clause-fault
+returns-in-Some-subcommand_matches-3-clause-fault g c =
+    has_none _ refl (app_of c.in_ok-command.field-0) _ c.in_ok-matches.matches
+    (record { is = c.in_ok-command.ensures; matches = c.in_ok-matches.ensures.matches; faults = c.in_ok-matches.ensures.kinds }) _
+
+pub threads_job-requires : goal.threads_job-requires
+threads_job-requires g c =
+    let words = map g.S.AsStr.text c.args.words.now in
+    let parse : Succeeds _ (app_of c.in_ok-command.field-0) words c.in_ok-matches.matches =
+    record { is = c.in_ok-command.ensures; matches = c.in_ok-matches.ensures.matches; faults = c.in_ok-matches.ensures.kinds } in
+    let sub = c.in-Some-subcommand_matches-4 in
+    let found = found_of sub.threads.now in
+    let threads = threads_has (rows_of found) (entered _ _ words _ (codes "threads") (rows_of found) parse (sub.ensures.found.0 refl) sub.ensures.rows).job in
+    record {
+      config = value_there found (codes "CFG") _ threads.config;
+      stimuli = value_there found (codes "STIM") _ threads.stimuli;
+      turns = subst (λ (o : Option Text). IfSome o (IsUnsignedIn 1 MOST_TURNS)) (sym (first_value-rows found (codes "turns"))) threads.turns;
+      items = subst (λ (o : Option Text). IfSome o (IsUnsignedIn 0 255)) (sym (first_value-rows found (codes "items"))) threads.items;
+    }
+
 pub returns-clause-job : goal.returns-clause-job
 returns-clause-job g c =
     let words = map g.S.AsStr.text c.args.words.now in
-    let parse : Succeeds (app_of c.in_ok-command.field-0) words c.in_ok-matches.matches =
-    record { is = c.in_ok-command.ensures; matches = c.in_ok-matches.ensures.matches; kinds = c.in_ok-matches.ensures.kinds } in
-    let sub = c.in-Some-subcommand_matches-3 in
-    let rows = rows_of (found_of sub.replay.now) in
-    asks_for words rows (codes "replay") c.replay_job.result (entered _ words _ (codes "replay") rows parse (sub.ensures.found.0 refl) sub.ensures.rows) c.replay_job.ensures
+    let parse : Succeeds _ (app_of c.in_ok-command.field-0) words c.in_ok-matches.matches =
+    record { is = c.in_ok-command.ensures; matches = c.in_ok-matches.ensures.matches; faults = c.in_ok-matches.ensures.kinds } in
+    let sub = c.in-Some-subcommand_matches-4 in
+    let rows = rows_of (found_of sub.threads.now) in
+    asks_for _ refl words rows (codes "threads") c.threads_job.result (entered _ _ words _ (codes "threads") rows parse (sub.ensures.found.0 refl) sub.ensures.rows) c.threads_job.ensures
 
 pub returns-clause-fault : goal.returns-clause-fault
 returns-clause-fault g c =
-    no_fault (app_of c.in_ok-command.field-0) _ c.in_ok-matches.matches
-    (record { is = c.in_ok-command.ensures; matches = c.in_ok-matches.ensures.matches; kinds = c.in_ok-matches.ensures.kinds })
+    has_none _ refl (app_of c.in_ok-command.field-0) _ c.in_ok-matches.matches
+    (record { is = c.in_ok-command.ensures; matches = c.in_ok-matches.ensures.matches; faults = c.in_ok-matches.ensures.kinds }) _

@@ -1,0 +1,187 @@
+-- What a worker's turns ask, and which items the answers result in.
+use Rattle.std.proofs.Common.{◌≡◌, ℕ, ◌<◌, Bool, true, false, cond, nat_le, nat_lt, Option, Some, None, is_some, IsSome, IsTrue, List, [], ◌∷◌, ◌++◌, length, map, inl, inr, refl, subst, ◌∙◌, arith, unwrap_or, sum_by}
+use Rattle.std.specs.List.{list_all}
+use Rattle.std.proofs.lemmas.Bool.{and_parts, eqb-true, ltb-true}
+use Rattle.osbase.specs.declared.statuses.Status.{Status}
+use Rattle.osbase.specs.declared.statuses.Status.TheVariants.{EOk, EOsId, EOsState}
+use Rattle.osbase.specs.declared.references.CoreId.{CoreId}
+use Rattle.osbase.specs.declared.items.CoreMode.{CoreMode}
+use Rattle.osbase.specs.declared.items.CoreMode.TheVariants.{Named, DontCare}
+use Rattle.osbase.specs.declared.items.Item.{Item}
+use Rattle.osbase.specs.declared.items.Stimulus.{Stimulus}
+use Rattle.osbase.specs.History.{same_core}
+use Rattle.osbase.specs.Sets.{has_core}
+use Rattle.osplan.specs.declared.plans.Plan.{Plan}
+use Rattle.osplan.specs.declared.plans.Core.{Core}
+use Rattle.osplan.specs.Limits.{are_alarms_within, are_counters_within, are_tables_within, alarm_sizes, ceiling_of, core_sizes, counter_sizes, is_alarm_known, is_ceiling, is_core_known, is_core_mode, is_core_within, is_table_known, is_task_known, is_task_within, is_within_limits, jobs_of, table_sizes, task_sizes}
+use Rattle.osplan.specs.Objects.{posted_at_once}
+use Rattle.osplan.specs.View.{core_of, counter_in, is_configured, no_core, view_of}
+use Rattle.osplan.proofs.Tests.{find-holds, find-passes}
+use Rattle.osplan.proofs.Within.{between, limit-parts}
+use Rattle.osstate.proofs.Begun.{is_some-core_of}
+use Rattle.osstate.specs.State.{KernelState}
+use Rattle.oskernel.specs.Admission.{takes_in}
+use Rattle.oskernel.specs.declared.wants.Want.{Want}
+use Rattle.oskernel.specs.declared.wants.Watch.{Watch}
+use Rattle.oskernel.proofs.Stages.{is_mail}
+use Rattle.osseat.specs.Histories.{IsLegal, IsLegalFrom, entry}
+use Rattle.osseat.specs.Seats.{Extends, Held}
+use Rattle.osboard.specs.declared.calls.BoardState.{BoardState}
+use Rattle.osboard.specs.declared.calls.BoardCall.{BoardCall}
+use Rattle.osboard.specs.declared.calls.BoardCall.TheVariants.{Start, Enter, MakeReady, Drain, Look, AskHalt, LookHalt}
+use Rattle.osboard.specs.declared.calls.BoardReply.{BoardReply}
+use Rattle.osboard.specs.declared.calls.BoardReply.TheVariants.{Started, Acknowledged, Shown, Decided, Halting}
+use Rattle.osboard.specs.Boards.{BoardEntry, IsMode, board_after, board_reply, first_board, one_board, start_answer}
+use Rattle.osturn.specs.declared.asks.Ask.{Ask}
+use Rattle.osturn.specs.declared.asks.Ask.TheVariants.{OfBoard, OfSpins, Oldest, StartUnknown, TakeStimulus}
+use Rattle.osturn.specs.declared.asks.Answer.TheVariants.{Replied, Unasked}
+use Rattle.osturn.specs.Asking.{look_asked, named_by, no_calls, own_asked, starting, told_by}
+use Rattle.osturn.proofs.Leading.{halted-item, is-item, passing-item}
+use Rattle.osthreads.specs.Calling.{ChangesBoard, HasPlace, LoadsBoard, item_of_call}
+
+-- ---- replies
+
+-- The last call of a legal history was answered what the board answers.
+legal-last : (s : BoardState) (xs : List BoardEntry) (e : BoardEntry) → IsLegalFrom one_board s (xs ++ e ∷ []) → (t : BoardState) × (e.reply ≡ board_reply e.core e.call t)
+legal-last s [] e legal = (s, legal.0)
+legal-last s (x ∷ xs) e legal = legal-last (board_after x.core x.call s) xs e legal.1
+
+pub replied-by : (old new : Held CoreId BoardCall BoardReply) (call : BoardCall) (reply : BoardReply) → Extends one_board old (entry old.core call reply) new → (t : BoardState) × (reply ≡ board_reply old.core call t)
+replied-by old new call reply made =
+    legal-last (first_board old.place.plan.about) (old.seen ++ made.between) (entry old.core call reply)
+    (subst (λ (es : List BoardEntry). IsLegal one_board old.place.plan.about es) made.seen made.legal)
+
+-- A call that changes the board results in an item that the core takes if it takes the one that was expected.
+pub record ResultsIn (id : CoreId) (watch : Watch) (call : BoardCall) (t : BoardState) : Type 0 where
+  pub item : Item
+  pub names : named_by id watch (OfBoard call) (Replied (board_reply id call t)) ≡ Some item
+  pub no_mail : is_mail item ≡ false
+  pub taken : (s : KernelState) → takes_in 64 s (item_of_call call) ≡ true → takes_in 64 s item ≡ true
+
+pub result-of : (id : CoreId) (watch : Watch) (call : BoardCall) (t : BoardState) → ChangesBoard call → ResultsIn id watch call t
+result-of id watch (Start k) t changes = record {
+  item = Item.Began k (start_answer t.view k);
+  names = refl;
+  no_mail = refl;
+  taken = λ s may. by s may (has_core t.view.started k);
+}
+  where
+    by : (s : KernelState) → takes_in 64 s (Item.Began k EOk) ≡ true → (b : Bool) → takes_in 64 s (Item.Began k (cond b EOsState EOk)) ≡ true
+    by s may true = may
+    by s may false = may
+result-of id watch (Enter mode) t changes = record { item = Item.Entered; names = refl; no_mail = refl; taken = λ s may. may }
+result-of id watch MakeReady t changes = record { item = Item.Readied; names = refl; no_mail = refl; taken = λ s may. may }
+result-of id watch Drain t changes = record { item = Item.Drained; names = refl; no_mail = refl; taken = λ s may. may }
+result-of id watch call t changes = absurd changes
+
+-- ---- items that are no mail
+
+abbrev NoMail : Item → Type 0
+NoMail i = is_mail i ≡ false
+
+-- No call of the board results in mail.
+pub board-no-mail : (id : CoreId) (watch : Watch) (call : BoardCall) (reply : BoardReply) (i : Item) → named_by id watch (OfBoard call) (Replied reply) ≡ Some i → is_mail i ≡ false
+board-no-mail id watch (Start k) (Started status) i e = is-item NoMail (Item.Began k status) i refl e
+board-no-mail id watch (Enter mode) Acknowledged i e = is-item NoMail Item.Entered i refl e
+board-no-mail id watch MakeReady Acknowledged i e = is-item NoMail Item.Readied i refl e
+board-no-mail id watch Drain Acknowledged i e = is-item NoMail Item.Drained i refl e
+board-no-mail id watch Look (Shown view) i e = passing-item NoMail refl (λ agreement. refl) (λ cores. refl) refl id view watch i e
+board-no-mail id watch (AskHalt status) (Decided asked) i e = is-item NoMail (Item.Halt asked.0 asked.1) i refl e
+board-no-mail id watch LookHalt (Halting halt) i e = halted-item NoMail (λ asked. refl) (λ core status. refl) watch halt i e
+board-no-mail id watch call reply i e = cc
+
+-- Without a call there is none, and no mail either.
+pub unasked-silent : (id : CoreId) (ask : Ask) → told_by id ask Unasked ≡ no_calls
+unasked-silent id (OfBoard call) = refl
+unasked-silent id (OfSpins wish) = refl
+unasked-silent id ask = refl
+
+pub unasked-no-mail : (id : CoreId) (watch : Watch) (ask : Ask) (i : Item) → named_by id watch ask Unasked ≡ Some i → is_mail i ≡ false
+unasked-no-mail id watch (StartUnknown k) i e = is-item NoMail (Item.Began k EOsId) i refl e
+unasked-no-mail id watch (TakeStimulus s) i e = is-item NoMail (Item.Stim s) i refl e
+unasked-no-mail id watch ask i e = cc
+
+-- ---- what the board has a place for
+
+module _ (plan : Plan) (limits : IsTrue (is_within_limits plan)) where
+  number-low : (core : Core) → is_core_within (core_sizes plan core) ≡ true → core.id.number < 8
+  number-low core h =
+      let starts = map (alarm_sizes (counter_in plan)) core.alarms in
+      let timed = map (table_sizes (counter_in plan)) core.tables in
+      let counters = and_parts _ (are_counters_within (map counter_sizes core.counters)) (and_parts _ (are_alarms_within starts) (and_parts _ (are_tables_within timed) (and_parts _ (nat_le (posted_at_once core) 56) h).0).0).0 in
+      let ceilings = and_parts _ (list_all is_ceiling (map ceiling_of core.resources)) counters.0 in
+      let resources = and_parts _ (nat_le (length (map ceiling_of core.resources)) 16) ceilings.0 in
+      let sum = and_parts _ (nat_le (sum_by jobs_of (map task_sizes core.tasks)) 64) resources.0 in
+      let tasks = and_parts _ (list_all is_task_within (map task_sizes core.tasks)) sum.0 in
+      let few = and_parts _ _ tasks.0 in
+      let number = between _ _ core.id.number (and_parts _ _ few.0).0 in
+      omega arith
+
+  core-low : (k : CoreId) (o : Option Core) → core_of plan k ≡ o → is_some o ≡ true → k.number < 8
+  core-low k (Some core) found there =
+      let within = find-passes (λ (c : Core). same_core c.id k) (λ (c : Core). is_core_within (core_sizes plan c)) plan.cores core (limit-parts plan limits).cores found in
+      let low = number-low core within in
+      let same : core.id.number ≡ k.number = eqb-true core.id.number k.number (find-holds (λ (c : Core). same_core c.id k) plan.cores core found) in
+      omega arith
+  core-low k None found there = cc
+
+  pub configured-low : (k : CoreId) → is_some (core_of plan k) ≡ true → k.number < 8
+  configured-low k there = core-low k (core_of plan k) refl there
+
+  pub known-low : (k : CoreId) → IsSome (core_of plan k) → k.number < 8
+  known-low k there = configured-low k (is-there (core_of plan k) there)
+    where
+      is-there : (o : Option Core) → IsSome o → is_some o ≡ true
+      is-there None some = cc
+      is-there (Some core) some = refl
+
+  few-modes : length plan.modes < 9
+  few-modes =
+      let modes = between 1 8 (length plan.modes) (and_parts _ _ (and_parts _ _ (and_parts _ _ (limit-parts plan limits).sizes).0).0).0 in
+      omega arith
+
+  mode-low : (mode : CoreMode) → is_core_mode plan mode ≡ true → IsMode mode
+  mode-low (Named m) known = let low = ltb-true m.index (length plan.modes) known in let few = few-modes in omega arith
+  mode-low DontCare known = tt
+
+  mode-of : (id : CoreId) (o : Option Core) → core_of plan id ≡ o → IsMode (unwrap_or o (no_core id)).mode
+  mode-of id None found = tt
+  mode-of id (Some core) found =
+      let known = find-passes (λ (c : Core). same_core c.id id) (is_core_known plan) plan.cores core (limit-parts plan limits).known found in
+      let alarms = and_parts _ (list_all (is_table_known plan) core.tables) known in
+      let tasks = and_parts _ (list_all (is_alarm_known plan) core.alarms) alarms.0 in
+      mode-low core.mode (and_parts (is_core_mode plan core.mode) (list_all (is_task_known plan) core.tasks) tasks.0).0
+
+  -- What a core's own turn asks: of the board a call that changes it and has a place there, of the spinlocks nothing yet, and
+  -- nothing that serves another core.
+  abbrev IsOwn : Option Ask → Type 0
+  IsOwn (Some (OfBoard call)) = ChangesBoard call × HasPlace call
+  IsOwn (Some (OfSpins wish)) = ⊥
+  IsOwn (Some (Oldest from)) = ⊥
+  IsOwn o = Unit {0}
+
+  pub own-asks : (id : CoreId) (next : Option Stimulus) (want : Want) → IsOwn (own_asked (view_of plan id) next want)
+  own-asks id next (Want.Start k) = by (is_configured (view_of plan id) k) refl
+    where
+      by : (b : Bool) → is_configured (view_of plan id) k ≡ b → IsOwn (Some (starting k b))
+      by true e = (tt, configured-low k (is_some-core_of k plan.cores ∙ e))
+      by false e = tt
+  own-asks id next Want.Enter = (tt, mode-of id (core_of plan id) refl)
+  own-asks id next Want.Ready = (tt, tt)
+  own-asks id next (Want.Post to) = tt
+  own-asks id (Some s) Want.GoOn = tt
+  own-asks id None Want.GoOn = (tt, tt)
+  own-asks id next Want.Nothing = tt
+
+  pub own-board : (id : CoreId) (next : Option Stimulus) (want : Want) (call : BoardCall) → own_asked (view_of plan id) next want ≡ Some (OfBoard call) → ChangesBoard call × HasPlace call
+  own-board id next want call asks = subst IsOwn asks (own-asks id next want)
+
+-- What a look asks.
+abbrev IsLookAsk : Ask → Type 0
+IsLookAsk (OfBoard call) = LoadsBoard call × HasPlace call
+IsLookAsk ask = ⊥
+
+pub look-asks : (watch : Watch) → IsLookAsk (look_asked watch)
+look-asks Watch.Halt = (inr refl, tt)
+look-asks Watch.Last = (inr refl, tt)
+look-asks watch = (inl refl, tt)

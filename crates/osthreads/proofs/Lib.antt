@@ -1,0 +1,7 @@
+pub mod Asking
+pub mod Working
+pub mod Shifting
+pub mod Senders
+pub mod Threaded
+pub mod Gathering
+pub mod Examples

@@ -1,0 +1,116 @@
+-- The runs of all cores, whoever ran them: their reports are sound.
+use Rattle.std.proofs.Common.{◌≡◌, ◌==◌, ◌||◌, Bool, true, false, cond, Option, Some, IsTrue, List, [], ◌∷◌, ◌++◌, map, refl, sym, ap, subst, ◌∙◌}
+use Rattle.std.specs.List.{AllByRecursion, find}
+use Rattle.std.specs.Option.{option_map_or}
+use Rattle.std.proofs.lemmas.Bool.{eq-eqb, false≢true, ne_eqb}
+use Rattle.osbase.specs.declared.references.CoreId.{CoreId}
+use Rattle.osbase.specs.declared.messages.Envelope.{Envelope}
+use Rattle.osbase.specs.declared.items.Item.{Item}
+use Rattle.osbase.specs.declared.turns.CoreStimuli.{CoreStimuli}
+use Rattle.osbase.specs.declared.turns.Report.{Report}
+use Rattle.osbase.specs.History.{posted, received, same_core}
+use Rattle.osbase.specs.Runs.{stimuli_of}
+use Rattle.osbase.proofs.Same.{same_core-true}
+use Rattle.osplan.specs.declared.plans.Plan.{Plan}
+use Rattle.osplan.specs.Limits.{is_within_limits}
+use Rattle.osplan.specs.Stimuli.{AreKnown}
+use Rattle.osplan.specs.View.{view_of}
+use Rattle.osseat.specs.Histories.{calls_by}
+use Rattle.osseat.specs.Runs.{HasLogs}
+use Rattle.osseat.specs.Seats.{has}
+use Rattle.osboard.specs.Boards.{BoardEntry}
+use Rattle.osturn.specs.Fits.{AreAnswered, Fits, FitsCore, IsBeginning, history_by, ids_of, items_of}
+use Rattle.osturn.specs.Sound.{AreSound, IsOwn, lists_in}
+use Rattle.osturn.proofs.Alone.{fits-alone}
+use Rattle.osthreads.specs.Runs.{AreDelivered, AreRuns, IsDelivered, IsOneBoard}
+use Rattle.osthreads.specs.Working.{of_board}
+use Rattle.osthreads.proofs.Senders.{none-received, unlisted-unseen}
+
+abbrev cores_in : List Report → List CoreId
+cores_in reports = map (λ (r : Report). r.core) reports
+
+-- What is true of each report's items, and of no items where no report is of the core, is true of each core's.
+items-have : (P : CoreId → List Item → Type 0) (reports : List Report) (id : CoreId) → AllByRecursion (λ (r : Report). P r.core r.items) reports → (has (cores_in reports) id ≡ false → P id []) → P id (items_of (lists_in reports) id)
+items-have P [] id each none = none refl
+items-have P (r ∷ rs) id each none = by (same_core r.core id) refl (items-have P rs id each.1)
+  where
+    by : (b : Bool) → same_core r.core id ≡ b → ((has (cores_in rs) id ≡ false → P id []) → P id (items_of (lists_in rs) id)) → P id (option_map_or (λ (p : CoreId × List Item). p.1) (cond b (Some (r.core, r.items)) (find (λ (p : CoreId × List Item). same_core p.0 id) (lists_in rs))) [])
+    by true e later = subst (λ (c : CoreId). P c r.items) (same_core-true r.core id e) each.0
+    by false e later =
+        let other : (id.number == r.core.number) ≡ false = ne_eqb id.number r.core.number (λ q. false≢true (sym e ∙ eq-eqb r.core.number id.number (sym q))) in
+        later (λ out. none (subst (λ (b : Bool). (b || has (cores_in rs) id) ≡ false) (sym other) out))
+
+module _ (plan : Plan) (stimuli : List CoreStimuli) where
+  each-own : (reports : List Report) (logs : List (List BoardEntry)) → AreRuns plan stimuli reports logs → AllByRecursion (IsOwn plan) reports
+  each-own [] [] runs = tt
+  each-own [] (l ∷ ls) runs = absurd runs
+  each-own (r ∷ rs) [] runs = absurd runs
+  each-own (r ∷ rs) (l ∷ ls) runs = (runs.0.alone.own, each-own rs ls runs.1)
+
+  each-fits : (reports : List Report) (logs : List (List BoardEntry)) → AreRuns plan stimuli reports logs → AllByRecursion (λ (r : Report). FitsCore plan stimuli r.core r.items) reports
+  each-fits [] [] runs = tt
+  each-fits [] (l ∷ ls) runs = absurd runs
+  each-fits (r ∷ rs) [] runs = absurd runs
+  each-fits (r ∷ rs) (l ∷ ls) runs = (runs.0.alone.fits, each-fits rs ls runs.1)
+
+  each-answered : (history : List BoardEntry) (reports : List Report) (logs : List (List BoardEntry)) → AreRuns plan stimuli reports logs → HasLogs history (cores_in reports) logs → AllByRecursion (λ (r : Report). AreAnswered (view_of plan r.core) [] r.items (of_board (calls_by r.core history))) reports
+  each-answered history [] [] runs logs = tt
+  each-answered history [] (l ∷ ls) runs logs = absurd runs
+  each-answered history (r ∷ rs) [] runs logs = absurd runs
+  each-answered history (r ∷ rs) (l ∷ ls) runs logs = (
+    subst (λ (es : List BoardEntry). AreAnswered (view_of plan r.core) [] r.items (of_board es)) (sym logs.0) runs.0.answers,
+    each-answered history rs ls runs.1 logs.1,
+  )
+
+  module _ (limits : IsTrue (is_within_limits plan)) (known : AreKnown plan stimuli) (reports : List Report) (logs : List (List BoardEntry)) (cores : cores_in reports ≡ ids_of plan) (runs : AreRuns plan stimuli reports logs) where
+    cores-fit : (id : CoreId) → FitsCore plan stimuli id (items_of (lists_in reports) id)
+    cores-fit id =
+        items-have (FitsCore plan stimuli) reports id (each-fits reports logs runs)
+        (λ out. record { alone = refl; begins = (stimuli_of stimuli id, refl); drains = λ drained. absurd (false≢true drained) })
+
+    abbrev Flows : CoreId → List Item → CoreId → List Item → Type 0
+    Flows from sent to got = IsBeginning (received from (history_by plan to got)) (posted to (history_by plan from sent))
+
+    unlisted : (id : CoreId) → has (cores_in reports) id ≡ false → has (ids_of plan) id ≡ false
+    unlisted id out = subst (λ (cs : List CoreId). has cs id ≡ false) cores out
+
+    -- who has no list posted nothing, and nothing was received from it
+    from-nobody : (from to : CoreId) → has (cores_in reports) from ≡ false → Flows from [] to (items_of (lists_in reports) to)
+    from-nobody from to out =
+        ([], ap (λ (xs : List Envelope). xs ++ []) (none-received (view_of plan to) (items_of (lists_in reports) to) (cores-fit to).alone from (unlisted-unseen plan limits from to (unlisted from out))))
+
+    from-each : (to : CoreId) (rs : List Report) → AllByRecursion (λ a. AllByRecursion (IsDelivered plan a) reports) rs → AllByRecursion (λ (a : Report). Flows a.core a.items to (items_of (lists_in reports) to)) rs
+    from-each to [] all = tt
+    from-each to (a ∷ others) all = (
+      items-have (λ (id : CoreId) (items : List Item). Flows a.core a.items id items) reports to all.0 (λ out. (posted to (history_by plan a.core a.items), refl)),
+      from-each to others all.1,
+    )
+
+    streams-fit : AreDelivered plan reports → (from to : CoreId) → Flows from (items_of (lists_in reports) from) to (items_of (lists_in reports) to)
+    streams-fit delivered from to =
+        items-have (λ (id : CoreId) (items : List Item). Flows id items to (items_of (lists_in reports) to)) reports from
+        (from-each to reports delivered) (λ out. from-nobody from to out)
+
+    fit : AreDelivered plan reports → IsOneBoard plan logs → Fits plan stimuli (lists_in reports)
+    fit delivered board = (
+      of_board board.history,
+      record {
+        cores = cores-fit;
+        streams = streams-fit delivered;
+        board = board.legal;
+        spins = tt;
+        answers = λ id.
+            items-have (λ (c : CoreId) (items : List Item). AreAnswered (view_of plan c) [] items (of_board (calls_by c board.history))) reports id
+            (each-answered board.history reports logs runs (subst (λ (cs : List CoreId). HasLogs board.history cs logs) (sym cores) board.logs_are))
+            (λ out. ap of_board (board.others id (unlisted id out)));
+      },
+    )
+
+    -- The reports of the configured cores' runs, with one history of the board and what was received from each, are sound.
+    pub runs-sound : AreDelivered plan reports → IsOneBoard plan logs → AreSound plan stimuli reports
+    runs-sound delivered board = let fits = fit delivered board in record {
+      cores = cores;
+      own = each-own reports logs runs;
+      fit = fits;
+      separate = fits-alone plan stimuli (lists_in reports) fits limits known;
+    }

@@ -1,0 +1,344 @@
+-- What an item adds to what a worker has done: to its core, to its calls of the board and to its end of the mail.
+use Rattle.std.proofs.Common.{◌≡◌, ◌⊎◌, ℕ, zero, suc, ◌+◌, ◌≤◌, Bool, true, false, cond, Option, Some, None, List, [], ◌∷◌, ◌++◌, length, drop, inl, inr, ⊎_elim, refl, sym, ap, subst, ◌∙◌, arith, append_assoc, append-nil, length-append}
+use Rattle.std.specs.List.{AllByRecursion, slice_get}
+use Rattle.std.proofs.lemmas.Option.{same_Some}
+use Rattle.osbase.specs.declared.statuses.Status.TheVariants.{EOsId}
+use Rattle.osbase.specs.declared.references.CoreId.{CoreId}
+use Rattle.osbase.specs.declared.messages.Envelope.{Envelope}
+use Rattle.osbase.specs.declared.histories.Sent.{Sent}
+use Rattle.osbase.specs.declared.items.Item.{Item}
+use Rattle.osbase.specs.declared.items.Stimulus.{Stimulus}
+use Rattle.osbase.specs.declared.turns.CoreStimuli.{CoreStimuli}
+use Rattle.osbase.specs.History.{History, front_envelope, outbox, posted, received, same_core}
+use Rattle.osbase.specs.Runs.{stimuli_of}
+use Rattle.osplan.specs.declared.plans.Plan.{Plan}
+use Rattle.osplan.specs.View.{View, view_of}
+use Rattle.osstate.specs.State.{KernelState}
+use Rattle.oskernel.specs.declared.wants.Watch.{Watch}
+use Rattle.oskernel.specs.Admission.{serves_in, takes_in}
+use Rattle.oskernel.specs.Step.{after, history_from, outbox_size, serves, takes}
+use Rattle.oskernel.specs.Wants.{front_of, want_in, watch_in}
+use Rattle.oskernel.proofs.Stages.{is_mail}
+use Rattle.osseat.specs.Histories.{Thinned, entry}
+use Rattle.osseat.proofs.Thins.{logged}
+use Rattle.osboard.specs.declared.calls.BoardCall.{BoardCall}
+use Rattle.osboard.specs.declared.calls.BoardCall.TheVariants.{Start, Enter, MakeReady, Drain, Look, AskHalt, LookHalt}
+use Rattle.osboard.specs.declared.calls.BoardReply.{BoardReply}
+use Rattle.osboard.specs.declared.calls.BoardReply.TheVariants.{Started, Acknowledged, Shown, Halting}
+use Rattle.osboard.specs.Boards.{BoardEntry, IsLook}
+use Rattle.osmail.specs.Ends.{AreUnchanged, HasOneMore, Streams}
+use Rattle.osturn.specs.declared.asks.Ask.{Ask}
+use Rattle.osturn.specs.declared.asks.Ask.TheVariants.{OfBoard, OfSpins, Room, Oldest, StartUnknown, TakeStimulus}
+use Rattle.osturn.specs.declared.asks.Answer.{Answer}
+use Rattle.osturn.specs.declared.asks.Answer.TheVariants.{Replied, Spun, HasRoom, Found, Unasked}
+use Rattle.osturn.specs.declared.seats.Seat.{Seat}
+use Rattle.osturn.specs.Asking.{Calls, asked_by, joined, named_by, no_calls, told_by}
+use Rattle.osturn.specs.Fits.{AreAnswered, FitsCore, Leads, history_by, stimuli_in}
+use Rattle.osturn.specs.Seats.{stimulus_count}
+use Rattle.osturn.proofs.Answered.{answered-push, joined-none}
+use Rattle.osturn.proofs.Asked.{IsOwnAsk, asks-own}
+use Rattle.osturn.proofs.Leading.{halted-item, is-item, passing-item, spun-item}
+use Rattle.osturn.proofs.Longer.{IsInTurn, core-on, history_from-push, length-stimuli_in}
+use Rattle.osturn.proofs.Seated.{Keeps, Took, seated-kept, seated-on}
+use Rattle.osturn.proofs.Streams.{envelope_in, is_from, is_post_to, posted-after, received-is}
+use Rattle.osthreads.specs.Working.{AreCalls, HasDone, IsAsked, IsAtWork, IsMailed, IsRefused, Refusal, of_board, refused_from}
+
+-- ---- stimuli
+
+-- What is left begins with what comes next.
+front-drop : {A : Type 0} (n : ℕ) (xs : List A) → slice_get (drop n xs) 0 ≡ slice_get xs n
+front-drop zero [] = refl
+front-drop zero (x ∷ xs) = refl
+front-drop (suc n) [] = refl
+front-drop (suc n) (x ∷ xs) = front-drop n xs
+
+-- An item that a turn names is in turn, where the turn asks for what comes next.
+module _ (v : View) (listed : List Stimulus) (past : List Item) where
+  is : (j i : Item) → Some j ≡ Some i → IsInTurn listed past j → IsInTurn listed past i
+  is j i e next = is-item (IsInTurn listed past) j i next e
+
+  follows : (watch : Watch) (ask : Ask) (answer : Answer) (i : Item) → IsOwnAsk v (slice_get listed (length (stimuli_in past))) (Some ask) → named_by v.core watch ask answer ≡ Some i → IsInTurn listed past i
+  follows watch (OfBoard Look) (Replied (Shown view)) i own e = passing-item (IsInTurn listed past) tt (λ agreement. tt) (λ cores. tt) tt v.core view watch i e
+  follows watch (OfBoard (Start k)) (Replied (Started status)) i own e = is (Item.Began k status) i e tt
+  follows watch (OfBoard (Enter mode)) (Replied Acknowledged) i own e = is Item.Entered i e tt
+  follows watch (OfBoard MakeReady) (Replied Acknowledged) i own e = is Item.Readied i e tt
+  follows watch (OfBoard Drain) (Replied Acknowledged) i own e = is Item.Drained i e own
+  follows watch (OfBoard LookHalt) (Replied (Halting halt)) i own e = halted-item (IsInTurn listed past) (λ asked. tt) (λ core status. tt) watch halt i e
+  follows watch (OfBoard (AskHalt status)) (Replied reply) i own e = absurd own
+  follows watch (OfSpins wish) (Spun reply) i own e = spun-item (IsInTurn listed past) (λ l. tt) (λ l taken. tt) (λ l. tt) wish reply i e
+  follows watch (Room to) (HasRoom true) i own e = is (Item.Posted to) i e tt
+  follows watch (Oldest from) (Found (Some x)) i own e = is (Item.Received from x.number x.message) i e tt
+  follows watch (StartUnknown k) Unasked i own e = is (Item.Began k EOsId) i e tt
+  follows watch (TakeStimulus s) Unasked i own e = is (Item.Stim s) i e own
+  follows watch ask answer i own e = cc
+
+-- ---- the core
+
+module _ (plan : Plan) (stimuli : List CoreStimuli) (old : Seat) (work : IsAtWork plan stimuli old) where
+  abbrev v : View
+  v = view_of plan old.id
+
+  abbrev h : History
+  h = history_by plan old.id old.items.items
+
+  takes-it : (item : Item) (b : Bool) → takes_in 64 old.kernel item ≡ b → takes outbox_size v h item ≡ b
+  takes-it item b is = subst (λ (k : KernelState). takes_in 64 k item ≡ b) work.seated.tracks.stands.is is
+
+  serves-it : serves_in 64 old.kernel ≡ true → serves outbox_size v h ≡ true
+  serves-it is = subst (λ (k : KernelState). serves_in 64 k ≡ true) work.seated.tracks.stands.is is
+
+  -- its next stimulus
+  next-left : slice_get old.stimuli.now 0 ≡ slice_get (stimuli_of stimuli old.id) (length (stimuli_in old.items.items))
+  next-left =
+      ap (λ (ss : List Stimulus). slice_get ss 0) work.seated.left
+      ∙ front-drop (stimulus_count old.items.items) (stimuli_of stimuli old.id)
+      ∙ ap (slice_get (stimuli_of stimuli old.id)) (sym (length-stimuli_in old.items.items))
+
+  module _ (new : Seat) (item : Item) (took : Took old new item) where
+    history-on : history_by plan new.id new.items.items ≡ after v h item
+    history-on =
+        ap (λ (i : CoreId). history_by plan i new.items.items) took.id
+        ∙ ap (history_by plan old.id) took.items
+        ∙ history_from-push v [] old.items.items item
+
+    work-on : takes outbox_size v h item ≡ true → IsInTurn (stimuli_of stimuli old.id) old.items.items item → IsAtWork plan stimuli new
+    work-on may next = record {
+      seated = seated-on plan stimuli old new item work.seated may took;
+      fits = subst (λ (i : CoreId). FitsCore plan stimuli i new.items.items) (sym took.id)
+          (subst (FitsCore plan stimuli old.id) (sym took.items) (core-on plan stimuli old.id old.items.items work.fits item next may));
+    }
+
+-- ---- its calls
+
+all-idle : (xs : List BoardEntry) → AllByRecursion IsLook xs → Thinned IsLook xs []
+all-idle [] all = refl
+all-idle (x ∷ xs) all = inr (all.0, all-idle xs all.1)
+
+thin-more : (xs ys log : List BoardEntry) → Thinned IsLook xs log → AllByRecursion IsLook ys → Thinned IsLook (xs ++ ys) log
+thin-more [] ys log thin all = subst (λ (l : List BoardEntry). Thinned IsLook ys l) (sym thin) (all-idle ys all)
+thin-more (x ∷ xs) ys log thin all = ⊎_elim
+    (λ u. inl (u.0, u.1, thin-more xs ys u.0 u.2 all))
+    (λ u. inr (u.0, thin-more xs ys log u.1 all))
+    thin
+
+looks-more : (xs : List BoardEntry) (e : BoardEntry) → AllByRecursion IsLook xs → IsLook e → AllByRecursion IsLook (xs ++ e ∷ [])
+looks-more [] e all look = (look, tt)
+looks-more (x ∷ xs) e all look = (all.0, looks-more xs e all.1 look)
+
+module _ (v : View) (items : List Item) (mine : List BoardEntry) (loads : ℕ) (calls : AreCalls v items mine loads) where
+  -- all of them, less looks
+  pub thin : Thinned IsLook mine calls.log
+  thin = subst (λ (es : List BoardEntry). Thinned IsLook es calls.log) (sym calls.calls) (thin-more calls.before calls.idle calls.log calls.logged calls.looks)
+
+  -- a look more, which resulted in no item
+  pub looked-on : (e : BoardEntry) (mine' : List BoardEntry) → IsLook e → mine' ≡ mine ++ e ∷ [] → AreCalls v items mine' (loads + 1)
+  looked-on e mine' look is = record {
+    log = calls.log;
+    answers = calls.answers;
+    before = calls.before;
+    idle = calls.idle ++ e ∷ [];
+    calls = is ∙ ap (λ (es : List BoardEntry). es ++ e ∷ []) calls.calls ∙ append_assoc calls.before calls.idle (e ∷ []);
+    logged = calls.logged;
+    looks = looks-more calls.idle e calls.looks look;
+    enough = let longer = length-append calls.idle (e ∷ []) in let some = calls.enough in omega arith;
+  }
+
+  -- fewer looks are at the end, too
+  pub fewer : (less : ℕ) → less ≤ loads → AreCalls v items mine less
+  fewer less le = record {
+    log = calls.log;
+    answers = calls.answers;
+    before = calls.before;
+    idle = calls.idle;
+    calls = calls.calls;
+    logged = calls.logged;
+    looks = calls.looks;
+    enough = let some = calls.enough in omega arith;
+  }
+
+  -- an item more, which no call resulted in
+  module _ (ask : Ask) (answer : Answer) (i : Item) (leads : Leads v (history_from v [] items) ask answer i) where
+    answers-on : AreAnswered v [] (items ++ i ∷ []) (joined (of_board calls.log) (told_by v.core ask answer))
+    answers-on = answered-push v [] items (of_board calls.log) ask answer i calls.answers leads
+
+    pub uncalled-on : told_by v.core ask answer ≡ no_calls → AreCalls v (items ++ i ∷ []) mine 0
+    uncalled-on none = record {
+      log = calls.log;
+      answers = subst (AreAnswered v [] (items ++ i ∷ [])) (ap (joined (of_board calls.log)) none ∙ joined-none (of_board calls.log)) answers-on;
+      before = mine;
+      idle = [];
+      calls = sym (append-nil mine);
+      logged = thin;
+      looks = tt;
+      enough = omega arith;
+    }
+
+    -- or one did
+    pub called-on : (e : BoardEntry) (mine' : List BoardEntry) → told_by v.core ask answer ≡ of_board (e ∷ []) → mine' ≡ mine ++ e ∷ [] → AreCalls v (items ++ i ∷ []) mine' 0
+    called-on e mine' one is = record {
+      log = calls.log ++ e ∷ [];
+      answers = subst (AreAnswered v [] (items ++ i ∷ [])) (ap (joined (of_board calls.log)) one) answers-on;
+      before = mine';
+      idle = [];
+      calls = sym (append-nil mine');
+      logged = logged IsLook mine calls.log mine' (calls.log ++ e ∷ []) e e thin is refl refl;
+      looks = tt;
+      enough = omega arith;
+    }
+
+-- ---- its mail
+
+mail-aside : (i : Item) → is_mail i ≡ false → (c : CoreId) → (is_post_to i c ≡ false) × (is_from i c ≡ false)
+mail-aside (Item.Posted to) none c = cc
+mail-aside (Item.Received from number message) none c = cc
+mail-aside i none c = (refl, refl)
+
+module _ (v : View) (h : History) (sent taken sent' taken' : Streams) (mail : IsMailed v h sent taken None) where
+  -- an item that is no mail
+  pub mail-same : (i : Item) → is_mail i ≡ false → AreUnchanged sent sent' → AreUnchanged taken taken' → IsMailed v (after v h i) sent' taken' None
+  mail-same i none same_sent same_taken = record {
+    sent_is = λ to. same_sent to ∙ mail.sent_is to
+        ∙ sym (posted-after v to i h ∙ ap (λ (b : Bool). cond b (posted to h ++ front_envelope (outbox h)) (posted to h)) (mail-aside i none to).0);
+    taken_is = λ from. same_taken from ∙ mail.taken_is from
+        ∙ ap (λ (es : List Envelope). es ++ []) (sym (received-is v from i h ∙ ap (λ (b : Bool). cond b (received from h ++ envelope_in i) (received from h)) (mail-aside i none from).1));
+    refused = tt;
+  }
+
+  -- the front of the outbox was sent
+  pub mail-posted : (to : CoreId) (e : Envelope) → front_envelope (outbox h) ≡ e ∷ [] → HasOneMore to e sent sent' → AreUnchanged taken taken' → IsMailed v (after v h (Item.Posted to)) sent' taken' None
+  mail-posted to e front grown same = record {
+    sent_is = λ d. grown d
+        ∙ ap (λ (es : List Envelope). cond (same_core to d) (es ++ e ∷ []) es) (mail.sent_is d)
+        ∙ ap (λ (es : List Envelope). cond (same_core to d) (posted d h ++ es) (posted d h)) (sym front)
+        ∙ sym (posted-after v d (Item.Posted to) h);
+    taken_is = λ from. same from ∙ mail.taken_is from ∙ ap (λ (es : List Envelope). es ++ []) (sym (received-is v from (Item.Posted to) h));
+    refused = tt;
+  }
+
+  -- an envelope was taken, and received
+  pub mail-received : (from : CoreId) (e : Envelope) → AreUnchanged sent sent' → HasOneMore from e taken taken' → IsMailed v (after v h (Item.Received from e.number e.message)) sent' taken' None
+  mail-received from e same grown = record {
+    sent_is = λ d. same d ∙ mail.sent_is d ∙ sym (posted-after v d (Item.Received from e.number e.message) h);
+    taken_is = λ s. grown s
+        ∙ ap (λ (es : List Envelope). cond (same_core from s) (es ++ e ∷ []) es) (mail.taken_is s ∙ append-nil (received s h))
+        ∙ sym (received-is v s (Item.Received from e.number e.message) h)
+        ∙ sym (append-nil (received s (after v h (Item.Received from e.number e.message))));
+    refused = tt;
+  }
+
+  -- an envelope was taken, and refused
+  pub mail-refused : (from : CoreId) (e : Envelope) → AreUnchanged sent sent' → HasOneMore from e taken taken' → serves outbox_size v h ≡ true → takes outbox_size v h (Item.Received from e.number e.message) ≡ false
+      → IsMailed v h sent' taken' (Some (from, e))
+  mail-refused from e same grown may not_this = record {
+    sent_is = λ d. same d ∙ mail.sent_is d;
+    taken_is = λ s. grown s
+        ∙ ap (λ (es : List Envelope). cond (same_core from s) (es ++ e ∷ []) es) (mail.taken_is s ∙ append-nil (received s h))
+        ∙ behind (same_core from s) (received s h) e;
+    refused = (may, not_this);
+  }
+    where
+      behind : (b : Bool) (xs : List Envelope) (x : Envelope) → cond b (xs ++ x ∷ []) xs ≡ xs ++ cond b (x ∷ []) []
+      behind true xs x = refl
+      behind false xs x = sym (append-nil xs)
+
+  -- nothing was sent or taken
+  pub mail-still : (w : View) (k : History) → k ≡ h → AreUnchanged sent sent' → AreUnchanged taken taken' → IsMailed w k sent' taken' None
+  mail-still w k same_history same_sent same_taken = record {
+    sent_is = λ d. same_sent d ∙ mail.sent_is d ∙ ap (posted d) (sym same_history);
+    taken_is = λ s. same_taken s ∙ mail.taken_is s ∙ ap (λ (x : History). received s x ++ []) (sym same_history);
+    refused = tt;
+  }
+
+-- ---- a turn that took an item
+
+module _ (plan : Plan) (stimuli : List CoreStimuli) (loads : ℕ) (old new : Seat) (mine mine' : List BoardEntry) (sent taken sent' taken' : Streams)
+    (done : HasDone plan stimuli old mine sent taken None loads) (ask : Ask) (answer : Answer) (item : Item)
+    (asked : IsAsked plan old ask) (names : named_by old.id (watch_in old.kernel) ask answer ≡ Some item) (may : takes_in 64 old.kernel item ≡ true) (took : Took old new item) where
+  abbrev view : View
+  view = view_of plan old.id
+
+  abbrev past : History
+  past = history_by plan old.id old.items.items
+
+  leads : Leads view past ask answer item
+  leads = record {
+    choice = asked.0;
+    next = slice_get old.stimuli.now 0;
+    asks = subst (λ (k : KernelState). asked_by view (want_in k) (watch_in k) (slice_get old.stimuli.now 0) asked.0 ≡ Some ask) done.work.seated.tracks.stands.is asked.1;
+    names = subst (λ (k : KernelState). named_by old.id (watch_in k) ask answer ≡ Some item) done.work.seated.tracks.stands.is names;
+  }
+
+  in-turn : IsInTurn (stimuli_of stimuli old.id) old.items.items item
+  in-turn =
+      follows view (stimuli_of stimuli old.id) old.items.items (watch_in old.kernel) ask answer item
+      (subst (λ (next : Option Stimulus). IsOwnAsk view next (Some ask)) (next-left plan stimuli old done.work)
+      (subst (IsOwnAsk view (slice_get old.stimuli.now 0)) asked.1 (asks-own view (want_in old.kernel) (watch_in old.kernel) (slice_get old.stimuli.now 0) asked.0))) names
+
+  done-on : AreCalls view (old.items.items ++ item ∷ []) mine' 0 → IsMailed view (after view past item) sent' taken' None → HasDone plan stimuli new mine' sent' taken' None 0
+  done-on calls mail = record {
+    work = work-on plan stimuli old done.work new item took (takes-it plan stimuli old done.work item true may) in-turn;
+    calls = subst (λ (i : CoreId). AreCalls (view_of plan i) new.items.items mine' 0) (sym took.id)
+        (subst (λ (items : List Item). AreCalls view items mine' 0) (sym took.items) calls);
+    mail = subst (λ (i : CoreId). IsMailed (view_of plan i) (history_by plan new.id new.items.items) sent' taken' None) (sym took.id)
+        (subst (λ (k : History). IsMailed view k sent' taken' None) (sym (history-on plan stimuli old done.work new item took)) mail);
+  }
+
+  -- The item came of a call of the board; of no call; of an envelope that was sent; of one that was taken.
+  pub board-took : (call : BoardCall) (reply : BoardReply) → ask ≡ OfBoard call → answer ≡ Replied reply → is_mail item ≡ false → mine' ≡ mine ++ entry old.id call reply ∷ [] → AreUnchanged sent sent' → AreUnchanged taken taken' → HasDone plan stimuli new mine' sent' taken' None 0
+  board-took call reply is_ask is_answer none more same_sent same_taken =
+      done-on
+      (called-on view old.items.items mine loads done.calls ask answer item leads (entry old.id call reply) mine' (ap (λ (a : Ask). told_by old.id a answer) is_ask ∙ ap (told_by old.id (OfBoard call)) is_answer) more)
+      (mail-same view past sent taken sent' taken' done.mail item none same_sent same_taken)
+
+  uncalled : told_by old.id ask answer ≡ no_calls → mine' ≡ mine → AreCalls view (old.items.items ++ item ∷ []) mine' 0
+  uncalled silent same =
+      subst (λ (es : List BoardEntry). AreCalls view (old.items.items ++ item ∷ []) es 0) (sym same) (uncalled-on view old.items.items mine loads done.calls ask answer item leads silent)
+
+  pub alone-took : told_by old.id ask answer ≡ no_calls → is_mail item ≡ false → mine' ≡ mine → AreUnchanged sent sent' → AreUnchanged taken taken' → HasDone plan stimuli new mine' sent' taken' None 0
+  alone-took silent none same same_sent same_taken = done-on (uncalled silent same) (mail-same view past sent taken sent' taken' done.mail item none same_sent same_taken)
+
+  pub post-took : (to first : CoreId) (e : Envelope) → told_by old.id ask answer ≡ no_calls → item ≡ Item.Posted to → front_of old.kernel.border.outbox ≡ Some (first, e) → mine' ≡ mine → HasOneMore to e sent sent' → AreUnchanged taken taken' → HasDone plan stimuli new mine' sent' taken' None 0
+  post-took to first e silent is_item front same grown same_taken =
+      done-on (uncalled silent same)
+      (subst (λ (i : Item). IsMailed view (after view past i) sent' taken' None) (sym is_item)
+      (mail-posted view past sent taken sent' taken' done.mail to e (ahead (outbox past) (subst (λ (k : KernelState). front_of k.border.outbox ≡ Some (first, e)) done.work.seated.tracks.stands.is front)) grown same_taken))
+    where
+      ahead : (out : List Sent) → front_of out ≡ Some (first, e) → front_envelope out ≡ e ∷ []
+      ahead [] is = cc
+      ahead (s ∷ ss) is = ap (λ (x : CoreId × Envelope). x.1 ∷ []) (same_Some _ _ is)
+
+  pub receipt-took : (from : CoreId) (e : Envelope) → told_by old.id ask answer ≡ no_calls → item ≡ Item.Received from e.number e.message → mine' ≡ mine → AreUnchanged sent sent' → HasOneMore from e taken taken' → HasDone plan stimuli new mine' sent' taken' None 0
+  receipt-took from e silent is_item same same_sent grown =
+      done-on (uncalled silent same)
+      (subst (λ (i : Item). IsMailed view (after view past i) sent' taken' None) (sym is_item)
+      (mail-received view past sent taken sent' taken' done.mail from e same_sent grown))
+
+-- ---- a turn that took none
+
+module _ (plan : Plan) (stimuli : List CoreStimuli) (loads : ℕ) (core : Seat) (mine : List BoardEntry) (sent taken : Streams) (done : HasDone plan stimuli core mine sent taken None loads) where
+  -- a look that resulted in no item
+  pub look-idle : (e : BoardEntry) (mine' : List BoardEntry) → IsLook e → mine' ≡ mine ++ e ∷ [] → HasDone plan stimuli core mine' sent taken None (loads + 1)
+  look-idle e mine' look more = record {
+    work = done.work;
+    calls = looked-on (view_of plan core.id) core.items.items mine loads done.calls e mine' look more;
+    mail = done.mail;
+  }
+
+  -- nothing was called, sent or taken, and there may be more room
+  pub still : (new : Seat) (sent' taken' : Streams) → Keeps core new → AreUnchanged sent sent' → AreUnchanged taken taken' → HasDone plan stimuli new mine sent' taken' None (loads + 0)
+  still new sent' taken' keeps same_sent same_taken = record {
+    work = record {
+      seated = seated-kept plan stimuli core new keeps done.work.seated;
+      fits = rw (keeps.id, keeps.items) done.work.fits;
+    };
+    calls = rw (keeps.id, keeps.items) (fewer (view_of plan core.id) core.items.items mine loads done.calls (loads + 0) (omega arith));
+    mail = mail-still (view_of plan core.id) (history_by plan core.id core.items.items) sent taken sent' taken' done.mail (view_of plan new.id) (history_by plan new.id new.items.items) (rw (keeps.id, keeps.items) refl) same_sent same_taken;
+  }
+
+  -- an envelope was taken that the core could not take, though it may serve
+  pub refused : (from : CoreId) (e : Envelope) (sent' taken' : Streams) → serves_in 64 core.kernel ≡ true → takes_in 64 core.kernel (Item.Received from e.number e.message) ≡ false → AreUnchanged sent sent' → HasOneMore from e taken taken' → HasDone plan stimuli core mine sent' taken' (Some (from, e)) 0
+  refused from e sent' taken' may not_this same grown = record {
+    work = done.work;
+    calls = fewer (view_of plan core.id) core.items.items mine loads done.calls 0 (omega arith);
+    mail = mail-refused (view_of plan core.id) (history_by plan core.id core.items.items) sent taken sent' taken' done.mail from e same grown (serves-it plan stimuli core done.work may) (takes-it plan stimuli core done.work (Item.Received from e.number e.message) false not_this);
+  }

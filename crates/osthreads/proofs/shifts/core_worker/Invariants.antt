@@ -1,0 +1,8 @@
+use Rattle.std.proofs.Common.{◌≡◌}
+use Rattle.osthreads.specs.Working.{IsGoing}
+use Rattle.osthreads.proofs.shifts.core_worker.Given as goal
+
+abbrev pub invariant-loop : goal.invariant-loop
+invariant-loop g l =
+    (l.shift.worker.run.now ≡ l.run) × (l.shift.worker.core.id ≡ l.fn.seat.core)
+    × IsGoing (g.M.Mail.sent) (g.M.Mail.taken) l.run.stimuli.now l.shift

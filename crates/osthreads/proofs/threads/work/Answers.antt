@@ -1,0 +1,17 @@
+use Rattle.osthreads.proofs.Working.{thin}
+use Rattle.osthreads.proofs.threads.work.Goals as goal
+
+pub returns : goal.returns
+returns g c =
+    let w = c.core_worker-report.ensures in record {
+      core = w.core;
+      placed = w.place;
+      seat = w.seat;
+      log = w.worked.calls.log;
+      is_run = record {
+        alone = record { own = w.worked.own; fits = w.worked.fits };
+        answers = w.worked.calls.answers;
+      };
+      logged = thin _ _ _ _ w.worked.calls;
+      mail = rw (c.into_steps.ensures) w.worked.mail;
+    }

@@ -1,0 +1,29 @@
+use Rattle.std.proofs.Common.{refl, ap, sym, ◌∙◌, ◌++◌, ◌∷◌, []}
+use Rattle.osbase.specs.declared.references.CoreId.{CoreId}
+use Rattle.oskernel.specs.Wants.{watch_in}
+use Rattle.osseat.specs.Histories.{entry}
+use Rattle.osturn.specs.declared.asks.Ask.TheVariants.{OfBoard}
+use Rattle.osturn.specs.declared.asks.Answer.TheVariants.{Replied}
+use Rattle.osthreads.proofs.Asking.{board-no-mail}
+use Rattle.osthreads.proofs.Working.{board-took, look-idle}
+use Rattle.osthreads.proofs.worker.Worker.load_board.Goals as goal
+
+pub returns-in_default-clause-turns : goal.returns-in_default-clause-turns
+returns-in_default-clause-turns g c stimuli loads done =
+    let old = c.args.self.now in
+    look-idle old.run.now.config.now stimuli loads old.core old.seat.mine _ _ done (entry old.seat.core c.args.call c.call_board.result) _ c.requires.loads c.call_board.ensures.mine
+
+pub returns-then-not-may_take-clause-turns : goal.returns-then-not-may_take-clause-turns
+returns-then-not-may_take-clause-turns g c stimuli loads done =
+    let old = c.args.self.now in
+    look-idle old.run.now.config.now stimuli loads old.core old.seat.mine _ _ done (entry old.seat.core c.args.call c.call_board.result) _ c.requires.loads c.call_board.ensures.mine
+
+pub returns-clause-turns : goal.returns-clause-turns
+returns-clause-turns g c stimuli loads done =
+    let old = c.args.self.now in
+    let names = sym c.named.ensures ∙ c.in-Some.is in
+    board-took old.run.now.config.now stimuli loads old.core c.take.new.self old.seat.mine _ _ _ _ _ done (OfBoard c.args.call) (Replied c.call_board.result) c.in-Some.item
+    c.requires.asked names (sym c.may_take.ensures.state ∙ c.if-not-may_take.false)
+    (record { id = c.take.ensures.id; left = c.take.ensures.stimuli; items = c.take.ensures.taken; does = c.take.ensures.does })
+    c.args.call c.call_board.result refl refl (board-no-mail old.core.id (watch_in old.core.kernel) c.args.call c.call_board.result c.in-Some.item names)
+    (c.call_board.ensures.mine ∙ ap (λ (id : CoreId). old.seat.mine ++ entry id c.args.call c.call_board.result ∷ []) old.same) (λ d. refl) (λ d. refl)

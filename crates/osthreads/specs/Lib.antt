@@ -1,0 +1,4 @@
+pub mod Calling
+pub mod Working
+pub mod Runs
+pub mod Threads

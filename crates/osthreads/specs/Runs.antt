@@ -1,0 +1,48 @@
+-- What the run of one core results in, and what the runs of all cores result in together. It is said of reports, of the board's calls
+-- and of the envelopes, and of no turns and no threads. [own]
+use Rattle.std.specs.Prelude.{◌≡◌, List, [], ◌∷◌}
+use Rattle.std.specs.List.{AllByRecursion}
+use Rattle.osbase.specs.declared.references.CoreId.{CoreId}
+use Rattle.osbase.specs.declared.turns.CoreStimuli.{CoreStimuli}
+use Rattle.osbase.specs.declared.turns.Report.{Report}
+use Rattle.osbase.specs.History.{posted, received}
+use Rattle.osplan.specs.declared.plans.Plan.{Plan}
+use Rattle.osplan.specs.View.{view_of}
+use Rattle.osseat.specs.declared.histories.Plan.{Plan as SeatPlan}
+use Rattle.osseat.specs.Runs.{IsOneRun}
+use Rattle.osboard.specs.Boards.{BoardEntry, one_board}
+use Rattle.osturn.specs.Fits.{AreAnswered, FitsCore, IsBeginning, history_by, ids_of}
+use Rattle.osturn.specs.Sound.{IsOwn}
+use Rattle.osthreads.specs.Working.{of_board}
+
+-- The report says what its own items say, and they fit what was listed for its core.
+pub record IsOneCore (plan : Plan) (stimuli : List CoreStimuli) (report : Report) : Type 0 where
+  pub own : IsOwn plan report
+  pub fits : FitsCore plan stimuli report.core report.items
+
+-- So it is, and to each of its items in turn an answer led; those of the board are these calls, in order.
+pub record IsRun (plan : Plan) (stimuli : List CoreStimuli) (report : Report) (calls : List BoardEntry) : Type 0 where
+  pub alone : IsOneCore plan stimuli report
+  pub answers : AreAnswered (view_of plan report.core) [] report.items (of_board calls)
+
+-- Each report has a log of such calls.
+abbrev pub AreRuns : Plan → List CoreStimuli → List Report → List (List BoardEntry) → Type 0
+AreRuns plan stimuli [] [] = Unit {0}
+AreRuns plan stimuli [] (l ∷ ls) = ⊥
+AreRuns plan stimuli (r ∷ rs) [] = ⊥
+AreRuns plan stimuli (r ∷ rs) (l ∷ ls) = IsRun plan stimuli r l × AreRuns plan stimuli rs ls
+
+-- What the core of the second report received from that of the first begins what the first one posted to it.
+abbrev pub IsDelivered : Plan → Report → Report → Type 0
+IsDelivered plan a b = IsBeginning (received a.core (history_by plan b.core b.items)) (posted b.core (history_by plan a.core a.items))
+
+abbrev pub AreDelivered : Plan → List Report → Type 0
+AreDelivered plan reports = AllByRecursion (λ a. AllByRecursion (IsDelivered plan a) reports) reports
+
+-- What the board of a configuration is made with: the configured cores, and the master.
+abbrev pub new_board : Plan → SeatPlan CoreId
+new_board plan = record { cores = ids_of plan; about = plan.master }
+
+-- One history of the board has the calls of all logs, a log for each configured core, and no others.
+abbrev pub IsOneBoard : Plan → List (List BoardEntry) → Type 0
+IsOneBoard plan logs = IsOneRun one_board (new_board plan) logs

@@ -1,0 +1,154 @@
+-- What a worker of one core has done, said of its core, of its calls of the board and of its end of the mail. [own]
+use Rattle.std.specs.Prelude.{◌≡◌, ◌+◌, ◌/◌, ◌<◌, ◌≤◌, nat_lt, ℕ, zero, suc, Bool, true, false, Option, Some, None, if◌then◌else◌, List, [], ◌∷◌, ◌++◌, length, slice_get}
+use Rattle.std.specs.List.{AllByRecursion}
+use Rattle.osbase.specs.declared.references.CoreId.{CoreId}
+use Rattle.osbase.specs.declared.messages.Envelope.{Envelope}
+use Rattle.osbase.specs.declared.items.Item.{Item}
+use Rattle.osbase.specs.declared.turns.Choice.{Choice}
+use Rattle.osbase.specs.declared.turns.CoreStimuli.{CoreStimuli}
+use Rattle.osbase.specs.History.{History, posted, received, same_core}
+use Rattle.osplan.specs.declared.plans.Plan.{Plan}
+use Rattle.osplan.specs.View.{View, view_of}
+use Rattle.oskernel.specs.Step.{outbox_size, serves, takes}
+use Rattle.oskernel.specs.Wants.{want_in, watch_in}
+use Rattle.osseat.specs.Histories.{Thinned}
+use Rattle.osboard.specs.Boards.{BoardEntry, IsLook}
+use Rattle.osmail.specs.Ends.{Streams}
+use Rattle.osturn.specs.declared.asks.Ask.{Ask}
+use Rattle.osturn.specs.declared.seats.Seat.{Seat}
+use Rattle.osturn.specs.Asking.{Calls, asked_by}
+use Rattle.osturn.specs.Fits.{AreAnswered, FitsCore, history_by, ids_of}
+use Rattle.osturn.specs.Seats.{IsSeated}
+use Rattle.osturn.specs.Sound.{IsOwn}
+use Rattle.osthreads.specs.declared.run.Run.{Run}
+use Rattle.osthreads.specs.declared.turns.Stop.{Stop}
+use Rattle.osthreads.specs.declared.turns.Turned.{Turned}
+use Rattle.osthreads.specs.declared.turns.Turned.TheVariants.{Took, Nothing, Refused}
+use Rattle.osthreads.specs.declared.worker.Worker.{Worker}
+use Rattle.osthreads.specs.declared.worker.Shift.{Shift}
+use Rattle.osthreads.specs.declared.worker.Worked.{Worked}
+
+-- ---- what a turn asks
+
+-- Some turn of the core asks this.
+abbrev pub IsAsked : Plan → Seat → Ask → Type 0
+IsAsked plan core ask = (choice : Choice) × (asked_by (view_of plan core.id) (want_in core.kernel) (watch_in core.kernel) (slice_get core.stimuli.now 0) choice ≡ Some ask)
+
+-- Calls of the board alone. No service calls a spinlock yet.
+abbrev pub of_board : List BoardEntry → Calls
+of_board log = record { board = log; spins = [] }
+
+-- ---- what a worker has done
+
+-- The core is where its items lead, and they fit what was listed for it.
+pub record IsAtWork (plan : Plan) (stimuli : List CoreStimuli) (core : Seat) : Type 0 where
+  pub seated : IsSeated plan stimuli core
+  pub fits : FitsCore plan stimuli core.id core.items.items
+
+-- The calls are those that resulted in the core's items, in order, and looks that resulted in none; and they end with at least so
+-- many of these looks.
+pub record AreCalls (v : View) (items : List Item) (mine : List BoardEntry) (loads : ℕ) : Type 0 where
+  pub log : List BoardEntry
+  pub answers : AreAnswered v [] items (of_board log)
+  pub before : List BoardEntry
+  pub idle : List BoardEntry
+  pub calls : mine ≡ before ++ idle
+  pub logged : Thinned IsLook before log
+  pub looks : AllByRecursion IsLook idle
+  pub enough : loads ≤ length idle
+
+-- An envelope that was taken and became no item, with its sender.
+abbrev pub Refusal : Type 0
+Refusal = Option (CoreId × Envelope)
+
+abbrev pub refused_from : Refusal → Streams
+refused_from None s = []
+refused_from (Some refusal) s = if same_core refusal.0 s then refusal.1 ∷ [] else []
+
+-- The core could have taken an envelope, but not this one.
+abbrev pub IsRefused : View → History → Refusal → Type 0
+IsRefused v h None = Unit {0}
+IsRefused v h (Some refusal) = (serves outbox_size v h ≡ true) × (takes outbox_size v h (Item.Received refusal.0 refusal.1.number refusal.1.message) ≡ false)
+
+-- The end of the mail sent what the core posted. It took what the core received, and then the refused envelope, if there is one.
+pub record IsMailed (v : View) (h : History) (sent taken : Streams) (refusal : Refusal) : Type 0 where
+  pub sent_is : (to : CoreId) → sent to ≡ posted to h
+  pub taken_is : (from : CoreId) → taken from ≡ received from h ++ refused_from refusal from
+  pub refused : IsRefused v h refusal
+
+-- All of it.
+pub record HasDone (plan : Plan) (stimuli : List CoreStimuli) (core : Seat) (mine : List BoardEntry) (sent taken : Streams) (refusal : Refusal) (loads : ℕ) : Type 0 where
+  pub work : IsAtWork plan stimuli core
+  pub calls : AreCalls (view_of plan core.id) core.items.items mine loads
+  pub mail : IsMailed (view_of plan core.id) (history_by plan core.id core.items.items) sent taken refusal
+
+-- So it is of a worker whose mail end sent and took these.
+abbrev pub HasWorked : {M : Type 0} → (M → Streams) → (M → Streams) → List CoreStimuli → Refusal → ℕ → Worker M → Type 0
+HasWorked sent taken stimuli refusal loads w = HasDone w.run.now.config.now stimuli w.core w.seat.mine (sent w.mail) (taken w.mail) refusal loads
+
+-- ---- a turn
+
+abbrev pub refusal_of : Turned → Refusal
+refusal_of Took = None
+refusal_of Nothing = None
+refusal_of (Refused from e) = Some (from, e)
+
+-- How many looks there are at the end that resulted in no item, where a turn that changes nothing adds so many.
+abbrev pub loads_after : ℕ → Turned → ℕ → ℕ
+loads_after more Nothing loads = loads + more
+loads_after more Took loads = 0
+loads_after more (Refused from e) loads = 0
+
+-- What a turn does to what a worker has done, whatever that was.
+abbrev pub Turns : {M : Type 0} → (M → Streams) → (M → Streams) → ℕ → Turned → Worker M → Worker M → Type 0
+Turns sent taken more turned old new =
+    (stimuli : List CoreStimuli) (loads : ℕ) → HasWorked sent taken stimuli None loads old → HasWorked sent taken stimuli (refusal_of turned) (loads_after more turned loads) new
+
+-- ---- rounds
+
+-- A round has a turn for every other core, one for the core's own work, and then a look. So the look has the number of cores as its
+-- place.
+abbrev pub loads_at : ℕ → ℕ → ℕ
+loads_at cores at = if nat_lt at cores then 0 else 1
+
+abbrev pub next_at : ℕ → ℕ → ℕ
+next_at cores at = if nat_lt at cores then at + 1 else 0
+
+-- The turns of so many rounds.
+abbrev pub turns_of : ℕ → ℕ → ℕ
+turns_of cores zero = 0
+turns_of cores (suc rounds) = turns_of cores rounds + (cores + 1)
+
+abbrev pub core_count : {M : Type 0} → Shift M → ℕ
+core_count shift = length shift.worker.run.now.cores.now
+
+-- A worker between two turns. The last turns changed nothing: those of the rounds whose looks stand at the end of its calls, and
+-- those of the round that it is in.
+pub record IsGoing {M : Type 0} (sent taken : M → Streams) (stimuli : List CoreStimuli) (shift : Shift M) : Type 0 where
+  pub loads : ℕ
+  pub worked : HasWorked sent taken stimuli None loads shift.worker
+  pub count : shift.fruitless ≤ turns_of (core_count shift) loads + shift.at
+  pub place : shift.at ≤ core_count shift
+
+abbrev pub refusal_at : Stop → Refusal
+refusal_at Stop.Ended = None
+refusal_at Stop.Stalled = None
+refusal_at Stop.NoMemory = None
+refusal_at (Stop.Refused from e) = Some (from, e)
+
+-- A worker that stopped.
+pub record IsStopped {M : Type 0} (sent taken : M → Streams) (stimuli : List CoreStimuli) (stop : Stop) (shift : Shift M) : Type 0 where
+  pub loads : ℕ
+  pub worked : HasWorked sent taken stimuli (refusal_at stop) loads shift.worker
+  pub stalled : stop ≡ Stop.Stalled → shift.worker.run.now.turns < turns_of (core_count shift) (suc loads)
+
+-- What a worker hands back. Its report says what its items say, and they fit what was listed. Its calls of the board are those that
+-- resulted in items, and looks. Its end of the mail sent what was posted and took what was received, but for an envelope that the core
+-- could not take. If its turns changed nothing any more, its calls end with a look for each whole round in the turns allowed.
+pub record IsWorked {M : Type 0} (sent taken : M → Streams) (run : Run) (worked : Worked M) : Type 0 where
+  pub own : IsOwn run.config.now worked.report
+  pub fits : FitsCore run.config.now run.stimuli.now worked.report.core worked.report.items
+  pub loads : ℕ
+  pub calls : AreCalls (view_of run.config.now worked.report.core) worked.report.items worked.seat.mine loads
+  pub mail : IsMailed (view_of run.config.now worked.report.core) (history_by run.config.now worked.report.core worked.report.items) (sent worked.mail) (taken worked.mail) (refusal_at worked.stop)
+  pub stalled : worked.stop ≡ Stop.Stalled → run.turns / (length (ids_of run.config.now) + 1) ≤ loads

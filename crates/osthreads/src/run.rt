@@ -1,0 +1,16 @@
+//! What the workers of a run share.
+
+use osbase::{CoreId, CoreStimuli};
+use osboard::Board;
+use osplan::Config;
+
+/// What the workers of a run share: the configuration, the listed stimuli, the configured cores, ascending, the board,
+/// and how many turns in a row may change nothing.
+#[derive(Clone, Copy)]
+pub struct Run<'a> {
+    pub config: &'a Config,
+    pub stimuli: &'a [CoreStimuli],
+    pub cores: &'a [CoreId],
+    pub board: &'a Board,
+    pub turns: u64,
+}

@@ -1,0 +1,254 @@
+//! Runs of a configuration by threads.
+
+ghost use Rattle.std.specs.Prelude.{◌≡◌, ◌≤◌, [], IsTrue, IfOk, IfErr, OnOk, map, vec_len, vec_capacity};
+ghost use Rattle.std.specs.List.{AllByRecursion};
+ghost use Rattle.osplan.specs.Stimuli.{AreKnown};
+ghost use Rattle.osturn.specs.Fits.{ids_of};
+ghost use Rattle.osturn.specs.Sound.{AreSound};
+ghost use Rattle.osseat.specs.Seats.{fresh};
+ghost use Rattle.osthreads.specs.declared.ending.Ending.{Ending as EndingValue};
+ghost use Rattle.osthreads.specs.Runs.{IsOneCore, new_board};
+ghost use Rattle.osthreads.specs.Threads.{AreKept, AreSettled, IsSettled};
+
+use crate::ending::Ending;
+use crate::gates::Gate;
+use crate::run::Run;
+use crate::threads::{Joined, run_all};
+use crate::turns::Stop;
+use osbase::{CoreId, List, MAILBOX, Report, Stimuli};
+use osboard::{Board, BoardSeat};
+use osmail::LockedMail;
+use osplan::Config;
+use osturn::ids_of;
+use std::alloc::{AllocError, Global};
+use std::sync::Wait;
+use std::thread::Threads;
+use thiserror::Error;
+
+/// How envelopes go from one core to another.
+#[derive(Clone, Copy, Debug, PartialEq, Eq)]
+pub enum MailKind {
+    /// Through mailboxes under locks.
+    Locked,
+}
+
+/// Why a threaded run is none.
+#[derive(Clone, Copy, Debug, PartialEq, Eq, Error)]
+pub enum ThreadReason {
+    /// An allocation failed, before the threads started or before a worker's turn.
+    #[error("out of memory")]
+    NoMemory,
+    /// A thread could not be started.
+    #[error("a thread could not be started")]
+    NoThread,
+    /// A core could not take an envelope, or what was taken and left is not what was sent.
+    #[error("the mail between two cores broke")]
+    MailBreak,
+}
+
+/// Why a threaded run is none, and the reports of the workers that ran, by ascending core. Each says what its own items
+/// say.
+#[derive(Debug, Drop, Error)]
+#[error("{reason}")]
+pub struct ThreadFault {
+    pub reason: ThreadReason,
+    pub reports: Vec<Report>,
+}
+
+// What a run needs before its threads start. All its memory is taken before, but for what the workers' turns allocate and
+// what the comparison of the mail takes.
+#[derive(Drop)]
+struct Prepared {
+    cores: Vec<CoreId>,
+    board: Board,
+    seats: Vec<BoardSeat>,
+    mail: LockedMail<MAILBOX>,
+    endings: Vec<Ending>,
+    returned: Vec<BoardSeat>,
+    reports: Vec<Report>,
+}
+
+fn prepare(alloc: Global, config: &Config) -> Result<Prepared, AllocError>
+    ensures cores { IfOk result (λ p. p.cores.items ≡ ids_of config.now) }
+    ensures board { IfOk result (λ p. p.board.plan ≡ new_board config.now) }
+    ensures seats { IfOk result (λ p. p.seats.items ≡ map (λ c. fresh p.board c) (ids_of config.now)) }
+    ensures endings { IfOk result (λ p. (p.endings.items ≡ []) × (vec_len p.seats ≤ vec_capacity p.endings)) }
+    ensures returned { IfOk result (λ p. (p.returned.items ≡ []) × (vec_len p.seats ≤ vec_capacity p.returned)) }
+    ensures reports { IfOk result (λ p. (p.reports.items ≡ []) × (vec_len p.seats ≤ vec_capacity p.reports)) }
+{
+    let plan = config.plan();
+    let cores = ids_of(alloc, plan)?;
+    let (board, seats) = Board::new(alloc, List::from_vec(ids_of(alloc, plan)?), plan.master)?;
+    let mail = LockedMail::new(alloc, usize::from(plan.cap))?;
+    let endings = Vec::with_capacity(alloc, seats.len())?;
+    let returned = Vec::with_capacity(alloc, seats.len())?;
+    let reports = Vec::with_capacity(alloc, seats.len())?;
+    Ok(Prepared {
+        cores,
+        board,
+        seats,
+        mail,
+        endings,
+        returned,
+        reports,
+    })
+}
+
+/// Runs a worker for each configured core, each on a thread of its own, and gives their reports, one for each core in
+/// ascending order: each says what its own items say, the items fit one another, the listed stimuli and what the
+/// cores share, and each separate core prints what its configuration alone prints. A core that nobody starts has a
+/// worker too, whose turns change nothing. So many turns in a row that change nothing stop a worker, whose core has
+/// not ended then.
+pub fn run_threads<R: Threads + Wait + Sync, G: Gate + Sync>(
+    rt: &R,
+    alloc: Global,
+    config: &Config,
+    stimuli: &Stimuli,
+    kind: MailKind,
+    gate: &G,
+    turns: u64,
+) -> Result<Vec<Report>, ThreadFault>
+    requires { AreKnown config.now stimuli.now }
+    ensures sound { IfOk result (λ reports. AreSound config.now stimuli.now reports.items) }
+    ensures fault { IfErr result (λ f. AllByRecursion (IsOneCore config.now stimuli.now) f.reports.items) }
+{
+    let MailKind::Locked = kind;
+    let _plan = config.plan();
+    let Ok(prepared) = prepare(alloc, config) else {
+        return Err(ThreadFault {
+            reason: ThreadReason::NoMemory,
+            reports: Vec::new(alloc),
+        });
+    };
+    let Prepared {
+        cores,
+        board,
+        seats,
+        mut mail,
+        endings,
+        returned,
+        reports,
+    } = prepared;
+    let run = Run {
+        config,
+        stimuli: stimuli.as_slice(),
+        cores: cores.as_slice(),
+        board: &board,
+        turns,
+    };
+    let joined = run_all(rt, alloc, &run, seats, &mail, gate, endings);
+    let judged = judge(alloc, &mut mail, &joined);
+    let (seats, reports) = part(joined.endings, returned, reports);
+    match judged {
+        Ok(()) => {
+            board.gather(seats);
+            Ok(reports)
+        }
+        Err(reason) => Err(ThreadFault { reason, reports }),
+    }
+}
+
+// Whether all threads ran, and every envelope that was sent was taken in its turn or is left.
+fn judge(alloc: Global, mail: &mut LockedMail<MAILBOX>, joined: &Joined) -> Result<(), ThreadReason>
+    ensures complete { OnOk result (IsTrue joined.now.complete) }
+    ensures kept { OnOk result (AreKept joined.now.endings.items) }
+    ensures settled { OnOk result (AreSettled joined.now.endings.items) }
+{
+    if !joined.complete {
+        return Err(ThreadReason::NoThread);
+    }
+    let endings = joined.endings.as_slice();
+    if had_no_memory(endings) {
+        return Err(ThreadReason::NoMemory);
+    }
+    if !are_kept(endings) {
+        return Err(ThreadReason::MailBreak);
+    }
+    match all_settle(alloc, mail, endings) {
+        Ok(true) => Ok(()),
+        Ok(false) => Err(ThreadReason::MailBreak),
+        Err(_) => Err(ThreadReason::NoMemory),
+    }
+}
+
+// Whether some worker stopped since an allocation failed.
+fn had_no_memory(endings: &[Ending]) -> bool {
+    endings
+        .iter()
+        .any(|ending| matches!(ending.stop, Stop::NoMemory))
+}
+
+// Whether each envelope that was taken became an item.
+fn are_kept(endings: &[Ending]) -> bool
+    ensures { IsTrue result → AreKept endings.now }
+{
+    for ending in endings {
+        if let Stop::Refused(_, _) = ending.stop {
+            return false;
+        }
+    }
+    true
+}
+
+// Whether what each core took of each, and then what is left, is what that one sent to it.
+fn all_settle(
+    alloc: Global,
+    mail: &mut LockedMail<MAILBOX>,
+    endings: &[Ending],
+) -> Result<bool, AllocError>
+    ensures { IfOk result (λ b. IsTrue b → AreSettled endings.now) }
+{
+    for sender in endings {
+        if !settles_with(alloc, mail, sender, endings)? {
+            return Ok(false);
+        }
+    }
+    Ok(true)
+}
+
+// Whether it is so of what one core sent.
+fn settles_with(
+    alloc: Global,
+    mail: &mut LockedMail<MAILBOX>,
+    sender: &Ending,
+    receivers: &[Ending],
+) -> Result<bool, AllocError>
+    ensures { IfOk result (λ b. IsTrue b → AllByRecursion (IsSettled sender.now) receivers.now) }
+{
+    let from = sender.report.core;
+    for receiver in receivers {
+        let to = receiver.report.core;
+        let Some(left) = mail.left(from, to) else {
+            return Ok(false);
+        };
+        let (sent, taken) = (sender.steps.as_slice(), receiver.steps.as_slice());
+        if !left.settles(alloc, from, sent, to, taken)? {
+            return Ok(false);
+        }
+    }
+    Ok(true)
+}
+
+// The seats and the reports, in vectors that have room for them.
+fn part(
+    endings: Vec<Ending>,
+    mut seats: Vec<BoardSeat>,
+    mut reports: Vec<Report>,
+) -> (Vec<BoardSeat>, Vec<Report>)
+    requires seats { (seats.items ≡ []) × (vec_len endings ≤ vec_capacity seats) }
+    requires reports { (reports.items ≡ []) × (vec_len endings ≤ vec_capacity reports) }
+    ensures seats { result.0.items ≡ map (λ (e : EndingValue). e.seat) endings.items }
+    ensures reports { result.1.items ≡ map (λ (e : EndingValue). e.report) endings.items }
+{
+    for ending in endings {
+        let Ending {
+            report,
+            seat,
+            steps: _,
+            stop: _,
+        } = ending;
+        seats.push_reserved(seat);
+        reports.push_reserved(report);
+    }
+    (seats, reports)
+}

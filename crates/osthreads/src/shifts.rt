@@ -1,0 +1,167 @@
+//! One core's worker: turn by turn, until its core has ended or its turns change nothing any more.
+
+ghost use Rattle.std.specs.Prelude.{◌≡◌, ◌+◌, ◌<◌, ◌≤◌, [], IsSome, IfNone, IfSome, List, length, vec_len, vec_capacity};
+ghost use Rattle.osbase.specs.declared.references.CoreId.{CoreId as CoreIdValue};
+ghost use Rattle.osbase.specs.declared.turns.CoreStimuli.{CoreStimuli as CoreStimuliValue};
+ghost use Rattle.osplan.specs.View.{core_of};
+ghost use Rattle.oskernel.specs.declared.kernel.TheConstants.{STEP_MARKS};
+ghost use Rattle.osturn.specs.Fits.{ids_of};
+ghost use Rattle.osturn.specs.Seats.{report_of};
+ghost use Rattle.osthreads.specs.Working.{IsGoing, IsStopped, IsWorked, Turns, loads_at, next_at};
+
+use crate::gates::Gate;
+use crate::run::Run;
+use crate::turns::{Stop, Turned};
+use crate::worker::{Shift, Worked, Worker};
+use osbase::CoreId;
+use osboard::BoardSeat;
+use oskernel::STEP_MARKS;
+use osmail::Mail;
+use osturn::Seat;
+use std::alloc::Global;
+use std::sync::Wait;
+
+impl<'a, M: Mail> Shift<'a, M> {
+    // The other core that is served at this place of the round. The cores ascend, and the own one is left out.
+    fn other(&self) -> CoreId
+        requires { self.now.at + 1 < length self.now.worker.run.now.cores.now }
+    {
+        let core = self.worker.run.cores[self.at];
+        if core.number < self.worker.core.id.number {
+            core
+        } else {
+            self.worker.run.cores[self.at + 1]
+        }
+    }
+
+    // The turn at this place of the round.
+    fn turn(&mut self) -> Turned
+        requires items { vec_len self.old.worker.core.items < vec_capacity self.old.worker.core.items }
+        requires marks { vec_len self.old.worker.core.marks + STEP_MARKS ≤ vec_capacity self.old.worker.core.marks }
+        requires mail { M.has_room self.old.worker.mail }
+        ensures turns { Turns M.sent M.taken (loads_at (length self.old.worker.run.now.cores.now) self.old.at) result self.old.worker self.new.worker }
+        ensures run { self.new.worker.run ≡ self.old.worker.run }
+        ensures id { self.new.worker.core.id ≡ self.old.worker.core.id }
+        ensures at { self.new.at ≡ self.old.at }
+        ensures fruitless { self.new.fruitless ≡ self.old.fruitless }
+    {
+        let cores = self.worker.run.cores.len();
+        if self.at >= cores {
+            return self.worker.look();
+        }
+        if self.at + 1 == cores {
+            return self.worker.own();
+        }
+        let from = self.other();
+        self.worker.serve(from)
+    }
+
+    // The next place of the round.
+    fn go_round(&mut self)
+        ensures worker { self.new.worker ≡ self.old.worker }
+        ensures fruitless { self.new.fruitless ≡ self.old.fruitless }
+        ensures at { self.new.at ≡ next_at (length self.old.worker.run.now.cores.now) self.old.at }
+    {
+        self.at = if self.at < self.worker.run.cores.len() {
+            self.at + 1
+        } else {
+            0
+        };
+    }
+
+    // One turn more, and why the worker stops, if it does.
+    fn go_on<G: Gate>(&mut self, gate: &G) -> Option<Stop>
+        ensures none { IfNone result ((stimuli : List CoreStimuliValue) → IsGoing M.sent M.taken stimuli self.old → IsGoing M.sent M.taken stimuli self.new) }
+        ensures some { IfSome result (λ stop. (stimuli : List CoreStimuliValue) → IsGoing M.sent M.taken stimuli self.old → IsStopped M.sent M.taken stimuli stop self.new) }
+        ensures run { self.new.worker.run ≡ self.old.worker.run }
+        ensures id { self.new.worker.core.id ≡ self.old.worker.core.id }
+    {
+        if self.fruitless >= self.worker.run.turns {
+            return Some(Stop::Stalled);
+        }
+        gate.before(self.worker.core.id);
+        if self.worker.make_room().is_err() {
+            return Some(Stop::NoMemory);
+        }
+        match self.turn() {
+            Turned::Took => {
+                self.fruitless = 0;
+                self.go_round();
+                if self.worker.core.has_ended() {
+                    return Some(Stop::Ended);
+                }
+                None
+            }
+            Turned::Nothing => {
+                self.fruitless += 1;
+                self.go_round();
+                gate.idle(self.worker.core.id);
+                None
+            }
+            Turned::Refused(from, envelope) => Some(Stop::Refused(from, envelope)),
+        }
+    }
+
+    // What is handed back.
+    fn hand_back(self, stop: Stop) -> Worked<M>
+        ensures report { result.report ≡ report_of self.entry.worker.core }
+        ensures seat { result.seat ≡ self.entry.worker.seat }
+        ensures mail { result.mail ≡ self.entry.worker.mail }
+        ensures stop { result.stop ≡ stop }
+    {
+        let Shift { worker, .. } = self;
+        let Worker {
+            run: _,
+            core,
+            seat,
+            mail,
+        } = worker;
+        Worked {
+            report: core.report(),
+            seat,
+            mail,
+            stop,
+        }
+    }
+}
+
+/// The worker of one core. In rounds it serves every other core by ascending number, does its core's own work and looks
+/// at the board, until its core has ended, so many turns in a row changed nothing, an allocation failed, or it took
+/// an envelope that its core cannot take.
+pub fn core_worker<'a, R: Wait, M: Mail, G: Gate>(
+    rt: &R,
+    alloc: Global,
+    run: &'a Run<'a>,
+    seat: BoardSeat,
+    mail: M,
+    gate: &G,
+) -> Worked<M>
+    requires cores { run.now.cores.now ≡ ids_of run.now.config.now }
+    requires configured { IsSome (core_of run.now.config.now seat.core) }
+    requires placed { seat.place ≡ run.now.board.now }
+    requires fresh { seat.mine ≡ [] }
+    requires unused { (core : CoreIdValue) → (M.sent mail core ≡ []) × (M.taken mail core ≡ []) }
+    ensures worked { IsWorked M.sent M.taken run.now result }
+    ensures core { result.report.core ≡ seat.core }
+    ensures place { result.seat.place ≡ run.now.board.now }
+    ensures seat { result.seat.core ≡ seat.core }
+{
+    let _plan = run.config.plan();
+    let core = Seat::new(alloc, run.config, seat.core(), run.stimuli);
+    let mut shift = Shift {
+        worker: Worker {
+            run,
+            core,
+            seat,
+            mail,
+        },
+        at: 0,
+        fruitless: 0,
+    };
+    for _ in rt.forever() {
+        if let Some(stop) = shift.go_on(gate) {
+            return shift.hand_back(stop);
+        }
+    }
+    unreachable!()
+}

@@ -1,0 +1,40 @@
+//! A core at work.
+
+ghost use Rattle.std.specs.Prelude.{◌≡◌, ◌<◌, ◌≤◌, length};
+ghost use Rattle.osboard.specs.declared.calls.TheConstants.{BOARD_CORES};
+
+use crate::run::Run;
+use crate::turns::Stop;
+use osbase::Report;
+use osboard::BoardSeat;
+use osturn::Seat;
+
+/// A core at work: what it took and printed, its seat at the board, and its end of the mail.
+#[derive(Drop)]
+pub struct Worker<'a, M> {
+    pub run: &'a Run<'a>,
+    pub core: Seat<'a>,
+    pub seat: BoardSeat,
+    pub mail: M,
+    ghost same: { seat.core ≡ core.id },
+    ghost placed: { seat.place ≡ run.now.board.now },
+    ghost low: { seat.core.number < BOARD_CORES },
+}
+
+/// A worker in its rounds, at a place of the round, after so many turns in a row that changed nothing.
+#[derive(Drop)]
+pub struct Shift<'a, M> {
+    pub worker: Worker<'a, M>,
+    pub at: usize,
+    pub fruitless: u64,
+    ghost place: { at ≤ length worker.run.now.cores.now },
+}
+
+/// What a worker hands back: its core's report, its seat and its end of the mail, and why it stopped.
+#[derive(Drop)]
+pub struct Worked<M> {
+    pub report: Report,
+    pub seat: BoardSeat,
+    pub mail: M,
+    pub stop: Stop,
+}

@@ -1,0 +1,201 @@
+//! A worker's turns. Each makes at most one call of the board or of one mailbox, and none allocates.
+
+ghost use Rattle.std.specs.Prelude.{◌≡◌, ◌+◌, ◌<◌, ◌≤◌, vec_len, vec_capacity, OnOk};
+ghost use Rattle.oskernel.specs.declared.kernel.TheConstants.{STEP_MARKS};
+ghost use Rattle.osturn.specs.declared.asks.Ask.TheVariants.{OfBoard, Room};
+ghost use Rattle.osthreads.specs.Calling.{ChangesBoard, HasPlace, LoadsBoard, item_of_call};
+ghost use Rattle.osthreads.specs.Working.{IsAsked, Turns};
+
+use crate::calls::call_board;
+use crate::turns::Turned;
+use crate::worker::Worker;
+use osbase::{Choice, CoreId, Item, Status};
+use osboard::BoardCall;
+use oskernel::STEP_MARKS;
+use osmail::Mail;
+use osturn::{Answer, Ask, look_asked};
+use std::alloc::AllocError;
+
+impl<'a, M: Mail> Worker<'a, M> {
+    /// Makes room for what a turn may add: an item, its lines, and the record of an envelope.
+    pub fn make_room(&mut self) -> Result<(), AllocError>
+        ensures items { OnOk result (vec_len self.new.core.items < vec_capacity self.new.core.items) }
+        ensures marks { OnOk result (vec_len self.new.core.marks + STEP_MARKS ≤ vec_capacity self.new.core.marks) }
+        ensures mail { OnOk result (M.has_room self.new.mail) }
+        ensures turns { Turns M.sent M.taken 0 Turned.Nothing self.old self.new }
+        ensures run { self.new.run ≡ self.old.run }
+        ensures id { self.new.core.id ≡ self.old.core.id }
+    {
+        self.core.make_room()?;
+        self.mail.room()
+    }
+
+    /// Serves another core: the oldest envelope from it, if one came and this core may serve.
+    pub fn serve(&mut self, from: CoreId) -> Turned
+        requires items { vec_len self.old.core.items < vec_capacity self.old.core.items }
+        requires marks { vec_len self.old.core.marks + STEP_MARKS ≤ vec_capacity self.old.core.marks }
+        requires mail { M.has_room self.old.mail }
+        ensures turns { Turns M.sent M.taken 0 result self.old self.new }
+        ensures run { self.new.run ≡ self.old.run }
+        ensures id { self.new.core.id ≡ self.old.core.id }
+    {
+        if !self.core.kernel.may_serve() {
+            return Turned::Nothing;
+        }
+        let Some(envelope) = self.mail.take(from) else {
+            return Turned::Nothing;
+        };
+        let item = Item::Received {
+            from,
+            number: envelope.number,
+            message: envelope.message,
+        };
+        if !self.core.kernel.may_take(&item) {
+            return Turned::Refused(from, envelope);
+        }
+        self.core.take(item);
+        Turned::Took
+    }
+
+    /// Does the core's own work.
+    pub fn own(&mut self) -> Turned
+        requires items { vec_len self.old.core.items < vec_capacity self.old.core.items }
+        requires marks { vec_len self.old.core.marks + STEP_MARKS ≤ vec_capacity self.old.core.marks }
+        requires mail { M.has_room self.old.mail }
+        ensures turns { Turns M.sent M.taken 0 result self.old self.new }
+        ensures run { self.new.run ≡ self.old.run }
+        ensures id { self.new.core.id ≡ self.old.core.id }
+    {
+        let Some(ask) = self.core.asked(self.run.config.plan(), Choice::Own) else {
+            return Turned::Nothing;
+        };
+        match ask {
+            Ask::OfBoard(call) => self.write_board(call),
+            Ask::Room(to) => self.post(to),
+            Ask::StartUnknown(_) => self.go_on(ask),
+            Ask::TakeStimulus(_) => self.go_on(ask),
+            Ask::Oldest(_) => unreachable!(),
+            // No service calls a spinlock yet.
+            Ask::OfSpins(_) => unreachable!(),
+        }
+    }
+
+    /// Looks at the board: it loads one of its words, also where the core waits for nothing there.
+    pub fn look(&mut self) -> Turned
+        requires items { vec_len self.old.core.items < vec_capacity self.old.core.items }
+        requires marks { vec_len self.old.core.marks + STEP_MARKS ≤ vec_capacity self.old.core.marks }
+        ensures turns { Turns M.sent M.taken 1 result self.old self.new }
+        ensures run { self.new.run ≡ self.old.run }
+        ensures id { self.new.core.id ≡ self.old.core.id }
+    {
+        match look_asked(self.core.kernel.watch()) {
+            Ask::OfBoard(call) => self.load_board(call),
+            _ => unreachable!(),
+        }
+    }
+
+    // Loads a word of the board, and takes the item that it results in, if there is one.
+    fn load_board(&mut self, call: BoardCall) -> Turned
+        requires items { vec_len self.old.core.items < vec_capacity self.old.core.items }
+        requires marks { vec_len self.old.core.marks + STEP_MARKS ≤ vec_capacity self.old.core.marks }
+        requires loads { LoadsBoard call }
+        requires place { HasPlace call }
+        requires asked { IsAsked self.old.run.now.config.now self.old.core (OfBoard call) }
+        ensures turns { Turns M.sent M.taken 1 result self.old self.new }
+        ensures run { self.new.run ≡ self.old.run }
+        ensures id { self.new.core.id ≡ self.old.core.id }
+    {
+        let answer = Answer::Replied(call_board(self.run.board, &mut self.seat, call));
+        let Some(item) = self.core.named(Ask::OfBoard(call), &answer) else {
+            return Turned::Nothing;
+        };
+        if !self.core.kernel.may_take(&item) {
+            return Turned::Nothing;
+        }
+        self.core.take(item);
+        Turned::Took
+    }
+
+    // Makes a call that changes the board, where the core may take the item that it results in.
+    fn write_board(&mut self, call: BoardCall) -> Turned
+        requires items { vec_len self.old.core.items < vec_capacity self.old.core.items }
+        requires marks { vec_len self.old.core.marks + STEP_MARKS ≤ vec_capacity self.old.core.marks }
+        requires changes { ChangesBoard call }
+        requires place { HasPlace call }
+        requires asked { IsAsked self.old.run.now.config.now self.old.core (OfBoard call) }
+        ensures turns { Turns M.sent M.taken 0 result self.old self.new }
+        ensures run { self.new.run ≡ self.old.run }
+        ensures id { self.new.core.id ≡ self.old.core.id }
+    {
+        if !self.core.kernel.may_take(&item_of_call(call)) {
+            return Turned::Nothing;
+        }
+        let answer = Answer::Replied(call_board(self.run.board, &mut self.seat, call));
+        let Some(item) = self.core.named(Ask::OfBoard(call), &answer) else {
+            unreachable!()
+        };
+        self.core.take(item);
+        Turned::Took
+    }
+
+    // Sends the front of the outbox, if its mailbox has room.
+    fn post(&mut self, to: CoreId) -> Turned
+        requires items { vec_len self.old.core.items < vec_capacity self.old.core.items }
+        requires marks { vec_len self.old.core.marks + STEP_MARKS ≤ vec_capacity self.old.core.marks }
+        requires mail { M.has_room self.old.mail }
+        requires asked { IsAsked self.old.run.now.config.now self.old.core (Room to) }
+        ensures turns { Turns M.sent M.taken 0 result self.old self.new }
+        ensures run { self.new.run ≡ self.old.run }
+        ensures id { self.new.core.id ≡ self.old.core.id }
+    {
+        let posted = Item::Posted(to);
+        if !self.core.kernel.may_take(&posted) {
+            return Turned::Nothing;
+        }
+        let Some((_, envelope)) = self.core.kernel.front() else {
+            return Turned::Nothing;
+        };
+        match self.mail.send(to, envelope) {
+            Ok(()) => {
+                self.core.take(posted);
+                Turned::Took
+            }
+            Err(_) => Turned::Nothing,
+        }
+    }
+
+    // Does what takes no call: the core's next stimulus, or the start of a core that is not configured.
+    fn go_on(&mut self, ask: Ask) -> Turned
+        requires items { vec_len self.old.core.items < vec_capacity self.old.core.items }
+        requires marks { vec_len self.old.core.marks + STEP_MARKS ≤ vec_capacity self.old.core.marks }
+        requires asked { IsAsked self.old.run.now.config.now self.old.core ask }
+        ensures turns { Turns M.sent M.taken 0 result self.old self.new }
+        ensures run { self.new.run ≡ self.old.run }
+        ensures id { self.new.core.id ≡ self.old.core.id }
+    {
+        let Some(item) = self.core.named(ask, &Answer::Unasked) else {
+            return Turned::Nothing;
+        };
+        if !self.core.kernel.may_take(&item) {
+            return Turned::Nothing;
+        }
+        self.core.take(item);
+        Turned::Took
+    }
+}
+
+// The item that a call results in that changes the board. A start may also be answered E_OS_STATE, and a core takes that
+// where it takes this.
+fn item_of_call(call: BoardCall) -> Item
+    ensures { result ≡ item_of_call call }
+{
+    match call {
+        BoardCall::Start(core) => Item::Began {
+            core,
+            status: Status::EOk,
+        },
+        BoardCall::Enter(_) => Item::Entered,
+        BoardCall::MakeReady => Item::Readied,
+        _ => Item::Drained,
+    }
+}
