@@ -5,6 +5,7 @@ from dataclasses import dataclass
 from typing import Dict, Iterable, List, NamedTuple, Tuple
 
 from library import model
+from library.columns import columns
 from library.findings import listed
 from library.model import Model, Reference
 
@@ -219,9 +220,8 @@ def _crossing_lines(found: List[Crossing]) -> List[str]:
         pairs.setdefault((each.source, each.target), []).append(each)
     for (source, target), between in pairs.items():
         lines.append("core %d to core %d" % (source, target))
-        widths = [max(len(each.text) for each in between), max(len(each.who) for each in between)]
-        for each in between:
-            lines.append("  %s  %s  %s" % (each.text.ljust(widths[0]), each.who.ljust(widths[1]), each.what_crosses))
+        rows = columns([each.text, each.who, each.what_crosses] for each in between)
+        lines += ["  " + line for line in rows]
     return lines or ["none"]
 
 

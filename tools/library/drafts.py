@@ -87,6 +87,10 @@ class Draft(Part):
         """The numbers of its cores."""
         return [core.id for core in self.cores]
 
+    def core(self, number: int) -> Core:
+        """The core of a number, which is configured."""
+        return next(core for core in self.cores if core.id == number)
+
     def objects(self, kind: str) -> List[Named]:
         """All objects of a kind, of all cores."""
         return [each for core in self.cores for each in core.named[kind + "s"]]

@@ -1,0 +1,336 @@
+"""The jobs of a run, as the lines of the trace show them: their states, what set them going, what they hold.
+
+A *part* of a job goes from its activation, or from its release from waiting, to its end or to its next waiting. A job
+of a task that never waits has one part. What activates or releases is the part's cause: the part of another job, an
+alarm, or a table; of an autostart there is none. A cause on another core is found by the order of envelopes: the first
+`in` of a core has the first `out` of the other one, and so on.
+"""
+
+from collections import deque
+from dataclasses import dataclass, field
+from typing import Deque, Dict, List, NamedTuple, Optional, Tuple
+
+from library.formats import NO_OBJECT
+from library.items import CORE, OK, START, Deed, Item
+from library.model import TASK
+from library.timeline import Timeline
+
+# The events of a job.
+ACTIVATE = "activate"
+BEGIN = "start"
+PREEMPT = "preempt"
+RESUME = "resume"
+WAIT = "wait"
+RELEASE = "release"
+TERMINATE = "terminate"
+# Its states between them.
+READY = "ready"
+RUNNING = "running"
+WAITING = "waiting"
+STATES = {ACTIVATE: READY, BEGIN: RUNNING, PREEMPT: READY, RESUME: RUNNING, WAIT: WAITING, RELEASE: READY}
+
+
+class Change(NamedTuple):
+    """An event of a job, and the item in which it comes."""
+
+    event: str
+    item: Item
+    job: "Job"
+
+
+@dataclass(eq=False)
+class Cause:
+    """What sets something going, with the way that led to it: the names from the first cause on, and that one's item.
+
+    No name stands twice on a way. Where one would, a new way begins.
+    """
+
+    name: str
+    kind: str
+    item: Item
+    parent: Optional["Cause"] = None
+    way: Tuple[str, ...] = ()
+    origin: Optional[Item] = None
+    is_last: bool = True
+
+    def __post_init__(self) -> None:
+        before = self.parent
+        if before is None or self.name in before.way:
+            self.way, self.origin = (self.name,), self.item
+        else:
+            self.way, self.origin = before.way + (self.name,), before.origin
+            before.is_last = False
+
+
+@dataclass(eq=False)
+class Part(Cause):
+    """A part of a job; `start` is the item in which the job first runs, `finish` that of its end or waiting."""
+
+    number: int = 0  # of the job
+    start: Optional[Item] = None
+    finish: Optional[Item] = None
+
+
+@dataclass(eq=False)
+class Job:
+    """A job with its events; `number` counts the jobs of its task from 0."""
+
+    core: int
+    task: str
+    number: int
+    changes: List[Change] = field(default_factory=list)
+    parts: List[Part] = field(default_factory=list)
+    holds: List["Hold"] = field(default_factory=list)
+
+    @property
+    def has_run(self) -> bool:
+        """Whether it has run before."""
+        return self.parts[0].start is not None
+
+
+@dataclass(eq=False)
+class Hold:
+    """A resource, from the item in which a job takes it to that in which it gives it back."""
+
+    resource: str
+    taken: Item
+    given: Optional[Item] = None
+
+
+@dataclass(eq=False)
+class Envelope:
+    """A request or an action: where it is sent, where it is served, and where the reply comes."""
+
+    deed: Deed
+    sender: int
+    receiver: int
+    cause: Cause
+    sent: Item
+    served: Optional[Item] = None
+    answer: Optional[Deed] = None
+    replied: Optional[Item] = None
+
+    @property
+    def target(self) -> Optional[str]:
+        """The task that it is to set going."""
+        return target_of(self.deed.operation)
+
+
+class Preemption(NamedTuple):
+    """A job that another one preempts."""
+
+    job: Job
+    by: str
+    item: Item
+
+
+class Refusal(NamedTuple):
+    """An operation that was refused: who did it, on which core, and where that was known first.
+
+    `before` says how many jobs the task that it would have activated had before.
+    """
+
+    actor: Deed
+    core: int
+    status: str
+    item: Item
+    cause: Optional[Cause]
+    before: int
+
+
+class Loose(NamedTuple):
+    """Where a way ends without a part: an operation that was refused, or an event that nobody waited for."""
+
+    way: Tuple[str, ...]
+    status: str
+
+
+@dataclass
+class Jobs:
+    """All jobs of a run, and what came of them."""
+
+    timeline: Timeline
+    jobs: List[Job] = field(default_factory=list)
+    changes: List[Change] = field(default_factory=list)
+    envelopes: List[Envelope] = field(default_factory=list)
+    preemptions: List[Preemption] = field(default_factory=list)
+    refusals: List[Refusal] = field(default_factory=list)
+    loose: List[Loose] = field(default_factory=list)
+
+    @property
+    def parts(self) -> List[Part]:
+        """The parts of all jobs."""
+        return [part for job in self.jobs for part in job.parts]
+
+
+def target_of(operation: str) -> Optional[str]:
+    """The task that an operation is to set going."""
+    words = operation.split(" ")
+    return words[1] if words[0] in ("ActivateTask", "ChainTask", "SetEvent") else None
+
+
+def jobs_of(timeline: Timeline) -> Jobs:
+    """The jobs of a run."""
+    walk = _Walk(timeline)
+    for item in timeline.items:
+        walk.item(item)
+    return walk.found
+
+
+class _Walk:
+    """Follows the lines of all cores in the order of the turns."""
+
+    def __init__(self, timeline: Timeline):
+        self.found = Jobs(timeline)
+        self.live: Dict[str, Deque[Job]] = {}
+        self.numbers: Dict[str, int] = {}
+        self.mail: Dict[Tuple[int, int], Deque[Envelope]] = {}
+        self.requests: Dict[int, Envelope] = {}  # of each core the one whose reply is awaited
+
+    def item(self, item: Item) -> None:
+        """Follows the lines of one item."""
+        # Who does something is asked before the lines, among which its job may end.
+        causes = [self._cause(item, deed) for deed in item.deeds]
+        for index in range(len(item.lines)):
+            self._line(item, index, causes)
+        for deed, cause in zip(item.deeds, causes):
+            self._deed(item, deed, cause)
+
+    def _cause(self, item: Item, deed: Deed) -> Optional[Cause]:
+        """Who does an operation; of an envelope who sent it."""
+        if deed.kind == TASK:
+            return self._current(deed.name)
+        if deed.kind == CORE:
+            return self.mail[int(deed.name), item.core][0].cause
+        if deed.kind == START:
+            return None
+        return Cause(deed.name, deed.kind, item, self._current(item.task) if item.task else None)
+
+    def _current(self, task: str) -> Part:
+        """The part of the job that runs of a task's jobs: the oldest one."""
+        return self.live[task][0].parts[-1]
+
+    # Lines ----------------------------------------------------------------------------------------------------------
+
+    def _line(self, item: Item, index: int, causes: List[Optional[Cause]]) -> None:
+        """Follows a line."""
+        words = item.lines[index].split(" ")
+        if words[0] == "act":
+            self._activate(item, words[1], _at(item, index, causes))
+        elif words[0] == "free":
+            job = self.live[words[1]][0]
+            self._change(job, RELEASE, item)
+            job.parts.append(Part(words[1], TASK, item, _at(item, index, causes), number=job.number))
+        elif words[0] == "pre":
+            self._run(item, self.live[words[1]][0])
+        elif words[0] == "post":
+            self._leave(item, index, self.live[words[1]][0])
+        elif words[0] == "end":
+            self._finish(item, self.live[words[1]].popleft(), TERMINATE)
+        elif words[0] == "wait":
+            self._finish(item, self.live[words[1]][0], WAIT)
+
+    def _change(self, job: Job, event: str, item: Item) -> None:
+        """An event of a job."""
+        job.changes.append(Change(event, item, job))
+        self.found.changes.append(job.changes[-1])
+
+    def _activate(self, item: Item, task: str, cause: Optional[Cause]) -> None:
+        """A new job."""
+        number = self.numbers.get(task, 0)
+        self.numbers[task] = number + 1
+        job = Job(item.core, task, number, [], [Part(task, TASK, item, cause, number=number)])
+        self._change(job, ACTIVATE, item)
+        self.live.setdefault(task, deque()).append(job)
+        self.found.jobs.append(job)
+
+    def _run(self, item: Item, job: Job) -> None:
+        """A job runs."""
+        self._change(job, RESUME if job.has_run else BEGIN, item)
+        if job.parts[-1].start is None:
+            job.parts[-1].start = item
+
+    def _leave(self, item: Item, index: int, job: Job) -> None:
+        """A job leaves the running state; if it neither ends nor waits, another one preempts it."""
+        behind = item.lines[index + 1].split(" ")
+        if behind[0] == "pre":
+            self._change(job, PREEMPT, item)
+            self.found.preemptions.append(Preemption(job, behind[1], item))
+
+    def _finish(self, item: Item, job: Job, event: str) -> None:
+        """A job ends or waits; one that ends gives back what it holds."""
+        self._change(job, event, item)
+        job.parts[-1].finish = item
+        if event == TERMINATE:
+            for hold in job.holds:
+                hold.given = hold.given or item
+
+    # Operations -----------------------------------------------------------------------------------------------------
+
+    def _deed(self, item: Item, deed: Deed, cause: Optional[Cause]) -> None:
+        """Follows an operation, behind its lines."""
+        if deed.kind == CORE:
+            self._serve(item, deed, cause)
+            return
+        if deed.is_reply:
+            self.requests.pop(item.core).replied = item
+        if deed.status is None:
+            self._send(item, deed, cause)
+        elif deed.is_refused and not deed.is_reply:
+            self._refuse(item, deed, item.core, deed.status, cause)
+        elif deed.kind == TASK and not deed.is_reply:
+            self._resource(item, deed)
+        if deed.status == OK and not deed.is_reply:
+            self._note_event(item, deed, deed.operation, cause)
+
+    def _send(self, item: Item, deed: Deed, cause: Optional[Cause]) -> None:
+        """An envelope is put in the outbox."""
+        out = next(line for line in item.lines[deed.first : deed.behind] if line.startswith("out "))
+        receiver = int(out.split(" ")[1])
+        envelope = Envelope(deed, item.core, receiver, cause, item)
+        self.mail.setdefault((item.core, receiver), deque()).append(envelope)
+        self.found.envelopes.append(envelope)
+        if deed.kind == TASK:
+            self.requests[item.core] = envelope
+        if envelope.target is not None and envelope.target not in cause.way:
+            cause.is_last = False
+
+    def _serve(self, item: Item, deed: Deed, cause: Optional[Cause]) -> None:
+        """An envelope is served."""
+        envelope = self.mail[int(deed.name), item.core].popleft()
+        envelope.served, envelope.answer = item, deed
+        if deed.is_refused:
+            self._refuse(item, envelope.deed, envelope.sender, deed.status, cause)
+        else:
+            self._note_event(item, deed, deed.operation, cause)
+
+    def _refuse(self, item: Item, actor: Deed, core: int, status: str, cause: Optional[Cause]) -> None:
+        """An operation is refused; if it would have set a task going, a way ends there."""
+        before = self.numbers.get(actor.activates or "", 0)
+        self.found.refusals.append(Refusal(actor, core, status, item, cause, before))
+        self._end_loose(cause, target_of(actor.operation), status)
+
+    def _note_event(self, item: Item, deed: Deed, operation: str, cause: Optional[Cause]) -> None:
+        """An event that is set and releases nobody ends a way."""
+        words = operation.split(" ")
+        if words[0] == "SetEvent" and "free " + words[1] not in item.lines[deed.first : deed.behind]:
+            self._end_loose(cause, words[1], "")
+
+    def _end_loose(self, cause: Optional[Cause], name: Optional[str], status: str) -> None:
+        """A way ends without a part."""
+        if cause is not None and name not in (None, NO_OBJECT) + cause.way:
+            cause.is_last = False
+            self.found.loose.append(Loose(cause.way + (name,), status))
+
+    def _resource(self, item: Item, deed: Deed) -> None:
+        """A job takes a resource, or gives the newest one back."""
+        if deed.service == "GetResource":
+            self.live[deed.name][0].holds.append(Hold(deed.operation.split(" ")[1], item))
+        elif deed.service == "ReleaseResource":
+            next(hold for hold in reversed(self.live[deed.name][0].holds) if hold.given is None).given = item
+
+
+def _at(item: Item, index: int, causes: List[Optional[Cause]]) -> Optional[Cause]:
+    """The cause of what a line shows."""
+    deed = item.deed_at(index)
+    return causes[item.deeds.index(deed)] if deed is not None else None

@@ -1,0 +1,173 @@
+"""Requirements on the figures of a run, as `T10ms response<=2 ticks`."""
+
+import operator
+import re
+from dataclasses import dataclass
+from typing import Any, Callable, Dict, List, Optional, Tuple
+
+from library.figures import Figures, units_of
+from library.findings import did_you_mean, listed
+
+_TEXT = re.compile(
+    r"(?P<subject>\S.*?) +(?P<figure>[a-z]+) *(?P<sign><=|>=|!=|=|<|>) *"
+    r"(?P<number>[0-9]+(?:\.[0-9]+)?)(?: +(?P<unit>[a-z]+))?"
+)
+_SIGNS: Dict[str, Callable[[Any, Any], bool]] = {
+    "=": operator.eq,
+    "!=": operator.ne,
+    "<": operator.lt,
+    "<=": operator.le,
+    ">": operator.gt,
+    ">=": operator.ge,
+}
+ALL = "all cores"
+_ALL_FIGURES = ("lost", "refused", "errors")
+_CORE_FIGURES = ("stimuli", "ticks", "op", "idle", "load", "lost", "refused", "errors")
+_TASK_COUNTS = ("activations", "lost", "ended", "live", "preempted", "refused", "op", "load")
+_TASK_TIMES = ("waiting", "response")
+_CHAIN_COUNTS = ("complete", "open", "broken")
+_MAILBOX_FIGURES = ("envelopes", "fullest")
+
+
+class WrongRequirement(ValueError):
+    """Why a text is no requirement on this run."""
+
+
+@dataclass(frozen=True)
+class Verdict:
+    """Whether a requirement is met, and by what."""
+
+    text: str
+    is_met: bool
+    found: str
+
+    def __str__(self) -> str:
+        return "%s: %s (%s)" % ("met" if self.is_met else "not met", self.text, self.found)
+
+
+@dataclass(frozen=True)
+class _Wanted:
+    """A requirement, word by word."""
+
+    text: str
+    subject: str
+    figure: str
+    sign: str
+    number: float
+    unit: Optional[str]
+
+    def holds(self, value: float) -> bool:
+        """Whether a value is as required."""
+        return _SIGNS[self.sign](value, self.number)
+
+
+def judge(figures: Figures, text: str) -> Verdict:
+    """Whether a run meets a requirement."""
+    found = _TEXT.fullmatch(text)
+    if found is None:
+        raise WrongRequirement("%r is no requirement: write as `T1ms lost=0` or `T10ms response<=2 ticks`" % text)
+    number = float(found["number"])
+    wanted = _Wanted(text, found["subject"], found["figure"], found["sign"], number, found["unit"])
+    return _judge(figures, wanted)
+
+
+def _judge(figures: Figures, wanted: _Wanted) -> Verdict:
+    """Judges a requirement by its subject."""
+    if wanted.subject == ALL:
+        name = _one_of(wanted, _ALL_FIGURES)
+        return _count(wanted, sum(core[name] for core in figures["cores"]))
+    for pattern, judged in ((r"core (\d+)", _core), (r"mailbox (\d+) to (\d+)", _mailbox), (r"chain (.+)", _chain)):
+        found = re.fullmatch(pattern, wanted.subject)
+        if found is not None:
+            return judged(figures, wanted, found.groups())
+    return _task(figures, wanted)
+
+
+def _one_of(wanted: _Wanted, names: Tuple[str, ...]) -> str:
+    """The figure, which has to be one of some; a unit is for times alone."""
+    if wanted.figure not in names:
+        text = "%r: `%s` has the figures %s"
+        raise WrongRequirement(text % (wanted.text, wanted.subject, listed(names)))
+    if wanted.unit is not None:
+        raise WrongRequirement("%r: a unit stands only behind a time" % wanted.text)
+    return wanted.figure
+
+
+def _count(wanted: _Wanted, value: float) -> Verdict:
+    """Judges a single number."""
+    return Verdict(wanted.text, wanted.holds(value), "%g" % value)
+
+
+def _core(figures: Figures, wanted: _Wanted, words: Tuple[str, ...]) -> Verdict:
+    """Judges a figure of a core."""
+    core = next((each for each in figures["cores"] if each["core"] == int(words[0])), None)
+    if core is None:
+        raise WrongRequirement("%r: no core %s is configured" % (wanted.text, words[0]))
+    return _count(wanted, core[_one_of(wanted, _CORE_FIGURES)])
+
+
+def _mailbox(figures: Figures, wanted: _Wanted, words: Tuple[str, ...]) -> Verdict:
+    """Judges a figure of a mailbox; one that no envelope was put into has 0."""
+    cores = [each["core"] for each in figures["cores"]]
+    sender, receiver = int(words[0]), int(words[1])
+    if sender not in cores or receiver not in cores or sender == receiver:
+        raise WrongRequirement("%r: there is no mailbox from core %d to core %d" % (wanted.text, sender, receiver))
+    name = _one_of(wanted, _MAILBOX_FIGURES)
+    pairs = {(each["from"], each["to"]): each[name] for each in figures["mailboxes"]}
+    return _count(wanted, pairs.get((sender, receiver), 0))
+
+
+def _task(figures: Figures, wanted: _Wanted) -> Verdict:
+    """Judges a figure of a task."""
+    names = [each["task"] for each in figures["tasks"]]
+    if wanted.subject not in names:
+        text = "%r: no task is called `%s`%s"
+        raise WrongRequirement(text % (wanted.text, wanted.subject, did_you_mean(wanted.subject, names)))
+    task = figures["tasks"][names.index(wanted.subject)]
+    if wanted.figure in _TASK_TIMES:
+        return _times(wanted, task[wanted.figure], units_of(figures))
+    return _count(wanted, task[_one_of(wanted, _TASK_COUNTS + _TASK_TIMES)])
+
+
+def _chain(figures: Figures, wanted: _Wanted, words: Tuple[str, ...]) -> Verdict:
+    """Judges a figure of a chain."""
+    is_length = wanted.figure == "length"
+    name = "length" if is_length else _one_of(wanted, _CHAIN_COUNTS + ("length",))
+    chain = next((each for each in figures["chains"] if each["chain"] == words[0]), None)
+    if chain is None:
+        return Verdict(wanted.text, False, "this run has no such chain")
+    if is_length:
+        return _times(wanted, chain, tuple(unit for unit in units_of(figures) if chain[unit] is not None))
+    return _count(wanted, sum(chain["lost"].values()) if name == "broken" else chain[name])
+
+
+def _times(wanted: _Wanted, times: Figures, units: Tuple[str, ...]) -> Verdict:
+    """Judges each of some times; those that still go on as far as they have come. One has to be complete."""
+    unit = wanted.unit or units[0]
+    if unit not in units:
+        raise WrongRequirement("%r: the unit is %s" % (wanted.text, listed(units)))
+    found = times[unit]
+    done = [found["least"], found["greatest"]] if found["count"] else []
+    is_met = bool(done) and all(wanted.holds(value) for value in done) and _still(wanted, found)
+    if wanted.sign == "!=":
+        raise WrongRequirement("%r: a time has <, <=, =, >= or >" % wanted.text)
+    words = "%d to %d %s" % (done[0], done[1], unit) if done else "none is complete"
+    if found["open"]:
+        words += "; %d still open, for up to %d" % (found["open"], found["open_greatest"])
+    return Verdict(wanted.text, is_met, words)
+
+
+def _still(wanted: _Wanted, found: Figures) -> bool:
+    """Whether the times that still go on can be as required."""
+    so_far = found["open_greatest"]
+    if so_far is None or wanted.sign in (">", ">="):
+        return True
+    return so_far < wanted.number if wanted.sign == "<" else so_far <= wanted.number
+
+
+def judge_all(figures: Figures, texts: List[str]) -> List[Verdict]:
+    """Judges requirements, and with them that the run ended."""
+    verdicts = [judge(figures, text) for text in texts]
+    if verdicts and not figures["run"]["ended"]:
+        verdicts.append(Verdict("the run ends", False, "it stalled"))
+    return verdicts

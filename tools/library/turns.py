@@ -1,0 +1,148 @@
+"""The turns of a schedule, and at which of them each core took its items.
+
+The logs say what each core took, in order. A turn results in the next item of its core if that is what such a turn
+does, and if what it waits for is there. So the turns of a schedule, played over the logs, give the turn of each item.
+"""
+
+from collections import Counter, deque
+from itertools import chain, islice, repeat
+from typing import Dict, List, NamedTuple, Optional, Sequence, Set
+
+from library.formats import TURN
+from library.items import OK, Item, items_of
+from library.program import Failed
+from library.runs import Run
+
+SERVE = "s"
+OWN = "o"
+LOOK = "l"
+_KINDS = {
+    **dict.fromkeys(("in",), SERVE),
+    **dict.fromkeys(("began", "entered", "readied", "stim", "post", "drained"), OWN),
+    **dict.fromkeys(("on", "pass1", "pass2", "passend", "last"), LOOK),
+}
+# The item of a core that reaches a barrier, by the one that passes it.
+_BARRIERS = {"pass1": "entered", "pass2": "readied", "passend": "drained"}
+
+
+class Turn(NamedTuple):
+    """A turn of a schedule."""
+
+    core: int
+    kind: str
+    sender: Optional[int] = None
+
+    def __str__(self) -> str:
+        return "%d%s%s" % (self.core, self.kind, "" if self.sender is None else self.sender)
+
+
+def turn_of(word: str) -> Turn:
+    """The turn of a word of a schedule."""
+    found = TURN.fullmatch(word)
+    if found is None:
+        raise ValueError("%r is no turn" % word)
+    sender = found["sender"]
+    return Turn(int(found["core"]), word[-1] if sender is None else SERVE, None if sender is None else int(sender))
+
+
+def default_round(cores: Sequence[int]) -> List[Turn]:
+    """The turns of a round of the default schedule."""
+    found = []
+    for core in cores:
+        found += [Turn(core, SERVE, other) for other in cores if other != core]
+        found += [Turn(core, OWN), Turn(core, LOOK)]
+    return found
+
+
+def first_turns(run: Run, count: int) -> List[str]:
+    """The words of so many turns of a run's schedule."""
+    if run.turns is not None:
+        return list(run.turns[:count])
+    one = [str(turn) for turn in default_round(run.cores)]
+    return list(islice(chain.from_iterable(repeat(one)), count))
+
+
+def placed_items(run: Run) -> List[Item]:
+    """The items of all cores in the order of the turns, each with its turn."""
+    play = _Play(run)
+    return _listed(run, play) if run.turns is not None else _in_rounds(run, play)
+
+
+def _listed(run: Run, play: "_Play") -> List[Item]:
+    """Plays the turns of a listed schedule."""
+    found = []
+    for number, word in enumerate(run.turns or (), 1):
+        item = play.taken(turn_of(word))
+        if item is not None:
+            item.turn = number
+            found.append(item)
+    play.check_all_taken()
+    return found
+
+
+def _in_rounds(run: Run, play: "_Play") -> List[Item]:
+    """Plays rounds of the default schedule, as long as one changes something."""
+    one = default_round(run.cores)
+    found: List[Item] = []
+    number, before = 0, -1
+    while len(found) > before:
+        before = len(found)
+        for place, turn in enumerate(one, 1):
+            item = play.taken(turn)
+            if item is not None:
+                item.turn, item.round = number * len(one) + place, number + 1
+                found.append(item)
+        number += 1
+    play.check_all_taken()
+    return found
+
+
+class _Play:
+    """The cores between two turns: which items are left, what is in the mailboxes, who has reached which barrier."""
+
+    def __init__(self, run: Run):
+        self.left = {core: deque(items_of(run, core)) for core in run.cores}
+        self.cap = run.draft["cap"]
+        self.mail: Dict[tuple, int] = Counter()
+        self.started = {run.draft["master"]}
+        self.reached: Dict[str, Set[int]] = {word: set() for word in _BARRIERS.values()}
+
+    def taken(self, turn: Turn) -> Optional[Item]:
+        """The item that a turn results in, if it results in one."""
+        left = self.left[turn.core]
+        if not left:
+            return None
+        words = left[0].words
+        if _KINDS[words[0]] != turn.kind or not self._can(turn, words):
+            return None
+        self._take(turn.core, words)
+        return left.popleft()
+
+    def _can(self, turn: Turn, words: List[str]) -> bool:
+        """Whether what an item waits for is there."""
+        word = words[0]
+        if word == "in":
+            return int(words[1]) == turn.sender and self.mail[turn.sender, turn.core] > 0
+        if word == "post":
+            return self.mail[turn.core, int(words[1])] < self.cap
+        if word == "on":
+            return turn.core in self.started
+        return word not in _BARRIERS or self.started <= self.reached[_BARRIERS[word]]
+
+    def _take(self, core: int, words: List[str]) -> None:
+        """Does what an item does to the others."""
+        word = words[0]
+        if word == "in":
+            self.mail[int(words[1]), core] -= 1
+        elif word == "post":
+            self.mail[core, int(words[1])] += 1
+        elif word == "began" and words[2] == OK:
+            self.started.add(int(words[1]))
+        elif word in self.reached:
+            self.reached[word].add(core)
+
+    def check_all_taken(self) -> None:
+        """The logs are of this schedule if each of their items was taken."""
+        for core, left in self.left.items():
+            if left:
+                raise Failed("core %d, item %d `%s` has no turn" % (core, left[0].number, left[0].text))

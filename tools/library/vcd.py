@@ -1,0 +1,164 @@
+"""A run as a value change dump (VCD, IEEE 1364): the states of tasks, the resources, the ticks, the mailboxes.
+
+A time is the number of a turn. Of several changes in one turn a variable shows the last one.
+"""
+
+from dataclasses import dataclass
+from typing import Dict, Iterator, List, Tuple
+
+from library.jobs import READY, RUNNING, WAITING, Jobs
+from library.states import end_of, held_by_task, stretches_by_task, task_rows
+from library.timeline import Timeline, mailbox_levels
+
+SUSPENDED = "suspended"
+CODES = {SUSPENDED: 0, READY: 1, WAITING: 2, RUNNING: 3}
+_FIRST_CODE, _CODES = 33, 94  # the characters of which the short names of variables consist
+
+Values = List[Tuple[int, int]]  # a turn, and the value from then on
+
+
+@dataclass(frozen=True)
+class Variable:
+    """A variable: its type, its bits, and its values by ascending turns, the first one at 0; an event has no bits."""
+
+    scope: str
+    name: str
+    kind: str
+    bits: int
+    values: Values
+
+    @property
+    def declaration(self) -> str:
+        """Its type and size, as a declaration has them."""
+        return "%s %d" % (self.kind, self.bits)
+
+    def text(self, value: int) -> str:
+        """A value, without the short name."""
+        return "%d" % value if self.bits == 1 else "b{:b} ".format(value)
+
+
+def text(jobs: Jobs, source: str) -> str:
+    """The whole text."""
+    variables = variables_of(jobs)
+    lines = ["$comment made from %s $end" % source, "$comment %s $end" % _legend(jobs.timeline)]
+    lines += ["$timescale 1 us $end", "$scope module mcos $end"]
+    lines += list(_declarations(variables))
+    lines += ["$upscope $end", "$enddefinitions $end"]
+    return "\n".join(lines + list(_changes(variables, end_of(jobs.timeline)))) + "\n"
+
+
+def _legend(timeline: Timeline) -> str:
+    """What times and values mean."""
+    codes = ", ".join("%d %s" % (code, state) for state, code in CODES.items())
+    return "a time is the number of a turn of the %s schedule; a task is %s" % (timeline.run.schedule, codes)
+
+
+def short_name(number: int) -> str:
+    """The short name of a variable."""
+    digits = chr(_FIRST_CODE + number % _CODES)
+    return digits if number < _CODES else short_name(number // _CODES - 1) + digits
+
+
+def _declarations(variables: List[Variable]) -> Iterator[str]:
+    """The variables by scopes."""
+    scope = ""
+    for number, each in enumerate(variables):
+        if each.scope != scope:
+            if scope:
+                yield "$upscope $end"
+            scope = each.scope
+            yield "$scope module %s $end" % scope
+        yield "$var %s %s %s $end" % (each.declaration, short_name(number), each.name)
+    yield "$upscope $end"
+
+
+def _changes(variables: List[Variable], end: int) -> Iterator[str]:
+    """All values, by turns."""
+    by_turn: Dict[int, Dict[int, str]] = {}
+    for number, variable in enumerate(variables):
+        before = None
+        for turn, value in _last_of_each_turn(variable.values):
+            if value != before or variable.kind == "event":
+                by_turn.setdefault(turn, {})[number] = variable.text(value) + short_name(number)
+            before = value
+    for turn in sorted(by_turn):
+        yield "#%d" % turn
+        if turn == 0:
+            yield "$dumpvars"
+        yield from by_turn[turn].values()
+        if turn == 0:
+            yield "$end"
+    yield "#%d" % end
+
+
+def _last_of_each_turn(values: Values) -> List[Tuple[int, int]]:
+    """Of the values of one turn the last one."""
+    return sorted(dict(values).items())
+
+
+# ---------------------------------------------------------------------------------------------------------------------
+# The variables
+# ---------------------------------------------------------------------------------------------------------------------
+
+
+def variables_of(jobs: Jobs) -> List[Variable]:
+    """All variables, by scopes."""
+    timeline = jobs.timeline
+    states, resources = _states(jobs), _resources(jobs)
+    found = []
+    for core in timeline.run.cores:
+        scope = "core_%d" % core
+        found.append(Variable(scope, "tick", "integer", 32, _ticks(timeline, core)))
+        found.append(Variable(scope, "error", "event", 1, _errors(timeline, core)))
+        for row in task_rows(timeline):
+            if row.core == core:
+                found.append(Variable(scope, row.name, "reg", 2, states.get(row.name, [(0, 0)])))
+        found += [Variable(scope, name, "wire", 1, resources.get(name, [(0, 0)])) for name in _named(timeline, core)]
+    return found + _mailboxes(timeline)
+
+
+def _named(timeline: Timeline, core: int) -> List[str]:
+    """The resources of a core."""
+    return [resource.name for resource in timeline.run.draft.core(core).named["resources"]]
+
+
+def _states(jobs: Jobs) -> Dict[str, Values]:
+    """The states of tasks."""
+    found = {}
+    for task, stretches in stretches_by_task(jobs).items():
+        values = [(0, CODES[SUSPENDED])]
+        for each in stretches:
+            # What begins in the turn of an end stands behind it.
+            values += [(each.begin, CODES[each.state]), (each.end, CODES[SUSPENDED])]
+        found[task] = _in_order(values, end_of(jobs.timeline))
+    return found
+
+
+def _in_order(values: Values, end: int) -> Values:
+    """Values as they come, without those at the end of the run."""
+    return [value for value in values if value[0] < end]
+
+
+def _resources(jobs: Jobs) -> Dict[str, Values]:
+    """Which resources are held."""
+    found: Dict[str, Values] = {}
+    holds = sorted((hold for each in held_by_task(jobs).values() for hold in each), key=lambda hold: hold.begin)
+    for hold in holds:
+        found.setdefault(hold.resource, [(0, 0)]).extend([(hold.begin, 1), (hold.end, 0)])
+    return {name: _in_order(values, end_of(jobs.timeline)) for name, values in found.items()}
+
+
+def _ticks(timeline: Timeline, core: int) -> Values:
+    """How many ticks a core has taken."""
+    return [(0, 0)] + [(item.turn, item.tick) for item in timeline.by_core[core] if item.is_tick]
+
+
+def _errors(timeline: Timeline, core: int) -> Values:
+    """The turns in which ErrorHook was called."""
+    return [(item.turn, 1) for item in timeline.by_core[core] if item.errors]
+
+
+def _mailboxes(timeline: Timeline) -> List[Variable]:
+    """How many envelopes are in each mailbox that took one."""
+    levels = mailbox_levels(timeline)
+    return [Variable("mailboxes", "from_%d_to_%d" % pair, "integer", 32, levels[pair]) for pair in sorted(levels)]

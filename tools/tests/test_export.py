@@ -1,0 +1,329 @@
+"""What `tools/export` prints, read back by readers that know the formats and not the tool."""
+
+import json
+import os
+import re
+import runpy
+import shutil
+import subprocess
+import sys
+import tempfile
+import unittest
+
+sys.path.insert(0, os.path.dirname(os.path.abspath(__file__)))
+import sample_runs  # noqa: E402
+from sample_runs import PROGRAM, TOOLS, called, first_timeline, needs_program  # noqa: E402
+from library import btf, chrome, jobs, timeline, vcd  # noqa: E402
+
+MAIN = runpy.run_path(os.path.join(TOOLS, "export"))["main"]
+
+# ---------------------------------------------------------------------------------------------------------------------
+# BTF
+# ---------------------------------------------------------------------------------------------------------------------
+
+# The columns of a row: time, source, source instance, type, target, target instance, event, and perhaps a note.
+BTF_ROW = re.compile(r"(\d+),([A-Za-z]\w*),(\d+),([A-Z]+),([A-Za-z]\w*),(\d+),([a-z]+)(?:,.*)?")
+BTF_SCALES = ("ps", "ns", "us", "ms", "s")
+# Of a task: the states between which an event leads, and what its source is.
+BTF_TASK = {
+    "activate": ("none", "active", "stimulus"),
+    "start": ("active", "running", "core"),
+    "preempt": ("running", "ready", "core"),
+    "resume": ("ready", "running", "core"),
+    "wait": ("running", "waiting", "core"),
+    "release": ("waiting", "ready", "core"),
+    "terminate": ("running", "terminated", "core"),
+}
+BTF_FIRST = """#version 2.2.0
+#creator mcos tools/export
+#inputFile config.json stim.json
+#timeScale us
+# a time is the number of a turn of the default schedule
+21,SIM,0,STI,STI_autostart_A,0,trigger
+21,STI_autostart_A,0,T,A,0,activate
+21,Core_0,0,T,A,0,start
+34,A,0,STI,STI_A_B,0,trigger
+34,STI_A_B,0,T,B,0,activate
+34,Core_1,0,T,B,0,start
+38,Core_0,0,T,A,0,terminate
+41,Core_1,0,T,B,0,terminate
+"""
+
+
+class BtfReader:
+    """Reads a trace by the rules of the columns: times ascend, and each job goes through the states of the standard."""
+
+    def __init__(self, text):
+        self.header = {}
+        self.events = []
+        self.states = {}
+        self.triggered = set()
+        self.time = 0
+        for line in text.splitlines():
+            if line.startswith("#"):
+                self.read_header(line)
+            else:
+                self.read_row(line)
+        assert self.header["timeScale"] in BTF_SCALES, self.header
+        assert re.fullmatch(r"\d+\.\d+\.\d+", self.header["version"]), self.header
+
+    def read_header(self, line):
+        """A line before the rows: a parameter with its value, or a comment."""
+        assert not self.events, "a header behind a row"
+        name = re.match(r"#([A-Za-z]+) (.+)", line)
+        if name is not None:
+            self.header[name[1]] = name[2]
+
+    def read_row(self, line):
+        row = BTF_ROW.fullmatch(line)
+        assert row is not None, line
+        time, source, number, kind, target, instance, event = row.groups()
+        assert int(time) >= self.time, line
+        self.time = int(time)
+        if kind == "STI":
+            assert event == "trigger" and (target, instance) not in self.triggered, line
+            assert source == "SIM" or self.states.get((source, number)) is not None, line
+            self.triggered.add((target, instance))
+        else:
+            assert kind == "T", line
+            self.read_task(line, source, number, target, instance, event)
+        self.events.append((self.time, event, target))
+
+    def read_task(self, line, source, number, task, instance, event):
+        if event == "mtalimitexceeded":
+            assert (source, number) in self.triggered, line
+            return
+        before, after, from_whom = BTF_TASK[event]
+        assert self.states.get((task, instance), "none") == before, line
+        if from_whom == "stimulus":
+            assert (source, number) in self.triggered, line
+        else:
+            assert re.fullmatch(r"Core_\d", source), line
+        self.states[task, instance] = after
+
+
+# ---------------------------------------------------------------------------------------------------------------------
+# VCD
+# ---------------------------------------------------------------------------------------------------------------------
+
+VCD_FIRST = {
+    "mcos.core_0.A": [(0, 0), (21, 3), (38, 0)],
+    "mcos.core_1.B": [(0, 0), (34, 3), (41, 0)],
+    "mcos.mailboxes.from_0_to_1": [(0, 0), (32, 1), (34, 0)],
+    "mcos.mailboxes.from_1_to_0": [(0, 0), (35, 1), (37, 0)],
+}
+
+
+def read_vcd(text):
+    """The values of each variable, by its whole name, as IEEE 1364 (18.2) has them."""
+    words = iter(text.split())
+    scopes, names, found = [], {}, {}
+    time = None
+    for word in words:
+        if word in ("$comment", "$timescale", "$date", "$version"):
+            while next(words) != "$end":
+                pass
+        elif word == "$scope":
+            assert next(words) in ("module", "task", "function", "begin", "fork")
+            scopes.append(next(words))
+            assert next(words) == "$end"
+        elif word == "$upscope":
+            scopes.pop()
+            assert next(words) == "$end"
+        elif word == "$var":
+            kind, size, code, name = (next(words) for _ in range(4))
+            assert kind in ("event", "integer", "reg", "wire") and int(size) >= 1
+            rest = next(words)
+            if rest != "$end":  # a range of bits
+                assert next(words) == "$end"
+            names.setdefault(code, []).append(".".join(scopes + [name]))
+        elif word == "$enddefinitions":
+            assert next(words) == "$end" and not scopes
+        elif word.startswith("#"):
+            assert time is None or int(word[1:]) > time, word
+            time = int(word[1:])
+        elif word[0] == "b":
+            note_vcd(found, names, next(words), time, int(word[1:], 2))
+        elif word[0] in "01":
+            note_vcd(found, names, word[1:], time, int(word[0]))
+        else:
+            assert word in ("$dumpvars", "$end"), word
+    return found
+
+
+def note_vcd(found, names, code, time, value):
+    """Notes a value of a declared variable."""
+    for name in names[code]:
+        found.setdefault(name, []).append((time, value))
+
+
+def without_repeats(values):
+    """The values that differ from the one before."""
+    return [pair for index, pair in enumerate(values) if index == 0 or pair[1] != values[index - 1][1]]
+
+
+# ---------------------------------------------------------------------------------------------------------------------
+# Chrome
+# ---------------------------------------------------------------------------------------------------------------------
+
+
+def read_chrome(text):
+    """The events by their phases. Slices of a thread do not overlap, and flows bind to slices."""
+    events = json.loads(text)["traceEvents"]
+    phases = {}
+    for event in events:
+        assert {"ph", "pid", "tid"} <= event.keys(), event
+        phases.setdefault(event["ph"], []).append(event)
+    slices = {}
+    for each in phases.get("X", []):
+        assert each["dur"] > 0, each
+        slices.setdefault((each["pid"], each["tid"]), []).append((each["ts"], each["ts"] + each["dur"]))
+    for spans in slices.values():
+        spans.sort()
+        for before, behind in zip(spans, spans[1:]):
+            assert before[1] <= behind[0] + 1e-6, (before, behind)
+    starts = {each["id"]: each for each in phases.get("s", [])}
+    assert sorted(starts) == sorted(each["id"] for each in phases.get("f", []))
+    for each in phases.get("f", []):
+        assert each["bp"] == "e" and starts[each["id"]]["ts"] < each["ts"], each
+        for end in (each, starts[each["id"]]):
+            assert any(span[0] <= end["ts"] <= span[1] for span in slices[end["pid"], end["tid"]]), end
+    opened = {(each["cat"], each["id"]): each["ts"] for each in phases.get("b", [])}
+    closed = {(each["cat"], each["id"]): each["ts"] for each in phases.get("e", [])}
+    assert opened.keys() == closed.keys() and all(opened[key] <= closed[key] for key in opened)
+    return phases
+
+
+# ---------------------------------------------------------------------------------------------------------------------
+# The tests
+# ---------------------------------------------------------------------------------------------------------------------
+
+
+class First(unittest.TestCase):
+    maxDiff = None
+
+    def setUp(self):
+        self.jobs = jobs.jobs_of(first_timeline())
+
+    def test_btf(self):
+        text = btf.text(self.jobs, "config.json stim.json")
+        self.assertEqual(text, BTF_FIRST)
+        self.assertEqual(set(BtfReader(text).states.values()), {"terminated"})
+
+    def test_vcd(self):
+        found = read_vcd(vcd.text(self.jobs, "x"))
+        self.assertEqual({name: found[name] for name in VCD_FIRST}, VCD_FIRST)
+
+    def test_chrome(self):
+        phases = read_chrome(chrome.text(self.jobs, "x"))
+        running = [(each["name"], each["ts"], each["dur"]) for each in phases["X"] if each["cat"] == "running"]
+        self.assertEqual(running, [("A", 21, 17), ("B", 34, 7)])
+        self.assertEqual([each["name"] for each in phases["f"]], ["ActivateTask B", "reply"])
+
+    def test_marks_of_one_turn(self):
+        found = jobs.jobs_of(timeline.timeline_of(sample_runs.point_run()))
+        names = [each["name"] for each in read_chrome(chrome.text(found, "x"))["i"]]
+        self.assertEqual(names, ["tick 1", "E_OS_LIMIT", "E_OS_STATE", "E_OS_STATE"])
+
+    def test_short_names(self):
+        names = [vcd.short_name(number) for number in range(94 * 95)]
+        self.assertEqual((names[0], names[93], names[94], len(set(names))), ("!", "~", "!!", len(names)))
+        self.assertTrue(all(re.fullmatch("[!-~]{1,2}", name) for name in names))
+
+
+class Readers(unittest.TestCase):
+    """The readers refuse what is wrong."""
+
+    def test_btf(self):
+        for old, new in (
+            ("38,Core_0,0,T,A,0,terminate", "38,Core_0,0,T,A,0,resume"),
+            ("34,STI_A_B,0,T", "34,STI_B_A,0,T"),
+            ("38,Core_0", "33,Core_0"),
+            ("41,Core_1,0,", "41,Core_1,"),
+            ("timeScale us", "timeScale turns"),
+        ):
+            with self.subTest(new=new):
+                self.assertIn(old, BTF_FIRST)
+                self.assertRaises((AssertionError, KeyError), BtfReader, BTF_FIRST.replace(old, new))
+
+    def test_vcd(self):
+        text = vcd.text(jobs.jobs_of(first_timeline()), "x")
+        for old, new in (("#38", "#20"), ("b11 #", "b11 ~"), ("$enddefinitions", "$upscope $end $enddefinitions")):
+            with self.subTest(new=new):
+                self.assertIn(old, text)
+                self.assertRaises((AssertionError, KeyError, IndexError), read_vcd, text.replace(old, new, 1))
+
+
+class Commands(unittest.TestCase):
+    def test_wrong_usage(self):
+        for words in (("vcd", "a"), ("otf", "a", "b")):
+            with self.subTest(words=words):
+                self.assertEqual(called(MAIN, *words)[:2], (2, ""))
+
+    @needs_program
+    def test_printed(self):
+        for name, read in (("btf", BtfReader), ("chrome", read_chrome), ("vcd", read_vcd)):
+            with self.subTest(name=name):
+                status, output, messages = called(MAIN, "--mcos", PROGRAM, name, *sample_runs.ENGINE)
+                self.assertEqual((status, messages), (0, ""))
+                read(output)
+
+
+@needs_program
+class Examples(unittest.TestCase):
+    """Each run of the examples, read back and held to the lines of the trace."""
+
+    def runs(self):
+        for source in sample_runs.sources():
+            with self.subTest(source=source):
+                found = sample_runs.timeline_of(source)
+                yield found, jobs.jobs_of(found)
+
+    def test_btf(self):
+        for found, all_jobs in self.runs():
+            events = [event for _, event, _ in BtfReader(btf.text(all_jobs, "x")).events]
+            lines = [line.split(" ")[0] for item in found.items for line in item.lines]
+            for event, word in (("activate", "act"), ("terminate", "end"), ("wait", "wait"), ("release", "free")):
+                self.assertEqual(events.count(event), lines.count(word))
+            self.assertEqual(events.count("start") + events.count("resume"), lines.count("pre"))
+
+    def test_chrome(self):
+        for found, all_jobs in self.runs():
+            phases = read_chrome(chrome.text(all_jobs, "x"))
+            lines = [line.split(" ")[0] for item in found.items for line in item.lines]
+            self.assertEqual(sum(each["name"] != "reply" for each in phases.get("f", [])), lines.count("in"))
+            marks = [each["name"] for each in phases.get("i", [])]
+            self.assertEqual(sum(name.startswith("tick ") for name in marks), lines.count("tick"))
+            errors = [error for item in found.items for error in item.errors]
+            self.assertEqual([name for name in marks if not name.startswith("tick ")], errors)
+
+    def test_vcd(self):
+        for found, all_jobs in self.runs():
+            values = read_vcd(vcd.text(all_jobs, "x"))
+            for core, items in found.by_core.items():
+                ticks = items[-1].tick if items else 0
+                self.assertEqual(values["mcos.core_%d.tick" % core][-1][1], ticks)
+                errors = {item.turn for item in items if any(line.startswith("hook Error") for line in item.lines)}
+                self.assertEqual([turn for turn, _ in values.get("mcos.core_%d.error" % core, [])], sorted(errors))
+
+    def test_a_lost_activation(self):
+        events = BtfReader(btf.text(jobs.jobs_of(sample_runs.engine()), "x")).events
+        self.assertEqual([target for _, event, target in events if event == "mtalimitexceeded"], ["Ack"])
+
+    @unittest.skipUnless(shutil.which("vcd2fst") and shutil.which("fst2vcd"), "gtkwave is not installed")
+    def test_vcd_by_gtkwave(self):
+        text = vcd.text(jobs.jobs_of(sample_runs.engine()), "x")
+        with tempfile.TemporaryDirectory() as folder:
+            with open(os.path.join(folder, "a.vcd"), "w", encoding="utf-8") as file:
+                file.write(text)
+            subprocess.run(["vcd2fst", "a.vcd", "a.fst"], cwd=folder, check=True, capture_output=True, timeout=60)
+            words = ["fst2vcd", "a.fst"]
+            back = subprocess.run(words, cwd=folder, check=True, capture_output=True, text=True, timeout=60).stdout
+        wanted, found = read_vcd(text), read_vcd(back)
+        self.assertEqual(found.keys(), wanted.keys())
+        for name, values in wanted.items():
+            self.assertEqual(without_repeats(found[name]), without_repeats(values), name)
+
+
+if __name__ == "__main__":
+    unittest.main()

@@ -1,0 +1,359 @@
+"""What `tools/stats` counts: by hand on a small run, and by counting lines of the trace on the examples."""
+
+import json
+import os
+import re
+import runpy
+import sys
+import tempfile
+import unittest
+
+sys.path.insert(0, os.path.dirname(os.path.abspath(__file__)))
+import documents  # noqa: E402
+import sample_runs  # noqa: E402
+from sample_runs import PROGRAM, TOOLS, called, first_timeline, needs_program  # noqa: E402
+from library import columns, figure_tables, figures, jobs, requirements, runs, timeline, turns  # noqa: E402
+
+MAIN = runpy.run_path(os.path.join(TOOLS, "stats"))["main"]
+
+LIMIT = "E_OS_LIMIT"
+FIRST_TIMES = {"ticks": [0, 0, 0.0], "stimuli": [1, 1, 1.0], "rounds": [1, 1, 1.0]}
+# Of examples/first: requirements, with whether they are met and what was found.
+VERDICTS = [
+    ("A lost=0", True, "0"),
+    ("A lost!=0", False, "0"),
+    ("A  activations >= 1", True, "1"),
+    ("B load<50", False, "50"),
+    ("B response<=1 stimuli", True, "1 to 1 stimuli"),
+    ("B response<1 stimuli", False, "1 to 1 stimuli"),
+    ("B response=0", True, "0 to 0 ticks"),
+    ("A waiting>=1 rounds", False, "0 to 0 rounds"),
+    ("core 0 load=100", True, "100"),
+    ("core 1 idle=1", True, "1"),
+    ("all cores refused=0", True, "0"),
+    ("mailbox 0 to 1 fullest<=1", True, "1"),
+    ("mailbox 1 to 0 envelopes=2", False, "1"),
+    ("chain A > B complete=1", True, "1"),
+    ("chain A > B broken=0", True, "0"),
+    ("chain A > B length<=3", True, "3 to 3 rounds"),
+    ("chain B > A broken=0", False, "this run has no such chain"),
+]
+WRONG = [
+    ("A", "is no requirement"),
+    ("A lost", "is no requirement"),
+    ("A lost=-1", "is no requirement"),
+    ("AA lost=0", "no task is called `AA`; did you mean `A`"),
+    ("A lots=0", "`A` has the figures activations, lost"),
+    ("A lost=0 ticks", "a unit stands only behind a time"),
+    ("A response<=1 tick", "the unit is ticks, stimuli and rounds"),
+    ("A response!=1", "a time has <, <=, =, >= or >"),
+    ("core 2 load<1", "no core 2 is configured"),
+    ("core 0 waiting<1", "`core 0` has the figures"),
+    ("all cores load<1", "`all cores` has the figures lost, refused and errors"),
+    ("mailbox 0 to 0 fullest<1", "there is no mailbox from core 0 to core 0"),
+    ("chain A > B fullest<1", "has the figures complete, open, broken and length"),
+    ("chain A > B length<9 ticks", "the unit is rounds"),
+]
+# A time of a job that still goes on: the requirement, what is done, what still goes on, and whether it is met.
+STILL = [
+    ("X response<=5", [3], [5], True),
+    ("X response<=5", [3], [6], False),
+    ("X response<5", [3], [5], False),
+    ("X response=3", [3], [3], True),
+    ("X response=3", [3], [4], False),
+    ("X response>=3", [3], [9], True),
+    ("X response<=5", [], [0], False),
+    ("X response<=5", [], [], False),
+]
+
+# A core with a task of two activations, one that waits for events, an alarm, and calls that are refused.
+CONFIGURATION = """{"cores": [{"id": 0,
+  "counters": [{"name": "C", "max": 9}],
+  "alarms": [{"name": "A", "counter": "C", "action": "SetEvent E 1", "auto": {"modes": ["M"], "start": 1, "cycle": 1}}],
+  "resources": [{"name": "R", "ceiling": 2}],
+  "tasks": [
+    {"name": "T", "prio": 1, "activations": 2, "script": "GetResource R;ReleaseResource R;TerminateTask"},
+    {"name": "E", "prio": 3, "extended": true, "auto": ["M"],
+     "script": "WaitEvent 1;ClearEvent 1;ActivateTask T;jump 0"}]}]}"""
+STIMULI = "op tick op op op op op tick op op op op tick op op op op op op tick op"
+LOG = ["entered", "pass1 M", "readied", "pass2 0"] + ["stim " + word for word in STIMULI.split(" ")]
+LOG += ["drained", "passend", "last"]
+SERVED = ["alarm A", "ev E 1", "free E"]
+CALL = ["clr E 1", "stat E ClearEvent E_OK", "act T", "stat E ActivateTask E_OK"]
+BLOCK = (
+    ["hook Startup", "act E", "pre E", "post E", "wait E 1"]
+    + ["tick", *SERVED, "pre E", *CALL, "post E", "wait E 1", "pre T", "stat T GetResource E_OK"]
+    + ["tick", *SERVED, "post T", "pre E", *CALL, "post E", "wait E 1", "pre T"]
+    + ["tick", *SERVED, "post T", "pre E", *CALL[:2], "stat E ActivateTask E_OS_LIMIT", "hook Error E_OS_LIMIT"]
+    + ["post E", "wait E 1", "pre T", "stat T ReleaseResource E_OK", "post T", "end T", "pre T"]
+    + ["tick", *SERVED, "post T", "pre E", "clr E 1", "stat E ClearEvent E_OK"]
+)
+
+
+def first_figures():
+    """The figures of examples/first."""
+    return figures.figures_of(jobs.jobs_of(first_timeline()))
+
+
+def small_figures():
+    """The figures of the run above."""
+    run = runs.run_of(CONFIGURATION, {0: BLOCK}, {0: LOG})
+    return figures.figures_of(jobs.jobs_of(timeline.timeline_of(run)))
+
+
+def found_for(rows, **members):
+    """The row with these members."""
+    return next(row for row in rows if all(row[name] == value for name, value in members.items()))
+
+
+class Counts(unittest.TestCase):
+    maxDiff = None
+
+    def test_first(self):
+        found = first_figures()
+        self.assertEqual(found["run"], {"ended": True, "schedule": "default", "turns": 57, "rounds": 10})
+        response = found_for(found["tasks"], task="B")["response"]
+        shown = {unit: [times["least"], times["greatest"], times["mean"]] for unit, times in response.items()}
+        self.assertEqual(shown, FIRST_TIMES)
+        chain = found["chains"][0]
+        self.assertEqual(
+            (chain["chain"], chain["complete"], chain["rounds"]["sum"], chain["ticks"]), ("A > B", 1, 3, None)
+        )
+
+    def test_tasks(self):
+        found = small_figures()
+        task, waiter = (found_for(found["tasks"], task=name) for name in "TE")
+        names = ("activations", "lost", "ended", "live", "preempted", "op", "refused")
+        self.assertEqual([task[name] for name in names], [2, 1, 1, 1, 3, 3, 0])
+        self.assertEqual([waiter[name] for name in names], [1, 0, 0, 1, 0, 14, 1])
+        self.assertEqual([row["times"] for row in found["preemptions"]], [3])
+        # E is released four times, and the last time it has not waited again; of T the second job still runs.
+        self.assertEqual((waiter["response"]["stimuli"]["count"], waiter["response"]["stimuli"]["open"]), (4, 1))
+        self.assertEqual((task["waiting"]["stimuli"]["least"], task["waiting"]["stimuli"]["greatest"]), (2, 9))
+        self.assertEqual(task["response"]["stimuli"]["open_greatest"], 11)
+
+    def test_refusals(self):
+        expected = {
+            "core": 0,
+            "caller": "E",
+            "who": "task E, operation 2",
+            "operation": "ActivateTask T",
+            "status": "E_OS_LIMIT",
+            "lost": "T",
+            "times": 1,
+        }
+        self.assertEqual(small_figures()["refused"], [expected])
+
+    def test_chains(self):
+        chain = small_figures()["chains"]
+        self.assertEqual([each["chain"] for each in chain], ["A > E > T"])
+        self.assertEqual((chain[0]["complete"], chain[0]["open"], chain[0]["lost"]), (1, 1, {"E_OS_LIMIT": 1}))
+
+    def test_a_chain_ends_where_a_name_would_stand_twice(self):
+        tasks = [{"name": "A", "prio": 1, "auto": ["M"], "script": "ChainTask B"}]
+        tasks.append({"name": "B", "prio": 1, "script": "ChainTask A"})
+        block = ["hook Startup", "act A", "pre A"]
+        for one, other in ("AB", "BA", "AB", "BA"):
+            block += ["post " + one, "end " + one, "act " + other, "pre " + other]
+        log = LOG[:4] + ["stim op"] * 4
+        run = runs.run_of(json.dumps({"cores": [{"id": 0, "tasks": tasks}]}), {0: block}, {0: log})
+        chains = figures.figures_of(jobs.jobs_of(timeline.timeline_of(run)))["chains"]
+        self.assertEqual([(each["chain"], each["complete"], each["open"]) for each in chains], [("A > B", 2, 0)])
+
+    def test_resources(self):
+        held = small_figures()["resources"]
+        self.assertEqual([(row["resource"], row["task"], row["times"]) for row in held], [("R", "T", 1)])
+        self.assertEqual(held[0]["held"]["stimuli"]["sum"], 11)
+
+    def test_a_listed_schedule(self):
+        run = sample_runs.first_run()
+        listed = runs.Run(run.draft, run.blocks, run.logs, True, tuple(turns.first_turns(run, 57)))
+        found = figures.figures_of(jobs.jobs_of(timeline.timeline_of(listed)))
+        self.assertEqual(found["run"], {"ended": True, "schedule": "listed", "turns": 57, "rounds": None})
+        self.assertEqual(found["chains"][0]["turns"]["sum"], 41 - 21)
+        self.assertIn("listed schedule: ended, 57 turns\n", figure_tables.tables(found))
+        self.assertTrue(requirements.judge(found, "chain A > B length<=20 turns").is_met)
+
+    def test_columns(self):
+        self.assertEqual(columns.columns([["a", "10"], ["bcd", "9"]], [1]), ["a    10", "bcd   9"])
+        self.assertEqual(columns.columns([]), [])
+
+    def test_nothing(self):
+        run = runs.run_of('{"cores": [{"id": 0}]}', {0: []}, {0: []})
+        text = figure_tables.tables(figures.figures_of(jobs.jobs_of(timeline.timeline_of(run))))
+        self.assertIn("Tasks\n  none\n", text)
+        self.assertIn("default schedule: ended, 0 rounds, 0 turns", text)
+
+
+class Requirements(unittest.TestCase):
+    def test_verdicts(self):
+        found = first_figures()
+        for text, is_met, words in VERDICTS:
+            with self.subTest(text=text):
+                verdict = requirements.judge(found, text)
+                self.assertEqual((verdict.is_met, verdict.found), (is_met, words))
+
+    def test_wrong(self):
+        found = first_figures()
+        for text, words in WRONG:
+            with self.subTest(text=text), self.assertRaisesRegex(requirements.WrongRequirement, re.escape(words)):
+                requirements.judge(found, text)
+
+    def test_what_still_goes_on(self):
+        for text, done, still, is_met in STILL:
+            found = first_figures()
+            found["tasks"].append({"task": "X", "response": {"ticks": figures.times(done, still)}})
+            with self.subTest(text=text, done=done, still=still):
+                self.assertEqual(requirements.judge(found, text).is_met, is_met)
+
+    def test_a_stalled_run_meets_none(self):
+        found = first_figures()
+        found["run"]["ended"] = False
+        verdicts = requirements.judge_all(found, ["A lost=0"])
+        self.assertEqual(
+            [str(verdict) for verdict in verdicts], ["met: A lost=0 (0)", "not met: the run ends (it stalled)"]
+        )
+        self.assertEqual(requirements.judge_all(found, []), [])
+
+
+@needs_program
+class Commands(unittest.TestCase):
+    def run_stats(self, *words):
+        """What the script does on examples/engine."""
+        return called(MAIN, "--mcos", PROGRAM, *words, *sample_runs.ENGINE)
+
+    def test_the_document(self):
+        status, output, messages = self.run_stats()
+        self.assertEqual((status, messages), (0, ""))
+        printed = output.splitlines()
+        lines = documents.example("Of `examples/engine`, the tables in part:").splitlines()
+        self.assertEqual([line for line in lines if line not in printed], [])
+        self.assertGreater(len(lines), 40)
+
+    def test_json(self):
+        status, output, _ = self.run_stats("--json")
+        self.assertEqual((status, found_for(json.loads(output)["tasks"], task="T1ms")["activations"]), (0, 20))
+
+    def test_requirements(self):
+        status, output, _ = self.run_stats("--require", "T1ms lost=0", "--require", "T10ms response<=2 ticks")
+        self.assertEqual((status, output), (0, "met: T1ms lost=0 (0)\nmet: T10ms response<=2 ticks (2 to 2 ticks)\n"))
+        status, output, _ = self.run_stats("--require", "all cores lost=0")
+        self.assertEqual((status, output), (1, "not met: all cores lost=0 (1)\n"))
+
+    def test_wrong_usage(self):
+        status, output, messages = self.run_stats("--require", "T1 lost=0")
+        self.assertEqual((status, output), (2, ""))
+        self.assertIn("no task is called `T1`; did you mean `T1ms`?", messages)
+
+
+@needs_program
+class SixQuestions(unittest.TestCase):
+    """What docs/TOOLS.md answers of examples/engine."""
+
+    @classmethod
+    def setUpClass(cls):
+        cls.found = figures.figures_of(jobs.jobs_of(sample_runs.engine()))
+
+    def range_of(self, times, unit):
+        """The least and the greatest of some times."""
+        return times[unit]["least"], times[unit]["greatest"]
+
+    def test_lost_activations(self):
+        self.assertEqual([(task["task"], task["lost"]) for task in self.found["tasks"] if task["lost"]], [("Ack", 1)])
+        self.assertEqual(
+            [(row["who"], row["status"]) for row in self.found["refused"]], [("task Log, operation 2", LIMIT)]
+        )
+        self.assertEqual(found_for(self.found["tasks"], task="T1ms")["activations"], 20)
+
+    def test_preemptions(self):
+        found = {(row["task"], row["by"]): row["times"] for row in self.found["preemptions"]}
+        expected = {("T100ms", "T1ms"): 9, ("T5ms", "T1ms"): 3, ("T10ms", "T1ms"): 2, ("Ack", "T1ms"): 1}
+        self.assertEqual(found, {**expected, ("T10ms", "T5ms"): 2, ("Log", "Edge"): 2})
+
+    def test_times(self):
+        task = found_for(self.found["tasks"], task="T10ms")
+        self.assertEqual([self.range_of(task["waiting"], unit) for unit in ("ticks", "stimuli")], [(0, 0), (3, 3)])
+        self.assertEqual([self.range_of(task["response"], unit) for unit in ("ticks", "stimuli")], [(2, 2), (26, 26)])
+        self.assertEqual((task["load"], found_for(self.found["cores"], core=0)["load"]), (12.5, 88.75))
+
+    def test_resources(self):
+        held = {row["task"]: self.range_of(row["held"], "stimuli") for row in self.found["resources"]}
+        self.assertEqual(held, {"T10ms": (8, 8), "T5ms": (2, 6)})
+
+    def test_the_chain(self):
+        chain = found_for(self.found["chains"], chain="Slow > T10ms > Com > Log > Ack")
+        self.assertEqual((chain["complete"], chain["open"], chain["lost"]), (1, 0, {LIMIT: 1}))
+        self.assertEqual((chain["rounds"]["sum"], chain["ticks"]["sum"]), (144, 15))
+
+    def test_crossings(self):
+        found = {row["operation"]: row["sent"] for row in self.found["crossings"]}
+        expected = {"SetEvent Com 1": 2, "ActivateTask Log": 2, "ChainTask Ack": 2, "ActivateTask InjCalc": 1}
+        self.assertEqual(found, expected)
+        self.assertEqual({row["fullest"] for row in self.found["mailboxes"]}, {1})
+
+
+@needs_program
+class AsTheTrace(unittest.TestCase):
+    """The figures, counted again from the text of the trace and of the logs."""
+
+    def test_examples(self):
+        for source in sample_runs.sources():
+            with self.subTest(source=source):
+                found = sample_runs.timeline_of(source)
+                self.hold(found.run, figures.figures_of(jobs.jobs_of(found)))
+
+    def test_the_small_run(self):
+        with tempfile.TemporaryDirectory() as folder:
+            paths = [os.path.join(folder, name) for name in ("config.json", "stimuli.json")]
+            for path, text in zip(paths, (CONFIGURATION, json.dumps({"0": STIMULI}))):
+                with open(path, "w", encoding="utf-8") as file:
+                    file.write(text)
+            run = runs.read_run(runs.Source(PROGRAM, *paths))
+        self.assertEqual((list(run.blocks[0]), list(run.logs[0])), (BLOCK, LOG))
+
+    def hold(self, run, found):
+        """Holds the figures of a run to its lines."""
+        for core in found["cores"]:
+            block = "".join(line + "\n" for line in run.blocks[core["core"]])
+            log = run.logs[core["core"]]
+            self.assertEqual(core["errors"], len(re.findall("^hook Error ", block, re.MULTILINE)))
+            self.assertEqual(core["ticks"], log.count("stim tick"))
+            self.assertEqual(core["op"], log.count("stim op"))
+            tasks = [task for task in found["tasks"] if task["core"] == core["core"]]
+            self.assertEqual(sum(task["op"] for task in tasks) + core["idle"], core["op"])
+            sent = sum(row["envelopes"] for row in found["mailboxes"] if row["from"] == core["core"])
+            self.assertEqual(sent, sum(item.startswith("post ") for item in log))
+            for task in tasks:
+                self.hold_task(block, task)
+        outs = [line for block in run.blocks.values() for line in block if line.startswith("out ")]
+        self.assertEqual(sum(row["sent"] for row in found["crossings"]), len(outs))
+
+    def hold_task(self, block, task):
+        """Holds the figures of a task to the lines of its core."""
+        name = task["task"]
+        self.assertEqual(task["activations"], len(re.findall("^act %s$" % name, block, re.MULTILINE)))
+        self.assertEqual(task["ended"], len(re.findall("^end %s$" % name, block, re.MULTILINE)))
+        self.assertEqual(task["preempted"], len(re.findall("^post %s\npre " % name, block, re.MULTILINE)))
+        parts = len(re.findall("^(?:act|free) %s$" % name, block, re.MULTILINE))
+        times = task["response"]["ticks"]
+        self.assertEqual(times["count"] + times["open"], parts)
+        self.assertEqual(times["count"], len(re.findall("^(?:end|wait) %s(?: |$)" % name, block, re.MULTILINE)))
+
+    def test_lost_activations(self):
+        # In examples/engine one activation is lost; with two activations of Ack none is.
+        text = sample_runs.read("examples", "engine", "config.json")
+        mended = text.replace('"name":"Ack",', '"name":"Ack","activations":2,')
+        with tempfile.TemporaryDirectory() as folder:
+            path = os.path.join(folder, "config.json")
+            for configuration, lost in ((text, 1), (mended, 0)):
+                with open(path, "w", encoding="utf-8") as file:
+                    file.write(configuration)
+                found = sample_runs.timeline_of(runs.Source(PROGRAM, path, sample_runs.ENGINE[1]))
+                tasks = figures.figures_of(jobs.jobs_of(found))["tasks"]
+                self.assertEqual(
+                    {task["task"]: task["lost"] for task in tasks if task["lost"]}, {"Ack": 1} if lost else {}
+                )
+
+
+if __name__ == "__main__":
+    unittest.main()
