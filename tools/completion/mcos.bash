@@ -46,7 +46,7 @@ _mcos_read_words() {
             continue
         elif [[ $wanted ]]; then
             wanted=
-        elif [[ $word == --schedule || $word == --items ]]; then
+        elif [[ $word == --schedule || $word == --items || $word == --turns || $word == --mail ]]; then
             wanted=$word
             given+=" $word "
         elif [[ $word == -* ]]; then
@@ -59,22 +59,28 @@ _mcos_read_words() {
     done
 }
 
+# Offers the options of $2 that begin with $1 and do not stand before the cursor, and help.
+_mcos_offer_unused() {
+    local option
+    for option in $2; do
+        [[ $given == *" $option "* ]] || _mcos_offer "$1" "$option"
+    done
+    _mcos_offer "$1" '-h --help'
+}
+
 _mcos_offer_options() {
     case $command in
         '') _mcos_offer "$1" '-h --help -V --version' ;;
-        run)
-            [[ $given == *' --schedule '* ]] || _mcos_offer "$1" '--schedule'
-            [[ $given == *' --items '* ]] || _mcos_offer "$1" '--items'
-            _mcos_offer "$1" '-h --help'
-            ;;
+        run) _mcos_offer_unused "$1" '--schedule --items' ;;
+        threads) _mcos_offer_unused "$1" '--turns --mail --items' ;;
         check | cut | replay) _mcos_offer "$1" '-h --help' ;;
     esac
 }
 
 _mcos_offer_arguments() {
     case $command:${#arguments[@]} in
-        :0 | help:0) _mcos_offer "$1" 'run check cut replay help' ;;
-        run:[01] | check:0 | cut:0 | replay:0) _mcos_offer_files "$1" ;;
+        :0 | help:0) _mcos_offer "$1" 'run check cut replay threads help' ;;
+        run:[01] | threads:[01] | check:0 | cut:0 | replay:0) _mcos_offer_files "$1" ;;
         cut:1 | replay:1) _mcos_offer_cores "$1" "${arguments[0]}" ;;
         replay:2) compopt -o default 2>/dev/null ;;
     esac
@@ -90,6 +96,10 @@ _mcos() {
         _mcos_offer_files "${current#=}"
     elif [[ $wanted == --items ]]; then
         _mcos_offer_cores "${current#=}" "${arguments[0]}"
+    elif [[ $wanted == --mail ]]; then
+        _mcos_offer "${current#=}" 'locked'
+    elif [[ $wanted ]]; then
+        return 0
     elif [[ $current == -* ]]; then
         _mcos_offer_options "$current"
     else

@@ -39,6 +39,8 @@ BAD_SCHEDULE = Fault(13, "BadSchedule")
 BAD_LOG = Fault(14, "BadLog")
 ITEM_REFUSED = Fault(15, "ItemRefused")
 NO_MEMORY_IN_RUN = Fault(16, "NoMemory")
+NO_THREAD = Fault(17, "NoThread")
+MAIL_BREAK = Fault(18, "MailBreak")
 WRITE_FAILED = Fault(19, "WriteFailed")
 NOT_SEPARATE = Fault(20, "NotSeparate")
 UNREADABLE = Fault(21, "Unreadable")
@@ -60,6 +62,8 @@ FAULTS = (
     BAD_LOG,
     ITEM_REFUSED,
     NO_MEMORY_IN_RUN,
+    NO_THREAD,
+    MAIL_BREAK,
     WRITE_FAILED,
     NOT_SEPARATE,
     UNREADABLE,
