@@ -8,26 +8,71 @@ use crate::faults::Fault;
 use crate::outcomes::Outcome;
 use crate::runs::{input_of, print_reports};
 use crate::sources::Source;
-use osbase::CoreId;
+use crossbeam_utils::CachePadded;
+use osbase::{CONFIGURED_CORES, CoreId};
 use osthreads::{Gate, MailKind, run_threads};
 use ostrace::Sink;
 use std::alloc::Global;
 use std::sync::Wait;
-use std::thread;
+use std::sync::atomic::{AtomicBool, AtomicU64, Ordering};
 use std::thread::Threads;
+use std::{array, thread};
 
-/// The gate of the program: each thread may start, and a core that found nothing to do lets another one go on.
-pub struct Yielding;
+/// The turns of a whole round of as many cores as there may be.
+const ROUND: u64 = CONFIGURED_CORES as u64 + 1;
+
+/// The gate of the program: each thread may start, and a core that found nothing to do in a whole round lets another one
+/// go on. Most turns of a core that works change nothing, since a round serves every other core.
+#[derive(Drop)]
+pub struct Yielding {
+    // Each core writes what is its own alone, on a cache line of its own.
+    cores: [CachePadded<Fruitless>; CONFIGURED_CORES],
+}
+
+#[derive(Drop)]
+struct Fruitless {
+    turns: AtomicU64,
+    was_last: AtomicBool,
+}
+
+impl Yielding {
+    pub fn new() -> Self {
+        Yielding {
+            cores: array::from_fn(|_| {
+                CachePadded::new(Fruitless {
+                    turns: AtomicU64::new(0),
+                    was_last: AtomicBool::new(false),
+                })
+            }),
+        }
+    }
+}
 
 impl Gate for Yielding {
     fn starts(&self, _core: CoreId) -> bool {
         true
     }
 
-    fn before(&self, _core: CoreId) {}
+    fn before(&self, core: CoreId) {
+        let Some(fruitless) = self.cores.get(usize::from(core.number)) else {
+            return;
+        };
+        if !fruitless.was_last.load(Ordering::Relaxed) {
+            fruitless.turns.store(0, Ordering::Relaxed);
+        }
+        fruitless.was_last.store(false, Ordering::Relaxed);
+    }
 
-    fn idle(&self, _core: CoreId) {
-        thread::yield_now();
+    fn idle(&self, core: CoreId) {
+        let Some(fruitless) = self.cores.get(usize::from(core.number)) else {
+            return;
+        };
+        fruitless.was_last.store(true, Ordering::Relaxed);
+        let turns = fruitless.turns.load(Ordering::Relaxed).wrapping_add(1);
+        fruitless.turns.store(turns, Ordering::Relaxed);
+        if turns % ROUND == 0 {
+            thread::yield_now();
+        }
     }
 }
 
@@ -52,7 +97,7 @@ pub fn run_by_threads<R: Threads + Wait + Sync, S: Source + Drop, O: Sink>(
         &config,
         &stimuli,
         MailKind::Locked,
-        &Yielding,
+        &Yielding::new(),
         turns,
     )?;
     print_reports(alloc, &config, items, out, reports.as_slice())

@@ -101,7 +101,7 @@ fn each_log_of_a_run_by_threads_replays_to_its_block(rt: HostRuntime) -> Result<
         &config,
         &stimuli,
         MailKind::Locked,
-        &Yielding,
+        &Yielding::new(),
         MANY,
     );
     let reports = run.ok().ok_or("reports")?;
