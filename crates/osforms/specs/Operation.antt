@@ -61,9 +61,13 @@ two_of two = two.0 ∷ two.1 ∷ []
 abbrev pub three_of : Arg Place × Arg Place × Arg Place → List (Arg Place)
 three_of three = three.0 ∷ three.1 ∷ three.2 ∷ []
 
+-- The operation of a verb whose arguments have these kinds, and their words.
+abbrev pub form_meant : (ObjectKind → List ℕ → Option Place) → List Kind → List (List ℕ) → Verb → Option Op
+form_meant place kinds words verb = option_map (λ args. op_of (verb, args)) (args_meant place kinds words)
+
 -- The operation of a verb and the words of its arguments.
 abbrev pub verb_meant : (ObjectKind → List ℕ → Option Place) → List (List ℕ) → Verb → Option Op
-verb_meant place words verb = option_map (λ args. op_of (verb, args)) (args_meant place (kinds_of verb) words)
+verb_meant place words verb = form_meant place (kinds_of verb) words verb
 
 -- Every name has the same place, so that a text is judged whatever its names stand for.
 abbrev pub place_of_any : ObjectKind → List ℕ → Option Place

@@ -4,7 +4,7 @@ ghost use Rattle.std.specs.Prelude.{◌≡◌, ◌∷◌, [], map, option_map, L
 ghost use Rattle.oscript.specs.declared.rows.Kind.{Kind};
 ghost use Rattle.oscript.specs.Rows.{word_of, items};
 ghost use Rattle.osforms.specs.Form.{first_read, rest_words, verb_and_words, words_behind, words_of};
-ghost use Rattle.osforms.specs.Operation.{arg_meant, args_after, args_meant, has_masks, is_known, last_of, op_meant, op_named, three_of, two_of, unranged, verb_meant, verb_named};
+ghost use Rattle.osforms.specs.Operation.{arg_meant, args_after, args_meant, form_meant, has_masks, is_known, last_of, op_meant, op_named, three_of, two_of, unranged, verb_meant, verb_named};
 
 use crate::numbers::{int_of, mask_of, number_in, variable_of};
 use crate::places::{AnyName, Places};
@@ -172,13 +172,44 @@ fn first_verb(text: &str) -> Option<(Verb, Option<&str>)>
     first_of(&VERBS, text)
 }
 
+// The operation of a verb whose arguments have these kinds.
+#[inline(never)]
+fn form_meant<P: Places>(
+    places: &P,
+    verb: Verb,
+    kinds: Args<Kind>,
+    rest: Option<&str>,
+) -> Option<Op>
+    ensures { result ≡ form_meant (P.place places.now) (items kinds) (rest_words rest.entry) verb }
+{
+    match args_meant(places, kinds, rest) {
+        Some(args) => Some(op_of(Form { verb, args })),
+        None => None,
+    }
+}
+
+// The same for an argument of one kind.
+#[inline(always)]
+fn single_meant<P: Places>(places: &P, verb: Verb, kind: Kind, rest: Option<&str>) -> Option<Op>
+    ensures { result ≡ form_meant (P.place places.now) (kind ∷ []) (rest_words rest.entry) verb }
+{
+    match last_arg(places, kind, rest) {
+        Some(a) => Some(op_of(Form {
+            verb,
+            args: Args::One(a),
+        })),
+        None => None,
+    }
+}
+
+// Most operations have one argument, so it is read here, and the others by a call, which costs these nothing.
 #[inline(always)]
 fn verb_meant<P: Places>(places: &P, verb: Verb, rest: Option<&str>) -> Option<Op>
     ensures { result ≡ verb_meant (P.place places.now) (rest_words rest.entry) verb }
 {
-    match args_meant(places, row_of(verb).kinds, rest) {
-        Some(args) => Some(op_of(Form { verb, args })),
-        None => None,
+    match row_of(verb).kinds {
+        Args::One(kind) => single_meant(places, verb, kind, rest),
+        kinds => form_meant(places, verb, kinds, rest),
     }
 }
 
