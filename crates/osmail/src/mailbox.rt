@@ -95,7 +95,7 @@ impl<const CAP: usize> Mailbox<CAP> {
         to: CoreId,
         taken: &[MailStep],
     ) -> Result<bool, AllocError>
-        ensures { IfOk result (λ b. IsTrue b → taken_from taken.now from ++ self.now.envelopes ≡ sent_to sent.now to) }
+        ensures { IfOk result (λ b. IsTrue b ↔ taken_from taken.now from ++ self.now.envelopes ≡ sent_to sent.now to) }
     {
         let posted = sent_to(alloc, sent, to)?;
         let mut received = taken_from(alloc, taken, from)?;

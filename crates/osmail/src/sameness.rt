@@ -1,12 +1,12 @@
 //! Whether two lists of envelopes are the same. `==` answers so too, but no clause says what its answer means.
 
-ghost use Rattle.std.specs.Prelude.{◌≡◌, IsTrue};
+ghost use Rattle.std.specs.Prelude.{◌≡◌, ◌↔◌, IsTrue};
 
 use osbase::{AlarmRef, CoreId, Envelope, Message, RemoteCall, Status, TaskRef};
 
 /// Whether these lists are the same.
 pub(crate) fn are_same(left: &[Envelope], right: &[Envelope]) -> bool
-    ensures { IsTrue result → left.now ≡ right.now }
+    ensures { IsTrue result ↔ left.now ≡ right.now }
 {
     if left.len() != right.len() {
         return false;
@@ -20,7 +20,7 @@ pub(crate) fn are_same(left: &[Envelope], right: &[Envelope]) -> bool
 }
 
 fn is_same(left: &Envelope, right: &Envelope) -> bool
-    ensures { IsTrue result → left.now ≡ right.now }
+    ensures { IsTrue result ↔ left.now ≡ right.now }
 {
     if left.number != right.number {
         return false;
@@ -29,7 +29,7 @@ fn is_same(left: &Envelope, right: &Envelope) -> bool
 }
 
 fn is_same_message(left: Message, right: Message) -> bool
-    ensures { IsTrue result → left ≡ right }
+    ensures { IsTrue result ↔ left ≡ right }
 {
     match (left, right) {
         (Message::Request(one), Message::Request(other)) => is_same_call(one, other),
@@ -44,13 +44,13 @@ fn is_same_message(left: Message, right: Message) -> bool
 
 #[tactic(auto, using(crate::proofs::Steps::status_same))]
 fn is_same_status(left: Status, right: Status) -> bool
-    ensures { IsTrue result → left ≡ right }
+    ensures { IsTrue result ↔ left ≡ right }
 {
     left.number() == right.number()
 }
 
 fn is_same_call(left: RemoteCall, right: RemoteCall) -> bool
-    ensures { IsTrue result → left ≡ right }
+    ensures { IsTrue result ↔ left ≡ right }
 {
     match (left, right) {
         (RemoteCall::ActivateTask(one), RemoteCall::ActivateTask(other)) => {
@@ -102,13 +102,13 @@ fn is_same_call(left: RemoteCall, right: RemoteCall) -> bool
 }
 
 fn is_same_task(left: TaskRef, right: TaskRef) -> bool
-    ensures { IsTrue result → left ≡ right }
+    ensures { IsTrue result ↔ left ≡ right }
 {
     left.core.number == right.core.number && left.index == right.index
 }
 
 fn is_same_alarm(left: AlarmRef, right: AlarmRef) -> bool
-    ensures { IsTrue result → left ≡ right }
+    ensures { IsTrue result ↔ left ≡ right }
 {
     left.core.number == right.core.number && left.index == right.index
 }

@@ -1,4 +1,4 @@
-use Rattle.std.proofs.Common.{◌≡◌, ◌<◌, ◌∙◌, ℕ, zero, suc, replicate, sym, arith}
+use Rattle.std.proofs.Common.{arith}
 use Rattle.osmail.proofs.Counts.{counted-new}
 use Rattle.osmail.proofs.list.ListMail.new.Goals as goal
 

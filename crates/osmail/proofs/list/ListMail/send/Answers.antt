@@ -1,4 +1,4 @@
-use Rattle.std.proofs.Common.{◌≡◌, ◌<◌, ◌≤◌, ◌+◌, ◌∙◌, ◌∷◌, [], arith, rules, length, ap, sym, get_or, length-append}
+use Rattle.std.proofs.Common.{◌≡◌, ◌+◌, ◌∙◌, ◌∷◌, [], arith, rules, length, ap, sym, get_or, length-append}
 use Rattle.osbase.specs.declared.limits.TheConstants.{CORES}
 use Rattle.osmail.specs.Mail.{place_of, waiting_in}
 use Rattle.osmail.proofs.Counts.{counted-set, read-at, waiting-most}

@@ -1,4 +1,4 @@
-use Rattle.std.proofs.Common.{◌≡◌, ◌<◌, ◌≤◌, ◌+◌, ◌-◌, ◌∙◌, [], Some, arith, rules, length, ap, sym, get_or, length-drop}
+use Rattle.std.proofs.Common.{◌≡◌, ◌-◌, ◌∙◌, arith, rules, length, ap, sym, get_or, length-drop}
 use Rattle.std.proofs.lemmas.Option.{slice_get_within}
 use Rattle.osbase.specs.declared.limits.TheConstants.{CORES}
 use Rattle.osmail.specs.Mail.{place_of, waiting_in}

@@ -1,4 +1,4 @@
-use Rattle.std.proofs.Common.{◌≡◌, ◌≤◌, ◌+◌, ◌∷◌, ◌++◌, List, [], length, length-append, subst, sym, ap, refl, arith}
+use Rattle.std.proofs.Common.{◌≡◌, ◌∷◌, ◌++◌, List, [], length, length-append, subst, sym, ap, arith}
 use Rattle.osbase.specs.declared.messages.Envelope.{Envelope}
 use Rattle.osmail.specs.Mailboxes.{AreNumbered, IsNext, MailboxState}
 use Rattle.osmail.proofs.Steps.{numbered-push}
