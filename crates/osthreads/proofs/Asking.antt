@@ -1,7 +1,8 @@
 -- What a worker's turns ask, and which items the answers result in.
-use Rattle.std.proofs.Common.{◌≡◌, ℕ, ◌<◌, Bool, true, false, cond, nat_le, nat_lt, Option, Some, None, is_some, IsSome, IsTrue, List, [], ◌∷◌, ◌++◌, length, map, inl, inr, refl, subst, ◌∙◌, arith, unwrap_or, sum_by}
+use Rattle.std.proofs.Common.{◌≡◌, ◌⊎◌, ℕ, ◌<◌, Bool, true, false, cond, nat_le, nat_lt, Option, Some, None, is_some, IsSome, IsTrue, List, [], ◌∷◌, ◌++◌, length, map, inl, inr, refl, sym, ap, subst, ◌∙◌, arith, unwrap_or, sum_by}
 use Rattle.std.specs.List.{list_all}
 use Rattle.std.proofs.lemmas.Bool.{and_parts, eqb-true, ltb-true}
+use Rattle.std.proofs.lemmas.Option.{same_Some}
 use Rattle.osbase.specs.declared.statuses.Status.{Status}
 use Rattle.osbase.specs.declared.statuses.Status.TheVariants.{EOk, EOsId, EOsState}
 use Rattle.osbase.specs.declared.references.CoreId.{CoreId}
@@ -9,13 +10,14 @@ use Rattle.osbase.specs.declared.items.CoreMode.{CoreMode}
 use Rattle.osbase.specs.declared.items.CoreMode.TheVariants.{Named, DontCare}
 use Rattle.osbase.specs.declared.items.Item.{Item}
 use Rattle.osbase.specs.declared.items.Stimulus.{Stimulus}
+use Rattle.osbase.specs.declared.turns.Choice.{Choice}
 use Rattle.osbase.specs.History.{same_core}
 use Rattle.osbase.specs.Sets.{has_core}
 use Rattle.osplan.specs.declared.plans.Plan.{Plan}
 use Rattle.osplan.specs.declared.plans.Core.{Core}
 use Rattle.osplan.specs.Limits.{are_alarms_within, are_counters_within, are_tables_within, alarm_sizes, ceiling_of, core_sizes, counter_sizes, is_alarm_known, is_ceiling, is_core_known, is_core_mode, is_core_within, is_table_known, is_task_known, is_task_within, is_within_limits, jobs_of, table_sizes, task_sizes}
 use Rattle.osplan.specs.Objects.{posted_at_once}
-use Rattle.osplan.specs.View.{core_of, counter_in, is_configured, no_core, view_of}
+use Rattle.osplan.specs.View.{View, core_of, counter_in, is_configured, no_core, view_of}
 use Rattle.osplan.proofs.Tests.{find-holds, find-passes}
 use Rattle.osplan.proofs.Within.{between, limit-parts}
 use Rattle.osstate.proofs.Begun.{is_some-core_of}
@@ -23,6 +25,8 @@ use Rattle.osstate.specs.State.{KernelState}
 use Rattle.oskernel.specs.Admission.{takes_in}
 use Rattle.oskernel.specs.declared.wants.Want.{Want}
 use Rattle.oskernel.specs.declared.wants.Watch.{Watch}
+use Rattle.oskernel.specs.Step.{outbox_size}
+use Rattle.oskernel.specs.Wants.{want_in, watch_in}
 use Rattle.oskernel.proofs.Stages.{is_mail}
 use Rattle.osseat.specs.Histories.{IsLegal, IsLegalFrom, entry}
 use Rattle.osseat.specs.Seats.{Extends, Held}
@@ -34,10 +38,14 @@ use Rattle.osboard.specs.declared.calls.BoardReply.TheVariants.{Started, Acknowl
 use Rattle.osboard.specs.Boards.{BoardEntry, IsMode, board_after, board_reply, first_board, one_board, start_answer}
 use Rattle.osturn.specs.declared.asks.Ask.{Ask}
 use Rattle.osturn.specs.declared.asks.Ask.TheVariants.{OfBoard, OfSpins, Oldest, StartUnknown, TakeStimulus}
+use Rattle.osturn.specs.declared.asks.Answer.{Answer}
 use Rattle.osturn.specs.declared.asks.Answer.TheVariants.{Replied, Unasked}
-use Rattle.osturn.specs.Asking.{look_asked, named_by, no_calls, own_asked, starting, told_by}
+use Rattle.osturn.specs.Asking.{asked_by, look_asked, named_by, no_calls, own_asked, starting, told_by}
 use Rattle.osturn.proofs.Leading.{halted-item, is-item, passing-item}
 use Rattle.osthreads.specs.Calling.{ChangesBoard, HasPlace, LoadsBoard, item_of_call}
+use Rattle.osthreads.specs.declared.turns.Turned.{Turned}
+use Rattle.osthreads.specs.declared.turns.Turned.TheVariants.{Took, Nothing, Refused}
+use Rattle.osthreads.specs.Working.{IsFruitless, IsStuck, MayAnswer, UnlessTook, WaitsForRoom}
 
 -- ---- replies
 
@@ -51,28 +59,70 @@ replied-by old new call reply made =
     legal-last (first_board old.place.plan.about) (old.seen ++ made.between) (entry old.core call reply)
     (subst (λ (es : List BoardEntry). IsLegal one_board old.place.plan.about es) made.seen made.legal)
 
--- A call that changes the board results in an item that the core takes if it takes the one that was expected.
+-- A call that changes the board results in an item that the core takes exactly if it takes the one that was expected.
 pub record ResultsIn (id : CoreId) (watch : Watch) (call : BoardCall) (t : BoardState) : Type 0 where
   pub item : Item
   pub names : named_by id watch (OfBoard call) (Replied (board_reply id call t)) ≡ Some item
   pub no_mail : is_mail item ≡ false
-  pub taken : (s : KernelState) → takes_in 64 s (item_of_call call) ≡ true → takes_in 64 s item ≡ true
+  pub same : (s : KernelState) → takes_in 64 s item ≡ takes_in 64 s (item_of_call call)
 
 pub result-of : (id : CoreId) (watch : Watch) (call : BoardCall) (t : BoardState) → ChangesBoard call → ResultsIn id watch call t
 result-of id watch (Start k) t changes = record {
   item = Item.Began k (start_answer t.view k);
   names = refl;
   no_mail = refl;
-  taken = λ s may. by s may (has_core t.view.started k);
+  same = λ s. by s (has_core t.view.started k);
 }
   where
-    by : (s : KernelState) → takes_in 64 s (Item.Began k EOk) ≡ true → (b : Bool) → takes_in 64 s (Item.Began k (cond b EOsState EOk)) ≡ true
-    by s may true = may
-    by s may false = may
-result-of id watch (Enter mode) t changes = record { item = Item.Entered; names = refl; no_mail = refl; taken = λ s may. may }
-result-of id watch MakeReady t changes = record { item = Item.Readied; names = refl; no_mail = refl; taken = λ s may. may }
-result-of id watch Drain t changes = record { item = Item.Drained; names = refl; no_mail = refl; taken = λ s may. may }
+    by : (s : KernelState) (b : Bool) → takes_in 64 s (Item.Began k (cond b EOsState EOk)) ≡ takes_in 64 s (Item.Began k EOk)
+    by s true = refl
+    by s false = refl
+result-of id watch (Enter mode) t changes = record { item = Item.Entered; names = refl; no_mail = refl; same = λ s. refl }
+result-of id watch MakeReady t changes = record { item = Item.Readied; names = refl; no_mail = refl; same = λ s. refl }
+result-of id watch Drain t changes = record { item = Item.Drained; names = refl; no_mail = refl; same = λ s. refl }
 result-of id watch call t changes = absurd changes
+
+-- The one item that the answer results in is one that the core does not take.
+pub refused-item : (id : CoreId) (k : KernelState) (ask : Ask) (answer : Answer) (i : Item) → named_by id (watch_in k) ask answer ≡ Some i → takes_in outbox_size k i ≡ false → IsFruitless id k ask answer
+refused-item id k ask answer i names not_this item is = subst (λ (j : Item). takes_in outbox_size k j ≡ false) (same_Some i item (sym names ∙ is)) not_this
+
+-- Whatever the board answers to a call that changes it, the core takes no item then, if it does not take the one that was expected.
+pub call-fruitless : (id : CoreId) (k : KernelState) (call : BoardCall) → ChangesBoard call → takes_in outbox_size k (item_of_call call) ≡ false → (answer : Answer) → MayAnswer id (OfBoard call) answer → IsFruitless id k (OfBoard call) answer
+call-fruitless id k call changes not_this answer may =
+    let results = result-of id (watch_in k) call may.0 changes in
+    subst (IsFruitless id k (OfBoard call)) (sym may.1)
+    (refused-item id k (OfBoard call) (Replied (board_reply id call may.0)) results.item results.names (results.same k ∙ not_this))
+
+-- ---- turns that changed nothing
+
+pub unless-weaker : {P Q : Type 0} (turned : Turned) → (P → Q) → UnlessTook turned P → UnlessTook turned Q
+unless-weaker Took so was = tt
+unless-weaker Nothing so was = so was
+unless-weaker (Refused from e) so was = so was
+
+-- The core's own turn asks this alone.
+pub stuck-by : (v : View) (k : KernelState) (next : Option Stimulus) (ask : Ask) → asked_by v (want_in k) (watch_in k) next Choice.Own ≡ Some ask → WaitsForRoom ask ⊎ ((answer : Answer) → MayAnswer v.core ask answer → IsFruitless v.core k ask answer) → IsStuck v k next
+stuck-by v k next ask asks none other e = subst (λ (a : Ask). WaitsForRoom a ⊎ ((answer : Answer) → MayAnswer v.core a answer → IsFruitless v.core k a answer)) (same_Some ask other (sym asks ∙ e)) none
+
+module _ (asked_plan plan : Plan) (id : CoreId) (k : KernelState) (next : Option Stimulus) (asks : Option Ask) where
+  -- it asks nothing
+  pub none-asked : asked_plan ≡ plan → asks ≡ asked_by (view_of asked_plan id) (want_in k) (watch_in k) next Choice.Own → ((ask : Ask) → asks ≡ Some ask → ⊥) → IsStuck (view_of plan id) k next
+  none-asked same is none ask e = absurd (none ask (is ∙ ap (λ (p : Plan). asked_by (view_of p id) (want_in k) (watch_in k) next Choice.Own) same ∙ e))
+
+  -- or this, which results in nothing
+  pub one-asked : (ask : Ask) (turned : Turned) → asked_plan ≡ plan → asks ≡ asked_by (view_of asked_plan id) (want_in k) (watch_in k) next Choice.Own → asks ≡ Some ask
+      → UnlessTook turned (WaitsForRoom ask ⊎ ((answer : Answer) → MayAnswer id ask answer → IsFruitless id k ask answer)) → UnlessTook turned (IsStuck (view_of plan id) k next)
+  one-asked ask turned same is this =
+      unless-weaker turned (stuck-by (view_of plan id) k next ask (sym (is ∙ ap (λ (p : Plan). asked_by (view_of p id) (want_in k) (watch_in k) next Choice.Own) same) ∙ this))
+
+-- No answer but that there was no call results in an item.
+pub start-fruitless : (id : CoreId) (k : KernelState) (c : CoreId) → IsFruitless id k (StartUnknown c) Unasked → (answer : Answer) → MayAnswer id (StartUnknown c) answer → IsFruitless id k (StartUnknown c) answer
+start-fruitless id k c none Unasked may = none
+start-fruitless id k c none answer may = λ item names. cc
+
+pub stimulus-fruitless : (id : CoreId) (k : KernelState) (s : Stimulus) → IsFruitless id k (TakeStimulus s) Unasked → (answer : Answer) → MayAnswer id (TakeStimulus s) answer → IsFruitless id k (TakeStimulus s) answer
+stimulus-fruitless id k s none Unasked may = none
+stimulus-fruitless id k s none answer may = λ item names. cc
 
 -- ---- items that are no mail
 

@@ -1,7 +1,8 @@
 -- What the workers of all cores gave back, gathered: their reports are sound.
 use Rattle.std.proofs.lemmas.List.{take_more}
 use Rattle.std.proofs.Common.{⊎_elim, ◌≡◌, ◌<◌, ◌+◌, ℕ, take, filter, cond, Bool, true, false, Option, None, is_some, IsSome, IsTrue, List, [], ◌∷◌, ◌++◌, map, length, get_or, refl, sym, ap, subst, ◌∙◌, append-nil}
-use Rattle.std.specs.List.{AllByRecursion}
+use Rattle.std.specs.List.{AllByRecursion, list_all, list_any}
+use Rattle.std.proofs.lemmas.Bool.{and_parts, false≢true, or_parts}
 use Rattle.osbase.specs.declared.references.CoreId.{CoreId}
 use Rattle.osbase.specs.declared.messages.Envelope.{Envelope}
 use Rattle.osbase.specs.declared.turns.Report.{Report}
@@ -13,7 +14,8 @@ use Rattle.osplan.specs.Stimuli.{AreKnown}
 use Rattle.osplan.specs.View.{core_of}
 use Rattle.osseat.specs.declared.histories.Plan.{Plan as SeatPlan}
 use Rattle.osseat.specs.Runs.{AreIdle, AreLogged, IsOneRun}
-use Rattle.osseat.specs.Seats.{AllApart, AllAt, Held, IsOneHistory, Place, cores_of, fresh}
+use Rattle.osseat.specs.Histories.{IsLegal, calls_by}
+use Rattle.osseat.specs.Seats.{AllApart, AllAt, AllStand, Held, IsOneHistory, Place, cores_of, fresh}
 use Rattle.osseat.proofs.Runs.{one_run}
 use Rattle.osboard.specs.declared.calls.BoardCall.{BoardCall}
 use Rattle.osboard.specs.declared.calls.BoardReply.{BoardReply}
@@ -24,9 +26,10 @@ use Rattle.osturn.specs.Sound.{AreSound}
 use Rattle.osthreads.specs.declared.ending.Ending.{Ending}
 use Rattle.osplan.specs.declared.plans.Plan.{Plan}
 use Rattle.osbase.specs.declared.turns.CoreStimuli.{CoreStimuli}
-use Rattle.osthreads.specs.Runs.{AreDelivered, AreRuns, IsDelivered, IsOneBoard, IsOneCore, new_board}
-use Rattle.osthreads.specs.Threads.{AreEnded, AreKept, AreReady, AreSettled, IsEnded, IsSettled}
-use Rattle.osthreads.specs.Working.{Refusal, refusal_at, refused_from}
+use Rattle.osthreads.specs.Runs.{AreDelivered, AreFinished, AreRuns, IsDelivered, IsOneBoard, IsOneCore, new_board}
+use Rattle.osthreads.specs.Threads.{AreAllFinished, AreEnded, AreReady, AreSettled, IsEnded, IsSettled}
+use Rattle.osthreads.specs.declared.turns.Stop.{Stop}
+use Rattle.osthreads.specs.Working.{IsFinished, Refusal, is_finished_by, is_kept_by, is_short_of_memory, refusal_at, refused_from}
 use Rattle.osthreads.proofs.Senders.{ids-apart}
 use Rattle.osthreads.proofs.Threaded.{runs-sound}
 
@@ -67,46 +70,64 @@ looks-idle s e look answered = ⊎_elim (λ p. ap (λ (k : BoardCall). board_aft
 
 -- ---- endings
 
-module _ (plan : Plan) (stimuli : List CoreStimuli) (board : Place CoreId) where
+no-refusal : (stop : Stop) → is_finished_by stop ≡ true → refusal_at stop ≡ None
+no-refusal (Stop.Refused from e) finished = absurd (false≢true finished)
+no-refusal stop finished = refl
+
+-- Workers that stopped neither for memory nor for an envelope had ended or stalled.
+pub all_finished : (es : List Ending) → list_any (λ (e : Ending). is_short_of_memory e.stop) es ≡ false → list_all (λ (e : Ending). is_kept_by e.stop) es ≡ true → AreAllFinished es
+all_finished [] none kept = tt
+all_finished (e ∷ es) none kept =
+    let others = or_parts (is_short_of_memory e.stop) _ none in
+    let rest = and_parts (is_kept_by e.stop) _ kept in
+    (by e.stop others.0 rest.0, all_finished es others.1 rest.1)
+  where
+    by : (stop : Stop) → is_short_of_memory stop ≡ false → is_kept_by stop ≡ true → is_finished_by stop ≡ true
+    by Stop.Ended none kept = refl
+    by Stop.Stalled none kept = refl
+    by Stop.NoMemory none kept = absurd (false≢true (sym none))
+    by (Stop.Refused from e) none kept = absurd (false≢true kept)
+
+module _ (plan : Plan) (stimuli : List CoreStimuli) (turns : ℕ) (board : Place CoreId) where
   -- one core more, and its ending
-  pub ended-push : (ids : List CoreId) (es : List Ending) (id : CoreId) (e : Ending) → AreEnded plan stimuli board ids es → IsEnded plan stimuli board id e → AreEnded plan stimuli board (ids ++ id ∷ []) (es ++ e ∷ [])
+  pub ended-push : (ids : List CoreId) (es : List Ending) (id : CoreId) (e : Ending) → AreEnded plan stimuli turns board ids es → IsEnded plan stimuli turns board id e → AreEnded plan stimuli turns board (ids ++ id ∷ []) (es ++ e ∷ [])
   ended-push [] [] id e ended one = (one, tt)
   ended-push [] (x ∷ es) id e ended one = absurd ended
   ended-push (i ∷ is) [] id e ended one = absurd ended
   ended-push (i ∷ is) (x ∷ es) id e ended one = (ended.0, ended-push is es id e ended.1 one)
 
-  reports-cores : (ids : List CoreId) (es : List Ending) → AreEnded plan stimuli board ids es → map (λ (r : Report). r.core) (reports_of es) ≡ ids
+  reports-cores : (ids : List CoreId) (es : List Ending) → AreEnded plan stimuli turns board ids es → map (λ (r : Report). r.core) (reports_of es) ≡ ids
   reports-cores [] [] ended = refl
   reports-cores [] (e ∷ es) ended = absurd ended
   reports-cores (i ∷ is) [] ended = absurd ended
   reports-cores (i ∷ is) (e ∷ es) ended =
       ap (λ (c : CoreId). c ∷ map (λ (r : Report). r.core) (reports_of es)) ended.0.core ∙ ap (λ (cs : List CoreId). i ∷ cs) (reports-cores is es ended.1)
 
-  pub seats-cores : (ids : List CoreId) (es : List Ending) → AreEnded plan stimuli board ids es → cores_of (seats_of es) ≡ ids
+  pub seats-cores : (ids : List CoreId) (es : List Ending) → AreEnded plan stimuli turns board ids es → cores_of (seats_of es) ≡ ids
   seats-cores [] [] ended = refl
   seats-cores [] (e ∷ es) ended = absurd ended
   seats-cores (i ∷ is) [] ended = absurd ended
   seats-cores (i ∷ is) (e ∷ es) ended = ap (λ (c : CoreId). c ∷ cores_of (seats_of es)) ended.0.seat ∙ ap (λ (cs : List CoreId). i ∷ cs) (seats-cores is es ended.1)
 
-  pub seats-placed : (ids : List CoreId) (es : List Ending) → AreEnded plan stimuli board ids es → AllAt board (seats_of es)
+  pub seats-placed : (ids : List CoreId) (es : List Ending) → AreEnded plan stimuli turns board ids es → AllAt board (seats_of es)
   seats-placed [] [] ended = tt
   seats-placed [] (e ∷ es) ended = absurd ended
   seats-placed (i ∷ is) [] ended = absurd ended
   seats-placed (i ∷ is) (e ∷ es) ended = (ended.0.placed, seats-placed is es ended.1)
 
-  abbrev logs_of : (ids : List CoreId) (es : List Ending) → AreEnded plan stimuli board ids es → List (List BoardEntry)
+  abbrev logs_of : (ids : List CoreId) (es : List Ending) → AreEnded plan stimuli turns board ids es → List (List BoardEntry)
   logs_of [] [] ended = []
   logs_of [] (e ∷ es) ended = absurd ended
   logs_of (i ∷ is) [] ended = absurd ended
   logs_of (i ∷ is) (e ∷ es) ended = ended.0.log ∷ logs_of is es ended.1
 
-  are-runs : (ids : List CoreId) (es : List Ending) (ended : AreEnded plan stimuli board ids es) → AreRuns plan stimuli (reports_of es) (logs_of ids es ended)
+  are-runs : (ids : List CoreId) (es : List Ending) (ended : AreEnded plan stimuli turns board ids es) → AreRuns plan stimuli (reports_of es) (logs_of ids es ended)
   are-runs [] [] ended = tt
   are-runs [] (e ∷ es) ended = absurd ended
   are-runs (i ∷ is) [] ended = absurd ended
   are-runs (i ∷ is) (e ∷ es) ended = (ended.0.is_run, are-runs is es ended.1)
 
-  are-logged : (ids : List CoreId) (es : List Ending) (ended : AreEnded plan stimuli board ids es) → AreLogged IsLook (seats_of es) (logs_of ids es ended)
+  are-logged : (ids : List CoreId) (es : List Ending) (ended : AreEnded plan stimuli turns board ids es) → AreLogged IsLook (seats_of es) (logs_of ids es ended)
   are-logged [] [] ended = tt
   are-logged [] (e ∷ es) ended = absurd ended
   are-logged (i ∷ is) [] ended = absurd ended
@@ -120,16 +141,16 @@ module _ (plan : Plan) (stimuli : List CoreStimuli) (board : Place CoreId) where
     sent : (to : CoreId) → sent_to e.steps.items to ≡ posted to (past e)
     taken : (from : CoreId) → taken_from e.steps.items from ≡ received from (past e)
 
-  each-flows : (ids : List CoreId) (es : List Ending) → AreEnded plan stimuli board ids es → AreKept es → AllByRecursion Flows es
-  each-flows [] [] ended kept = tt
-  each-flows [] (e ∷ es) ended kept = absurd ended
-  each-flows (i ∷ is) [] ended kept = absurd ended
-  each-flows (i ∷ is) (e ∷ es) ended kept = (
+  each-flows : (ids : List CoreId) (es : List Ending) → AreEnded plan stimuli turns board ids es → AreAllFinished es → AllByRecursion Flows es
+  each-flows [] [] ended finished = tt
+  each-flows [] (e ∷ es) ended finished = absurd ended
+  each-flows (i ∷ is) [] ended finished = absurd ended
+  each-flows (i ∷ is) (e ∷ es) ended finished = (
     record {
       sent = ended.0.mail.sent_is;
-      taken = λ from. ended.0.mail.taken_is from ∙ ap (λ (refusal : Refusal). received from (past e) ++ refused_from refusal from) kept.0 ∙ append-nil (received from (past e));
+      taken = λ from. ended.0.mail.taken_is from ∙ ap (λ (refusal : Refusal). received from (past e) ++ refused_from refusal from) (no-refusal e.stop finished.0) ∙ append-nil (received from (past e));
     },
-    each-flows is es ended.1 kept.1,
+    each-flows is es ended.1 finished.1,
   )
 
   delivered : (a b : Ending) → Flows a → Flows b → IsSettled a b → IsDelivered plan a.report b.report
@@ -145,10 +166,10 @@ module _ (plan : Plan) (stimuli : List CoreStimuli) (board : Place CoreId) where
 
   -- Where all seats show one history, what was taken is what was sent but for what is left, and each envelope became an item, the
   -- reports are sound.
-  pub all-sound : IsTrue (is_within_limits plan) → AreKnown plan stimuli → (es : List Ending) → (board.plan ≡ new_board plan) → AreEnded plan stimuli board (ids_of plan) es → AreKept es → AreSettled es → IsOneHistory one_board board.plan (seats_of es) → AreSound plan stimuli (reports_of es)
-  all-sound limits known es same ended kept settled one =
+  pub all-sound : IsTrue (is_within_limits plan) → AreKnown plan stimuli → (es : List Ending) → (board.plan ≡ new_board plan) → AreEnded plan stimuli turns board (ids_of plan) es → AreAllFinished es → AreSettled es → IsOneHistory one_board board.plan (seats_of es) → AreSound plan stimuli (reports_of es)
+  all-sound limits known es same ended finished settled one =
       let ids = ids_of plan in
-      let flow = each-flows ids es ended kept in
+      let flow = each-flows ids es ended finished in
       runs-sound plan stimuli limits known (reports_of es) (logs_of ids es ended) (reports-cores ids es ended) (are-runs ids es ended)
       (delivered-all es flow es flow settled)
       (subst (λ (p : SeatPlan CoreId). IsOneRun one_board p (logs_of ids es ended)) same
@@ -158,9 +179,29 @@ module _ (plan : Plan) (stimuli : List CoreStimuli) (board : Place CoreId) where
       looks-idle (are-logged ids es ended) one))
 
   -- So they are where the cores are those of the board's seats.
-  pub seats-sound : IsTrue (is_within_limits plan) → AreKnown plan stimuli → (ss : List Seat) (es : List Ending) → cores_of ss ≡ ids_of plan → (board.plan ≡ new_board plan) → AreEnded plan stimuli board (cores_of ss) es → AreKept es → AreSettled es → IsOneHistory one_board board.plan (seats_of es) → AreSound plan stimuli (reports_of es)
-  seats-sound limits known ss es cores same ended kept settled one =
-      all-sound limits known es same (subst (λ (ids : List CoreId). AreEnded plan stimuli board ids es) cores ended) kept settled one
+  pub seats-sound : IsTrue (is_within_limits plan) → AreKnown plan stimuli → (ss : List Seat) (es : List Ending) → cores_of ss ≡ ids_of plan → (board.plan ≡ new_board plan) → AreEnded plan stimuli turns board (cores_of ss) es → AreAllFinished es → AreSettled es → IsOneHistory one_board board.plan (seats_of es) → AreSound plan stimuli (reports_of es)
+  seats-sound limits known ss es cores same ended finished settled one =
+      all-sound limits known es same (subst (λ (ids : List CoreId). AreEnded plan stimuli turns board ids es) cores ended) finished settled one
+
+  -- Each worker's calls are those of its core in the one history.
+  each-finished : (history : List BoardEntry) (ids : List CoreId) (es : List Ending) → AreEnded plan stimuli turns board ids es → AreAllFinished es → AllStand history (seats_of es) → AllByRecursion (λ (r : Report). IsFinished plan stimuli turns r (calls_by r.core history)) (reports_of es)
+  each-finished history [] [] ended finished stand = tt
+  each-finished history [] (e ∷ es) ended finished stand = absurd ended
+  each-finished history (i ∷ is) [] ended finished stand = absurd ended
+  each-finished history (i ∷ is) (e ∷ es) ended finished stand = (
+    subst (IsFinished plan stimuli turns e.report)
+        (sym (ap (λ (c : CoreId). calls_by c history) (ended.0.core ∙ sym ended.0.seat) ∙ stand.0.1))
+        (ended.0.finished finished.0),
+    each-finished history is es ended.1 finished.1 stand.1,
+  )
+
+  -- So their cores have ended, or they stalled.
+  pub seats-finished : (ids : List CoreId) (es : List Ending) → (board.plan ≡ new_board plan) → AreEnded plan stimuli turns board ids es → AreAllFinished es → IsOneHistory one_board board.plan (seats_of es) → AreFinished plan stimuli turns (reports_of es)
+  seats-finished ids es same ended finished one = record {
+    history = one.log;
+    legal = subst (λ (p : SeatPlan CoreId). IsLegal one_board p.about one.log) same one.legal;
+    finished = each-finished one.log ids es ended finished one.stand;
+  }
 
 -- ---- seats
 

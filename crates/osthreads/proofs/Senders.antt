@@ -1,5 +1,5 @@
 -- A core receives from configured cores only, and those that are not configured have no list.
-use Rattle.std.proofs.Common.{◌≡◌, ◌<◌, ◌≤◌, ◌+◌, ◌==◌, ◌||◌, ◌&&◌, ℕ, zero, suc, Bool, true, false, not, cond, nat_lt, Option, Some, None, is_some, IsTrue, List, [], ◌∷◌, ◌++◌, length, map, filter, refl, sym, ap, subst, ◌∙◌, arith, get_or}
+use Rattle.std.proofs.Common.{◌≡◌, ◌<◌, ◌≤◌, ◌+◌, ◌==◌, ◌||◌, ◌&&◌, ℕ, zero, suc, Bool, true, false, not, cond, nat_lt, Option, Some, None, is_some, IsSome, IsTrue, List, [], ◌∷◌, ◌++◌, length, map, filter, refl, sym, ap, subst, ◌∙◌, arith, get_or}
 use Rattle.std.specs.List.{list_all, slice_get}
 use Rattle.std.proofs.lemmas.Bool.{and_parts, eqb-true, eq-eqb, false≢true, ltb-true, ne_eqb, or_left, or_right, or_parts, true≢false}
 use Rattle.std.proofs.lemmas.Bool.Decides.{nat_tests}
@@ -110,6 +110,14 @@ unlisted-out plan limits id out = by (is_some (core_of plan id)) refl
 
 pub unlisted-unseen : (plan : Plan) → IsTrue (is_within_limits plan) → (id other : CoreId) → has (ids_of plan) id ≡ false → is_configured (view_of plan other) id ≡ false
 unlisted-unseen plan limits id other out = sym (is_some-core_of id plan.cores) ∙ unlisted-out plan limits id out
+
+-- there is one, if a core is configured
+pub someone : (plan : Plan) → IsTrue (is_within_limits plan) → (id : CoreId) → IsSome (core_of plan id) → 0 < length (ids_of plan)
+someone plan limits id there = by (ids_of plan) (unlisted-out plan limits id)
+  where
+    by : (ids : List CoreId) → (has ids id ≡ false → is_some (core_of plan id) ≡ false) → 0 < length ids
+    by [] none = absurd (true≢false (sym there ∙ none refl))
+    by (c ∷ cs) none = omega arith
 
 -- no core stands twice among them
 has-none : (p : CoreId → Bool) (first count : ℕ) (c : CoreId) → c.number < first → has (filter p (map (λ (n : ℕ). let d : CoreId = record { number = n } in d) (numbers_from first count))) c ≡ false

@@ -1,26 +1,36 @@
 -- A worker's shift: how it begins, that it goes on, and what it hands back.
-use Rattle.std.proofs.Common.{◌≡◌, ℕ, zero, suc, ◌+◌, ◌*◌, ◌/◌, ◌<◌, ◌≤◌, Bool, true, false, if◌then◌else◌, nat_lt, Some, None, List, [], ◌∷◌, ◌++◌, length, refl, sym, ap, subst, ◌∙◌, arith, append-nil}
-use Rattle.std.proofs.lemmas.Bool.{false≢true, ltb-true}
+use Rattle.std.proofs.Common.{⊎_elim, ◌≡◌, ℕ, zero, suc, ◌+◌, ◌*◌, ◌/◌, ◌<◌, ◌≤◌, Bool, true, false, if◌then◌else◌, nat_lt, Some, None, List, [], ◌∷◌, ◌++◌, length, refl, sym, ap, subst, ◌∙◌, arith, append-nil}
+use Rattle.std.specs.List.{slice_get}
+use Rattle.std.proofs.lemmas.Bool.{cases_eq, false≢true, ltb-true}
 use Rattle.std.proofs.lemmas.Bool.Decides.{nat_tests}
 use Rattle.std.proofs.Math.Nat.{div-lt_iff_lt-mul}
 use Rattle.osbase.specs.declared.references.CoreId.{CoreId}
 use Rattle.osbase.specs.declared.turns.CoreStimuli.{CoreStimuli}
+use Rattle.osbase.specs.declared.turns.Report.{Report}
+use Rattle.osbase.specs.History.{first_phase}
 use Rattle.osbase.specs.Runs.{stimuli_of}
 use Rattle.osplan.specs.declared.plans.Plan.{Plan}
-use Rattle.osplan.specs.View.{view_of}
-use Rattle.osstate.specs.State.{state_of}
+use Rattle.osplan.specs.View.{View, view_of}
+use Rattle.osstate.specs.State.{KernelState, state_of}
 use Rattle.osboard.specs.Boards.{BoardEntry}
 use Rattle.osmail.specs.Ends.{Streams}
 use Rattle.osturn.specs.declared.seats.Seat.{Seat}
-use Rattle.osturn.specs.Fits.{ids_of}
-use Rattle.osturn.specs.Seats.{report_of}
+use Rattle.osturn.specs.Fits.{history_by, ids_of, stimuli_in}
+use Rattle.osturn.specs.Seats.{is_ended_phase, report_of}
 use Rattle.osturn.specs.Sound.{IsOwn}
 use Rattle.osturn.proofs.Seated.{seated-first, seated-own}
 use Rattle.osthreads.specs.declared.run.Run.{Run}
 use Rattle.osthreads.specs.declared.turns.Stop.{Stop}
 use Rattle.osthreads.specs.declared.worker.Shift.{Shift}
 use Rattle.osthreads.specs.declared.worker.Worked.{Worked}
-use Rattle.osthreads.specs.Working.{HasDone, HasWorked, IsGoing, IsStopped, IsWorked, core_count, loads_at, next_at, refusal_at, turns_of}
+use Rattle.osthreads.specs.declared.worker.Worker.{Worker}
+use Rattle.osthreads.specs.Working.{HasDone, HasNoWork, HasWorked, IsFinished, IsGoing, IsStopped, IsStuck, IsWorked, core_count, is_ended_by, is_finished_by, loads_at, next_at, refusal_at, since_own, turns_of}
+use Rattle.osthreads.proofs.Working.{next-left}
+
+-- A core has not ended at first.
+pub first-running : (is_master : Bool) → is_ended_phase (first_phase is_master) ≡ false
+first-running true = refl
+first-running false = refl
 
 -- A worker that has done nothing.
 pub begun : (plan : Plan) (stimuli : List CoreStimuli) (core : Seat) (id : CoreId) (mine : List BoardEntry) (sent taken : Streams) → core.id ≡ id → core.kernel ≡ state_of (view_of plan id) [] → core.stimuli.now ≡ stimuli_of stimuli id → core.items.items ≡ [] → core.marks.items ≡ []
@@ -58,6 +68,36 @@ one-more cores at fruitless loads place count = by (nat_lt at cores) refl
         let more : (loads + 0) + 1 ≡ suc loads = omega arith in
         rw more (omega (arith, last, place, count))
 
+-- How long ago the core's own turn was, at most a round; with one turn more it is one more, unless that turn was it.
+pub own-before : (cores at : ℕ) → 0 < since_own cores at
+own-before cores at = by (nat_lt at cores) refl
+  where
+    by : (b : Bool) → nat_lt at cores ≡ b → 0 < (if b then at + 2 else 1)
+    by true e = omega arith
+    by false e = omega arith
+
+own-within : (cores at : ℕ) → at ≤ cores → since_own cores at ≤ cores + 1
+own-within cores at place = by (nat_lt at cores) refl
+  where
+    by : (b : Bool) → nat_lt at cores ≡ b → (if b then at + 2 else 1) ≤ cores + 1
+    by true e = let before : at < cores = ltb-true at cores e in omega arith
+    by false e = omega arith
+
+own-next : (cores at : ℕ) → 0 < cores → at ≤ cores → (at + 1 ≡ cores → ⊥) → since_own cores (next_at cores at) ≡ since_own cores at + 1
+own-next cores at some place other = by (nat_lt at cores) refl
+  where
+    first : (b : Bool) → nat_lt 0 cores ≡ b → (if b then 0 + 2 else 1) ≡ 1 + 1
+    first true e = refl
+    first false e = let none : cores ≤ 0 = grind (arith, nat_tests, e) in absurd (omega (arith, some, none))
+
+    later : at < cores → (b : Bool) → nat_lt (at + 1) cores ≡ b → (if b then (at + 1) + 2 else 1) ≡ (at + 2) + 1
+    later before true e = omega arith
+    later before false e = let last : cores ≤ at + 1 = grind (arith, nat_tests, e) in absurd (other (omega (arith, before, last)))
+
+    by : (b : Bool) → nat_lt at cores ≡ b → since_own cores (if b then at + 1 else 0) ≡ (if b then at + 2 else 1) + 1
+    by true e = later (ltb-true at cores e) (nat_lt (at + 1) cores) refl
+    by false e = first (nat_lt 0 cores) refl
+
 -- So many whole rounds are in the turns.
 rounds : (cores n : ℕ) → turns_of cores n ≡ n * (cores + 1)
 rounds cores zero = omega arith
@@ -84,6 +124,23 @@ a-look cores at last = by (nat_lt at cores) refl
     by true e = let before : at < cores = ltb-true at cores e in absurd (omega (arith, last, before))
     by false e = refl
 
+-- A worker that did nothing in as many turns as were allowed.
+pub stopped-stalled : {M : Type 0} (sent taken : M → Streams) (stimuli : List CoreStimuli) (shift : Shift M) → IsGoing sent taken stimuli shift → shift.worker.run.now.turns ≤ shift.fruitless → IsStopped sent taken stimuli Stop.Stalled shift
+stopped-stalled sent taken stimuli shift going enough = record {
+  loads = going.loads;
+  worked = going.worked;
+  ended = going.running;
+  stalled = λ e. let count = going.count in let place = going.place in omega (arith, enough, count, place);
+  stuck = λ e some whole. going.stuck some (let own = own-within (core_count shift) shift.at going.place in omega (arith, own, whole, enough));
+}
+
+-- Its core is as it was, but for the room that it has.
+pub record IsStillAt {M : Type 0} (old new : Worker M) : Type 0 where
+  pub run : new.run ≡ old.run
+  pub id : new.core.id ≡ old.core.id
+  pub kernel : new.core.kernel ≡ old.core.kernel
+  pub left : new.core.stimuli ≡ old.core.stimuli
+
 -- A worker that goes on after a turn.
 module _ {M : Type 0} (sent taken : M → Streams) (stimuli : List CoreStimuli) (old new : Shift M) (same : new.worker.run.now ≡ old.worker.run.now) (moved : new.at ≡ next_at (core_count old) old.at) (place : old.at ≤ core_count old) where
   same-count : core_count new ≡ core_count old
@@ -92,27 +149,71 @@ module _ {M : Type 0} (sent taken : M → Streams) (stimuli : List CoreStimuli) 
   placed : new.at ≤ core_count new
   placed = rw (same-count, moved) (went-round (core_count old) old.at place)
 
-  pub went-took : new.fruitless ≡ 0 → HasWorked sent taken stimuli None 0 new.worker → IsGoing sent taken stimuli new
-  went-took none worked = record { loads = 0; worked = worked; count = omega (arith, none); place = placed }
-
-  pub went-nothing : new.fruitless ≡ old.fruitless + 1 → (loads : ℕ) → old.fruitless ≤ turns_of (core_count old) loads + old.at → HasWorked sent taken stimuli None ((loads + 0) + loads_at (core_count old) old.at) new.worker → IsGoing sent taken stimuli new
-  went-nothing one loads count worked = record {
-    loads = (loads + 0) + loads_at (core_count old) old.at;
+  pub went-took : new.fruitless ≡ 0 → is_ended_phase new.worker.core.kernel.progress.phase ≡ false → HasWorked sent taken stimuli None 0 new.worker → IsGoing sent taken stimuli new
+  went-took none running worked = record {
+    loads = 0;
     worked = worked;
-    count = rw (same-count, moved, one) (one-more (core_count old) old.at old.fruitless loads place count);
+    count = omega (arith, none);
     place = placed;
+    running = running;
+    stuck = λ some own. let before = own-before (core_count new) new.at in absurd (omega (arith, own, none, before));
   }
+
+  -- After a turn that changed nothing the core has as little work as before.
+  module _ (still : IsStillAt old.worker new.worker) (one : new.fruitless ≡ old.fruitless + 1) where
+    no-work : HasNoWork old.worker → HasNoWork new.worker
+    no-work none = rw (still.run, still.id, still.kernel, still.left) none
+
+    still-stuck : (0 < core_count old → since_own (core_count old) old.at ≤ old.fruitless → HasNoWork old.worker) → (old.at + 1 ≡ core_count old → HasNoWork old.worker) → 0 < core_count new → since_own (core_count new) new.at ≤ new.fruitless → HasNoWork new.worker
+    still-stuck before now some own = ⊎_elim
+        (λ here. no-work (now here))
+        (λ other.
+        let some_old : 0 < core_count old = subst (λ (n : ℕ). 0 < n) same-count some in
+        let own_new : since_own (core_count old) (next_at (core_count old) old.at) ≤ old.fruitless + 1 =
+        subst (λ (n : ℕ). since_own (core_count old) (next_at (core_count old) old.at) ≤ n) one
+        (subst (λ (at : ℕ). since_own (core_count old) at ≤ new.fruitless) moved (subst (λ (n : ℕ). since_own n new.at ≤ new.fruitless) same-count own)) in
+        let later = own-next (core_count old) old.at some_old place other in
+        no-work (before some_old (omega (arith, own_new, later))))
+        (cases_eq (old.at + 1) (core_count old))
+
+    pub went-nothing : (going : IsGoing sent taken stimuli old) → (old.at + 1 ≡ core_count old → HasNoWork old.worker) → HasWorked sent taken stimuli None ((going.loads + 0) + loads_at (core_count old) old.at) new.worker → IsGoing sent taken stimuli new
+    went-nothing going now worked = record {
+      loads = (going.loads + 0) + loads_at (core_count old) old.at;
+      worked = worked;
+      count = rw (same-count, moved, one) (one-more (core_count old) old.at old.fruitless going.loads place going.count);
+      place = placed;
+      running = ap (λ (k : KernelState). is_ended_phase k.progress.phase) still.kernel ∙ going.running;
+      stuck = still-stuck going.stuck now;
+    }
+
+-- A worker that stopped since its core had ended, or that stalled.
+pub worked-finished : {M : Type 0} (sent taken : M → Streams) (run : Run) (worked : Worked M) → IsWorked sent taken run worked → is_finished_by worked.stop ≡ true → IsFinished run.config.now run.stimuli.now run.turns worked.report worked.seat.mine
+worked-finished sent taken run worked is finished = record {
+  loads = is.loads;
+  calls = is.calls;
+  stalled = λ going. is.stalled (stalled-by worked.stop finished (sym is.ended ∙ going));
+}
+  where
+    stalled-by : (stop : Stop) → is_finished_by stop ≡ true → is_ended_by stop ≡ false → stop ≡ Stop.Stalled
+    stalled-by Stop.Ended finished going = absurd (false≢true (sym going))
+    stalled-by Stop.Stalled finished going = refl
+    stalled-by Stop.NoMemory finished going = absurd (false≢true finished)
+    stalled-by (Stop.Refused from e) finished going = absurd (false≢true finished)
 
 -- What a worker that stopped hands back.
 pub handed-back : {M : Type 0} (sent taken : M → Streams) (run : Run) (stop : Stop) (shift : Shift M) (worked : Worked M) → shift.worker.run.now ≡ run → run.cores.now ≡ ids_of run.config.now → IsStopped sent taken run.stimuli.now stop shift
-    → worked.report ≡ report_of shift.worker.core → worked.seat ≡ shift.worker.seat → worked.mail ≡ shift.worker.mail → worked.stop ≡ stop → IsWorked sent taken run worked
-handed-back {M} sent taken run stop shift worked same cores stopped report_is seat_is mail_is stop_is = record {
+    → 0 < length (ids_of run.config.now) → worked.report ≡ report_of shift.worker.core → worked.seat ≡ shift.worker.seat → worked.mail ≡ shift.worker.mail → worked.stop ≡ stop → IsWorked sent taken run worked
+handed-back {M} sent taken run stop shift worked same cores stopped some report_is seat_is mail_is stop_is = record {
   own = subst (IsOwn run.config.now) (sym report_is) (seated-own run.config.now run.stimuli.now core done.work.seated);
   fits = rw report_is done.work.fits;
   loads = stopped.loads;
   calls = rw (report_is, seat_is) done.calls;
   mail = rw (report_is, mail_is, stop_is) done.mail;
-  stalled = λ e. whole-rounds (length (ids_of run.config.now)) run.turns stopped.loads (rounds_left (stopped.stalled (sym stop_is ∙ e)));
+  ended = ap (λ (r : Report). r.ended) report_is ∙ stopped.ended ∙ ap is_ended_by (sym stop_is);
+  stalled = λ e. rw report_is (record {
+    rounds = whole-rounds (length (ids_of run.config.now)) run.turns stopped.loads (rounds_left (stopped.stalled (sym stop_is ∙ e)));
+    stuck = λ whole. no_work (sym stop_is ∙ e) whole;
+  });
 }
   where
     core : Seat
@@ -120,6 +221,20 @@ handed-back {M} sent taken run stop shift worked same cores stopped report_is se
 
     done : HasDone run.config.now run.stimuli.now core shift.worker.seat.mine (sent shift.worker.mail) (taken shift.worker.mail) (refusal_at stop) stopped.loads
     done = subst (λ (r : Run). HasDone r.config.now run.stimuli.now core shift.worker.seat.mine (sent shift.worker.mail) (taken shift.worker.mail) (refusal_at stop) stopped.loads) same stopped.worked
+
+    ids : core_count shift ≡ length (ids_of run.config.now)
+    ids = ap (λ (r : Run). length r.cores.now) same ∙ ap length cores
+
+    view : View
+    view = view_of run.config.now core.id
+
+    no_work : stop ≡ Stop.Stalled → length (ids_of run.config.now) < run.turns
+        → IsStuck view (state_of view (history_by run.config.now core.id core.items.items)) (slice_get (stimuli_of run.stimuli.now core.id) (length (stimuli_in core.items.items)))
+    no_work e whole =
+        let here : HasNoWork shift.worker = stopped.stuck e (rw ids some) (rw (ids, same) whole) in
+        let own : IsStuck view core.kernel (slice_get core.stimuli.now 0) = subst (λ (r : Run). IsStuck (view_of r.config.now core.id) core.kernel (slice_get core.stimuli.now 0)) same here in
+        subst (IsStuck view (state_of view (history_by run.config.now core.id core.items.items))) (next-left run.config.now run.stimuli.now core done.work)
+        (subst (λ (k : KernelState). IsStuck view k (slice_get core.stimuli.now 0)) done.work.seated.tracks.stands.is own)
 
     rounds_left : shift.worker.run.now.turns < turns_of (core_count shift) (suc stopped.loads) → run.turns < turns_of (length (ids_of run.config.now)) (suc stopped.loads)
     rounds_left short =

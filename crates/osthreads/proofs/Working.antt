@@ -41,7 +41,7 @@ use Rattle.osturn.proofs.Leading.{halted-item, is-item, passing-item, spun-item}
 use Rattle.osturn.proofs.Longer.{IsInTurn, core-on, history_from-push, length-stimuli_in}
 use Rattle.osturn.proofs.Seated.{Keeps, Took, seated-kept, seated-on}
 use Rattle.osturn.proofs.Streams.{envelope_in, is_from, is_post_to, posted-after, received-is}
-use Rattle.osthreads.specs.Working.{AreCalls, HasDone, IsAsked, IsAtWork, IsMailed, IsRefused, Refusal, of_board, refused_from}
+use Rattle.osthreads.specs.Working.{AreCalls, HasDone, IsAsked, IsAtWork, IsFruitless, IsIdleLook, IsMailed, IsRefused, Refusal, of_board, refused_from}
 
 -- ---- stimuli
 
@@ -88,7 +88,7 @@ module _ (plan : Plan) (stimuli : List CoreStimuli) (old : Seat) (work : IsAtWor
   serves-it is = subst (λ (k : KernelState). serves_in 64 k ≡ true) work.seated.tracks.stands.is is
 
   -- its next stimulus
-  next-left : slice_get old.stimuli.now 0 ≡ slice_get (stimuli_of stimuli old.id) (length (stimuli_in old.items.items))
+  pub next-left : slice_get old.stimuli.now 0 ≡ slice_get (stimuli_of stimuli old.id) (length (stimuli_in old.items.items))
   next-left =
       ap (λ (ss : List Stimulus). slice_get ss 0) work.seated.left
       ∙ front-drop (stimulus_count old.items.items) (stimuli_of stimuli old.id)
@@ -121,17 +121,21 @@ thin-more (x ∷ xs) ys log thin all = ⊎_elim
     (λ u. inr (u.0, thin-more xs ys log u.1 all))
     thin
 
-looks-more : (xs : List BoardEntry) (e : BoardEntry) → AllByRecursion IsLook xs → IsLook e → AllByRecursion IsLook (xs ++ e ∷ [])
-looks-more [] e all look = (look, tt)
-looks-more (x ∷ xs) e all look = (all.0, looks-more xs e all.1 look)
+only-looks : (v : View) (items : List Item) (xs : List BoardEntry) → AllByRecursion (IsIdleLook v items) xs → AllByRecursion IsLook xs
+only-looks v items [] all = tt
+only-looks v items (x ∷ xs) all = (all.0.0, only-looks v items xs all.1)
+
+looks-more : (v : View) (items : List Item) (xs : List BoardEntry) (e : BoardEntry) → AllByRecursion (IsIdleLook v items) xs → IsIdleLook v items e → AllByRecursion (IsIdleLook v items) (xs ++ e ∷ [])
+looks-more v items [] e all look = (look, tt)
+looks-more v items (x ∷ xs) e all look = (all.0, looks-more v items xs e all.1 look)
 
 module _ (v : View) (items : List Item) (mine : List BoardEntry) (loads : ℕ) (calls : AreCalls v items mine loads) where
   -- all of them, less looks
   pub thin : Thinned IsLook mine calls.log
-  thin = subst (λ (es : List BoardEntry). Thinned IsLook es calls.log) (sym calls.calls) (thin-more calls.before calls.idle calls.log calls.logged calls.looks)
+  thin = subst (λ (es : List BoardEntry). Thinned IsLook es calls.log) (sym calls.calls) (thin-more calls.before calls.idle calls.log calls.logged (only-looks v items calls.idle calls.looks))
 
   -- a look more, which resulted in no item
-  pub looked-on : (e : BoardEntry) (mine' : List BoardEntry) → IsLook e → mine' ≡ mine ++ e ∷ [] → AreCalls v items mine' (loads + 1)
+  pub looked-on : (e : BoardEntry) (mine' : List BoardEntry) → IsIdleLook v items e → mine' ≡ mine ++ e ∷ [] → AreCalls v items mine' (loads + 1)
   looked-on e mine' look is = record {
     log = calls.log;
     answers = calls.answers;
@@ -139,7 +143,7 @@ module _ (v : View) (items : List Item) (mine : List BoardEntry) (loads : ℕ) (
     idle = calls.idle ++ e ∷ [];
     calls = is ∙ ap (λ (es : List BoardEntry). es ++ e ∷ []) calls.calls ∙ append_assoc calls.before calls.idle (e ∷ []);
     logged = calls.logged;
-    looks = looks-more calls.idle e calls.looks look;
+    looks = looks-more v items calls.idle e calls.looks look;
     enough = let longer = length-append calls.idle (e ∷ []) in let some = calls.enough in omega arith;
   }
 
@@ -317,10 +321,11 @@ module _ (plan : Plan) (stimuli : List CoreStimuli) (loads : ℕ) (old new : Sea
 
 module _ (plan : Plan) (stimuli : List CoreStimuli) (loads : ℕ) (core : Seat) (mine : List BoardEntry) (sent taken : Streams) (done : HasDone plan stimuli core mine sent taken None loads) where
   -- a look that resulted in no item
-  pub look-idle : (e : BoardEntry) (mine' : List BoardEntry) → IsLook e → mine' ≡ mine ++ e ∷ [] → HasDone plan stimuli core mine' sent taken None (loads + 1)
-  look-idle e mine' look more = record {
+  pub look-idle : (e : BoardEntry) (mine' : List BoardEntry) → IsLook e → IsFruitless core.id core.kernel (OfBoard e.call) (Replied e.reply) → mine' ≡ mine ++ e ∷ [] → HasDone plan stimuli core mine' sent taken None (loads + 1)
+  look-idle e mine' look none more = record {
     work = done.work;
-    calls = looked-on (view_of plan core.id) core.items.items mine loads done.calls e mine' look more;
+    calls = looked-on (view_of plan core.id) core.items.items mine loads done.calls e mine'
+        (look, subst (λ (k : KernelState). IsFruitless core.id k (OfBoard e.call) (Replied e.reply)) done.work.seated.tracks.stands.is none) more;
     mail = done.mail;
   }
 

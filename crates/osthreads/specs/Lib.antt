@@ -2,3 +2,4 @@ pub mod Calling
 pub mod Working
 pub mod Runs
 pub mod Threads
+pub mod Examples

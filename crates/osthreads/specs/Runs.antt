@@ -1,6 +1,6 @@
 -- What the run of one core results in, and what the runs of all cores result in together. It is said of reports, of the board's calls
 -- and of the envelopes, and of no turns and no threads. [own]
-use Rattle.std.specs.Prelude.{◌≡◌, List, [], ◌∷◌}
+use Rattle.std.specs.Prelude.{◌≡◌, ℕ, List, [], ◌∷◌}
 use Rattle.std.specs.List.{AllByRecursion}
 use Rattle.osbase.specs.declared.references.CoreId.{CoreId}
 use Rattle.osbase.specs.declared.turns.CoreStimuli.{CoreStimuli}
@@ -9,11 +9,12 @@ use Rattle.osbase.specs.History.{posted, received}
 use Rattle.osplan.specs.declared.plans.Plan.{Plan}
 use Rattle.osplan.specs.View.{view_of}
 use Rattle.osseat.specs.declared.histories.Plan.{Plan as SeatPlan}
+use Rattle.osseat.specs.Histories.{IsLegal, calls_by}
 use Rattle.osseat.specs.Runs.{IsOneRun}
 use Rattle.osboard.specs.Boards.{BoardEntry, one_board}
 use Rattle.osturn.specs.Fits.{AreAnswered, FitsCore, IsBeginning, history_by, ids_of}
 use Rattle.osturn.specs.Sound.{IsOwn}
-use Rattle.osthreads.specs.Working.{of_board}
+use Rattle.osthreads.specs.Working.{IsFinished, of_board}
 
 -- The report says what its own items say, and they fit what was listed for its core.
 pub record IsOneCore (plan : Plan) (stimuli : List CoreStimuli) (report : Report) : Type 0 where
@@ -46,3 +47,10 @@ new_board plan = record { cores = ids_of plan; about = plan.master }
 -- One history of the board has the calls of all logs, a log for each configured core, and no others.
 abbrev pub IsOneBoard : Plan → List (List BoardEntry) → Type 0
 IsOneBoard plan logs = IsOneRun one_board (new_board plan) logs
+
+-- Each core has ended, or its worker stalled. One history of the board says so: it has all calls of the cores, also the looks that
+-- resulted in no item.
+pub record AreFinished (plan : Plan) (stimuli : List CoreStimuli) (turns : ℕ) (reports : List Report) : Type 0 where
+  pub history : List BoardEntry
+  pub legal : IsLegal one_board plan.master history
+  pub finished : AllByRecursion (λ (r : Report). IsFinished plan stimuli turns r (calls_by r.core history)) reports

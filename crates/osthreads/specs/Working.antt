@@ -1,24 +1,33 @@
 -- What a worker of one core has done, said of its core, of its calls of the board and of its end of the mail. [own]
-use Rattle.std.specs.Prelude.{◌≡◌, ◌+◌, ◌/◌, ◌<◌, ◌≤◌, nat_lt, ℕ, zero, suc, Bool, true, false, Option, Some, None, if◌then◌else◌, List, [], ◌∷◌, ◌++◌, length, slice_get}
+use Rattle.std.specs.Prelude.{◌≡◌, ◌⊎◌, ◌+◌, ◌/◌, ◌<◌, ◌≤◌, nat_lt, ℕ, zero, suc, Bool, true, false, Option, Some, None, if◌then◌else◌, List, [], ◌∷◌, ◌++◌, length, slice_get}
 use Rattle.std.specs.List.{AllByRecursion}
 use Rattle.osbase.specs.declared.references.CoreId.{CoreId}
 use Rattle.osbase.specs.declared.messages.Envelope.{Envelope}
 use Rattle.osbase.specs.declared.items.Item.{Item}
+use Rattle.osbase.specs.declared.items.Stimulus.{Stimulus}
 use Rattle.osbase.specs.declared.turns.Choice.{Choice}
 use Rattle.osbase.specs.declared.turns.CoreStimuli.{CoreStimuli}
+use Rattle.osbase.specs.declared.turns.Report.{Report}
 use Rattle.osbase.specs.History.{History, posted, received, same_core}
+use Rattle.osbase.specs.Runs.{stimuli_of}
 use Rattle.osplan.specs.declared.plans.Plan.{Plan}
 use Rattle.osplan.specs.View.{View, view_of}
-use Rattle.oskernel.specs.Step.{outbox_size, serves, takes}
+use Rattle.osstate.specs.State.{KernelState, state_of}
+use Rattle.oskernel.specs.Admission.{takes_in}
+use Rattle.oskernel.specs.Step.{history_from, outbox_size, serves, takes}
 use Rattle.oskernel.specs.Wants.{want_in, watch_in}
 use Rattle.osseat.specs.Histories.{Thinned}
-use Rattle.osboard.specs.Boards.{BoardEntry, IsLook}
+use Rattle.osboard.specs.declared.calls.BoardState.{BoardState}
+use Rattle.osboard.specs.Boards.{BoardEntry, IsLook, board_reply}
 use Rattle.osmail.specs.Ends.{Streams}
+use Rattle.osturn.specs.declared.asks.Answer.{Answer}
+use Rattle.osturn.specs.declared.asks.Answer.TheVariants.{Replied}
 use Rattle.osturn.specs.declared.asks.Ask.{Ask}
+use Rattle.osturn.specs.declared.asks.Ask.TheVariants.{OfBoard, Room}
 use Rattle.osturn.specs.declared.seats.Seat.{Seat}
-use Rattle.osturn.specs.Asking.{Calls, asked_by}
-use Rattle.osturn.specs.Fits.{AreAnswered, FitsCore, history_by, ids_of}
-use Rattle.osturn.specs.Seats.{IsSeated}
+use Rattle.osturn.specs.Asking.{Calls, asked_by, named_by}
+use Rattle.osturn.specs.Fits.{AreAnswered, FitsCore, history_by, ids_of, stimuli_in}
+use Rattle.osturn.specs.Seats.{IsSeated, is_ended_phase}
 use Rattle.osturn.specs.Sound.{IsOwn}
 use Rattle.osthreads.specs.declared.run.Run.{Run}
 use Rattle.osthreads.specs.declared.turns.Stop.{Stop}
@@ -34,6 +43,25 @@ use Rattle.osthreads.specs.declared.worker.Worked.{Worked}
 abbrev pub IsAsked : Plan → Seat → Ask → Type 0
 IsAsked plan core ask = (choice : Choice) × (asked_by (view_of plan core.id) (want_in core.kernel) (watch_in core.kernel) (slice_get core.stimuli.now 0) choice ≡ Some ask)
 
+-- In this state of its core, the answer to what a turn asked results in no item that the core takes.
+abbrev pub IsFruitless : CoreId → KernelState → Ask → Answer → Type 0
+IsFruitless id k ask answer = (item : Item) → named_by id (watch_in k) ask answer ≡ Some item → takes_in outbox_size k item ≡ false
+
+-- The answer to what a core's turn asked may be this: of the board, what a board answers.
+abbrev pub MayAnswer : CoreId → Ask → Answer → Type 0
+MayAnswer id (OfBoard call) answer = (board : BoardState) × (answer ≡ Replied (board_reply id call board))
+MayAnswer id ask answer = Unit {0}
+
+-- What a core's turn asks is room in a mailbox.
+abbrev pub WaitsForRoom : Ask → Type 0
+WaitsForRoom (Room to) = Unit {0}
+WaitsForRoom ask = ⊥
+
+-- The core can do nothing by itself: what its own turn asks is room in a mailbox, or results in no item whatever the answer. This is its
+-- next stimulus, if one is left.
+abbrev pub IsStuck : View → KernelState → Option Stimulus → Type 0
+IsStuck v k next = (ask : Ask) → asked_by v (want_in k) (watch_in k) next Choice.Own ≡ Some ask → WaitsForRoom ask ⊎ ((answer : Answer) → MayAnswer v.core ask answer → IsFruitless v.core k ask answer)
+
 -- Calls of the board alone. No service calls a spinlock yet.
 abbrev pub of_board : List BoardEntry → Calls
 of_board log = record { board = log; spins = [] }
@@ -45,8 +73,12 @@ pub record IsAtWork (plan : Plan) (stimuli : List CoreStimuli) (core : Seat) : T
   pub seated : IsSeated plan stimuli core
   pub fits : FitsCore plan stimuli core.id core.items.items
 
+-- A look whose answer results in no item after these.
+abbrev pub IsIdleLook : View → List Item → BoardEntry → Type 0
+IsIdleLook v items e = IsLook e × IsFruitless v.core (state_of v (history_from v [] items)) (OfBoard e.call) (Replied e.reply)
+
 -- The calls are those that resulted in the core's items, in order, and looks that resulted in none; and they end with at least so
--- many of these looks.
+-- many looks after the last item.
 pub record AreCalls (v : View) (items : List Item) (mine : List BoardEntry) (loads : ℕ) : Type 0 where
   pub log : List BoardEntry
   pub answers : AreAnswered v [] items (of_board log)
@@ -54,7 +86,7 @@ pub record AreCalls (v : View) (items : List Item) (mine : List BoardEntry) (loa
   pub idle : List BoardEntry
   pub calls : mine ≡ before ++ idle
   pub logged : Thinned IsLook before log
-  pub looks : AllByRecursion IsLook idle
+  pub looks : AllByRecursion (IsIdleLook v items) idle
   pub enough : loads ≤ length idle
 
 -- An envelope that was taken and became no item, with its sender.
@@ -104,6 +136,15 @@ abbrev pub Turns : {M : Type 0} → (M → Streams) → (M → Streams) → ℕ 
 Turns sent taken more turned old new =
     (stimuli : List CoreStimuli) (loads : ℕ) → HasWorked sent taken stimuli None loads old → HasWorked sent taken stimuli (refusal_of turned) (loads_after more turned loads) new
 
+-- It holds of each turn but one that took an item.
+abbrev pub UnlessTook : Turned → Type 0 → Type 0
+UnlessTook Took P = Unit {0}
+UnlessTook turned P = P
+
+-- The worker's core can do nothing by itself.
+abbrev pub HasNoWork : {M : Type 0} → Worker M → Type 0
+HasNoWork w = IsStuck (view_of w.run.now.config.now w.core.id) w.core.kernel (slice_get w.core.stimuli.now 0)
+
 -- ---- rounds
 
 -- A round has a turn for every other core, one for the core's own work, and then a look. So the look has the number of cores as its
@@ -114,6 +155,10 @@ loads_at cores at = if nat_lt at cores then 0 else 1
 abbrev pub next_at : ℕ → ℕ → ℕ
 next_at cores at = if nat_lt at cores then at + 1 else 0
 
+-- How many turns ago the core's own turn was, where this is the next place.
+abbrev pub since_own : ℕ → ℕ → ℕ
+since_own cores at = if nat_lt at cores then at + 2 else 1
+
 -- The turns of so many rounds.
 abbrev pub turns_of : ℕ → ℕ → ℕ
 turns_of cores zero = 0
@@ -122,13 +167,15 @@ turns_of cores (suc rounds) = turns_of cores rounds + (cores + 1)
 abbrev pub core_count : {M : Type 0} → Shift M → ℕ
 core_count shift = length shift.worker.run.now.cores.now
 
--- A worker between two turns. The last turns changed nothing: those of the rounds whose looks stand at the end of its calls, and
--- those of the round that it is in.
+-- A worker between two turns, whose core has not ended. The last turns changed nothing: those of the rounds whose looks stand at the
+-- end of its calls, and those of the round that it is in. If the core's own turn is among them, the core can do nothing by itself.
 pub record IsGoing {M : Type 0} (sent taken : M → Streams) (stimuli : List CoreStimuli) (shift : Shift M) : Type 0 where
   pub loads : ℕ
   pub worked : HasWorked sent taken stimuli None loads shift.worker
   pub count : shift.fruitless ≤ turns_of (core_count shift) loads + shift.at
   pub place : shift.at ≤ core_count shift
+  pub running : is_ended_phase shift.worker.core.kernel.progress.phase ≡ false
+  pub stuck : 0 < core_count shift → since_own (core_count shift) shift.at ≤ shift.fruitless → HasNoWork shift.worker
 
 abbrev pub refusal_at : Stop → Refusal
 refusal_at Stop.Ended = None
@@ -136,19 +183,56 @@ refusal_at Stop.Stalled = None
 refusal_at Stop.NoMemory = None
 refusal_at (Stop.Refused from e) = Some (from, e)
 
+-- The worker stopped since an allocation failed.
+abbrev pub is_short_of_memory : Stop → Bool
+is_short_of_memory Stop.NoMemory = true
+is_short_of_memory stop = false
+
+-- Each envelope that it took became an item.
+abbrev pub is_kept_by : Stop → Bool
+is_kept_by (Stop.Refused from e) = false
+is_kept_by stop = true
+
+-- It stopped since its core had ended.
+abbrev pub is_ended_by : Stop → Bool
+is_ended_by Stop.Ended = true
+is_ended_by stop = false
+
+-- It stopped since its core had ended, or since its turns changed nothing any more.
+abbrev pub is_finished_by : Stop → Bool
+is_finished_by Stop.Ended = true
+is_finished_by Stop.Stalled = true
+is_finished_by stop = false
+
 -- A worker that stopped.
 pub record IsStopped {M : Type 0} (sent taken : M → Streams) (stimuli : List CoreStimuli) (stop : Stop) (shift : Shift M) : Type 0 where
   pub loads : ℕ
   pub worked : HasWorked sent taken stimuli (refusal_at stop) loads shift.worker
+  pub ended : is_ended_phase shift.worker.core.kernel.progress.phase ≡ is_ended_by stop
   pub stalled : stop ≡ Stop.Stalled → shift.worker.run.now.turns < turns_of (core_count shift) (suc loads)
+  pub stuck : stop ≡ Stop.Stalled → 0 < core_count shift → core_count shift < shift.worker.run.now.turns → HasNoWork shift.worker
+
+-- So many turns in a row changed nothing. A round has a turn for each configured core, its own for the core itself, and a look. So the
+-- core's calls end with a look for each whole round, and if there was one, the core can do nothing by itself.
+pub record HasStalled (plan : Plan) (stimuli : List CoreStimuli) (turns : ℕ) (report : Report) (loads : ℕ) : Type 0 where
+  pub rounds : turns / (length (ids_of plan) + 1) ≤ loads
+  pub stuck : length (ids_of plan) < turns
+      → IsStuck (view_of plan report.core) (state_of (view_of plan report.core) (history_by plan report.core report.items)) (slice_get (stimuli_of stimuli report.core) (length (stimuli_in report.items)))
+
+-- A worker made these calls. Its core has ended, or it stalled.
+pub record IsFinished (plan : Plan) (stimuli : List CoreStimuli) (turns : ℕ) (report : Report) (mine : List BoardEntry) : Type 0 where
+  pub loads : ℕ
+  pub calls : AreCalls (view_of plan report.core) report.items mine loads
+  pub stalled : report.ended ≡ false → HasStalled plan stimuli turns report loads
 
 -- What a worker hands back. Its report says what its items say, and they fit what was listed. Its calls of the board are those that
 -- resulted in items, and looks. Its end of the mail sent what was posted and took what was received, but for an envelope that the core
--- could not take. If its turns changed nothing any more, its calls end with a look for each whole round in the turns allowed.
+-- could not take. Its core has ended exactly if it stopped for that; if it stopped since its turns changed nothing, it has stalled.
 pub record IsWorked {M : Type 0} (sent taken : M → Streams) (run : Run) (worked : Worked M) : Type 0 where
   pub own : IsOwn run.config.now worked.report
   pub fits : FitsCore run.config.now run.stimuli.now worked.report.core worked.report.items
   pub loads : ℕ
   pub calls : AreCalls (view_of run.config.now worked.report.core) worked.report.items worked.seat.mine loads
   pub mail : IsMailed (view_of run.config.now worked.report.core) (history_by run.config.now worked.report.core worked.report.items) (sent worked.mail) (taken worked.mail) (refusal_at worked.stop)
-  pub stalled : worked.stop ≡ Stop.Stalled → run.turns / (length (ids_of run.config.now) + 1) ≤ loads
+  pub ended : worked.report.ended ≡ is_ended_by worked.stop
+  pub stalled : worked.stop ≡ Stop.Stalled → HasStalled run.config.now run.stimuli.now run.turns worked.report loads

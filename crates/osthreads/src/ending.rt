@@ -27,5 +27,5 @@ pub struct EndOf<'a> {
 impl<'a> Promise<Ending> for EndOf<'a> {
     ghost use Rattle.osthreads.specs.Threads.{IsEnded};
 
-    ghost kept_by = { λ p e. IsEnded p.run.config.now p.run.stimuli.now p.run.board.now p.id e };
+    ghost kept_by = { λ p e. IsEnded p.run.config.now p.run.stimuli.now p.run.turns p.run.board.now p.id e };
 }

@@ -1,14 +1,15 @@
 //! Runs of a configuration by threads.
 
 ghost use Rattle.std.specs.Prelude.{◌≡◌, ◌≤◌, [], IsTrue, IfOk, IfErr, OnOk, map, vec_len, vec_capacity};
-ghost use Rattle.std.specs.List.{AllByRecursion};
+ghost use Rattle.std.specs.List.{AllByRecursion, list_all, list_any};
 ghost use Rattle.osplan.specs.Stimuli.{AreKnown};
 ghost use Rattle.osturn.specs.Fits.{ids_of};
 ghost use Rattle.osturn.specs.Sound.{AreSound};
 ghost use Rattle.osseat.specs.Seats.{fresh};
 ghost use Rattle.osthreads.specs.declared.ending.Ending.{Ending as EndingValue};
-ghost use Rattle.osthreads.specs.Runs.{IsOneCore, new_board};
-ghost use Rattle.osthreads.specs.Threads.{AreKept, AreSettled, IsSettled};
+ghost use Rattle.osthreads.specs.Runs.{AreFinished, IsOneCore, new_board};
+ghost use Rattle.osthreads.specs.Threads.{AreAllFinished, AreSettled, IsSettled};
+ghost use Rattle.osthreads.specs.Working.{is_kept_by, is_short_of_memory};
 
 use crate::ending::Ending;
 use crate::gates::Gate;
@@ -98,7 +99,7 @@ fn prepare(alloc: Global, config: &Config) -> Result<Prepared, AllocError>
 /// ascending order: each says what its own items say, the items fit one another, the listed stimuli and what the
 /// cores share, and each separate core prints what its configuration alone prints. A core that nobody starts has a
 /// worker too, whose turns change nothing. So many turns in a row that change nothing stop a worker, whose core has
-/// not ended then.
+/// not ended then. Each other report is of a core that has ended.
 pub fn run_threads<R: Threads + Wait + Sync, G: Gate + Sync>(
     rt: &R,
     alloc: Global,
@@ -110,6 +111,7 @@ pub fn run_threads<R: Threads + Wait + Sync, G: Gate + Sync>(
 ) -> Result<Vec<Report>, ThreadFault>
     requires { AreKnown config.now stimuli.now }
     ensures sound { IfOk result (λ reports. AreSound config.now stimuli.now reports.items) }
+    ensures finished { IfOk result (λ reports. AreFinished config.now stimuli.now turns reports.items) }
     ensures fault { IfErr result (λ f. AllByRecursion (IsOneCore config.now stimuli.now) f.reports.items) }
 {
     let MailKind::Locked = kind;
@@ -148,10 +150,12 @@ pub fn run_threads<R: Threads + Wait + Sync, G: Gate + Sync>(
     }
 }
 
-// Whether all threads ran, and every envelope that was sent was taken in its turn or is left.
+// Whether all threads ran, each worker went on until its core had ended or its turns changed nothing, and every envelope
+// that was sent was taken in its turn or is left.
+#[tactic(auto, using(crate::proofs::Gathering::all_finished))]
 fn judge(alloc: Global, mail: &mut LockedMail<MAILBOX>, joined: &Joined) -> Result<(), ThreadReason>
     ensures complete { OnOk result (IsTrue joined.now.complete) }
-    ensures kept { OnOk result (AreKept joined.now.endings.items) }
+    ensures finished { OnOk result (AreAllFinished joined.now.endings.items) }
     ensures settled { OnOk result (AreSettled joined.now.endings.items) }
 {
     if !joined.complete {
@@ -172,7 +176,9 @@ fn judge(alloc: Global, mail: &mut LockedMail<MAILBOX>, joined: &Joined) -> Resu
 }
 
 // Whether some worker stopped since an allocation failed.
-fn had_no_memory(endings: &[Ending]) -> bool {
+fn had_no_memory(endings: &[Ending]) -> bool
+    ensures { result ≡ list_any (λ (e : EndingValue). is_short_of_memory e.stop) endings.now }
+{
     endings
         .iter()
         .any(|ending| matches!(ending.stop, Stop::NoMemory))
@@ -180,14 +186,11 @@ fn had_no_memory(endings: &[Ending]) -> bool {
 
 // Whether each envelope that was taken became an item.
 fn are_kept(endings: &[Ending]) -> bool
-    ensures { IsTrue result → AreKept endings.now }
+    ensures { result ≡ list_all (λ (e : EndingValue). is_kept_by e.stop) endings.now }
 {
-    for ending in endings {
-        if let Stop::Refused(_, _) = ending.stop {
-            return false;
-        }
-    }
-    true
+    endings
+        .iter()
+        .all(|ending| !matches!(ending.stop, Stop::Refused(_, _)))
 }
 
 // Whether what each core took of each, and then what is left, is what that one sent to it.

@@ -7,7 +7,7 @@ ghost use Rattle.osplan.specs.View.{core_of};
 ghost use Rattle.oskernel.specs.declared.kernel.TheConstants.{STEP_MARKS};
 ghost use Rattle.osturn.specs.Fits.{ids_of};
 ghost use Rattle.osturn.specs.Seats.{report_of};
-ghost use Rattle.osthreads.specs.Working.{IsGoing, IsStopped, IsWorked, Turns, loads_at, next_at};
+ghost use Rattle.osthreads.specs.Working.{HasNoWork, IsGoing, IsStopped, IsWorked, Turns, UnlessTook, loads_at, next_at};
 
 use crate::gates::Gate;
 use crate::run::Run;
@@ -40,6 +40,8 @@ impl<'a, M: Mail> Shift<'a, M> {
         requires marks { vec_len self.old.worker.core.marks + STEP_MARKS ≤ vec_capacity self.old.worker.core.marks }
         requires mail { M.has_room self.old.worker.mail }
         ensures turns { Turns M.sent M.taken (loads_at (length self.old.worker.run.now.cores.now) self.old.at) result self.old.worker self.new.worker }
+        ensures core { UnlessTook result (self.new.worker.core ≡ self.old.worker.core) }
+        ensures stuck { self.old.at + 1 ≡ length self.old.worker.run.now.cores.now → UnlessTook result (HasNoWork self.old.worker) }
         ensures run { self.new.worker.run ≡ self.old.worker.run }
         ensures id { self.new.worker.core.id ≡ self.old.worker.core.id }
         ensures at { self.new.at ≡ self.old.at }

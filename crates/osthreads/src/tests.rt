@@ -1,11 +1,7 @@
 //! Runs by threads, which end, or say why not. Each test has the same verdict whatever the schedule is.
 
-ghost use Rattle.std.specs.Prelude.{◌≡◌, ◌∷◌, [], if◌then◌else◌, IsTrue, IfOk, Some, true, false};
-ghost use Rattle.oscript.specs.declared.Op.TheVariants.{ActivateTask, TerminateTask};
-ghost use Rattle.osplan.specs.declared.plans.Plan.{Plan as PlanValue};
-ghost use Rattle.osplan.specs.Expressible.{is_expressible};
-ghost use Rattle.osplan.specs.Limits.{is_within_limits};
-ghost use Rattle.osplan.specs.Stimuli.{AreKnown};
+ghost use Rattle.std.specs.Prelude.{◌≡◌, ◌∷◌, [], IfOk};
+ghost use Rattle.osthreads.specs.Examples.{callers_by, core_by, four_cores, nine_ops, task_by, three_ops};
 
 use crate::{Gate, MailKind, ThreadFault, ThreadReason, run_threads};
 use osbase::{
@@ -66,7 +62,7 @@ const MANY: u64 = 100_000;
 const FEW: u64 = 1_000;
 
 fn task(alloc: Global, name: &str, is_auto: bool, ops: &[Op]) -> Result<Task, AllocError>
-    ensures { IfOk result (λ task. task ≡ record { name = name.now; priority = 1; auto = (if is_auto then MODE ∷ [] else []); activations = 1; extended = false; preemptable = true; script = ops.now }) }
+    ensures { IfOk result (λ task. task ≡ task_by name.now is_auto ops.now) }
 {
     let auto = if is_auto { &[MODE][..] } else { &[] };
     Ok(Task {
@@ -87,7 +83,7 @@ fn callers(
     other: TaskRef,
     called: &str,
 ) -> Result<List<Task>, AllocError>
-    ensures { IfOk result (λ tasks. tasks ≡ record { name = name.now; priority = 1; auto = MODE ∷ []; activations = 1; extended = false; preemptable = true; script = ActivateTask (Some other) ∷ TerminateTask ∷ [] } ∷ record { name = called.now; priority = 1; auto = []; activations = 1; extended = false; preemptable = true; script = TerminateTask ∷ [] } ∷ []) }
+    ensures { IfOk result (λ tasks. tasks ≡ callers_by name.now other called.now) }
 {
     let calls = [Op::ActivateTask(Some(other)), Op::TerminateTask];
     let mut tasks = List::new(alloc);
@@ -105,7 +101,7 @@ fn alone(alloc: Global, task: Task) -> Result<List<Task>, AllocError>
 }
 
 fn core(alloc: Global, id: CoreId, start: &[CoreId], tasks: List<Task>) -> Result<Core, AllocError>
-    ensures { IfOk result (λ core. core ≡ record { id = id; mode = CoreMode.Named MODE; start = start.now; tasks = tasks; resources = []; isrs = []; counters = []; alarms = []; tables = [] }) }
+    ensures { IfOk result (λ core. core ≡ core_by id start.now tasks) }
 {
     Ok(Core {
         id,
@@ -122,8 +118,7 @@ fn core(alloc: Global, id: CoreId, start: &[CoreId], tasks: List<Task>) -> Resul
 
 // Cores 0 and 1 activate a task of each other, core 2 is separate, and nobody starts core 3.
 fn four_cores(alloc: Global) -> Result<Plan, AllocError>
-    ensures limits { IfOk result (λ plan. IsTrue (is_within_limits plan)) }
-    ensures expressible { IfOk result (λ plan. IsTrue (is_expressible plan)) }
+    ensures { IfOk result (λ plan. plan ≡ four_cores) }
 {
     let mut modes = List::new(alloc);
     modes.push(Name::new(alloc, "M")?)?;
@@ -147,8 +142,14 @@ fn four_cores(alloc: Global) -> Result<Plan, AllocError>
     })
 }
 
+#[tactic(auto, using(crate::proofs::Examples::four_within, crate::proofs::Examples::four_expressible))]
+fn config(alloc: Global) -> Result<Config, AllocError> {
+    let plan = four_cores(alloc)?;
+    Ok(Config::new(plan))
+}
+
 fn operations(alloc: Global, core: CoreId) -> Result<CoreStimuli, AllocError>
-    ensures { IfOk result (λ entry. entry.words ≡ Stimulus.Op ∷ Stimulus.Op ∷ Stimulus.Op ∷ []) }
+    ensures { IfOk result (λ entry. entry ≡ three_ops core) }
 {
     let operations = [Stimulus::Op, Stimulus::Op, Stimulus::Op];
     Ok(CoreStimuli {
@@ -159,7 +160,7 @@ fn operations(alloc: Global, core: CoreId) -> Result<CoreStimuli, AllocError>
 
 // Three operations of each core that is started.
 fn stimuli(alloc: Global) -> Result<Stimuli, AllocError>
-    ensures { IfOk result (λ stimuli. (plan : PlanValue) → AreKnown plan stimuli) }
+    ensures { IfOk result (λ stimuli. stimuli ≡ nine_ops) }
 {
     let mut stimuli = List::new(alloc);
     stimuli.push(operations(alloc, CORE_0)?)?;
@@ -300,13 +301,14 @@ impl Gate for Delay {
 }
 
 // A run of the four cores.
+#[tactic(auto, using(crate::proofs::Examples::nine_known))]
 fn run<R: Threads + Wait + Sync, G: Gate + Sync>(
     rt: &R,
     alloc: Global,
     gate: &G,
     turns: u64,
 ) -> Result<Result<Vec<Report>, ThreadFault>, AllocError> {
-    let config = Config::new(four_cores(alloc)?);
+    let config = config(alloc)?;
     let stimuli = stimuli(alloc)?;
     let kind = MailKind::Locked;
     Ok(run_threads(rt, alloc, &config, &stimuli, kind, gate, turns))
@@ -370,17 +372,31 @@ fn a_core_that_nobody_starts_does_not_hold_up_the_others(rt: HostRuntime) -> Res
     Ok(())
 }
 
+// What is cut of the configuration for core 2.
+fn config_of_core_2(alloc: Global) -> Result<Config, Fail> {
+    let config = config(alloc)?;
+    Ok(cut(alloc, &config, CORE_2).map_err(|_| "a separate core")?)
+}
+
+// A run of it.
+#[tactic(auto, using(crate::proofs::Examples::nine_known))]
+fn run_core_2<R: Threads + Wait + Sync, G: Gate + Sync>(
+    rt: &R,
+    alloc: Global,
+    gate: &G,
+) -> Result<Result<Vec<Report>, ThreadFault>, Fail> {
+    let config = config_of_core_2(alloc)?;
+    let stimuli = stimuli(alloc)?;
+    let kind = MailKind::Locked;
+    Ok(run_threads(rt, alloc, &config, &stimuli, kind, gate, MANY))
+}
+
 #[test]
 fn a_separate_core_prints_what_its_configuration_alone_prints(rt: HostRuntime) -> Result<(), Fail> {
     let gate = Watcher::new(None, false);
     let reports = run(&rt, rt.alloc(), &gate, MANY)?.map_err(|_| "a run")?;
     let among_others = of_core(reports.as_slice(), CORE_2).ok_or("core 2")?;
-    let config = Config::new(four_cores(rt.alloc())?);
-    let config = cut(rt.alloc(), &config, CORE_2).map_err(|_| "a separate core")?;
-    let stimuli = stimuli(rt.alloc())?;
-    let kind = MailKind::Locked;
-    let run = run_threads(&rt, rt.alloc(), &config, &stimuli, kind, &gate, MANY);
-    let reports = run.map_err(|_| "a run of core 2 alone")?;
+    let reports = run_core_2(&rt, rt.alloc(), &gate)?.map_err(|_| "a run of core 2 alone")?;
     let by_itself = of_core(reports.as_slice(), CORE_2).ok_or("core 2 alone")?;
     assert_eq!(rt; reports.len(), 1);
     assert!(rt; among_others.ended && by_itself.ended);

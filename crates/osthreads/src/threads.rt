@@ -35,7 +35,7 @@ fn work<R: Wait, G: Gate>(
     gate: &G,
 ) -> Ending
     requires { IsReady run.now.config.now run.now.cores.now run.now.board.now seat }
-    ensures { IsEnded run.now.config.now run.now.stimuli.now run.now.board.now seat.core result }
+    ensures { IsEnded run.now.config.now run.now.stimuli.now run.now.turns run.now.board.now seat.core result }
 {
     let end = mail.end(rt, alloc, seat.core());
     let Worked {
@@ -80,7 +80,7 @@ fn start<'s, E, R: Threads + Wait + Sync, G: Gate + Sync>(
     // The closure captures the parts of the run. Of one that captures a type with lifetimes no clause is known outside.
     let job = move || -> Ending
         requires { IsReady config.now cores.now board.now seat }
-        ensures { IsEnded config.entry.now stimuli.entry.now board.entry.now seat.core result }
+        ensures { IsEnded config.entry.now stimuli.entry.now turns board.entry.now seat.core result }
     {
         let run = Run {
             config,
@@ -125,7 +125,7 @@ fn run_each<'s, E, R: Threads + Wait + Sync, G: Gate + Sync>(
     requires ready { AreReady run.now.config.now run.now.cores.now run.now.board.now seats.old.items }
     requires empty { endings.old.items ≡ [] }
     requires room { vec_len seats.old ≤ vec_capacity endings.old }
-    ensures ended { IsTrue result → AreEnded run.now.config.now run.now.stimuli.now run.now.board.now (cores_of seats.old.items) endings.new.items }
+    ensures ended { IsTrue result → AreEnded run.now.config.now run.now.stimuli.now run.now.turns run.now.board.now (cores_of seats.old.items) endings.new.items }
     ensures alone { AreAlone run.now.config.now run.now.stimuli.now endings.new.items }
     ensures len { vec_len endings.new ≤ vec_len seats.old }
     ensures capacity { vec_capacity endings.new ≡ vec_capacity endings.old }
@@ -154,7 +154,7 @@ pub(crate) fn run_all<R: Threads + Wait + Sync, G: Gate + Sync>(
     requires ready { AreReady run.now.config.now run.now.cores.now run.now.board.now seats.items }
     requires empty { endings.items ≡ [] }
     requires room { vec_len seats ≤ vec_capacity endings }
-    ensures ended { IsTrue result.complete → AreEnded run.now.config.now run.now.stimuli.now run.now.board.now (cores_of seats.items) result.endings.items }
+    ensures ended { IsTrue result.complete → AreEnded run.now.config.now run.now.stimuli.now run.now.turns run.now.board.now (cores_of seats.items) result.endings.items }
     ensures alone { AreAlone run.now.config.now run.now.stimuli.now result.endings.items }
     ensures len { vec_len result.endings ≤ vec_len seats }
 {
@@ -172,7 +172,7 @@ pub(crate) fn run_all<R: Threads + Wait + Sync, G: Gate + Sync>(
             requires ready { AreReady config.now cores.now board.now seats.items }
             requires empty { endings.items ≡ [] }
             requires room { vec_len seats ≤ vec_capacity endings }
-            ensures ended { IsTrue result.complete → AreEnded config.entry.now stimuli.entry.now board.entry.now (cores_of seats.items) result.endings.items }
+            ensures ended { IsTrue result.complete → AreEnded config.entry.now stimuli.entry.now turns board.entry.now (cores_of seats.items) result.endings.items }
             ensures alone { AreAlone config.entry.now stimuli.entry.now result.endings.items }
             ensures len { vec_len result.endings ≤ vec_len seats }
         {

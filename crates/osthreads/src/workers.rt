@@ -2,9 +2,11 @@
 
 ghost use Rattle.std.specs.Prelude.{◌≡◌, ◌+◌, ◌<◌, ◌≤◌, vec_len, vec_capacity, OnOk};
 ghost use Rattle.oskernel.specs.declared.kernel.TheConstants.{STEP_MARKS};
+ghost use Rattle.osturn.specs.declared.asks.Answer.{Answer as AnswerValue};
+ghost use Rattle.osturn.specs.declared.asks.Answer.TheVariants.{Unasked};
 ghost use Rattle.osturn.specs.declared.asks.Ask.TheVariants.{OfBoard, Room};
 ghost use Rattle.osthreads.specs.Calling.{ChangesBoard, HasPlace, LoadsBoard, item_of_call};
-ghost use Rattle.osthreads.specs.Working.{IsAsked, Turns};
+ghost use Rattle.osthreads.specs.Working.{HasNoWork, IsAsked, IsFruitless, MayAnswer, Turns, UnlessTook};
 
 use crate::calls::call_board;
 use crate::turns::Turned;
@@ -23,6 +25,8 @@ impl<'a, M: Mail> Worker<'a, M> {
         ensures marks { OnOk result (vec_len self.new.core.marks + STEP_MARKS ≤ vec_capacity self.new.core.marks) }
         ensures mail { OnOk result (M.has_room self.new.mail) }
         ensures turns { Turns M.sent M.taken 0 Turned.Nothing self.old self.new }
+        ensures kernel { self.new.core.kernel ≡ self.old.core.kernel }
+        ensures stimuli { self.new.core.stimuli ≡ self.old.core.stimuli }
         ensures run { self.new.run ≡ self.old.run }
         ensures id { self.new.core.id ≡ self.old.core.id }
     {
@@ -36,6 +40,7 @@ impl<'a, M: Mail> Worker<'a, M> {
         requires marks { vec_len self.old.core.marks + STEP_MARKS ≤ vec_capacity self.old.core.marks }
         requires mail { M.has_room self.old.mail }
         ensures turns { Turns M.sent M.taken 0 result self.old self.new }
+        ensures core { UnlessTook result (self.new.core ≡ self.old.core) }
         ensures run { self.new.run ≡ self.old.run }
         ensures id { self.new.core.id ≡ self.old.core.id }
     {
@@ -63,6 +68,8 @@ impl<'a, M: Mail> Worker<'a, M> {
         requires marks { vec_len self.old.core.marks + STEP_MARKS ≤ vec_capacity self.old.core.marks }
         requires mail { M.has_room self.old.mail }
         ensures turns { Turns M.sent M.taken 0 result self.old self.new }
+        ensures core { UnlessTook result (self.new.core ≡ self.old.core) }
+        ensures stuck { UnlessTook result (HasNoWork self.old) }
         ensures run { self.new.run ≡ self.old.run }
         ensures id { self.new.core.id ≡ self.old.core.id }
     {
@@ -85,6 +92,7 @@ impl<'a, M: Mail> Worker<'a, M> {
         requires items { vec_len self.old.core.items < vec_capacity self.old.core.items }
         requires marks { vec_len self.old.core.marks + STEP_MARKS ≤ vec_capacity self.old.core.marks }
         ensures turns { Turns M.sent M.taken 1 result self.old self.new }
+        ensures core { UnlessTook result (self.new.core ≡ self.old.core) }
         ensures run { self.new.run ≡ self.old.run }
         ensures id { self.new.core.id ≡ self.old.core.id }
     {
@@ -102,6 +110,7 @@ impl<'a, M: Mail> Worker<'a, M> {
         requires place { HasPlace call }
         requires asked { IsAsked self.old.run.now.config.now self.old.core (OfBoard call) }
         ensures turns { Turns M.sent M.taken 1 result self.old self.new }
+        ensures core { UnlessTook result (self.new.core ≡ self.old.core) }
         ensures run { self.new.run ≡ self.old.run }
         ensures id { self.new.core.id ≡ self.old.core.id }
     {
@@ -124,6 +133,8 @@ impl<'a, M: Mail> Worker<'a, M> {
         requires place { HasPlace call }
         requires asked { IsAsked self.old.run.now.config.now self.old.core (OfBoard call) }
         ensures turns { Turns M.sent M.taken 0 result self.old self.new }
+        ensures core { UnlessTook result (self.new.core ≡ self.old.core) }
+        ensures stuck { UnlessTook result ((answer : AnswerValue) → MayAnswer self.old.core.id (OfBoard call) answer → IsFruitless self.old.core.id self.old.core.kernel (OfBoard call) answer) }
         ensures run { self.new.run ≡ self.old.run }
         ensures id { self.new.core.id ≡ self.old.core.id }
     {
@@ -145,6 +156,7 @@ impl<'a, M: Mail> Worker<'a, M> {
         requires mail { M.has_room self.old.mail }
         requires asked { IsAsked self.old.run.now.config.now self.old.core (Room to) }
         ensures turns { Turns M.sent M.taken 0 result self.old self.new }
+        ensures core { UnlessTook result (self.new.core ≡ self.old.core) }
         ensures run { self.new.run ≡ self.old.run }
         ensures id { self.new.core.id ≡ self.old.core.id }
     {
@@ -170,6 +182,8 @@ impl<'a, M: Mail> Worker<'a, M> {
         requires marks { vec_len self.old.core.marks + STEP_MARKS ≤ vec_capacity self.old.core.marks }
         requires asked { IsAsked self.old.run.now.config.now self.old.core ask }
         ensures turns { Turns M.sent M.taken 0 result self.old self.new }
+        ensures core { UnlessTook result (self.new.core ≡ self.old.core) }
+        ensures stuck { UnlessTook result (IsFruitless self.old.core.id self.old.core.kernel ask Unasked) }
         ensures run { self.new.run ≡ self.old.run }
         ensures id { self.new.core.id ≡ self.old.core.id }
     {

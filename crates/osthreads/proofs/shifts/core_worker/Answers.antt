@@ -1,7 +1,10 @@
 use Rattle.std.proofs.Common.{◌≡◌, ◌<◌, ℕ, Bor, List, [], length, refl, ap, sym, subst, ◌∙◌, arith}
 use Rattle.osthreads.specs.declared.run.Run.{Run}
+use Rattle.osstate.specs.State.{KernelState}
+use Rattle.osturn.specs.Seats.{is_ended_phase}
 use Rattle.osthreads.proofs.Asking.{known-low}
-use Rattle.osthreads.proofs.Shifting.{begun, handed-back}
+use Rattle.osthreads.proofs.Senders.{someone}
+use Rattle.osthreads.proofs.Shifting.{begun, first-running, handed-back, own-before}
 use Rattle.osthreads.proofs.shifts.core_worker.Goals as goal
 
 pub new-core-requires-clause-number : goal.new-core-requires-clause-number
@@ -27,6 +30,8 @@ loop-init g c = (
         c.new-core.ensures.core c.new-core.ensures.kernel c.new-core.ensures.stimuli c.new-core.ensures.items c.new-core.ensures.marks c.requires.fresh c.requires.unused;
     count = omega arith;
     place = omega arith;
+    running = ap (λ (k : KernelState). is_ended_phase k.progress.phase) c.new-core.ensures.kernel ∙ first-running _;
+    stuck = λ some own. let before = own-before (length c.args.run.now.cores.now) 0 in absurd (omega (arith, own, before));
   },
 )
 
@@ -35,4 +40,5 @@ returns-in-Some-go_on-clause-worked g c =
     handed-back (g.M.Mail.sent) (g.M.Mail.taken) c.args.run.now c.in-Some-go_on.stop c.go_on.new.self c.hand_back.result
     (ap (λ (r : Bor Run). r.now) c.go_on.ensures.run ∙ c.loop.invariant.0) c.requires.cores
     (c.in-Some-go_on.ensures.some c.args.run.now.stimuli.now c.loop.invariant.2)
+    (someone c.args.run.now.config.now c.plan-plan.ensures.limits c.args.seat.core c.requires.configured)
     c.hand_back.ensures.report c.hand_back.ensures.seat c.hand_back.ensures.mail c.hand_back.ensures.stop

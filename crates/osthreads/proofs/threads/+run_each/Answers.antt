@@ -15,10 +15,10 @@ abbrev Seat : Type 0
 Seat = Held CoreId BoardCall BoardReply
 
 abbrev EndedIn : Run → CoreId → Ending → Type 0
-EndedIn run id e = IsEnded run.config.now run.stimuli.now run.board.now id e
+EndedIn run id e = IsEnded run.config.now run.stimuli.now run.turns run.board.now id e
 
 abbrev AllEndedIn : Run → List CoreId → List Ending → Type 0
-AllEndedIn run ids es = AreEnded run.config.now run.stimuli.now run.board.now ids es
+AllEndedIn run ids es = AreEnded run.config.now run.stimuli.now run.turns run.board.now ids es
 
 -- the ending of the thread that was started here
 ended-here : (run promised : Run) (id named : CoreId) (e : Ending) → promised ≡ run → named ≡ id → EndedIn promised named e → EndedIn run id e
@@ -30,7 +30,7 @@ ended-more : (run : Run) (ss rest : List Seat) (seat : Seat) (es more : List End
 ended-more run ss rest seat es more e split pushed ended here =
     subst (λ (xs : List Seat). AllEndedIn run (cores_of xs) more) (sym split)
     (subst (λ (ids : List CoreId). AllEndedIn run ids more) (sym (cores_of-push rest seat))
-    (subst (AllEndedIn run (cores_of rest ++ seat.core ∷ [])) (sym pushed) (ended-push run.config.now run.stimuli.now run.board.now (cores_of rest) es seat.core e ended here)))
+    (subst (AllEndedIn run (cores_of rest ++ seat.core ∷ [])) (sym pushed) (ended-push run.config.now run.stimuli.now run.turns run.board.now (cores_of rest) es seat.core e ended here)))
 
 pub returns-clause-ended : goal.returns-clause-ended
 returns-clause-ended g n c complete =

@@ -1,3 +1,4 @@
+use Rattle.osthreads.proofs.Shifting.{worked-finished}
 use Rattle.osthreads.proofs.Working.{thin}
 use Rattle.osthreads.proofs.threads.work.Goals as goal
 
@@ -14,4 +15,5 @@ returns g c =
       };
       logged = thin _ _ _ _ w.worked.calls;
       mail = rw (c.into_steps.ensures) w.worked.mail;
+      finished = worked-finished _ _ _ _ w.worked;
     }

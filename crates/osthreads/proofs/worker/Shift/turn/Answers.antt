@@ -24,3 +24,15 @@ returns-clause-turns g c =
     let before : old.at < length old.worker.run.now.cores.now = grind (arith, nat_tests, c.if-self-cores.false) in
     subst (λ (more : ℕ). Turns (g.M.Mail.sent) (g.M.Mail.taken) more c.serve.result old.worker c.serve.new.self)
     (no-look (length old.worker.run.now.cores.now) old.at before) c.serve.ensures.turns
+
+pub returns-then-self-cores-clause-stuck : goal.returns-then-self-cores-clause-stuck
+returns-then-self-cores-clause-stuck g c next =
+    let old = c.args.self.now in
+    let last : length old.worker.run.now.cores.now ≤ old.at = omega (arith, c.if-self-cores.true) in
+    absurd (omega (arith, next, last))
+
+pub returns-then-self-cores-2-clause-stuck : goal.returns-then-self-cores-2-clause-stuck
+returns-then-self-cores-2-clause-stuck g c next = c.own.ensures.stuck
+
+pub returns-clause-stuck : goal.returns-clause-stuck
+returns-clause-stuck g c next = absurd (grind (arith, nat_tests, next, c.if-self-cores-2.false))

@@ -1,7 +1,7 @@
 use Rattle.std.proofs.Common.{refl, sym, ◌∙◌}
 use Rattle.oskernel.specs.Wants.{watch_in}
 use Rattle.osturn.specs.declared.asks.Answer.TheVariants.{Unasked}
-use Rattle.osthreads.proofs.Asking.{unasked-no-mail, unasked-silent}
+use Rattle.osthreads.proofs.Asking.{refused-item, unasked-no-mail, unasked-silent}
 use Rattle.osthreads.proofs.Working.{alone-took}
 use Rattle.osthreads.proofs.worker.Worker.go_on.Goals as goal
 
@@ -13,3 +13,11 @@ returns-clause-turns g c stimuli loads done =
     c.requires.asked names (sym c.may_take.ensures.state ∙ c.if-not-may_take.false)
     (record { id = c.take.ensures.id; left = c.take.ensures.stimuli; items = c.take.ensures.taken; does = c.take.ensures.does })
     (unasked-silent old.core.id c.args.ask) (unasked-no-mail old.core.id (watch_in old.core.kernel) c.args.ask c.in-Some.item names) refl (λ d. refl) (λ d. refl)
+
+pub returns-in_default-clause-stuck : goal.returns-in_default-clause-stuck
+returns-in_default-clause-stuck g c item names = absurd (c.in_default.not-Some item (c.named.ensures ∙ names))
+
+pub returns-then-not-may_take-clause-stuck : goal.returns-then-not-may_take-clause-stuck
+returns-then-not-may_take-clause-stuck g c =
+    let old = c.args.self.now in
+    refused-item old.core.id old.core.kernel c.args.ask Unasked c.in-Some.item (sym c.named.ensures ∙ c.in-Some.is) (sym c.may_take.ensures.state ∙ c.if-not-may_take.true)

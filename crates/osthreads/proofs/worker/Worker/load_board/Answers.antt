@@ -4,19 +4,21 @@ use Rattle.oskernel.specs.Wants.{watch_in}
 use Rattle.osseat.specs.Histories.{entry}
 use Rattle.osturn.specs.declared.asks.Ask.TheVariants.{OfBoard}
 use Rattle.osturn.specs.declared.asks.Answer.TheVariants.{Replied}
-use Rattle.osthreads.proofs.Asking.{board-no-mail}
+use Rattle.osthreads.proofs.Asking.{board-no-mail, refused-item}
 use Rattle.osthreads.proofs.Working.{board-took, look-idle}
 use Rattle.osthreads.proofs.worker.Worker.load_board.Goals as goal
 
 pub returns-in_default-clause-turns : goal.returns-in_default-clause-turns
 returns-in_default-clause-turns g c stimuli loads done =
     let old = c.args.self.now in
-    look-idle old.run.now.config.now stimuli loads old.core old.seat.mine _ _ done (entry old.seat.core c.args.call c.call_board.result) _ c.requires.loads c.call_board.ensures.mine
+    look-idle old.run.now.config.now stimuli loads old.core old.seat.mine _ _ done (entry old.seat.core c.args.call c.call_board.result) _ c.requires.loads
+    (λ item names. absurd (c.in_default.not-Some item (c.named.ensures ∙ names))) c.call_board.ensures.mine
 
 pub returns-then-not-may_take-clause-turns : goal.returns-then-not-may_take-clause-turns
 returns-then-not-may_take-clause-turns g c stimuli loads done =
     let old = c.args.self.now in
-    look-idle old.run.now.config.now stimuli loads old.core old.seat.mine _ _ done (entry old.seat.core c.args.call c.call_board.result) _ c.requires.loads c.call_board.ensures.mine
+    look-idle old.run.now.config.now stimuli loads old.core old.seat.mine _ _ done (entry old.seat.core c.args.call c.call_board.result) _ c.requires.loads
+    (refused-item old.core.id old.core.kernel (OfBoard c.args.call) (Replied c.call_board.result) c.in-Some.item (sym c.named.ensures ∙ c.in-Some.is) (sym c.may_take.ensures.state ∙ c.if-not-may_take.true)) c.call_board.ensures.mine
 
 pub returns-clause-turns : goal.returns-clause-turns
 returns-clause-turns g c stimuli loads done =

@@ -10,7 +10,7 @@ use Rattle.oskernel.specs.Wants.{watch_in}
 use Rattle.osturn.specs.declared.asks.Ask.TheVariants.{OfBoard}
 use Rattle.osturn.specs.declared.asks.Answer.TheVariants.{Replied}
 use Rattle.osturn.specs.Asking.{replied}
-use Rattle.osthreads.proofs.Asking.{board-no-mail, replied-by, result-of}
+use Rattle.osthreads.proofs.Asking.{board-no-mail, call-fruitless, replied-by, result-of}
 use Rattle.osthreads.proofs.Working.{board-took}
 use Rattle.osthreads.proofs.worker.Worker.write_board.Goals as goal
 
@@ -30,7 +30,7 @@ take-requires-clause-taken g c =
     let results = result-of old.core.id (watch_in old.core.kernel) c.args.call t.0 c.requires.changes in
     let same : results.item ≡ c.in-Some.item = same_Some _ _ (sym results.names ∙ ap (λ (r : BoardReply). replied old.core.id (watch_in old.core.kernel) c.args.call r) (sym reply) ∙ sym c.named.ensures ∙ c.in-Some.is) in
     subst (λ (i : Item). takes_in 64 old.core.kernel i ≡ true) same
-    (results.taken old.core.kernel (ap (takes_in 64 old.core.kernel) (sym c.item_of_call.ensures) ∙ sym c.may_take.ensures.state ∙ c.if-not-may_take.false))
+    (results.same old.core.kernel ∙ ap (takes_in 64 old.core.kernel) (sym c.item_of_call.ensures) ∙ sym c.may_take.ensures.state ∙ c.if-not-may_take.false)
 
 pub returns-clause-turns : goal.returns-clause-turns
 returns-clause-turns g c stimuli loads done =
@@ -41,9 +41,14 @@ returns-clause-turns g c stimuli loads done =
     let results = result-of old.core.id (watch_in old.core.kernel) c.args.call t.0 c.requires.changes in
     let same : results.item ≡ c.in-Some.item = same_Some _ _ (sym results.names ∙ ap (λ (r : BoardReply). replied old.core.id (watch_in old.core.kernel) c.args.call r) (sym reply) ∙ names) in
     let may = subst (λ (i : Item). takes_in 64 old.core.kernel i ≡ true) same
-    (results.taken old.core.kernel (ap (takes_in 64 old.core.kernel) (sym c.item_of_call.ensures) ∙ sym c.may_take.ensures.state ∙ c.if-not-may_take.false)) in
+    (results.same old.core.kernel ∙ ap (takes_in 64 old.core.kernel) (sym c.item_of_call.ensures) ∙ sym c.may_take.ensures.state ∙ c.if-not-may_take.false) in
     board-took old.run.now.config.now stimuli loads old.core c.take.new.self old.seat.mine _ _ _ _ _ done (OfBoard c.args.call) (Replied c.call_board.result) c.in-Some.item
     c.requires.asked names may
     (record { id = c.take.ensures.id; left = c.take.ensures.stimuli; items = c.take.ensures.taken; does = c.take.ensures.does })
     c.args.call c.call_board.result refl refl (board-no-mail old.core.id (watch_in old.core.kernel) c.args.call c.call_board.result c.in-Some.item names)
     (c.call_board.ensures.mine ∙ ap (λ (id : CoreId). old.seat.mine ++ entry id c.args.call c.call_board.result ∷ []) old.same) (λ d. refl) (λ d. refl)
+
+pub returns-then-not-may_take-clause-stuck : goal.returns-then-not-may_take-clause-stuck
+returns-then-not-may_take-clause-stuck g c =
+    let old = c.args.self.now in
+    call-fruitless old.core.id old.core.kernel c.args.call c.requires.changes (ap (takes_in 64 old.core.kernel) (sym c.item_of_call.ensures) ∙ sym c.may_take.ensures.state ∙ c.if-not-may_take.true)
