@@ -1,7 +1,7 @@
 -- Of a configuration's text the first test that fails has the least fault.
 use Rattle.std.proofs.Common.{◌≡◌, Some, lit<}
 use Rattle.osplan.specs.declared.faults.ConfFault.{ConfFault}
-use Rattle.osshape.specs.declared.shapes.ConfigText.{ConfigText}
+use Rattle.oscheck.specs.Words.{ConfigText}
 use Rattle.osplan.specs.Fault.{IsLeast, failing, first_fault}
 use Rattle.osplan.proofs.Least.{least}
 use Rattle.oscheck.specs.Check.{tests_of}

@@ -1,11 +1,9 @@
 -- The actions of alarms and schedule tables, and what the names in them stand for. [own]
-use Rattle.std.specs.Prelude.{ℕ, ◌&&◌, ◌||◌, not, Bool, Option, unwrap_or, List}
-use Rattle.osbase.specs.declared.messages.RemoteCall.{RemoteCall}
+use Rattle.std.specs.Prelude.{ℕ, ◌||◌, not, Bool, unwrap_or, List}
+use Rattle.oscheck.specs.Words.{Declaration, RemoteCall}
 use Rattle.oscript.specs.Calls.{action_of_op}
 use Rattle.osforms.specs.Action.{is_action}
 use Rattle.osforms.specs.Operation.{has_masks}
-use Rattle.osread.specs.Reading.{value_if}
-use Rattle.osshape.specs.declared.declarations.Declaration.{Declaration}
 use Rattle.oscheck.specs.Operation.{is_operation_known, op_of}
 pub use Rattle.oscript.specs.Calls.{any_action}
 
@@ -20,7 +18,3 @@ is_action_known objects text = not (is_action text) || is_operation_known object
 -- Each mask of an action in form is in its range. Any other text has no masks.
 abbrev pub is_action_masked : List ℕ → Bool
 is_action_masked text = not (is_action text) || has_masks text
-
--- The action of a text that has none of these faults.
-abbrev pub known_action : List Declaration → List ℕ → Option RemoteCall
-known_action objects text = value_if (is_action_known objects text && is_action_masked text && is_action text) (action_of objects text)

@@ -1,10 +1,10 @@
 -- The tests of a configuration's text, a row for each fault past its shape that a text can have so far. Each is defined apart from
--- the others, over the text as it stands. [own]
+-- the others, over the text as it stands, but that no operation with an unknown name is asked for another core's objects. [own]
 use Rattle.std.specs.Prelude.{ℕ, ◌&&◌, nat_le, Bool, Option, None, is_some, option_map, List, [], ◌∷◌, length, map}
 use Rattle.std.specs.List.{list_all}
 use Rattle.std.specs.Option.{option_map_or}
 use Rattle.std.specs.Str.{bytes_eq}
-use Rattle.osbase.specs.declared.references.CoreId.{CoreId}
+use Rattle.oscheck.specs.Words.{AlarmStartText, AlarmText, ConfigText, CoreId, CoreText, CounterText, Declaration, PointText, ResourceText, TableStartText, TableText, TaskText}
 use Rattle.osbase.specs.declared.objects.ObjectKind.TheVariants.{Counter}
 use Rattle.osbase.specs.History.{same_core}
 use Rattle.osforms.specs.Action.{is_action}
@@ -12,18 +12,7 @@ use Rattle.osforms.specs.Operation.{has_masks}
 use Rattle.osplan.specs.Expressible.{are_distinct, is_jumping_within, mode_name}
 use Rattle.osplan.specs.Limits.{TaskSizes, CounterSizes, StartSizes, PointSizes, TableSizes, CoreSizes, Sizes, is_between, is_by, is_task_numbered, is_task_short, is_within, is_table_timed, has_number, are_numbers_distinct, stays_on}
 use Rattle.osplan.specs.declared.faults.ConfFault.TheVariants.{Limit, DuplicateName, UnknownName, WrongCore, BadMask, BadTable, BadScript}
-use Rattle.osshape.specs.declared.shapes.AlarmStartText.{AlarmStartText}
-use Rattle.osshape.specs.declared.shapes.AlarmText.{AlarmText}
-use Rattle.osshape.specs.declared.shapes.ConfigText.{ConfigText}
-use Rattle.osshape.specs.declared.shapes.CoreText.{CoreText}
-use Rattle.osshape.specs.declared.shapes.CounterText.{CounterText}
-use Rattle.osshape.specs.declared.shapes.ResourceText.{ResourceText}
-use Rattle.osshape.specs.declared.shapes.TaskText.{TaskText}
-use Rattle.osshape.specs.declared.table_shapes.PointText.{PointText}
-use Rattle.osshape.specs.declared.table_shapes.TableStartText.{TableStartText}
-use Rattle.osshape.specs.declared.table_shapes.TableText.{TableText}
 use Rattle.osplan.specs.Fault.{Tests}
-use Rattle.osshape.specs.declared.declarations.Declaration.{Declaration}
 use Rattle.oscheck.specs.Action.{is_action_known, is_action_masked}
 use Rattle.osshape.specs.Declarations.{counter_declared, counter_ref, declarations, declared_sizes, id_of, names_of, place_of}
 use Rattle.oscheck.specs.Posted.{posted_at_once}
@@ -37,7 +26,7 @@ task_sizes task = record { priority = task.prio; activations = task.activations;
 abbrev pub counter_sizes : CounterText → CounterSizes
 counter_sizes counter = record { max = counter.max; min = counter.min }
 
--- How an alarm by the counter of this name is set by itself.
+-- How an alarm by the counter of this name is set by itself, with the counter's numbers where one object alone has the name, a counter.
 abbrev pub start_sizes : List Declaration → List ℕ → AlarmStartText → StartSizes
 start_sizes objects counter auto = record { start = auto.start; cycle = auto.cycle; counter = option_map declared_sizes (counter_declared objects counter) }
 
@@ -47,6 +36,7 @@ alarm_sizes objects alarm = option_map (start_sizes objects alarm.counter) alarm
 abbrev pub point_sizes : PointText → PointSizes
 point_sizes point = record { offset = point.offset; actions = length point.actions }
 
+-- The numbers of a table, and its counter's likewise.
 abbrev pub table_sizes : List Declaration → TableText → TableSizes
 table_sizes objects table = record {
   duration = table.duration;
@@ -56,10 +46,11 @@ table_sizes objects table = record {
   counter = option_map declared_sizes (counter_declared objects table.counter);
 }
 
--- The same, whichever its counter is.
+-- The same without its counter's.
 abbrev pub table_times : TableText → TableSizes
 table_times table = record (table_sizes [] table) { counter = None }
 
+-- All numbers of a core that have limits.
 abbrev pub core_sizes : List Declaration → CoreText → CoreSizes
 core_sizes objects core = record {
   number = core.id;
@@ -76,11 +67,11 @@ core_sizes objects core = record {
 abbrev pub bare_sizes : CoreText → CoreSizes
 bare_sizes core = record (core_sizes [] core) { counters = []; alarms = []; tables = []; posted = 0 }
 
--- There is one mode.
+-- All numbers of a text that have limits. There is one mode.
 abbrev pub sizes_of : ConfigText → Sizes
 sizes_of t = record { modes = 1; cap = t.cap; cores = map (core_sizes (declarations t)) t.cores }
 
--- Of version 1, which a text alone has, and within the limits.
+-- The version, which no configuration keeps, is 1, and the numbers are within the limits.
 abbrev pub is_text_within : ConfigText → Bool
 is_text_within t = is_between 1 1 t.version && is_within (sizes_of t)
 
@@ -140,23 +131,9 @@ is_core_known objects core = list_all (is_task_known objects) core.tasks && list
 abbrev pub are_known : ConfigText → Bool
 are_known t = has_number (numbers_of t.cores) t.master && list_all (is_core_known (declarations t)) t.cores
 
--- A script whose operations are few and whose names are known can be read into a plan.
-abbrev pub are_operations_readable : List Declaration → List ℕ → Bool
-are_operations_readable objects script = nat_le (length (operations_of script)) 256 && are_operations_known objects script
-
-abbrev pub is_task_readable : List Declaration → TaskText → Bool
-is_task_readable objects task = list_all is_mode_name task.auto && are_operations_readable objects task.script
-
-abbrev pub is_core_readable : List Declaration → CoreText → Bool
-is_core_readable objects core = list_all (is_task_readable objects) core.tasks && list_all (is_alarm_known objects) core.alarms && list_all (is_table_known objects) core.tables
-
-abbrev pub are_readable : ConfigText → Bool
-are_readable t = has_number (numbers_of t.cores) t.master && list_all (is_core_readable (declarations t)) t.cores
-
 -- ---- names of other cores' objects
 
--- The operation that the text names, whatever its numbers are, names no object of another core than this one, where it may
--- name the core's own alone.
+-- An operation that may name its own core's objects alone names no other core's, whatever its numbers are.
 abbrev pub is_operation_near : List Declaration → CoreId → List ℕ → Bool
 is_operation_near objects id text = stays_on id (named_op objects text)
 
@@ -237,6 +214,7 @@ are_operations t = list_all (is_core_script (declarations t)) t.cores
 
 -- ---- the table, in ascending order of faults
 
--- The tests of a configuration's text. Each holds if the text has not that fault, whatever other faults it has. [own]
+-- The tests of a configuration's text. Each holds if the text has not that fault, whatever other faults it has; that of another core's
+-- objects passes an operation with an unknown name, which has a smaller fault. [own]
 abbrev pub tests_of : ConfigText → Tests
 tests_of t = (Limit, is_text_within t) ∷ (DuplicateName, is_each_once t) ∷ (UnknownName, are_known t) ∷ (WrongCore, are_near t) ∷ (BadMask, are_masks t) ∷ (BadTable, are_timed t) ∷ (BadScript, are_operations t) ∷ []

@@ -1,11 +1,9 @@
 -- How many objects a text has, before anything is asked of their names. [own]
 use Rattle.std.specs.Prelude.{◌&&◌, nat_le, Bool, length}
 use Rattle.std.specs.List.{list_all}
-use Rattle.osbase.specs.declared.objects.ObjectKind.{ObjectKind}
+use Rattle.oscheck.specs.Words.{ConfigText, CoreText, ObjectKind}
 use Rattle.osplan.specs.declared.plans.TheConstants.{KINDS}
 use Rattle.osplan.specs.Limits.{most_cores, most_of}
-use Rattle.osshape.specs.declared.shapes.ConfigText.{ConfigText}
-use Rattle.osshape.specs.declared.shapes.CoreText.{CoreText}
 use Rattle.osshape.specs.Shape.{objects_in}
 
 -- No more of each kind than a core may have.

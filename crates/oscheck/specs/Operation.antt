@@ -1,10 +1,9 @@
 -- The operations of a script, and what the names in them stand for. [own]
-use Rattle.std.specs.Prelude.{ℕ, ◌&&◌, Bool, Option, unwrap_or, List}
-use Rattle.oscript.specs.declared.Op.{Op}
+use Rattle.std.specs.Prelude.{ℕ, Bool, unwrap_or, List}
+use Rattle.oscheck.specs.Words.{Declaration, Op}
 use Rattle.oscript.specs.declared.Op.TheVariants.{Work}
-use Rattle.osforms.specs.Operation.{op_meant, op_named, has_masks, is_formed, is_known}
-use Rattle.osread.specs.Reading.{value_if, parts_of}
-use Rattle.osshape.specs.declared.declarations.Declaration.{Declaration}
+use Rattle.osforms.specs.Operation.{op_meant, op_named, is_formed, is_known}
+use Rattle.osread.specs.Reading.{parts_of}
 use Rattle.osshape.specs.Declarations.{place_of}
 
 -- A script's operations are divided by `;`.
@@ -28,7 +27,3 @@ op_of objects text = unwrap_or (op_meant (place_of objects) text) Work
 -- The operation that a text names, whatever its numbers are.
 abbrev pub named_op : List Declaration → List ℕ → Op
 named_op objects text = unwrap_or (op_named (place_of objects) text) Work
-
--- The operation of a text that has none of these faults.
-abbrev pub known_op : List Declaration → List ℕ → Option Op
-known_op objects text = value_if (is_operation_known objects text && has_masks text && is_operation text) (op_of objects text)

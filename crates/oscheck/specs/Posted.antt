@@ -1,18 +1,12 @@
 -- How many envelopes a core's alarms and tables may add to its outbox at once, by their texts. [own]
 use Rattle.std.specs.Prelude.{ℕ, ◌+◌, Bool, false, not, option_and_then, List, map, count_by, sum_by}
 use Rattle.std.specs.Option.{option_map_or}
-use Rattle.osbase.specs.declared.references.CoreId.{CoreId}
-use Rattle.osbase.specs.declared.messages.RemoteCall.{RemoteCall}
+use Rattle.oscheck.specs.Words.{AlarmText, CoreId, CoreText, Declaration, PointText, RemoteCall, TableText}
 use Rattle.osbase.specs.History.{same_core}
 use Rattle.osbase.specs.Objects.{object_of_call}
 use Rattle.oscript.specs.Calls.{action_of_op}
 use Rattle.osforms.specs.Operation.{op_meant}
 use Rattle.osplan.specs.Objects.{greatest_of}
-use Rattle.osshape.specs.declared.declarations.Declaration.{Declaration}
-use Rattle.osshape.specs.declared.shapes.AlarmText.{AlarmText}
-use Rattle.osshape.specs.declared.shapes.CoreText.{CoreText}
-use Rattle.osshape.specs.declared.table_shapes.PointText.{PointText}
-use Rattle.osshape.specs.declared.table_shapes.TableText.{TableText}
 use Rattle.osshape.specs.Declarations.{id_of, place_alone}
 
 -- The text is an action whose name is one object's alone, a task of another core than this one.
@@ -20,6 +14,7 @@ abbrev pub is_posting : List Declaration → CoreId → List ℕ → Bool
 is_posting objects id text =
     option_map_or (λ (action : RemoteCall). not (same_core (object_of_call action).place.core id)) (option_and_then action_of_op (op_meant (place_alone objects) text)) false
 
+-- How many actions of a point post, and of that point of a table that has most.
 abbrev pub posted_at : List Declaration → CoreId → PointText → ℕ
 posted_at objects id point = count_by (is_posting objects id) point.actions
 
@@ -32,5 +27,6 @@ posted_by_alarms objects id alarms = count_by (λ (alarm : AlarmText). is_postin
 abbrev pub posted_by_tables : List Declaration → CoreId → List TableText → ℕ
 posted_by_tables objects id tables = sum_by (greatest_posted objects id) tables
 
+-- Each alarm that posts adds one envelope, and each table those of one point.
 abbrev pub posted_at_once : List Declaration → CoreText → ℕ
 posted_at_once objects core = posted_by_alarms objects (id_of core) core.alarms + posted_by_tables objects (id_of core) core.tables

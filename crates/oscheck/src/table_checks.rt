@@ -6,14 +6,11 @@ ghost use Rattle.std.specs.Option.{option_map_or};
 ghost use Rattle.osshape.specs.declared.table_shapes.PointText.{PointText as Point};
 ghost use Rattle.osshape.specs.declared.table_shapes.TableText.{TableText as Table};
 ghost use Rattle.osplan.specs.Limits.{are_alarms_within, are_ascending, are_tables_within, delays, first_offset, is_before, is_delay, is_final, is_point_within, is_table_start_within, is_table_timed, is_table_within, is_timed_by, last_offset, most_posted};
-ghost use Rattle.oscheck.specs.Action.{is_action_known, is_action_masked};
 ghost use Rattle.osshape.specs.Declarations.{declared_sizes, place_alone};
 ghost use Rattle.oscheck.specs.Posted.{greatest_posted, is_posting, posted_at, posted_by_alarms, posted_by_tables, posted_at_once};
-ghost use Rattle.oscheck.specs.Check.{alarm_sizes, is_mode_name, is_point_known, is_point_masked, is_table_known, is_table_masked, is_table_near, point_sizes, table_modes, table_sizes, table_times};
+ghost use Rattle.oscheck.specs.Check.{alarm_sizes, is_mode_name, point_sizes, table_modes, table_sizes, table_times};
 
-use crate::checks::{
-    are_mode_names, is_action_known, is_action_masked, is_between, is_counter, is_counter_near,
-};
+use crate::checks::{are_mode_names, is_between};
 use osbase::{ACTIONS, CoreId, GREATEST_DURATION, ObjectKind, POINTS, POSTED, Place, TABLES};
 use oscript::action_of_op;
 use osforms::{Places, op_meant};
@@ -180,22 +177,6 @@ pub fn are_posted_few(objects: &Objects, core: &CoreText) -> bool
     by_alarms + by_tables <= POSTED
 }
 
-fn is_point_known(objects: &Objects, point: &PointText) -> bool
-    ensures { result ≡ is_point_known objects.now.declared point.now }
-{
-    point
-        .actions
-        .as_slice()
-        .iter()
-        .all(|text| is_action_known(objects, text.as_str()))
-}
-
-fn are_points_known(objects: &Objects, points: &[PointText]) -> bool
-    ensures { result ≡ list_all (is_point_known objects.now.declared) points.now }
-{
-    points.iter().all(|point| is_point_known(objects, point))
-}
-
 /// Whether each mode in which the table is started by itself is the only one.
 pub fn are_table_modes(table: &TableText) -> bool
     ensures { result ≡ list_all is_mode_name (table_modes table.now) }
@@ -204,51 +185,6 @@ pub fn are_table_modes(table: &TableText) -> bool
         Some(auto) => are_mode_names(auto.modes.as_slice()),
         None => true,
     }
-}
-
-fn is_table_known(objects: &Objects, table: &TableText) -> bool
-    ensures { result ≡ is_table_known objects.now.declared table.now }
-{
-    is_counter(objects, table.counter.as_str())
-        && are_points_known(objects, table.points.as_slice())
-        && are_table_modes(table)
-}
-
-/// Whether what the tables name is there.
-pub fn are_tables_known(objects: &Objects, tables: &[TableText]) -> bool
-    ensures { result ≡ list_all (is_table_known objects.now.declared) tables.now }
-{
-    tables.iter().all(|table| is_table_known(objects, table))
-}
-
-/// Whether the tables' counters, those that there are, stand on this core.
-pub fn are_tables_near(objects: &Objects, id: CoreId, tables: &[TableText]) -> bool
-    ensures { result ≡ list_all (is_table_near objects.now.declared id) tables.now }
-{
-    tables.iter().all(|table| is_counter_near(objects, id, table.counter.as_str()))
-}
-
-fn is_point_masked(point: &PointText) -> bool
-    ensures { result ≡ is_point_masked point.now }
-{
-    point
-        .actions
-        .as_slice()
-        .iter()
-        .all(|text| is_action_masked(text.as_str()))
-}
-
-fn is_table_masked(table: &TableText) -> bool
-    ensures { result ≡ is_table_masked table.now }
-{
-    table.points.as_slice().iter().all(is_point_masked)
-}
-
-/// Whether each mask in an action in form is in its range.
-pub fn are_tables_masked(tables: &[TableText]) -> bool
-    ensures { result ≡ list_all is_table_masked tables.now }
-{
-    tables.iter().all(is_table_masked)
 }
 
 fn is_before(point: &PointText, next: &PointText) -> bool

@@ -1,11 +1,5 @@
+pub mod Right
 pub mod Alarms
-pub mod Named
-pub mod Planned
-pub mod Numbers
-pub mod Standing
-pub mod Bounds
-pub mod Sayings
-pub mod Known
-pub mod Tabled
-pub mod Sending
-pub mod Faultless
+pub mod Found
+pub mod Meant
+pub mod Loops

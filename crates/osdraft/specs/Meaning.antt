@@ -1,42 +1,19 @@
 -- The configuration that a text means, and the faults that a text has. [own]
-use Rattle.std.specs.Prelude.{ℕ, ◌&&◌, Option, option_and_then, option_map, List, [], ◌∷◌, map}
+use Rattle.std.specs.Prelude.{ℕ, Option, option_and_then, option_map, List, [], ◌∷◌, map}
 use Rattle.std.specs.Option.{option_map_or}
-use Rattle.osbase.specs.declared.references.CoreId.{CoreId}
-use Rattle.osbase.specs.declared.references.ModeId.{ModeId}
-use Rattle.osplan.specs.declared.plans.Alarm.{Alarm}
-use Rattle.osplan.specs.declared.plans.AlarmStart.{AlarmStart}
-use Rattle.osplan.specs.declared.plans.Plan.{Plan}
-use Rattle.osplan.specs.declared.plans.Core.{Core}
-use Rattle.osplan.specs.declared.plans.Counter.{Counter}
-use Rattle.osplan.specs.declared.plans.Resource.{Resource}
-use Rattle.osplan.specs.declared.plans.ExpiryPoint.{ExpiryPoint}
-use Rattle.osplan.specs.declared.plans.Table.{Table}
-use Rattle.osplan.specs.declared.plans.TableStart.{TableStart}
-use Rattle.osplan.specs.declared.plans.Task.{Task}
+use Rattle.oscheck.specs.Words.{Alarm, AlarmStart, AlarmStartText, AlarmText, ConfigText, Core, CoreId, CoreText, Counter, CounterText, Declaration, ExpiryPoint, ModeId, Plan, PointText, Resource, ResourceText, Table, TableStart, TableStartText, TableText, Task, TaskText}
 use Rattle.osbase.specs.declared.items.CoreMode.TheVariants.{Named}
 use Rattle.serde_json.specs.Data.{Data}
 use Rattle.serde_json.specs.Read.{read}
 use Rattle.osplan.specs.declared.faults.ConfFault.{ConfFault}
 use Rattle.osplan.specs.declared.faults.ConfFault.TheVariants.{NotJson, Shape}
-use Rattle.osshape.specs.declared.shapes.AlarmStartText.{AlarmStartText}
-use Rattle.osshape.specs.declared.shapes.AlarmText.{AlarmText}
-use Rattle.osshape.specs.declared.shapes.ConfigText.{ConfigText}
-use Rattle.osshape.specs.declared.shapes.CoreText.{CoreText}
-use Rattle.osshape.specs.declared.shapes.CounterText.{CounterText}
-use Rattle.osshape.specs.declared.shapes.ResourceText.{ResourceText}
-use Rattle.osshape.specs.declared.shapes.TaskText.{TaskText}
-use Rattle.osshape.specs.declared.table_shapes.PointText.{PointText}
-use Rattle.osshape.specs.declared.table_shapes.TableStartText.{TableStartText}
-use Rattle.osshape.specs.declared.table_shapes.TableText.{TableText}
 use Rattle.osplan.specs.Expressible.{mode_name}
 use Rattle.osplan.specs.Fault.{IsLeast, failing, if_faultless}
 use Rattle.osshape.specs.Shape.{config_shape}
-use Rattle.osshape.specs.declared.declarations.Declaration.{Declaration}
 use Rattle.oscheck.specs.Action.{action_of}
 use Rattle.osshape.specs.Declarations.{byte_of, counter_ref, declarations, number_id, id_of, word_of}
 use Rattle.oscheck.specs.Operation.{operations_of, op_of}
-use Rattle.oscheck.specs.Check.{is_task_readable, is_core_readable, is_alarm_known, is_point_known, is_table_known, is_point_masked, is_table_masked, is_point_acting, is_table_acting, is_task_masked, is_alarm_masked, is_core_masked, is_task_script, is_alarm_acting, is_core_script, tests_of}
-use Rattle.osread.specs.Reading.{value_if}
+use Rattle.oscheck.specs.Check.{tests_of}
 
 -- There is one mode, of number 0.
 abbrev pub only_mode : ModeId
@@ -100,22 +77,6 @@ core_plan objects core = record {
   alarms = map (alarm_plan objects (id_of core)) core.alarms;
   tables = map (table_plan objects (id_of core)) core.tables;
 }
-
--- The plans of a task, an alarm, a point, a table and a core whose names are known, whose operations are few, whose masks are in their range and whose scripts have no fault.
-abbrev pub known_task : List Declaration → TaskText → Option Task
-known_task objects task = value_if (is_task_readable objects task && is_task_masked task && is_task_script objects task) (task_plan objects task)
-
-abbrev pub known_alarm : List Declaration → CoreId → AlarmText → Option Alarm
-known_alarm objects id alarm = value_if (is_alarm_known objects alarm && is_alarm_masked alarm && is_alarm_acting alarm) (alarm_plan objects id alarm)
-
-abbrev pub known_point : List Declaration → PointText → Option ExpiryPoint
-known_point objects point = value_if (is_point_known objects point && is_point_masked point && is_point_acting point) (point_plan objects point)
-
-abbrev pub known_table : List Declaration → CoreId → TableText → Option Table
-known_table objects id table = value_if (is_table_known objects table && is_table_masked table && is_table_acting table) (table_plan objects id table)
-
-abbrev pub known_core : List Declaration → CoreText → Option Core
-known_core objects core = value_if (is_core_readable objects core && is_core_masked core && is_core_script objects core) (core_plan objects core)
 
 abbrev pub plan_of : ConfigText → Plan
 plan_of t = record {

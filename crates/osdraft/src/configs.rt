@@ -10,7 +10,7 @@ ghost use Rattle.oscheck.specs.Check.{tests_of};
 ghost use Rattle.osdraft.specs.Meaning.{plan_of, config_of, IsLeastFault};
 
 use crate::plans::plan_of;
-use oscheck::{are_objects_few, fault_of, is_each_once, is_numbered};
+use oscheck::{Judged, are_objects_few, fault_of, is_numbered};
 use osplan::{ConfFault, Config, Plan};
 use osread::{JsonReader, Refusal, value_of};
 use osshape::{ConfigReader, ConfigText, Objects};
@@ -39,8 +39,8 @@ fn shape_of(alloc: Global, value: &Value) -> Result<ConfigText<'_>, ConfFault>
     }
 }
 
-// Scripts are counted and judged while the plan is made, and again where it cannot be.
-#[tactic(auto, using(oscheck::proofs::Counting::within_split, oscheck::proofs::Counting::readable_split, oscheck::proofs::Few::too_many))]
+// The plan of a text without a fault. Its parts are made where they are judged.
+#[tactic(auto, using(oscheck::proofs::Counting::within_split, oscheck::proofs::Counting::too_many, crate::proofs::Loops::no_fault))]
 fn plan_if_faultless(alloc: Global, text: &ConfigText) -> Result<Plan, ConfFault>
     requires named { IsTrue (list_all has_named_objects text.now.cores) }
     ensures ok { IfOk result (λ plan. (failing (tests_of text.now) ≡ []) × (plan ≡ plan_of text.now)) }
@@ -53,13 +53,10 @@ fn plan_if_faultless(alloc: Global, text: &ConfigText) -> Result<Plan, ConfFault
     if !is_numbered(text, &objects) {
         return Err(ConfFault::Limit);
     }
-    if !is_each_once(text, &objects) {
-        return Err(fault_of(text, &objects));
-    }
-    match plan_of(alloc, text, &objects) {
-        Ok(plan) => Ok(plan),
-        Err(Refusal::OutOfMemory) => Err(ConfFault::NoMemory),
-        Err(Refusal::Unfit) => Err(fault_of(text, &objects)),
+    let Judged { value, verdict } = plan_of(alloc, text, &objects)?;
+    match fault_of(text, &objects, verdict) {
+        Some(fault) => Err(fault),
+        None => Ok(value),
     }
 }
 

@@ -1,7 +1,7 @@
 -- Tests of lists and of the lists made of them.
-use Rattle.std.proofs.Common.{inl, inr, ◌≡◌, Bool, true, List, [], ◌∷◌, map, refl, sym, ◌∙◌}
+use Rattle.std.proofs.Common.{inl, inr, ◌≡◌, ◌&&◌, Bool, true, List, [], ◌∷◌, map, refl, sym, ◌∙◌, arith}
 use Rattle.std.specs.List.{list_all, list_any}
-use Rattle.std.proofs.lemmas.Bool.{and_parts, and_from, true≢false, or_cases, or_left, or_right}
+use Rattle.std.proofs.lemmas.Bool.{and_from, true≢false, or_cases, or_left, or_right}
 use Rattle.std.proofs.lemmas.List.Folds.{list_all-map}
 use Rattle.osplan.proofs.Tests.{all-weaker}
 
@@ -27,11 +27,24 @@ list_any-by p q f each (x ∷ xs) h =
 
 pub map-back : {X Y : Type 0} (f : Y → X) (g : X → Y) (p : X → Bool) → ((x : X) → p x ≡ true → f (g x) ≡ x) → (xs : List X) → list_all p xs ≡ true → map f (map g xs) ≡ xs
 map-back f g p back [] a = refl
-map-back f g p back (x ∷ xs) a = let parts = and_parts (p x) (list_all p xs) a in rw (back x parts.0, map-back f g p back xs parts.1) refl
+map-back f g p back (x ∷ xs) a = rw (back x (grind arith), map-back f g p back xs (grind arith)) refl
 
 pub map-same : {X Y Z : Type 0} (f : Y → Z) (g : X → Y) (h : X → Z) (p : X → Bool) → ((x : X) → p x ≡ true → f (g x) ≡ h x) → (xs : List X) → list_all p xs ≡ true → map f (map g xs) ≡ map h xs
 map-same f g h p same [] a = refl
-map-same f g h p same (x ∷ xs) a = let parts = and_parts (p x) (list_all p xs) a in rw (same x parts.0, map-same f g h p same xs parts.1) refl
+map-same f g h p same (x ∷ xs) a = rw (same x (grind arith), map-same f g h p same xs (grind arith)) refl
+
+-- two tests of all, one after the other
+pub all-split : {X : Type 0} (p q r : X → Bool) → ((x : X) → p x ≡ (q x && r x)) → (xs : List X) → list_all p xs ≡ (list_all q xs && list_all r xs)
+all-split p q r each [] = refl
+all-split p q r each (x ∷ xs) = rw (each x, all-split p q r each xs) (grind arith)
+
+pub all-apart : {X : Type 0} (p q : X → Bool) (xs : List X) → list_all (λ x. p x && q x) xs ≡ true → (list_all p xs && list_all q xs) ≡ true
+all-apart p q xs h = sym (all-split (λ x. p x && q x) p q (λ x. refl) xs) ∙ h
+
+-- two tests that agree where a third holds
+pub all-same : {X Y : Type 0} (q : Y → Bool) (g : X → Y) (p r : X → Bool) → ((x : X) → r x ≡ true → q (g x) ≡ p x) → (xs : List X) → list_all r xs ≡ true → list_all q (map g xs) ≡ list_all p xs
+all-same q g p r same [] a = refl
+all-same q g p r same (x ∷ xs) a = rw (same x (grind arith), all-same q g p r same xs (grind arith)) refl
 
 -- a test of each element of a list that is made of another
 pub ruleset mapped = (list_all-map)

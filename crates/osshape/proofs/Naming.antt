@@ -1,8 +1,8 @@
 -- The objects that a text declares have names in form, and so has each text that names one.
-use Rattle.std.proofs.Common.{◌≡◌, ℕ, ◌+◌, true, List, [], ◌∷◌, ◌++◌, map, Option, Some, None, refl, sym, ap, ◌∙◌}
+use Rattle.std.proofs.Common.{◌≡◌, ℕ, ◌+◌, true, List, [], ◌∷◌, ◌++◌, map, Option, Some, None, refl, sym, ap, ◌∙◌, arith}
 use Rattle.std.specs.List.{list_all, enumerate_from, find, flat_map}
 use Rattle.std.specs.Option.{IfSome}
-use Rattle.std.proofs.lemmas.Bool.{and_parts, and_from}
+use Rattle.std.proofs.lemmas.Bool.{and_from}
 use Rattle.std.proofs.lemmas.List.{map-append}
 use Rattle.std.proofs.lemmas.List.Folds.{list_all-append}
 use Rattle.std.proofs.lemmas.Slice.Eq.{bytes_eq-Decides}
@@ -22,9 +22,7 @@ use Rattle.osshape.specs.Declarations.{declaration, declared_of, declared_by, ha
 
 each-named : (core : CoreText) (kind : ObjectKind) (n : ℕ) (objects : List Named) → list_all (λ (named : Named). is_name named.name) objects ≡ true → list_all (λ (d : Declaration). is_name d.name) (map (declaration core kind) (enumerate_from n objects)) ≡ true
 each-named core kind n [] named = refl
-each-named core kind n (object ∷ objects) named =
-    let parts = and_parts (is_name object.name) _ named in
-    and_from _ _ parts.0 (each-named core kind (n + 1) objects parts.1)
+each-named core kind n (object ∷ objects) named = and_from _ _ (grind arith) (each-named core kind (n + 1) objects (grind arith))
 
 objects-named : (core : CoreText) → has_named_objects core ≡ true → list_all (λ (d : Declaration). is_name d.name) (declared_by core) ≡ true
 objects-named core named =
@@ -34,8 +32,7 @@ objects-named core named =
 pub declared-named : (cores : List CoreText) → list_all has_named_objects cores ≡ true → list_all (λ (d : Declaration). is_name d.name) (flat_map declared_by cores) ≡ true
 declared-named [] named = refl
 declared-named (core ∷ cores) named =
-    let parts = and_parts (has_named_objects core) (list_all has_named_objects cores) named in
-    list_all-append (λ (d : Declaration). is_name d.name) (declared_by core) (flat_map declared_by cores) ∙ and_from _ _ (objects-named core parts.0) (declared-named cores parts.1)
+    list_all-append (λ (d : Declaration). is_name d.name) (declared_by core) (flat_map declared_by cores) ∙ and_from _ _ (objects-named core (grind arith)) (declared-named cores (grind arith))
 
 -- ---- the names of what a core declares are those of its objects
 
@@ -50,13 +47,20 @@ names-by core (kind ∷ kinds) =
     ∙ ap (λ names. names ++ map (λ (d : Declaration). d.name) (flat_map (declared_of core) kinds)) (each-name core kind 0 (objects_in kind core))
     ∙ ap (λ names. map (λ (named : Named). named.name) (objects_in kind core) ++ names) (names-by core kinds)
 
--- So they are those of a configuration's core whose names of each kind are the text's.
-pub names-declared : (plan : Core) (core : CoreText) → ((kind : ObjectKind) → names_in kind plan ≡ map (λ (named : Named). named.name) (objects_in kind core)) → map (λ (d : Declaration). d.name) (declared_by core) ≡ object_names plan
+-- So they are those of a configuration's core whose names of each kind are the text's,
+names-declared : (plan : Core) (core : CoreText) → ((kind : ObjectKind) → names_in kind plan ≡ map (λ (named : Named). named.name) (objects_in kind core)) → map (λ (d : Declaration). d.name) (declared_by core) ≡ object_names plan
 names-declared plan core same = names-by core KINDS ∙ sym (by KINDS)
   where
     by : (kinds : List ObjectKind) → flat_map (λ (kind : ObjectKind). names_in kind plan) kinds ≡ flat_map (λ (kind : ObjectKind). map (λ (named : Named). named.name) (objects_in kind core)) kinds
     by [] = refl
     by (kind ∷ kinds) = rw (same kind, by kinds) refl
+
+-- core by core.
+pub names-of-all : {X : Type 0} (plan : X → Core) (core : X → CoreText) → ((x : X) (kind : ObjectKind) → names_in kind (plan x) ≡ map (λ (named : Named). named.name) (objects_in kind (core x))) → (xs : List X)
+    → map (λ (d : Declaration). d.name) (flat_map (λ x. declared_by (core x)) xs) ≡ flat_map (λ x. object_names (plan x)) xs
+names-of-all plan core same [] = refl
+names-of-all plan core same (x ∷ xs) =
+    map-append (λ (d : Declaration). d.name) (declared_by (core x)) (flat_map (λ y. declared_by (core y)) xs) ∙ rw (names-declared (plan x) (core x) (same x), names-of-all plan core same xs) refl
 
 pub if-named : (objects : List Declaration) (name : List ℕ) (d : Declaration) (found : Option Place) → list_all (λ (d : Declaration). is_name d.name) objects ≡ true → find (has_name name) objects ≡ Some d → IfSome found (λ place. is_name name ≡ true)
 if-named objects name d None named is = tt

@@ -6,7 +6,8 @@ use Rattle.std.proofs.lemmas.Bool.{and_parts, ltb-true, not-true}
 use Rattle.serde_json.specs.Data.{Data, Items, Members, null, boolean, number, string, array, object, no_items, item, no_members, member, depth, items_depth, members_depth}
 use Rattle.serde_json.specs.View.{items_of}
 use Rattle.serde_json.specs.Written.{has_float, items_have_float, members_have_float}
-use Rattle.osplan.specs.declared.plans.Plan.{Plan}
+use Rattle.oscheck.specs.Words.{Plan}
+use Rattle.osdraft.proofs.Loops.{always}
 use Rattle.oswrite.specs.Writing.{config_data, or_null_data}
 
 -- ---- data without floats that nests no deeper than a number says
@@ -29,38 +30,29 @@ abbrev mutual
   has_plain n (member k d ms) = is_plain n d && has_plain n ms
 
 mutual
-  plain-float : (n : ℕ) (d : Data) → is_plain n d ≡ true → has_float d ≡ false
-  plain-float n null h = refl
-  plain-float n (boolean b) h = refl
-  plain-float n (number k) h = not-true (has_float (number k)) h
-  plain-float n (string s) h = refl
-  plain-float n (array ds) h = items-float (n - 1) ds (and_parts (nat_lt 0 n) (are_plain (n - 1) ds) h).1
-  plain-float n (object ms) h = members-float (n - 1) ms (and_parts (nat_lt 0 n) (has_plain (n - 1) ms) h).1
+  plain-fits : (n : ℕ) (d : Data) → is_plain n d ≡ true → (has_float d ≡ false) × (depth d ≤ n)
+  plain-fits n null h = (refl, omega arith)
+  plain-fits n (boolean b) h = (refl, omega arith)
+  plain-fits n (number k) h = (not-true (has_float (number k)) h, omega arith)
+  plain-fits n (string s) h = (refl, omega arith)
+  plain-fits n (array ds) h = let parts = and_parts (nat_lt 0 n) (are_plain (n - 1) ds) h in let fit = items-fit (n - 1) ds parts.1 in (fit.0, omega (arith, ltb-true 0 n parts.0, fit.1))
+  plain-fits n (object ms) h = let parts = and_parts (nat_lt 0 n) (has_plain (n - 1) ms) h in let fit = members-fit (n - 1) ms parts.1 in (fit.0, omega (arith, ltb-true 0 n parts.0, fit.1))
 
-  items-float : (n : ℕ) (ds : Items) → are_plain n ds ≡ true → items_have_float ds ≡ false
-  items-float n no_items h = refl
-  items-float n (item d ds) h = let parts = and_parts (is_plain n d) (are_plain n ds) h in rw (plain-float n d parts.0) (items-float n ds parts.1)
+  items-fit : (n : ℕ) (ds : Items) → are_plain n ds ≡ true → (items_have_float ds ≡ false) × (items_depth ds ≤ n)
+  items-fit n no_items h = (refl, omega arith)
+  items-fit n (item d ds) h =
+      let parts = and_parts (is_plain n d) (are_plain n ds) h in
+      let first = plain-fits n d parts.0 in
+      let rest = items-fit n ds parts.1 in
+      (rw first.0 rest.0, omega (arith, first.1, rest.1))
 
-  members-float : (n : ℕ) (ms : Members) → has_plain n ms ≡ true → members_have_float ms ≡ false
-  members-float n no_members h = refl
-  members-float n (member k d ms) h = let parts = and_parts (is_plain n d) (has_plain n ms) h in rw (plain-float n d parts.0) (members-float n ms parts.1)
-
-mutual
-  plain-depth : (n : ℕ) (d : Data) → is_plain n d ≡ true → depth d ≤ n
-  plain-depth n null h = omega arith
-  plain-depth n (boolean b) h = omega arith
-  plain-depth n (number k) h = omega arith
-  plain-depth n (string s) h = omega arith
-  plain-depth n (array ds) h = let parts = and_parts (nat_lt 0 n) (are_plain (n - 1) ds) h in omega (arith, ltb-true 0 n parts.0, items-depth (n - 1) ds parts.1)
-  plain-depth n (object ms) h = let parts = and_parts (nat_lt 0 n) (has_plain (n - 1) ms) h in omega (arith, ltb-true 0 n parts.0, members-depth (n - 1) ms parts.1)
-
-  items-depth : (n : ℕ) (ds : Items) → are_plain n ds ≡ true → items_depth ds ≤ n
-  items-depth n no_items h = omega arith
-  items-depth n (item d ds) h = let parts = and_parts (is_plain n d) (are_plain n ds) h in omega (arith, plain-depth n d parts.0, items-depth n ds parts.1)
-
-  members-depth : (n : ℕ) (ms : Members) → has_plain n ms ≡ true → members_depth ms ≤ n
-  members-depth n no_members h = omega arith
-  members-depth n (member k d ms) h = let parts = and_parts (is_plain n d) (has_plain n ms) h in omega (arith, plain-depth n d parts.0, members-depth n ms parts.1)
+  members-fit : (n : ℕ) (ms : Members) → has_plain n ms ≡ true → (members_have_float ms ≡ false) × (members_depth ms ≤ n)
+  members-fit n no_members h = (refl, omega arith)
+  members-fit n (member k d ms) h =
+      let parts = and_parts (is_plain n d) (has_plain n ms) h in
+      let first = plain-fits n d parts.0 in
+      let rest = members-fit n ms parts.1 in
+      (rw first.0 rest.0, omega (arith, first.1, rest.1))
 
 -- ---- what data is made of
 
@@ -72,19 +64,11 @@ null-plain : {X : Type 0} (n : ℕ) (f : X → Data) (o : Option X) → is_plain
 null-plain n f None = refl
 null-plain n f (Some x) = refl
 
-always : {X : Type 0} (xs : List X) → list_all (λ (x : X). true) xs ≡ true
-always [] = refl
-always (x ∷ xs) = always xs
-
 either : {X : Type 0} (o : Option X) → option_map_or (λ (x : X). true) o true ≡ true
-either None = refl
-either (Some x) = refl
+either o = grind arith
 
 plain : (plan : Plan) → is_plain 127 (config_data plan) ≡ true
 plain plan = simp (list-plain, null-plain, always, either)
 
-pub config-float : (plan : Plan) → has_float (config_data plan) ≡ false
-config-float plan = plain-float 127 (config_data plan) (plain plan)
-
-pub config-depth : (plan : Plan) → depth (config_data plan) ≤ 127
-config-depth plan = plain-depth 127 (config_data plan) (plain plan)
+pub config-fits : (plan : Plan) → (has_float (config_data plan) ≡ false) × (depth (config_data plan) ≤ 127)
+config-fits plan = plain-fits 127 (config_data plan) (plain plan)

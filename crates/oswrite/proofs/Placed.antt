@@ -1,31 +1,34 @@
--- An object's name stands for the object, since no other has it.
-use Rattle.std.proofs.Common.{◌≡◌, ℕ, zero, suc, ◌+◌, ◌≤◌, ◌⊎◌, Bool, true, false, not, cond, List, [], ◌∷◌, ◌++◌, length, map, Option, Some, option_and_then, inl, inr, refl, sym, ap, ◌∙◌, subst, arith}
-use Rattle.std.specs.List.{list_any, enumerate_from, find, flat_map, slice_get}
+-- An object's name stands for the object, since no other has it; and what the place of an object finds in a configuration.
+use Rattle.std.proofs.Common.{◌≡◌, ℕ, zero, suc, ◌+◌, ◌≤◌, ◌⊎◌, Bool, true, false, not, cond, List, [], ◌∷◌, ◌++◌, length, map, Option, Some, option_and_then, inl, inr, refl, sym, ap, ◌∙◌, subst, arith, ◌<◌, nat_lt, None, option_map, unwrap_or, IsTrue}
+use Rattle.std.specs.List.{list_any, enumerate_from, find, flat_map, slice_get, list_all}
 use Rattle.std.specs.Str.{bytes_eq}
-use Rattle.std.proofs.lemmas.Bool.{and_parts, not-true, or_cases, or_left, or_right, true≢false, eqb-true, cases_Bool}
-use Rattle.std.proofs.lemmas.List.{length-map, map-append}
+use Rattle.std.proofs.lemmas.Bool.{not-true, or_cases, or_left, or_right, true≢false, eqb-true, cases_Bool, ltb-true}
+use Rattle.std.proofs.lemmas.List.{length-map}
 use Rattle.std.proofs.lemmas.Simd.{map-map}
 use Rattle.std.proofs.lemmas.Slice.Eq.{bytes_eq-Decides}
-use Rattle.osbase.specs.declared.objects.ObjectKind.{ObjectKind}
-use Rattle.osbase.specs.declared.objects.Place.{Place}
+use Rattle.oscheck.specs.Words.{Core, CoreText, Declaration, Named, ObjectKind, Place, Plan, Object}
 use Rattle.osbase.specs.History.{same_core}
 use Rattle.osbase.specs.Objects.{same_kind}
 use Rattle.osbase.proofs.Same.{same_kind-self, same_kind-true}
-use Rattle.osplan.specs.declared.plans.Plan.{Plan}
-use Rattle.osplan.specs.declared.plans.Core.{Core}
 use Rattle.osplan.specs.declared.plans.TheConstants.{KINDS}
-use Rattle.osplan.specs.Expressible.{are_distinct, object_names}
+use Rattle.osplan.specs.Expressible.{are_distinct, object_names, is_core_expressible, is_expressible}
 use Rattle.osplan.specs.Objects.{names_in, object_count}
 use Rattle.osplan.proofs.EveryKind.{kind-there}
-use Rattle.osplan.proofs.Tests.{any-mapped, find-holds}
-use Rattle.osshape.specs.declared.shapes.CoreText.{CoreText}
-use Rattle.osshape.specs.declared.shapes.Named.{Named}
-use Rattle.osshape.specs.declared.declarations.Declaration.{Declaration}
+use Rattle.osplan.proofs.Tests.{any-mapped, find-holds, find-passes}
 use Rattle.osshape.specs.Declarations.{byte_of, id_of, declaration, declared_of, declared_by, has_name, place_in, place_of}
 use Rattle.osshape.specs.Shape.{objects_in}
-use Rattle.osshape.proofs.Naming.{names-declared}
-use Rattle.osdraft.proofs.Numbers.{byte-small}
+use Rattle.osshape.proofs.Naming.{names-of-all}
+use Rattle.osdraft.proofs.Found.{byte-small}
 use Rattle.oswrite.proofs.Said.{core_said}
+use Rattle.std.specs.Option.{option_map_or}
+use Rattle.std.proofs.lemmas.List.Folds.{flat_map-map, list_all-map}
+use Rattle.std.proofs.lemmas.Option.{slice_get-map}
+use Rattle.osbase.specs.Names.{is_name}
+use Rattle.osplan.specs.View.{core_of}
+use Rattle.osplan.specs.Limits.{is_object, is_within_limits}
+use Rattle.osbase.proofs.Places.{passes-at}
+use Rattle.osplan.proofs.Within.{core-fits, core-text-parts, few-objects, names-formed, text-parts}
+use Rattle.osplan.specs.Names.{name_in, name_of}
 
 abbrev pub names : List Declaration → List (List ℕ)
 names objects = map (λ (d : Declaration). d.name) objects
@@ -46,13 +49,13 @@ pub stands-found : (objects : List Declaration) (d : Declaration) → are_distin
 stands-found [] d distinct among = absurd among
 stands-found (x ∷ xs) d distinct (inl is) = rw (ap (has_name d.name) is ∙ (bytes_eq-Decides d.name d.name).1 refl) (ap Some is)
 stands-found (x ∷ xs) d distinct (inr later) =
-    let parts = and_parts (not (list_any (λ later. bytes_eq later x.name) (names xs))) (are_distinct (names xs)) distinct in
-    let rest = stands-found xs d parts.1 later in
+    let apart : not (list_any (λ later. bytes_eq later x.name) (names xs)) ≡ true = grind arith in
+    let rest = stands-found xs d (grind arith) later in
     elim (cases_Bool (has_name d.name x)) as (λ _. find (has_name d.name) (x ∷ xs) ≡ Some d) [
       | inl same ↦
           let is : x.name ≡ d.name = (bytes_eq-Decides x.name d.name).0 same in
           let again : list_any (λ later. bytes_eq later x.name) (names xs) ≡ true = any-mapped (λ later. bytes_eq later x.name) (λ (d : Declaration). d.name) xs ∙ ap (λ n. list_any (has_name n) xs) is ∙ stands-any xs d later in
-          absurd (true≢false (sym again ∙ not-true _ parts.0))
+          absurd (true≢false (sym again ∙ not-true _ apart))
       | inr other ↦ rw other rest
     ]
 
@@ -92,14 +95,8 @@ module _ (plan : Plan) where
   kind-named core ObjectKind.Task = simp map-map
   kind-named core kind = simp map-map
 
-  objects-named : (core : Core) → names (declared_by (core_said plan core)) ≡ object_names core
-  objects-named core = names-declared core (core_said plan core) (kind-named core)
-
   pub names-said : (cores : List Core) → names (flat_map declared_by (map (core_said plan) cores)) ≡ flat_map object_names cores
-  names-said [] = refl
-  names-said (core ∷ cores) =
-      map-append (λ (d : Declaration). d.name) (declared_by (core_said plan core)) (flat_map declared_by (map (core_said plan) cores))
-      ∙ ap (λ first. first ++ names (flat_map declared_by (map (core_said plan) cores))) (objects-named core) ∙ ap (λ rest. object_names core ++ rest) (names-said cores)
+  names-said cores = ap names (flat_map-map declared_by (core_said plan) cores) ∙ names-of-all (λ core. core) (core_said plan) kind-named cores
 
   -- ---- the objects of a core
 
@@ -139,3 +136,55 @@ module _ (plan : Plan) where
       ∙ rw (same_kind-self kind)
       (ap (λ (n : ℕ). let p : Place = record { core = record { number = n }; index = byte_of (Some target.index) } in Some p) id
       ∙ ap (λ (n : ℕ). let p : Place = record { core = target.core; index = n } in Some p) (byte-small target.index index))
+
+-- ---- what the place of an object finds
+
+get-some : {X : Type 0} (xs : List X) (i : ℕ) → i < length xs → (x : X) × (slice_get xs i ≡ Some x)
+get-some [] i lt = absurd (omega arith)
+get-some (x ∷ xs) zero lt = (x, refl)
+get-some (x ∷ xs) (suc i) lt = get-some xs i (omega arith)
+
+-- The core on which an object stands, and its name: it is in form, and the core's text declares it.
+pub record Found (plan : Plan) (object : Object) (core : Core) (name : List ℕ) : Type 0 where
+  pub core_is : core_of plan object.place.core ≡ Some core
+  pub number : core.id.number < 16
+  pub name_is : name_of plan object.kind object.place ≡ name
+  pub in_form : is_name name ≡ true
+  pub max : Option ℕ
+  pub min : Option ℕ
+  pub declared : Stands (declared_by (core_said plan core)) (declared_at plan core object.kind name object.place.index max min)
+  pub low : object.place.index ≤ 255
+
+module _ (plan : Plan) (inside : IsTrue (is_within_limits plan)) (sayable : IsTrue (is_expressible plan)) where
+  found-if : (object : Object) (o : Option Core) → core_of plan object.place.core ≡ o → option_map_or (λ (c : Core). nat_lt object.place.index (object_count object.kind c)) o false ≡ true
+      → (core : Core) × (name : List ℕ) × Found plan object core name
+  found-if object None is known = absurd (true≢false (sym known))
+  found-if object (Some core) is known =
+      let said = core-text-parts core (find-passes (λ (c : Core). same_core c.id object.place.core) is_core_expressible plan.cores core (text-parts plan sayable).cores is) in
+      let fits = core-fits plan object.place.core core inside is in
+      let kind = object.kind in
+      let index = object.place.index in
+      let objects = objects_in kind (core_said plan core) in
+      let named = kind-named plan core kind in
+      let many = as-many plan core kind in
+      let few = few-objects core fits kind in
+      let within = ltb-true index (object_count kind core) known in
+      let here = get-some objects index (omega arith) in
+      let formed : list_all (λ (o : Named). is_name o.name) objects ≡ true = sym (list_all-map is_name (λ (o : Named). o.name) objects) ∙ ap (list_all is_name) (sym named) ∙ names-formed core said kind in (
+        core,
+        here.0.name,
+        record {
+          core_is = is;
+          number = ltb-true core.id.number 16 fits.number;
+          name_is = ap (λ (o : Option Core). option_map_or (λ (c : Core). name_in kind c index) o []) is ∙ ap (λ (names : List (List ℕ)). unwrap_or (slice_get names index) []) named
+              ∙ ap (λ (o : Option (List ℕ)). unwrap_or o []) (slice_get-map (λ (o : Named). o.name) objects index) ∙ ap (λ (o : Option Named). unwrap_or (option_map (λ (o : Named). o.name) o) []) here.1;
+          in_form = passes-at (λ (o : Named). is_name o.name) objects index here.0 formed here.1;
+          max = here.0.max;
+          min = here.0.min;
+          declared = object-stands plan core kind index here.0 here.1;
+          low = omega arith;
+        },
+      )
+
+  pub found : (object : Object) → is_object plan object ≡ true → (core : Core) × (name : List ℕ) × Found plan object core name
+  found object known = found-if object (core_of plan object.place.core) refl known

@@ -1,140 +1,148 @@
--- What the text of a configuration means is the configuration.
-use Rattle.std.proofs.Common.{◌≡◌, ℕ, ◌<◌, ◌≤◌, Bool, true, ◌&&◌, nat_le, List, [], ◌∷◌, ◌++◌, map, Option, Some, None, is_some, option_map, unwrap_or, IsTrue, refl, sym, ap, ◌∙◌, arith}
+-- The data of a configuration has the shape of one. So its text has no fault, and means the configuration.
+use Rattle.std.proofs.Common.{◌≡◌, ℕ, ◌&&◌, Bool, true, List, [], ◌∷◌, map, Option, Some, None, option_map, IsTrue, refl, sym, ap, ◌∙◌, arith, ◌<◌, ◌++◌, is_some, unwrap_or, length, option_and_then, not}
 use Rattle.std.specs.List.{list_all, flat_map, AllByRecursion}
 use Rattle.std.specs.Option.{option_map_or}
-use Rattle.std.proofs.lemmas.Bool.{and_parts, and_from, leb-true, ltb-true, true≢false, eqb-true}
+use Rattle.std.proofs.lemmas.Bool.{and_parts, true≢false, eqb-true, and_from, or_right}
+use Rattle.std.proofs.lemmas.Slice.Eq.{bytes_eq-Decides}
+use Rattle.serde_json.specs.Data.{Data}
+use Rattle.serde_json.specs.View.{items_of}
+use Rattle.osbase.specs.Objects.{counter_object, counter_place, object_of_call}
+use Rattle.oscheck.specs.Words.{Alarm, AlarmStart, Core, Counter, CounterRef, ExpiryPoint, ModeId, Plan, RemoteCall, Resource, Table, TableStart, Task, CoreId, CoreMode, Declaration, Object, ObjectKind, Op, AlarmStartText, ResourceText, TableStartText, TableText}
+use Rattle.osbase.specs.Names.{is_name}
+use Rattle.osplan.specs.Limits as limits
+use Rattle.osplan.specs.Limits.{number_of, CoreSizes, CounterSizes, PointSizes, TableSizes, are_counters_within, is_alarm_within, is_between, is_start, is_table_start_within, is_table_timed, is_table_within, is_task_within, is_core_within, same_number, has_number, are_numbers_distinct}
+use Rattle.osplan.specs.Expressible.{mode_name, are_mode_name, is_only_mode, is_task_expressible, is_resource_expressible, is_counter_expressible, is_action_expressible, is_alarm_expressible, is_table_expressible, is_core_expressible, is_expressible}
+use Rattle.osread.specs.Reading.{each}
+use Rattle.osread.specs.Json.{elements, whole_of, name_of as read_name, or_null}
+use Rattle.serde_json.specs.Find.{as_str}
+use Rattle.osshape.specs.Shape.{task_shape, resource_shape, counter_shape, alarm_start_shape, alarm_shape, point_shape, table_start_shape, table_shape, core_shape, config_shape}
+use Rattle.osplan.specs.Names.{name_of_mode, name_of}
+use Rattle.osplan.specs.Objects.{alarm_modes, table_actions, table_modes, posted_at_once}
+use Rattle.osplan.proofs.Tests.{all-both, all-weaker, each-flat, find-holds, any-find, any-mapped}
+use Rattle.osplan.proofs.Within.{limit-parts, text-parts, core-text-parts, TextParts, LimitParts}
+use Rattle.osdraft.proofs.Loops.{always}
+use Rattle.osdraft.proofs.Right.{three-parts, acting-right, each-right, is_right}
+use Rattle.oswrite.specs.Writing.{id_data, mode_data, task_data, resource_data, counter_data, start_data, or_null_data, alarm_data, action_data, point_data, table_start_data, table_data, core_data, config_data, op_text, script_text}
+use Rattle.osread.proofs.Contents.{elements-items_of}
+use Rattle.oswrite.proofs.Placed.{found, names-said, placed}
+use Rattle.oswrite.proofs.Said.{task_said, resource_said, counter_said, start_said, counter_name, action_said, alarm_said, point_said, table_start_said, table_said, core_said, config_said}
 use Rattle.std.proofs.lemmas.List.Folds.{list_all-map}
 use Rattle.std.proofs.lemmas.Simd.{map-map}
-use Rattle.osbase.specs.declared.messages.RemoteCall.{RemoteCall}
-use Rattle.osbase.specs.Objects.{counter_object, counter_place, object_of_call}
-use Rattle.osbase.specs.declared.objects.ObjectKind.{ObjectKind}
-use Rattle.osbase.specs.declared.references.CounterRef.{CounterRef}
-use Rattle.osbase.specs.declared.references.CoreId.{CoreId}
-use Rattle.osbase.specs.declared.objects.Object.{Object}
 use Rattle.osbase.specs.History.{same_core}
-use Rattle.osbase.specs.Names.{is_name}
-use Rattle.oscript.specs.declared.Op.{Op}
 use Rattle.oscript.specs.declared.Op.TheVariants.{Work}
 use Rattle.oscript.specs.Calls.{action_of_op, is_action, op_of_call}
 use Rattle.oscript.specs.Rows.{has_masks, is_in_form}
 use Rattle.oscript.proofs.Acting.{action-back as action-of, call-objects}
-use Rattle.osforms.specs.Operation.{op_meant}
+use Rattle.osforms.specs.Operation.{op_meant, has_masks as text_has_masks}
 use Rattle.osforms.proofs.Joining.{has_none}
-use Rattle.osforms.proofs.Operations.{IsNamed, text-meant, text-none, text-some}
-use Rattle.osplan.specs.declared.plans.Alarm.{Alarm}
-use Rattle.osplan.specs.declared.plans.AlarmStart.{AlarmStart}
-use Rattle.osplan.specs.declared.plans.ExpiryPoint.{ExpiryPoint}
-use Rattle.osplan.specs.declared.plans.Table.{Table}
-use Rattle.osplan.specs.declared.plans.TableStart.{TableStart}
-use Rattle.osplan.specs.declared.plans.Plan.{Plan}
-use Rattle.osplan.specs.declared.plans.Core.{Core}
-use Rattle.osplan.specs.declared.plans.Counter.{Counter}
-use Rattle.osplan.specs.declared.plans.Resource.{Resource}
-use Rattle.osplan.specs.declared.plans.Task.{Task}
-use Rattle.osbase.specs.declared.items.CoreMode.{CoreMode}
+use Rattle.osforms.proofs.Operations.{IsNamed, text-meant, text-none, text-some, meant-known, meant_masks}
 use Rattle.osbase.specs.declared.items.CoreMode.TheVariants.{Named, DontCare}
-use Rattle.osplan.specs.Limits as limits
-use Rattle.osplan.specs.Limits.{CounterSizes, PointSizes, TableSizes, task_sizes, alarm_sizes, start_sizes, point_sizes, table_sizes, core_sizes, number_of, are_ascending, are_counters_within, is_alarm_within, is_between, is_point_within, is_start, is_table_start_within, is_table_timed, is_table_within, is_task_within, is_timed_by, is_core_within, last_offset}
-use Rattle.osplan.specs.Objects.{alarm_modes, table_actions, table_modes}
 use Rattle.osplan.specs.View.{core_of, counter_in}
 use Rattle.osplan.specs.Expressible as said
-use Rattle.osplan.proofs.Tests.{all-both, all-weaker, each-flat, find-holds}
 use Rattle.osplan.proofs.Distinct.{distinct-back}
 use Rattle.osplan.proofs.Starting.{master-low}
-use Rattle.osplan.proofs.Within.{TextParts, CoreTextParts, between, limit-parts, text-parts, core-text-parts}
-use Rattle.osshape.specs.declared.declarations.Declaration.{Declaration}
 use Rattle.oscheck.specs.Action.{action_of, any_action}
-use Rattle.oscheck.specs.Check.{counter_sizes}
-use Rattle.osshape.specs.Declarations.{byte_of, counter_ref, number_id, word_of, declarations, place_of, names_of}
-use Rattle.oscheck.specs.Operation.{operations_of, op_of}
-use Rattle.osdraft.specs.Meaning.{only_mode, task_plan, resource_plan, counter_plan, start_plan, alarm_plan, point_plan, table_start_plan, table_plan, core_plan, plan_of}
-use Rattle.osplan.specs.Names.{name_of, name_of_mode}
-use Rattle.oswrite.specs.Writing.{op_text, script_text}
-use Rattle.osshape.proofs.Lists.{map-back}
-use Rattle.osdraft.proofs.Numbers.{IsByte, byte-small, is-byte, is-word, task-bytes, counter-words, start-words, table-start-word, core-bytes, cap-byte}
-use Rattle.osdraft.proofs.Named.{HasCounters, NamedCounter, named-counter}
-use Rattle.oscheck.proofs.Points.{offsets-low}
-use Rattle.osdraft.proofs.Standing.{IsFound, each-found}
+use Rattle.oscheck.specs.Check.{counter_sizes, task_sizes, start_sizes, alarm_sizes, point_sizes, table_sizes, core_sizes, sizes_of, numbers_of, is_text_within, is_each_once, is_mode_name, are_known, are_near, is_core_timed, are_timed, are_masks, are_operations, tests_of}
+use Rattle.osshape.specs.Declarations.{counter_ref, number_id, declarations, place_of, names_of, counter_declared, declared_sizes, id_of}
+use Rattle.oscheck.specs.Operation.{is_operation, is_operation_known, operations_of, op_of}
+use Rattle.osdraft.specs.Meaning.{only_mode, task_plan, resource_plan, counter_plan, start_plan, alarm_plan, point_plan, table_start_plan, table_plan, core_plan, plan_of, config_of, config_of_shape}
+use Rattle.osshape.proofs.Lists.{map-back, list_all-by, map-same}
+use Rattle.osdraft.proofs.Found.{IsByte, byte-small, is-byte, is-word, HasCounters, NamedCounter, named-counter, IsFound, each-found}
 use Rattle.oswrite.proofs.Joining.{parts-pieces}
-use Rattle.oswrite.proofs.Formed.{found}
-use Rattle.oswrite.proofs.Said.{task_said, resource_said, counter_said, start_said, counter_name, action_said, alarm_said, point_said, table_start_said, table_said, core_said, config_said}
-use Rattle.oswrite.proofs.Reshaped.{modes-are, mode-is}
-use Rattle.oswrite.proofs.Placed.{names-said, placed}
+use Rattle.std.proofs.lemmas.List.{length-map}
+use Rattle.osforms.proofs.ActionTexts.{meant_action}
+use Rattle.serde_json.specs.Read.{read}
+use Rattle.osplan.specs.Fault.{if_faultless, failing}
+use Rattle.oscheck.specs.declared.verdicts.Verdict.{Verdict}
+use Rattle.oscheck.specs.Verdict.{action_verdict, alarm_verdict, both, core_verdict, each as each_verdict, op_verdict, point_verdict, table_verdict, task_verdict, text_verdict}
+use Rattle.osdraft.proofs.Meant.{near_kept, TableLimits, table-limits, cap-byte, counter-words, posted-same, start-words, table-start-word, task-bytes}
+use Rattle.osforms.specs.Action.{is_action as is_action_text}
+
+-- ---- modes
+
+modes-are : (names : List (List ℕ)) → are_mode_name names ≡ true → names ≡ mode_name ∷ []
+modes-are [] h = absurd (true≢false (sym h))
+modes-are (name ∷ []) h = ap (λ n. n ∷ []) ((bytes_eq-Decides name mode_name).0 h)
+modes-are (name ∷ other ∷ names) h = absurd (true≢false (sym h))
+
+mode-is : (mode : ModeId) → is_only_mode mode ≡ true → mode ≡ record { index = 0 }
+mode-is mode h = ap (λ (n : ℕ). let m : ModeId = record { index = n } in m) (eqb-true mode.index 0 h)
+
+mode-text : (plan : Plan) → are_mode_name plan.modes ≡ true → (mode : ModeId) → is_only_mode mode ≡ true → name_of_mode plan mode ≡ mode_name
+mode-text plan modes mode h = rw (mode-is mode h, modes-are plan.modes modes) refl
+
+-- ---- lists
+
+each-map : {X D Y : Type 0} (f : D → Option Y) (g : X → D) (h : X → Y) (p : X → Bool) → ((x : X) → p x ≡ true → f (g x) ≡ Some (h x)) → (xs : List X) → list_all p xs ≡ true → each f (map g xs) ≡ Some (map h xs)
+each-map f g h p same [] a = refl
+each-map f g h p same (x ∷ xs) a = rw (same x (grind arith), each-map f g h p same xs (grind arith)) refl
+
+each-items : {X Y : Type 0} (f : Data → Option Y) (g : X → Data) (h : X → Y) (p : X → Bool) → ((x : X) → p x ≡ true → f (g x) ≡ Some (h x)) → (xs : List X) → list_all p xs ≡ true → each f (elements (items_of (map g xs))) ≡ Some (map h xs)
+each-items f g h p same xs a = ap (each f) (elements-items_of (map g xs)) ∙ each-map f g h p same xs a
+
+inside-some : {x y : ℕ} → Some x ≡ Some y → x ≡ y
+inside-some e = cc
 
 id-back : (id : CoreId) → IsByte (number_of id) → number_id (number_of id) ≡ id
-id-back id byte = ap (λ (number : Option ℕ). let i : CoreId = record { number = unwrap_or number 0 } in i) byte
+id-back id byte = rw (inside-some byte) refl
 
 mode-back : (mode : CoreMode) → said.is_in_only_mode mode ≡ true → Named only_mode ≡ mode
 mode-back (Named m) h = ap Named (sym (mode-is m h))
 mode-back DontCare h = absurd (true≢false (sym h))
 
--- ---- what each operation, each task and each core of a configuration keeps
+-- ---- what each operation, each object and each core of a configuration keeps
 
-abbrev pub is_kept_op : Plan → Op → Bool
+abbrev is_kept_op : Plan → Op → Bool
 is_kept_op plan op = limits.is_op_known plan op && is_in_form op && has_masks op
 
 -- So is each action, by its operation.
-abbrev pub is_kept_action : Plan → RemoteCall → Bool
+abbrev is_kept_action : Plan → RemoteCall → Bool
 is_kept_action plan action = is_action action && is_kept_op plan (op_of_call action)
 
-abbrev pub is_kept_task : Plan → Task → Bool
-is_kept_task plan task = is_task_within (task_sizes task) && limits.is_task_known plan task && said.is_task_expressible task
+abbrev is_sound_action : Plan → RemoteCall → Bool
+is_sound_action plan action = limits.is_action_known plan action && said.is_action_expressible action
 
-abbrev pub is_kept_alarm : Plan → Alarm → Bool
-is_kept_alarm plan alarm = is_alarm_within (alarm_sizes (counter_in plan) alarm) && limits.is_alarm_known plan alarm && said.is_alarm_expressible alarm
+abbrev is_kept_task : Plan → Task → Bool
+is_kept_task plan task = is_task_within (limits.task_sizes task) && limits.is_task_known plan task && said.is_task_expressible task
 
-abbrev pub is_kept_table : Plan → Table → Bool
-is_kept_table plan table =
-    is_table_within (table_sizes (counter_in plan) table) && is_table_timed (table_sizes (counter_in plan) table) && limits.is_table_known plan table && said.is_table_expressible table
+abbrev is_kept_alarm : Plan → Alarm → Bool
+is_kept_alarm plan alarm = is_alarm_within (limits.alarm_sizes (counter_in plan) alarm) && limits.is_alarm_known plan alarm && said.is_alarm_expressible alarm
 
-abbrev pub is_kept_core : Plan → Core → Bool
-is_kept_core plan core = is_core_within (core_sizes plan core) && limits.is_core_known plan core && limits.is_core_timed plan core && said.is_core_expressible core
-
-pub record KeptTask (plan : Plan) (task : Task) : Type 0 where
-  pub within : is_task_within (task_sizes task) ≡ true
-  pub operations : list_all (is_kept_op plan) task.script ≡ true
-  pub jumps : said.is_jumping_within task.script ≡ true
-  pub auto : list_all said.is_only_mode task.auto ≡ true
-
-pub record KeptAlarm (plan : Plan) (alarm : Alarm) : Type 0 where
-  pub within : is_alarm_within (alarm_sizes (counter_in plan) alarm) ≡ true
-  pub counter : limits.is_object plan (counter_object alarm.counter) ≡ true
-  pub action : is_kept_action plan alarm.action ≡ true
-  pub auto : list_all said.is_only_mode (alarm_modes alarm) ≡ true
-
-abbrev pub is_kept_point : Plan → ExpiryPoint → Bool
+abbrev is_kept_point : Plan → ExpiryPoint → Bool
 is_kept_point plan point = is_between 0 1000000000 (Some point.offset) && list_all (is_kept_action plan) point.actions
 
-pub record KeptTable (plan : Plan) (table : Table) : Type 0 where
-  pub within : is_table_within (table_sizes (counter_in plan) table) ≡ true
-  pub timed : is_table_timed (table_sizes (counter_in plan) table) ≡ true
-  pub counter : limits.is_object plan (counter_object table.counter) ≡ true
-  pub duration : is_between 1 1000000000 (Some table.duration) ≡ true
-  pub points : list_all (is_kept_point plan) table.points ≡ true
-  pub auto : list_all said.is_only_mode (table_modes table) ≡ true
+abbrev is_kept_table : Plan → Table → Bool
+is_kept_table plan table =
+    is_table_within (limits.table_sizes (counter_in plan) table) && is_table_timed (limits.table_sizes (counter_in plan) table) && limits.is_table_known plan table && said.is_table_expressible table
 
-pub record KeptCore (plan : Plan) (core : Core) : Type 0 where
-  pub within : is_core_within (core_sizes plan core) ≡ true
-  pub tasks : list_all (is_kept_task plan) core.tasks ≡ true
-  pub alarms : list_all (is_kept_alarm plan) core.alarms ≡ true
-  pub tables : list_all (is_kept_table plan) core.tables ≡ true
-  pub said : CoreTextParts core
+abbrev is_kept_core : Plan → Core → Bool
+is_kept_core plan core = is_core_within (limits.core_sizes plan core) && limits.is_core_known plan core && limits.is_core_timed plan core && said.is_core_expressible core
 
-pub kept-task : (plan : Plan) (task : Task) → is_kept_task plan task ≡ true → KeptTask plan task
-kept-task plan task h =
-    let sayable = and_parts _ (said.is_task_expressible task) h in
-    let within = and_parts (is_task_within (task_sizes task)) (limits.is_task_known plan task) sayable.0 in
-    let parts = and_parts _ (said.is_script_expressible task.script) sayable.1 in
-    let script = and_parts _ (said.is_jumping_within task.script) parts.1 in
-    let forms = and_parts (list_all is_in_form task.script) (list_all has_masks task.script) script.0 in
-    record {
-      within = within.0;
-      operations = all-both _ has_masks task.script (all-both (limits.is_op_known plan) is_in_form task.script (and_parts _ _ within.1).0 forms.0) forms.1;
-      jumps = script.1;
-      auto = (and_parts (is_name task.name) _ parts.0).1;
-    }
+-- The parts of a core's limits, and what a task keeps of its numbers, its modes and its script.
+core-limits : (s : CoreSizes) → is_core_within s ≡ true → (is_between 0 7 s.number ≡ true) × (list_all is_start s.start ≡ true) × (list_all is_task_within s.tasks ≡ true) × (list_all limits.is_ceiling s.resources ≡ true)
+    × (are_counters_within s.counters ≡ true) × (list_all limits.is_counter_within s.counters ≡ true) × (list_all is_alarm_within s.alarms ≡ true) × (list_all is_table_within s.tables ≡ true)
+core-limits s h = (grind arith, grind arith, grind arith, grind arith, grind arith, grind arith, grind arith, grind arith)
 
-kept-action : (plan : Plan) (action : RemoteCall) → (limits.is_action_known plan action && said.is_action_expressible action) ≡ true → is_kept_action plan action ≡ true
+kept-task : (plan : Plan) (task : Task) → is_kept_task plan task ≡ true → (is_task_within (limits.task_sizes task) ≡ true) × (list_all said.is_only_mode task.auto ≡ true) × (list_all (is_kept_op plan) task.script ≡ true) × (said.is_jumping_within task.script ≡ true)
+kept-task plan task h = (grind arith, grind arith, all-both _ has_masks task.script (all-both (limits.is_op_known plan) is_in_form task.script (grind arith) (grind arith)) (grind arith), grind arith)
+
+-- Of an alarm, or of a table, what it keeps of its numbers, its counter, what it does, and its modes. Each is of tests that are given,
+-- whatever they are.
+acting-parts : (within counter known modes name said only : Bool) → (within && (counter && known && modes) && (name && said && only)) ≡ true → (within ≡ true) × (counter ≡ true) × ((known && said) ≡ true) × (only ≡ true)
+acting-parts within counter known modes name said only h = (grind arith, grind arith, grind arith, grind arith)
+
+alarm-parts : (plan : Plan) (alarm : Alarm) → is_kept_alarm plan alarm ≡ true → (is_alarm_within (limits.alarm_sizes (counter_in plan) alarm) ≡ true) × (limits.is_object plan (counter_object alarm.counter) ≡ true)
+    × (is_sound_action plan alarm.action ≡ true) × (list_all said.is_only_mode (alarm_modes alarm) ≡ true)
+alarm-parts plan alarm h =
+    acting-parts (is_alarm_within (limits.alarm_sizes (counter_in plan) alarm)) (limits.is_object plan (counter_object alarm.counter)) (limits.is_action_known plan alarm.action) (list_all (limits.is_mode plan) (alarm_modes alarm)) (is_name alarm.name) (said.is_action_expressible alarm.action) (list_all said.is_only_mode (alarm_modes alarm)) h
+
+table-parts : (plan : Plan) (table : Table) → is_kept_table plan table ≡ true → ((is_table_within (limits.table_sizes (counter_in plan) table) && is_table_timed (limits.table_sizes (counter_in plan) table)) ≡ true) × (limits.is_object plan (counter_object table.counter) ≡ true)
+    × ((list_all (limits.is_action_known plan) (table_actions table) && list_all said.is_action_expressible (table_actions table)) ≡ true) × (list_all said.is_only_mode (table_modes table) ≡ true)
+table-parts plan table h =
+    let sizes = limits.table_sizes (counter_in plan) table in
+    acting-parts (is_table_within sizes && is_table_timed sizes) (limits.is_object plan (counter_object table.counter)) (list_all (limits.is_action_known plan) (table_actions table)) (list_all (limits.is_mode plan) (table_modes table)) (is_name table.name) (list_all said.is_action_expressible (table_actions table)) (list_all said.is_only_mode (table_modes table)) h
+
+kept-action : (plan : Plan) (action : RemoteCall) → is_sound_action plan action ≡ true → is_kept_action plan action ≡ true
 kept-action plan action h =
     let op = op_of_call action in
     let both = and_parts (limits.is_action_known plan action) (said.is_action_expressible action) h in
@@ -143,74 +151,51 @@ kept-action plan action h =
     let named : limits.is_op_known plan op ≡ true = ap (list_all (limits.is_object plan)) (call-objects action) ∙ and_from _ true known.1 refl in
     and_from _ _ known.0 (and_from _ _ (and_from _ _ named forms.0) forms.1)
 
-pub kept-alarm : (plan : Plan) (alarm : Alarm) → is_kept_alarm plan alarm ≡ true → KeptAlarm plan alarm
-kept-alarm plan alarm h =
-    let sayable = and_parts _ (said.is_alarm_expressible alarm) h in
-    let within = and_parts (is_alarm_within (alarm_sizes (counter_in plan) alarm)) (limits.is_alarm_known plan alarm) sayable.0 in
-    let known = and_parts (limits.is_object plan (counter_object alarm.counter)) (limits.is_action_known plan alarm.action) (and_parts _ (list_all (limits.is_mode plan) (alarm_modes alarm)) within.1).0 in
-    let parts = and_parts _ (list_all said.is_only_mode (alarm_modes alarm)) sayable.1 in
-    let forms = (and_parts (is_name alarm.name) (said.is_action_expressible alarm.action) parts.0).1 in
-    record {
-      within = within.0;
-      counter = known.0;
-      action = kept-action plan alarm.action (and_from _ _ known.1 forms);
-      auto = parts.1;
-    }
+limits-of : (plan : Plan) (table : Table) → is_kept_table plan table ≡ true → TableLimits (limits.table_sizes (counter_in plan) table)
+limits-of plan table h = let sizes = limits.table_sizes (counter_in plan) table in let both = and_parts (is_table_within sizes) (is_table_timed sizes) (table-parts plan table h).0 in table-limits sizes both.0 both.1
 
-pub kept-table : (plan : Plan) (table : Table) → is_kept_table plan table ≡ true → KeptTable plan table
-kept-table plan table h =
-    let sizes = table_sizes (counter_in plan) table in
-    let sayable = and_parts _ (said.is_table_expressible table) h in
-    let there = and_parts _ (limits.is_table_known plan table) sayable.0 in
-    let both = and_parts (is_table_within sizes) (is_table_timed sizes) there.0 in
-    let known = and_parts _ (list_all (limits.is_mode plan) (table_modes table)) there.1 in
-    let parts = and_parts _ (list_all said.is_only_mode (table_modes table)) sayable.1 in
-    let names = and_parts (limits.is_object plan (counter_object table.counter)) (list_all (limits.is_action_known plan) (table_actions table)) known.0 in
-    let forms = and_parts (is_name table.name) (list_all said.is_action_expressible (table_actions table)) parts.0 in
-    let actions = all-weaker (λ (action : RemoteCall). limits.is_action_known plan action && said.is_action_expressible action) (is_kept_action plan) (kept-action plan) (table_actions table)
-    (all-both (limits.is_action_known plan) said.is_action_expressible (table_actions table) names.1 forms.1) in
-    let start = and_parts _ (option_map_or (is_table_start_within sizes) sizes.auto true) both.0 in
-    let counts = and_parts (is_between 1 1000000000 (Some table.duration)) _ (and_parts _ (list_all is_point_within sizes.points) start.0).0 in
-    let order = and_parts (are_ascending sizes.points) (nat_le (last_offset sizes.points) table.duration) (and_parts _ (option_map_or (is_timed_by sizes) sizes.counter true) both.1).0 in
-    let last : last_offset sizes.points ≤ 1000000000 = omega (arith, leb-true _ _ order.1, (between 1 1000000000 table.duration counts.0).1) in
-    record {
-      within = both.0;
-      timed = both.1;
-      counter = names.0;
-      duration = counts.0;
-      points = all-both _ _ table.points (sym (list_all-map (λ (point : PointSizes). is_between 0 1000000000 point.offset) point_sizes table.points) ∙ offsets-low 1000000000 sizes.points order.0 last)
-          (each-flat (is_kept_action plan) (λ (point : ExpiryPoint). point.actions) table.points actions);
-      auto = parts.1;
-    }
+kept-points : (plan : Plan) (table : Table) → is_kept_table plan table ≡ true → list_all (is_kept_point plan) table.points ≡ true
+kept-points plan table h =
+    let both = and_parts (list_all (limits.is_action_known plan) (table_actions table)) (list_all said.is_action_expressible (table_actions table)) (table-parts plan table h).2 in
+    let actions = all-weaker (is_sound_action plan) (is_kept_action plan) (kept-action plan) (table_actions table) (all-both (limits.is_action_known plan) said.is_action_expressible (table_actions table) both.0 both.1) in
+    all-both _ _ table.points (sym (list_all-map (λ (point : PointSizes). is_between 0 1000000000 point.offset) limits.point_sizes table.points) ∙ (limits-of plan table h).offsets)
+    (each-flat (is_kept_action plan) (λ (point : ExpiryPoint). point.actions) table.points actions)
 
-pub kept-core : (plan : Plan) (core : Core) → is_kept_core plan core ≡ true → KeptCore plan core
+-- The objects of a core that say anything but numbers.
+record KeptCore (plan : Plan) (core : Core) : Type 0 where
+  tasks : list_all (is_kept_task plan) core.tasks ≡ true
+  alarms : list_all (is_kept_alarm plan) core.alarms ≡ true
+  tables : list_all (is_kept_table plan) core.tables ≡ true
+
+four-parts : (a b c d : Bool) → (a && b && c && d) ≡ true → (a ≡ true) × (b ≡ true) × (c ≡ true) × (d ≡ true)
+four-parts a b c d h = (grind arith, grind arith, grind arith, grind arith)
+
+core-inside : (plan : Plan) (core : Core) → is_kept_core plan core ≡ true → is_core_within (limits.core_sizes plan core) ≡ true
+core-inside plan core h = (four-parts (is_core_within (limits.core_sizes plan core)) (limits.is_core_known plan core) (limits.is_core_timed plan core) (said.is_core_expressible core) h).0
+
+kept-core : (plan : Plan) (core : Core) → is_kept_core plan core ≡ true → KeptCore plan core
 kept-core plan core h =
-    let sayable = and_parts _ (said.is_core_expressible core) h in
-    let timed = and_parts _ (limits.is_core_timed plan core) sayable.0 in
-    let within = and_parts (is_core_within (core_sizes plan core)) (limits.is_core_known plan core) timed.0 in
-    let parts = core-text-parts core sayable.1 in
-    let bytes = core-bytes (core_sizes plan core) within.0 in
-    let knows = and_parts _ (list_all (limits.is_table_known plan) core.tables) within.1 in
-    let known = and_parts _ (list_all (limits.is_alarm_known plan) core.alarms) knows.0 in
+    let parts = four-parts (is_core_within (limits.core_sizes plan core)) (limits.is_core_known plan core) (limits.is_core_timed plan core) (said.is_core_expressible core) h in
+    let limit = core-limits (limits.core_sizes plan core) parts.0 in
+    let known = four-parts (limits.is_core_mode plan core.mode) (list_all (limits.is_task_known plan) core.tasks) (list_all (limits.is_alarm_known plan) core.alarms) (list_all (limits.is_table_known plan) core.tables) parts.1 in
+    let texts = core-text-parts core parts.3 in
     record {
-      within = within.0;
-      tasks = all-both _ _ core.tasks
-          (all-both _ _ core.tasks (sym (list_all-map is_task_within task_sizes core.tasks) ∙ bytes.2)
-          (and_parts (limits.is_core_mode plan core.mode) (list_all (limits.is_task_known plan) core.tasks) known.0).1) parts.tasks;
-      alarms = all-both _ _ core.alarms
-          (all-both _ _ core.alarms (sym (list_all-map is_alarm_within (alarm_sizes (counter_in plan)) core.alarms) ∙ bytes.5) known.1) parts.alarms;
-      tables = all-both _ _ core.tables
-          (all-both _ _ core.tables
-          (all-both _ _ core.tables (sym (list_all-map is_table_within (table_sizes (counter_in plan)) core.tables) ∙ bytes.6) timed.1) knows.1) parts.tables;
-      said = parts;
+      tasks = all-both _ said.is_task_expressible core.tasks (all-both _ (limits.is_task_known plan) core.tasks (sym (list_all-map is_task_within limits.task_sizes core.tasks) ∙ limit.2) known.1) texts.tasks;
+      alarms = all-both _ said.is_alarm_expressible core.alarms (all-both _ (limits.is_alarm_known plan) core.alarms (sym (list_all-map is_alarm_within (limits.alarm_sizes (counter_in plan)) core.alarms) ∙ limit.6) known.2) texts.alarms;
+      tables = all-both _ said.is_table_expressible core.tables
+          (all-both _ (limits.is_table_known plan) core.tables (all-both _ _ core.tables (sym (list_all-map is_table_within (limits.table_sizes (counter_in plan)) core.tables) ∙ limit.7) parts.2) known.3) texts.tables;
     }
 
-pub kept-cores : (plan : Plan) → IsTrue (limits.is_within_limits plan) → IsTrue (said.is_expressible plan) → list_all (is_kept_core plan) plan.cores ≡ true
+kept-cores : (plan : Plan) → IsTrue (limits.is_within_limits plan) → IsTrue (said.is_expressible plan) → list_all (is_kept_core plan) plan.cores ≡ true
 kept-cores plan inside sayable =
     let within = limit-parts plan inside in
     all-both _ _ plan.cores (all-both _ _ plan.cores (all-both _ _ plan.cores within.cores within.known) within.timed) (text-parts plan sayable).cores
 
--- ---- reading back
+right-of-three : (a b c : Verdict) → is_right a ≡ true → is_right b ≡ true → is_right c ≡ true → is_right (both (both a b) c) ≡ true
+right-of-three a b c first second third = grind arith
+
+right-of-each : {X Y : Type 0} (p : X → Bool) (g : X → Y) (f : Y → Verdict) → ((x : X) → p x ≡ true → is_right (f (g x)) ≡ true) → (xs : List X) → list_all p xs ≡ true → is_right (each_verdict f (map g xs)) ≡ true
+right-of-each p g f right xs all = each-right f (map g xs) ∙ list_all-by p (λ y. is_right (f y)) g right xs all
 
 module _ (plan : Plan) (inside : IsTrue (limits.is_within_limits plan)) (sayable : IsTrue (said.is_expressible plan)) where
   abbrev objects : List Declaration
@@ -219,81 +204,161 @@ module _ (plan : Plan) (inside : IsTrue (limits.is_within_limits plan)) (sayable
   abbrev parts : TextParts plan
   parts = text-parts plan sayable
 
+  abbrev bounds : LimitParts plan
+  bounds = limit-parts plan inside
+
+  cores : list_all (is_kept_core plan) plan.cores ≡ true
+  cores = kept-cores plan inside sayable
+
+  -- ---- the shape
+
+  mode-shape : (mode : ModeId) → is_only_mode mode ≡ true → read_name (mode_data plan mode) ≡ Some (name_of_mode plan mode)
+  mode-shape mode h = rw (mode-text plan parts.modes mode h) refl
+
+  modes-shape : (modes : List ModeId) → list_all is_only_mode modes ≡ true → each read_name (elements (items_of (map (mode_data plan) modes))) ≡ Some (map (name_of_mode plan) modes)
+  modes-shape = each-items read_name (mode_data plan) (name_of_mode plan) is_only_mode mode-shape
+
+  task-shape : (task : Task) → is_task_expressible task ≡ true → task_shape (task_data plan task) ≡ Some (task_said plan task)
+  unfolding task_shape
+  task-shape task h =
+      let name : is_name task.name ≡ true = grind arith in
+      rw (name, modes-shape task.auto (grind arith)) refl
+
+  resource-shape : (resource : Resource) → is_resource_expressible resource ≡ true → resource_shape (resource_data resource) ≡ Some (resource_said resource)
+  unfolding resource_shape
+  resource-shape resource h = rw h refl
+
+  counter-shape : (counter : Counter) → is_counter_expressible counter ≡ true → counter_shape (counter_data counter) ≡ Some (counter_said counter)
+  unfolding counter_shape
+  counter-shape counter h = rw h refl
+
+  start-shape : (auto : AlarmStart) → list_all is_only_mode auto.modes ≡ true → alarm_start_shape (start_data plan auto) ≡ Some (start_said plan auto)
+  unfolding alarm_start_shape
+  start-shape auto h = rw (modes-shape auto.modes h) refl
+
+  table-start-shape : (auto : TableStart) → list_all is_only_mode auto.modes ≡ true → table_start_shape (table_start_data plan auto) ≡ Some (table_start_said plan auto)
+  unfolding table_start_shape
+  table-start-shape auto h = rw (modes-shape auto.modes h) refl
+
+  -- of what starts by itself, null where it does not
+  auto-shape : {X Y : Type 0} (modes : X → List ModeId) (shape : Data → Option Y) (write : X → Data) (text_of : X → Y) → ((x : X) → list_all is_only_mode (modes x) ≡ true → or_null shape (write x) ≡ Some (Some (text_of x))) → (o : Option X)
+      → list_all is_only_mode (option_map_or modes o []) ≡ true → or_null shape (or_null_data write o) ≡ Some (option_map text_of o)
+  auto-shape modes shape write text_of each None h = refl
+  auto-shape modes shape write text_of each (Some x) h = each x h
+
+  -- its counter's name is in form, since the counter is one of the configuration
+  counter-formed : (counter : CounterRef) → limits.is_object plan (counter_object counter) ≡ true → is_name (counter_name plan counter) ≡ true
+  counter-formed counter known = let here = found plan inside sayable (counter_object counter) known in rw here.2.name_is here.2.in_form
+
+  alarm-shape : (alarm : Alarm) → (is_alarm_expressible alarm && limits.is_alarm_known plan alarm) ≡ true → alarm_shape (alarm_data plan alarm) ≡ Some (alarm_said plan alarm)
+  unfolding alarm_shape
+  alarm-shape alarm h =
+      let both = and_parts (is_alarm_expressible alarm) (limits.is_alarm_known plan alarm) h in
+      let says = three-parts (is_name alarm.name) (is_action_expressible alarm.action) (list_all is_only_mode (alarm_modes alarm)) both.0 in
+      let known = three-parts (limits.is_object plan (counter_object alarm.counter)) (limits.is_action_known plan alarm.action) (list_all (limits.is_mode plan) (alarm_modes alarm)) both.1 in
+      rw (says.0, counter-formed alarm.counter known.0, auto-shape (λ (auto : AlarmStart). auto.modes) alarm_start_shape (start_data plan) (start_said plan) (λ auto e. rw (start-shape auto e) refl) alarm.auto says.2) refl
+
+  point-shape : (point : ExpiryPoint) → point_shape (point_data plan point) ≡ Some (point_said plan point)
+  unfolding point_shape
+  point-shape point = rw (each-items as_str (action_data plan) (action_said plan) (λ (action : RemoteCall). true) (λ action e. refl) point.actions (always point.actions)) refl
+
+  table-shape : (table : Table) → (is_table_expressible table && limits.is_table_known plan table) ≡ true → table_shape (table_data plan table) ≡ Some (table_said plan table)
+  unfolding table_shape
+  table-shape table h =
+      let both = and_parts (is_table_expressible table) (limits.is_table_known plan table) h in
+      let says = three-parts (is_name table.name) (list_all is_action_expressible (table_actions table)) (list_all is_only_mode (table_modes table)) both.0 in
+      let known = three-parts (limits.is_object plan (counter_object table.counter)) (list_all (limits.is_action_known plan) (table_actions table)) (list_all (limits.is_mode plan) (table_modes table)) both.1 in
+      rw (
+        says.0,
+        counter-formed table.counter known.0,
+        each-items point_shape (point_data plan) (point_said plan) (λ (point : ExpiryPoint). true) (λ point e. point-shape point) table.points (always table.points),
+        auto-shape (λ (auto : TableStart). auto.modes) table_start_shape (table_start_data plan) (table_start_said plan) (λ auto e. rw (table-start-shape auto e) refl) table.auto says.2,
+      ) refl
+
+  core-shape : (core : Core) → (is_core_expressible core && limits.is_core_known plan core) ≡ true → core_shape (core_data plan core) ≡ Some (core_said plan core)
+  unfolding core_shape
+  core-shape core h =
+      let parts = core-text-parts core (grind arith) in
+      let alarms = all-both is_alarm_expressible (limits.is_alarm_known plan) core.alarms parts.alarms (grind arith) in
+      let tables = all-both is_table_expressible (limits.is_table_known plan) core.tables parts.tables (grind arith) in
+      rw (
+        each-items alarm_shape (alarm_data plan) (alarm_said plan) (λ (alarm : Alarm). is_alarm_expressible alarm && limits.is_alarm_known plan alarm) alarm-shape core.alarms alarms,
+        each-items counter_shape counter_data counter_said is_counter_expressible counter-shape core.counters parts.counters,
+        each-items resource_shape resource_data resource_said is_resource_expressible resource-shape core.resources parts.resources,
+        each-items whole_of id_data number_of (λ id. true) (λ id e. refl) core.start (always core.start),
+        each-items table_shape (table_data plan) (table_said plan) (λ (table : Table). is_table_expressible table && limits.is_table_known plan table) table-shape core.tables tables,
+        each-items task_shape (task_data plan) (task_said plan) is_task_expressible task-shape core.tasks parts.tasks,
+      ) refl
+
+  config-shape : config_shape (config_data plan) ≡ Some (config_said plan)
+  unfolding config_shape
+  config-shape =
+      let cores = all-both is_core_expressible (limits.is_core_known plan) plan.cores parts.cores bounds.known in
+      rw (each-items core_shape (core_data plan) (core_said plan) (λ (core : Core). is_core_expressible core && limits.is_core_known plan core) core-shape plan.cores cores) refl
+
+  -- ---- reading back
+
   -- Each object of the configuration has a name in form, which stands for it.
   object-named : (object : Object) → limits.is_object plan object ≡ true → IsNamed (place_of objects) (name_of plan) object
   object-named object known =
       let here = found plan inside sayable object known in
       let core = here.0 in
-      let name = here.1 in
       let number : core.id.number ≡ object.place.core.number = eqb-true core.id.number object.place.core.number (find-holds (λ (c : Core). same_core c.id object.place.core) plan.cores core here.2.core_is) in
-      let low : core.id.number < 16 = ltb-true core.id.number 16 here.2.fits.number in
       record {
-        in_form = rw here.2.name_is here.2.named.in_form;
+        in_form = rw here.2.name_is here.2.in_form;
         found = ap (place_of objects object.kind) here.2.name_is
-            ∙ placed plan plan.cores object.kind object.place core name here.2.named.max here.2.named.min (distinct-back plan.modes (flat_map said.object_names plan.cores) parts.names) (omega arith) here.2.named.low here.2.core_is here.2.named.declared;
+            ∙ placed plan plan.cores object.kind object.place core here.1 here.2.max here.2.min (distinct-back plan.modes (flat_map said.object_names plan.cores) parts.names) (omega (arith, number, here.2.number)) here.2.low here.2.core_is here.2.declared;
       }
 
-  pub op-meant : (op : Op) → is_kept_op plan op ≡ true → op_meant (place_of objects) (op_text plan op) ≡ Some op
+  op-meant : (op : Op) → is_kept_op plan op ≡ true → op_meant (place_of objects) (op_text plan op) ≡ Some op
   op-meant op h =
-      let masked = and_parts _ (has_masks op) h in
-      let parts = and_parts (limits.is_op_known plan op) (is_in_form op) masked.0 in
-      text-meant (place_of objects) (name_of plan) (limits.is_object plan) object-named op parts.1 masked.1 parts.0
+      let parts = three-parts (limits.is_op_known plan op) (is_in_form op) (has_masks op) h in
+      text-meant (place_of objects) (name_of plan) (limits.is_object plan) object-named op parts.1 parts.2 parts.0
 
   op-none : (op : Op) → is_kept_op plan op ≡ true → has_none 59 (op_text plan op) ≡ true
   op-none op h =
-      let masked = and_parts _ (has_masks op) h in
-      let parts = and_parts (limits.is_op_known plan op) (is_in_form op) masked.0 in
-      text-none (place_of objects) (name_of plan) (limits.is_object plan) object-named 59 (record { digit = refl; part = refl; minus = refl; invalid = refl; letter = refl }) refl op parts.1 masked.1 parts.0
+      let parts = three-parts (limits.is_op_known plan op) (is_in_form op) (has_masks op) h in
+      text-none (place_of objects) (name_of plan) (limits.is_object plan) object-named 59 (record { digit = refl; part = refl; minus = refl; invalid = refl; letter = refl }) refl op parts.1 parts.2 parts.0
 
   op-back : (op : Op) → is_kept_op plan op ≡ true → op_of objects (op_text plan op) ≡ op
   op-back op known = ap (λ o. unwrap_or o Work) (op-meant op known)
 
   -- a script's text has the texts of its operations
-  pub script-back : (script : List Op) → list_all (is_kept_op plan) script ≡ true → operations_of (script_text plan script) ≡ map (op_text plan) script
+  script-back : (script : List Op) → list_all (is_kept_op plan) script ≡ true → operations_of (script_text plan script) ≡ map (op_text plan) script
   script-back script known =
       parts-pieces (op_text plan) 59 script refl
       (all-weaker (is_kept_op plan) _ op-none script known)
       (all-weaker (is_kept_op plan) _ (λ op h. text-some (name_of plan) op) script known)
 
   -- and means them
-  pub ops-back : (script : List Op) → list_all (is_kept_op plan) script ≡ true → map (op_of objects) (map (op_text plan) script) ≡ script
+  ops-back : (script : List Op) → list_all (is_kept_op plan) script ≡ true → map (op_of objects) (map (op_text plan) script) ≡ script
   ops-back script known = map-back (op_of objects) (op_text plan) (is_kept_op plan) op-back script known
+
+  modes-back : (modes : List ModeId) → list_all said.is_only_mode modes ≡ true → map (λ (name : List ℕ). only_mode) (map (name_of_mode plan) modes) ≡ modes
+  modes-back modes only = map-back (λ (name : List ℕ). only_mode) (name_of_mode plan) said.is_only_mode (λ m e. sym (mode-is m e)) modes only
 
   task-back : (task : Task) → is_kept_task plan task ≡ true → task_plan objects (task_said plan task) ≡ task
   task-back task h =
       let kept = kept-task plan task h in
-      let bytes = task-bytes (task_sizes task) kept.within in
-      let priority : byte_of (Some task.priority) ≡ task.priority = ap (λ o. unwrap_or o 0) bytes.0 in
-      let activations : byte_of (Some task.activations) ≡ task.activations = ap (λ o. unwrap_or o 0) bytes.1 in
-      rw (
-        priority,
-        activations,
-        map-back (λ (name : List ℕ). only_mode) (name_of_mode plan) said.is_only_mode (λ m e. sym (mode-is m e)) task.auto kept.auto,
-        script-back task.script kept.operations,
-        ops-back task.script kept.operations,
-      ) refl
+      let bytes = task-bytes (limits.task_sizes task) kept.0 in
+      rw (inside-some bytes.0, inside-some bytes.1, modes-back task.auto kept.1, script-back task.script kept.2, ops-back task.script kept.2) refl
 
   resource-back : (resource : Resource) → limits.is_ceiling (limits.ceiling_of resource) ≡ true → resource_plan (resource_said resource) ≡ resource
-  resource-back resource h = ap (λ (number : Option ℕ). let r : Resource = record { name = resource.name; ceiling = unwrap_or number 0 } in r) (is-byte _ _ (limits.ceiling_of resource) h (omega arith))
+  resource-back resource h = rw (inside-some (is-byte 0 31 (limits.ceiling_of resource) h (omega arith))) refl
 
   counter-back : (counter : Counter) → limits.is_counter_within (limits.counter_sizes counter) ≡ true → counter_plan (counter_said counter) ≡ counter
-  counter-back counter h =
-      let words = counter-words (limits.counter_sizes counter) h in
-      let max : word_of (Some counter.max) ≡ counter.max = ap (λ o. unwrap_or o 0) words.0 in
-      let min : word_of (Some counter.min) ≡ counter.min = ap (λ o. unwrap_or o 0) words.1 in
-      rw (max, min) refl
+  counter-back counter h = let words = counter-words (limits.counter_sizes counter) h in rw (inside-some words.0, inside-some words.1) refl
 
   -- each core's text has its counters
   core-has : (core : Core) → is_kept_core plan core ≡ true → core_of plan core.id ≡ Some core → HasCounters plan (core_said plan core)
-  core-has core h found =
-      let bytes = core-bytes (core_sizes plan core) (kept-core plan core h).within in
-      let id : number_id (number_of core.id) ≡ core.id = id-back core.id bytes.0 in
+  core-has core h there =
+      let limit = core-limits (limits.core_sizes plan core) (core-inside plan core h) in
       let same : map counter_sizes (map counter_said core.counters) ≡ map limits.counter_sizes core.counters = map-map counter_sizes counter_said core.counters in
       record {
         core = core;
-        found = ap (core_of plan) id ∙ found;
+        found = ap (core_of plan) (id-back core.id (is-byte 0 7 (number_of core.id) limit.0 (omega arith))) ∙ there;
         same = sym same;
-        within = ap are_counters_within same ∙ bytes.4;
+        within = ap are_counters_within same ∙ limit.4;
       }
 
   cores-have : (cores : List Core) → list_all (is_kept_core plan) cores ≡ true → AllByRecursion (IsFound plan.cores) cores → AllByRecursion (HasCounters plan) (map (core_said plan) cores)
@@ -303,32 +368,32 @@ module _ (plan : Plan) (inside : IsTrue (limits.is_within_limits plan)) (sayable
       (core-has core parts.0 found.0, cores-have cores parts.1 found.1)
 
   -- The name of a counter of the configuration stands for it,
-  pub counter-placed : (counter : CounterRef) → limits.is_object plan (counter_object counter) ≡ true → place_of objects ObjectKind.Counter (counter_name plan counter) ≡ Some (counter_place counter)
+  counter-placed : (counter : CounterRef) → limits.is_object plan (counter_object counter) ≡ true → place_of objects ObjectKind.Counter (counter_name plan counter) ≡ Some (counter_place counter)
   counter-placed counter known = (object-named (counter_object counter) known).found
 
-  pub counter-ref-back : (id : CoreId) (counter : CounterRef) → limits.is_object plan (counter_object counter) ≡ true → counter_ref objects id (counter_name plan counter) ≡ counter
+  counter-ref-back : (id : CoreId) (counter : CounterRef) → limits.is_object plan (counter_object counter) ≡ true → counter_ref objects id (counter_name plan counter) ≡ counter
   counter-ref-back id counter known = rw (counter-placed counter known) refl
 
   -- No name stands twice.
-  pub apart : said.are_distinct (names_of objects) ≡ true
+  apart : said.are_distinct (names_of objects) ≡ true
   apart = ap (λ rest. said.are_distinct (said.mode_name ∷ rest)) (names-said plan plan.cores) ∙ ap (λ modes. said.are_distinct (modes ++ flat_map said.object_names plan.cores)) (sym (modes-are plan.modes parts.modes)) ∙ parts.names
 
   -- and its numbers are the counter's.
-  pub counter-named : (id : CoreId) (counter : CounterRef) → limits.is_object plan (counter_object counter) ≡ true → NamedCounter plan objects id (counter_name plan counter)
+  counter-named : (id : CoreId) (counter : CounterRef) → limits.is_object plan (counter_object counter) ≡ true → NamedCounter plan objects id (counter_name plan counter)
   counter-named id counter known =
-      let bounds = limit-parts plan inside in
-      named-counter plan (config_said plan) id (counter_name plan counter) apart (cores-have plan.cores (kept-cores plan inside sayable) (each-found plan.cores bounds.distinct)) (ap is_some (counter-placed counter known))
+      named-counter plan (config_said plan) id (counter_name plan counter) apart (cores-have plan.cores cores (each-found plan.cores bounds.distinct)) (ap is_some (counter-placed counter known))
 
-  auto-back : (id : CoreId) (counter : CounterRef) (auto : Option AlarmStart) → limits.is_object plan (counter_object counter) ≡ true → is_alarm_within (option_map (start_sizes (option_map limits.counter_sizes (counter_in plan counter))) auto) ≡ true
+  -- The numbers of a counter, as its name finds them in the text.
+  counter-sized : (id : CoreId) (counter : CounterRef) (known : limits.is_object plan (counter_object counter) ≡ true) → option_map limits.counter_sizes (counter_in plan counter) ≡ Some (counter-named id counter known).sizes
+  counter-sized id counter known = ap (λ r. option_map limits.counter_sizes (counter_in plan r)) (sym (counter-ref-back id counter known)) ∙ (counter-named id counter known).planned
+
+  auto-back : (id : CoreId) (counter : CounterRef) (auto : Option AlarmStart) → limits.is_object plan (counter_object counter) ≡ true → is_alarm_within (option_map (limits.start_sizes (option_map limits.counter_sizes (counter_in plan counter))) auto) ≡ true
       → list_all said.is_only_mode (option_map_or (λ (auto : AlarmStart). auto.modes) auto []) ≡ true → option_map start_plan (option_map (start_said plan) auto) ≡ auto
   auto-back id counter None known within modes = refl
   auto-back id counter (Some auto) known within modes =
       let named = counter-named id counter known in
-      let sizes : option_map limits.counter_sizes (counter_in plan counter) ≡ Some named.sizes = ap (λ r. option_map limits.counter_sizes (counter_in plan r)) (sym (counter-ref-back id counter known)) ∙ named.planned in
-      let words = start-words (start_sizes (option_map limits.counter_sizes (counter_in plan counter)) auto) named.sizes sizes within named.within in
-      let start : word_of (Some auto.start) ≡ auto.start = ap (λ o. unwrap_or o 0) words.0 in
-      let cycle : word_of (Some auto.cycle) ≡ auto.cycle = ap (λ o. unwrap_or o 0) words.1 in
-      rw (start, cycle, map-back (λ (name : List ℕ). only_mode) (name_of_mode plan) said.is_only_mode (λ m e. sym (mode-is m e)) auto.modes modes) refl
+      let words = start-words (limits.start_sizes (option_map limits.counter_sizes (counter_in plan counter)) auto) named.sizes (counter-sized id counter known) within named.within in
+      rw (inside-some words.0, inside-some words.1, modes-back auto.modes modes) refl
 
   action-back : (action : RemoteCall) → is_kept_action plan action ≡ true → action_of objects (op_text plan (op_of_call action)) ≡ action
   action-back action h =
@@ -337,62 +402,202 @@ module _ (plan : Plan) (inside : IsTrue (limits.is_within_limits plan)) (sayable
 
   alarm-back : (id : CoreId) (alarm : Alarm) → is_kept_alarm plan alarm ≡ true → alarm_plan objects id (alarm_said plan alarm) ≡ alarm
   alarm-back id alarm h =
-      let kept = kept-alarm plan alarm h in
-      rw (counter-ref-back id alarm.counter kept.counter, action-back alarm.action kept.action, auto-back id alarm.counter alarm.auto kept.counter kept.within kept.auto) refl
+      let parts = alarm-parts plan alarm h in
+      rw (counter-ref-back id alarm.counter parts.1, action-back alarm.action (kept-action plan alarm.action parts.2), auto-back id alarm.counter alarm.auto parts.1 parts.0 parts.3) refl
 
   point-back : (point : ExpiryPoint) → is_kept_point plan point ≡ true → point_plan objects (point_said plan point) ≡ point
   point-back point h =
-      let parts = and_parts (is_between 0 1000000000 (Some point.offset)) _ h in
-      let offset : word_of (Some point.offset) ≡ point.offset = ap (λ o. unwrap_or o 0) (is-word 0 1000000000 (Some point.offset) parts.0 (omega arith)) in
-      rw (offset, map-back (action_of objects) (action_said plan) (is_kept_action plan) action-back point.actions parts.1) refl
+      let parts = and_parts (is_between 0 1000000000 (Some point.offset)) (list_all (is_kept_action plan) point.actions) h in
+      rw (inside-some (is-word 0 1000000000 (Some point.offset) parts.0 (omega arith)), map-back (action_of objects) (action_said plan) (is_kept_action plan) action-back point.actions parts.1) refl
 
   table-auto-back : (s : TableSizes) (counter : CounterSizes) (auto : Option TableStart) → s.counter ≡ Some counter → limits.is_counter_within counter ≡ true
       → option_map_or (is_table_start_within s) (option_map (λ (auto : TableStart). Some auto.offset) auto) true ≡ true → list_all said.is_only_mode (option_map_or (λ (auto : TableStart). auto.modes) auto []) ≡ true
       → option_map table_start_plan (option_map (table_start_said plan) auto) ≡ auto
   table-auto-back s counter None is within starts modes = refl
-  table-auto-back s counter (Some auto) is within starts modes =
-      let offset : word_of (Some auto.offset) ≡ auto.offset = ap (λ o. unwrap_or o 0) (table-start-word s counter (Some auto.offset) is within starts) in
-      rw (offset, map-back (λ (name : List ℕ). only_mode) (name_of_mode plan) said.is_only_mode (λ m e. sym (mode-is m e)) auto.modes modes) refl
+  table-auto-back s counter (Some auto) is within starts modes = rw (inside-some (table-start-word s counter (Some auto.offset) is within starts), modes-back auto.modes modes) refl
 
   table-back : (id : CoreId) (table : Table) → is_kept_table plan table ≡ true → table_plan objects id (table_said plan table) ≡ table
   table-back id table h =
-      let kept = kept-table plan table h in
-      let sizes = table_sizes (counter_in plan) table in
-      let named = counter-named id table.counter kept.counter in
-      let counted : sizes.counter ≡ Some named.sizes = ap (λ r. option_map limits.counter_sizes (counter_in plan r)) (sym (counter-ref-back id table.counter kept.counter)) ∙ named.planned in
-      let start = (and_parts _ (option_map_or (is_table_start_within sizes) sizes.auto true) kept.within).1 in
-      let duration : word_of (Some table.duration) ≡ table.duration = ap (λ o. unwrap_or o 0) (is-word 1 1000000000 (Some table.duration) kept.duration (omega arith)) in
+      let parts = table-parts plan table h in
+      let limit = limits-of plan table h in
+      let named = counter-named id table.counter parts.1 in
       rw (
-        counter-ref-back id table.counter kept.counter,
-        duration,
-        map-back (point_plan objects) (point_said plan) (is_kept_point plan) point-back table.points kept.points,
-        table-auto-back sizes named.sizes table.auto counted named.within start kept.auto,
+        counter-ref-back id table.counter parts.1,
+        inside-some (is-word 1 1000000000 (Some table.duration) limit.duration (omega arith)),
+        map-back (point_plan objects) (point_said plan) (is_kept_point plan) point-back table.points (kept-points plan table h),
+        table-auto-back (limits.table_sizes (counter_in plan) table) named.sizes table.auto (counter-sized id table.counter parts.1) named.within limit.start parts.3,
       ) refl
 
-  pub core-back : (core : Core) → is_kept_core plan core ≡ true → core_plan objects (core_said plan core) ≡ core
+  core-back : (core : Core) → is_kept_core plan core ≡ true → core_plan objects (core_said plan core) ≡ core
   core-back core h =
       let kept = kept-core plan core h in
-      let bytes = core-bytes (core_sizes plan core) kept.within in
-      let counters = (and_parts _ (list_all limits.is_counter_within (map limits.counter_sizes core.counters)) bytes.4).1 in
+      let limit = core-limits (limits.core_sizes plan core) (core-inside plan core h) in
+      let texts = core-text-parts core (and_parts _ (said.is_core_expressible core) h).1 in
       rw (
-        id-back core.id bytes.0,
-        mode-back core.mode kept.said.mode,
-        map-back number_id number_of (λ id. is_start (number_of id)) (λ id e. id-back id (is-byte _ _ (number_of id) e (omega arith))) core.start (sym (list_all-map is_start number_of core.start) ∙ bytes.1),
+        id-back core.id (is-byte 0 7 (number_of core.id) limit.0 (omega arith)),
+        mode-back core.mode texts.mode,
+        map-back number_id number_of (λ id. is_start (number_of id)) (λ id e. id-back id (is-byte 0 255 (number_of id) e (omega arith))) core.start (sym (list_all-map is_start number_of core.start) ∙ limit.1),
         map-back (task_plan objects) (task_said plan) (is_kept_task plan) task-back core.tasks kept.tasks,
-        map-back resource_plan resource_said (λ (resource : Resource). limits.is_ceiling (limits.ceiling_of resource)) resource-back core.resources (sym (list_all-map limits.is_ceiling limits.ceiling_of core.resources) ∙ bytes.3),
-        map-back counter_plan counter_said (λ (counter : Counter). limits.is_counter_within (limits.counter_sizes counter)) counter-back core.counters (sym (list_all-map limits.is_counter_within limits.counter_sizes core.counters) ∙ counters),
+        map-back resource_plan resource_said (λ (resource : Resource). limits.is_ceiling (limits.ceiling_of resource)) resource-back core.resources (sym (list_all-map limits.is_ceiling limits.ceiling_of core.resources) ∙ limit.3),
+        map-back counter_plan counter_said (λ (counter : Counter). limits.is_counter_within (limits.counter_sizes counter)) counter-back core.counters (sym (list_all-map limits.is_counter_within limits.counter_sizes core.counters) ∙ limit.5),
         map-back (alarm_plan objects core.id) (alarm_said plan) (is_kept_alarm plan) (alarm-back core.id) core.alarms kept.alarms,
         map-back (table_plan objects core.id) (table_said plan) (is_kept_table plan) (table-back core.id) core.tables kept.tables,
-        kept.said.isrs,
+        texts.isrs,
       ) refl
 
-  pub plan-back : plan_of (config_said plan) ≡ plan
+  plan-back : plan_of (config_said plan) ≡ plan
   plan-back =
       let master : plan.master.number < 16 = master-low plan inside in
-      let cap : byte_of (Some plan.cap) ≡ plan.cap = ap (λ o. unwrap_or o 0) (cap-byte (limits.sizes_of plan) (limit-parts plan inside).sizes) in
       rw (
-        cap,
+        inside-some (cap-byte (limits.sizes_of plan) bounds.sizes),
         id-back plan.master (ap Some (byte-small plan.master.number (omega arith))),
-        map-back (core_plan objects) (core_said plan) (is_kept_core plan) core-back plan.cores (kept-cores plan inside sayable),
+        map-back (core_plan objects) (core_said plan) (is_kept_core plan) core-back plan.cores cores,
         modes-are plan.modes parts.modes,
       ) refl
+
+  -- ---- names
+
+  numbers-kept : (cores : List Core) → numbers_of (map (core_said plan) cores) ≡ limits.numbers_of cores
+  numbers-kept [] = refl
+  numbers-kept (core ∷ cores) = ap (λ numbers. number_of core.id ∷ numbers) (numbers-kept cores)
+
+  once : is_each_once (config_said plan) ≡ true
+  once = and_from _ _ (ap are_numbers_distinct (numbers-kept plan.cores) ∙ bounds.distinct) apart
+
+  -- ---- names, masks and operations
+
+  op-right : (id : CoreId) (op : Op) → is_kept_op plan op ≡ true → is_right (op_verdict objects id (op_text plan op)) ≡ true
+  op-right id op h =
+      let e = op-meant op h in
+      let means = meant-known (place_of objects) (op_text plan op) op e in
+      let masked = sym (meant_masks (place_of objects) (op_text plan op) op e) ∙ (and_parts _ (has_masks op) h).1 in
+      and_from _ _ (and_from _ _ means.1 masked) means.0
+
+  modes-known : (modes : List ModeId) → list_all said.is_only_mode modes ≡ true → list_all is_mode_name (map (name_of_mode plan) modes) ≡ true
+  modes-known modes h = list_all-by said.is_only_mode is_mode_name (name_of_mode plan) (λ m e. ap is_mode_name (mode-text plan parts.modes m e)) modes h
+
+  -- of what starts by itself, where it does
+  auto-known : {X Y : Type 0} (modes : X → List ModeId) (names : Y → List (List ℕ)) (said_of : X → Y) → ((x : X) → names (said_of x) ≡ map (name_of_mode plan) (modes x)) → (o : Option X) → list_all said.is_only_mode (option_map_or modes o []) ≡ true
+      → list_all is_mode_name (option_map_or names (option_map said_of o) []) ≡ true
+  auto-known modes names said_of are None h = refl
+  auto-known modes names said_of are (Some x) h = ap (list_all is_mode_name) (are x) ∙ modes-known (modes x) h
+
+  task-right : (id : CoreId) (task : Task) → is_kept_task plan task ≡ true → is_right (task_verdict objects id (task_said plan task)) ≡ true
+  task-right id task h =
+      let kept = kept-task plan task h in
+      let texts = map (op_text plan) task.script in
+      let ops = three-parts (list_all (is_operation_known objects) texts) (list_all text_has_masks texts) (list_all is_operation texts) (right-of-each (is_kept_op plan) (op_text plan) (op_verdict objects id) (op-right id) task.script kept.2) in
+      let jumps = ap said.is_jumping_within (ops-back task.script kept.2) ∙ kept.3 in
+      rw (script-back task.script kept.2) (and_from _ _ (and_from _ _ (and_from _ _ (modes-known task.auto kept.1) ops.0) ops.1) (and_from _ _ ops.2 jumps))
+
+  action-right : (action : RemoteCall) → is_kept_action plan action ≡ true → is_right (action_verdict objects (action_said plan action)) ≡ true
+  action-right action h =
+      let op = op_of_call action in
+      let text = action_said plan action in
+      let parts = and_parts (is_action action) (is_kept_op plan op) h in
+      let right = three-parts (is_operation_known objects text) (text_has_masks text) (is_operation text) (op-right plan.master op parts.1) in
+      let acts = sym (meant_action (place_of objects) text op (op-meant op parts.1)) ∙ ap is_some (action-of action parts.0) in
+      and_from _ _ (and_from _ _ (or_right (not (is_action_text text)) _ right.0) (or_right (not (is_action_text text)) _ right.1)) acts
+
+  alarm-right : (id : CoreId) (alarm : Alarm) → is_kept_alarm plan alarm ≡ true → is_right (alarm_verdict objects id (alarm_said plan alarm)) ≡ true
+  alarm-right id alarm h =
+      let parts = alarm-parts plan alarm h in
+      acting-right _ _ _ _ _ (ap is_some (counter-placed alarm.counter parts.1)) (action-right alarm.action (kept-action plan alarm.action parts.2)) (auto-known (λ (auto : AlarmStart). auto.modes) (λ (auto : AlarmStartText). auto.modes) (start_said plan) (λ auto. refl) alarm.auto parts.3)
+
+  point-right : (point : ExpiryPoint) → is_kept_point plan point ≡ true → is_right (point_verdict objects (point_said plan point)) ≡ true
+  point-right point h = right-of-each (is_kept_action plan) (action_said plan) (action_verdict objects) action-right point.actions (and_parts (is_between 0 1000000000 (Some point.offset)) (list_all (is_kept_action plan) point.actions) h).1
+
+  table-right : (id : CoreId) (table : Table) → is_kept_table plan table ≡ true → is_right (table_verdict objects id (table_said plan table)) ≡ true
+  table-right id table h =
+      let parts = table-parts plan table h in
+      let points = right-of-each (is_kept_point plan) (point_said plan) (point_verdict objects) point-right table.points (kept-points plan table h) in
+      acting-right _ _ _ _ _ (ap is_some (counter-placed table.counter parts.1)) points (auto-known (λ (auto : TableStart). auto.modes) (λ (auto : TableStartText). auto.modes) (table_start_said plan) (λ auto. refl) table.auto parts.3)
+
+  core-right : (core : Core) → is_kept_core plan core ≡ true → is_right (core_verdict objects (core_said plan core)) ≡ true
+  core-right core h =
+      let kept = kept-core plan core h in
+      let id = id_of (core_said plan core) in
+      right-of-three (each_verdict (task_verdict objects id) (map (task_said plan) core.tasks)) (each_verdict (alarm_verdict objects id) (map (alarm_said plan) core.alarms)) (each_verdict (table_verdict objects id) (map (table_said plan) core.tables))
+      (right-of-each (is_kept_task plan) (task_said plan) (task_verdict objects id) (task-right id) core.tasks kept.tasks)
+      (right-of-each (is_kept_alarm plan) (alarm_said plan) (alarm_verdict objects id) (alarm-right id) core.alarms kept.alarms)
+      (right-of-each (is_kept_table plan) (table_said plan) (table_verdict objects id) (table-right id) core.tables kept.tables)
+
+  right : is_right (text_verdict (config_said plan)) ≡ true
+  right = right-of-each (is_kept_core plan) (core_said plan) (core_verdict objects) core-right plan.cores cores
+
+  master : has_number (numbers_of (config_said plan).cores) (number_of plan.master) ≡ true
+  master = ap (λ numbers. has_number numbers (number_of plan.master)) (numbers-kept plan.cores) ∙ any-mapped (λ id. same_number id (number_of plan.master)) (λ (c : Core). number_of c.id) plan.cores ∙ (any-find (λ (c : Core). same_core c.id plan.master) plan.cores ∙ bounds.master)
+
+  all : (are_known (config_said plan) ≡ true) × (are_masks (config_said plan) ≡ true) × (are_operations (config_said plan) ≡ true)
+  all = let verdict = text_verdict (config_said plan) in let parts = three-parts verdict.known verdict.masked verdict.formed right in (and_from _ _ master parts.0, parts.1, parts.2)
+
+  -- ---- scripts that stay on their cores: what the text means is the configuration
+
+  near : are_near (config_said plan) ≡ true
+  near = sym (near_kept objects (map (core_said plan) plan.cores) all.2) ∙ ap (λ (p : Plan). list_all limits.is_core_near p.cores) plan-back ∙ bounds.near
+
+  -- ---- limits: the text has the configuration's numbers
+
+  task-numbers : (task : Task) → is_kept_task plan task ≡ true → task_sizes (task_said plan task) ≡ limits.task_sizes task
+  task-numbers task h = rw (script-back task.script (kept-task plan task h).2, length-map task.script (op_text plan)) refl
+
+  -- the counter that a name finds has the numbers of the one that is meant
+  counter-numbers : (id : CoreId) (counter : CounterRef) → limits.is_object plan (counter_object counter) ≡ true → option_map declared_sizes (counter_declared objects (counter_name plan counter)) ≡ option_map limits.counter_sizes (counter_in plan counter)
+  counter-numbers id counter known = (counter-named id counter known).declared ∙ sym (counter-sized id counter known)
+
+  start-numbers : (sizes : Option limits.CounterSizes) (name : List ℕ) (auto : Option AlarmStart) → option_map declared_sizes (counter_declared objects name) ≡ sizes → option_map (start_sizes objects name) (option_map (start_said plan) auto) ≡ option_map (limits.start_sizes sizes) auto
+  start-numbers sizes name None same = refl
+  start-numbers sizes name (Some auto) same = rw same refl
+
+  alarm-numbers : (id : CoreId) (alarm : Alarm) → is_kept_alarm plan alarm ≡ true → alarm_sizes objects (alarm_said plan alarm) ≡ limits.alarm_sizes (counter_in plan) alarm
+  alarm-numbers id alarm h = start-numbers (option_map limits.counter_sizes (counter_in plan alarm.counter)) (counter_name plan alarm.counter) alarm.auto (counter-numbers id alarm.counter (alarm-parts plan alarm h).1)
+
+  points-numbers : (points : List ExpiryPoint) → map point_sizes (map (point_said plan) points) ≡ map limits.point_sizes points
+  points-numbers [] = refl
+  points-numbers (point ∷ points) = rw (length-map point.actions (action_said plan), points-numbers points) refl
+
+  table-auto-numbers : (auto : Option TableStart) → option_map (λ (auto : TableStartText). auto.offset) (option_map (table_start_said plan) auto) ≡ option_map (λ (auto : TableStart). Some auto.offset) auto
+  table-auto-numbers None = refl
+  table-auto-numbers (Some auto) = refl
+
+  table-numbers : (id : CoreId) (table : Table) → is_kept_table plan table ≡ true → table_sizes objects (table_said plan table) ≡ limits.table_sizes (counter_in plan) table
+  table-numbers id table h = rw (points-numbers table.points, table-auto-numbers table.auto, counter-numbers id table.counter (table-parts plan table h).1) refl
+
+  core-numbers : (core : Core) → is_kept_core plan core ≡ true → core_sizes objects (core_said plan core) ≡ limits.core_sizes plan core
+  core-numbers core h =
+      let k = kept-core plan core h in
+      rw (
+        map-same task_sizes (task_said plan) limits.task_sizes (is_kept_task plan) task-numbers core.tasks k.tasks,
+        map-map (λ (r : ResourceText). r.ceiling) resource_said core.resources,
+        map-map counter_sizes counter_said core.counters,
+        map-same (alarm_sizes objects) (alarm_said plan) (limits.alarm_sizes (counter_in plan)) (is_kept_alarm plan) (alarm-numbers core.id) core.alarms k.alarms,
+        map-same (table_sizes objects) (table_said plan) (limits.table_sizes (counter_in plan)) (is_kept_table plan) (table-numbers core.id) core.tables k.tables,
+        sym (posted-same objects apart (core_said plan core) (core-right core h)) ∙ ap posted_at_once (core-back core h),
+      ) refl
+
+  plan-numbers : sizes_of (config_said plan) ≡ limits.sizes_of plan
+  plan-numbers = rw (map-same (core_sizes objects) (core_said plan) (limits.core_sizes plan) (is_kept_core plan) core-numbers plan.cores cores, ap length (modes-are plan.modes parts.modes)) refl
+
+  within : is_text_within (config_said plan) ≡ true
+  within = and_from _ _ refl (ap limits.is_within plan-numbers ∙ bounds.sizes)
+
+  -- ---- tables
+
+  core-timed : (core : Core) → is_kept_core plan core ≡ true → is_core_timed objects (core_said plan core) ≡ true
+  core-timed core h =
+      list_all-by (is_kept_table plan) (λ (table : TableText). is_table_timed (table_sizes objects table)) (table_said plan) (λ (table : Table) (e : is_kept_table plan table ≡ true). ap is_table_timed (table-numbers core.id table e) ∙ (and_parts (is_table_within (limits.table_sizes (counter_in plan) table)) _ (table-parts plan table e).0).1) core.tables (kept-core plan core h).tables
+
+  timed : are_timed (config_said plan) ≡ true
+  timed = list_all-by (is_kept_core plan) (is_core_timed objects) (core_said plan) core-timed plan.cores cores
+
+  faultless : failing (tests_of (config_said plan)) ≡ []
+  faultless = rw (within, once, all.0, near, all.1, timed, all.2) refl
+
+-- so it means the configuration
+pub config-back : (plan : Plan) (text : List ℕ) → IsTrue (limits.is_within_limits plan) → IsTrue (said.is_expressible plan) → read text ≡ Some (config_data plan) → config_of text ≡ Some plan
+config-back plan text inside sayable reads =
+    let parts = text-parts plan sayable in
+    ap (λ (o : Option Data). option_and_then config_of_shape (option_and_then config_shape o)) reads
+    ∙ ap (option_and_then config_of_shape) (config-shape plan inside sayable)
+    ∙ ap (λ faults. if_faultless faults (plan_of (config_said plan))) (faultless plan inside sayable)
+    ∙ ap Some (plan-back plan inside sayable)

@@ -1,32 +1,10 @@
 -- What the text of a configuration says.
 use Rattle.std.proofs.Common.{ℕ, List, map, Some, option_map}
 use Rattle.osbase.specs.Objects.{counter_place}
-use Rattle.osbase.specs.declared.objects.ObjectKind.{ObjectKind}
-use Rattle.osbase.specs.declared.references.CounterRef.{CounterRef}
-use Rattle.osplan.specs.declared.plans.Alarm.{Alarm}
-use Rattle.osplan.specs.declared.plans.AlarmStart.{AlarmStart}
-use Rattle.osplan.specs.declared.plans.Plan.{Plan}
-use Rattle.osplan.specs.declared.plans.Core.{Core}
-use Rattle.osplan.specs.declared.plans.Counter.{Counter}
-use Rattle.osplan.specs.declared.plans.Resource.{Resource}
-use Rattle.osplan.specs.declared.plans.ExpiryPoint.{ExpiryPoint}
-use Rattle.osplan.specs.declared.plans.Table.{Table}
-use Rattle.osplan.specs.declared.plans.TableStart.{TableStart}
-use Rattle.osplan.specs.declared.plans.Task.{Task}
-use Rattle.osbase.specs.declared.messages.RemoteCall.{RemoteCall}
+use Rattle.oscheck.specs.Words.{Alarm, AlarmStart, AlarmStartText, AlarmText, ConfigText, Core, CoreText, Counter, CounterRef, CounterText, ExpiryPoint, ObjectKind, Plan, PointText, RemoteCall, Resource, ResourceText, Table, TableStart, TableStartText, TableText, Task, TaskText}
 use Rattle.oscript.specs.Calls.{op_of_call}
 use Rattle.osplan.specs.Limits.{ceiling_of, number_of}
 use Rattle.osplan.specs.Names.{name_of, name_of_mode}
-use Rattle.osshape.specs.declared.shapes.AlarmStartText.{AlarmStartText}
-use Rattle.osshape.specs.declared.shapes.AlarmText.{AlarmText}
-use Rattle.osshape.specs.declared.shapes.ConfigText.{ConfigText}
-use Rattle.osshape.specs.declared.shapes.CoreText.{CoreText}
-use Rattle.osshape.specs.declared.shapes.CounterText.{CounterText}
-use Rattle.osshape.specs.declared.shapes.ResourceText.{ResourceText}
-use Rattle.osshape.specs.declared.shapes.TaskText.{TaskText}
-use Rattle.osshape.specs.declared.table_shapes.PointText.{PointText}
-use Rattle.osshape.specs.declared.table_shapes.TableStartText.{TableStartText}
-use Rattle.osshape.specs.declared.table_shapes.TableText.{TableText}
 use Rattle.oswrite.specs.Writing.{op_text, script_text}
 
 abbrev pub task_said : Plan → Task → TaskText

@@ -5,22 +5,8 @@ use Rattle.serde_json.specs.Data.{unsigned, Data, null, boolean, number, string,
 use Rattle.serde_json.specs.View.{items_of}
 use Rattle.serde_json.specs.Written.{compact_text}
 use Rattle.osbase.specs.Objects.{counter_place}
-use Rattle.osbase.specs.declared.objects.ObjectKind.{ObjectKind}
-use Rattle.osbase.specs.declared.references.CoreId.{CoreId}
-use Rattle.osbase.specs.declared.references.ModeId.{ModeId}
-use Rattle.oscript.specs.declared.Op.{Op}
+use Rattle.oscheck.specs.Words.{Alarm, AlarmStart, Core, CoreId, Counter, ExpiryPoint, ModeId, ObjectKind, Op, Plan, RemoteCall, Resource, Table, TableStart, Task}
 use Rattle.osforms.specs.Operation as forms
-use Rattle.osplan.specs.declared.plans.Alarm.{Alarm}
-use Rattle.osplan.specs.declared.plans.AlarmStart.{AlarmStart}
-use Rattle.osplan.specs.declared.plans.Plan.{Plan}
-use Rattle.osplan.specs.declared.plans.Core.{Core}
-use Rattle.osplan.specs.declared.plans.Counter.{Counter}
-use Rattle.osplan.specs.declared.plans.Resource.{Resource}
-use Rattle.osplan.specs.declared.plans.ExpiryPoint.{ExpiryPoint}
-use Rattle.osplan.specs.declared.plans.Table.{Table}
-use Rattle.osplan.specs.declared.plans.TableStart.{TableStart}
-use Rattle.osplan.specs.declared.plans.Task.{Task}
-use Rattle.osbase.specs.declared.messages.RemoteCall.{RemoteCall}
 use Rattle.oscript.specs.Calls.{op_of_call}
 use Rattle.osplan.specs.Names.{name_of_mode, name_of}
 

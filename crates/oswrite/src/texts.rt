@@ -1,6 +1,6 @@
 //! Writing: the JSON text of a configuration.
 
-ghost use Rattle.std.specs.Prelude.{◌≡◌, IfOk, Some, string_bytes};
+ghost use Rattle.std.specs.Prelude.{◌≡◌, IfErr, IfOk, Some, string_bytes};
 ghost use Rattle.serde_json.specs.Data.{Data};
 ghost use Rattle.serde_json.specs.View.{view};
 ghost use Rattle.osdraft.specs.Meaning.{config_of};
@@ -10,7 +10,8 @@ use osbase::{CoreId, ModeId, ObjectKind, Place, Reference, RemoteCall};
 use oscript::{Op, op_of_call};
 use osforms::{Names, op_text};
 use osplan::{
-    Alarm, AlarmStart, Config, Core, Counter, ExpiryPoint, Plan, Resource, Table, TableStart, Task,
+    Alarm, AlarmStart, ConfFault, Config, Core, Counter, ExpiryPoint, Plan, Resource, Table,
+    TableStart, Task,
 };
 use serde_json::{Value, json};
 use std::alloc::{AllocError, Global};
@@ -252,12 +253,16 @@ fn plan_value(alloc: Global, plan: &Plan) -> Result<Value, AllocError>
 }
 
 /// The text of a configuration, version 1 of the format: compact JSON with every member written, in
-/// ascending order of names. Reading it gives the configuration back.
-pub fn config_text(alloc: Global, config: &Config) -> Result<String, AllocError>
+/// ascending order of names. Reading it gives the configuration back. `NoMemory` where memory runs out,
+/// and no other fault.
+pub fn config_text(alloc: Global, config: &Config) -> Result<String, ConfFault>
     ensures text { IfOk result (λ text. string_bytes text ≡ config_text config.now) }
     // The text's configuration is the configuration.
     ensures reads_back { IfOk result (λ text. config_of (string_bytes text) ≡ Some config.now) }
+    // Nothing but memory can be missing.
+    ensures fault { IfErr result (λ fault. fault ≡ ConfFault.NoMemory) }
 {
     let plan = config.plan();
-    plan_value(alloc, plan)?.to_string(alloc)
+    let text = plan_value(alloc, plan)?.to_string(alloc)?;
+    Ok(text)
 }

@@ -1,5 +1,5 @@
 use Rattle.std.proofs.Common.{◌≤◌, arith}
-use Rattle.oscheck.proofs.Posting.{alarms_small, tables_small}
+use Rattle.oscheck.proofs.Numbers.{alarms_small, tables_small}
 use Rattle.oscheck.proofs.table_checks.are_posted_few.Goals as goal
 
 pub posted_by_tables-by_tables-requires : goal.posted_by_tables-by_tables-requires

@@ -1,5 +1,5 @@
 use Rattle.std.proofs.Common.{sym, ◌∙◌}
-use Rattle.oscheck.proofs.Points.{last-at}
+use Rattle.oscheck.proofs.Numbers.{last-at}
 use Rattle.oscheck.proofs.table_checks.last_offset.Goals as goal
 
 pub returns-in-Some : goal.returns-in-Some

@@ -3,13 +3,11 @@ use Rattle.std.proofs.lemmas.Result.{err_from_is_err_and}
 use Rattle.std.specs.Option.{option_map_or}
 use Rattle.osplan.specs.declared.faults.ConfFault.{ConfFault}
 use Rattle.osplan.specs.declared.faults.ConfFault.TheVariants.{NotJson, Shape}
-use Rattle.osplan.specs.Fault.{failing}
+use Rattle.osplan.specs.Fault.{failing, IsLeast}
 use Rattle.oscheck.specs.Check.{tests_of}
-use Rattle.osplan.specs.Fault.{IsLeast}
 use Rattle.osdraft.specs.Meaning.{faults_of, faults_of_data}
 use Rattle.oscheck.proofs.Least.{least-tests_of}
-use Rattle.osdraft.proofs.Bounds.{bounds-of}
-use Rattle.osdraft.proofs.Sayings.{expressible-of}
+use Rattle.osdraft.proofs.Meant.{plan-kept}
 use Rattle.osdraft.proofs.configs.read_config.Goals as goal
 
 pub returns-in_err-plan_if_faultless-clause-fault : goal.returns-in_err-plan_if_faultless-clause-fault
@@ -19,7 +17,7 @@ returns-in_err-plan_if_faultless-clause-fault c =
     rw (p.1, p.2) (λ known. subst (λ (fs : List ConfFault). IsLeast c.in_err-plan_if_faultless.field-0.0 fs) (sym faults) (least-tests_of c.in_ok-text.text c.in_err-plan_if_faultless.field-0.0 (c.in_err-plan_if_faultless.ensures.fault known)))
 
 pub new-requires-clause-limits : goal.new-requires-clause-limits
-new-requires-clause-limits c = rw c.in_ok-plan_if_faultless.ensures.ok.1 (bounds-of c.in_ok-text.text c.in_ok-plan_if_faultless.ensures.ok.0)
+new-requires-clause-limits c = rw c.in_ok-plan_if_faultless.ensures.ok.1 (plan-kept c.in_ok-text.text c.in_ok-text.ensures.named c.in_ok-plan_if_faultless.ensures.ok.0).0
 
 pub new-requires-clause-expressible : goal.new-requires-clause-expressible
-new-requires-clause-expressible c = rw c.in_ok-plan_if_faultless.ensures.ok.1 (expressible-of c.in_ok-text.text c.in_ok-text.ensures.named c.in_ok-plan_if_faultless.ensures.ok.0)
+new-requires-clause-expressible c = rw c.in_ok-plan_if_faultless.ensures.ok.1 (plan-kept c.in_ok-text.text c.in_ok-text.ensures.named c.in_ok-plan_if_faultless.ensures.ok.0).1

@@ -1,0 +1,480 @@
+-- What a text without a fault means is a configuration with the text's numbers: it keeps the limits, and a text can say it.
+use Rattle.std.proofs.Common.{◌≡◌, ℕ, ◌&&◌, Bool, true, cond, count_by, sum_by, List, [], ◌∷◌, map, Option, Some, None, is_some, option_map, unwrap_or, refl, sym, ap, ◌∙◌, arith, ◌≤◌, ◌-◌, nat_le, ◌||◌, not}
+use Rattle.std.proofs.lemmas.Bool.Decides.{nat_tests}
+use Rattle.std.specs.List.{find, list_all, sum, AllByRecursion, flat_map}
+use Rattle.std.proofs.lemmas.Bool.{and_parts, leb-true, and_from, true≢false}
+use Rattle.oscheck.specs.Words.{Alarm, AlarmText, Core, CoreText, Declaration, ObjectKind, Op, Place, PointText, RemoteCall, TableText, AlarmStartText, ConfigText, CoreId, CounterText, Plan, ResourceText, Table, TableStart, TableStartText, TaskText, ModeId, Task, AlarmStart, ExpiryPoint, Counter, Named, Resource}
+use Rattle.oscript.specs.Calls.{action_of_op}
+use Rattle.osforms.specs.Action.{is_action, is_action_op}
+use Rattle.osforms.specs.Operation.{op_meant, has_masks}
+use Rattle.osplan.specs.Expressible.{are_distinct, mode_name, is_only_mode}
+use Rattle.osplan.specs.Objects.{greatest_of, names_in, table_actions}
+use Rattle.osplan.proofs.Tests.{all-both, all-flat, any-find, any-mapped}
+use Rattle.oscheck.specs.Action.{action_of, any_action, is_action_known, is_action_masked}
+use Rattle.oscheck.specs.Check.{task_sizes, counter_sizes, start_sizes, alarm_sizes, point_sizes, table_sizes, core_sizes, sizes_of, numbers_of, is_core_timed, is_each_once, are_timed, is_core_near, is_core_script, is_operation_near, is_script_near, is_task_script, is_text_within, are_known, are_near, are_masks, are_operations, tests_of}
+use Rattle.osshape.specs.Declarations.{has_name, id_of, is_alone, place_alone, place_of, names_of, byte_of, number_id, word_of, declarations, counter_ref, declared_by}
+use Rattle.osdraft.specs.Meaning.{alarm_plan, core_plan, point_plan, table_plan, task_plan, resource_plan, counter_plan, start_plan, table_start_plan, plan_of, only_mode}
+use Rattle.oscheck.specs.Posted.{greatest_posted, is_posting, posted_at, posted_at_once}
+use Rattle.osdraft.proofs.Alarms.{acted, action-meant, action-acts, action-passes, action-keeps}
+use Rattle.osshape.proofs.Alone.{alone}
+use Rattle.osdraft.proofs.Right.{alarm-parts, core-right, is_right, of-each, table-parts, three-parts}
+use Rattle.std.proofs.lemmas.List.Sums.{sum-map}
+use Rattle.std.proofs.Math.Path.{fun_ext}
+use Rattle.osshape.proofs.Lists.{map-same, list_all-by, map-back, all-apart, all-same, list_all-total, list_any-by}
+use Rattle.std.specs.Option.{option_map_or}
+use Rattle.std.proofs.lemmas.List.{length-map}
+use Rattle.std.proofs.lemmas.List.Folds.{list_all-map, flat_map-map}
+use Rattle.osplan.specs.Limits.{CounterSizes, PointSizes, Sizes, StartSizes, TableSizes, TaskSizes, first_offset, is_cycle, is_start_by, is_start_within, is_table_start, most_activations, are_ascending, are_numbers_distinct, is_alarm_within, is_between, is_ceiling, is_counter_within, is_point_within, is_start, is_table_start_within, is_timed_by, is_table_timed, is_table_within, is_task_within, is_within, last_offset, number_of, same_number, has_number}
+use Rattle.osplan.specs.View.{counter_in}
+use Rattle.oscheck.specs.Operation.{operations_of, op_of, is_operation}
+use Rattle.oscheck.proofs.Numbers.{most}
+use Rattle.osdraft.proofs.Found.{IsByte, IsWord, is-byte, is-word, is_inside, cores-inside, numbers-kept, bytes-equal, IsFound, each-found, HasCounters, NamedCounter, named-counter, place-known}
+use Rattle.oscheck.proofs.Numbers.{offsets-low}
+use Rattle.osplan.specs.Objects as plans
+use Rattle.osplan.specs.Limits as limits
+use Rattle.oscheck.specs.Verdict.{action_verdict, alarm_verdict, core_verdict, point_verdict, table_verdict, text_verdict, task_verdict}
+use Rattle.osforms.proofs.Alike.{named-same}
+use Rattle.oscheck.proofs.Operations.{stays-alike}
+use Rattle.osbase.specs.Objects.{counter_object}
+use Rattle.osbase.specs.History.{same_core}
+use Rattle.oscript.specs.declared.Op.TheVariants.{Work}
+use Rattle.osforms.proofs.Operations.{meant-passes, meant-in-form, meant_masks}
+use Rattle.osplan.specs.declared.faults.ConfFault.TheVariants.{Limit, DuplicateName, UnknownName, WrongCore, BadMask, BadTable, BadScript}
+use Rattle.osplan.specs.Fault.{failing}
+use Rattle.std.proofs.lemmas.Simd.{map-map}
+use Rattle.oscript.specs.Rows.{is_in_form}
+use Rattle.osbase.specs.Names.{is_name}
+use Rattle.osplan.proofs.EveryKind.{every-kind}
+use Rattle.osshape.specs.Shape.{has_named_objects, numbered, objects_in, unnumbered}
+use Rattle.osshape.proofs.Naming.{names-of-all}
+use Rattle.oscript.specs.Rows as rows
+use Rattle.osplan.specs.Expressible as said
+use Rattle.osdraft.proofs.Loops.{always}
+
+-- ---- where no name stands twice, each name with an object is that object's alone
+
+alone-everywhere : (objects : List Declaration) → are_distinct (names_of objects) ≡ true → place_alone objects ≡ place_of objects
+alone-everywhere objects apart = fun_ext (λ kind. fun_ext (λ name. by kind name (find (has_name name) objects) refl))
+  where
+    none-if : (b : Bool) → cond {A = Option Place} b None None ≡ None
+    none-if b = grind arith
+
+    by : (kind : ObjectKind) (name : List ℕ) (o : Option Declaration) → find (has_name name) objects ≡ o → place_alone objects kind name ≡ place_of objects kind name
+    by kind name None none = rw none (none-if (is_alone objects name))
+    by kind name (Some d) found = rw (alone objects name d apart found) refl
+
+-- ---- sums
+
+sum-same : {X Y : Type 0} (f : X → ℕ) (g : Y → ℕ) (h : X → Y) (p : X → Bool) → ((x : X) → p x ≡ true → g (h x) ≡ f x) → (xs : List X) → list_all p xs ≡ true → sum_by g (map h xs) ≡ sum_by f xs
+sum-same f g h p same xs all = sym (sum-map g (map h xs)) ∙ ap sum (map-same g h f p same xs all) ∙ sum-map f xs
+
+count-same : {X Y : Type 0} (f : X → Bool) (g : Y → Bool) (h : X → Y) (p : X → Bool) → ((x : X) → p x ≡ true → g (h x) ≡ f x) → (xs : List X) → list_all p xs ≡ true → count_by g (map h xs) ≡ count_by f xs
+count-same f g h p same = sum-same (λ x. cond (f x) 1 0) (λ y. cond (g y) 1 0) h p (λ x e. ap (λ b. cond b 1 0) (same x e))
+
+-- ---- actions
+
+action-some : (op : Op) → is_action_op op ≡ true → action_of_op op ≡ Some (unwrap_or (action_of_op op) any_action)
+action-some op is = let a = acted op is in a.1 ∙ ap (λ (o : Option RemoteCall). Some (unwrap_or o any_action)) (sym a.1)
+
+module _ (objects : List Declaration) (apart : are_distinct (names_of objects) ≡ true) (core : CoreText) where
+  abbrev planned : Core
+  planned = core_plan objects core
+
+  posting-same : (text : List ℕ) → is_right (action_verdict objects text) ≡ true → plans.is_posting planned (action_of objects text) ≡ is_posting objects (id_of core) text
+  posting-same text h =
+      let parts = three-parts (is_action_known objects text) (is_action_masked text) (is_action text) h in
+      let meant = action-meant objects text parts.2 parts.0 in
+      let alike : op_meant (place_alone objects) text ≡ Some meant.0 = ap (λ place. op_meant place text) (alone-everywhere objects apart) ∙ meant.1 in
+      rw (alike, meant.1, action-some meant.0 meant.2) refl
+
+  point-same : (point : PointText) → is_right (point_verdict objects point) ≡ true → plans.posted_at planned (point_plan objects point) ≡ posted_at objects (id_of core) point
+  point-same point h =
+      count-same (is_posting objects (id_of core)) (plans.is_posting planned) (action_of objects) (λ (text : List ℕ). is_right (action_verdict objects text)) posting-same point.actions (of-each (action_verdict objects) point.actions h)
+
+  table-same : (table : TableText) → is_right (table_verdict objects (id_of core) table) ≡ true → plans.greatest_posted planned (table_plan objects (id_of core) table) ≡ greatest_posted objects (id_of core) table
+  table-same table h =
+      ap greatest_of
+      (map-same (plans.posted_at planned) (point_plan objects) (posted_at objects (id_of core)) (λ (point : PointText). is_right (point_verdict objects point)) point-same table.points (table-parts objects (id_of core) table h).1)
+
+  pub posted-same : is_right (core_verdict objects core) ≡ true → plans.posted_at_once planned ≡ posted_at_once objects core
+  posted-same h =
+      let right = core-right objects core h in
+      rw (
+        count-same (λ (alarm : AlarmText). is_posting objects (id_of core) alarm.action) (λ (alarm : Alarm). plans.is_posting planned alarm.action) (alarm_plan objects (id_of core)) (λ (alarm : AlarmText). is_right (alarm_verdict objects (id_of core) alarm))
+            (λ alarm e. posting-same alarm.action (alarm-parts objects (id_of core) alarm e).1) core.alarms right.alarms,
+        sum-same (greatest_posted objects (id_of core)) (plans.greatest_posted planned) (table_plan objects (id_of core)) (λ (table : TableText). is_right (table_verdict objects (id_of core) table)) table-same core.tables right.tables,
+      ) refl
+
+-- ---- numbers within their limits are bytes, or words of 32 bits
+
+few-activations : (extended : Bool) → most_activations extended ≤ 64
+few-activations extended = grind arith
+
+pub task-bytes : (s : TaskSizes) → is_task_within s ≡ true → IsByte s.priority × IsByte s.activations
+task-bytes s h = (is-byte 0 31 s.priority (grind arith) (omega arith), is-byte 1 (most_activations s.extended) s.activations (grind arith) (omega (arith, few-activations s.extended)))
+
+pub counter-words : (s : CounterSizes) → is_counter_within s ≡ true → IsWord s.max × IsWord s.min
+counter-words s h =
+    let max : is_between 1 1000000000 s.max ≡ true = grind arith in
+    (is-word _ _ s.max max (omega arith), is-word 1 (unwrap_or s.max 0) s.min (grind arith) (omega (arith, most 1 1000000000 s.max max)))
+
+cycle-word : (counter : CounterSizes) (cycle : Option ℕ) → is_cycle counter cycle ≡ true → unwrap_or counter.max 0 ≤ 1000000000 → IsWord cycle
+cycle-word counter cycle h greatest = grind (arith, nat_tests)
+
+greatest : (counter : CounterSizes) → is_counter_within counter ≡ true → unwrap_or counter.max 0 ≤ 1000000000
+greatest counter within = most 1 1000000000 counter.max (grind arith)
+
+-- of an automatic alarm, by the sizes of its counter
+pub start-words : (s : StartSizes) (counter : CounterSizes) → s.counter ≡ Some counter → is_start_within s ≡ true → is_counter_within counter ≡ true → IsWord s.start × IsWord s.cycle
+start-words s counter is h within =
+    let by : is_start_by s counter ≡ true = ap (λ o. option_map_or (is_start_by s) o true) (sym is) ∙ h in
+    (is-word 1 (unwrap_or counter.max 0) s.start (grind arith) (omega (arith, greatest counter within)), cycle-word counter s.cycle (grind arith) (greatest counter within))
+
+-- and of an automatic schedule table
+pub table-start-word : (s : TableSizes) (counter : CounterSizes) (offset : Option ℕ) → s.counter ≡ Some counter → is_counter_within counter ≡ true → is_table_start_within s offset ≡ true → IsWord offset
+table-start-word s counter offset is within h =
+    let start : is_table_start s counter offset ≡ true = ap (λ (o : Option CounterSizes). option_map_or (λ (c : CounterSizes). is_table_start s c offset) o true) (sym is) ∙ h in
+    is-word 1 (unwrap_or counter.max 0 - first_offset s.points) offset start (omega (arith, greatest counter within))
+
+pub cap-byte : (s : Sizes) → is_within s ≡ true → IsByte s.cap
+cap-byte s h = is-byte 1 16 s.cap (grind arith) (omega arith)
+
+-- of a schedule table and its points
+pub record TableLimits (s : TableSizes) : Type 0 where
+  pub duration : is_between 1 1000000000 s.duration ≡ true
+  pub offsets : list_all (λ (point : PointSizes). is_between 0 1000000000 point.offset) s.points ≡ true
+  pub start : option_map_or (is_table_start_within s) s.auto true ≡ true
+
+pub table-limits : (s : TableSizes) → is_table_within s ≡ true → is_table_timed s ≡ true → TableLimits s
+table-limits s within timed =
+    let start = and_parts _ (option_map_or (is_table_start_within s) s.auto true) within in
+    let duration = (and_parts (is_between 1 1000000000 s.duration) _ (and_parts _ (list_all is_point_within s.points) start.0).0).0 in
+    let order = and_parts (are_ascending s.points) (nat_le (last_offset s.points) (unwrap_or s.duration 0)) (and_parts _ (option_map_or (is_timed_by s) s.counter true) timed).0 in
+    let last : last_offset s.points ≤ 1000000000 = omega (arith, leb-true _ _ order.1, most 1 1000000000 s.duration duration) in
+    record { duration = duration; offsets = offsets-low 1000000000 s.points order.0 last; start = start.1 }
+
+-- ---- the plan of a text has the text's numbers, those of the counters that alarms and tables name too
+
+start-numbers : (plan : Plan) (objects : List Declaration) (id : CoreId) (name : List ℕ) (auto : Option AlarmStartText) → NamedCounter plan objects id name → is_alarm_within (option_map (start_sizes objects name) auto) ≡ true
+    → option_map (limits.start_sizes (option_map limits.counter_sizes (counter_in plan (counter_ref objects id name)))) (option_map start_plan auto) ≡ option_map (start_sizes objects name) auto
+start-numbers plan objects id name None counter within = refl
+start-numbers plan objects id name (Some auto) counter within =
+    let words = start-words (start_sizes objects name auto) counter.sizes counter.declared within counter.within in
+    let start : Some (word_of auto.start) ≡ auto.start = words.0 in
+    let cycle : Some (word_of auto.cycle) ≡ auto.cycle = words.1 in
+    rw (start, cycle, counter.planned, counter.declared) refl
+
+table-start-numbers : (s : TableSizes) (counter : CounterSizes) (auto : Option TableStartText) → s.counter ≡ Some counter → is_counter_within counter ≡ true → option_map_or (is_table_start_within s) (option_map (λ (auto : TableStartText). auto.offset) auto) true ≡ true
+    → option_map (λ (auto : TableStart). Some auto.offset) (option_map table_start_plan auto) ≡ option_map (λ (auto : TableStartText). auto.offset) auto
+table-start-numbers s counter None is within starts = refl
+table-start-numbers s counter (Some auto) is within starts = ap Some (table-start-word s counter auto.offset is within starts)
+
+-- What is known of the core of a text that has no fault.
+abbrev pub is_sound : List Declaration → CoreText → Bool
+is_sound objects core = is_inside objects core && is_core_timed objects core && is_right (core_verdict objects core)
+
+-- The counter of each name of one has its numbers.
+abbrev Counters : Plan → List Declaration → Type 0
+Counters plan objects = (name : List ℕ) (id : CoreId) → is_some (place_of objects ObjectKind.Counter name) ≡ true → NamedCounter plan objects id name
+
+module _ (objects : List Declaration) where
+  task-numbers : (task : TaskText) → is_task_within (task_sizes task) ≡ true → limits.task_sizes (task_plan objects task) ≡ task_sizes task
+  task-numbers task h =
+      let bytes = task-bytes (task_sizes task) h in
+      let priority : Some (byte_of task.prio) ≡ task.prio = bytes.0 in
+      let activations : Some (byte_of task.activations) ≡ task.activations = bytes.1 in
+      rw (priority, activations, length-map (operations_of task.script) (op_of objects)) refl
+
+  resource-numbers : (resource : ResourceText) → is_ceiling resource.ceiling ≡ true → limits.ceiling_of (resource_plan resource) ≡ resource.ceiling
+  resource-numbers resource h = is-byte _ _ resource.ceiling h (omega arith)
+
+  counter-numbers : (counter : CounterText) → is_counter_within (counter_sizes counter) ≡ true → limits.counter_sizes (counter_plan counter) ≡ counter_sizes counter
+  counter-numbers counter h =
+      let words = counter-words (counter_sizes counter) h in
+      let max : Some (word_of counter.max) ≡ counter.max = words.0 in
+      let min : Some (word_of counter.min) ≡ counter.min = words.1 in
+      rw (max, min) refl
+
+  counters-numbers : (core : CoreText) → is_inside objects core ≡ true → map limits.counter_sizes (map counter_plan core.counters) ≡ map counter_sizes core.counters
+  counters-numbers core h =
+      map-same limits.counter_sizes counter_plan counter_sizes (λ (counter : CounterText). is_counter_within (counter_sizes counter)) counter-numbers core.counters
+      (sym (list_all-map is_counter_within counter_sizes core.counters) ∙ grind arith)
+
+  point-numbers : (point : PointText) → is_between 0 1000000000 point.offset ≡ true → limits.point_sizes (point_plan objects point) ≡ point_sizes point
+  point-numbers point h =
+      let offset : Some (word_of point.offset) ≡ point.offset = is-word 0 1000000000 point.offset h (omega arith) in
+      rw (offset, length-map point.actions (action_of objects)) refl
+
+  abbrev is_sound_table : CoreId → TableText → Bool
+  is_sound_table id table = is_right (table_verdict objects id table) && is_table_within (table_sizes objects table) && is_table_timed (table_sizes objects table)
+
+  sound-tables : (core : CoreText) → is_inside objects core ≡ true → is_core_timed objects core ≡ true → is_right (core_verdict objects core) ≡ true → list_all (is_sound_table (id_of core)) core.tables ≡ true
+  sound-tables core inside timed right =
+      let within = sym (list_all-map is_table_within (table_sizes objects) core.tables) ∙ grind arith in
+      all-both _ (λ (table : TableText). is_table_timed (table_sizes objects table)) core.tables
+      (all-both (λ (table : TableText). is_right (table_verdict objects (id_of core) table)) (λ (table : TableText). is_table_within (table_sizes objects table)) core.tables (core-right objects core right).tables within) timed
+
+  table-sized : (plan : Plan) (id : CoreId) (table : TableText) → NamedCounter plan objects id table.counter → TableLimits (table_sizes objects table) → limits.table_sizes (counter_in plan) (table_plan objects id table) ≡ table_sizes objects table
+  table-sized plan id table named limit =
+      let duration : Some (word_of table.duration) ≡ table.duration = is-word 1 1000000000 table.duration limit.duration (omega arith) in
+      let offsets = sym (list_all-map (λ (point : PointSizes). is_between 0 1000000000 point.offset) point_sizes table.points) ∙ limit.offsets in
+      rw (
+        duration,
+        map-same limits.point_sizes (point_plan objects) point_sizes (λ (point : PointText). is_between 0 1000000000 point.offset) point-numbers table.points offsets,
+        table-start-numbers (table_sizes objects table) named.sizes table.auto named.declared named.within limit.start,
+        named.planned,
+        named.declared,
+      ) refl
+
+  module _ (plan : Plan) (apart : are_distinct (names_of objects) ≡ true) (counter : Counters plan objects) where
+    abbrev is_sound_alarm : CoreId → AlarmText → Bool
+    is_sound_alarm id alarm = is_right (alarm_verdict objects id alarm) && is_alarm_within (alarm_sizes objects alarm)
+
+    alarm-numbers : (id : CoreId) (alarm : AlarmText) → is_sound_alarm id alarm ≡ true → limits.alarm_sizes (counter_in plan) (alarm_plan objects id alarm) ≡ alarm_sizes objects alarm
+    alarm-numbers id alarm h =
+        let both = and_parts (is_right (alarm_verdict objects id alarm)) (is_alarm_within (alarm_sizes objects alarm)) h in
+        start-numbers plan objects id alarm.counter alarm.auto (counter alarm.counter id (alarm-parts objects id alarm both.0).0) both.1
+
+    table-numbers : (id : CoreId) (table : TableText) → is_sound_table id table ≡ true → limits.table_sizes (counter_in plan) (table_plan objects id table) ≡ table_sizes objects table
+    table-numbers id table h =
+        let parts = three-parts (is_right (table_verdict objects id table)) (is_table_within (table_sizes objects table)) (is_table_timed (table_sizes objects table)) h in
+        table-sized plan id table (counter table.counter id (table-parts objects id table parts.0).0) (table-limits (table_sizes objects table) parts.1 parts.2)
+
+    pub core-timed : (core : CoreText) → is_sound objects core ≡ true → limits.is_core_timed plan (core_plan objects core) ≡ true
+    core-timed core h =
+        let parts = three-parts (is_inside objects core) (is_core_timed objects core) (is_right (core_verdict objects core)) h in
+        list_all-by (is_sound_table (id_of core)) (λ (table : Table). is_table_timed (limits.table_sizes (counter_in plan) table)) (table_plan objects (id_of core))
+        (λ (table : TableText) (e : is_sound_table (id_of core) table ≡ true). ap is_table_timed (table-numbers (id_of core) table e) ∙ (and_parts _ (is_table_timed (table_sizes objects table)) e).1) core.tables (sound-tables core parts.0 parts.1 parts.2)
+
+    numbers-by : (core : CoreText) → is_inside objects core ≡ true → is_core_timed objects core ≡ true → is_right (core_verdict objects core) ≡ true → limits.core_sizes plan (core_plan objects core) ≡ core_sizes objects core
+    numbers-by core inside timed right =
+        let objects_right = core-right objects core right in
+        let number : Some (byte_of core.id) ≡ core.id = is-byte 0 7 core.id (grind arith) (omega arith) in
+        let within : list_all (λ (alarm : AlarmText). is_alarm_within (alarm_sizes objects alarm)) core.alarms ≡ true = sym (list_all-map is_alarm_within (alarm_sizes objects) core.alarms) ∙ grind arith in
+        rw (
+          number,
+          map-back number_of number_id is_start (λ n low. is-byte _ _ n low (omega arith)) core.start (grind arith),
+          map-same limits.task_sizes (task_plan objects) task_sizes (λ task. is_task_within (task_sizes task)) task-numbers core.tasks (sym (list_all-map is_task_within task_sizes core.tasks) ∙ grind arith),
+          map-same limits.ceiling_of resource_plan (λ (resource : ResourceText). resource.ceiling) (λ (resource : ResourceText). is_ceiling resource.ceiling) resource-numbers core.resources
+              (sym (list_all-map is_ceiling (λ (resource : ResourceText). resource.ceiling) core.resources) ∙ grind arith),
+          counters-numbers core inside,
+          map-same (limits.alarm_sizes (counter_in plan)) (alarm_plan objects (id_of core)) (alarm_sizes objects) (is_sound_alarm (id_of core)) (alarm-numbers (id_of core)) core.alarms (all-both _ _ core.alarms objects_right.alarms within),
+          map-same (limits.table_sizes (counter_in plan)) (table_plan objects (id_of core)) (table_sizes objects) (is_sound_table (id_of core)) (table-numbers (id_of core)) core.tables (sound-tables core inside timed right),
+          posted-same objects apart core right,
+        ) refl
+
+    core-numbers : (core : CoreText) → is_sound objects core ≡ true → limits.core_sizes plan (core_plan objects core) ≡ core_sizes objects core
+    core-numbers core h = let parts = three-parts (is_inside objects core) (is_core_timed objects core) (is_right (core_verdict objects core)) h in numbers-by core parts.0 parts.1 parts.2
+
+-- each core of the text is one of the plan
+cores-have : (t : ConfigText) (cores : List CoreText) → AllByRecursion (IsFound (plan_of t).cores) (map (core_plan (declarations t)) cores) → list_all (is_inside (declarations t)) cores ≡ true → AllByRecursion (HasCounters (plan_of t)) cores
+cores-have t [] found inside = tt
+cores-have t (core ∷ cores) found inside =
+    let objects = declarations t in
+    let here : is_inside objects core ≡ true = grind arith in
+    (record { core = core_plan objects core; found = found.0; same = counters-numbers objects core here; within = grind arith }, cores-have t cores found.1 (grind arith))
+
+-- What the tests of a text say together, but for where names stand.
+pub record Tested (t : ConfigText) : Type 0 where
+  pub within : is_within (sizes_of t) ≡ true
+  pub once : is_each_once t ≡ true
+  pub timed : are_timed t ≡ true
+  pub right : is_right (text_verdict t) ≡ true
+
+module _ (t : ConfigText) (tested : Tested t) where
+  abbrev declared : List Declaration
+  declared = declarations t
+
+  apart : are_distinct (names_of declared) ≡ true
+  apart = (and_parts (are_numbers_distinct (numbers_of t.cores)) (are_distinct (names_of declared)) tested.once).1
+
+  pub distinct : are_numbers_distinct (limits.numbers_of (plan_of t).cores) ≡ true
+  distinct = ap are_numbers_distinct (numbers-kept t tested.within) ∙ (and_parts (are_numbers_distinct (numbers_of t.cores)) (are_distinct (names_of declared)) tested.once).0
+
+  named : Counters (plan_of t) declared
+  named name id known = named-counter (plan_of t) t id name apart (cores-have t t.cores (each-found (plan_of t).cores distinct) (cores-inside t tested.within)) known
+
+  sound : list_all (is_sound declared) t.cores ≡ true
+  sound = all-both _ _ t.cores (all-both (is_inside declared) (is_core_timed declared) t.cores (cores-inside t tested.within) tested.timed) (of-each (core_verdict declared) t.cores tested.right)
+
+  pub plan-numbers : limits.sizes_of (plan_of t) ≡ sizes_of t
+  plan-numbers =
+      let cap : Some (byte_of t.cap) ≡ t.cap = cap-byte (sizes_of t) tested.within in
+      rw (cap, map-same (limits.core_sizes (plan_of t)) (core_plan declared) (core_sizes declared) (is_sound declared) (core-numbers declared (plan_of t) apart named) t.cores sound) refl
+
+  pub plan-timed : list_all (limits.is_core_timed (plan_of t)) (plan_of t).cores ≡ true
+  plan-timed = list_all-by (is_sound declared) (limits.is_core_timed (plan_of t)) (core_plan declared) (core-timed declared (plan_of t) apart named) t.cores sound
+
+-- ---- the scripts, the alarms and the tables of a text's plan stay on their cores as the text's do
+
+near-ops : (objects : List Declaration) (id : CoreId) (texts : List (List ℕ)) → list_all is_operation texts ≡ true → list_all (limits.stays_on id) (map (op_of objects) texts) ≡ list_all (is_operation_near objects id) texts
+near-ops objects id = all-same (limits.stays_on id) (op_of objects) (is_operation_near objects id) is_operation (named-same (place_of objects) (limits.stays_on id) (stays-alike objects id))
+
+near-core : (objects : List Declaration) (core : CoreText) → is_core_script objects core ≡ true → limits.is_core_near (core_plan objects core) ≡ is_core_near objects core
+near-core objects core formed =
+    let id = id_of core in
+    rw (
+      all-same (λ (task : Task). list_all (limits.stays_on id) task.script) (task_plan objects) (λ (task : TaskText). is_script_near objects id task.script) (is_task_script objects)
+          (λ task e. near-ops objects id (operations_of task.script) (grind arith)) core.tasks (grind arith),
+      list_all-map (limits.is_alarm_near id) (alarm_plan objects id) core.alarms,
+      list_all-map (limits.is_table_near id) (table_plan objects id) core.tables,
+    ) refl
+
+-- The plan's scripts stay on their cores where the text's do, if these are in form and in range, and so do the counters of its alarms
+-- and tables.
+pub near_kept : (objects : List Declaration) (cores : List CoreText) → list_all (is_core_script objects) cores ≡ true → list_all limits.is_core_near (map (core_plan objects) cores) ≡ list_all (is_core_near objects) cores
+near_kept objects = all-same limits.is_core_near (core_plan objects) (is_core_near objects) (is_core_script objects) (near-core objects)
+
+-- ---- the parts of the plan: what each names is there, and a text can say it
+
+-- The modes of what starts by itself, where it does: each is the only one.
+modes-pass : {X Y : Type 0} (p : ModeId → Bool) → p only_mode ≡ true → (modes : Y → List ModeId) (plan : X → Y) (names : X → List (List ℕ)) → ((x : X) → modes (plan x) ≡ map (λ (name : List ℕ). only_mode) (names x)) → (o : Option X)
+    → list_all p (option_map_or modes (option_map plan o) []) ≡ true
+modes-pass p only modes plan names are None = refl
+modes-pass p only modes plan names are (Some x) = ap (list_all p) (are x) ∙ list_all-total p (λ (name : List ℕ). only_mode) (λ name. only) (names x)
+
+-- The plans of objects with names in form that are right.
+each-kept : {X Y : Type 0} (named : X → Named) (right : X → Bool) (plan : X → Y) (p q : Y → Bool) → ((x : X) → (is_name (named x).name && right x) ≡ true → (p (plan x) && q (plan x)) ≡ true) → (xs : List X)
+    → list_all (λ (n : Named). is_name n.name) (map named xs) ≡ true → list_all right xs ≡ true → (list_all p (map plan xs) && list_all q (map plan xs)) ≡ true
+each-kept named right plan p q each xs names rights =
+    all-apart p q (map plan xs) (list_all-by (λ x. is_name (named x).name && right x) (λ y. p y && q y) plan each xs (all-both (λ x. is_name (named x).name) right xs (sym (list_all-map (λ (n : Named). is_name n.name) named xs) ∙ names) rights))
+
+-- An alarm, or a table: its counter, what it does, its modes, and its name.
+acting-kept : (counter known modes name said only : Bool) → counter ≡ true → (known && said) ≡ true → modes ≡ true → name ≡ true → only ≡ true → ((counter && known && modes) && (name && said && only)) ≡ true
+acting-kept counter known modes name said only c k m n o = grind arith
+
+-- What a name with a place stands for is an object of the plan.
+module _ (t : ConfigText) (places : (kind : ObjectKind) (name : List ℕ) (place : Place) → place_of (declarations t) kind name ≡ Some place → limits.is_object (plan_of t) (record { kind = kind; place = place }) ≡ true) where
+  abbrev plan : Plan
+  plan = plan_of t
+
+  abbrev objects : List Declaration
+  objects = declarations t
+
+  -- What the operation of a text passes, if what stands for none does.
+  op-passes : (text : List ℕ) (p : Op → Bool) → p Work ≡ true → ((op : Op) → op_meant (place_of objects) text ≡ Some op → p op ≡ true) → p (op_of objects text) ≡ true
+  op-passes text p none some = by (op_meant (place_of objects) text) refl
+    where
+      by : (o : Option Op) → op_meant (place_of objects) text ≡ o → p (unwrap_or o Work) ≡ true
+      by None e = none
+      by (Some op) e = some op e
+
+  op-known : (text : List ℕ) → limits.is_op_known plan (op_of objects text) ≡ true
+  op-known text = op-passes text (limits.is_op_known plan) refl (meant-passes (place_of objects) (limits.is_object plan) places text)
+
+  op-formed : (text : List ℕ) → is_in_form (op_of objects text) ≡ true
+  op-formed text = op-passes text is_in_form refl (meant-in-form (place_of objects) text)
+
+  op-masked : (text : List ℕ) → has_masks text ≡ true → rows.has_masks (op_of objects text) ≡ true
+  op-masked text h = op-passes text rows.has_masks refl (λ op e. meant_masks (place_of objects) text op e ∙ h)
+
+  task-kept : (id : CoreId) (task : TaskText) → (is_name task.name && is_right (task_verdict objects id task)) ≡ true → (limits.is_task_known plan (task_plan objects task) && said.is_task_expressible (task_plan objects task)) ≡ true
+  task-kept id task h =
+      let texts = operations_of task.script in
+      let known = list_all-total (limits.is_op_known plan) (op_of objects) op-known texts in
+      let formed = list_all-total is_in_form (op_of objects) op-formed texts in
+      let masked = list_all-by has_masks rows.has_masks (op_of objects) op-masked texts (grind arith) in
+      let modes = list_all-total (limits.is_mode plan) (λ (name : List ℕ). only_mode) (λ name. refl) task.auto in
+      let only = list_all-total is_only_mode (λ (name : List ℕ). only_mode) (λ name. refl) task.auto in
+      grind (arith, known, formed, masked, modes, only)
+
+  counter-known : (id : CoreId) (name : List ℕ) (o : Option Place) → place_of objects ObjectKind.Counter name ≡ o → is_some o ≡ true → limits.is_object plan (counter_object (counter_ref objects id name)) ≡ true
+  counter-known id name None found there = absurd (true≢false (sym there))
+  counter-known id name (Some place) found there = rw found (places ObjectKind.Counter name place found)
+
+  abbrev is_kept_action : RemoteCall → Bool
+  is_kept_action action = limits.is_action_known plan action && said.is_action_expressible action
+
+  action-kept : (text : List ℕ) → is_right (action_verdict objects text) ≡ true → is_kept_action (action_of objects text) ≡ true
+  action-kept text h =
+      let op = op_of objects text in
+      let parts = three-parts (is_action_known objects text) (is_action_masked text) (is_action text) h in
+      let meant = action-meant objects text parts.2 parts.0 in
+      let masked : has_masks text ≡ true = ap (λ acting. not acting || has_masks text) (sym parts.2) ∙ parts.1 in
+      let acts : is_action_op op ≡ true = rw (ap (λ o. unwrap_or o Work) meant.1) meant.2 in
+      and_from _ _ (and_from _ _ (action-acts op acts) (action-passes (limits.is_object plan) op acts (op-known text)))
+      (and_from _ _ (action-keeps is_in_form refl op (op-formed text)) (action-keeps rows.has_masks refl op (op-masked text masked)))
+
+  alarm-kept : (id : CoreId) (alarm : AlarmText) → (is_name alarm.name && is_right (alarm_verdict objects id alarm)) ≡ true → (limits.is_alarm_known plan (alarm_plan objects id alarm) && said.is_alarm_expressible (alarm_plan objects id alarm)) ≡ true
+  alarm-kept id alarm h =
+      let both = and_parts (is_name alarm.name) (is_right (alarm_verdict objects id alarm)) h in
+      let parts = alarm-parts objects id alarm both.1 in
+      let counter = counter-known id alarm.counter (place_of objects ObjectKind.Counter alarm.counter) refl parts.0 in
+      let modes = modes-pass (limits.is_mode plan) refl (λ (auto : AlarmStart). auto.modes) start_plan (λ (auto : AlarmStartText). auto.modes) (λ auto. refl) alarm.auto in
+      let only = modes-pass is_only_mode refl (λ (auto : AlarmStart). auto.modes) start_plan (λ (auto : AlarmStartText). auto.modes) (λ auto. refl) alarm.auto in
+      acting-kept _ _ _ _ _ _ counter (action-kept alarm.action parts.1) modes both.0 only
+
+  point-kept : (point : PointText) → is_right (point_verdict objects point) ≡ true → list_all is_kept_action (point_plan objects point).actions ≡ true
+  point-kept point h = list_all-by (λ (text : List ℕ). is_right (action_verdict objects text)) is_kept_action (action_of objects) action-kept point.actions (of-each (action_verdict objects) point.actions h)
+
+  table-kept : (id : CoreId) (table : TableText) → (is_name table.name && is_right (table_verdict objects id table)) ≡ true → (limits.is_table_known plan (table_plan objects id table) && said.is_table_expressible (table_plan objects id table)) ≡ true
+  table-kept id table h =
+      let both = and_parts (is_name table.name) (is_right (table_verdict objects id table)) h in
+      let parts = table-parts objects id table both.1 in
+      let counter = counter-known id table.counter (place_of objects ObjectKind.Counter table.counter) refl parts.0 in
+      let points = list_all-by (λ (point : PointText). is_right (point_verdict objects point)) (λ (point : ExpiryPoint). list_all is_kept_action point.actions) (point_plan objects) point-kept table.points parts.1 in
+      let actions = all-apart (limits.is_action_known plan) said.is_action_expressible (table_actions (table_plan objects id table)) (all-flat is_kept_action (λ (point : ExpiryPoint). point.actions) (map (point_plan objects) table.points) points) in
+      let modes = modes-pass (limits.is_mode plan) refl (λ (auto : TableStart). auto.modes) table_start_plan (λ (auto : TableStartText). auto.modes) (λ auto. refl) table.auto in
+      let only = modes-pass is_only_mode refl (λ (auto : TableStart). auto.modes) table_start_plan (λ (auto : TableStartText). auto.modes) (λ auto. refl) table.auto in
+      acting-kept _ _ _ _ _ _ counter actions modes both.0 only
+
+  abbrev is_kept_core : Core → Bool
+  is_kept_core core = limits.is_core_known plan core && said.is_core_expressible core
+
+  core-kept : (core : CoreText) → (has_named_objects core && is_right (core_verdict objects core)) ≡ true → is_kept_core (core_plan objects core) ≡ true
+  core-kept core h =
+      let id = id_of core in
+      let both = and_parts (has_named_objects core) (is_right (core_verdict objects core)) h in
+      let right = core-right objects core both.1 in
+      let named = every-kind (λ (kind : ObjectKind). list_all (λ (named : Named). is_name named.name) (objects_in kind core)) both.0 in
+      let tasks = each-kept (λ (task : TaskText). unnumbered task.name) (λ (task : TaskText). is_right (task_verdict objects id task)) (task_plan objects) (limits.is_task_known plan) said.is_task_expressible (task-kept id) core.tasks (named ObjectKind.Task) right.tasks in
+      let resources = each-kept (λ (resource : ResourceText). unnumbered resource.name) (λ (resource : ResourceText). true) resource_plan (λ _. true) said.is_resource_expressible (λ resource e. grind arith) core.resources (named ObjectKind.Resource) (always core.resources) in
+      let counters = each-kept numbered (λ (counter : CounterText). true) counter_plan (λ _. true) said.is_counter_expressible (λ counter e. grind arith) core.counters (named ObjectKind.Counter) (always core.counters) in
+      let alarms = each-kept (λ (alarm : AlarmText). unnumbered alarm.name) (λ (alarm : AlarmText). is_right (alarm_verdict objects id alarm)) (alarm_plan objects id) (limits.is_alarm_known plan) said.is_alarm_expressible (alarm-kept id) core.alarms (named ObjectKind.Alarm) right.alarms in
+      let tables = each-kept (λ (table : TableText). unnumbered table.name) (λ (table : TableText). is_right (table_verdict objects id table)) (table_plan objects id) (limits.is_table_known plan) said.is_table_expressible (table-kept id) core.tables (named ObjectKind.Table) right.tables in
+      grind (arith, tasks, resources, counters, alarms, tables)
+
+master-found : (objects : List Declaration) (cores : List CoreText) (number : Option ℕ) → has_number (numbers_of cores) number ≡ true
+    → is_some (find (λ (c : Core). same_core c.id (number_id number)) (map (core_plan objects) cores)) ≡ true
+master-found objects cores number h =
+    sym (any-find (λ (c : Core). same_core c.id (number_id number)) (map (core_plan objects) cores))
+    ∙ list_any-by (λ (core : CoreText). same_number core.id number) _ (core_plan objects) (λ core same. bytes-equal core.id number same) cores (sym (any-mapped (λ id. same_number id number) (λ (core : CoreText). core.id) cores) ∙ h)
+
+-- ---- the whole
+
+pub faultless : (t : ConfigText) → failing (tests_of t) ≡ [] → (is_text_within t ≡ true) × (is_each_once t ≡ true) × (are_known t ≡ true) × (are_near t ≡ true) × (are_masks t ≡ true) × (are_timed t ≡ true) × (are_operations t ≡ true)
+faultless t none = all-pass (is_text_within t) (is_each_once t) (are_known t) (are_near t) (are_masks t) (are_timed t) (are_operations t) none
+  where
+    all-pass : (a b c d e f g : Bool) → failing ((Limit, a) ∷ (DuplicateName, b) ∷ (UnknownName, c) ∷ (WrongCore, d) ∷ (BadMask, e) ∷ (BadTable, f) ∷ (BadScript, g) ∷ []) ≡ []
+        → (a ≡ true) × (b ≡ true) × (c ≡ true) × (d ≡ true) × (e ≡ true) × (f ≡ true) × (g ≡ true)
+    all-pass true true true true true true true none = (refl, refl, refl, refl, refl, refl, refl)
+    all-pass a b c d e f g none = cc
+
+-- ---- the names of a text are those of its plan
+
+kind-named : (objects : List Declaration) (core : CoreText) (kind : ObjectKind) → names_in kind (core_plan objects core) ≡ map (λ (named : Named). named.name) (objects_in kind core)
+kind-named objects core ObjectKind.Task = simp map-map
+kind-named objects core kind = simp map-map
+
+names-kept : (objects : List Declaration) (cores : List CoreText) → flat_map said.object_names (map (core_plan objects) cores) ≡ map (λ (d : Declaration). d.name) (flat_map declared_by cores)
+names-kept objects cores = flat_map-map said.object_names (core_plan objects) cores ∙ sym (names-of-all (core_plan objects) (λ core. core) (kind-named objects) cores)
+
+-- ---- the plan
+
+-- It is a configuration that keeps the limits, and that a text can say.
+pub plan-kept : (t : ConfigText) → list_all has_named_objects t.cores ≡ true → failing (tests_of t) ≡ [] → (limits.is_within_limits (plan_of t) ≡ true) × (said.is_expressible (plan_of t) ≡ true)
+plan-kept t named none =
+    let passed = faultless t none in
+    let objects = declarations t in
+    let known = and_parts (has_number (numbers_of t.cores) t.master) _ passed.2 in
+    let tested : Tested t = record { within = (and_parts (is_between 1 1 t.version) (is_within (sizes_of t)) passed.0).1; once = passed.1; timed = passed.5; right = and_from _ _ (and_from _ _ known.1 passed.4) passed.6 } in
+    let places = place-known t (distinct t tested) in
+    let right = all-both has_named_objects (λ (core : CoreText). is_right (core_verdict objects core)) t.cores named (of-each (core_verdict objects) t.cores tested.right) in
+    let cores = all-apart (limits.is_core_known (plan_of t)) said.is_core_expressible (plan_of t).cores
+    (list_all-by (λ (core : CoreText). has_named_objects core && is_right (core_verdict objects core)) (is_kept_core t places) (core_plan objects) (core-kept t places) t.cores right) in
+    let parts = and_parts (list_all (limits.is_core_known (plan_of t)) (plan_of t).cores) (list_all said.is_core_expressible (plan_of t).cores) cores in
+    let sizes = ap is_within (plan-numbers t tested) ∙ tested.within in
+    let master = master-found objects t.cores t.master known.0 in
+    let near = near_kept objects t.cores passed.6 ∙ passed.3 in
+    let names = ap (λ names. said.are_distinct (mode_name ∷ names)) (names-kept objects t.cores) ∙ (and_parts (are_numbers_distinct (numbers_of t.cores)) _ passed.1).1 in
+    (and_from _ _ (and_from _ _ (and_from _ _ (and_from _ _ (and_from _ _ sizes (distinct t tested)) master) parts.0) near) (plan-timed t tested), and_from _ _ parts.1 names)

@@ -1,0 +1,34 @@
+use Rattle.std.proofs.Common.{inl, inr, ◌≡◌, ◌⊎◌, ◌+◌, Bool, false, drop, arith}
+use Rattle.std.specs.List.{list_all}
+use Rattle.std.proofs.lemmas.List.{drop_all}
+use Rattle.std.proofs.lemmas.Result.{err_from_is_err_and}
+use Rattle.osplan.specs.declared.faults.ConfFault.TheVariants.{Limit, NoMemory}
+use Rattle.osread.proofs.Each.{drop-here}
+use Rattle.osdraft.proofs.Loops.{at-end, at-first, one-more, too-long}
+use Rattle.osdraft.proofs.planners.plan_each.Goals as goal
+
+pub loop-text-init : goal.loop-text-init
+loop-text-init g c = rw (c.new-plans.ensures, c.all_right-verdict.ensures) (at-first (g.P.Planner.made c.args.planner.now) (g.P.Planner.right c.args.planner.now) (g.P.Planner.is_short c.args.planner.now) c.args.texts.now)
+
+pub loop-text-preserved : goal.loop-text-preserved
+loop-text-preserved g c =
+    let planner = c.args.planner.now in
+    let here = drop-here c.args.texts.now c.loop-text.text-index c.text-item.result (omega arith) c.text-item.is in
+    let made = c.in_ok-judged.ensures in
+    rw (c.in_ok-push.ensures.ok, c.and-verdict.ensures)
+    (one-more (g.P.Planner.made planner) (g.P.Planner.right planner) (g.P.Planner.is_short planner) c.args.texts.now c.text-item.result (drop c.loop-text.text-index c.args.texts.now) (drop (c.loop-text.text-index + 1) c.args.texts.now) c.loop-text.plans c.loop-text.verdict c.in_ok-judged.judged.value c.in_ok-judged.judged.verdict here made.0 made.1 made.2 c.loop-text.invariant)
+
+pub returns-in_err-judged : goal.returns-in_err-judged
+returns-in_err-judged g c =
+    let planner = c.args.planner.now in
+    let here = drop-here c.args.texts.now c.loop-text.text-index c.text-item.result (omega arith) c.text-item.is in
+    let p = err_from_is_err_and c.from_residual.result c.from_residual.ensures.1 in
+    let fault = c.in_err-judged.field-0.0 in
+    rw (p.1, p.2)
+    (elim c.in_err-judged.ensures as (λ _. (fault ≡ NoMemory) ⊎ ((fault ≡ Limit) × (list_all (g.P.Planner.is_short planner) c.args.texts.now ≡ false))) [
+      | inl wanting ↦ inl wanting
+      | inr long ↦ inr (long.0, too-long (g.P.Planner.made planner) (g.P.Planner.right planner) (g.P.Planner.is_short planner) c.args.texts.now c.text-item.result (drop c.loop-text.text-index c.args.texts.now) (drop (c.loop-text.text-index + 1) c.args.texts.now) c.loop-text.plans c.loop-text.verdict here long.1 c.loop-text.invariant)
+    ])
+
+pub returns : goal.returns
+returns g c = at-end (g.P.Planner.made c.args.planner.now) (g.P.Planner.right c.args.planner.now) (g.P.Planner.is_short c.args.planner.now) c.args.texts.now _ c.loop-text.plans c.loop-text.verdict (drop_all c.loop-text.text-index c.args.texts.now (omega arith)) c.loop-text.invariant
