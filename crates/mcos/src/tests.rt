@@ -62,6 +62,10 @@ const MUTUAL: &str =
 const MUTUAL_TRACE: &str =
     "core 0\nstart 1 E_OK\nhook Startup\nact A\npre A\nout 1 ActivateTask B\nact A\nin 1 ActivateTask A E_OK\nstat A ActivateTask E_OK\npost A\nend A\npre A\ncore 1\nhook Startup\nact B\npre B\nout 0 ActivateTask A\nact B\nin 0 ActivateTask B E_OK\nstat B ActivateTask E_OK\npost B\nend B\npre B\nended\n";
 
+/// Sixteen rounds of three cores, each round the other way round than the default schedule's.
+const BACKWARDS: &str =
+    r#""2l 2o 1l 1s0 1o 0l 0s1 0o 2l 2o 1l 1s0 1o 0l 0s1 0o 2l 2o 1l 1s0 1o 0l 0s1 0o 2l 2o 1l 1s0 1o 0l 0s1 0o 2l 2o 1l 1s0 1o 0l 0s1 0o 2l 2o 1l 1s0 1o 0l 0s1 0o 2l 2o 1l 1s0 1o 0l 0s1 0o 2l 2o 1l 1s0 1o 0l 0s1 0o 2l 2o 1l 1s0 1o 0l 0s1 0o 2l 2o 1l 1s0 1o 0l 0s1 0o 2l 2o 1l 1s0 1o 0l 0s1 0o 2l 2o 1l 1s0 1o 0l 0s1 0o 2l 2o 1l 1s0 1o 0l 0s1 0o 2l 2o 1l 1s0 1o 0l 0s1 0o 2l 2o 1l 1s0 1o 0l 0s1 0o 2l 2o 1l 1s0 1o 0l 0s1 0o""#;
+
 /// The first core's reply finds a full mailbox twice.
 const FULL_SCHEDULE: &str =
     r#""0o 1l 1o 0o 0l 1l 0o 1o 0l 1l 0o 1o 0o 1o 0s1 0o 0o 1s0 0o 1o 0s1 1s0 0o 1o 0o 1o 0l 1l 0l 1l""#;
@@ -388,6 +392,33 @@ fn a_separate_core_is_cut_and_runs_alone(rt: HostRuntime) -> Result<(), Fail> {
     let texts = [Some(ALONE), Some(r#"{"2":"op"}"#)];
     compare(&rt, alloc, &run_of(None), &texts, (ALONE_TRACE, "", 0))?;
     compare(&rt, alloc, &cut_of(2), &[Some(ALONE)], (ALONE, "", 0))?;
+    Ok(())
+}
+
+#[test]
+fn a_separate_core_prints_its_block_by_default_turns_and_by_listed_ones(
+    rt: HostRuntime,
+) -> Result<(), Fail> {
+    let alloc = rt.alloc();
+    let standing = "ok\ncore 0 bound\ncore 1 bound\ncore 2 separate\n";
+    let texts = [
+        Some(threads::BOUND_AND_SEPARATE),
+        Some(threads::STIMULI),
+        Some(BACKWARDS),
+    ];
+    compare(&rt, alloc, &check_of(), &texts[..1], (standing, "", 0))?;
+    let runs = [
+        print(&rt, alloc, &run_of(None), &texts[..2])?,
+        print(&rt, alloc, &run_of(Some("schedule.json")), &texts)?,
+    ];
+    for run in runs.as_slice() {
+        assert_eq!(rt; run.status, 0);
+        assert!(rt;
+            run.out
+                .as_slice()
+                .ends_with(threads::SEPARATE_END.as_bytes())
+        );
+    }
     Ok(())
 }
 

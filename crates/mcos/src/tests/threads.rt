@@ -20,13 +20,14 @@ use std::{slice, str};
 const MANY: u64 = 1_000_000_000;
 
 /// Two cores, each of whose first task activates the other's second one, and a separate core.
-const BOUND_AND_SEPARATE: &str =
+pub(super) const BOUND_AND_SEPARATE: &str =
     r#"{"cores":[{"id":0,"start":[1,2],"tasks":[{"name":"A","prio":2,"auto":["M"],"script":"ActivateTask D;TerminateTask"},{"name":"C","prio":1,"script":"TerminateTask"}]},{"id":1,"tasks":[{"name":"B","prio":2,"auto":["M"],"script":"ActivateTask C;TerminateTask"},{"name":"D","prio":1,"script":"TerminateTask"}]},{"id":2,"tasks":[{"name":"V","prio":1,"auto":["M"],"script":"add v0 3;TerminateTask"}]}]}"#;
 
-const STIMULI: &str = r#"{"0":"op op op","1":"op op op","2":"op op"}"#;
+pub(super) const STIMULI: &str = r#"{"0":"op op op","1":"op op op","2":"op op"}"#;
 
 /// The separate core's block, and the last line.
-const SEPARATE_END: &str = "core 2\nhook Startup\nact V\npre V\nvar V v0 3\npost V\nend V\nended\n";
+pub(super) const SEPARATE_END: &str =
+    "core 2\nhook Startup\nact V\npre V\nvar V v0 3\npost V\nend V\nended\n";
 
 /// The separate core's log.
 const SEPARATE_LOG: &str =
