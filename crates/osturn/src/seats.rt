@@ -64,6 +64,7 @@ impl<'a> Seat<'a> {
     }
 
     /// What a turn asks. What the core wants is asked of the kernel for its own turn alone.
+    #[inline(always)]
     pub fn asked(&self, plan: &Plan, choice: Choice) -> Option<Ask>
         ensures { result ≡ asked_by (view_of plan.now self.now.id) (want_in self.now.kernel) (watch_in self.now.kernel) (slice_get self.now.stimuli.now 0) choice }
     {
@@ -78,6 +79,7 @@ impl<'a> Seat<'a> {
     }
 
     /// The item to which the answer leads the core: none where it leads to none.
+    #[inline(always)]
     pub fn named(&self, ask: Ask, answer: &Answer) -> Option<Item>
         ensures { result ≡ named_by self.now.id (watch_in self.now.kernel) ask answer.now }
     {
@@ -85,6 +87,7 @@ impl<'a> Seat<'a> {
     }
 
     /// Makes room for one more item and all lines that it may print. Without memory nothing changes.
+    #[inline(always)]
     pub fn make_room(&mut self) -> Result<(), AllocError>
         ensures items { OnOk result (vec_len self.new.items < vec_capacity self.new.items) }
         ensures marks { OnOk result (vec_len self.new.marks + STEP_MARKS ≤ vec_capacity self.new.marks) }
