@@ -3,6 +3,7 @@
 mod alarms;
 mod counters;
 mod events;
+mod interrupts;
 mod kernel;
 mod limits;
 mod logs;

@@ -1,21 +1,22 @@
 -- Histories that agree in what they say of a core's own runners, counters, alarms and tables let the core see the same.
-use Rattle.std.proofs.Common.{◌≡◌, ℕ, Bool, None, List, filter, filter_map, find, option_map}
+use Rattle.std.proofs.Common.{◌≡◌, ℕ, None, filter, filter_map, find, option_map}
 use Rattle.std.specs.Option.{option_map_or}
 use Rattle.osbase.specs.declared.references.AlarmRef.{AlarmRef}
 use Rattle.osbase.specs.declared.references.CounterRef.{CounterRef}
+use Rattle.osbase.specs.declared.references.IsrRef.{IsrRef}
 use Rattle.osbase.specs.declared.references.TableRef.{TableRef}
 use Rattle.osbase.specs.declared.references.Runner.{Runner}
 use Rattle.osbase.specs.declared.histories.Job.{Job}
 use Rattle.osbase.specs.Counting.{Stopped, alarm_of, counted_once, counts_of, counts_to, is_due, is_in_use, left_of, one_count_more, table_state, value_after}
-use Rattle.osbase.specs.History.{History, agreement_of, job_count, live_jobs, open_call}
+use Rattle.osbase.specs.History.{History, agreement_of, course_of, job_count, live_jobs, open_call}
 use Rattle.osplan.specs.declared.plans.Alarm.{Alarm}
 use Rattle.osplan.specs.declared.plans.Table.{Table}
 use Rattle.osplan.specs.View.{Around, View, own_alarm, own_table}
-use Rattle.osclock.specs.Clocks.{attached_to, counts_to_value_by, max_for, max_of, setting_by, value_by}
+use Rattle.osclock.specs.Clocks.{attached_to, counts_to_value_by, max_of, setting_by, value_by}
 use Rattle.ostable.specs.Ahead.{due_at}
 use Rattle.ostable.specs.Tables.{due_by, due_table, next_by, state_by, table_refs, timed_by, waits_for}
 use Rattle.osrunner.specs.Rows.{is_occupied, row_in}
-use Rattle.osstate.specs.Readings.{rows_of, running}
+use Rattle.osstate.specs.Readings.{is_pending, rows_of, running}
 use Rattle.osact.specs.Seen.{seen_of}
 use Rattle.osact.proofs.Kept.{seen_as}
 
@@ -23,10 +24,12 @@ use Rattle.osact.proofs.Kept.{seen_as}
 pub record ReadsSame (v : View) (h k : History) : Type 0 where
   pub jobs : (r : Runner) → job_count r (live_jobs h) ≡ job_count r (live_jobs k)
   pub rows : rows_of v.own h ≡ rows_of v.own k
+  pub pending : (i : IsrRef) → is_pending i h ≡ is_pending i k
   pub counts : (c : CounterRef) → counts_of c h ≡ counts_of c k
   pub settings : (c : CounterRef) (a : AlarmRef) → alarm_of c a h ≡ alarm_of c a k
   pub tables : (c : CounterRef) (s : TableRef) → table_state c s h ≡ table_state c s k
   pub agreement : agreement_of h ≡ agreement_of k
+  pub course : course_of h ≡ course_of k
   pub running : option_map (λ (j : Job). j.runner) (running v h) ≡ option_map (λ (j : Job). j.runner) (running v k)
   pub awaits : open_call h ≡ open_call k
 
@@ -57,16 +60,18 @@ module _ (v : View) (h k : History) (same : ReadsSame v h k) where
     jobs = λ r. same.jobs r i;
     row = λ r. row_in r (same.rows i);
     is_occupied = λ n. is_occupied n (same.rows i);
+    is_pending = λ isr. same.pending isr i;
     value = λ c. value-same c i;
     counts_to_value = λ c start. counts_to_value-same c start i;
-    due = λ c. filter (λ (a : AlarmRef). is_due (max_for v.own a) (option_map one_count_more (setting-same a i))) (attached_to v.own c);
+    due = λ c. filter (λ (a : AlarmRef). is_due (option_map one_count_more (setting-same a i))) (attached_to v.own c);
     due_tables = λ c. filter_map (λ (s : TableRef). option_map (due_table s (next-same s i)) (due-same s i)) (timed_by v.own c);
-    is_in_use = λ a. is_in_use (max_for v.own a) (setting-same a i);
-    counts_left = λ a. left_of (max_for v.own a) (setting-same a i);
+    is_in_use = λ a. is_in_use (setting-same a i);
+    counts_left = λ a. left_of (setting-same a i);
     counts_to = λ a start. option_map_or (λ (x : Alarm). counts_to_value-same x.counter start i) (own_alarm v.own a) 0;
     table = λ s. state-same s i;
     next = λ s. next-same s i;
     agreement = same.agreement i;
+    course = same.course i;
     running = same.running i;
     awaits = same.awaits i;
   }

@@ -1,5 +1,5 @@
 -- What several services check of their caller.
-use Rattle.std.specs.Prelude.{Bool, true, false, not, List, [], ◌∷◌}
+use Rattle.std.specs.Prelude.{Bool, nat_lt, true, false, not, List, [], ◌∷◌}
 use Rattle.osbase.specs.declared.references.Runner.{Runner}
 use Rattle.osbase.specs.declared.statuses.Status.TheVariants.{EOsAccess, EOsCallevel, EOsResource}
 use Rattle.osjobs.specs.Priorities.{holds_any, is_extended}
@@ -18,6 +18,10 @@ by_task r = (is_isr r, EOsCallevel)
 -- That the task is an extended one: only such a task has events. [OSEK/VDX OS 2.2.3, section 7]
 abbrev pub by_extended : Seen → Runner → Check
 by_extended s r = (not (is_extended s.core r), EOsAccess)
+
+-- The runner's oldest live job has suspended interrupts. [OSEK/VDX OS 2.2.3, section 13.3.2.3]
+abbrev pub has_suspended : Seen → Runner → Bool
+has_suspended s r = nat_lt 0 (s.row r).depth
 
 -- What a job may not hold that ends itself, waits or gives way. [OSEK/VDX OS 2.2.3, section 8.2]
 abbrev pub holding_checks : Seen → Runner → List Check

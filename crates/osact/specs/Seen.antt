@@ -3,14 +3,16 @@ use Rattle.std.specs.Prelude.{ℕ, Bool, nat_le, ◌==◌, Option, option_map, L
 use Rattle.osbase.specs.declared.references.AlarmRef.{AlarmRef}
 use Rattle.osbase.specs.declared.references.CoreId.{CoreId}
 use Rattle.osbase.specs.declared.references.CounterRef.{CounterRef}
+use Rattle.osbase.specs.declared.references.IsrRef.{IsrRef}
 use Rattle.osbase.specs.declared.references.TableRef.{TableRef}
 use Rattle.osbase.specs.declared.references.TaskRef.{TaskRef}
 use Rattle.osbase.specs.declared.references.Runner.{Runner}
+use Rattle.osbase.specs.declared.histories.Course.{Course}
 use Rattle.osbase.specs.declared.histories.Job.{Job}
 use Rattle.osbase.specs.declared.histories.OpenCall.{OpenCall}
 use Rattle.osbase.specs.declared.items.Agreement.{Agreement}
 use Rattle.osbase.specs.Counting.{TableState}
-use Rattle.osbase.specs.History.{History, agreement_of, job_count, live_jobs, open_call, same_core}
+use Rattle.osbase.specs.History.{History, agreement_of, course_of, job_count, live_jobs, open_call, same_core}
 use Rattle.oscript.specs.Runners.{Row}
 use Rattle.osplan.specs.declared.plans.Core.{Core}
 use Rattle.osplan.specs.View.{View}
@@ -18,7 +20,7 @@ use Rattle.osclock.specs.Clocks.{counts_to_by, counts_to_value_by, due_by, is_in
 use Rattle.ostable.specs.declared.tables.DueTable.{DueTable}
 use Rattle.ostable.specs.Tables.{due_tables_by, next_by, state_by}
 use Rattle.osrunner.specs.Rows.{is_occupied}
-use Rattle.osstate.specs.Readings.{row_at, rows_of, running}
+use Rattle.osstate.specs.Readings.{is_pending, row_at, rows_of, running}
 use Rattle.osstate.specs.Sound.{activation_limit}
 
 -- What a core may read for what it does next: its own part of the configuration, and what its history says of its own
@@ -32,6 +34,8 @@ pub record Seen : Type 0 where
   pub row : Runner → Row
   -- whether a job holds the resource of this index
   pub is_occupied : ℕ → Bool
+  -- whether a job of the ISR is pending
+  pub is_pending : IsrRef → Bool
   -- a counter's value, and after how many counts it has this one; which alarms are due at its next count, and which tables do something
   pub value : CounterRef → ℕ
   pub counts_to_value : CounterRef → ℕ → ℕ
@@ -44,8 +48,9 @@ pub record Seen : Type 0 where
   -- the state of a table, and which table waits for the end of its period
   pub table : TableRef → TableState
   pub next : TableRef → Option TableRef
-  -- what the first gate came to, whose job is running, and the call that is open
+  -- what the first gate came to, whether the core goes on, whose job is running, and the call that is open
   pub agreement : Option Agreement
+  pub course : Course
   pub running : Option Runner
   pub awaits : Option OpenCall
 
@@ -56,6 +61,7 @@ seen_of v h = record {
   jobs = λ r. job_count r (live_jobs h);
   row = λ r. row_at v r h;
   is_occupied = λ n. is_occupied n (rows_of v.own h);
+  is_pending = λ i. is_pending i h;
   value = λ c. value_by v.own c h;
   counts_to_value = λ c start. counts_to_value_by v.own c start h;
   due = λ c. due_by v.own c h;
@@ -66,6 +72,7 @@ seen_of v h = record {
   table = λ s. state_by v.own s h;
   next = λ s. next_by v.own s h;
   agreement = agreement_of h;
+  course = course_of h;
   running = option_map (λ (j : Job). j.runner) (running v h);
   awaits = open_call h;
 }

@@ -2,7 +2,7 @@
 use Rattle.std.proofs.Common.{◌≡◌, ℕ, Bool, true, false, nat_eq, refl, ap, sym, ◌∙◌}
 use Rattle.std.proofs.lemmas.Bool.{eqb-true, eq-eqb, and_parts, and_from, false≢true}
 use Rattle.osbase.specs.declared.objects.ObjectKind.{ObjectKind}
-use Rattle.osbase.specs.declared.objects.ObjectKind.TheVariants.{Task, Resource, Counter, Alarm, Table}
+use Rattle.osbase.specs.declared.objects.ObjectKind.TheVariants.{Task, Isr, Resource, Counter, Alarm, Table}
 use Rattle.osbase.specs.declared.references.CoreId.{CoreId}
 use Rattle.osbase.specs.declared.references.TaskRef.{TaskRef}
 use Rattle.osbase.specs.declared.references.IsrRef.{IsrRef}
@@ -12,7 +12,7 @@ use Rattle.osbase.specs.declared.references.TableRef.{TableRef}
 use Rattle.osbase.specs.declared.objects.Place.{Place}
 use Rattle.osbase.specs.Counting.{same_alarm, same_counter, same_table}
 use Rattle.osbase.specs.declared.references.Runner.{Runner}
-use Rattle.osbase.specs.Objects.{alarm_of, alarm_place, counter_of, counter_place, place_on, same_kind, same_place, table_of, table_place, task_of, task_place}
+use Rattle.osbase.specs.Objects.{alarm_of, alarm_place, counter_of, counter_place, isr_of, isr_place, place_on, same_kind, same_place, table_of, table_place, task_of, task_place}
 use Rattle.osbase.specs.History.{same_core, same_task, same_isr, same_runner}
 
 pub same_core-true : (a b : CoreId) → same_core a b ≡ true → a ≡ b
@@ -47,7 +47,7 @@ pub same_task-refl : (a : TaskRef) → same_task a a ≡ true
 same_task-refl a = same_place-refl (task_place a)
 
 pub same_isr-true : (a b : IsrRef) → same_isr a b ≡ true → a ≡ b
-same_isr-true a b e = ap (λ (p : Place). let i : IsrRef = record { core = p.core; index = p.index } in i) (same_place-true (place_on a.core a.index) (place_on b.core b.index) e)
+same_isr-true a b e = ap isr_of (same_place-true (isr_place a) (isr_place b) e)
 
 pub same_counter-true : (a b : CounterRef) → same_counter a b ≡ true → a ≡ b
 same_counter-true a b e = ap counter_of (same_place-true (counter_place a) (counter_place b) e)
@@ -75,10 +75,11 @@ same_runner-true (Runner.Isr a) (Runner.Task b) e = cc
 
 pub same_runner-refl : (r : Runner) → same_runner r r ≡ true
 same_runner-refl (Runner.Task t) = same_task-refl t
-same_runner-refl (Runner.Isr i) = same_place-refl (place_on i.core i.index)
+same_runner-refl (Runner.Isr i) = same_place-refl (isr_place i)
 
 pub same_kind-true : (k j : ObjectKind) → same_kind k j ≡ true → k ≡ j
 same_kind-true Task Task e = refl
+same_kind-true Isr Isr e = refl
 same_kind-true Resource Resource e = refl
 same_kind-true Counter Counter e = refl
 same_kind-true Alarm Alarm e = refl
@@ -87,6 +88,7 @@ same_kind-true k j e = absurd (false≢true e)
 
 pub same_kind-self : (k : ObjectKind) → same_kind k k ≡ true
 same_kind-self Task = refl
+same_kind-self Isr = refl
 same_kind-self Resource = refl
 same_kind-self Counter = refl
 same_kind-self Alarm = refl

@@ -1,6 +1,6 @@
 -- What is read off a core's history of its counters, alarms and schedule tables: how often a counter was advanced, when an alarm is
 -- due, and how long a table runs.
-use Rattle.std.specs.Prelude.{ℕ, suc, ◌+◌, ◌-◌, ◌%◌, ◌==◌, ◌&&◌, ◌||◌, nat_le, nat_lt, Bool, false, if◌then◌else◌, Option, Some, None, option_map, [], ◌∷◌}
+use Rattle.std.specs.Prelude.{ℕ, suc, ◌+◌, ◌-◌, ◌%◌, ◌==◌, ◌&&◌, ◌||◌, nat_le, nat_lt, Bool, true, false, if◌then◌else◌, Option, Some, None, option_map, [], ◌∷◌}
 use Rattle.std.specs.Option.{option_map_or}
 use Rattle.osbase.specs.declared.references.CounterRef.{CounterRef}
 use Rattle.osbase.specs.declared.references.AlarmRef.{AlarmRef}
@@ -61,34 +61,37 @@ abbrev pub alarm_of : CounterRef → AlarmRef → History → Option AlarmSettin
 alarm_of c a [] = None
 alarm_of c a (e ∷ h) = alarm_after c a e (alarm_of c a h)
 
--- What a setting of an alarm grants, and what is set at the start: the first count within a turn of the counter, and the cycle
--- within its values. Nothing else is ever set. [OSEK/VDX OS 2.2.3, section 13.6.3.3 and 13.6.3.4]
+-- What a service grants, and what is set at the start: the first count within a turn of the counter, and the cycle within its values;
+-- and so of an alarm that may be set. [OSEK/VDX OS 2.2.3, section 13.6.3.3 and 13.6.3.4]
 abbrev pub is_in_turn : ℕ → AlarmSetting → Bool
 is_in_turn max setting = nat_lt 0 setting.first && nat_le setting.first (suc max) && nat_le setting.cycle max
+
+abbrev pub is_granted : ℕ → Option AlarmSetting → Bool
+is_granted max setting = option_map_or (is_in_turn max) setting true
 
 -- It is due at this count: at the first, and with a cycle at each that is the first plus a multiple of it.
 -- [OSEK/VDX OS 2.2.3, section 9.2 and 13.6.3.3]
 abbrev pub is_due_count : AlarmSetting → Bool
 is_due_count setting = (setting.counts == setting.first) || (nat_lt 0 setting.cycle && nat_lt setting.first setting.counts && ((setting.counts - setting.first) % setting.cycle == 0))
 
-abbrev pub is_due : ℕ → Option AlarmSetting → Bool
-is_due max setting = option_map_or (λ (x : AlarmSetting). is_in_turn max x && is_due_count x) setting false
+abbrev pub is_due : Option AlarmSetting → Bool
+is_due setting = option_map_or is_due_count setting false
 
 -- It is in use: it will be due again. An alarm without a cycle is not, once it was due. [OSEK/VDX OS 2.2.3, section 9.2]
 abbrev pub will_be_due : AlarmSetting → Bool
 will_be_due setting = nat_lt 0 setting.cycle || nat_lt setting.counts setting.first
 
 -- If an alarm is set without a cycle, it is in use until the count at which it is due. Its line `alarm A` follows that count.
-abbrev pub is_in_use : ℕ → Option AlarmSetting → Bool
-is_in_use max setting = option_map_or (λ (x : AlarmSetting). is_in_turn max x && will_be_due x) setting false
+abbrev pub is_in_use : Option AlarmSetting → Bool
+is_in_use setting = option_map_or will_be_due setting false
 
 -- How many counts are left: after so many it is due next. [OSEK/VDX OS 2.2.3, section 13.6.3.2]
 abbrev pub counts_left : AlarmSetting → ℕ
 counts_left setting = if nat_lt setting.counts setting.first then setting.first - setting.counts else setting.cycle - (setting.counts - setting.first) % setting.cycle
 
-abbrev pub left_of : ℕ → Option AlarmSetting → Option ℕ
-left_of max None = None
-left_of max (Some setting) = if is_in_turn max setting && will_be_due setting then Some (counts_left setting) else None
+abbrev pub left_of : Option AlarmSetting → Option ℕ
+left_of None = None
+left_of (Some setting) = if will_be_due setting then Some (counts_left setting) else None
 
 -- ---- schedule tables
 

@@ -31,6 +31,7 @@ use Rattle.osbase.specs.declared.histories.OpenCall.{OpenCall}
 use Rattle.osbase.specs.declared.histories.TaskEvents.{TaskEvents}
 use Rattle.osbase.specs.declared.histories.Sent.{Sent}
 use Rattle.osbase.specs.declared.histories.Phase.{Phase}
+use Rattle.osbase.specs.declared.histories.Course.{Course}
 
 -- What happens without a printed line. [own]
 pub data Note : Type 0 where
@@ -52,6 +53,11 @@ pub data Note : Type 0 where
   TableStarted : TableRef → ℕ → Note
   TableQuit : TableRef → Note
   TableNext : TableRef → TableRef → Note
+  -- the runner's oldest live job suspends interrupts once more, and resumes them once
+  Locked : Runner → Note
+  Unlocked : Runner → Note
+  -- the core goes down: it schedules and serves no longer
+  WentDown : Note
   -- an operation of the runner's oldest live job is done, with this status and value
   Done : Runner → Status → Option ℤ → Note
 
@@ -334,6 +340,15 @@ first_phase is_master = if is_master then Phase.Boot else Phase.Off
 
 abbrev pub phase_of : Bool → History → Phase
 phase_of is_master h = phase_from (first_phase is_master) h
+
+-- Whether the core goes on: once it went down, it is down. [AUTOSAR SWS OS 4.x, section 7.1 and SWS_Os_00107]
+abbrev pub course_after : Entry → Course → Course
+course_after (Noted WentDown) course = Course.Down
+course_after e course = course
+
+abbrev pub course_of : History → Course
+course_of [] = Course.Going
+course_of (e ∷ h) = course_after e (course_of h)
 
 -- How many entries of the start list are done. [own]
 abbrev pub began_after : Entry → ℕ → ℕ

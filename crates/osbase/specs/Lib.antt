@@ -1,4 +1,5 @@
 pub mod History
+pub mod Interrupts
 pub mod Counting
 pub mod Phases
 pub mod Names

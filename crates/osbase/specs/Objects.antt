@@ -1,12 +1,13 @@
 -- Objects of every kind, and which of them a call across cores names.
 use Rattle.std.specs.Prelude.{ℕ, ◌==◌, ◌&&◌, Bool, true, false}
 use Rattle.osbase.specs.declared.references.TaskRef.{TaskRef}
+use Rattle.osbase.specs.declared.references.IsrRef.{IsrRef}
 use Rattle.osbase.specs.declared.references.ResourceRef.{ResourceRef}
 use Rattle.osbase.specs.declared.references.CounterRef.{CounterRef}
 use Rattle.osbase.specs.declared.references.AlarmRef.{AlarmRef}
 use Rattle.osbase.specs.declared.references.TableRef.{TableRef}
 use Rattle.osbase.specs.declared.objects.ObjectKind.{ObjectKind}
-use Rattle.osbase.specs.declared.objects.ObjectKind.TheVariants.{Task, Resource, Counter, Alarm, Table}
+use Rattle.osbase.specs.declared.objects.ObjectKind.TheVariants.{Task, Isr, Resource, Counter, Alarm, Table}
 use Rattle.osbase.specs.declared.objects.Place.{Place}
 use Rattle.osbase.specs.declared.objects.Object.{Object}
 use Rattle.osbase.specs.declared.messages.RemoteCall.{RemoteCall}
@@ -17,6 +18,7 @@ use Rattle.osbase.specs.History.{same_core}
 -- Equality of kinds.
 abbrev pub same_kind : ObjectKind → ObjectKind → Bool
 same_kind Task Task = true
+same_kind Isr Isr = true
 same_kind Resource Resource = true
 same_kind Counter Counter = true
 same_kind Alarm Alarm = true
@@ -40,6 +42,12 @@ task_place t = place_on t.core t.index
 
 abbrev pub task_of : Place → TaskRef
 task_of p = record { core = p.core; index = p.index }
+
+abbrev pub isr_place : IsrRef → Place
+isr_place i = place_on i.core i.index
+
+abbrev pub isr_of : Place → IsrRef
+isr_of p = record { core = p.core; index = p.index }
 
 abbrev pub resource_place : ResourceRef → Place
 resource_place r = place_on r.core r.index
@@ -67,6 +75,9 @@ table_of p = record { core = p.core; index = p.index }
 
 abbrev pub task_object : TaskRef → Object
 task_object t = object_at Task (task_place t)
+
+abbrev pub isr_object : IsrRef → Object
+isr_object i = object_at Isr (isr_place i)
 
 abbrev pub resource_object : ResourceRef → Object
 resource_object r = object_at Resource (resource_place r)

@@ -1,5 +1,7 @@
--- Where a core stands, from being off to its end: the phases in their order.
-use Rattle.std.specs.Prelude.{ℕ, ◌==◌, ◌&&◌, nat_lt, Bool}
+-- Where a core stands, from being off to its end: the phases in their order; and whether it goes on.
+use Rattle.std.specs.Prelude.{ℕ, ◌==◌, ◌&&◌, nat_lt, Bool, true, false}
+use Rattle.osbase.specs.declared.histories.Course.{Course}
+use Rattle.osbase.specs.declared.histories.Course.TheVariants.{Going, Down}
 use Rattle.osbase.specs.declared.histories.Phase.{Phase}
 use Rattle.osbase.specs.declared.histories.Phase.TheVariants.{Off, Boot, FirstGate, BetweenGates, SecondGate, Live, Drained, Closing, Ended}
 
@@ -30,3 +32,12 @@ is_past_first_gate p = nat_lt (place_of FirstGate) (place_of p) && nat_lt (place
 -- A core schedules, serves and posts from the second gate to its end. [own]
 abbrev pub is_scheduling : Phase → Bool
 is_scheduling p = nat_lt (place_of SecondGate) (place_of p) && nat_lt (place_of p) (place_of Ended)
+
+-- The core schedules and serves, as far as its phase lets it; or it is down, and does neither. [own]
+abbrev pub is_going : Course → Bool
+is_going Going = true
+is_going Down = false
+
+abbrev pub is_down : Course → Bool
+is_down Going = false
+is_down Down = true

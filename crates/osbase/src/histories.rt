@@ -1,7 +1,7 @@
 //! What the definitions over a history share with the kernel that keeps their readings.
 
 ghost use Rattle.std.specs.Prelude.{◌≡◌};
-ghost use Rattle.osbase.specs.Phases.{is_scheduling, stands_in};
+ghost use Rattle.osbase.specs.Phases.{is_down, is_going, is_scheduling, stands_in};
 
 use crate::messages::Envelope;
 use crate::references::{CoreId, Runner, SpinlockId};
@@ -36,6 +36,30 @@ impl Phase {
         ensures { result ≡ is_scheduling self }
     {
         matches!(self, Phase::Live | Phase::Drained | Phase::Closing)
+    }
+}
+
+/// Whether a core goes on, or went down: then it schedules nothing any more and serves no other core, whatever its phase
+/// is (AUTOSAR SWS OS 4.x, ShutdownOS).
+#[derive(Clone, Copy, Debug, PartialEq, Eq)]
+pub enum Course {
+    Going,
+    Down,
+}
+
+impl Course {
+    /// Whether the core goes on.
+    pub fn is_going(self) -> bool
+        ensures { result ≡ is_going self }
+    {
+        matches!(self, Course::Going)
+    }
+
+    /// Whether the core is down.
+    pub fn is_down(self) -> bool
+        ensures { result ≡ is_down self }
+    {
+        matches!(self, Course::Down)
     }
 }
 

@@ -15,12 +15,12 @@ pub mod references;
 pub mod statuses;
 pub mod turns;
 
-pub use histories::{Awaited, HeldResource, Job, OpenCall, Phase, Sent, TaskEvents};
+pub use histories::{Awaited, Course, HeldResource, Job, OpenCall, Phase, Sent, TaskEvents};
 pub use items::{Agreement, CoreMode, CoreSet, Item, Stimulus};
 pub use limits::{
-    ACTIONS, ALARMS, CONFIGURED_CORES, CORE_NUMBERS, CORES, COUNTERS, GREATEST_DURATION,
-    GREATEST_VALUE, ISRS, JOBS, MAILBOX, MODES, OPERATIONS, POINTS, POSTED, RESOURCES, RUNNERS,
-    SPINLOCKS, TABLES, TASKS,
+    ACTIONS, ALARMS, CONFIGURED_CORES, CORE_NUMBERS, CORES, COUNTERS, GREATEST_BUDGET,
+    GREATEST_DURATION, GREATEST_VALUE, INTERRUPTS, ISRS, JOBS, LEVELS, MAILBOX, MODES, OPERATIONS,
+    POINTS, POSTED, RESOURCES, RUNNERS, SPINLOCKS, TABLES, TASKS,
 };
 pub use lists::{List, Name};
 pub use marks::Mark;

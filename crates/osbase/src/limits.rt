@@ -42,6 +42,15 @@ pub const TABLES: usize = 8;
 /// The most jobs of all a core's tasks at once.
 pub const JOBS: u64 = 64;
 
+/// The most jobs of all a core's ISRs at once: of each one that was started, and one that is pending.
+pub const INTERRUPTS: usize = 2 * ISRS;
+
+/// The greatest level of an ISR; the least is 1.
+pub const LEVELS: u64 = 16;
+
+/// The greatest execution budget, in ticks; 0 stands for none.
+pub const GREATEST_BUDGET: u64 = 1_000_000_000;
+
 /// The most operations of a script.
 pub const OPERATIONS: usize = 256;
 

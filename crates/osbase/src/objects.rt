@@ -1,17 +1,18 @@
 //! Objects of every kind, as the operations of scripts and the calls across cores name them.
 
 ghost use Rattle.std.specs.Prelude.{◌≡◌};
-ghost use Rattle.osbase.specs.Objects.{alarm_of, alarm_place, counter_of, counter_place, object_at, resource_of, resource_place, same_kind, table_of, table_place, task_of, task_place};
+ghost use Rattle.osbase.specs.Objects.{alarm_of, alarm_place, counter_of, counter_place, isr_of, isr_place, object_at, resource_of, resource_place, same_kind, table_of, table_place, task_of, task_place};
 ghost use Rattle.osbase.specs.declared.objects.ObjectKind.{ObjectKind as KindValue};
 ghost use Rattle.osbase.specs.declared.objects.ObjectKind.TheVariants as kinds;
 ghost use Rattle.osbase.specs.declared.objects.Place.{Place as PlaceValue};
 
-use crate::references::{AlarmRef, CoreId, CounterRef, ResourceRef, TableRef, TaskRef};
+use crate::references::{AlarmRef, CoreId, CounterRef, IsrRef, ResourceRef, TableRef, TaskRef};
 
-/// The kinds of objects that operations and calls can name so far.
+/// The kinds of objects that a core has. Operations and calls name all of them but ISRs.
 #[derive(Clone, Copy, Debug, PartialEq, Eq)]
 pub enum ObjectKind {
     Task,
+    Isr,
     Resource,
     Counter,
     Alarm,
@@ -87,6 +88,26 @@ impl Reference for TaskRef {
 
     fn place(self) -> Place {
         let TaskRef { core, index } = self;
+        Place { core, index }
+    }
+}
+
+impl Reference for IsrRef {
+    const KIND: ObjectKind = ObjectKind::Isr;
+
+    ghost KIND = { kinds.Isr };
+
+    ghost place_of = { isr_place };
+
+    ghost ref_of = { isr_of };
+
+    fn at(place: Place) -> Self {
+        let Place { core, index } = place;
+        IsrRef { core, index }
+    }
+
+    fn place(self) -> Place {
+        let IsrRef { core, index } = self;
         Place { core, index }
     }
 }

@@ -1,13 +1,14 @@
 -- A text's limits, apart from the operations of its scripts, which are counted where they are read; and how many objects it has.
-use Rattle.std.proofs.Common.{◌≡◌, ◌&&◌, nat_le, Bool, true, List, Some, length, map, refl, sym, ap, ◌∙◌, arith, false}
+use Rattle.std.proofs.Common.{◌≡◌, ℕ, ◌&&◌, nat_le, Bool, true, List, Some, length, map, refl, sym, ap, ◌∙◌, arith, false}
 use Rattle.std.specs.List.{list_all}
 use Rattle.std.proofs.lemmas.List.{length-map}
-use Rattle.std.proofs.lemmas.List.Folds.{list_all-map}
-use Rattle.osplan.specs.Limits.{is_between, are_alarms_within, are_counters_within, are_tables_within, most_cores, most_posted, is_core_by, is_core_within, is_task_numbered, is_task_short, is_task_within, count_in, most_of}
-use Rattle.oscheck.specs.Words.{ConfigText, CoreText, Declaration, ObjectKind}
-use Rattle.oscheck.specs.Check.{are_scripts_short, alarm_sizes, bare_sizes, core_sizes, counter_sizes, is_core_short, is_text_numbered, is_text_within, table_sizes, task_sizes, tests_of}
+use Rattle.std.proofs.lemmas.List.Folds.{list_all-append, list_all-map}
+use Rattle.osplan.specs.Limits.{is_between, are_alarms_within, are_counters_within, are_tables_within, most_cores, most_posted, is_core_numbered, is_core_within, is_short, count_in, most_of}
+use Rattle.oscheck.specs.Words.{ConfigText, CoreText, Declaration, IsrText, ObjectKind, TaskText}
+use Rattle.oscheck.specs.Check.{are_scripts_short, alarm_sizes, bare_sizes, core_scripts, core_sizes, counter_sizes, is_core_short, is_script_short, is_text_numbered, is_text_within, table_sizes, tests_of}
 use Rattle.osshape.specs.Declarations.{declarations}
 use Rattle.osshape.proofs.Lists.{all-split, list_all-every}
+use Rattle.oscheck.specs.Operation.{operations_of}
 use Rattle.oscheck.specs.Posted.{posted_at_once}
 use Rattle.std.proofs.lemmas.Bool.{and_from, and_parts, false_from_ne_true, false≢true}
 use Rattle.osplan.specs.declared.faults.ConfFault.TheVariants.{Limit}
@@ -22,29 +23,35 @@ pub all_true : (b : Bool) → (b && true && true && true && true) ≡ b
 all_true b = grind arith
 
 pub bare_split : (objects : List Declaration) (core : CoreText)
-    → is_core_by is_task_numbered (core_sizes objects core)
-    ≡ (is_core_by is_task_numbered (bare_sizes core) && are_counters_within (map counter_sizes core.counters) && are_alarms_within (map (alarm_sizes objects) core.alarms)
+    → is_core_numbered (core_sizes objects core)
+    ≡ (is_core_numbered (bare_sizes core) && are_counters_within (map counter_sizes core.counters) && are_alarms_within (map (alarm_sizes objects) core.alarms)
     && are_tables_within (map (table_sizes objects) core.tables) && nat_le (posted_at_once objects core) most_posted)
 bare_split objects core = grind arith
 
-core-split : (objects : List Declaration) (core : CoreText) → is_core_within (core_sizes objects core) ≡ (is_core_by is_task_numbered (core_sizes objects core) && is_core_short core)
+core-split : (objects : List Declaration) (core : CoreText) → is_core_within (core_sizes objects core) ≡ (is_core_numbered (core_sizes objects core) && is_core_short core)
 core-split objects core =
-    rw (all-split is_task_within is_task_numbered is_task_short (λ task. refl) (map task_sizes core.tasks), list_all-map is_task_short task_sizes core.tasks) (grind arith)
+    ap (λ b. is_core_numbered (core_sizes objects core) && b) (list_all-map is_short (λ (script : List ℕ). length (operations_of script)) (core_scripts core))
 
-cores-split : (objects : List Declaration) (cores : List CoreText) → list_all is_core_within (map (core_sizes objects) cores) ≡ (list_all (is_core_by is_task_numbered) (map (core_sizes objects) cores) && list_all is_core_short cores)
+-- none of a core's scripts is too long: none of a task, and none of an ISR
+pub core_shorts : (core : CoreText) → is_core_short core ≡ (list_all (λ (task : TaskText). is_script_short task.script) core.tasks && list_all (λ (isr : IsrText). is_script_short isr.script) core.isrs)
+core_shorts core =
+    list_all-append is_script_short (map (λ (task : TaskText). task.script) core.tasks) (map (λ (isr : IsrText). isr.script) core.isrs)
+    ∙ rw (list_all-map is_script_short (λ (task : TaskText). task.script) core.tasks, list_all-map is_script_short (λ (isr : IsrText). isr.script) core.isrs) refl
+
+cores-split : (objects : List Declaration) (cores : List CoreText) → list_all is_core_within (map (core_sizes objects) cores) ≡ (list_all is_core_numbered (map (core_sizes objects) cores) && list_all is_core_short cores)
 cores-split objects cores =
     list_all-map is_core_within (core_sizes objects) cores
-    ∙ all-split (λ core. is_core_within (core_sizes objects core)) (λ core. is_core_by is_task_numbered (core_sizes objects core)) is_core_short (core-split objects) cores
-    ∙ ap (λ b. b && list_all is_core_short cores) (sym (list_all-map (is_core_by is_task_numbered) (core_sizes objects) cores))
+    ∙ all-split (λ core. is_core_within (core_sizes objects core)) (λ core. is_core_numbered (core_sizes objects core)) is_core_short (core-split objects) cores
+    ∙ ap (λ b. b && list_all is_core_short cores) (sym (list_all-map is_core_numbered (core_sizes objects) cores))
 
 pub within_split : (t : ConfigText) → is_text_within t ≡ (is_text_numbered t && are_scripts_short t)
 within_split t = rw (cores-split (declarations t) t.cores) (grind arith)
 
 -- what is left of a text's numbers when those beside its cores have been judged
 pub cores-left : (t : ConfigText) → is_between 1 1 t.version ≡ true → is_between 1 16 t.cap ≡ true
-    → (is_between 1 most_cores (Some (length t.cores)) && list_all (λ (core : CoreText). is_core_by is_task_numbered (core_sizes (declarations t) core)) t.cores) ≡ is_text_numbered t
+    → (is_between 1 most_cores (Some (length t.cores)) && list_all (λ (core : CoreText). is_core_numbered (core_sizes (declarations t) core)) t.cores) ≡ is_text_numbered t
 cores-left t version cap =
-    rw (version, cap, length-map t.cores (core_sizes (declarations t)), list_all-map (is_core_by is_task_numbered) (core_sizes (declarations t)) t.cores) refl
+    rw (version, cap, length-map t.cores (core_sizes (declarations t)), list_all-map is_core_numbered (core_sizes (declarations t)) t.cores) refl
 
 -- ---- a text with more objects than a configuration may have is past its limits
 
@@ -53,14 +60,14 @@ sizes-counted : (objects : List Declaration) (core : CoreText) (kind : ObjectKin
 sizes-counted objects core ObjectKind.Task = simp length-map
 sizes-counted objects core kind = simp length-map
 
-core-few : (objects : List Declaration) (core : CoreText) → is_core_by is_task_numbered (core_sizes objects core) ≡ true → is_core_few core ≡ true
-core-few objects core h = list_all-every (λ (kind : ObjectKind). nat_le (length (objects_in kind core)) (most_of kind)) (λ kind. ap (λ n. nat_le n (most_of kind)) (sym (sizes-counted objects core kind)) ∙ few-of is_task_numbered (core_sizes objects core) h kind) KINDS
+core-few : (objects : List Declaration) (core : CoreText) → is_core_numbered (core_sizes objects core) ≡ true → is_core_few core ≡ true
+core-few objects core h = list_all-every (λ (kind : ObjectKind). nat_le (length (objects_in kind core)) (most_of kind)) (λ kind. ap (λ n. nat_le n (most_of kind)) (sym (sizes-counted objects core kind)) ∙ few-of (core_sizes objects core) h kind) KINDS
 
 numbered-few : (t : ConfigText) → is_text_numbered t ≡ true → are_objects_few t ≡ true
 numbered-few t h =
     let objects = declarations t in
     and_from _ _ (ap (λ n. nat_le n 8) (sym (length-map t.cores (core_sizes objects))) ∙ grind arith)
-    (all-weaker (λ core. is_core_by is_task_numbered (core_sizes objects core)) is_core_few (core-few objects) t.cores (sym (list_all-map (is_core_by is_task_numbered) (core_sizes objects) t.cores) ∙ grind arith))
+    (all-weaker (λ core. is_core_numbered (core_sizes objects core)) is_core_few (core-few objects) t.cores (sym (list_all-map is_core_numbered (core_sizes objects) t.cores) ∙ grind arith))
 
 pub too_many : (t : ConfigText) → are_objects_few t ≡ false → first_fault (failing (tests_of t)) ≡ Some Limit
 too_many t many =

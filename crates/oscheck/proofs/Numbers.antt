@@ -5,7 +5,7 @@ use Rattle.std.proofs.lemmas.Bool.Decides.{nat_tests}
 use Rattle.std.proofs.lemmas.List.{length-map}
 use Rattle.std.proofs.lemmas.List.Folds.{fold-map, list_all-map}
 use Rattle.std.proofs.lemmas.List.Sums.{sum_by-cons, count_by-le-length}
-use Rattle.osplan.specs.Limits.{TaskSizes, is_between, is_task_numbered, jobs_of, PointSizes, are_ascending, is_before, last_offset, are_alarms_within, are_tables_within, is_point_within, is_table_within}
+use Rattle.osplan.specs.Limits.{TaskSizes, is_between, is_task_within, jobs_of, PointSizes, are_ascending, is_before, last_offset, are_alarms_within, are_tables_within, is_point_within, is_table_within}
 use Rattle.oscheck.specs.Words.{TaskText, PointText, AlarmText, CoreId, Declaration, TableText}
 use Rattle.oscheck.specs.Check.{task_sizes, point_sizes, alarm_sizes, table_sizes}
 use Rattle.std.proofs.lemmas.Bool.{and_from, leb-true}
@@ -19,10 +19,10 @@ most low high number h = grind (arith, nat_tests)
 
 -- ---- jobs within their limits are few
 
-most-jobs : (s : TaskSizes) → is_task_numbered s ≡ true → jobs_of s ≤ 64
+most-jobs : (s : TaskSizes) → is_task_within s ≡ true → jobs_of s ≤ 64
 most-jobs s h = grind (arith, nat_tests)
 
-pub few_jobs : (tasks : List TaskText) → list_all (λ (task : TaskText). is_task_numbered (task_sizes task)) tasks ≡ true → sum_by (λ (task : TaskText). jobs_of (task_sizes task)) tasks ≤ 64 * length tasks
+pub few_jobs : (tasks : List TaskText) → list_all (λ (task : TaskText). is_task_within (task_sizes task)) tasks ≡ true → sum_by (λ (task : TaskText). jobs_of (task_sizes task)) tasks ≤ 64 * length tasks
 few_jobs [] h = omega arith
 few_jobs (task ∷ tasks) h =
     omega (arith, most-jobs (task_sizes task) (grind arith), sum_by-cons (λ (task : TaskText). jobs_of (task_sizes task)) task tasks, few_jobs tasks (grind arith))

@@ -1,16 +1,16 @@
 -- The tests of a configuration's text, a row for each fault past its shape that a text can have so far. Each is defined apart from
 -- the others, over the text as it stands, but that no operation with an unknown name is asked for another core's objects. [own]
-use Rattle.std.specs.Prelude.{ℕ, ◌&&◌, nat_le, Bool, Option, None, is_some, option_map, List, [], ◌∷◌, length, map}
+use Rattle.std.specs.Prelude.{ℕ, ◌&&◌, Bool, Option, None, is_some, option_map, List, [], ◌∷◌, ◌++◌, length, map}
 use Rattle.std.specs.List.{list_all}
 use Rattle.std.specs.Option.{option_map_or}
 use Rattle.std.specs.Str.{bytes_eq}
-use Rattle.oscheck.specs.Words.{AlarmStartText, AlarmText, ConfigText, CoreId, CoreText, CounterText, Declaration, PointText, ResourceText, TableStartText, TableText, TaskText}
+use Rattle.oscheck.specs.Words.{AlarmStartText, AlarmText, ConfigText, CoreId, CoreText, CounterText, Declaration, IsrText, PointText, ResourceText, TableStartText, TableText, TaskText}
 use Rattle.osbase.specs.declared.objects.ObjectKind.TheVariants.{Counter}
 use Rattle.osbase.specs.History.{same_core}
 use Rattle.osforms.specs.Action.{is_action}
 use Rattle.osforms.specs.Operation.{has_masks}
-use Rattle.osplan.specs.Expressible.{are_distinct, is_jumping_within, mode_name}
-use Rattle.osplan.specs.Limits.{TaskSizes, CounterSizes, StartSizes, PointSizes, TableSizes, CoreSizes, Sizes, is_between, is_by, is_task_numbered, is_task_short, is_within, is_table_timed, has_number, are_numbers_distinct, stays_on}
+use Rattle.osplan.specs.Expressible.{are_distinct, is_free_of_resources, is_jumping_within, mode_name}
+use Rattle.osplan.specs.Limits.{TaskSizes, IsrSizes, CounterSizes, StartSizes, PointSizes, TableSizes, CoreSizes, Sizes, is_between, is_by, is_core_numbered, is_short, is_within, is_table_timed, has_number, are_numbers_distinct, stays_on}
 use Rattle.osplan.specs.declared.faults.ConfFault.TheVariants.{Limit, DuplicateName, UnknownName, WrongCore, BadMask, BadTable, BadScript}
 use Rattle.osplan.specs.Fault.{Tests}
 use Rattle.oscheck.specs.Action.{is_action_known, is_action_masked}
@@ -21,7 +21,10 @@ use Rattle.oscheck.specs.Operation.{operations_of, op_of, named_op, is_operation
 -- ---- limits: those of a configuration, over the text's numbers
 
 abbrev pub task_sizes : TaskText → TaskSizes
-task_sizes task = record { priority = task.prio; activations = task.activations; extended = task.extended; operations = length (operations_of task.script) }
+task_sizes task = record { priority = task.prio; activations = task.activations; extended = task.extended; budget = task.budget }
+
+abbrev pub isr_sizes : IsrText → IsrSizes
+isr_sizes isr = record { level = isr.level; budget = isr.budget }
 
 abbrev pub counter_sizes : CounterText → CounterSizes
 counter_sizes counter = record { max = counter.max; min = counter.min }
@@ -50,17 +53,23 @@ table_sizes objects table = record {
 abbrev pub table_times : TableText → TableSizes
 table_times table = record (table_sizes [] table) { counter = None }
 
+-- The scripts of a core: those of its tasks, and then those of its ISRs.
+abbrev pub core_scripts : CoreText → List (List ℕ)
+core_scripts core = map (λ (task : TaskText). task.script) core.tasks ++ map (λ (isr : IsrText). isr.script) core.isrs
+
 -- All numbers of a core that have limits.
 abbrev pub core_sizes : List Declaration → CoreText → CoreSizes
 core_sizes objects core = record {
   number = core.id;
   start = core.start;
   tasks = map task_sizes core.tasks;
+  isrs = map isr_sizes core.isrs;
   resources = map (λ (resource : ResourceText). resource.ceiling) core.resources;
   counters = map counter_sizes core.counters;
   alarms = map (alarm_sizes objects) core.alarms;
   tables = map (table_sizes objects) core.tables;
   posted = posted_at_once objects core;
+  scripts = map (λ (script : List ℕ). length (operations_of script)) (core_scripts core);
 }
 
 -- Without its counters, its alarms and its tables.
@@ -76,17 +85,17 @@ abbrev pub is_text_within : ConfigText → Bool
 is_text_within t = is_between 1 1 t.version && is_within (sizes_of t)
 
 -- The script has no more operations than it may have; the other limits are those of numbers, and need no look at scripts.
-abbrev pub is_script_short : TaskText → Bool
-is_script_short task = is_task_short (task_sizes task)
+abbrev pub is_script_short : List ℕ → Bool
+is_script_short script = is_short (length (operations_of script))
 
 abbrev pub is_core_short : CoreText → Bool
-is_core_short core = list_all is_script_short core.tasks
+is_core_short core = list_all is_script_short (core_scripts core)
 
 abbrev pub are_scripts_short : ConfigText → Bool
 are_scripts_short t = list_all is_core_short t.cores
 
 abbrev pub is_text_numbered : ConfigText → Bool
-is_text_numbered t = is_between 1 1 t.version && is_by is_task_numbered (sizes_of t)
+is_text_numbered t = is_between 1 1 t.version && is_by is_core_numbered (sizes_of t)
 
 -- ---- names and numbers that stand twice
 
@@ -125,7 +134,9 @@ abbrev pub is_table_known : List Declaration → TableText → Bool
 is_table_known objects table = is_some (place_of objects Counter table.counter) && list_all (is_point_known objects) table.points && list_all is_mode_name (table_modes table)
 
 abbrev pub is_core_known : List Declaration → CoreText → Bool
-is_core_known objects core = list_all (is_task_known objects) core.tasks && list_all (is_alarm_known objects) core.alarms && list_all (is_table_known objects) core.tables
+is_core_known objects core =
+    list_all (is_task_known objects) core.tasks && list_all (λ (isr : IsrText). are_operations_known objects isr.script) core.isrs
+    && list_all (is_alarm_known objects) core.alarms && list_all (is_table_known objects) core.tables
 
 -- The master is a configured core, and each name in an autostart, an operation, an alarm or a table has its object.
 abbrev pub are_known : ConfigText → Bool
@@ -149,7 +160,9 @@ abbrev pub is_table_near : List Declaration → CoreId → TableText → Bool
 is_table_near objects id table = same_core (counter_ref objects id table.counter).core id
 
 abbrev pub is_core_near : List Declaration → CoreText → Bool
-is_core_near objects core = list_all (λ (task : TaskText). is_script_near objects (id_of core) task.script) core.tasks && list_all (is_alarm_near objects (id_of core)) core.alarms && list_all (is_table_near objects (id_of core)) core.tables
+is_core_near objects core =
+    list_all (λ (task : TaskText). is_script_near objects (id_of core) task.script) core.tasks
+    && list_all (λ (isr : IsrText). is_script_near objects (id_of core) isr.script) core.isrs && list_all (is_alarm_near objects (id_of core)) core.alarms && list_all (is_table_near objects (id_of core)) core.tables
 
 -- So it is with each operation of each core's scripts, and with each alarm and each table.
 abbrev pub are_near : ConfigText → Bool
@@ -157,8 +170,11 @@ are_near t = list_all (is_core_near (declarations t)) t.cores
 
 -- ---- masks
 
+abbrev pub is_script_masked : List ℕ → Bool
+is_script_masked script = list_all has_masks (operations_of script)
+
 abbrev pub is_task_masked : TaskText → Bool
-is_task_masked task = list_all has_masks (operations_of task.script)
+is_task_masked task = is_script_masked task.script
 
 abbrev pub is_alarm_masked : AlarmText → Bool
 is_alarm_masked alarm = is_action_masked alarm.action
@@ -170,7 +186,9 @@ abbrev pub is_table_masked : TableText → Bool
 is_table_masked table = list_all is_point_masked table.points
 
 abbrev pub is_core_masked : CoreText → Bool
-is_core_masked core = list_all is_task_masked core.tasks && list_all is_alarm_masked core.alarms && list_all is_table_masked core.tables
+is_core_masked core =
+    list_all is_task_masked core.tasks && list_all (λ (isr : IsrText). is_script_masked isr.script) core.isrs
+    && list_all is_alarm_masked core.alarms && list_all is_table_masked core.tables
 
 -- Each mask in an operation or an action in form is in its range.
 abbrev pub are_masks : ConfigText → Bool
@@ -194,6 +212,10 @@ is_script objects script = list_all is_operation (operations_of script) && is_ju
 abbrev pub is_task_script : List Declaration → TaskText → Bool
 is_task_script objects task = is_script objects task.script
 
+-- And of an ISR's script none takes or gives back a resource.
+abbrev pub is_isr_script : List Declaration → List ℕ → Bool
+is_isr_script objects script = is_script objects script && is_free_of_resources (map (op_of objects) (operations_of script))
+
 -- The alarm's action is in form.
 abbrev pub is_alarm_acting : AlarmText → Bool
 is_alarm_acting alarm = is_action alarm.action
@@ -206,7 +228,9 @@ abbrev pub is_table_acting : TableText → Bool
 is_table_acting table = list_all is_point_acting table.points
 
 abbrev pub is_core_script : List Declaration → CoreText → Bool
-is_core_script objects core = list_all (is_task_script objects) core.tasks && list_all is_alarm_acting core.alarms && list_all is_table_acting core.tables
+is_core_script objects core =
+    list_all (is_task_script objects) core.tasks && list_all (λ (isr : IsrText). is_isr_script objects isr.script) core.isrs
+    && list_all is_alarm_acting core.alarms && list_all is_table_acting core.tables
 
 -- So it is with each script, each alarm and each table.
 abbrev pub are_operations : ConfigText → Bool

@@ -8,12 +8,12 @@ use Rattle.osforms.specs.Action.{is_action}
 use Rattle.osforms.specs.Operation.{has_masks}
 use Rattle.osplan.specs.declared.faults.ConfFault.{ConfFault}
 use Rattle.osplan.specs.declared.faults.ConfFault.TheVariants.{Limit, NoMemory}
-use Rattle.osshape.specs.Declarations.{counter_ref, declarations, id_of, place_of}
+use Rattle.osshape.specs.Declarations.{counter_ref, declarations, place_of}
 use Rattle.oscheck.specs.declared.verdicts.Judged.{Judged}
 use Rattle.oscheck.specs.declared.verdicts.Verdict.{Verdict}
 use Rattle.oscheck.specs.Action.{is_action_known, is_action_masked}
-use Rattle.oscheck.specs.Operation.{is_operation, is_operation_known, op_of, operations_of}
-use Rattle.oscheck.specs.Check.{are_operations_known, is_alarm_acting, is_alarm_known, is_alarm_masked, is_alarm_near, is_core_known, is_core_masked, is_core_near, is_core_script, is_operation_near, is_point_acting, is_point_known, is_point_masked, is_script, is_script_near, is_table_acting, is_table_known, is_table_masked, is_table_near, is_task_known, is_task_masked, is_task_script}
+use Rattle.oscheck.specs.Operation.{is_operation, is_operation_known, op_of}
+use Rattle.oscheck.specs.Check.{are_operations_known, is_alarm_acting, is_alarm_known, is_alarm_masked, is_alarm_near, is_core_known, is_core_masked, is_core_near, is_core_script, is_isr_script, is_operation_near, is_point_acting, is_point_known, is_point_masked, is_script, is_script_masked, is_script_near, is_table_acting, is_table_known, is_table_masked, is_table_near, is_task_known, is_task_masked, is_task_script}
 
 -- Nothing is wrong.
 abbrev pub all_right : Verdict
@@ -44,7 +44,7 @@ abbrev pub script_verdict : List Declaration → CoreId → List ℕ → Verdict
 script_verdict objects id script = record {
   known = are_operations_known objects script;
   near = is_script_near objects id script;
-  masked = list_all has_masks (operations_of script);
+  masked = is_script_masked script;
   formed = is_script objects script;
 }
 
@@ -57,6 +57,10 @@ counter_verdict objects id name = record { known = is_some (place_of objects Cou
 
 abbrev pub task_verdict : List Declaration → CoreId → TaskText → Verdict
 task_verdict objects id task = record { known = is_task_known objects task; near = is_script_near objects id task.script; masked = is_task_masked task; formed = is_task_script objects task }
+
+-- Of an ISR, by its script.
+abbrev pub isr_verdict : List Declaration → CoreId → List ℕ → Verdict
+isr_verdict objects id script = record (script_verdict objects id script) { formed = is_isr_script objects script }
 
 abbrev pub alarm_verdict : List Declaration → CoreId → AlarmText → Verdict
 alarm_verdict objects id alarm = record { known = is_alarm_known objects alarm; near = is_alarm_near objects id alarm; masked = is_alarm_masked alarm; formed = is_alarm_acting alarm }

@@ -13,6 +13,7 @@ pub use Rattle.osplan.specs.declared.plans.AlarmStart.{AlarmStart}
 pub use Rattle.osplan.specs.declared.plans.Core.{Core}
 pub use Rattle.osplan.specs.declared.plans.Counter.{Counter}
 pub use Rattle.osplan.specs.declared.plans.ExpiryPoint.{ExpiryPoint}
+pub use Rattle.osplan.specs.declared.plans.Isr.{Isr}
 pub use Rattle.osplan.specs.declared.plans.Plan.{Plan}
 pub use Rattle.osplan.specs.declared.plans.Resource.{Resource}
 pub use Rattle.osplan.specs.declared.plans.Table.{Table}
@@ -24,6 +25,7 @@ pub use Rattle.osshape.specs.declared.shapes.AlarmText.{AlarmText}
 pub use Rattle.osshape.specs.declared.shapes.ConfigText.{ConfigText}
 pub use Rattle.osshape.specs.declared.shapes.CoreText.{CoreText}
 pub use Rattle.osshape.specs.declared.shapes.CounterText.{CounterText}
+pub use Rattle.osshape.specs.declared.shapes.IsrText.{IsrText}
 pub use Rattle.osshape.specs.declared.shapes.Named.{Named}
 pub use Rattle.osshape.specs.declared.shapes.ResourceText.{ResourceText}
 pub use Rattle.osshape.specs.declared.shapes.TaskText.{TaskText}

@@ -5,23 +5,27 @@ ghost use Rattle.std.specs.List.{list_all};
 ghost use Rattle.osshape.specs.declared.shapes.AlarmText.{AlarmText as Alarm};
 ghost use Rattle.osshape.specs.declared.shapes.CoreText.{CoreText as Core};
 ghost use Rattle.osshape.specs.declared.shapes.CounterText.{CounterText as Counter};
+ghost use Rattle.osshape.specs.declared.shapes.IsrText.{IsrText as Isr};
 ghost use Rattle.osshape.specs.declared.shapes.ResourceText.{ResourceText as Resource};
 ghost use Rattle.osshape.specs.declared.shapes.TaskText.{TaskText as Task};
-ghost use Rattle.osplan.specs.Limits.{are_alarms_within, are_counters_within, are_numbers_distinct, has_number, is_alarm_within, is_between, is_ceiling, is_core_by, is_counter_within, is_start, is_start_within, is_task_numbered, jobs_of, most_activations, most_cores, same_number};
+ghost use Rattle.osplan.specs.Limits.{are_alarms_within, are_counters_within, are_isrs_within, are_numbers_distinct, has_number, is_alarm_within, is_between, is_budget, is_ceiling, is_core_numbered, is_counter_within, is_isr_within, is_start, is_start_within, is_task_within, jobs_of, most_activations, most_cores, same_number};
 ghost use Rattle.osplan.specs.Fault.{failing, first_fault};
 ghost use Rattle.osshape.specs.Declarations.{declarations};
 ghost use Rattle.oscheck.specs.Few.{are_objects_few, is_core_few};
-ghost use Rattle.oscheck.specs.Check.{is_text_numbered, task_sizes, counter_sizes, start_sizes, alarm_sizes, bare_sizes, core_sizes, numbers_of, is_text_within, is_each_once, is_mode_name, alarm_modes, are_timed, tests_of};
+ghost use Rattle.oscheck.specs.Check.{is_text_numbered, task_sizes, isr_sizes, counter_sizes, start_sizes, alarm_sizes, bare_sizes, core_sizes, numbers_of, is_text_within, is_each_once, is_mode_name, alarm_modes, are_timed, tests_of};
 ghost use Rattle.oscheck.specs.Verdict.{text_verdict};
 
 use crate::table_checks::{are_posted_few, are_tables_timed, are_tables_within};
 use crate::verdicts::Verdict;
-use osbase::{ALARMS, CONFIGURED_CORES, COUNTERS, GREATEST_VALUE, JOBS, RESOURCES, TABLES, TASKS};
+use osbase::{
+    ALARMS, CONFIGURED_CORES, COUNTERS, GREATEST_BUDGET, GREATEST_VALUE, ISRS, JOBS, LEVELS,
+    RESOURCES, TABLES, TASKS,
+};
 use osplan::ConfFault;
 use osread::{Text, Whole};
 use osshape::{
-    AlarmStartText, AlarmText, ConfigText, CoreText, CounterText, MODE, Objects, ResourceText,
-    TaskText,
+    AlarmStartText, AlarmText, ConfigText, CoreText, CounterText, IsrText, MODE, Objects,
+    ResourceText, TaskText,
 };
 
 pub(crate) fn is_between(low: u64, high: u64, number: Whole) -> bool
@@ -39,10 +43,37 @@ fn most_activations(extended: bool) -> u64
     if extended { 1 } else { 64 }
 }
 
-fn is_task_numbered(task: &TaskText) -> bool
-    ensures { result ≡ is_task_numbered (task_sizes task.now) }
+fn is_budget(budget: Whole) -> bool
+    ensures { result ≡ is_budget budget }
 {
-    is_between(0, 31, task.prio) && is_between(1, most_activations(task.extended), task.activations)
+    is_between(0, GREATEST_BUDGET, budget)
+}
+
+fn is_task_within(task: &TaskText) -> bool
+    ensures { result ≡ is_task_within (task_sizes task.now) }
+{
+    is_between(0, 31, task.prio)
+        && is_between(1, most_activations(task.extended), task.activations)
+        && is_budget(task.budget)
+}
+
+fn is_isr_within(isr: &IsrText) -> bool
+    ensures { result ≡ is_isr_within (isr_sizes isr.now) }
+{
+    is_between(1, LEVELS, isr.level) && is_budget(isr.budget)
+}
+
+fn is_each_isr_within(isrs: &[IsrText]) -> bool
+    ensures { result ≡ list_all (λ (isr : Isr). is_isr_within (isr_sizes isr)) isrs.now }
+{
+    isrs.iter().all(is_isr_within)
+}
+
+#[tactic(auto, using(crate::proofs::Numbers::mapped))]
+fn are_isrs_within(isrs: &[IsrText]) -> bool
+    ensures { result ≡ are_isrs_within (map isr_sizes isrs.now) }
+{
+    isrs.len() <= ISRS && is_each_isr_within(isrs)
 }
 
 fn are_starts_within(numbers: &[Whole]) -> bool
@@ -51,10 +82,10 @@ fn are_starts_within(numbers: &[Whole]) -> bool
     numbers.iter().all(|number| is_between(0, 255, *number))
 }
 
-fn are_tasks_numbered(tasks: &[TaskText]) -> bool
-    ensures { result ≡ list_all (λ (task : Task). is_task_numbered (task_sizes task)) tasks.now }
+fn are_tasks_within(tasks: &[TaskText]) -> bool
+    ensures { result ≡ list_all (λ (task : Task). is_task_within (task_sizes task)) tasks.now }
 {
-    tasks.iter().all(is_task_numbered)
+    tasks.iter().all(is_task_within)
 }
 
 fn jobs_of_all(tasks: &[TaskText]) -> u64
@@ -130,22 +161,23 @@ fn are_alarms_within(objects: &Objects, alarms: &[AlarmText]) -> bool
 // Whether the core is within its limits, but for its counters, its alarms and its tables, and what these post.
 #[tactic(auto, using(crate::proofs::Numbers::mapped, crate::proofs::Numbers::few_jobs, crate::proofs::Counting::all_true))]
 fn is_bare_core_numbered(core: &CoreText) -> bool
-    ensures { result ≡ is_core_by is_task_numbered (bare_sizes core.now) }
+    ensures { result ≡ is_core_numbered (bare_sizes core.now) }
 {
     // The sum fits, since the tasks are judged before it.
     let tasks = core.tasks.as_slice();
     is_between(0, 7, core.id)
         && are_starts_within(core.start.as_slice())
         && tasks.len() <= TASKS
-        && are_tasks_numbered(tasks)
+        && are_tasks_within(tasks)
         && jobs_of_all(tasks) <= JOBS
+        && are_isrs_within(core.isrs.as_slice())
         && core.resources.len() <= RESOURCES
         && are_ceilings_within(core.resources.as_slice())
 }
 
 #[tactic(auto, using(crate::proofs::Counting::bare_split))]
 fn is_core_numbered(objects: &Objects, core: &CoreText) -> bool
-    ensures { result ≡ is_core_by is_task_numbered (core_sizes objects.now.declared core.now) }
+    ensures { result ≡ is_core_numbered (core_sizes objects.now.declared core.now) }
 {
     is_bare_core_numbered(core)
         && are_counters_within(core.counters.as_slice())
@@ -155,13 +187,13 @@ fn is_core_numbered(objects: &Objects, core: &CoreText) -> bool
 }
 
 fn are_cores_numbered(objects: &Objects, cores: &[CoreText]) -> bool
-    ensures { result ≡ list_all (λ (core : Core). is_core_by is_task_numbered (core_sizes objects.now.declared core)) cores.now }
+    ensures { result ≡ list_all (λ (core : Core). is_core_numbered (core_sizes objects.now.declared core)) cores.now }
 {
     cores.iter().all(|core| is_core_numbered(objects, core))
 }
 
 fn are_cores_within(objects: &Objects, cores: &[CoreText]) -> bool
-    ensures { result ≡ (is_between 1 most_cores (Some (length cores.now)) && list_all (λ (core : Core). is_core_by is_task_numbered (core_sizes objects.now.declared core)) cores.now) }
+    ensures { result ≡ (is_between 1 most_cores (Some (length cores.now)) && list_all (λ (core : Core). is_core_numbered (core_sizes objects.now.declared core)) cores.now) }
 {
     1 <= cores.len() && cores.len() <= CONFIGURED_CORES && are_cores_numbered(objects, cores)
 }
@@ -171,6 +203,7 @@ fn is_core_few(core: &CoreText) -> bool
     ensures { result ≡ is_core_few core.now }
 {
     core.tasks.len() <= TASKS
+        && core.isrs.len() <= ISRS
         && core.resources.len() <= RESOURCES
         && core.counters.len() <= COUNTERS
         && core.alarms.len() <= ALARMS

@@ -1,13 +1,12 @@
 //! The operations and actions of a text, and what is right of them.
 
 ghost use Rattle.std.specs.Prelude.{◌≡◌, IfOk, Some, length, map, nat_le};
-ghost use Rattle.std.specs.List.{list_all};
+ghost use Rattle.std.specs.List.{list_all, list_any};
 ghost use Rattle.oscript.specs.Calls.{any_action as any_action_value};
-ghost use Rattle.oscript.specs.Rows.{has_masks as has_events};
+ghost use Rattle.oscript.specs.Rows.{has_masks as has_events, uses_resource};
 ghost use Rattle.oscript.specs.declared.Op.{Op as OpValue};
 ghost use Rattle.osforms.specs.Operation.{op_meant, place_of_any};
 ghost use Rattle.osplan.specs.Expressible.{goes_within, is_jumping_within};
-ghost use Rattle.osplan.specs.Limits.{is_task_short};
 ghost use Rattle.osplan.specs.Limits as limits;
 ghost use Rattle.osshape.specs.Declarations.{counter_ref, place_of};
 ghost use Rattle.oscheck.specs.declared.verdicts.Judged.{Judged as JudgedValue};
@@ -15,7 +14,7 @@ ghost use Rattle.oscheck.specs.declared.verdicts.Verdict.{Verdict as VerdictValu
 ghost use Rattle.oscheck.specs.Action.{action_of, is_action_known, is_action_masked};
 ghost use Rattle.oscheck.specs.Check.{is_operation_near};
 ghost use Rattle.oscheck.specs.Operation.{is_operation, op_of, operations_of};
-ghost use Rattle.oscheck.specs.Verdict.{Judges, action_verdict, counter_verdict, judged_op, script_verdict};
+ghost use Rattle.oscheck.specs.Verdict.{Judges, action_verdict, counter_verdict, isr_verdict, judged_op, script_verdict};
 
 use crate::verdicts::{Judged, Verdict};
 use osbase::{
@@ -217,6 +216,29 @@ pub fn judge_script(
         Err(Refusal::OutOfMemory) => Err(ConfFault::NoMemory),
         Err(Refusal::Unfit) => judge_parts(alloc, objects, core, script),
     }
+}
+
+fn uses_resource(script: &[Op]) -> bool
+    ensures { result ≡ list_any uses_resource script.now }
+{
+    script.iter().any(|op| op.uses_resource())
+}
+
+/// The same of an ISR's script, which takes and gives back no resource.
+pub fn judge_isr_script(
+    alloc: Global,
+    objects: &Objects,
+    core: CoreId,
+    script: &str,
+) -> Result<Judged<Script>, ConfFault>
+    ensures { Judges result (nat_le (length (operations_of script.now)) 256) (map (op_of objects.now.declared) (operations_of script.now)) (isr_verdict objects.now.declared core script.now) }
+{
+    let Judged { value, verdict } = judge_script(alloc, objects, core, script)?;
+    let formed = verdict.formed & !uses_resource(value.as_slice());
+    Ok(Judged {
+        value,
+        verdict: Verdict { formed, ..verdict },
+    })
 }
 
 fn is_action_known(objects: &Objects, text: &str) -> bool

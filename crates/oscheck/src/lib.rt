@@ -11,6 +11,6 @@ mod table_checks;
 mod verdicts;
 
 pub use checks::{are_alarm_modes, are_mode_names, are_objects_few, fault_of, is_numbered};
-pub use judging::{judge_action, judge_counter, judge_script};
+pub use judging::{judge_action, judge_counter, judge_isr_script, judge_script};
 pub use table_checks::are_table_modes;
 pub use verdicts::{Judged, Verdict};

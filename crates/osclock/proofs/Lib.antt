@@ -4,6 +4,7 @@ pub mod Attached
 pub mod Bounds
 pub mod Beyond
 pub mod Begun
+pub mod Granted
 pub mod Asked
 pub mod Portions
 pub mod Starts

@@ -1,11 +1,11 @@
 -- The counters and alarms of a core: what is read off its history, and what each entry does to it.
-use Rattle.std.specs.Prelude.{◌≡◌, ℕ, Bool, if◌then◌else◌, IsTrue, IfSome, ◌≤◌, ◌-◌, All, is_some, Option, Some, None, List, [], filter, length, map, option_map, slice_index_or}
-use Rattle.std.specs.List.{slice_set}
+use Rattle.std.specs.Prelude.{◌≡◌, ℕ, Bool, true, if◌then◌else◌, IsTrue, IfSome, ◌≤◌, ◌-◌, All, is_some, Option, Some, None, List, [], filter, length, map, option_map, slice_index_or}
+use Rattle.std.specs.List.{list_all, slice_set}
 use Rattle.std.specs.Option.{option_map_or}
 use Rattle.osbase.specs.declared.references.AlarmRef.{AlarmRef}
 use Rattle.osbase.specs.declared.references.CounterRef.{CounterRef}
 use Rattle.osbase.specs.History.{History, Entry, Noted, Counted, AlarmSet, AlarmCancelled}
-use Rattle.osbase.specs.Counting.{AlarmSetting, alarm_of, counts_of, counts_to, is_due, is_in_use, left_of, one_count_more, value_after}
+use Rattle.osbase.specs.Counting.{AlarmSetting, alarm_of, counts_of, counts_to, is_due, is_in_turn, is_in_use, left_of, one_count_more, value_after}
 use Rattle.osbase.specs.Objects.{alarm_object, counter_object}
 use Rattle.osbase.specs.Sets.{numbers_from}
 use Rattle.osplan.specs.declared.plans.Alarm.{Alarm as AlarmValue}
@@ -86,13 +86,21 @@ abbrev pub value_by : Core → CounterRef → History → ℕ
 value_by core c h = value_after (max_of core c) (counts_of c h)
 
 abbrev pub is_in_use_by : Core → AlarmRef → History → Bool
-is_in_use_by core a h = is_in_use (max_for core a) (setting_by core a h)
+is_in_use_by core a h = is_in_use (setting_by core a h)
 
 abbrev pub left_by : Core → AlarmRef → History → Option ℕ
-left_by core a h = left_of (max_for core a) (setting_by core a h)
+left_by core a h = left_of (setting_by core a h)
 
 abbrev pub is_due_by : Core → AlarmRef → History → Bool
-is_due_by core a h = is_due (max_for core a) (option_map one_count_more (setting_by core a h))
+is_due_by core a h = is_due (option_map one_count_more (setting_by core a h))
+
+-- Each alarm was set as a service grants it. [OSEK/VDX OS 2.2.3, section 13.6.3.3 and 13.6.3.4]
+abbrev pub is_setting_granted : Core → Entry → Bool
+is_setting_granted core (Noted (AlarmSet a first cycle)) = is_in_turn (max_for core a) (setting_of first cycle)
+is_setting_granted core e = true
+
+abbrev pub are_settings_granted : Core → History → Bool
+are_settings_granted core h = list_all (is_setting_granted core) h
 
 -- After how many counts a counter has this value, the present one after a full turn; and so the counter of an alarm.
 -- [OSEK/VDX OS 2.2.3, section 13.6.3.4; AUTOSAR SWS OS 4.x, SWS_Os_00351]

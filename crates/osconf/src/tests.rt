@@ -3,6 +3,7 @@ mod counters;
 mod events;
 mod given;
 mod hostile;
+mod isrs;
 mod limits;
 mod names;
 mod numbers;
@@ -22,11 +23,12 @@ use std::test::Fail;
 const TWO_CORES: &str =
     r#"{"cores":[{"id":0,"start":[1],"tasks":[{"name":"A","prio":1,"auto":["M"],"script":"ActivateTask B;TerminateTask"}]},{"id":1,"tasks":[{"name":"B","prio":1,"script":"TerminateTask"}]}]}"#;
 
-// What a text is read as. Stimuli and schedules are of `TWO_CORES`.
+// What a text is read as. Stimuli and schedules are of `TWO_CORES`, interrupts are stimuli of `isrs::TWO_CORES`.
 #[derive(Clone, Copy)]
 enum Reader {
     Configuration,
     Stimuli,
+    Interrupts,
     Schedule,
 }
 
@@ -79,6 +81,10 @@ fn fault_of(alloc: Global, reader: Reader, text: &str) -> Result<Option<ConfFaul
         Reader::Configuration => Ok(read_config(alloc, text).err()),
         Reader::Stimuli => {
             let config = read_config(alloc, TWO_CORES)?;
+            Ok(read_stimuli(alloc, &config, text).err())
+        }
+        Reader::Interrupts => {
+            let config = configured(alloc, isrs::TWO_CORES, "")?;
             Ok(read_stimuli(alloc, &config, text).err())
         }
         Reader::Schedule => {
@@ -251,6 +257,16 @@ fn texts_with_counters(rt: HostRuntime) -> Result<(), Fail> {
         ),
     ];
     play_all(&rt, rt.alloc(), tables, 157)
+}
+
+#[test]
+fn texts_with_isrs(rt: HostRuntime) -> Result<(), Fail> {
+    let tables: &[Table] = &[
+        (Reader::Configuration, "@", isrs::TEXTS),
+        (Reader::Configuration, isrs::TWO_CORES, isrs::OPERATIONS),
+        (Reader::Interrupts, "@", isrs::INTERRUPTS),
+    ];
+    play_all(&rt, rt.alloc(), tables, 245)
 }
 
 #[test]

@@ -1,9 +1,9 @@
 -- The value at which an alarm is due, for what was counted.
-use Rattle.std.proofs.Common.{◌≡◌, ℕ, zero, suc, ◌+◌, ◌-◌, ◌<◌, ◌≤◌, ◌%◌, nat_eq, nat_le, nat_lt, Bool, true, false, true≢false, cond, ◌&&◌, ◌||◌, Option, Some, None, option_map, refl, sym, ap, ◌∙◌, arith}
+use Rattle.std.proofs.Common.{◌≡◌, ℕ, zero, suc, ◌+◌, ◌-◌, ◌<◌, ◌≤◌, ◌%◌, nat_eq, nat_le, nat_lt, Bool, true, false, true≢false, cond, ◌&&◌, ◌||◌, Option, Some, None, is_some, option_map, refl, sym, ap, ◌∙◌, arith}
 use Rattle.std.specs.Option.{option_map_or}
 use Rattle.std.proofs.Math.Nat.{mod-lt}
-use Rattle.std.proofs.lemmas.Bool.{and_parts, eqb-true, leb-true, leb-false, le-leb, lt-ltb, ltb-false, ltb-true, or_right}
-use Rattle.osbase.specs.Counting.{AlarmSetting, counts_left, counts_to, is_due, is_due_count, is_in_turn, left_of, one_count_more, will_be_due}
+use Rattle.std.proofs.lemmas.Bool.{and_parts, false≢true, eqb-true, leb-true, leb-false, le-leb, lt-ltb, ltb-false, ltb-true, or_right}
+use Rattle.osbase.specs.Counting.{AlarmSetting, counts_left, counts_to, is_due, is_due_count, is_granted, is_in_turn, is_in_use, left_of, one_count_more, will_be_due}
 use Rattle.oscount.specs.declared.counters.Counter.{Counter}
 use Rattle.oscount.specs.declared.alarms.Expiry.{Expiry}
 use Rattle.oscount.specs.declared.alarms.Alarm.{Alarm}
@@ -90,20 +90,30 @@ beyond max count (Some x) = by (is_in_turn max x) (will_be_due x) refl refl
     by true true e f = ap (λ b. cond b (due_again (counter_at max count) (record { value = (count + counts_left x) % suc max; cycle = x.cycle })) (value-of max count x)) (next-is max count x (turn-of max x e) f) ∙ of (turn-of max x e) f (nat_eq (counts_left x) 1) refl
 
 -- whether it is due at the next value
-pub next-due : (max count : ℕ) (x : Option AlarmSetting) → is_due_next (counter_at max count) (alarm_at max count x) ≡ is_due max (option_map one_count_more x)
-next-due max count None = refl
-next-due max count (Some x) = by (is_in_turn max x) (will_be_due x) refl refl
+pub next-due : (max count : ℕ) (x : Option AlarmSetting) → is_granted max x ≡ true → is_due_next (counter_at max count) (alarm_at max count x) ≡ is_due (option_map one_count_more x)
+next-due max count None granted = refl
+next-due max count (Some x) granted = by (is_in_turn max x) (will_be_due x) granted refl
   where
-    by : (turn due : Bool) → is_in_turn max x ≡ turn → will_be_due x ≡ due
-        → option_map_or (λ (e : Expiry). nat_eq e.value (wrapped max (suc (count % suc max)))) (kept-of max count x turn due) false ≡ (turn && is_due_count (one_count_more x))
-    by false due e f = refl
+    by : (turn due : Bool) → turn ≡ true → will_be_due x ≡ due
+        → option_map_or (λ (e : Expiry). nat_eq e.value (wrapped max (suc (count % suc max)))) (kept-of max count x turn due) false ≡ is_due_count (one_count_more x)
+    by false due e f = absurd (false≢true e)
     by true false e f = sym (spent x f).1
-    by true true e f = next-is max count x (turn-of max x e) f ∙ sym (due-then x f)
+    by true true e f = next-is max count x (turn-of max x granted) f ∙ sym (due-then x f)
+
+-- whether it is in use
+pub in-use : (max count : ℕ) (x : Option AlarmSetting) → is_granted max x ≡ true → is_some (expiry_at max count x) ≡ is_in_use x
+in-use max count None granted = refl
+in-use max count (Some x) granted = by (is_in_turn max x) (will_be_due x) granted
+  where
+    by : (turn due : Bool) → turn ≡ true → is_some (kept-of max count x turn due) ≡ due
+    by false due e = absurd (false≢true e)
+    by true false e = refl
+    by true true e = refl
 
 -- how many counts are left
-pub left-is : (max count : ℕ) (x : Option AlarmSetting) → option_map (counts_until (counter_at max count)) (expiry_at max count x) ≡ left_of max x
-left-is max count None = refl
-left-is max count (Some x) = by (is_in_turn max x) (will_be_due x) refl refl
+pub left-is : (max count : ℕ) (x : Option AlarmSetting) → is_granted max x ≡ true → option_map (counts_until (counter_at max count)) (expiry_at max count x) ≡ left_of x
+left-is max count None granted = refl
+left-is max count (Some x) granted = by (is_in_turn max x) (will_be_due x) granted refl
   where
     until : (v left : ℕ) → v ≤ max → 1 ≤ left → left ≤ suc max → cond (nat_lt v (wrapped max (v + left))) (wrapped max (v + left) - v) (suc max + wrapped max (v + left) - v) ≡ left
     until v left value least most = at (nat_le (v + left) max) refl
@@ -121,27 +131,29 @@ left-is max count (Some x) = by (is_in_turn max x) (will_be_due x) refl refl
         at true e = less (nat_lt v (v + left)) refl
         at false e = more (omega (arith, leb-false (v + left) max e)) (nat_lt v (v + left - suc max)) refl
 
-    by : (turn due : Bool) → is_in_turn max x ≡ turn → will_be_due x ≡ due → option_map (counts_until (counter_at max count)) (kept-of max count x turn due) ≡ cond (turn && due) (Some (counts_left x)) None
-    by false due e f = refl
+    by : (turn due : Bool) → turn ≡ true → will_be_due x ≡ due → option_map (counts_until (counter_at max count)) (kept-of max count x turn due) ≡ cond due (Some (counts_left x)) None
+    by false due e f = absurd (false≢true e)
     by true false e f = refl
     by true true e f =
-        let turn : InTurn max x = turn-of max x e in
+        let turn : InTurn max x = turn-of max x granted in
         let most : counts_left x ≤ suc max = left-most max x turn.first turn.cycle in
         let below : count % suc max < suc max = mod-lt count (omega arith) in
         ap (λ v. Some (cond (nat_lt (count % suc max) v) (v - count % suc max) (suc max + v - count % suc max))) (sym (further-mod max count (counts_left x) most))
         ∙ ap Some (until (count % suc max) (counts_left x) (omega (arith, below)) (left-least x f) most)
 
+-- what is asked of a setting grants it
+pub in-turn : (max first cycle : ℕ) → 0 < first → first ≤ suc max → cycle ≤ max → is_in_turn max (setting_of first cycle) ≡ true
+in-turn max first cycle later most within =
+    ap (λ b. b && nat_le first (suc max) && nat_le cycle max) (lt-ltb 0 first later) ∙ (ap (λ b. b && nat_le cycle max) (le-leb first (suc max) most) ∙ le-leb cycle max within)
+
 -- an alarm that is set
 pub as-set : (max count first cycle : ℕ) → 0 < first → first ≤ suc max → cycle ≤ max → expiry_at max count (Some (setting_of first cycle)) ≡ Some (record { value = (count + first) % suc max; cycle = cycle })
 as-set max count first cycle later most within =
-    ap (λ b. cond (b && will_be_due (setting_of first cycle)) (value-of max count (setting_of first cycle)) None) turn
+    ap (λ b. cond (b && will_be_due (setting_of first cycle)) (value-of max count (setting_of first cycle)) None) (in-turn max first cycle later most within)
     ∙ (ap (λ b. cond b (value-of max count (setting_of first cycle)) None) due ∙ ap (λ n. Some (record { value = (count + n) % suc max; cycle = cycle })) left)
   where
     less : nat_lt 0 first ≡ true
     less = lt-ltb 0 first later
-
-    turn : is_in_turn max (setting_of first cycle) ≡ true
-    turn = ap (λ b. b && nat_le first (suc max) && nat_le cycle max) less ∙ (ap (λ b. b && nat_le cycle max) (le-leb first (suc max) most) ∙ le-leb cycle max within)
 
     due : will_be_due (setting_of first cycle) ≡ true
     due = or_right (nat_lt 0 cycle) (nat_lt 0 first) less
@@ -199,16 +211,17 @@ pub beyond-by : (counter : Counter) (alarm : Alarm) (expiry : Expiry) (count : �
 beyond-by counter alarm expiry count x is at some =
     ap (expiry_beyond counter) (sym some ∙ ap (λ (a : Alarm). a.expiry) at) ∙ (ap (λ c. expiry_beyond c (expiry_at counter.max count x)) is ∙ beyond counter.max count x)
 
-pub due-by : (counter : Counter) (alarm : Alarm) (expiry : Expiry) (count : ℕ) (x : Option AlarmSetting) → counter ≡ counter_at counter.max count → alarm ≡ alarm_at counter.max count x → alarm.expiry ≡ Some expiry
-    → nat_eq expiry.value (advanced counter).value ≡ is_due counter.max (option_map one_count_more x)
-due-by counter alarm expiry count x is at some =
+pub due-by : (counter : Counter) (alarm : Alarm) (expiry : Expiry) (count : ℕ) (x : Option AlarmSetting) → is_granted counter.max x ≡ true → counter ≡ counter_at counter.max count → alarm ≡ alarm_at counter.max count x → alarm.expiry ≡ Some expiry
+    → nat_eq expiry.value (advanced counter).value ≡ is_due (option_map one_count_more x)
+due-by counter alarm expiry count x granted is at some =
     ap (λ e. option_map_or (is_next_value counter) e false) (sym some ∙ ap (λ (a : Alarm). a.expiry) at)
-    ∙ (ap (λ c. is_due_next c (alarm_at counter.max count x)) is ∙ next-due counter.max count x)
+    ∙ (ap (λ c. is_due_next c (alarm_at counter.max count x)) is ∙ next-due counter.max count x granted)
 
-pub left-by : (counter : Counter) (alarm : Alarm) (expiry : Expiry) (count : ℕ) (x : Option AlarmSetting) → counter ≡ counter_at counter.max count → alarm ≡ alarm_at counter.max count x → alarm.expiry ≡ Some expiry
-    → Some (counts_until counter expiry) ≡ left_of counter.max x
-left-by counter alarm expiry count x is at some =
-    ap (option_map (counts_until counter)) (sym some ∙ ap (λ (a : Alarm). a.expiry) at) ∙ (ap (λ c. option_map (counts_until c) (expiry_at counter.max count x)) is ∙ left-is counter.max count x)
+pub left-by : (counter : Counter) (alarm : Alarm) (expiry : Expiry) (count : ℕ) (x : Option AlarmSetting) → is_granted counter.max x ≡ true → counter ≡ counter_at counter.max count → alarm ≡ alarm_at counter.max count x → alarm.expiry ≡ Some expiry
+    → Some (counts_until counter expiry) ≡ left_of x
+left-by counter alarm expiry count x granted is at some =
+    ap (option_map (counts_until counter)) (sym some ∙ ap (λ (a : Alarm). a.expiry) at)
+    ∙ (ap (λ c. option_map (counts_until c) (expiry_at counter.max count x)) is ∙ left-is counter.max count x granted)
 
 pub set-by : (counter : Counter) (count first cycle value : ℕ) → counter ≡ counter_at counter.max count → 0 < first → first ≤ suc counter.max → cycle ≤ counter.max
     → value ≡ (count + first) % suc counter.max → record { expiry = Some (record { value = value; cycle = cycle }) } ≡ alarm_at counter.max count (Some (setting_of first cycle))

@@ -12,7 +12,8 @@ use Rattle.oscount.specs.declared.alarms.Alarm.{Alarm}
 abbrev pub counter_at : ℕ → ℕ → Counter
 counter_at max count = record { max = max; value = value_after max count }
 
--- The value at which an alarm is due next, after so many counts of its counter; none where it is not in use.
+-- The value at which an alarm is due next, after so many counts of its counter; none where it is not in use, or set as no service
+-- grants it.
 abbrev pub expiry_at : ℕ → ℕ → Option AlarmSetting → Option Expiry
 expiry_at max count None = None
 expiry_at max count (Some setting) =

@@ -1,7 +1,7 @@
 //! When an alarm is due.
 
-ghost use Rattle.std.specs.Prelude.{◌≡◌, ◌+◌, ◌<◌, ◌≤◌, ◌^◌, ℕ, suc, Some, None, IfSome, Option, is_some, option_map};
-ghost use Rattle.osbase.specs.Counting.{AlarmSetting, is_due, is_in_use, left_of, one_count_more};
+ghost use Rattle.std.specs.Prelude.{◌≡◌, ◌+◌, ◌<◌, ◌≤◌, ◌^◌, ℕ, suc, Some, None, IfSome, IsTrue, Option, is_some, option_map};
+ghost use Rattle.osbase.specs.Counting.{AlarmSetting, is_due, is_granted, is_in_use, left_of, one_count_more};
 ghost use Rattle.oscount.specs.Clocks.{advanced, alarm_at, alarm_beyond, alarm_due, counter_at, counts_until, due_again, expiry_beyond, is_due_next, setting_of, wrapped};
 
 use crate::counters::{self, Counter};
@@ -57,7 +57,7 @@ impl Alarm {
     /// Whether the alarm is in use (OSEK/VDX OS 2.2.3, section 9.2).
     pub fn is_in_use(self) -> bool
         ensures state { result ≡ is_some self.expiry }
-        ensures counts { (max count : ℕ) (setting : Option AlarmSetting) → self ≡ alarm_at max count setting → result ≡ is_in_use max setting }
+        ensures counts { (max count : ℕ) (setting : Option AlarmSetting) → IsTrue (is_granted max setting) → self ≡ alarm_at max count setting → result ≡ is_in_use setting }
     {
         self.expiry.is_some()
     }
@@ -67,7 +67,7 @@ impl Alarm {
         requires max { counter.max < 2 ^ 31 }
         requires value { counter.value ≤ counter.max }
         ensures state { result ≡ is_due_next counter self }
-        ensures counts { (count : ℕ) (setting : Option AlarmSetting) → counter ≡ counter_at counter.max count → self ≡ alarm_at counter.max count setting → result ≡ is_due counter.max (option_map one_count_more setting) }
+        ensures counts { (count : ℕ) (setting : Option AlarmSetting) → IsTrue (is_granted counter.max setting) → counter ≡ counter_at counter.max count → self ≡ alarm_at counter.max count setting → result ≡ is_due (option_map one_count_more setting) }
     {
         match self.expiry {
             Some(expiry) => expiry.value == next_value(counter),
@@ -81,7 +81,7 @@ impl Alarm {
         requires value { counter.value ≤ counter.max }
         requires expiry { IfSome self.expiry (λ x. x.value ≤ counter.max) }
         ensures state { result ≡ option_map (counts_until counter) self.expiry }
-        ensures counts { (count : ℕ) (setting : Option AlarmSetting) → counter ≡ counter_at counter.max count → self ≡ alarm_at counter.max count setting → result ≡ left_of counter.max setting }
+        ensures counts { (count : ℕ) (setting : Option AlarmSetting) → IsTrue (is_granted counter.max setting) → counter ≡ counter_at counter.max count → self ≡ alarm_at counter.max count setting → result ≡ left_of setting }
     {
         match self.expiry {
             Some(expiry) => Some(until(counter, expiry)),
@@ -105,7 +105,9 @@ impl Alarm {
 }
 
 impl Default for Alarm {
-    fn default() -> Self {
+    fn default() -> Self
+        ensures { result ≡ record { expiry = None } }
+    {
         Alarm::new()
     }
 }

@@ -3,6 +3,7 @@ use Rattle.std.specs.Prelude.{ℕ, ◌+◌, ◌==◌, ℤ, pos, negsuc, Bool, fa
 use Rattle.std.specs.Option.{option_map_or}
 use Rattle.osbase.specs.declared.statuses.Status.{Status}
 use Rattle.osbase.specs.declared.statuses.Status.TheVariants.{EOk}
+use Rattle.osbase.specs.declared.statuses.ServiceId.{ServiceId}
 use Rattle.osbase.specs.declared.references.Variable.{Variable}
 use Rattle.oscript.specs.declared.Op.{Op}
 use Rattle.oscript.specs.declared.Frame.{Frame}
@@ -11,9 +12,12 @@ use Rattle.oscript.specs.declared.Action.TheVariants.{Perform, End}
 use Rattle.oscript.specs.Rows.{service_of}
 use Rattle.oscript.specs.Rows.{form_of_op}
 
--- An operation that calls a service answers a status; another does not. [own]
+-- The service that an operation calls. An operation that calls one answers a status; another does not. [own]
+abbrev pub service_of_op : Op → Option ServiceId
+service_of_op op = service_of (form_of_op op).0
+
 abbrev pub op_has_status : Op → Bool
-op_has_status op = is_some (service_of (form_of_op op).0)
+op_has_status op = is_some (service_of_op op)
 
 -- The variable that gets the operation's value, if it has one. [own]
 abbrev pub result_of : Op → Option Variable

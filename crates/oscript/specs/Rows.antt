@@ -74,6 +74,8 @@ row_of Verb.StartScheduleTableAbs = service_row Service.StartScheduleTableAbs (T
 row_of Verb.NextScheduleTable = service_row Service.NextScheduleTable (Two TABLE TABLE)
 row_of Verb.StopScheduleTable = service_row Service.StopScheduleTable (One TABLE)
 row_of Verb.GetScheduleTableStatus = service_row Service.GetScheduleTableStatus (Two TABLE Kind.Variable)
+row_of Verb.SuspendAllInterrupts = plain_row (codes "SuspendAllInterrupts") Zero
+row_of Verb.ResumeAllInterrupts = plain_row (codes "ResumeAllInterrupts") Zero
 
 abbrev pub word_of : Verb → List ℕ
 word_of verb = (row_of verb).0
@@ -178,6 +180,8 @@ op_by Verb.StartScheduleTableAbs args = Op.StartScheduleTableAbs (table_at args 
 op_by Verb.NextScheduleTable args = Op.NextScheduleTable (table_at args 0) (table_at args 1)
 op_by Verb.StopScheduleTable args = Op.StopScheduleTable (table_at args 0)
 op_by Verb.GetScheduleTableStatus args = Op.GetScheduleTableStatus (table_at args 0) (variable_at args 1)
+op_by Verb.SuspendAllInterrupts args = Op.SuspendAllInterrupts
+op_by Verb.ResumeAllInterrupts args = Op.ResumeAllInterrupts
 
 -- The operation of a form. [own]
 abbrev pub op_of : Verb × List (Arg Place) → Op
@@ -232,6 +236,8 @@ form_of_op (Op.StartScheduleTableAbs target start) = (Verb.StartScheduleTableAbs
 form_of_op (Op.NextScheduleTable from to) = (Verb.NextScheduleTable, table_argument from ∷ table_argument to ∷ [])
 form_of_op (Op.StopScheduleTable target) = (Verb.StopScheduleTable, table_argument target ∷ [])
 form_of_op (Op.GetScheduleTableStatus target x) = (Verb.GetScheduleTableStatus, table_argument target ∷ Variable x.index ∷ [])
+form_of_op Op.SuspendAllInterrupts = (Verb.SuspendAllInterrupts, [])
+form_of_op Op.ResumeAllInterrupts = (Verb.ResumeAllInterrupts, [])
 
 -- ---- arguments of their kinds
 
@@ -284,6 +290,12 @@ has_event arg = true
 -- Each mask of the operation has an event. [own]
 abbrev pub has_masks : Op → Bool
 has_masks op = list_all has_event (form_of_op op).1
+
+-- The operation takes or gives back a resource. [OSEK/VDX OS 2.2.3, section 13.4]
+abbrev pub uses_resource : Op → Bool
+uses_resource (Op.GetResource target) = true
+uses_resource (Op.ReleaseResource target) = true
+uses_resource op = false
 
 -- The operation may name no object of another core: GetResource, ReleaseResource, GetEvent, GetCounterValue, and the five services of
 -- schedule tables. [own]

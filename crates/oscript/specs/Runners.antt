@@ -2,61 +2,77 @@
 --
 -- Of a runner's live jobs the oldest alone holds anything and has begun, so a runner has one row. A new reading of a runner is one
 -- more field, and a line for each entry that changes it.
-use Rattle.std.specs.Prelude.{if◌then◌else◌, Option, Some, None, List, [], ◌∷◌}
+use Rattle.std.specs.Prelude.{ℕ, suc, if◌then◌else◌, Option, Some, None, List, [], ◌∷◌}
 use Rattle.osbase.specs.declared.references.Runner.{Runner}
 use Rattle.osbase.specs.declared.histories.HeldResource.{HeldResource}
 use Rattle.osbase.specs.declared.histories.TaskEvents.{TaskEvents}
 use Rattle.osbase.specs.declared.marks.Mark.{Mark}
-use Rattle.osbase.specs.History.{History, Entry, Printed, Noted, Taken, Given, Done, no_events, same_runner, with_awaited, with_cleared, with_none_set, with_set, without_resource}
+use Rattle.osbase.specs.History.{History, Entry, Printed, Noted, Taken, Given, Locked, Unlocked, Done, no_events, same_runner, with_awaited, with_cleared, with_none_set, with_set, without_resource}
+use Rattle.osbase.specs.Interrupts.{deeper, running_job, runner_of_job, shallower}
 use Rattle.oscript.specs.declared.Op.{Op}
 use Rattle.oscript.specs.declared.Frame.{Frame}
 use Rattle.oscript.specs.Frames.{completed, new_frame, rewound}
 
--- The resources that the oldest live job of the runner holds, the newest first; the events of its task; and where that job
--- stands in its script, or its next job will begin. [OSEK/VDX OS 2.2.3, section 7 and 8; the place in a script is this project's own]
+-- The resources that the oldest live job of the runner holds, the newest first; the events of its task; where that job
+-- stands in its script, or its next job will begin; how often that job has suspended interrupts; and how many ticks of its execution
+-- budget it has used. [OSEK/VDX OS 2.2.3, section 7, 8 and 13.3; AUTOSAR SWS OS 4.x, section 7.7.2, for the budget; the place in a
+-- script and that a budget is counted in ticks are this project's own]
 pub record Row : Type 0 where
   pub held : List HeldResource
   pub events : TaskEvents
   pub frame : Frame
+  pub depth : ℕ
+  pub used : ℕ
 
--- Before its first job a runner holds nothing, has no event, and stands at the first operation.
+-- Before its first job a runner holds nothing, has no event, stands at the first operation, and has suspended and used nothing.
 abbrev pub first_row : Row
-first_row = record { held = []; events = no_events; frame = new_frame }
+first_row = record { held = []; events = no_events; frame = new_frame; depth = 0; used = 0 }
 
--- The runner whose row an entry changes, if it changes one.
-abbrev pub runner_of : Entry → Option Runner
-runner_of (Noted (Taken r x)) = Some r
-runner_of (Noted (Given r index)) = Some r
-runner_of (Noted (Done r status value)) = Some r
-runner_of (Printed (Mark.Activated t)) = Some (Runner.Task t)
-runner_of (Printed (Mark.Terminated t)) = Some (Runner.Task t)
-runner_of (Printed (Mark.IsrLeft i)) = Some (Runner.Isr i)
-runner_of (Printed (Mark.EventSet t mask)) = Some (Runner.Task t)
-runner_of (Printed (Mark.EventCleared t mask)) = Some (Runner.Task t)
-runner_of (Printed (Mark.EventAwaited t mask)) = Some (Runner.Task t)
-runner_of (Printed (Mark.Released t)) = Some (Runner.Task t)
-runner_of e = None
+-- The runner whose row an entry changes, if it changes one. A tick changes that of the one whose job is running.
+abbrev pub runner_of : Option Runner → Entry → Option Runner
+runner_of running (Noted (Taken r x)) = Some r
+runner_of running (Noted (Given r index)) = Some r
+runner_of running (Noted (Locked r)) = Some r
+runner_of running (Noted (Unlocked r)) = Some r
+runner_of running (Noted (Done r status value)) = Some r
+runner_of running (Printed (Mark.Activated t)) = Some (Runner.Task t)
+runner_of running (Printed (Mark.Terminated t)) = Some (Runner.Task t)
+runner_of running (Printed (Mark.IsrLeft i)) = Some (Runner.Isr i)
+runner_of running (Printed (Mark.EventSet t mask)) = Some (Runner.Task t)
+runner_of running (Printed (Mark.EventCleared t mask)) = Some (Runner.Task t)
+runner_of running (Printed (Mark.EventAwaited t mask)) = Some (Runner.Task t)
+runner_of running (Printed (Mark.Released t)) = Some (Runner.Task t)
+runner_of running (Printed Mark.Tick) = running
+runner_of running e = None
 
--- The row of a runner whose job has ended: the job gives back all that it held, and the next one begins at the first operation.
--- [AUTOSAR SWS OS 4.x, SWS_Os_00070, for the resources]
+-- The row of a runner whose job has ended: the job gives back all that it held and resumes interrupts, and the next one begins at
+-- the first operation, with its whole budget. [AUTOSAR SWS OS 4.x, SWS_Os_00070, for the resources]
 abbrev pub ended : Row → Row
-ended row = record row { held = []; frame = rewound row.frame }
+ended row = record row { held = []; frame = rewound row.frame; depth = 0; used = 0 }
 
--- And how it changes it, for a runner with this script: a resource is taken or given back; an operation is done; the oldest job
--- ends; events are set or cleared; the task waits, or is released. An activation leaves no event set. Only an operation that is
--- done reads the script.
--- [OSEK/VDX OS 2.2.3, section 8.2, 7 and 13.5.3; that an activation clears the events: section 13.2.3.1]
+-- The row of a runner whose job waits for events: once it is released, it has its whole budget.
+-- [OSEK/VDX OS 2.2.3, section 13.5.3.4; AUTOSAR SWS OS 4.x, SWS_Os_00473, for the budget]
+abbrev pub waiting_for : ℕ → Row → Row
+waiting_for mask row = record row { events = with_awaited (Some mask) row.events; used = 0 }
+
+-- And how it changes it, for a runner with this script: a resource is taken or given back; interrupts are suspended or resumed; an
+-- operation is done; the oldest job ends; events are set or cleared; the task waits, or is released; a tick of the budget is used. An
+-- activation leaves no event set. Only an operation that is done reads the script.
+-- [OSEK/VDX OS 2.2.3, section 8.2, 7, 13.3.2 and 13.5.3; that an activation clears the events: section 13.2.3.1]
 abbrev pub row_step : List Op → Entry → Row → Row
 row_step script (Noted (Taken r x)) row = record row { held = x ∷ row.held }
 row_step script (Noted (Given r index)) row = record row { held = without_resource index row.held }
+row_step script (Noted (Locked r)) row = record row { depth = deeper row.depth }
+row_step script (Noted (Unlocked r)) row = record row { depth = shallower row.depth }
 row_step script (Noted (Done r status value)) row = record row { frame = completed script row.frame status value }
 row_step script (Printed (Mark.Activated t)) row = record row { events = with_none_set row.events }
 row_step script (Printed (Mark.Terminated t)) row = ended row
 row_step script (Printed (Mark.IsrLeft i)) row = ended row
 row_step script (Printed (Mark.EventSet t mask)) row = record row { events = with_set mask row.events }
 row_step script (Printed (Mark.EventCleared t mask)) row = record row { events = with_cleared mask row.events }
-row_step script (Printed (Mark.EventAwaited t mask)) row = record row { events = with_awaited (Some mask) row.events }
+row_step script (Printed (Mark.EventAwaited t mask)) row = waiting_for mask row
 row_step script (Printed (Mark.Released t)) row = record row { events = with_awaited None row.events }
+row_step script (Printed Mark.Tick) row = record row { used = suc row.used }
 row_step script e row = row
 
 -- What an entry does to the row of this runner: nothing, if it is another one's or nobody's.
@@ -64,10 +80,10 @@ abbrev pub row_by : List Op → Runner → Entry → Option Runner → Row → R
 row_by script r e None row = row
 row_by script r e (Some q) row = if same_runner q r then row_step script e row else row
 
-abbrev pub row_after : List Op → Runner → Entry → Row → Row
-row_after script r e row = row_by script r e (runner_of e) row
+abbrev pub row_after : List Op → Runner → Option Runner → Entry → Row → Row
+row_after script r running e row = row_by script r e (runner_of running e) row
 
 -- The row of the runner, with this script, after a history. The code keeps the row and no history.
 abbrev pub row_of : List Op → Runner → History → Row
 row_of script r [] = first_row
-row_of script r (e ∷ h) = row_after script r e (row_of script r h)
+row_of script r (e ∷ h) = row_after script r (runner_of_job (running_job h)) e (row_of script r h)

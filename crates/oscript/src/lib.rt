@@ -5,10 +5,12 @@ pub mod calls;
 pub mod rows;
 
 ghost use Rattle.std.specs.Prelude.{◌≡◌, ◌<◌, ◌^◌};
-ghost use Rattle.oscript.specs.Frames.{action_at, completed, new_frame, op_has_status, place_after, position_of, result_of, rewound, stored, value_of, with_value};
+ghost use Rattle.oscript.specs.Frames.{action_at, completed, new_frame, op_has_status, place_after, position_of, result_of, rewound, service_of_op, stored, value_of, with_value};
 
 pub use calls::{action_of_op, call_of_op, is_action, is_activation, op_of_call};
-use osbase::{AlarmRef, CounterRef, List, ResourceRef, Status, TableRef, TaskRef, Variable};
+use osbase::{
+    AlarmRef, CounterRef, List, ResourceRef, ServiceId, Status, TableRef, TaskRef, Variable,
+};
 pub use rows::{Arg, Args, Form, Kind, Row, VERBS, Verb, form_of_op, op_of, row_of, verb_of};
 
 /// One operation of a script. In place of an object, `None` is the invalid identifier, `?`.
@@ -73,14 +75,25 @@ pub enum Op {
     StopScheduleTable(Option<TableRef>),
     /// GetScheduleTableStatus: the variable gets the number of the status (AUTOSAR SWS OS 4.x, SWS_Os_00227).
     GetScheduleTableStatus(Option<TableRef>, Variable),
+    /// SuspendAllInterrupts (OSEK/VDX OS 2.2.3, section 13.3.2.3).
+    SuspendAllInterrupts,
+    /// ResumeAllInterrupts (OSEK/VDX OS 2.2.3, section 13.3.2.4).
+    ResumeAllInterrupts,
 }
 
 impl Op {
+    /// The service that the operation calls, if it is one that answers a status.
+    pub fn service(self) -> Option<ServiceId>
+        ensures { result ≡ service_of_op self }
+    {
+        row_of(verb_of(self)).service
+    }
+
     /// Whether the operation is a service that answers a status.
     pub fn has_status(self) -> bool
         ensures { result ≡ op_has_status self }
     {
-        row_of(verb_of(self)).service.is_some()
+        self.service().is_some()
     }
 
     /// The variable that gets the operation's value, if it has one.

@@ -2,7 +2,7 @@
 //! that it names.
 
 ghost use Rattle.std.specs.Prelude.{◌≡◌, List, [], ◌∷◌, filter_map, option_map, slice_get};
-ghost use Rattle.oscript.specs.Rows.{alarm_argument, form_of_op, form_view, has_masks, int_at, items, mask_at, names_own_only, number_at, object_in, objects_of, op_of, place_at, plain_row, ref_argument, ref_at, row_of, row_view, service_row, variable_at};
+ghost use Rattle.oscript.specs.Rows.{alarm_argument, form_of_op, form_view, has_masks, int_at, items, mask_at, names_own_only, number_at, object_in, objects_of, op_of, place_at, plain_row, ref_argument, ref_at, row_of, row_view, service_row, uses_resource, variable_at};
 
 use crate::Op;
 use osbase::{AlarmRef, Object, ObjectKind, Place, Reference, ServiceId, Variable};
@@ -62,6 +62,8 @@ pub enum Verb {
     NextScheduleTable,
     StopScheduleTable,
     GetScheduleTableStatus,
+    SuspendAllInterrupts,
+    ResumeAllInterrupts,
 }
 
 /// One row of the grammar: an operation's word, the kinds of its arguments, and the service that it
@@ -74,7 +76,7 @@ pub struct Row {
 }
 
 /// Every operation. A word is looked for from the front, so what scripts have most stands first.
-pub const VERBS: [Verb; 28] = [
+pub const VERBS: [Verb; 30] = [
     Verb::ActivateTask,
     Verb::TerminateTask,
     Verb::Work,
@@ -103,6 +105,8 @@ pub const VERBS: [Verb; 28] = [
     Verb::NextScheduleTable,
     Verb::StopScheduleTable,
     Verb::GetScheduleTableStatus,
+    Verb::SuspendAllInterrupts,
+    Verb::ResumeAllInterrupts,
 ];
 
 /// A task's name, or `?`.
@@ -195,6 +199,8 @@ pub fn row_of(verb: Verb) -> Row
             ServiceId::GetScheduleTableStatus,
             Args::Two(TABLE, Kind::Variable),
         ),
+        Verb::SuspendAllInterrupts => plain_row("SuspendAllInterrupts", Args::Zero),
+        Verb::ResumeAllInterrupts => plain_row("ResumeAllInterrupts", Args::Zero),
     }
 }
 
@@ -347,6 +353,8 @@ pub fn op_of(form: Form<Place>) -> Op
         Verb::GetScheduleTableStatus => {
             Op::GetScheduleTableStatus(ref_at(args, 0), variable_at(args, 1))
         }
+        Verb::SuspendAllInterrupts => Op::SuspendAllInterrupts,
+        Verb::ResumeAllInterrupts => Op::ResumeAllInterrupts,
     }
 }
 
@@ -405,6 +413,8 @@ pub fn verb_of(op: Op) -> Verb
         Op::NextScheduleTable(_, _) => Verb::NextScheduleTable,
         Op::StopScheduleTable(_) => Verb::StopScheduleTable,
         Op::GetScheduleTableStatus(_, _) => Verb::GetScheduleTableStatus,
+        Op::SuspendAllInterrupts => Verb::SuspendAllInterrupts,
+        Op::ResumeAllInterrupts => Verb::ResumeAllInterrupts,
     }
 }
 
@@ -426,6 +436,7 @@ fn args_of(op: Op) -> Args<Arg<Place>>
 {
     match op {
         Op::Work | Op::TerminateTask | Op::Schedule => Args::Zero,
+        Op::SuspendAllInterrupts | Op::ResumeAllInterrupts => Args::Zero,
         Op::Set(x, n) => two(variable_argument(x), Arg::Int(n)),
         Op::Add(x, n) => two(variable_argument(x), Arg::Int(n)),
         Op::AddVariable(x, y) => two(variable_argument(x), variable_argument(y)),
@@ -505,6 +516,17 @@ impl Op {
             Op::ClearEvent(mask) => mask >= 1,
             Op::WaitEvent(mask) => mask >= 1,
             _ => true,
+        }
+    }
+
+    /// Whether the operation takes or gives back a resource.
+    pub fn uses_resource(self) -> bool
+        ensures { result ≡ uses_resource self }
+    {
+        match self {
+            Op::GetResource(_) => true,
+            Op::ReleaseResource(_) => true,
+            _ => false,
         }
     }
 

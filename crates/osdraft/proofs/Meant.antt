@@ -1,9 +1,9 @@
 -- What a text without a fault means is a configuration with the text's numbers: it keeps the limits, and a text can say it.
-use Rattle.std.proofs.Common.{◌≡◌, ℕ, ◌&&◌, Bool, true, cond, count_by, sum_by, List, [], ◌∷◌, map, Option, Some, None, is_some, option_map, unwrap_or, refl, sym, ap, ◌∙◌, arith, ◌≤◌, ◌-◌, nat_le, ◌||◌, not}
+use Rattle.std.proofs.Common.{◌≡◌, ℕ, ◌&&◌, Bool, true, cond, count_by, sum_by, List, [], ◌∷◌, map, Option, Some, None, is_some, option_map, unwrap_or, refl, sym, ap, ◌∙◌, arith, ◌≤◌, ◌-◌, nat_le, ◌||◌, length, not}
 use Rattle.std.proofs.lemmas.Bool.Decides.{nat_tests}
 use Rattle.std.specs.List.{find, list_all, sum, AllByRecursion, flat_map}
 use Rattle.std.proofs.lemmas.Bool.{and_parts, leb-true, and_from, true≢false}
-use Rattle.oscheck.specs.Words.{Alarm, AlarmText, Core, CoreText, Declaration, ObjectKind, Op, Place, PointText, RemoteCall, TableText, AlarmStartText, ConfigText, CoreId, CounterText, Plan, ResourceText, Table, TableStart, TableStartText, TaskText, ModeId, Task, AlarmStart, ExpiryPoint, Counter, Named, Resource}
+use Rattle.oscheck.specs.Words.{Alarm, AlarmText, Core, CoreText, Declaration, ObjectKind, Op, Place, PointText, RemoteCall, TableText, AlarmStartText, ConfigText, CoreId, CounterText, Plan, ResourceText, Table, TableStart, TableStartText, TaskText, ModeId, Task, AlarmStart, ExpiryPoint, Isr, IsrText, Named}
 use Rattle.oscript.specs.Calls.{action_of_op}
 use Rattle.osforms.specs.Action.{is_action, is_action_op}
 use Rattle.osforms.specs.Operation.{op_meant, has_masks}
@@ -11,9 +11,9 @@ use Rattle.osplan.specs.Expressible.{are_distinct, mode_name, is_only_mode}
 use Rattle.osplan.specs.Objects.{greatest_of, names_in, table_actions}
 use Rattle.osplan.proofs.Tests.{all-both, all-flat, any-find, any-mapped}
 use Rattle.oscheck.specs.Action.{action_of, any_action, is_action_known, is_action_masked}
-use Rattle.oscheck.specs.Check.{task_sizes, counter_sizes, start_sizes, alarm_sizes, point_sizes, table_sizes, core_sizes, sizes_of, numbers_of, is_core_timed, is_each_once, are_timed, is_core_near, is_core_script, is_operation_near, is_script_near, is_task_script, is_text_within, are_known, are_near, are_masks, are_operations, tests_of}
+use Rattle.oscheck.specs.Check.{core_scripts, isr_sizes, is_isr_script, task_sizes, counter_sizes, start_sizes, alarm_sizes, point_sizes, table_sizes, core_sizes, sizes_of, numbers_of, is_core_timed, is_each_once, are_timed, is_core_near, is_core_script, is_operation_near, is_script_near, is_task_script, is_text_within, are_known, are_near, are_masks, are_operations, tests_of}
 use Rattle.osshape.specs.Declarations.{has_name, id_of, is_alone, place_alone, place_of, names_of, byte_of, number_id, word_of, declarations, counter_ref, declared_by}
-use Rattle.osdraft.specs.Meaning.{alarm_plan, core_plan, point_plan, table_plan, task_plan, resource_plan, counter_plan, start_plan, table_start_plan, plan_of, only_mode}
+use Rattle.osdraft.specs.Meaning.{alarm_plan, core_plan, isr_plan, point_plan, table_plan, task_plan, resource_plan, counter_plan, start_plan, table_start_plan, plan_of, only_mode}
 use Rattle.oscheck.specs.Posted.{greatest_posted, is_posting, posted_at, posted_at_once}
 use Rattle.osdraft.proofs.Alarms.{acted, action-meant, action-acts, action-passes, action-keeps}
 use Rattle.osshape.proofs.Alone.{alone}
@@ -22,9 +22,10 @@ use Rattle.std.proofs.lemmas.List.Sums.{sum-map}
 use Rattle.std.proofs.Math.Path.{fun_ext}
 use Rattle.osshape.proofs.Lists.{map-same, list_all-by, map-back, all-apart, all-same, list_all-total, list_any-by}
 use Rattle.std.specs.Option.{option_map_or}
-use Rattle.std.proofs.lemmas.List.{length-map}
+use Rattle.osplan.proofs.Scripts.{all_scripts}
+use Rattle.std.proofs.lemmas.List.{length-map, map-append}
 use Rattle.std.proofs.lemmas.List.Folds.{list_all-map, flat_map-map}
-use Rattle.osplan.specs.Limits.{CounterSizes, PointSizes, Sizes, StartSizes, TableSizes, TaskSizes, first_offset, is_cycle, is_start_by, is_start_within, is_table_start, most_activations, are_ascending, are_numbers_distinct, is_alarm_within, is_between, is_ceiling, is_counter_within, is_point_within, is_start, is_table_start_within, is_timed_by, is_table_timed, is_table_within, is_task_within, is_within, last_offset, number_of, same_number, has_number}
+use Rattle.osplan.specs.Limits.{CounterSizes, IsrSizes, PointSizes, Sizes, StartSizes, TableSizes, TaskSizes, first_offset, is_cycle, is_start_by, is_start_within, is_table_start, most_activations, are_ascending, are_numbers_distinct, is_alarm_within, is_between, is_ceiling, is_counter_within, is_isr_within, is_point_within, is_start, is_table_start_within, is_timed_by, is_table_timed, is_table_within, is_task_within, is_within, last_offset, number_of, same_number, has_number}
 use Rattle.osplan.specs.View.{counter_in}
 use Rattle.oscheck.specs.Operation.{operations_of, op_of, is_operation}
 use Rattle.oscheck.proofs.Numbers.{most}
@@ -32,7 +33,7 @@ use Rattle.osdraft.proofs.Found.{IsByte, IsWord, is-byte, is-word, is_inside, co
 use Rattle.oscheck.proofs.Numbers.{offsets-low}
 use Rattle.osplan.specs.Objects as plans
 use Rattle.osplan.specs.Limits as limits
-use Rattle.oscheck.specs.Verdict.{action_verdict, alarm_verdict, core_verdict, point_verdict, table_verdict, text_verdict, task_verdict}
+use Rattle.oscheck.specs.Verdict.{action_verdict, alarm_verdict, core_verdict, point_verdict, table_verdict, text_verdict, isr_verdict, task_verdict}
 use Rattle.osforms.proofs.Alike.{named-same}
 use Rattle.oscheck.proofs.Operations.{stays-alike}
 use Rattle.osbase.specs.Objects.{counter_object}
@@ -110,8 +111,15 @@ module _ (objects : List Declaration) (apart : are_distinct (names_of objects) �
 few-activations : (extended : Bool) → most_activations extended ≤ 64
 few-activations extended = grind arith
 
-pub task-bytes : (s : TaskSizes) → is_task_within s ≡ true → IsByte s.priority × IsByte s.activations
-task-bytes s h = (is-byte 0 31 s.priority (grind arith) (omega arith), is-byte 1 (most_activations s.extended) s.activations (grind arith) (omega (arith, few-activations s.extended)))
+pub task-bytes : (s : TaskSizes) → is_task_within s ≡ true → IsByte s.priority × IsByte s.activations × IsWord s.budget
+task-bytes s h = (
+  is-byte 0 31 s.priority (grind arith) (omega arith),
+  is-byte 1 (most_activations s.extended) s.activations (grind arith) (omega (arith, few-activations s.extended)),
+  is-word 0 1000000000 s.budget (grind arith) (omega arith),
+)
+
+pub isr-bytes : (s : IsrSizes) → is_isr_within s ≡ true → IsByte s.level × IsWord s.budget
+isr-bytes s h = (is-byte 1 16 s.level (grind arith) (omega arith), is-word 0 1000000000 s.budget (grind arith) (omega arith))
 
 pub counter-words : (s : CounterSizes) → is_counter_within s ≡ true → IsWord s.max × IsWord s.min
 counter-words s h =
@@ -183,7 +191,26 @@ module _ (objects : List Declaration) where
       let bytes = task-bytes (task_sizes task) h in
       let priority : Some (byte_of task.prio) ≡ task.prio = bytes.0 in
       let activations : Some (byte_of task.activations) ≡ task.activations = bytes.1 in
-      rw (priority, activations, length-map (operations_of task.script) (op_of objects)) refl
+      let budget : Some (word_of task.budget) ≡ task.budget = bytes.2 in
+      rw (priority, activations, budget) refl
+
+  isr-numbers : (isr : IsrText) → is_isr_within (isr_sizes isr) ≡ true → limits.isr_sizes (isr_plan objects isr) ≡ isr_sizes isr
+  isr-numbers isr h =
+      let bytes = isr-bytes (isr_sizes isr) h in
+      let level : Some (byte_of isr.level) ≡ isr.level = bytes.0 in
+      let budget : Some (word_of isr.budget) ≡ isr.budget = bytes.1 in
+      rw (level, budget) refl
+
+  abbrev script_plan : List ℕ → List Op
+  script_plan script = map (op_of objects) (operations_of script)
+
+  scripts-planned : (core : CoreText) → plans.core_scripts (core_plan objects core) ≡ map script_plan (core_scripts core)
+  scripts-planned core = simp (map-append, map-map)
+
+  scripts-numbers : (core : CoreText) → map (λ (script : List Op). length script) (plans.core_scripts (core_plan objects core)) ≡ map (λ (script : List ℕ). length (operations_of script)) (core_scripts core)
+  scripts-numbers core =
+      ap (map (λ (script : List Op). length script)) (scripts-planned core)
+      ∙ map-same (λ (script : List Op). length script) script_plan (λ (script : List ℕ). length (operations_of script)) (λ _. true) (λ script e. length-map (operations_of script) (op_of objects)) (core_scripts core) (always (core_scripts core))
 
   resource-numbers : (resource : ResourceText) → is_ceiling resource.ceiling ≡ true → limits.ceiling_of (resource_plan resource) ≡ resource.ceiling
   resource-numbers resource h = is-byte _ _ resource.ceiling h (omega arith)
@@ -255,12 +282,14 @@ module _ (objects : List Declaration) where
           number,
           map-back number_of number_id is_start (λ n low. is-byte _ _ n low (omega arith)) core.start (grind arith),
           map-same limits.task_sizes (task_plan objects) task_sizes (λ task. is_task_within (task_sizes task)) task-numbers core.tasks (sym (list_all-map is_task_within task_sizes core.tasks) ∙ grind arith),
+          map-same limits.isr_sizes (isr_plan objects) isr_sizes (λ isr. is_isr_within (isr_sizes isr)) isr-numbers core.isrs (sym (list_all-map is_isr_within isr_sizes core.isrs) ∙ grind arith),
           map-same limits.ceiling_of resource_plan (λ (resource : ResourceText). resource.ceiling) (λ (resource : ResourceText). is_ceiling resource.ceiling) resource-numbers core.resources
               (sym (list_all-map is_ceiling (λ (resource : ResourceText). resource.ceiling) core.resources) ∙ grind arith),
           counters-numbers core inside,
           map-same (limits.alarm_sizes (counter_in plan)) (alarm_plan objects (id_of core)) (alarm_sizes objects) (is_sound_alarm (id_of core)) (alarm-numbers (id_of core)) core.alarms (all-both _ _ core.alarms objects_right.alarms within),
           map-same (limits.table_sizes (counter_in plan)) (table_plan objects (id_of core)) (table_sizes objects) (is_sound_table (id_of core)) (table-numbers (id_of core)) core.tables (sound-tables core inside timed right),
           posted-same objects apart core right,
+          scripts-numbers core,
         ) refl
 
     core-numbers : (core : CoreText) → is_sound objects core ≡ true → limits.core_sizes plan (core_plan objects core) ≡ core_sizes objects core
@@ -314,8 +343,11 @@ near-core : (objects : List Declaration) (core : CoreText) → is_core_script ob
 near-core objects core formed =
     let id = id_of core in
     rw (
+      all_scripts (list_all (limits.stays_on id)) (core_plan objects core),
       all-same (λ (task : Task). list_all (limits.stays_on id) task.script) (task_plan objects) (λ (task : TaskText). is_script_near objects id task.script) (is_task_script objects)
           (λ task e. near-ops objects id (operations_of task.script) (grind arith)) core.tasks (grind arith),
+      all-same (λ (isr : Isr). list_all (limits.stays_on id) isr.script) (isr_plan objects) (λ (isr : IsrText). is_script_near objects id isr.script) (λ (isr : IsrText). is_isr_script objects isr.script)
+          (λ isr e. near-ops objects id (operations_of isr.script) (grind arith)) core.isrs (grind arith),
       list_all-map (limits.is_alarm_near id) (alarm_plan objects id) core.alarms,
       list_all-map (limits.is_table_near id) (table_plan objects id) core.tables,
     ) refl
@@ -371,12 +403,23 @@ module _ (t : ConfigText) (places : (kind : ObjectKind) (name : List ℕ) (place
   task-kept : (id : CoreId) (task : TaskText) → (is_name task.name && is_right (task_verdict objects id task)) ≡ true → (limits.is_task_known plan (task_plan objects task) && said.is_task_expressible (task_plan objects task)) ≡ true
   task-kept id task h =
       let texts = operations_of task.script in
-      let known = list_all-total (limits.is_op_known plan) (op_of objects) op-known texts in
       let formed = list_all-total is_in_form (op_of objects) op-formed texts in
       let masked = list_all-by has_masks rows.has_masks (op_of objects) op-masked texts (grind arith) in
       let modes = list_all-total (limits.is_mode plan) (λ (name : List ℕ). only_mode) (λ name. refl) task.auto in
       let only = list_all-total is_only_mode (λ (name : List ℕ). only_mode) (λ name. refl) task.auto in
-      grind (arith, known, formed, masked, modes, only)
+      grind (arith, formed, masked, modes, only)
+
+  isr-kept : (id : CoreId) (isr : IsrText) → (is_name isr.name && is_right (isr_verdict objects id isr.script)) ≡ true → said.is_isr_expressible (isr_plan objects isr) ≡ true
+  isr-kept id isr h =
+      let texts = operations_of isr.script in
+      let formed = list_all-total is_in_form (op_of objects) op-formed texts in
+      let masked = list_all-by has_masks rows.has_masks (op_of objects) op-masked texts (grind arith) in
+      grind (arith, formed, masked)
+
+  scripts-known : (core : CoreText) → list_all (limits.is_script_known plan) (plans.core_scripts (core_plan objects core)) ≡ true
+  scripts-known core =
+      ap (list_all (limits.is_script_known plan)) (scripts-planned objects core)
+      ∙ list_all-total (limits.is_script_known plan) (script_plan objects) (λ script. list_all-total (limits.is_op_known plan) (op_of objects) op-known (operations_of script)) (core_scripts core)
 
   counter-known : (id : CoreId) (name : List ℕ) (o : Option Place) → place_of objects ObjectKind.Counter name ≡ o → is_some o ≡ true → limits.is_object plan (counter_object (counter_ref objects id name)) ≡ true
   counter-known id name None found there = absurd (true≢false (sym there))
@@ -428,11 +471,12 @@ module _ (t : ConfigText) (places : (kind : ObjectKind) (name : List ℕ) (place
       let right = core-right objects core both.1 in
       let named = every-kind (λ (kind : ObjectKind). list_all (λ (named : Named). is_name named.name) (objects_in kind core)) both.0 in
       let tasks = each-kept (λ (task : TaskText). unnumbered task.name) (λ (task : TaskText). is_right (task_verdict objects id task)) (task_plan objects) (limits.is_task_known plan) said.is_task_expressible (task-kept id) core.tasks (named ObjectKind.Task) right.tasks in
+      let isrs = each-kept (λ (isr : IsrText). unnumbered isr.name) (λ (isr : IsrText). is_right (isr_verdict objects id isr.script)) (isr_plan objects) (λ _. true) said.is_isr_expressible (isr-kept id) core.isrs (named ObjectKind.Isr) right.isrs in
       let resources = each-kept (λ (resource : ResourceText). unnumbered resource.name) (λ (resource : ResourceText). true) resource_plan (λ _. true) said.is_resource_expressible (λ resource e. grind arith) core.resources (named ObjectKind.Resource) (always core.resources) in
       let counters = each-kept numbered (λ (counter : CounterText). true) counter_plan (λ _. true) said.is_counter_expressible (λ counter e. grind arith) core.counters (named ObjectKind.Counter) (always core.counters) in
       let alarms = each-kept (λ (alarm : AlarmText). unnumbered alarm.name) (λ (alarm : AlarmText). is_right (alarm_verdict objects id alarm)) (alarm_plan objects id) (limits.is_alarm_known plan) said.is_alarm_expressible (alarm-kept id) core.alarms (named ObjectKind.Alarm) right.alarms in
       let tables = each-kept (λ (table : TableText). unnumbered table.name) (λ (table : TableText). is_right (table_verdict objects id table)) (table_plan objects id) (limits.is_table_known plan) said.is_table_expressible (table-kept id) core.tables (named ObjectKind.Table) right.tables in
-      grind (arith, tasks, resources, counters, alarms, tables)
+      grind (arith, scripts-known core, tasks, isrs, resources, counters, alarms, tables)
 
 master-found : (objects : List Declaration) (cores : List CoreText) (number : Option ℕ) → has_number (numbers_of cores) number ≡ true
     → is_some (find (λ (c : Core). same_core c.id (number_id number)) (map (core_plan objects) cores)) ≡ true

@@ -1,11 +1,11 @@
 -- What is right of a text, but for where its names stand: what is right of the whole is right of each part.
 use Rattle.std.proofs.Common.{◌≡◌, ◌&&◌, Bool, true, is_some, List, [], ◌∷◌, refl, sym, ◌∙◌, arith}
 use Rattle.std.specs.List.{list_all}
-use Rattle.oscheck.specs.Words.{AlarmText, CoreId, CoreText, Declaration, ObjectKind, PointText, TableText, TaskText}
+use Rattle.oscheck.specs.Words.{AlarmText, CoreId, CoreText, Declaration, IsrText, ObjectKind, PointText, TableText, TaskText}
 use Rattle.oscheck.specs.declared.verdicts.Verdict.{Verdict}
 use Rattle.oscheck.specs.Action.{is_action_known, is_action_masked}
 use Rattle.oscheck.specs.Check.{alarm_modes, is_mode_name, is_point_known, is_table_acting, is_table_masked, table_modes}
-use Rattle.oscheck.specs.Verdict.{action_verdict, alarm_verdict, core_verdict, each, point_verdict, table_verdict, task_verdict}
+use Rattle.oscheck.specs.Verdict.{action_verdict, alarm_verdict, core_verdict, each, isr_verdict, point_verdict, table_verdict, task_verdict}
 use Rattle.osforms.specs.Action.{is_action}
 use Rattle.osshape.specs.Declarations.{id_of, place_of}
 
@@ -44,12 +44,14 @@ table-parts objects id table h =
 -- Of a core, those of its objects that say anything but numbers.
 pub record CoreRight (objects : List Declaration) (core : CoreText) : Type 0 where
   pub tasks : list_all (λ (task : TaskText). is_right (task_verdict objects (id_of core) task)) core.tasks ≡ true
+  pub isrs : list_all (λ (isr : IsrText). is_right (isr_verdict objects (id_of core) isr.script)) core.isrs ≡ true
   pub alarms : list_all (λ (alarm : AlarmText). is_right (alarm_verdict objects (id_of core) alarm)) core.alarms ≡ true
   pub tables : list_all (λ (table : TableText). is_right (table_verdict objects (id_of core) table)) core.tables ≡ true
 
 pub core-right : (objects : List Declaration) (core : CoreText) → is_right (core_verdict objects core) ≡ true → CoreRight objects core
 core-right objects core h = record {
   tasks = of-each (task_verdict objects (id_of core)) core.tasks (grind arith);
+  isrs = of-each (λ (isr : IsrText). isr_verdict objects (id_of core) isr.script) core.isrs (grind arith);
   alarms = of-each (alarm_verdict objects (id_of core)) core.alarms (grind arith);
   tables = of-each (table_verdict objects (id_of core)) core.tables (grind arith);
 }

@@ -1,7 +1,7 @@
 -- The configuration that a text means, and the faults that a text has. [own]
 use Rattle.std.specs.Prelude.{ℕ, Option, option_and_then, option_map, List, [], ◌∷◌, map}
 use Rattle.std.specs.Option.{option_map_or}
-use Rattle.oscheck.specs.Words.{Alarm, AlarmStart, AlarmStartText, AlarmText, ConfigText, Core, CoreId, CoreText, Counter, CounterText, Declaration, ExpiryPoint, ModeId, Plan, PointText, Resource, ResourceText, Table, TableStart, TableStartText, TableText, Task, TaskText}
+use Rattle.oscheck.specs.Words.{Alarm, AlarmStart, AlarmStartText, AlarmText, ConfigText, Core, CoreId, CoreText, Counter, CounterText, Declaration, ExpiryPoint, Isr, IsrText, ModeId, Plan, PointText, Resource, ResourceText, Table, TableStart, TableStartText, TableText, Task, TaskText}
 use Rattle.osbase.specs.declared.items.CoreMode.TheVariants.{Named}
 use Rattle.serde_json.specs.Data.{Data}
 use Rattle.serde_json.specs.Read.{read}
@@ -27,7 +27,16 @@ task_plan objects task = record {
   activations = byte_of task.activations;
   extended = task.extended;
   preemptable = task.preemptable;
+  budget = word_of task.budget;
   script = map (op_of objects) (operations_of task.script);
+}
+
+abbrev pub isr_plan : List Declaration → IsrText → Isr
+isr_plan objects isr = record {
+  name = isr.name;
+  level = byte_of isr.level;
+  budget = word_of isr.budget;
+  script = map (op_of objects) (operations_of isr.script);
 }
 
 abbrev pub resource_plan : ResourceText → Resource
@@ -70,9 +79,10 @@ core_plan objects core = record {
   id = id_of core;
   mode = Named only_mode;
   start = map number_id core.start;
+  protection = core.protection;
   tasks = map (task_plan objects) core.tasks;
+  isrs = map (isr_plan objects) core.isrs;
   resources = map resource_plan core.resources;
-  isrs = [];
   counters = map counter_plan core.counters;
   alarms = map (alarm_plan objects (id_of core)) core.alarms;
   tables = map (table_plan objects (id_of core)) core.tables;

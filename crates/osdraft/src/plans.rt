@@ -3,19 +3,20 @@
 ghost use Rattle.std.specs.Prelude.{◌≡◌, ℕ, IfOk, List as Items, map, option_map, true};
 ghost use Rattle.osshape.specs.Declarations.{declarations, number_id};
 ghost use Rattle.oscheck.specs.Check.{are_scripts_short, is_core_short, is_script_short};
-ghost use Rattle.oscheck.specs.Verdict.{Judges, alarm_verdict, all_right, core_verdict, task_verdict, text_verdict};
-ghost use Rattle.osdraft.specs.Meaning.{only_mode, task_plan, resource_plan, counter_plan, start_plan, alarm_plan, core_plan, plan_of};
+ghost use Rattle.oscheck.specs.Verdict.{Judges, alarm_verdict, all_right, core_verdict, isr_verdict, task_verdict, text_verdict};
+ghost use Rattle.osdraft.specs.Meaning.{only_mode, task_plan, isr_plan, resource_plan, counter_plan, start_plan, alarm_plan, core_plan, plan_of};
 
 use crate::planners::{Planner, plan_each};
 use osbase::{CoreId, CoreMode, List, ModeId, Name};
 use oscheck::{
-    Judged, Verdict, are_alarm_modes, are_mode_names, judge_action, judge_counter, judge_script,
+    Judged, Verdict, are_alarm_modes, are_mode_names, judge_action, judge_counter,
+    judge_isr_script, judge_script,
 };
-use osplan::{Alarm, AlarmStart, ConfFault, Core, Counter, Plan, Resource, Task};
+use osplan::{Alarm, AlarmStart, ConfFault, Core, Counter, Isr, Plan, Resource, Task};
 use osread::{Text, Whole};
 use osshape::{
-    AlarmStartText, AlarmText, ConfigText, CoreText, CounterText, MODE, Objects, ResourceText,
-    TaskText, byte_of, number_id, word_of,
+    AlarmStartText, AlarmText, ConfigText, CoreText, CounterText, IsrText, MODE, Objects,
+    ResourceText, TaskText, byte_of, number_id, word_of,
 };
 use std::alloc::{AllocError, Global};
 
@@ -41,7 +42,7 @@ impl<'e> Planner<'e, TaskText<'e>, Task> for CorePlanner<'_, 'e> {
 
     ghost right = { λ planner. task_verdict planner.objects.now.declared planner.core };
 
-    ghost is_short = { λ _ task. is_script_short task };
+    ghost is_short = { λ _ task. is_script_short task.script };
 
     fn plan(&self, alloc: Global, task: &'e TaskText<'e>) -> Result<Judged<Task>, ConfFault> {
         let script = judge_script(alloc, self.objects, self.core, task.script.as_str())?;
@@ -53,11 +54,33 @@ impl<'e> Planner<'e, TaskText<'e>, Task> for CorePlanner<'_, 'e> {
                 activations: byte_of(task.activations),
                 extended: task.extended,
                 preemptable: task.preemptable,
+                budget: word_of(task.budget),
                 script: script.value,
             },
             verdict: script
                 .verdict
                 .with_names(are_mode_names(task.auto.as_slice())),
+        })
+    }
+}
+
+impl<'e> Planner<'e, IsrText<'e>, Isr> for CorePlanner<'_, 'e> {
+    ghost made = { λ planner. isr_plan planner.objects.now.declared };
+
+    ghost right = { λ planner isr. isr_verdict planner.objects.now.declared planner.core isr.script };
+
+    ghost is_short = { λ _ isr. is_script_short isr.script };
+
+    fn plan(&self, alloc: Global, isr: &'e IsrText<'e>) -> Result<Judged<Isr>, ConfFault> {
+        let script = judge_isr_script(alloc, self.objects, self.core, isr.script.as_str())?;
+        Ok(Judged {
+            value: Isr {
+                name: Name::new(alloc, isr.name.as_str())?,
+                level: byte_of(isr.level),
+                budget: word_of(isr.budget),
+                script: script.value,
+            },
+            verdict: script.verdict,
         })
     }
 }
@@ -184,6 +207,7 @@ impl<'e> Planner<'e, CoreText<'e>, Core> for TextPlanner<'_, 'e> {
             core: id,
         };
         let tasks = plan_each(alloc, &planner, core.tasks.as_slice())?;
+        let isrs = plan_each(alloc, &planner, core.isrs.as_slice())?;
         let resources = plan_each(alloc, &planner, core.resources.as_slice())?;
         let counters = plan_each(alloc, &planner, core.counters.as_slice())?;
         let alarms = plan_each(alloc, &planner, core.alarms.as_slice())?;
@@ -193,14 +217,19 @@ impl<'e> Planner<'e, CoreText<'e>, Core> for TextPlanner<'_, 'e> {
                 id,
                 mode: CoreMode::Named(ONLY_MODE),
                 start: List::from_vec(ids_of(alloc, core.start.as_slice())?),
+                protection: core.protection,
                 tasks: tasks.value,
+                isrs: isrs.value,
                 resources: resources.value,
-                isrs: List::new(alloc),
                 counters: counters.value,
                 alarms: alarms.value,
                 tables: tables.value,
             },
-            verdict: tasks.verdict.and(alarms.verdict).and(tables.verdict),
+            verdict: tasks
+                .verdict
+                .and(isrs.verdict)
+                .and(alarms.verdict)
+                .and(tables.verdict),
         })
     }
 }

@@ -4,8 +4,9 @@ use Rattle.std.specs.Str.{bytes_eq}
 use Rattle.std.proofs.lemmas.Bool.{cases_Bool}
 use Rattle.osbase.specs.declared.objects.ObjectKind.{ObjectKind}
 use Rattle.osbase.specs.declared.objects.Place.{Place}
+use Rattle.osbase.proofs.Same.{same_kind-self}
 use Rattle.osbase.specs.Names.{is_name}
-use Rattle.oscript.specs.Rows.{kinds_of, op_of, word_of}
+use Rattle.oscript.specs.Rows.{kinds_of, op_of, ref_at, word_of}
 use Rattle.oscript.specs.declared.rows.TheConstants.{VERBS}
 use Rattle.oscript.specs.declared.rows.Kind.{Kind}
 use Rattle.oscript.specs.declared.rows.Verb.{Verb}
@@ -24,6 +25,10 @@ find-passes p (y ∷ ys) x e =
       | inl passes ↦ let here : find p (y ∷ ys) ≡ Some y = rw passes refl in let same : y ≡ x = cc in subst (λ z. p z ≡ true) same passes
       | inr fails ↦ let later : find p (y ∷ ys) ≡ find p ys = rw fails refl in find-passes p ys x (sym later ∙ e)
     ]
+
+pub mapped_twice : {A B C : Type 0} (g : B → C) (f : A → B) (o : Option A) → option_map g (option_map f o) ≡ option_map (λ a. g (f a)) o
+mapped_twice g f None = refl
+mapped_twice g f (Some a) = refl
 
 module _ (place : ObjectKind → List ℕ → Option Place) where
   pair : (o : Option (Arg (List ℕ))) (r : Option (List (Arg (List ℕ)))) → option_and_then (resolve_args place) (and_then_rest o r) ≡ and_then_rest (option_and_then (resolve_arg place) o) (option_and_then (resolve_args place) r)
@@ -47,6 +52,15 @@ module _ (place : ObjectKind → List ℕ → Option Place) where
   last_meant k text =
       sym (lone (arg_of k text)) ∙ ap (option_and_then (resolve_args place)) (sym (last-word k text)) ∙ meant-args (k ∷ []) (words_of text)
 
+  target-ref : {R : Type 0} (ref_of : Place → R) (k : ObjectKind) (o : Option (Option Place)) → option_map (option_map ref_of) o ≡ option_map (λ args. ref_at k ref_of args 0) (option_map last_of (option_map (Object k) o))
+  target-ref ref_of k None = refl
+  target-ref ref_of k (Some target) = rw (same_kind-self k) refl
+
+  -- The object that is left for a last argument, as a reference.
+  pub last_ref : {R : Type 0} (ref_of : Place → R) (k : ObjectKind) (text : List ℕ) (o : Option (Option Place)) → option_map (Object k) o ≡ arg_meant place (Kind.Object k) text → option_map (option_map ref_of) o ≡ option_map (λ args. ref_at k ref_of args 0) (args_meant place (Kind.Object k ∷ []) (words_of text))
+  last_ref ref_of k text o e =
+      target-ref ref_of k o ∙ ap (option_map (λ args. ref_at k ref_of args 0)) (ap (option_map last_of) e ∙ last_meant (Kind.Object k) text)
+
   -- Where a text is left, an argument is too many.
   pub none_left : (text : List ℕ) → args_meant place [] (words_of text) ≡ None
   none_left text = sym (meant-args [] (words_of text)) ∙ ap (option_and_then (resolve_args place)) (args_left text)
@@ -55,15 +69,11 @@ module _ (place : ObjectKind → List ℕ → Option Place) where
   with-args verb None = refl
   with-args verb (Some args) = refl
 
-  mapped-twice : (verb : Verb) (o : Option (List (Arg Place))) → option_map op_of (option_map (λ args. (verb, args)) o) ≡ option_map (λ args. op_of (verb, args)) o
-  mapped-twice verb None = refl
-  mapped-twice verb (Some args) = refl
-
   by-verb : (words : List (List ℕ)) (o : Option Verb) → option_map op_of (option_and_then (resolved place) (option_and_then (form_of_verb words) o)) ≡ option_and_then (verb_meant place words) o
   by-verb words None = refl
   by-verb words (Some verb) =
       ap (option_map op_of) (with-args verb (args_of (kinds_of verb) words))
-      ∙ mapped-twice verb (option_and_then (resolve_args place) (args_of (kinds_of verb) words))
+      ∙ mapped_twice op_of (λ args. (verb, args)) (option_and_then (resolve_args place) (args_of (kinds_of verb) words))
       ∙ ap (option_map (λ args. op_of (verb, args))) (meant-args (kinds_of verb) words)
 
   -- An operation by its words.

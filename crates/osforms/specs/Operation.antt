@@ -61,13 +61,9 @@ two_of two = two.0 ∷ two.1 ∷ []
 abbrev pub three_of : Arg Place × Arg Place × Arg Place → List (Arg Place)
 three_of three = three.0 ∷ three.1 ∷ three.2 ∷ []
 
--- The operation of a verb whose arguments have these kinds, and their words.
-abbrev pub form_meant : (ObjectKind → List ℕ → Option Place) → List Kind → List (List ℕ) → Verb → Option Op
-form_meant place kinds words verb = option_map (λ args. op_of (verb, args)) (args_meant place kinds words)
-
 -- The operation of a verb and the words of its arguments.
 abbrev pub verb_meant : (ObjectKind → List ℕ → Option Place) → List (List ℕ) → Verb → Option Op
-verb_meant place words verb = form_meant place (kinds_of verb) words verb
+verb_meant place words verb = option_map (λ args. op_of (verb, args)) (args_meant place (kinds_of verb) words)
 
 -- Every name has the same place, so that a text is judged whatever its names stand for.
 abbrev pub place_of_any : ObjectKind → List ℕ → Option Place
@@ -80,7 +76,7 @@ is_formed text = is_some (form_of text)
 -- ---- what is judged beside the ranges of numbers. All of it is asked of one reading of the words, in which a number is any
 -- decimal one, so that no number hides a fault of a name or of a mask.
 
--- As a mask is: whether a number is in its range is asked apart. [own]
+-- A kind for which any decimal number will do, as for a mask: whether a number is in its range is asked apart. [own]
 abbrev pub unranged : Kind → Kind
 unranged (Kind.Number low high) = Kind.Mask
 unranged kind = kind
@@ -111,7 +107,7 @@ verb_named place words verb = option_map (λ args. op_of (verb, args)) (option_a
 abbrev pub op_named : (ObjectKind → List ℕ → Option Place) → List ℕ → Option Op
 op_named place text = of_first (verb_named place) None (words_of text)
 
--- Each mask of a text is in its range, whatever its names stand for. A text that names no operation has no masks.
+-- Each mask of a text is in its range, whatever its names stand for. A text that is not in form has no masks.
 abbrev pub has_masks : List ℕ → Bool
 has_masks text = option_map_or rows.has_masks (op_named place_of_any text) true
 

@@ -1,30 +1,27 @@
 //! Reading: operations in form, with the places of their names.
 
 ghost use Rattle.std.specs.Prelude.{◌≡◌, ◌∷◌, [], map, option_map, List};
+ghost use Rattle.oscript.specs.declared.rows.Arg.{Arg};
 ghost use Rattle.oscript.specs.declared.rows.Kind.{Kind};
-ghost use Rattle.oscript.specs.Rows.{word_of, items};
+ghost use Rattle.oscript.specs.Rows.{items, ref_at, word_of};
 ghost use Rattle.osforms.specs.Form.{first_read, rest_words, verb_and_words, words_behind, words_of};
-ghost use Rattle.osforms.specs.Operation.{arg_meant, args_after, args_meant, form_meant, has_masks, is_known, last_of, op_meant, op_named, three_of, two_of, unranged, verb_meant, verb_named};
+ghost use Rattle.osforms.specs.Operation.{arg_meant, args_after, args_meant, has_masks, is_known, last_of, op_meant, op_named, three_of, two_of, unranged, verb_meant, verb_named};
 
 use crate::numbers::{int_of, mask_of, number_in, variable_of};
 use crate::places::{AnyName, Places};
 use crate::words::cut;
-use osbase::{ObjectKind, Place};
+use osbase::{ObjectKind, Place, Reference};
 use oscript::{Arg, Args, Form, Kind, Op, VERBS, Verb, op_of, row_of};
 
-// A place's name is in form, so it is not judged again.
+// The object of a name; none for `?`. A place's name is in form, so it is not judged again.
 #[inline(always)]
-fn object_meant<P: Places>(places: &P, kind: ObjectKind, word: &str) -> Option<Arg<Place>>
-    ensures { result ≡ arg_meant (P.place places.now) (Kind.Object kind) word.now }
+fn target_meant<P: Places>(places: &P, kind: ObjectKind, word: &str) -> Option<Option<Place>>
+    ensures { option_map (Arg.Object kind) result ≡ arg_meant (P.place places.now) (Kind.Object kind) word.now }
 {
     if let Some(place) = places.place(kind, word) {
-        return Some(Arg::Object(kind, Some(place)));
+        return Some(Some(place));
     }
-    if word == "?" {
-        Some(Arg::Object(kind, None))
-    } else {
-        None
-    }
+    if word == "?" { Some(None) } else { None }
 }
 
 #[inline(always)]
@@ -32,7 +29,7 @@ fn arg_meant<P: Places>(places: &P, kind: Kind, word: &str) -> Option<Arg<Place>
     ensures { result ≡ arg_meant (P.place places.now) kind word.now }
 {
     match kind {
-        Kind::Object(kind) => object_meant(places, kind, word),
+        Kind::Object(kind) => Some(Arg::Object(kind, target_meant(places, kind, word)?)),
         Kind::Mask => Some(Arg::Mask(mask_of(word)?)),
         Kind::Number(low, high) => {
             let n = number_in(u64::from(low), u64::from(high), word)?;
@@ -172,44 +169,48 @@ fn first_verb(text: &str) -> Option<(Verb, Option<&str>)>
     first_of(&VERBS, text)
 }
 
-// The operation of a verb whose arguments have these kinds.
+// The operation of a verb, whatever its arguments are.
 #[inline(never)]
-fn form_meant<P: Places>(
-    places: &P,
-    verb: Verb,
-    kinds: Args<Kind>,
-    rest: Option<&str>,
-) -> Option<Op>
-    ensures { result ≡ form_meant (P.place places.now) (items kinds) (rest_words rest.entry) verb }
+fn form_meant<P: Places>(places: &P, verb: Verb, rest: Option<&str>) -> Option<Op>
+    ensures { result ≡ verb_meant (P.place places.now) (rest_words rest.entry) verb }
 {
-    match args_meant(places, kinds, rest) {
+    match args_meant(places, row_of(verb).kinds, rest) {
         Some(args) => Some(op_of(Form { verb, args })),
         None => None,
     }
 }
 
-// The same for an argument of one kind.
+// The last word as the reference to an object.
 #[inline(always)]
-fn single_meant<P: Places>(places: &P, verb: Verb, kind: Kind, rest: Option<&str>) -> Option<Op>
-    ensures { result ≡ form_meant (P.place places.now) (kind ∷ []) (rest_words rest.entry) verb }
+fn ref_meant<P: Places, R: Reference>(places: &P, rest: Option<&str>) -> Option<Option<R>>
+    ensures { result ≡ option_map (λ args. ref_at R.KIND R.ref_of args 0) (args_meant (P.place places.now) (Kind.Object R.KIND ∷ []) (rest_words rest.entry)) }
 {
-    match last_arg(places, kind, rest) {
-        Some(a) => Some(op_of(Form {
-            verb,
-            args: Args::One(a),
-        })),
+    match rest {
+        Some(word) => match target_meant(places, R::KIND, word) {
+            Some(Some(place)) => Some(Some(R::at(place))),
+            Some(None) => Some(None),
+            None => None,
+        },
         None => None,
     }
 }
 
-// Most operations have one argument, so it is read here, and the others by a call, which costs these nothing.
+// Most operations have one argument, an object. They are read here straight, and the others by a call, which costs these
+// nothing.
+#[tactic(auto, using(crate::proofs::Meant::mapped_twice))]
 #[inline(always)]
 fn verb_meant<P: Places>(places: &P, verb: Verb, rest: Option<&str>) -> Option<Op>
     ensures { result ≡ verb_meant (P.place places.now) (rest_words rest.entry) verb }
 {
-    match row_of(verb).kinds {
-        Args::One(kind) => single_meant(places, verb, kind, rest),
-        kinds => form_meant(places, verb, kinds, rest),
+    match verb {
+        Verb::ActivateTask => Some(Op::ActivateTask(ref_meant(places, rest)?)),
+        Verb::ChainTask => Some(Op::ChainTask(ref_meant(places, rest)?)),
+        Verb::GetResource => Some(Op::GetResource(ref_meant(places, rest)?)),
+        Verb::ReleaseResource => Some(Op::ReleaseResource(ref_meant(places, rest)?)),
+        Verb::IncrementCounter => Some(Op::IncrementCounter(ref_meant(places, rest)?)),
+        Verb::CancelAlarm => Some(Op::CancelAlarm(ref_meant(places, rest)?)),
+        Verb::StopScheduleTable => Some(Op::StopScheduleTable(ref_meant(places, rest)?)),
+        _ => form_meant(places, verb, rest),
     }
 }
 

@@ -2,25 +2,30 @@
 use Rattle.std.proofs.Common.{◌≡◌, ℕ, ◌≤◌, ◌^◌, Bool, true, false, nat_le, cond, Option, Some, None, option_map, List, [], ◌∷◌, length, refl, sym, ap, subst, ◌∙◌, arith}
 use Rattle.std.specs.List.{list_all}
 use Rattle.std.specs.Option.{option_map_or}
-use Rattle.std.specs.Prelude.{find, unwrap_or}
+use Rattle.std.specs.Prelude.{codes, drop, find, is_some, take, unwrap_or}
+use Rattle.std.specs.Str.{bytes_eq}
 use Rattle.std.proofs.lemmas.Bool.{and_parts, leb-true}
 use Rattle.std.proofs.lemmas.Option.{option_and_then_some, same_Some}
 use Rattle.osbase.specs.declared.references.CoreId.{CoreId}
+use Rattle.osbase.specs.declared.references.IsrRef.{IsrRef}
 use Rattle.osbase.specs.declared.items.Stimulus.{Stimulus}
+use Rattle.osbase.specs.declared.items.Stimulus.TheVariants.{Irq, Op, Tick}
 use Rattle.osbase.specs.declared.turns.CoreStimuli.{CoreStimuli}
 use Rattle.osbase.specs.History.{same_core}
 use Rattle.osbase.specs.Runs.{stimuli_of}
 use Rattle.osbase.proofs.Same.{same_core-true}
 use Rattle.osplan.specs.declared.plans.Core.{Core}
+use Rattle.osplan.specs.declared.plans.Isr.{Isr}
 use Rattle.osplan.specs.declared.plans.Plan.{Plan}
 use Rattle.osplan.specs.Stimuli.{AreKnown, knows_stimulus}
-use Rattle.osplan.specs.View.{core_of, no_core, view_of}
+use Rattle.osplan.specs.View.{core_of, no_core, own_isr, view_of}
 use Rattle.osplan.proofs.Tests.{find-holds}
 use Rattle.serde_json.specs.Data.{Data}
 use Rattle.serde_json.specs.Find.{as_str, as_object}
-use Rattle.osgiven.specs.Given.{are_stimuli_within, core_named, core_stimuli_of, has_words_within, stimuli_of_data, stimuli_of_text, stimulus_meant, stimulus_of}
+use Rattle.osgiven.specs.Given.{are_stimuli_within, core_named, core_stimuli_of, has_words_within, is_isr_named, isr_named, stimuli_of_data, stimuli_of_text, stimulus_of}
 use Rattle.osgiven.specs.Word.{core_number}
-use Rattle.osread.specs.Reading.{each, parts_of, value_if}
+use Rattle.osgiven.proofs.Interrupts.{refs_from}
+use Rattle.osread.specs.Reading.{each, parts_of}
 use Rattle.osread.specs.Json.{entries}
 
 -- each element was read
@@ -37,11 +42,23 @@ own-named plan digits core e = option_and_then_some _ (core_number digits) core 
     subst (λ (id : CoreId). core_of plan id ≡ Some core) (sym (same_core-true core.id (record { number = number }) (find-holds (λ (k : Core). same_core k.id (record { number = number })) plan.cores core found))) found)
 
 known-word : (core : Core) (word : List ℕ) (s : Stimulus) → stimulus_of core word ≡ Some s → knows_stimulus core s ≡ true
-known-word core word s e = option_and_then_some (λ (x : Stimulus). value_if (knows_stimulus core x) x) (stimulus_meant word) s e (λ x meant known. by x (knows_stimulus core x) refl known)
+known-word core word s e = by (bytes_eq word (codes "op")) (bytes_eq word (codes "tick")) (bytes_eq (take 4 word) (codes "irq=")) e
   where
-    by : (x : Stimulus) (b : Bool) → knows_stimulus core x ≡ b → value_if b x ≡ Some s → knows_stimulus core s ≡ true
-    by x true is e = subst (λ (y : Stimulus). knows_stimulus core y ≡ true) (same_Some _ _ e) is
-    by x false is e = cc
+    own : (i : IsrRef) (o : Option Isr) → own_isr core i ≡ o → option_map_or (λ (isr : Isr). bytes_eq isr.name (drop 4 word)) o false ≡ true → is_some (own_isr core i) ≡ true
+    own i None is h = cc
+    own i (Some isr) is h = ap is_some is
+
+    interrupt : (o : Option IsrRef) → isr_named core (drop 4 word) ≡ o → option_map Irq o ≡ Some s → knows_stimulus core s ≡ true
+    interrupt None found e = cc
+    interrupt (Some i) found e =
+        subst (λ (x : Stimulus). knows_stimulus core x ≡ true) (same_Some _ _ e)
+        (own i (own_isr core i) refl (find-holds (is_isr_named core (drop 4 word)) (refs_from core 0) i found))
+
+    by : (op tick irq : Bool) → cond op (Some Op) (cond tick (Some Tick) (cond irq (option_map Irq (isr_named core (drop 4 word))) None)) ≡ Some s → knows_stimulus core s ≡ true
+    by true tick irq e = subst (λ (x : Stimulus). knows_stimulus core x ≡ true) (same_Some _ _ e) refl
+    by false true irq e = subst (λ (x : Stimulus). knows_stimulus core x ≡ true) (same_Some _ _ e) refl
+    by false false true e = interrupt (isr_named core (drop 4 word)) refl e
+    by false false false e = cc
 
 abbrev AreWords : Core → List Stimulus → ℕ → Type 0
 AreWords core ss n = (list_all (knows_stimulus core) ss ≡ true) × (length ss ≡ n)

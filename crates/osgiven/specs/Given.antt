@@ -1,19 +1,22 @@
 -- The stimuli and the schedule that texts mean for a configuration, and the faults that they have. [own]
-use Rattle.std.specs.Prelude.{ℕ, ◌==◌, nat_le, Bool, true, not, is_some, Option, Some, None, option_and_then, unwrap_or, if◌then◌else◌, List, [], ◌∷◌, length, take, drop, position, codes}
+use Rattle.std.specs.Prelude.{ℕ, ◌==◌, nat_le, Bool, true, not, is_some, Option, Some, None, option_and_then, unwrap_or, if◌then◌else◌, false, List, [], ◌∷◌, length, map, find, option_map, take, drop, position, codes}
 use Rattle.std.specs.Char.{is_ascii_digit}
 use Rattle.std.specs.Option.{option_map_or}
 use Rattle.std.specs.List.{list_all}
 use Rattle.std.specs.Str.{bytes_eq}
+use Rattle.osbase.specs.Sets.{numbers_from}
+use Rattle.osbase.specs.declared.limits.TheConstants.{ISRS}
 use Rattle.osbase.specs.declared.references.CoreId.{CoreId}
+use Rattle.osbase.specs.declared.references.IsrRef.{IsrRef}
 use Rattle.osbase.specs.declared.items.Stimulus.{Stimulus}
-use Rattle.osbase.specs.declared.items.Stimulus.TheVariants.{Op, Tick}
+use Rattle.osbase.specs.declared.items.Stimulus.TheVariants.{Op, Tick, Irq}
 use Rattle.osbase.specs.declared.turns.CoreStimuli.{CoreStimuli}
 use Rattle.osbase.specs.declared.turns.Choice.{Choice}
 use Rattle.osbase.specs.declared.turns.Choice.TheVariants.{Own, Serve, Look}
 use Rattle.osplan.specs.declared.plans.Core.{Core}
+use Rattle.osplan.specs.declared.plans.Isr.{Isr}
 use Rattle.osplan.specs.declared.plans.Plan.{Plan}
-use Rattle.osplan.specs.Stimuli.{knows_stimulus}
-use Rattle.osplan.specs.View.{core_of}
+use Rattle.osplan.specs.View.{core_of, own_isr}
 use Rattle.serde_json.specs.Data.{Data}
 use Rattle.serde_json.specs.Read.{read}
 use Rattle.serde_json.specs.Find.{as_str, as_object}
@@ -21,7 +24,7 @@ use Rattle.osplan.specs.declared.faults.ConfFault.{ConfFault}
 use Rattle.osplan.specs.declared.faults.ConfFault.TheVariants.{NotJson, Limit, BadStimulus, BadSchedule}
 use Rattle.osplan.specs.Fault.{Tests, failing}
 use Rattle.osgiven.specs.Word.{core_number}
-use Rattle.osread.specs.Reading.{◌>>=◌, each, parts_of, value_if}
+use Rattle.osread.specs.Reading.{◌>>=◌, each, parts_of}
 use Rattle.osread.specs.Json.{entries}
 use Rattle.osplan.specs.Fault.{if_faultless}
 
@@ -33,15 +36,21 @@ core_named plan digits = do
 
 -- ---- stimuli: an object from core numbers to words
 
--- What a word means.
-abbrev pub stimulus_meant : List ℕ → Option Stimulus
-stimulus_meant word = if bytes_eq word (codes "op") then Some Op else (if bytes_eq word (codes "tick") then Some Tick else None)
+-- The ISR is the core's own, and has this name.
+abbrev pub is_isr_named : Core → List ℕ → IsrRef → Bool
+is_isr_named core name isr = option_map_or (λ (own : Isr). bytes_eq own.name name) (own_isr core isr) false
 
--- What it means to a core: a stimulus that the core knows, so that whatever is read may be played.
+-- The core's ISR of a name.
+abbrev pub isr_named : Core → List ℕ → Option IsrRef
+isr_named core name = find (is_isr_named core name) (map (λ (index : ℕ). record { core = core.id; index = index }) (numbers_from 0 ISRS))
+
+-- What a word means to a core: an interrupt is `irq=` and the name of one of its ISRs. The core knows it, so whatever is read may be
+-- played.
 abbrev pub stimulus_of : Core → List ℕ → Option Stimulus
-stimulus_of core word = do
-  stimulus ← stimulus_meant word
-  value_if (knows_stimulus core stimulus) stimulus
+stimulus_of core word =
+    if bytes_eq word (codes "op") then Some Op
+    else (if bytes_eq word (codes "tick") then Some Tick
+    else (if bytes_eq (take 4 word) (codes "irq=") then option_map Irq (isr_named core (drop 4 word)) else None))
 
 abbrev pub stimuli_of_text : Core → List ℕ → Option (List Stimulus)
 stimuli_of_text core text = each (stimulus_of core) (parts_of 32 text)

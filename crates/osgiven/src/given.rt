@@ -13,14 +13,17 @@ ghost use Rattle.osplan.specs.Stimuli.{AreKnown};
 ghost use Rattle.osread.specs.Reading.{Gives, each};
 ghost use Rattle.osread.specs.Json.{entries};
 ghost use Rattle.osplan.specs.Fault.{GivesOr, IsLeast};
-ghost use Rattle.osgiven.specs.Given.{core_named, stimulus_meant, stimulus_of, core_stimuli_of, stimuli_of_data, has_words_within, are_stimuli_within, schedule_of_data, digits_in, served, choice_of, turn_of, stimuli_meant, stimuli_faults, schedule_meant, schedule_faults};
+ghost use Rattle.osgiven.specs.Given.{core_named, is_isr_named, isr_named, stimulus_of, core_stimuli_of, stimuli_of_data, has_words_within, are_stimuli_within, schedule_of_data, digits_in, served, choice_of, turn_of, stimuli_meant, stimuli_faults, schedule_meant, schedule_faults};
 ghost use Rattle.osgiven.specs.Walk.{IsStep};
 ghost use Rattle.serde_json.specs.Read.{read};
 ghost use Rattle.serde_json.specs.View.{view, members_view};
 
 use crate::walks::{WordReader, cut_at_space, read_words};
 use crate::words::core_number;
-use osbase::{Choice, CoreId, CoreStimuli, List as Items, Schedule, Stimuli, Stimulus, Turn};
+use osbase::{
+    Choice, CoreId, CoreStimuli, ISRS, IsrRef, List as Items, Schedule, Stimuli, Stimulus, Turn,
+};
+use osplan::own::isr_of;
 use osplan::{ConfFault, Config, Core, Plan};
 use osread::{Refusal, part_count, value_of};
 use serde_json::{Map, Value};
@@ -52,25 +55,41 @@ fn core_named<'p>(plan: &'p Plan, digits: &[u8]) -> Option<&'p Core>
     plan.core(CoreId { number })
 }
 
-fn stimulus_meant(word: &[u8]) -> Option<Stimulus>
-    ensures { result ≡ stimulus_meant word.now }
+// Whether the ISR is the core's own, and has this name.
+fn is_isr_named(core: &Core, name: &[u8], isr: IsrRef) -> bool
+    ensures { result ≡ is_isr_named core.now name.now isr }
+{
+    match isr_of(core, isr) {
+        Some(own) => own.name.as_str().as_bytes() == name,
+        None => false,
+    }
+}
+
+// The core's ISR of this name.
+fn isr_named(core: &Core, name: &[u8]) -> Option<IsrRef>
+    ensures { result ≡ isr_named core.now name.now }
+{
+    for index in 0..ISRS as u8 {
+        let isr = IsrRef {
+            core: core.id,
+            index,
+        };
+        if is_isr_named(core, name, isr) {
+            return Some(isr);
+        }
+    }
+    None
+}
+
+// The stimulus of this word.
+fn stimulus_of(core: &Core, word: &[u8]) -> Option<Stimulus>
+    ensures { result ≡ stimulus_of core.now word.now }
 {
     match word {
         [b'o', b'p'] => Some(Stimulus::Op),
         [b't', b'i', b'c', b'k'] => Some(Stimulus::Tick),
+        [b'i', b'r', b'q', b'=', name @ ..] => Some(Stimulus::Irq(isr_named(core, name)?)),
         _ => None,
-    }
-}
-
-// The stimulus of this word, if the core knows it.
-fn stimulus_of(core: &Core, word: &[u8]) -> Option<Stimulus>
-    ensures { result ≡ stimulus_of core.now word.now }
-{
-    let stimulus = stimulus_meant(word)?;
-    if core.knows(stimulus) {
-        Some(stimulus)
-    } else {
-        None
     }
 }
 

@@ -1,24 +1,33 @@
 -- The live jobs of a core: what each entry of the history does to them, and which of them runs.
-use Rattle.std.specs.Prelude.{ℕ, ◌<◌, Bool, true, false, Option, Some, None, List, [], ◌∷◌, filter, replicate}
+use Rattle.std.specs.Prelude.{ℕ, ◌<◌, nat_lt, Bool, true, false, if◌then◌else◌, Option, Some, None, List, [], ◌∷◌, filter, replicate}
+use Rattle.std.specs.Option.{option_map_or, option_or}
+use Rattle.osbase.specs.declared.references.IsrRef.{IsrRef}
 use Rattle.osbase.specs.declared.references.TaskRef.{TaskRef}
 use Rattle.osbase.specs.declared.references.Runner.{Runner}
 use Rattle.osbase.specs.declared.histories.Job.{Job}
 use Rattle.osbase.specs.declared.marks.Mark.{Mark}
 use Rattle.osbase.specs.declared.limits.TheConstants.{RUNNERS}
 use Rattle.osbase.specs.History.{Entry, jobs_after, current_after, giving_way_after, oldest_of, first_greatest, same_runner}
+use Rattle.osbase.specs.Interrupts.{entered_after, isr_jobs_after, oldest_entered, runner_of_job}
 use Rattle.oscript.specs.declared.Op.{Op}
 use Rattle.oscript.specs.Runners.{Row, first_row, runner_of}
 use Rattle.osplan.specs.declared.plans.Core.{Core}
-use Rattle.osrunner.specs.Rows.{rows_by}
-use Rattle.osjobs.specs.Priorities.{is_able_in, priority_by, raised_of}
+use Rattle.osrunner.specs.Rows.{depth_in, rows_by}
+use Rattle.osjobs.specs.Priorities.{is_able_in, level_by, priority_by, raised_of}
 
--- The live jobs in the order of their stamps, the task in the running state, the runner that gives way within the item in
--- hand, and the row of each of the core's tasks and ISRs, by their places.
+-- The live jobs of ISRs in the order of their stamps, and the ISRs whose oldest job was started, the last one first.
+pub record IsrState : Type 0 where
+  pub live : List Job
+  pub entered : List IsrRef
+
+-- The live jobs of tasks in the order of their stamps, the task in the running state, the runner that gives way within the item in
+-- hand, the row of each of the core's tasks and ISRs, by their places, and the jobs of ISRs.
 pub record JobState : Type 0 where
   pub jobs : List Job
   pub current : Option TaskRef
   pub giving_way : Option Runner
   pub rows : List Row
+  pub isrs : IsrState
 
 -- Every one of these jobs.
 abbrev pub Each : (Job → Type 0) → List Job → Type 0
@@ -30,27 +39,44 @@ abbrev pub Ascending : List Job → Type 0
 Ascending [] = Unit {0}
 Ascending (j ∷ js) = Each (λ (k : Job). j.stamp < k.stamp) js × Ascending js
 
+-- ---- who runs
+
+-- The job of the task in the running state. [OSEK/VDX OS 2.2.3, section 4.2]
+abbrev pub current_among : JobState → Option Job
+current_among s = oldest_of s.current s.jobs
+
+-- The running job: that of the ISR that was started last, or else the current one. [OSEK/VDX OS 2.2.3, section 4.2 and 6]
+abbrev pub running_among : JobState → Option Job
+running_among s = option_or (oldest_entered s.isrs.entered s.isrs.live) (current_among s)
+
 -- ---- what an entry does
 
+abbrev pub isrs_by : Entry → ℕ → IsrState → IsrState
+isrs_by e stamp s = record { live = isr_jobs_after e stamp s.live; entered = entered_after e s.entered }
+
 -- The jobs after an entry: each reading goes on by its step. The stamp is that of a job which the entry begins; of the
--- entries only an activation begins one, and a release gives one a new stamp. The script is that of the entry's runner; only an
--- operation that is done reads it. [own]
+-- entries only an activation and an interrupt begin one, and a release gives one a new stamp. The script is that of the entry's runner;
+-- only an operation that is done reads it. [own]
 abbrev pub jobs_by : List Op → Entry → ℕ → JobState → JobState
 jobs_by script e stamp s = record {
   jobs = jobs_after e stamp s.jobs;
   current = current_after e s.current;
   giving_way = giving_way_after e s.giving_way;
-  rows = rows_by script e (runner_of e) s.rows;
+  rows = rows_by script e (runner_of (runner_of_job (running_among s)) e) s.rows;
+  isrs = isrs_by e stamp s.isrs;
 }
 
 -- No job yet.
 abbrev pub first_jobs : JobState
-first_jobs = record { jobs = []; current = None; giving_way = None; rows = replicate RUNNERS first_row }
+first_jobs = record { jobs = []; current = None; giving_way = None; rows = replicate RUNNERS first_row; isrs = record { live = []; entered = [] } }
 
--- A mark that begins and ends no job, by which no task enters or leaves the running state, and that changes no row.
+-- A mark that begins and ends no job, by which no task enters or leaves the running state and no ISR is started, and that changes no
+-- row.
 abbrev pub is_plain : Mark → Bool
 is_plain (Mark.Activated t) = false
 is_plain (Mark.Terminated t) = false
+is_plain (Mark.InterruptAccepted i) = false
+is_plain (Mark.IsrEntered i) = false
 is_plain (Mark.IsrLeft i) = false
 is_plain (Mark.PreTaskHook t) = false
 is_plain (Mark.PostTaskHook t) = false
@@ -58,6 +84,7 @@ is_plain (Mark.EventSet t mask) = false
 is_plain (Mark.EventCleared t mask) = false
 is_plain (Mark.EventAwaited t mask) = false
 is_plain (Mark.Released t) = false
+is_plain Mark.Tick = false
 is_plain m = true
 
 -- ---- what is asked
@@ -67,14 +94,21 @@ abbrev pub is_current : Option TaskRef → Runner → Bool
 is_current None r = false
 is_current (Some t) r = same_runner r (Runner.Task t)
 
--- The running job. [OSEK/VDX OS 2.2.3, section 4.2]
-abbrev pub running_among : JobState → Option Job
-running_among s = oldest_of s.current s.jobs
-
 -- The job that is raised.
 abbrev pub raised_among : Core → JobState → Option Job
-raised_among core s = raised_of core s.giving_way (running_among s)
+raised_among core s = raised_of core s.giving_way (current_among s)
 
--- The job to run: of the able jobs of greatest current priority the oldest. [OSEK/VDX OS 2.2.3, section 4.4 and 4.5]
+-- The job has suspended interrupts. [OSEK/VDX OS 2.2.3, section 13.3.2.3]
+abbrev pub is_locked_in : List Row → Option Job → Bool
+is_locked_in rows job = option_map_or (λ (j : Job). nat_lt 0 (depth_in j.runner rows)) job false
+
+-- Of the able jobs of tasks those of greatest current priority, and of these the oldest. [OSEK/VDX OS 2.2.3, section 4.4 and 4.5]
+abbrev pub best_task_among : Core → JobState → Option Job
+best_task_among core s = first_greatest (priority_by core s.jobs s.rows (raised_among core s)) (filter (is_able_in s.jobs s.rows) s.jobs)
+
+-- The job to run: the running one, if it has suspended interrupts; else of the jobs of ISRs of greatest level the oldest; else the best
+-- one of a task. [OSEK/VDX OS 2.2.3, section 4.4, 4.5, 6 and 13.3.2.3; AUTOSAR SWS OS 4.x, section 7.6]
 abbrev pub best_among : Core → JobState → Option Job
-best_among core s = first_greatest (priority_by core s.rows (raised_among core s)) (filter (is_able_in s.rows) s.jobs)
+best_among core s =
+    if is_locked_in s.rows (running_among s) then running_among s
+    else option_or (first_greatest (level_by core) s.isrs.live) (best_task_among core s)

@@ -1,3 +1,4 @@
 pub mod Priorities
 pub mod Jobs
 pub mod Live
+pub mod Ranking

@@ -14,7 +14,8 @@ place_count place (j ∷ js) = if slot_of j.runner == place then suc (place_coun
 pub record AreCounted (jobs : List Job) (counts : List ℕ) : Type 0 where
   pub each : (place : ℕ) → place < RUNNERS → slice_index_or counts place 0 ≡ place_count place jobs
 
--- The list is in the order of its stamps, and counted.
-pub record AreInOrder (jobs : List Job) (counts : List ℕ) : Type 0 where
+-- The jobs of tasks are in the order of their stamps, and counted; those of ISRs are counted too.
+pub record AreInOrder (jobs : List Job) (counts : List ℕ) (isr_jobs : List Job) (isr_counts : List ℕ) : Type 0 where
   pub ascending : Ascending jobs
   pub counted : AreCounted jobs counts
+  pub isrs_counted : AreCounted isr_jobs isr_counts

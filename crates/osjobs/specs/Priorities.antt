@@ -1,12 +1,13 @@
 -- A job's priority, and what it comes from: its task, the resources that it holds, and whether the job is raised.
-use Rattle.std.specs.Prelude.{ℕ, ◌==◌, ◌||◌, Bool, true, false, not, if◌then◌else◌, Option, Some, None, is_some, List, [], ◌∷◌}
+use Rattle.std.specs.Prelude.{ℕ, ◌==◌, ◌&&◌, ◌||◌, Bool, true, false, not, if◌then◌else◌, Option, Some, None, is_some, List, [], ◌∷◌}
 use Rattle.std.specs.Option.{option_map_or}
 use Rattle.osbase.specs.declared.references.Runner.{Runner}
 use Rattle.osbase.specs.declared.histories.Job.{Job}
 use Rattle.osbase.specs.declared.histories.HeldResource.{HeldResource}
-use Rattle.osbase.specs.History.{same_job, same_runner, greater, greatest_ceiling, is_waiting}
+use Rattle.osbase.specs.History.{same_job, same_runner, greater, greatest_ceiling, is_waiting, oldest}
 use Rattle.oscript.specs.Runners.{Row}
 use Rattle.osplan.specs.declared.plans.Core.{Core}
+use Rattle.osplan.specs.declared.plans.Isr.{Isr}
 use Rattle.osplan.specs.declared.plans.Task.{Task}
 use Rattle.osplan.specs.View.{own_isr, own_task}
 use Rattle.osrunner.specs.Rows.{events_in, held_in}
@@ -31,6 +32,14 @@ abbrev pub is_extended : Core → Runner → Bool
 is_extended core (Runner.Task t) = option_map_or (λ (task : Task). task.extended) (own_task core t) false
 is_extended core (Runner.Isr i) = false
 
+-- The level of an ISR; a task has none. [AUTOSAR SWS OS 4.x, section 7.6; that levels are numbers of their own: own]
+abbrev pub level_of : Core → Runner → ℕ
+level_of core (Runner.Task t) = 0
+level_of core (Runner.Isr i) = option_map_or (λ (isr : Isr). isr.level) (own_isr core i) 0
+
+abbrev pub level_by : Core → Job → ℕ
+level_by core j = level_of core j.runner
+
 -- The greatest static priority of these tasks.
 abbrev pub highest_of : List Task → ℕ
 highest_of [] = 0
@@ -42,9 +51,18 @@ abbrev pub raised_of : Core → Option Runner → Option Job → Option Job
 raised_of core way None = None
 raised_of core way (Some j) = if is_preemptable core j.runner || option_map_or (same_runner j.runner) way false then None else Some j
 
--- A live job that may run: one of a task that does not wait; a task that can wait has one job. [OSEK/VDX OS 2.2.3, section 4.2.1]
-abbrev pub is_able_in : List Row → Job → Bool
-is_able_in rows j = not (is_waiting (events_in j.runner rows))
+-- Of these live jobs it is the oldest of its task or ISR. The jobs of a task run one after another, so a further one has not begun.
+-- [OSEK/VDX OS 2.2.3, section 4.3, multiple requesting]
+abbrev pub is_oldest : List Job → Job → Bool
+is_oldest jobs j = option_map_or (same_job j) (oldest j.runner jobs) false
+
+-- A live job that may run: the oldest of its task, unless it waits. [OSEK/VDX OS 2.2.3, section 4.2.1 and 4.3]
+abbrev pub is_able_in : List Job → List Row → Job → Bool
+is_able_in jobs rows j = is_oldest jobs j && not (is_waiting (events_in j.runner rows))
+
+-- What a live job holds: a further job of a task holds nothing yet. [OSEK/VDX OS 2.2.3, section 4.3 and 8.2]
+abbrev pub held_by_job : List Job → List Row → Job → List HeldResource
+held_by_job jobs rows j = if is_oldest jobs j then held_in j.runner rows else []
 
 -- The resource of this index is the newest of these, and whether there is any.
 abbrev pub is_newest : ℕ → List HeldResource → Bool
@@ -55,10 +73,9 @@ abbrev pub holds_any : List HeldResource → Bool
 holds_any [] = false
 holds_any (x ∷ held) = true
 
--- The priority of a job where these are the runners' rows and this job is raised, to the greatest priority of the core's tasks.
--- A further job of a task that holds resources counts with these ceilings too; it comes behind the one that holds them, so it is
--- never the best.
-abbrev pub priority_by : Core → List Row → Option Job → Job → ℕ
-priority_by core rows raised j =
-    greater (greater (static_priority core j.runner) (greatest_ceiling (held_in j.runner rows)))
+-- The priority of a job, where these are the live jobs and the runners' rows: the greatest of its task's, of the ceilings of what it
+-- holds and, if it is the job that is raised, of all tasks. [OSEK/VDX OS 2.2.3, section 4.5, 4.6.2 and 8.5]
+abbrev pub priority_by : Core → List Job → List Row → Option Job → Job → ℕ
+priority_by core jobs rows raised j =
+    greater (greater (static_priority core j.runner) (greatest_ceiling (held_by_job jobs rows j)))
     (if option_map_or (same_job j) raised false then highest_of core.tasks else 0)

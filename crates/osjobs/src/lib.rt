@@ -3,6 +3,7 @@
 //! Nothing here takes memory.
 #![tactic(auto)]
 
+mod entered;
 pub mod jobs;
 mod live;
 mod priorities;

@@ -3,13 +3,14 @@
 ghost use Rattle.std.specs.Prelude.{◌≡◌, ◌≤◌, ◌&&◌, not, Some, false, filter, if◌then◌else◌, length, nat_lt, IsTrue, IsSome, IfSome};
 ghost use Rattle.std.specs.List.{All};
 ghost use Rattle.std.specs.Option.{option_map_or};
-ghost use Rattle.osbase.specs.History.{first_greatest as greatest_job, same_runner};
+ghost use Rattle.osbase.specs.History.{better_of as better_job, first_greatest as greatest_job, same_runner};
 ghost use Rattle.osplan.specs.View.{own_task};
-ghost use Rattle.osjobs.specs.Priorities.{highest_of, is_able_in, is_extended, is_own_runner, is_preemptable, priority_by, raised_of, static_priority};
+ghost use Rattle.osjobs.specs.Priorities.{highest_of, is_extended, is_own_runner, is_preemptable, level_by, level_of, raised_of, static_priority};
+ghost use Rattle.osjobs.specs.Ranking.{is_awake_in, rank_by};
 
 use crate::slots::JobSlot;
 use osbase::{Job, Runner, TaskRef};
-use osplan::own::task_of;
+use osplan::own::{isr_of, task_of};
 use osplan::{Core, Task};
 use osres::greater;
 use osrunner::Rows;
@@ -63,14 +64,15 @@ pub(crate) fn raised_of(
     Some(job)
 }
 
-// A place of the live jobs, with the current priority of the job there.
+// A place of the live jobs, with the rank of the job there.
 #[derive(Clone, Copy)]
 struct Ranked {
     place: usize,
     priority: u8,
 }
 
-/// Of the able jobs of greatest current priority the first, where these are the runners' rows and this job is raised (OSEK/VDX OS 2.2.3, section 4.4 and 4.5).
+/// Of the jobs of greatest rank whose tasks do not wait the first, where these are the runners' rows and this job is raised (OSEK/VDX OS 2.2.3, section 4.4
+/// and 4.5).
 pub(crate) fn first_greatest(
     core: &Core,
     rows: &Rows,
@@ -78,7 +80,7 @@ pub(crate) fn first_greatest(
     jobs: &[JobSlot],
 ) -> Option<Job>
     requires own { All (λ j. IsTrue (is_own_runner core.now j.runner)) jobs.now }
-    ensures greatest { result ≡ greatest_job (priority_by core.now rows.now raised) (filter (is_able_in rows.now) jobs.now) }
+    ensures greatest { result ≡ greatest_job (rank_by core.now rows.now raised) (filter (is_awake_in rows.now) jobs.now) }
     ensures own { IfSome result (λ j. IsTrue (is_own_runner core.now j.runner)) }
 {
     let mut best: Option<Ranked> = None;
@@ -86,7 +88,7 @@ pub(crate) fn first_greatest(
     while place > 0 {
         place -= 1;
         let slot = &jobs[place];
-        let priority = priority_of(core, rows, raised, slot.job);
+        let priority = rank_of(core, rows, raised, slot.job);
         best = better_of(rows, slot.job, Ranked { place, priority }, best);
     }
     let best = best?;
@@ -94,9 +96,9 @@ pub(crate) fn first_greatest(
     Some(slot.job)
 }
 
-// Whether a live job may run: one of a task that does not wait (OSEK/VDX OS 2.2.3, section 4.2.1).
-fn is_able(rows: &Rows, job: Job) -> bool
-    ensures { result ≡ is_able_in rows.now job }
+// Whether the job's task does not wait (OSEK/VDX OS 2.2.3, section 4.2.1).
+fn is_awake(rows: &Rows, job: Job) -> bool
+    ensures { result ≡ is_awake_in rows.now job }
 {
     !rows.is_waiting(job.runner)
 }
@@ -110,27 +112,27 @@ fn is_beaten(priority: u8, best: Option<Ranked>) -> bool
     }
 }
 
-// The better of a job at its place and the best of those behind it: of two able jobs of equal priority the first. Whether
-// the job is able is asked only where it would be the better one.
+// The better of a job at its place and the best of those behind it: of two jobs of equal rank the first. Whether
+// the job's task waits is asked only where it would be the better one.
 #[inline(always)]
 fn better_of(rows: &Rows, job: Job, ranked: Ranked, best: Option<Ranked>) -> Option<Ranked>
-    ensures { result ≡ (if not (option_map_or (λ other. nat_lt ranked.priority other.priority) best false) && is_able_in rows.now job then Some ranked else best) }
+    ensures { result ≡ (if not (option_map_or (λ other. nat_lt ranked.priority other.priority) best false) && is_awake_in rows.now job then Some ranked else best) }
 {
     if is_beaten(ranked.priority, best) {
         return best;
     }
-    if is_able(rows, job) {
+    if is_awake(rows, job) {
         Some(ranked)
     } else {
         best
     }
 }
 
-// The current priority of a job, where these are the runners' rows and this job is raised.
+// The rank of a job, where these are the runners' rows and this job is raised.
 #[inline(always)]
-fn priority_of(core: &Core, rows: &Rows, raised: Option<Job>, job: Job) -> u8
+fn rank_of(core: &Core, rows: &Rows, raised: Option<Job>, job: Job) -> u8
     requires { IsTrue (is_own_runner core.now job.runner) }
-    ensures { result ≡ priority_by core.now rows.now raised job }
+    ensures { result ≡ rank_by core.now rows.now raised job }
 {
     let priority = greater(static_priority(core, job.runner), rows.ceiling(job.runner));
     match raised {
@@ -171,4 +173,42 @@ fn task_priority(core: &Core, task: TaskRef) -> u8
 {
     let own = &core.tasks.as_slice()[usize::from(task.index)];
     own.priority
+}
+
+fn level_of(core: &Core, runner: Runner) -> u8
+    ensures { result ≡ level_of core.now runner }
+{
+    match runner {
+        Runner::Task(_) => 0,
+        Runner::Isr(isr) => match isr_of(core, isr) {
+            Some(own) => own.level,
+            None => 0,
+        },
+    }
+}
+
+/// Of the jobs of greatest level the first (AUTOSAR SWS OS 4.x, section 7.6).
+pub(crate) fn first_of_level(core: &Core, jobs: &[JobSlot]) -> Option<Job>
+    requires own { All (λ j. IsTrue (is_own_runner core.now j.runner)) jobs.now }
+    ensures greatest { result ≡ greatest_job (level_by core.now) jobs.now }
+    ensures own { IfSome result (λ j. IsTrue (is_own_runner core.now j.runner)) }
+{
+    let mut best: Option<Job> = None;
+    let mut place = jobs.len();
+    while place > 0 {
+        place -= 1;
+        let slot = &jobs[place];
+        best = Some(higher_of(core, slot.job, best));
+    }
+    best
+}
+
+// The better of a job and the best of those behind it: of two of equal level the first.
+fn higher_of(core: &Core, job: Job, best: Option<Job>) -> Job
+    ensures { result ≡ better_job (level_by core.now) job best }
+{
+    match best {
+        Some(other) if level_of(core, job.runner) < level_of(core, other.runner) => other,
+        _ => job,
+    }
 }

@@ -1,6 +1,6 @@
-//! What a place of the list of live jobs holds: with a blank for a place that is not in use.
+//! What a place of the lists of live jobs and of ISRs holds: with a blank for a place that is not in use.
 
-use osbase::{CoreId, Job, Runner, TaskRef};
+use osbase::{CoreId, IsrRef, Job, Runner, TaskRef};
 use std::marker::Model;
 
 /// A place of the list of live jobs.
@@ -29,6 +29,33 @@ impl Default for JobSlot {
             job: Job {
                 runner: Runner::Task(task),
                 stamp: 0,
+            },
+        }
+    }
+}
+
+/// A place of the list of ISRs that were started.
+#[derive(Clone, Copy)]
+pub(crate) struct IsrSlot {
+    pub(crate) isr: IsrRef,
+}
+
+impl Model for IsrSlot {
+    ghost use Rattle.osbase.specs.declared.references.IsrRef.{IsrRef};
+
+    ghost Value = { IsrRef };
+
+    ghost view = { λ slot. slot.isr };
+
+    ghost inverse = { λ isr. record { isr = isr } };
+}
+
+impl Default for IsrSlot {
+    fn default() -> Self {
+        IsrSlot {
+            isr: IsrRef {
+                core: CoreId { number: 0 },
+                index: 0,
             },
         }
     }

@@ -1,13 +1,14 @@
 -- A core's history alone, and the same where it was started by another core and passed the second gate with
 -- others: it reads the same, with each stamp later by what came before.
-use Rattle.std.proofs.Common.{◌≡◌, ◌||◌, ℕ, suc, ◌+◌, nat_eq, nat_lt, Bool, true, false, cond, Option, Some, None, option_map, List, [], ◌∷◌, ◌++◌, length, map, refl, sym, ap, ◌∙◌, arith}
+use Rattle.std.proofs.Common.{◌≡◌, ◌&&◌, ◌||◌, ℕ, suc, ◌+◌, nat_eq, nat_lt, Bool, true, false, not, cond, Option, Some, None, option_map, List, [], ◌∷◌, ◌++◌, length, map, refl, sym, ap, ◌∙◌, arith}
 use Rattle.std.specs.List.{filter}
-use Rattle.std.specs.Option.{option_map_or}
+use Rattle.std.specs.Option.{option_map_or, option_or}
 use Rattle.std.proofs.lemmas.Bool.Decides.{nat_tests}
 use Rattle.std.proofs.lemmas.List.{map-append}
 use Rattle.osbase.specs.declared.references.AlarmRef.{AlarmRef}
 use Rattle.osbase.specs.declared.references.CounterRef.{CounterRef}
 use Rattle.osbase.specs.declared.references.TableRef.{TableRef}
+use Rattle.osbase.specs.declared.references.IsrRef.{IsrRef}
 use Rattle.osbase.specs.declared.references.TaskRef.{TaskRef}
 use Rattle.osbase.specs.declared.references.Runner.{Runner}
 use Rattle.osbase.specs.declared.items.CoreSet.{CoreSet}
@@ -17,14 +18,16 @@ use Rattle.osbase.specs.declared.histories.Job.{Job}
 use Rattle.osbase.specs.Sets.{numbers_from}
 use Rattle.osbase.specs.declared.limits.TheConstants.{RUNNERS}
 use Rattle.osbase.specs.Counting.{alarm_after, alarm_of, counts_after, counts_of, table_after, table_state}
-use Rattle.osbase.specs.History.{History, Entry, Took, Printed, agreement_after, agreement_of, better_of, current_after, current_job, current_task, first_greatest, giving_way, giving_way_after, greater, greatest_ceiling, job_count, jobs_after, live_jobs, marks_of, oldest, oldest_of, open_after, open_call, phase_after, phase_of, same_runner, stamped_anew, without_oldest}
+use Rattle.osbase.specs.History.{History, Entry, Took, Printed, agreement_after, agreement_of, better_of, course_after, course_of, current_after, current_job, current_task, first_greatest, giving_way, giving_way_after, greater, greatest_ceiling, is_waiting, job_count, jobs_after, live_jobs, marks_of, oldest, oldest_of, open_after, open_call, phase_after, phase_of, same_job, same_runner, stamped_anew, without_oldest}
+use Rattle.osbase.specs.Interrupts.{entered_after, entered_isrs, isr_count, isr_jobs, isr_jobs_after, oldest_entered, runner_of_job, running_job}
 use Rattle.oscript.specs.declared.Op.{Op}
 use Rattle.oscript.specs.Runners.{Row, row_after, row_of}
 use Rattle.osplan.specs.declared.plans.Core.{Core}
-use Rattle.osrunner.specs.Rows.{held_in}
+use Rattle.osrunner.specs.Rows.{events_in, held_in}
 use Rattle.osplan.specs.View.{View}
-use Rattle.osjobs.specs.Priorities.{highest_of, is_able_in, is_preemptable, priority_by, raised_of, static_priority}
-use Rattle.osstate.specs.Readings.{best_job, current_priority, is_able, rows_of, runner_at, running, script_of}
+use Rattle.osjobs.specs.Jobs.{is_locked_in}
+use Rattle.osjobs.specs.Priorities.{highest_of, is_able_in, is_oldest, is_preemptable, level_by, priority_by, raised_of, static_priority}
+use Rattle.osstate.specs.Readings.{best_job, best_task, current_priority, is_able, is_pending, rows_of, runner_at, running, script_of}
 
 -- The set at the second gate in place of the core's own one.
 abbrev pub with_set : CoreSet → Entry → Entry
@@ -63,12 +66,6 @@ each-same : {A : Type 0} (f g : ℕ → A) → ((n : ℕ) → f n ≡ g n) → (
 each-same f g same [] = refl
 each-same f g same (n ∷ ns) = rw (same n, each-same f g same ns) refl
 
-row-same : (script : List Op) (r : Runner) (s : CoreSet) (m : Bool) (k : History) → row_of script r (among s (base_of m) k) ≡ row_of script r k
-row-same script r s m k = reads-same (row_of script r) (λ e h j p. ap (row_after script r e) p) (λ a b h. refl) refl s m k
-
-pub rows-same : (core : Core) (s : CoreSet) (m : Bool) (k : History) → rows_of core (among s (base_of m) k) ≡ rows_of core k
-rows-same core s m k = each-same _ _ (λ n. row-same (script_of core (runner_at core n)) (runner_at core n) s m k) (numbers_from 0 RUNNERS)
-
 pub counts-same : (c : CounterRef) (s : CoreSet) (m : Bool) (k : History) → counts_of c (among s (base_of m) k) ≡ counts_of c k
 counts-same c s m k = reads-same (counts_of c) (λ e h j p. ap (counts_after c e) p) (λ a b h. refl) refl s m k
 
@@ -77,6 +74,12 @@ settings-same c a s m k = reads-same (alarm_of c a) (λ e h j p. ap (alarm_after
 
 pub tables-same : (c : CounterRef) (t : TableRef) (s : CoreSet) (m : Bool) (k : History) → table_state c t (among s (base_of m) k) ≡ table_state c t k
 tables-same c t s m k = reads-same (table_state c t) (λ e h j p. ap (table_after c t e) p) (λ x y h. refl) refl s m k
+
+pub entered-same : (s : CoreSet) (m : Bool) (k : History) → entered_isrs (among s (base_of m) k) ≡ entered_isrs k
+entered-same s m k = reads-same entered_isrs (λ e h j p. ap (entered_after e) p) (λ a b h. refl) refl s m k
+
+pub course-same : (s : CoreSet) (m : Bool) (k : History) → course_of (among s (base_of m) k) ≡ course_of k
+course-same s m k = reads-same course_of (λ e h j p. ap (course_after e) p) (λ a b h. refl) refl s m k
 
 pub open-same : (s : CoreSet) (m : Bool) (k : History) → open_call (among s (base_of m) k) ≡ open_call k
 open-same s m k = reads-same open_call (λ e h j p. ap (open_after e) p) (λ a b h. refl) refl s m k
@@ -149,6 +152,20 @@ jobs-later s m (e ∷ k) =
     ∙ ap (jobs_after e (length k + delay m)) (jobs-later s m k)
     ∙ later-after (delay m) e (length k) (live_jobs k)
 
+later-isrs : (d : ℕ) (e : Entry) (n : ℕ) (js : List Job) → isr_jobs_after e (n + d) (map (later d) js) ≡ map (later d) (isr_jobs_after e n js)
+later-isrs d (Printed (Mark.InterruptAccepted i)) n js = sym (map-append (later d) js (record { runner = Runner.Isr i; stamp = n } ∷ []))
+later-isrs d (Printed (Mark.IsrLeft i)) n js = later-without d (Runner.Isr i) js
+later-isrs d e n js = refl
+
+pub isrs-later : (s : CoreSet) (m : Bool) (k : History) → isr_jobs (among s (base_of m) k) ≡ map (later (delay m)) (isr_jobs k)
+isrs-later s true [] = refl
+isrs-later s false [] = refl
+isrs-later s m (e ∷ k) =
+    same-step (λ (d : Entry). isr_jobs_after d (length (among s (base_of m) k)) (isr_jobs (among s (base_of m) k))) (λ a b. refl) s e
+    ∙ ap (λ (n : ℕ). isr_jobs_after e n (isr_jobs (among s (base_of m) k))) (length-among s m k)
+    ∙ ap (isr_jobs_after e (length k + delay m)) (isrs-later s m k)
+    ∙ later-isrs (delay m) e (length k) (isr_jobs k)
+
 later-count : (d : ℕ) (r : Runner) (js : List Job) → job_count r (map (later d) js) ≡ job_count r js
 later-count d r [] = refl
 later-count d r (j ∷ js) = ap (λ (n : ℕ). cond (same_runner j.runner r) (suc n) n) (later-count d r js)
@@ -156,15 +173,51 @@ later-count d r (j ∷ js) = ap (λ (n : ℕ). cond (same_runner j.runner r) (su
 pub count-same : (s : CoreSet) (m : Bool) (r : Runner) (k : History) → job_count r (live_jobs (among s (base_of m) k)) ≡ job_count r (live_jobs k)
 count-same s m r k = ap (job_count r) (jobs-later s m k) ∙ later-count (delay m) r (live_jobs k)
 
+pub pending-same : (i : IsrRef) (s : CoreSet) (m : Bool) (k : History) → is_pending i (among s (base_of m) k) ≡ is_pending i k
+pending-same i s m k =
+    (λ p. nat_lt (isr_count i (entered-same s m k p)) (job_count (Runner.Isr i) (isrs-later s m k p)))
+    ∙ ap (nat_lt (isr_count i (entered_isrs k))) (later-count (delay m) (Runner.Isr i) (isr_jobs k))
+
 later-oldest_of : (d : ℕ) (o : Option TaskRef) (js : List Job) → oldest_of o (map (later d) js) ≡ option_map (later d) (oldest_of o js)
 later-oldest_of d None js = refl
 later-oldest_of d (Some t) js = later-oldest d (Runner.Task t) js
 
-pub running-later : (v : View) (s : CoreSet) (m : Bool) (k : History) → running v (among s (base_of m) k) ≡ option_map (later (delay m)) (running v k)
-running-later v s m k =
+current-later : (s : CoreSet) (m : Bool) (k : History) → current_job (among s (base_of m) k) ≡ option_map (later (delay m)) (current_job k)
+current-later s m k =
     ap (λ (o : Option TaskRef). oldest_of o (live_jobs (among s (base_of m) k))) (current-same s m k)
     ∙ ap (oldest_of (current_task k)) (jobs-later s m k)
     ∙ later-oldest_of (delay m) (current_task k) (live_jobs k)
+
+later-entered : (d : ℕ) (isrs : List IsrRef) (js : List Job) → oldest_entered isrs (map (later d) js) ≡ option_map (later d) (oldest_entered isrs js)
+later-entered d [] js = refl
+later-entered d (i ∷ isrs) js = later-oldest d (Runner.Isr i) js
+
+later-or : (d : ℕ) (o p : Option Job) → option_or (option_map (later d) o) (option_map (later d) p) ≡ option_map (later d) (option_or o p)
+later-or d None p = refl
+later-or d (Some j) p = refl
+
+pub running-later : (v : View) (s : CoreSet) (m : Bool) (k : History) → running v (among s (base_of m) k) ≡ option_map (later (delay m)) (running v k)
+running-later v s m k =
+    (λ i. option_or (entered i) (current-later s m k i)) ∙ later-or (delay m) (oldest_entered (entered_isrs k) (isr_jobs k)) (current_job k)
+  where
+    entered : oldest_entered (entered_isrs (among s (base_of m) k)) (isr_jobs (among s (base_of m) k)) ≡ option_map (later (delay m)) (oldest_entered (entered_isrs k) (isr_jobs k))
+    entered = (λ i. oldest_entered (entered-same s m k i) (isrs-later s m k i)) ∙ later-entered (delay m) (entered_isrs k) (isr_jobs k)
+
+later-runner : (d : ℕ) (o : Option Job) → runner_of_job (option_map (later d) o) ≡ runner_of_job o
+later-runner d None = refl
+later-runner d (Some j) = refl
+
+-- So the same runner is charged at a tick, and each row is the same.
+row-same : (script : List Op) (r : Runner) (v : View) (s : CoreSet) (m : Bool) (k : History) → row_of script r (among s (base_of m) k) ≡ row_of script r k
+row-same script r v s true [] = refl
+row-same script r v s false [] = refl
+row-same script r v s m (e ∷ k) =
+    same-step (λ (d : Entry). row_after script r (runner_of_job (running_job (among s (base_of m) k))) d (row_of script r (among s (base_of m) k))) (λ a b. refl) s e
+    ∙ ap (λ (who : Option Runner). row_after script r who e (row_of script r (among s (base_of m) k))) (ap runner_of_job (running-later v s m k) ∙ later-runner (delay m) (running_job k))
+    ∙ ap (row_after script r (runner_of_job (running_job k)) e) (row-same script r v s m k)
+
+pub rows-same : (v : View) (s : CoreSet) (m : Bool) (k : History) → rows_of v.own (among s (base_of m) k) ≡ rows_of v.own k
+rows-same v s m k = each-same _ _ (λ n. row-same (script_of v.own (runner_at v.own n)) (runner_at v.own n) v s m k) (numbers_from 0 RUNNERS)
 
 later-better : (d : ℕ) (p q : Job → ℕ) → ((j : Job) → p (later d j) ≡ q j) → (j : Job) (o : Option Job) → better_of p (later d j) (option_map (later d) o) ≡ later d (better_of q j o)
 later-better d p q same j None = refl
@@ -195,10 +248,17 @@ later-raised d core way (Some j) = by (is_preemptable core j.runner || option_ma
     by true = refl
     by false = refl
 
-later-priority : (d : ℕ) (core : Core) (rows : List Row) (raised : Option Job) (j : Job) → priority_by core rows (option_map (later d) raised) (later d j) ≡ priority_by core rows raised j
-later-priority d core rows None j = refl
-later-priority d core rows (Some i) j =
-    ap (λ (b : Bool). greater (greater (static_priority core j.runner) (greatest_ceiling (held_in j.runner rows))) (cond b (highest_of core.tasks) 0)) (stamp-later d j.stamp i.stamp)
+later-same : (d : ℕ) (j : Job) (o : Option Job) → option_map_or (same_job (later d j)) (option_map (later d) o) false ≡ option_map_or (same_job j) o false
+later-same d j None = refl
+later-same d j (Some i) = stamp-later d j.stamp i.stamp
+
+later-eldest : (d : ℕ) (js : List Job) (j : Job) → is_oldest (map (later d) js) (later d j) ≡ is_oldest js j
+later-eldest d js j = ap (λ (o : Option Job). option_map_or (same_job (later d j)) o false) (later-oldest d j.runner js) ∙ later-same d j (oldest j.runner js)
+
+later-priority : (d : ℕ) (core : Core) (js : List Job) (rows : List Row) (raised : Option Job) (j : Job)
+    → priority_by core (map (later d) js) rows (option_map (later d) raised) (later d j) ≡ priority_by core js rows raised j
+later-priority d core js rows raised j =
+    λ i. greater (greater (static_priority core j.runner) (greatest_ceiling (cond (later-eldest d js j i) (held_in j.runner rows) []))) (cond (later-same d j raised i) (highest_of core.tasks) 0)
 
 -- A job is able whatever its stamp is.
 later-filter : (d : ℕ) (p q : Job → Bool) → ((j : Job) → p (later d j) ≡ q j) → (js : List Job) → filter p (map (later d) js) ≡ map (later d) (filter q js)
@@ -212,17 +272,47 @@ later-filter d p q same (j ∷ js) = rw (same j, later-filter d p q same js) (by
 able-later : (v : View) (s : CoreSet) (m : Bool) (k : History) → filter (is_able v (among s (base_of m) k)) (live_jobs (among s (base_of m) k)) ≡ map (later (delay m)) (filter (is_able v k) (live_jobs k))
 able-later v s m k =
     ap (filter (is_able v (among s (base_of m) k))) (jobs-later s m k)
-    ∙ later-filter (delay m) (is_able v (among s (base_of m) k)) (is_able v k) (λ j. ap (λ (all : List Row). is_able_in all j) (rows-same v.own s m k)) (live_jobs k)
+    ∙ later-filter (delay m) (is_able v (among s (base_of m) k)) (is_able v k) same (live_jobs k)
+  where
+    same : (j : Job) → is_able v (among s (base_of m) k) (later (delay m) j) ≡ is_able v k j
+    same j =
+        ap (λ (all : List Row). is_able_in (live_jobs (among s (base_of m) k)) all (later (delay m) j)) (rows-same v s m k)
+        ∙ ap (λ (js : List Job). is_able_in js (rows_of v.own k) (later (delay m) j)) (jobs-later s m k)
+        ∙ ap (λ (b : Bool). b && not (is_waiting (events_in j.runner (rows_of v.own k)))) (later-eldest (delay m) (live_jobs k) j)
 
-pub best-later : (v : View) (s : CoreSet) (m : Bool) (k : History) → best_job v (among s (base_of m) k) ≡ option_map (later (delay m)) (best_job v k)
-best-later v s m k =
+best_task-later : (v : View) (s : CoreSet) (m : Bool) (k : History) → best_task v (among s (base_of m) k) ≡ option_map (later (delay m)) (best_task v k)
+best_task-later v s m k =
     ap (first_greatest (current_priority v (among s (base_of m) k))) (able-later v s m k)
     ∙ later-greatest (delay m) (current_priority v (among s (base_of m) k)) (current_priority v k) priority (filter (is_able v k) (live_jobs k))
   where
+    jobs : List Job
+    jobs = live_jobs (among s (base_of m) k)
+
     priority : (j : Job) → current_priority v (among s (base_of m) k) (later (delay m) j) ≡ current_priority v k j
     priority j =
-        ap (λ (rows : List Row). priority_by v.own rows (raised_of v.own (giving_way (among s (base_of m) k)) (current_job (among s (base_of m) k))) (later (delay m) j)) (rows-same v.own s m k)
-        ∙ ap (λ (way : Option Runner). priority_by v.own (rows_of v.own k) (raised_of v.own way (current_job (among s (base_of m) k))) (later (delay m) j)) (giving_way-same s m k)
-        ∙ ap (λ (o : Option Job). priority_by v.own (rows_of v.own k) (raised_of v.own (giving_way k) o) (later (delay m) j)) (running-later v s m k)
-        ∙ ap (λ (o : Option Job). priority_by v.own (rows_of v.own k) o (later (delay m) j)) (later-raised (delay m) v.own (giving_way k) (current_job k))
-        ∙ later-priority (delay m) v.own (rows_of v.own k) (raised_of v.own (giving_way k) (current_job k)) j
+        ap (λ (rows : List Row). priority_by v.own jobs rows (raised_of v.own (giving_way (among s (base_of m) k)) (current_job (among s (base_of m) k))) (later (delay m) j)) (rows-same v s m k)
+        ∙ ap (λ (way : Option Runner). priority_by v.own jobs (rows_of v.own k) (raised_of v.own way (current_job (among s (base_of m) k))) (later (delay m) j)) (giving_way-same s m k)
+        ∙ ap (λ (o : Option Job). priority_by v.own jobs (rows_of v.own k) (raised_of v.own (giving_way k) o) (later (delay m) j)) (current-later s m k)
+        ∙ ap (λ (o : Option Job). priority_by v.own jobs (rows_of v.own k) o (later (delay m) j)) (later-raised (delay m) v.own (giving_way k) (current_job k))
+        ∙ ap (λ (js : List Job). priority_by v.own js (rows_of v.own k) (option_map (later (delay m)) (raised_of v.own (giving_way k) (current_job k))) (later (delay m) j)) (jobs-later s m k)
+        ∙ later-priority (delay m) v.own (live_jobs k) (rows_of v.own k) (raised_of v.own (giving_way k) (current_job k)) j
+
+-- Whether the running job has suspended interrupts is the same.
+later-locked : (d : ℕ) (rows : List Row) (o : Option Job) → is_locked_in rows (option_map (later d) o) ≡ is_locked_in rows o
+later-locked d rows None = refl
+later-locked d rows (Some j) = refl
+
+pub best-later : (v : View) (s : CoreSet) (m : Bool) (k : History) → best_job v (among s (base_of m) k) ≡ option_map (later (delay m)) (best_job v k)
+best-later v s m k =
+    (λ i. cond (locked i) (running-later v s m k i) (option_or (isr i) (best_task-later v s m k i))) ∙ by (is_locked_in (rows_of v.own k) (running v k))
+  where
+    locked : is_locked_in (rows_of v.own (among s (base_of m) k)) (running v (among s (base_of m) k)) ≡ is_locked_in (rows_of v.own k) (running v k)
+    locked = (λ i. is_locked_in (rows-same v s m k i) (running-later v s m k i)) ∙ later-locked (delay m) (rows_of v.own k) (running v k)
+
+    isr : first_greatest (level_by v.own) (isr_jobs (among s (base_of m) k)) ≡ option_map (later (delay m)) (first_greatest (level_by v.own) (isr_jobs k))
+    isr = ap (first_greatest (level_by v.own)) (isrs-later s m k) ∙ later-greatest (delay m) (level_by v.own) (level_by v.own) (λ j. refl) (isr_jobs k)
+
+    by : (b : Bool) → cond b (option_map (later (delay m)) (running v k)) (option_or (option_map (later (delay m)) (first_greatest (level_by v.own) (isr_jobs k))) (option_map (later (delay m)) (best_task v k)))
+        ≡ option_map (later (delay m)) (cond b (running v k) (option_or (first_greatest (level_by v.own) (isr_jobs k)) (best_task v k)))
+    by true = refl
+    by false = later-or (delay m) (first_greatest (level_by v.own) (isr_jobs k)) (best_task v k)

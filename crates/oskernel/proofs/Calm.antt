@@ -30,8 +30,8 @@ calm-holds = holds-local anybody Calm (calm-local anybody)
 pub calm-took : (i : Item) (h : History) → is_mail i ≡ false → Calm h → Calm (Took i ∷ h)
 calm-took i h none p = record { closed = grind (arith, none, p.closed); empty = grind (arith, none, p.empty) }
 
-pub mail-replied : (names : CoreId → Bool) (i : Item) → is_mail i ≡ false → is_replied nobody names i ≡ true
-mail-replied names i none = grind arith
+mail-replied : (i : Item) → is_mail i ≡ false → is_replied nobody anybody i ≡ true
+mail-replied i none = grind arith
 
 pub calm-after : (v : View) → NamesAllow v nobody → (h : History) (i : Item) → is_mail i ≡ false → Calm h → Calm (after v h i)
-calm-after v allowed h i none calm = holds-after v nobody nobody Calm calm-holds allowed h i (mail-replied anybody i none) (calm-took i h none calm)
+calm-after v allowed h i none calm = holds-after v nobody nobody Calm calm-holds allowed h i (mail-replied i none) (calm-took i h none calm)

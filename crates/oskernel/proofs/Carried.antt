@@ -18,6 +18,7 @@ use Rattle.osbase.specs.Marks.{core_of_runner}
 use Rattle.oscript.specs.declared.Op.{Op}
 use Rattle.oscript.specs.declared.Action.TheVariants.{Perform, End}
 use Rattle.oscript.specs.Rows.{objects_of}
+use Rattle.osplan.specs.declared.protection.Protection.{Protection}
 use Rattle.osplan.specs.Objects.{core_actions}
 use Rattle.osplan.specs.View.{Around, View}
 use Rattle.osclock.specs.Clocks.{counter_ref}
@@ -33,14 +34,16 @@ use Rattle.oscall.specs.Border.{core_of_call, service_of}
 use Rattle.oscall.proofs.Allowed.{served-ok, service-ok}
 use Rattle.osdue.proofs.Allowed.{ActionsAllow, counts-ok}
 use Rattle.oskernel.proofs.Operated.{IsAllowed, operates-ok}
+use Rattle.oskernel.specs.Faults.{answers_fault, fault_of, faults_with, protects}
 use Rattle.oskernel.specs.Free.{may_dispatch}
 use Rattle.oskernel.specs.Step.{after, closes, dispatches, effect, enters_from, goes_to, performs, resumes_with}
 
--- A request comes from a core that may be answered, and the call that it brings, or an action, is for an object that marks
--- may name.
+-- A request comes from a core that may be answered; and the call that it brings, an action and an interrupt are for an object that
+-- marks may name.
 abbrev pub is_replied : (CoreId → Bool) → (CoreId → Bool) → Item → Bool
 is_replied replies names (Item.Received from number (Message.Request call)) = replies from && names (core_of_call call)
 is_replied replies names (Item.Received from number (Message.Action call)) = names (core_of_call call)
+is_replied replies names (Item.Stim (Stimulus.Irq isr)) = names isr.core
 is_replied replies names item = true
 
 -- Each operation of the core's scripts names the own core, or one that may be asked, if it names one; and each alarm and each
@@ -116,20 +119,44 @@ module _ (l : Leave) (allowed : NamesAllow l.view l.may) where
       by r n (Awaited.Reply id core) = assumption (ends-ok l r n, returns-ok l r id status value n)
       by r n awaits = assumption
 
+  -- The running job is the core's own to end.
+  answers-ok : (protection : Protection) (r : Runner) (status : Status) → IsNamed l r → Allowed (answers_fault protection r status)
+  answers-ok Protection.TerminateTaskIsr (Runner.Task t) status n = (n, tt)
+  answers-ok Protection.TerminateTaskIsr (Runner.Isr i) status n = (n, tt)
+  answers-ok protection r status n = (refl, (refl, tt))
+
+  protects-ok : (s : Seen) → IsSeen l s → Allowed (protects s s.running)
+  protects-ok s seen = by s.running refl
+    where
+      faults-ok : (r : Runner) → IsNamed l r → (fault : Option Status) → Allowed (faults_with s.core.protection r fault)
+      faults-ok r n None = tt
+      faults-ok r n (Some status) = (refl, answers-ok s.core.protection r status n)
+
+      by : (o : Option Runner) → s.running ≡ o → Allowed (protects s o)
+      by None is = tt
+      by (Some r) is = faults-ok r (rw is at seen.running) (fault_of s r)
+
   effect-ok : (item : Item) → is_replied l.answered l.names item ≡ true → Allowed (effect item)
   effect-ok (Item.Pass1 agreement) m = (grind arith, tt)
   effect-ok (Item.Pass2 cores) m = λ s seen.
       let own : l.names s.core.id ≡ true = rw seen.core l.own_named in
       (each-ok l _ (λ p. assumption own) _, (each-ok l _ (λ p. found-ok l _ p.1.auto (λ x is. assumption)) _, each-ok l _ (λ p. found-ok l _ p.1.auto (λ x is. assumption)) _))
   effect-ok (Item.Stim Stimulus.Op) m = λ s seen. found-ok l _ s.running (λ r is q at. performs-ok r (rw is at seen.running) (slice_get (script_of q.core r) (q.row r).frame.pc) (λ op found. allowed.scripts r (q.row r).frame.pc op (rw at.core at found)))
-  effect-ok (Item.Stim Stimulus.Tick) m = (assumption, λ s seen. each-ok l _ (λ p. assumption (counts-ok l allowed.actions (counter_ref s.core p.0))) _)
-  effect-ok (Item.Received from number (Message.Request call)) m = λ s seen.
-      let parts = and_parts (l.answered from) (l.names (core_of_call call)) m in
-      let answer = answer_of (service_of call s) in
-      assumption (service-ok l call parts.1 s, served-ok l from call answer.status answer.value parts.1, replies-ok l from answer.status answer.value parts.0)
-  effect-ok (Item.Received from number (Message.Action call)) m = λ s seen.
-      let answer = answer_of (service_of call s) in
-      assumption (service-ok l call m s, served-ok l from call answer.status answer.value m, reports-ok l answer.status)
+  effect-ok (Item.Stim Stimulus.Tick) m = ((refl, tt), (protects-ok, λ t at. (λ going s seen. each-ok l _ (λ p. assumption (counts-ok l allowed.actions (counter_ref s.core p.0))) _, λ down. tt)))
+  effect-ok (Item.Stim (Stimulus.Irq isr)) m = λ s seen. (λ pending. (m, tt), λ none. (m, tt))
+  effect-ok (Item.Received from number (Message.Request call)) m = λ t at.
+      let parts = and_parts (l.answered from) (l.names (core_of_call call)) m in (
+        λ going s seen.
+            let answer = answer_of (service_of call s) in
+            assumption (service-ok l call parts.1 s, served-ok l from call answer.status answer.value parts.1, replies-ok l from answer.status answer.value parts.0),
+        λ down. (parts.0, tt),
+      )
+  effect-ok (Item.Received from number (Message.Action call)) m = λ t at. (
+    λ going s seen.
+        let answer = answer_of (service_of call s) in
+        assumption (service-ok l call m s, served-ok l from call answer.status answer.value m, reports-ok l answer.status),
+    λ down. tt,
+  )
   effect-ok (Item.Received from number (Message.Reply status)) m = λ s seen. closes-ok s seen status None
   effect-ok (Item.Received from number (Message.Value status n)) m = λ s seen. closes-ok s seen status (Some n)
   effect-ok item m = assumption

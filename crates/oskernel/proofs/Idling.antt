@@ -1,11 +1,12 @@
 -- A core that drained has dispatched: nothing follows from its last items.
-use Rattle.std.proofs.Common.{◌≡◌, ◌||◌, ◌≤◌, ℕ, nat_lt, Bool, true, false, cond, Option, Some, None, is_none, List, [], ◌∷◌, not, refl, sym, ap, subst, ◌∙◌, arith}
+use Rattle.std.proofs.Common.{◌≡◌, ◌&&◌, ◌||◌, ◌≤◌, ℕ, nat_eq, nat_lt, Bool, true, false, cond, not, Option, Some, None, is_none, List, [], ◌∷◌, refl, sym, ap, subst, ◌∙◌, arith}
 use Rattle.std.specs.List.{filter, list_all}
-use Rattle.std.specs.Option.{option_map_or}
-use Rattle.std.proofs.lemmas.Bool.{and_from, false≢true, eq-eqb}
+use Rattle.std.specs.Option.{option_map_or, option_or}
+use Rattle.std.proofs.lemmas.Bool.{and_from, and_parts, eqb-true, false≢true, eq-eqb}
 use Rattle.std.proofs.lemmas.Bool.Decides.{nat_tests}
 use Rattle.std.proofs.lemmas.List.Folds.{list_all-append}
 use Rattle.std.proofs.lemmas.Option.{none-some, same_Some}
+use Rattle.osbase.specs.declared.references.IsrRef.{IsrRef}
 use Rattle.osbase.specs.declared.references.TaskRef.{TaskRef}
 use Rattle.osbase.specs.declared.references.Runner.{Runner}
 use Rattle.osbase.specs.declared.items.Item.{Item}
@@ -13,17 +14,20 @@ use Rattle.osbase.specs.declared.marks.Mark.{Mark}
 use Rattle.osbase.specs.declared.histories.Job.{Job}
 use Rattle.osbase.specs.declared.histories.OpenCall.{OpenCall}
 use Rattle.oscript.specs.Runners.{Row}
-use Rattle.osbase.specs.History.{Entry, History, Took, Printed, better_of, current_job, current_task, first_greatest, giving_way, greater, greatest_ceiling, is_waiting, jobs_after, live_jobs, oldest, open_call, same_job, same_runner}
+use Rattle.osbase.specs.History.{Entry, History, Took, Printed, better_of, course_of, current_job, current_task, first_greatest, giving_way, greater, greatest_ceiling, jobs_after, live_jobs, oldest, oldest_of, open_call, same_job, same_runner}
+use Rattle.osbase.specs.Interrupts.{entered_isrs, isr_jobs, isr_jobs_after, oldest_entered}
+use Rattle.osbase.specs.Phases.{is_going}
+use Rattle.osbase.proofs.Same.{same_runner-refl, same_runner-true}
 use Rattle.osplan.specs.View.{View}
 use Rattle.osplan.proofs.Tests.{all-filter}
-use Rattle.osrunner.specs.Rows.{events_in, held_in}
-use Rattle.osjobs.specs.Priorities.{highest_of, is_able_in, is_preemptable, priority_by, raised_of, static_priority}
-use Rattle.osstate.specs.Readings.{best_job, current_priority, events_at, is_able, rows_of, running}
-use Rattle.osbase.proofs.Same.{same_runner-true, same_task-refl}
+use Rattle.osjobs.specs.Jobs.{is_locked_in}
+use Rattle.osjobs.proofs.Running.{no-entered, none-chosen}
+use Rattle.osjobs.specs.Priorities.{held_by_job, highest_of, is_oldest, is_preemptable, level_by, level_of, priority_by, raised_of, static_priority}
+use Rattle.osstate.specs.Readings.{best_job, best_task, current_priority, is_able, rows_of, running}
 use Rattle.oskernel.specs.Step.{after, enters, goes_to, leaves}
-use Rattle.oskernel.proofs.JobLists.{anew-all, greatest-passes, without-all}
+use Rattle.oskernel.proofs.JobLists.{anew-all, greatest-passes, oldest-passes, without-all}
 
--- ---- the best job is the oldest of its task
+-- ---- whose the jobs are: those of tasks, and those of ISRs
 
 abbrev is_task_runner : Runner → Bool
 is_task_runner (Runner.Task t) = true
@@ -42,38 +46,49 @@ all-tasks : (h : History) → list_all is_task_job (live_jobs h) ≡ true
 all-tasks [] = refl
 all-tasks (e ∷ h) = step-tasks e _ (live_jobs h) (all-tasks h)
 
+abbrev is_isr_job : Job → Bool
+is_isr_job j = not (is_task_job j)
+
+step-isrs : (e : Entry) (n : ℕ) (js : List Job) → list_all is_isr_job js ≡ true → list_all is_isr_job (isr_jobs_after e n js) ≡ true
+step-isrs (Printed (Mark.InterruptAccepted i)) n js a = list_all-append is_isr_job js (record { runner = Runner.Isr i; stamp = n } ∷ []) ∙ and_from (list_all is_isr_job js) true a refl
+step-isrs (Printed (Mark.IsrLeft i)) n js a = without-all is_isr_job (Runner.Isr i) js a
+step-isrs e n js a = a
+
+all-isrs : (h : History) → list_all is_isr_job (isr_jobs h) ≡ true
+all-isrs [] = refl
+all-isrs (e ∷ h) = step-isrs e _ (isr_jobs h) (all-isrs h)
+
 -- the greatest is among them
 among : (p : Job → Bool) (q : Job → ℕ) (js : List Job) (j : Job) → list_all p js ≡ true → first_greatest q js ≡ Some j → p j ≡ true
 among p q js j all e = sym (ap (λ (o : Option Job). option_map_or p o true) e) ∙ greatest-passes p q js all
 
--- What all live jobs pass, the best one passes.
-pub best-passes : (v : View) (h : History) (p : Job → Bool) → list_all p (live_jobs h) ≡ true → option_map_or p (best_job v h) true ≡ true
-best-passes v h p all = greatest-passes p (current_priority v h) (filter (is_able v h) (live_jobs h)) (all-filter p (is_able v h) (live_jobs h) all)
-
-module _ (p : Job → ℕ) where
-  first-oldest : (t : TaskRef) (i : Job) (is : List Job) → i.runner ≡ Runner.Task t → oldest (Runner.Task t) (i ∷ is) ≡ Some i
-  first-oldest t i is e =
-      ap (λ (b : Bool). cond b (Some i) (oldest (Runner.Task t) is)) (ap (λ (r : Runner). same_runner r (Runner.Task t)) e ∙ same_task-refl t)
-
-  -- where no job of its task comes after it
-  greatest-oldest : (t : TaskRef) (js : List Job) (j : Job) → first_greatest p js ≡ Some j → j.runner ≡ Runner.Task t → ((i : Job) → i.runner ≡ j.runner → p j ≤ p i) → oldest (Runner.Task t) js ≡ Some j
-  greatest-oldest t [] j e is least = cc
-  greatest-oldest t (i ∷ is) j e task least = by (first_greatest p is) e (λ f. greatest-oldest t is j f task least)
+-- What all live jobs pass, the running one passes, and the best one.
+module _ (v : View) (h : History) (p : Job → Bool) (tasks : list_all p (live_jobs h) ≡ true) (isrs : list_all p (isr_jobs h) ≡ true) where
+  pub running-passes : option_map_or p (running v h) true ≡ true
+  running-passes = either (oldest_entered (entered_isrs h) (isr_jobs h)) (entered (entered_isrs h))
     where
-      by : (o : Option Job) → Some (better_of p i o) ≡ Some j → (o ≡ Some j → oldest (Runner.Task t) is ≡ Some j) → oldest (Runner.Task t) (i ∷ is) ≡ Some j
-      by None e rest = let same : i ≡ j = cc in first-oldest t i is (ap (λ (x : Job). x.runner) same ∙ task) ∙ ap Some same
-      by (Some k) e rest = choose (nat_lt (p i) (p k)) refl e
-        where
-          passed : (b : Bool) → same_runner i.runner (Runner.Task t) ≡ b → k ≡ j → nat_lt (p i) (p k) ≡ true → cond b (Some i) (oldest (Runner.Task t) is) ≡ Some j
-          passed true f same lt =
-              let low : p j ≤ p i = least i (same_runner-true i.runner (Runner.Task t) f ∙ sym task) in
-              let one : p k ≡ p j = ap p same in
-              absurd (grind (arith, nat_tests, lt, one, low))
-          passed false f same lt = rest (ap Some same)
+      entered : (is : List IsrRef) → option_map_or p (oldest_entered is (isr_jobs h)) true ≡ true
+      entered [] = refl
+      entered (i ∷ is) = oldest-passes p (Runner.Isr i) (isr_jobs h) isrs
 
-          choose : (b : Bool) → nat_lt (p i) (p k) ≡ b → Some (cond b k i) ≡ Some j → oldest (Runner.Task t) (i ∷ is) ≡ Some j
-          choose true lt f = let same : k ≡ j = cc in passed (same_runner i.runner (Runner.Task t)) refl same lt
-          choose false lt f = let same : i ≡ j = cc in first-oldest t i is (ap (λ (x : Job). x.runner) same ∙ task) ∙ ap Some same
+      current : (o : Option TaskRef) → option_map_or p (oldest_of o (live_jobs h)) true ≡ true
+      current None = refl
+      current (Some t) = oldest-passes p (Runner.Task t) (live_jobs h) tasks
+
+      either : (o : Option Job) → option_map_or p o true ≡ true → option_map_or p (option_or o (current_job h)) true ≡ true
+      either None e = current (current_task h)
+      either (Some j) e = e
+
+  pub best-passes : option_map_or p (best_job v h) true ≡ true
+  best-passes = by (is_locked_in (rows_of v.own h) (running v h))
+    where
+      either : (o : Option Job) → option_map_or p o true ≡ true → option_map_or p (option_or o (best_task v h)) true ≡ true
+      either None e = greatest-passes p (current_priority v h) (filter (is_able v h) (live_jobs h)) (all-filter p (is_able v h) (live_jobs h) tasks)
+      either (Some j) e = e
+
+      by : (b : Bool) → option_map_or p (cond b (running v h) (option_or (first_greatest (level_by v.own) (isr_jobs h)) (best_task v h))) true ≡ true
+      by true = running-passes
+      by false = either (first_greatest (level_by v.own) (isr_jobs h)) (greatest-passes p (level_by v.own) (isr_jobs h) isrs)
 
 -- ---- a job stays the best where it gets no less and another gets no more
 
@@ -128,18 +143,18 @@ stays-best p q (x ∷ xs) j i e f up down = by (first_greatest p xs) (first_grea
 
 -- ---- priorities, where a job is raised
 
-module _ (v : View) (rows : List Row) where
+module _ (v : View) (js : List Job) (rows : List Row) where
   abbrev base : Job → ℕ
-  base j = greater (static_priority v.own j.runner) (greatest_ceiling (held_in j.runner rows))
+  base j = greater (static_priority v.own j.runner) (greatest_ceiling (held_by_job js rows j))
 
-  least : (o : Option Job) (j : Job) → base j ≤ priority_by v.own rows o j
+  least : (o : Option Job) (j : Job) → base j ≤ priority_by v.own js rows o j
   least o j = by (nat_lt (base j) (cond (option_map_or (same_job j) o false) (highest_of v.own.tasks) 0)) refl
     where
       by : (b : Bool) → nat_lt (base j) (cond (option_map_or (same_job j) o false) (highest_of v.own.tasks) 0) ≡ b → base j ≤ cond b (cond (option_map_or (same_job j) o false) (highest_of v.own.tasks) 0) (base j)
       by true lt = grind (arith, nat_tests, lt)
       by false lt = omega arith
 
-  unraised : (o : Option Job) (j : Job) → option_map_or (same_job j) o false ≡ false → priority_by v.own rows o j ≡ base j
+  unraised : (o : Option Job) (j : Job) → option_map_or (same_job j) o false ≡ false → priority_by v.own js rows o j ≡ base j
   unraised o j e = ap (λ (b : Bool). greater (base j) (cond b (highest_of v.own.tasks) 0)) e ∙ low (base j)
     where
       low : (n : ℕ) → greater n 0 ≡ n
@@ -163,23 +178,17 @@ not-raised v way (Some i) j e = by (is_preemptable v.own i.runner || option_map_
 abbrev BestRuns : View → History → Type 0
 BestRuns v h = (j : Job) → best_job v h ≡ Some j → option_map_or (same_job j) (running v h) false ≡ true
 
--- And nobody gives way any more.
+-- So it does if the core is still going, and nobody gives way any more.
 pub record Idle (v : View) (h : History) : Type 0 where
-  pub runs : BestRuns v h
+  pub runs : is_going (course_of h) ≡ true → BestRuns v h
   pub stays : giving_way h ≡ None
 
 -- ---- which jobs are able
 
--- Of a runner's jobs all are able, or none.
-able-runner : (all : List Row) (r : Runner) (js : List Job) → not (is_waiting (events_in r all)) ≡ true → oldest r (filter (is_able_in all) js) ≡ oldest r js
-able-runner all r [] able = refl
-able-runner all r (j ∷ js) able = by (same_runner j.runner r) refl (is_able_in all j) refl (able-runner all r js able)
-  where
-    by : (b : Bool) → same_runner j.runner r ≡ b → (c : Bool) → is_able_in all j ≡ c → oldest r (filter (is_able_in all) js) ≡ oldest r js → oldest r (cond c (j ∷ filter (is_able_in all) js) (filter (is_able_in all) js)) ≡ cond b (Some j) (oldest r js)
-    by true same true is rest = ap (λ (b : Bool). cond b (Some j) (oldest r (filter (is_able_in all) js))) same
-    by true same false is rest = absurd (false≢true (sym is ∙ ap (λ (q : Runner). not (is_waiting (events_in q all))) (same_runner-true j.runner r same) ∙ able))
-    by false same true is rest = ap (λ (b : Bool). cond b (Some j) (oldest r (filter (is_able_in all) js))) same ∙ rest
-    by false same false is rest = rest
+-- another job is this one, if it has its stamp
+alike : (i j : Job) (o : Option Job) → option_map_or (same_job j) o false ≡ true → option_map_or (same_job i) o false ≡ same_job i j
+alike i j None e = absurd (false≢true e)
+alike i j (Some k) e = ap (nat_eq i.stamp) (sym (eqb-true j.stamp k.stamp e))
 
 filtered-all : (p : Job → Bool) (js : List Job) → list_all p (filter p js) ≡ true
 filtered-all p [] = refl
@@ -200,8 +209,10 @@ entered-rows : (v : View) (o : Option TaskRef) (t : TaskRef) (h : History) → r
 entered-rows v None t h = refl
 entered-rows v (Some u) t h = refl
 
-best-runs : (v : View) (h : History) (j : Job) (t : TaskRef) → best_job v h ≡ Some j → j.runner ≡ Runner.Task t → option_map_or (same_job j) (running v h) false ≡ false → BestRuns v (enters (Runner.Task t) h)
-best-runs v h j t best task apart i f = choose (same_job i j) refl
+-- The job of a task that is entered is the current one then, and stays the best one of a task.
+task-stays : (v : View) (h : History) (j : Job) (t : TaskRef) → best_task v h ≡ Some j → j.runner ≡ Runner.Task t → option_map_or (same_job j) (current_job h) false ≡ false
+    → (i : Job) → best_task v (enters (Runner.Task t) h) ≡ Some i → option_map_or (same_job i) (current_job (enters (Runner.Task t) h)) false ≡ true
+task-stays v h j t best task apart i f = choose (same_job i j) refl
   where
     next : History
     next = enters (Runner.Task t) h
@@ -215,33 +226,110 @@ best-runs v h j t best task apart i f = choose (same_job i j) refl
     able : is_able v h j ≡ true
     able = among (is_able v h) (current_priority v h) (able_jobs v h) j (filtered-all (is_able v h) (live_jobs h)) best
 
-    still : rows_of v.own next ≡ rows_of v.own h
-    still = entered-rows v (current_task h) t h
+    before : Job → ℕ
+    before = base v (live_jobs h) (rows_of v.own h)
 
-    own : current_priority v h j ≡ base v (rows_of v.own h) j
-    own = unraised v (rows_of v.own h) (raised_of v.own (giving_way h) (running v h)) j (not-raised v (giving_way h) (running v h) j apart)
+    still : (k : Job) → base v (live_jobs next) (rows_of v.own next) k ≡ before k
+    still k = ap (λ (js : List Job). base v js (rows_of v.own next) k) jobs ∙ ap (λ (rows : List Row). base v (live_jobs h) rows k) (entered-rows v (current_task h) t h)
 
-    others : (k : Job) → k.runner ≡ j.runner → current_priority v h j ≤ current_priority v h k
-    others k same =
-        let alike : base v (rows_of v.own h) k ≡ base v (rows_of v.own h) j = ap (λ (r : Runner). greater (static_priority v.own r) (greatest_ceiling (held_in r (rows_of v.own h)))) same in
-        omega (arith, own, alike, least v (rows_of v.own h) (raised_of v.own (giving_way h) (running v h)) k)
+    own : current_priority v h j ≡ before j
+    own = unraised v (live_jobs h) (rows_of v.own h) (raised_of v.own (giving_way h) (current_job h)) j (not-raised v (giving_way h) (current_job h) j apart)
 
-    runs : running v next ≡ Some j
+    -- it is the oldest of its task, which runs next
+    runs : option_map_or (same_job j) (current_job next) false ≡ true
     runs =
-        ap (oldest (Runner.Task t)) jobs
-        ∙ sym (able-runner (rows_of v.own h) (Runner.Task t) (live_jobs h) (ap (λ (r : Runner). not (is_waiting (events_at v r h))) (sym task) ∙ able))
-        ∙ greatest-oldest (current_priority v h) t (able_jobs v h) j best task others
+        ap (λ (js : List Job). option_map_or (same_job j) (oldest (Runner.Task t) js) false) jobs
+        ∙ ap (λ (r : Runner). option_map_or (same_job j) (oldest r (live_jobs h)) false) (sym task)
+        ∙ (and_parts (is_oldest (live_jobs h) j) _ able).0
 
-    choose : (b : Bool) → same_job i j ≡ b → option_map_or (same_job i) (running v next) false ≡ true
-    choose true e = ap (λ (o : Option Job). option_map_or (same_job i) o false) runs ∙ e
+    choose : (b : Bool) → same_job i j ≡ b → option_map_or (same_job i) (current_job next) false ≡ true
+    choose true e = alike i j (current_job next) runs ∙ e
     choose false e =
-        let plain : current_priority v next i ≡ base v (rows_of v.own h) i =
-        unraised v (rows_of v.own next) (raised_of v.own (giving_way next) (running v next)) i (not-raised v (giving_way next) (running v next) i (ap (λ (o : Option Job). option_map_or (same_job i) o false) runs ∙ e))
-        ∙ ap (λ (rows : List Row). base v rows i) still in
-        let up : current_priority v h j ≤ current_priority v next j = omega (arith, own, ap (λ (rows : List Row). base v rows j) still, least v (rows_of v.own next) (raised_of v.own (giving_way next) (running v next)) j) in
-        let down : current_priority v next i ≤ current_priority v h i = omega (arith, plain, least v (rows_of v.own h) (raised_of v.own (giving_way h) (running v h)) i) in
+        let plain : current_priority v next i ≡ before i =
+        unraised v (live_jobs next) (rows_of v.own next) (raised_of v.own (giving_way next) (current_job next)) i (not-raised v (giving_way next) (current_job next) i (alike i j (current_job next) runs ∙ e)) ∙ still i in
+        let up : current_priority v h j ≤ current_priority v next j = omega (arith, own, still j, least v (live_jobs next) (rows_of v.own next) (raised_of v.own (giving_way next) (current_job next)) j) in
+        let down : current_priority v next i ≤ current_priority v h i = omega (arith, plain, least v (live_jobs h) (rows_of v.own h) (raised_of v.own (giving_way h) (current_job h)) i) in
         let same : j ≡ i = stays-best (current_priority v h) (current_priority v next) (able_jobs v h) j i best again up down in
         absurd (false≢true (sym e ∙ ap (λ (x : Job). same_job i x) same ∙ eq-eqb i.stamp i.stamp refl))
+
+-- ---- who runs then
+
+same-self : (j : Job) → same_job j j ≡ true
+same-self j = eq-eqb j.stamp j.stamp refl
+
+-- If the running job has suspended interrupts, it is the best one.
+best-is : (v : View) (h : History) → ((i : Job) → option_or (first_greatest (level_by v.own) (isr_jobs h)) (best_task v h) ≡ Some i → option_map_or (same_job i) (running v h) false ≡ true) → BestRuns v h
+best-is v h other i f = by (is_locked_in (rows_of v.own h) (running v h)) f
+  where
+    by : (b : Bool) → cond b (running v h) (option_or (first_greatest (level_by v.own) (isr_jobs h)) (best_task v h)) ≡ Some i → option_map_or (same_job i) (running v h) false ≡ true
+    by true e = ap (λ (o : Option Job). option_map_or (same_job i) o false) e ∙ same-self i
+    by false e = other i e
+
+-- The greatest job of a runner, none of whose jobs is less, is its oldest.
+greatest-oldest : (p : Job → ℕ) (r : Runner) (js : List Job) (j : Job) → first_greatest p js ≡ Some j → j.runner ≡ r → ((i : Job) → i.runner ≡ r → p j ≤ p i) → oldest r js ≡ Some j
+greatest-oldest p r [] j e is least = absurd (none-some j e)
+greatest-oldest p r (x ∷ js) j e is least = by (first_greatest p js) e (λ f. greatest-oldest p r js j f is least)
+  where
+    first : x ≡ j → oldest r (x ∷ js) ≡ Some j
+    first same =
+        ap (λ (b : Bool). cond b (Some x) (oldest r js)) (ap (λ (q : Runner). same_runner q r) (ap (λ (k : Job). k.runner) same ∙ is) ∙ same_runner-refl r) ∙ ap Some same
+
+    by : (o : Option Job) → Some (better_of p x o) ≡ Some j → (o ≡ Some j → oldest r js ≡ Some j) → oldest r (x ∷ js) ≡ Some j
+    by None f rest = first (same_Some x j f)
+    by (Some k) f rest = choose (nat_lt (p x) (p k)) refl (same_Some _ j f)
+      where
+        passed : (b : Bool) → same_runner x.runner r ≡ b → nat_lt (p x) (p k) ≡ true → k ≡ j → cond b (Some x) (oldest r js) ≡ Some j
+        passed true own lt same =
+            let low : p j ≤ p x = least x (same_runner-true x.runner r own) in
+            let one : p k ≡ p j = ap p same in
+            absurd (grind (arith, nat_tests, lt, one, low))
+        passed false own lt same = rest (ap Some same)
+
+        choose : (b : Bool) → nat_lt (p x) (p k) ≡ b → cond b k x ≡ j → oldest r (x ∷ js) ≡ Some j
+        choose true lt g = passed (same_runner x.runner r) refl lt g
+        choose false lt g = first g
+
+-- an ISR is started
+isr-runs : (v : View) (h : History) (j : Job) (x : IsrRef) → first_greatest (level_by v.own) (isr_jobs h) ≡ Some j → j.runner ≡ Runner.Isr x → BestRuns v (enters (Runner.Isr x) h)
+isr-runs v h j x best own = best-is v (enters (Runner.Isr x) h) same
+  where
+    level : (i : Job) → i.runner ≡ Runner.Isr x → level_by v.own j ≤ level_by v.own i
+    level i e = let alike : level_by v.own j ≡ level_by v.own i = ap (level_of v.own) (own ∙ sym e) in omega (arith, alike)
+
+    oldest-is : oldest (Runner.Isr x) (isr_jobs h) ≡ Some j
+    oldest-is = greatest-oldest (level_by v.own) (Runner.Isr x) (isr_jobs h) j best own level
+
+    same : (i : Job) → option_or (first_greatest (level_by v.own) (isr_jobs h)) (best_task v (enters (Runner.Isr x) h)) ≡ Some i → option_map_or (same_job i) (running v (enters (Runner.Isr x) h)) false ≡ true
+    same i e =
+        let is : j ≡ i = same_Some j i (sym (ap (λ (o : Option Job). option_or o (best_task v (enters (Runner.Isr x) h))) best) ∙ e) in
+        ap (λ (o : Option Job). option_map_or (same_job i) (option_or o (current_job h)) false) oldest-is ∙ subst (λ (k : Job). same_job i k ≡ true) (sym is) (same-self i)
+
+entered-interrupts : (o : Option TaskRef) (t : TaskRef) (h : History) → isr_jobs (Printed (Mark.PreTaskHook t) ∷ leaves o h) ≡ isr_jobs h
+entered-interrupts None t h = refl
+entered-interrupts (Some u) t h = refl
+
+-- If no job of an ISR is live, the current job runs.
+current-runs : (v : View) (h : History) → isr_jobs h ≡ [] → running v h ≡ current_job h
+current-runs v h none =
+    ap (λ (js : List Job). option_or (oldest_entered (entered_isrs h) js) (current_job h)) none ∙ ap (λ (o : Option Job). option_or o (current_job h)) (no-entered (entered_isrs h))
+
+-- a task is entered
+task-runs : (v : View) (h : History) (j : Job) (t : TaskRef) → isr_jobs h ≡ [] → best_task v h ≡ Some j → j.runner ≡ Runner.Task t → option_map_or (same_job j) (running v h) false ≡ false → BestRuns v (enters (Runner.Task t) h)
+task-runs v h j t none best task apart = best-is v next same
+  where
+    next : History
+    next = enters (Runner.Task t) h
+
+    none_next : isr_jobs next ≡ []
+    none_next = entered-interrupts (current_task h) t h ∙ none
+
+    apart_current : option_map_or (same_job j) (current_job h) false ≡ false
+    apart_current = ap (λ (o : Option Job). option_map_or (same_job j) o false) (sym (current-runs v h none)) ∙ apart
+
+    same : (i : Job) → option_or (first_greatest (level_by v.own) (isr_jobs next)) (best_task v next) ≡ Some i → option_map_or (same_job i) (running v next) false ≡ true
+    same i e =
+        ap (λ (o : Option Job). option_map_or (same_job i) o false) (current-runs v next none_next)
+        ∙ task-stays v h j t best task apart_current i (sym (ap (λ (js : List Job). option_or (first_greatest (level_by v.own) js) (best_task v next)) none_next) ∙ e)
 
 idle-goes_to : (v : View) (h : History) → BestRuns v (goes_to v (best_job v h) h)
 idle-goes_to v h = by (best_job v h) refl
@@ -250,13 +338,30 @@ idle-goes_to v h = by (best_job v h) refl
     by None e = λ j f. absurd (none-some j (sym e ∙ f))
     by (Some j) e = choose (option_map_or (same_job j) (running v h) false) refl
       where
-        entered : (r : Runner) → j.runner ≡ r → is_task_runner r ≡ true → option_map_or (same_job j) (running v h) false ≡ false → BestRuns v (enters r h)
-        entered (Runner.Task t) is task apart = best-runs v h j t e is apart
-        entered (Runner.Isr i) is task apart = absurd (false≢true task)
+        -- the best job is not the running one, so that one has not suspended interrupts
+        entered : option_map_or (same_job j) (running v h) false ≡ false → BestRuns v (enters j.runner h)
+        entered apart = locked (is_locked_in (rows_of v.own h) (running v h)) e
+          where
+            of_isr : (r : Runner) → j.runner ≡ r → first_greatest (level_by v.own) (isr_jobs h) ≡ Some j → BestRuns v (enters r h)
+            of_isr (Runner.Isr x) is best = isr-runs v h j x best is
+            of_isr (Runner.Task t) is best = absurd (false≢true (sym (ap (λ (r : Runner). not (is_task_runner r)) is) ∙ among is_isr_job (level_by v.own) (isr_jobs h) j (all-isrs h) best))
+
+            of_task : (r : Runner) → j.runner ≡ r → isr_jobs h ≡ [] → best_task v h ≡ Some j → BestRuns v (enters r h)
+            of_task (Runner.Task t) is none best = task-runs v h j t none best is apart
+            of_task (Runner.Isr x) is none best =
+                absurd (false≢true (sym (ap is_task_runner is) ∙ among is_task_job (current_priority v h) (able_jobs v h) j (all-filter is_task_job (is_able v h) (live_jobs h) (all-tasks h)) best))
+
+            either : (o : Option Job) → first_greatest (level_by v.own) (isr_jobs h) ≡ o → option_or o (best_task v h) ≡ Some j → BestRuns v (enters j.runner h)
+            either None f g = of_task j.runner refl (none-chosen (level_by v.own) (isr_jobs h) f) g
+            either (Some k) f g = of_isr j.runner refl (f ∙ g)
+
+            locked : (b : Bool) → cond b (running v h) (option_or (first_greatest (level_by v.own) (isr_jobs h)) (best_task v h)) ≡ Some j → BestRuns v (enters j.runner h)
+            locked true f = absurd (false≢true (sym apart ∙ ap (λ (o : Option Job). option_map_or (same_job j) o false) f ∙ same-self j))
+            locked false f = either (first_greatest (level_by v.own) (isr_jobs h)) refl f
 
         choose : (b : Bool) → option_map_or (same_job j) (running v h) false ≡ b → BestRuns v (cond b h (enters j.runner h))
         choose true runs = λ i f. subst (λ (x : Job). option_map_or (same_job x) (running v h) false ≡ true) (same_Some _ _ (sym e ∙ f)) runs
-        choose false apart = entered j.runner refl (among is_task_job (current_priority v h) (able_jobs v h) j (all-filter is_task_job (is_able v h) (live_jobs h) (all-tasks h)) e) apart
+        choose false apart = entered apart
 
 entered-way : (o : Option TaskRef) (h : History) → giving_way (leaves o h) ≡ giving_way h
 entered-way None h = refl
@@ -274,24 +379,43 @@ goes_to-way v (Some j) h = by (option_map_or (same_job j) (running v h) false)
     by true = refl
     by false = entered j.runner
 
--- a core drains, and goes to its best job; the end of the pass changes nothing
+-- a core drains, and goes to its best job unless it is down; the end of the pass changes nothing
 pub drained-idle : (v : View) (h : History) → open_call h ≡ None → Idle v (after v h Item.Drained)
 drained-idle v h none =
-    subst (λ (o : Option OpenCall). Idle v (cond (is_none o) (goes_to v (best_job v (Took Item.Drained ∷ h)) (Took Item.Drained ∷ h)) (Took Item.Drained ∷ h))) (sym none)
-    (record { runs = idle-goes_to v (Took Item.Drained ∷ h); stays = goes_to-way v (best_job v (Took Item.Drained ∷ h)) (Took Item.Drained ∷ h) })
+    subst (λ (o : Option OpenCall). Idle v (cond (is_none o && is_going (course_of h)) (goes_to v (best_job v next) next) next)) (sym none) (by (is_going (course_of h)) refl)
+  where
+    next : History
+    next = Took Item.Drained ∷ h
+
+    by : (b : Bool) → is_going (course_of h) ≡ b → Idle v (cond b (goes_to v (best_job v next) next) next)
+    by true e = record { runs = λ going. idle-goes_to v next; stays = goes_to-way v (best_job v next) next }
+    by false e = record { runs = λ going. absurd (false≢true (sym e ∙ going)); stays = refl }
 
 pub end-idle : (v : View) (h : History) → Idle v h → after v h Item.PassEnd ≡ Took Item.PassEnd ∷ h
-end-idle v h idle = by (best_job v (Took Item.PassEnd ∷ h)) same
+end-idle v h idle = by (best_job v next) same
   where
-    same : best_job v h ≡ best_job v (Took Item.PassEnd ∷ h)
-    same = ap (λ (way : Option Runner). first_greatest (priority_by v.own (rows_of v.own h) (raised_of v.own way (current_job h))) (filter (is_able v h) (live_jobs h))) idle.stays
+    next : History
+    next = Took Item.PassEnd ∷ h
+
+    same : best_job v h ≡ best_job v next
+    same = ap (λ (way : Option Runner). cond (is_locked_in (rows_of v.own h) (running v h)) (running v h)
+        (option_or (first_greatest (level_by v.own) (isr_jobs h)) (first_greatest (priority_by v.own (live_jobs h) (rows_of v.own h) (raised_of v.own way (current_job h))) (filter (is_able v h) (live_jobs h))))) idle.stays
 
     stays : (b : Bool) (x : History) → cond b x x ≡ x
     stays true x = refl
     stays false x = refl
 
-    by : (o : Option Job) → best_job v h ≡ o → cond (is_none (open_call h)) (goes_to v o (Took Item.PassEnd ∷ h)) (Took Item.PassEnd ∷ h) ≡ Took Item.PassEnd ∷ h
-    by None e = stays (is_none (open_call h)) (Took Item.PassEnd ∷ h)
-    by (Some j) e =
-        ap (λ (b : Bool). cond (is_none (open_call h)) (cond b (Took Item.PassEnd ∷ h) (enters j.runner (Took Item.PassEnd ∷ h))) (Took Item.PassEnd ∷ h)) (idle.runs j e)
-        ∙ stays (is_none (open_call h)) (Took Item.PassEnd ∷ h)
+    down : (b : Bool) (x y : History) → cond (b && false) x y ≡ y
+    down true x y = refl
+    down false x y = refl
+
+    turn : (j : Job) → best_job v h ≡ Some j → (b : Bool) → is_going (course_of h) ≡ b
+        → cond (is_none (open_call h) && b) (cond (option_map_or (same_job j) (running v h) false) next (enters j.runner next)) next ≡ next
+    turn j e true going =
+        ap (λ (runs : Bool). cond (is_none (open_call h) && true) (cond runs next (enters j.runner next)) next) (idle.runs going j e)
+        ∙ stays (is_none (open_call h) && true) next
+    turn j e false going = down (is_none (open_call h)) _ next
+
+    by : (o : Option Job) → best_job v h ≡ o → cond (is_none (open_call h) && is_going (course_of h)) (goes_to v o next) next ≡ next
+    by None e = stays (is_none (open_call h) && is_going (course_of h)) next
+    by (Some j) e = turn j e (is_going (course_of h)) refl

@@ -19,6 +19,7 @@ use Rattle.osplan.specs.declared.plans.Task.{Task}
 use Rattle.osplan.specs.Objects.{core_actions}
 use Rattle.osplan.specs.Separate.{acts_on, has_operation, is_named_elsewhere, is_off, is_on, names_object, op_names}
 use Rattle.osplan.specs.View.{View, core_of, no_core, view_of}
+use Rattle.osplan.proofs.Scripts.{no-operation}
 use Rattle.osplan.proofs.Tests.{all-not, all-weaker, fails-at, find-fails, find-holds}
 use Rattle.osstate.specs.Readings.{script_of}
 use Rattle.osact.proofs.Kept.{is_within, nobody}
@@ -33,7 +34,7 @@ script-fails : (own : Core) (test : Op → Bool) → has_operation test own ≡ 
 script-fails own test none r n op e = by r e
   where
     parts : (list_any (λ (x : Task). list_any test x.script) own.tasks ≡ false) × (list_any (λ (x : Isr). list_any test x.script) own.isrs ≡ false)
-    parts = or_parts (list_any (λ (x : Task). list_any test x.script) own.tasks) (list_any (λ (x : Isr). list_any test x.script) own.isrs) none
+    parts = no-operation test own none
 
     of_task : (i : ℕ) (b : Bool) (o : Option Task) → slice_get own.tasks i ≡ o → slice_get (option_map_or (λ (task : Task). task.script) (cond b o None) []) n ≡ Some op → test op ≡ false
     of_task i true (Some task) f g = fails-at test task.script n op (fails-at (λ (x : Task). list_any test x.script) own.tasks i task parts.0 f) g

@@ -11,7 +11,7 @@ use Rattle.osplan.specs.View.{View}
 use Rattle.osstate.specs.Readings.{next_start, phase_at}
 use Rattle.osstate.specs.State.{state_of}
 use Rattle.oskernel.specs.Admission.{admits, are_started_cores, is_agreement, is_start_answer}
-use Rattle.oskernel.specs.Free.{is_settled}
+use Rattle.oskernel.specs.Free.{is_settled, may_go_on}
 use Rattle.oskernel.specs.Step.{after, history_from, outbox_size, solo_from, takes}
 
 -- An envelope goes, or comes.
@@ -41,7 +41,7 @@ stage v h Item.Entered m t = ap Some (stands_in-is Phase.Boot (phase_at v h) (an
 stage v h (Item.Pass1 a) m t = ap Some (stands_in-is Phase.FirstGate (phase_at v h) (and_parts _ (is_agreement v v.own.mode a) t).0)
 stage v h Item.Readied m t = ap Some (stands_in-is Phase.BetweenGates (phase_at v h) t)
 stage v h (Item.Pass2 cores) m t = ap Some (stands_in-is Phase.SecondGate (phase_at v h) (and_parts _ (are_started_cores v cores) t).0)
-stage v h (Item.Stim s) m t = ap Some (stands_in-is Phase.Live (phase_at v h) (and_parts _ (knows_stimulus v.own s) (and_parts _ (is_settled (state_of v h)) t).0).0)
+stage v h (Item.Stim s) m t = ap Some (stands_in-is Phase.Live (phase_at v h) (and_parts _ (knows_stimulus v.own s) (and_parts _ (may_go_on (state_of v h)) t).0).0)
 stage v h (Item.Posted to) m t = absurd (true≢false m)
 stage v h (Item.Received from number message) m t = absurd (true≢false m)
 stage v h Item.Drained m t = ap Some (stands_in-is Phase.Live (phase_at v h) (and_parts _ (is_settled (state_of v h)) t).0)

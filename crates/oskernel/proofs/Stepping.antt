@@ -7,7 +7,7 @@ use Rattle.osbase.specs.declared.items.CoreSet.{CoreSet}
 use Rattle.osbase.specs.declared.items.Item.{Item}
 use Rattle.osbase.specs.declared.items.Stimulus.{Stimulus}
 use Rattle.osbase.specs.declared.histories.Job.{Job}
-use Rattle.osbase.specs.Phases.{is_scheduling}
+use Rattle.osbase.specs.Phases.{is_going, is_scheduling}
 use Rattle.osbase.specs.Sets.{has_core}
 use Rattle.osbase.specs.History.{Entry, History, Took, Printed, Noted, current_task, same_core}
 use Rattle.osbase.proofs.Same.{same_core-true}
@@ -17,7 +17,7 @@ use Rattle.osact.specs.Seen.{seen_of}
 use Rattle.osact.proofs.Kept.{IsKept, anybody, is_local, is_within, nobody, none-awaited, seen_as}
 use Rattle.osact.proofs.SeenSame.{ReadsSame, seen-same}
 use Rattle.oskernel.specs.Step.{after, effect}
-use Rattle.oskernel.proofs.Among.{agreement-same, among, base_of, best-later, count-same, counts-same, current-same, delay, later, open-same, phase-same, rows-same, running-later, settings-same, stamp-later, tables-same}
+use Rattle.oskernel.proofs.Among.{agreement-same, among, base_of, best-later, count-same, counts-same, course-same, current-same, delay, later, open-same, pending-same, phase-same, rows-same, running-later, settings-same, stamp-later, tables-same}
 use Rattle.oskernel.proofs.Carried.{NamesAllow, acting-anybody, after-carried, is_replied, leave_all, next_job, next_of}
 
 -- What is around a core that is the master of these.
@@ -50,7 +50,7 @@ module _ (v : View) (ids : List CoreId) (s : CoreSet) where
   next-here : (k : History) → next_of v (here k) ≡ next_of self k
   next-here k =
       let next = (λ i. next_job (best-later v s v.around.is_master k i) (running-later v s v.around.is_master k i)) ∙ later-next (delay v.around.is_master) (best_job self k) (running self k) in
-      λ i. cond (is_scheduling (phase-same s v.around.is_master k i) && is_none (open-same s v.around.is_master k i)) (next i) None
+      λ i. cond (is_scheduling (phase-same s v.around.is_master k i) && (is_none (open-same s v.around.is_master k i) && is_going (course-same s v.around.is_master k i))) (next i) None
 
   steers : (h k : History) → Along h k → (current_task h ≡ current_task k) × (next_of v h ≡ next_of self k)
   steers h k p = (ap current_task p.same ∙ current-same s v.around.is_master k, ap (next_of v) p.same ∙ next-here k)
@@ -58,11 +58,13 @@ module _ (v : View) (ids : List CoreId) (s : CoreSet) where
   reads-here : (k : History) → ReadsSame v (here k) k
   reads-here k = record {
     jobs = λ r. count-same s v.around.is_master r k;
-    rows = rows-same v.own s v.around.is_master k;
+    rows = rows-same v s v.around.is_master k;
+    pending = λ i. pending-same i s v.around.is_master k;
     counts = λ c. counts-same c s v.around.is_master k;
     settings = λ c a. settings-same c a s v.around.is_master k;
     tables = λ c t. tables-same c t s v.around.is_master k;
     agreement = agreement-same s v.around.is_master k;
+    course = course-same s v.around.is_master k;
     running = (λ i. option_map (λ (j : Job). j.runner) (running-later v s v.around.is_master k i)) ∙ later-runner (delay v.around.is_master) (running v k);
     awaits = open-same s v.around.is_master k;
   }
@@ -97,9 +99,13 @@ module _ (v : View) (ids : List CoreId) (s : CoreSet) where
     same-after : (k : History) (item item' : Item) → is_replied nobody anybody item ≡ true → effect item ≡ effect item' → Along (Took item ∷ here k) (Took item' ∷ k) → after v (here k) item ≡ here (after self k item')
     same-after k item item' replied same along = (after-carried (leave_all v nobody nobody) allowed (around_master ids) Along kept steers (λ h n p. acting-anybody v nobody nobody h) (here k) k item item' replied same along).same
 
+    replied : (stimulus : Stimulus) → is_replied nobody anybody (Item.Stim stimulus) ≡ true
+    replied (Stimulus.Irq isr) = refl
+    replied stimulus = refl
+
     -- So it is with the next stimulus, the end of the stimuli, and the second gate.
     pub same-stimulus : (stimulus : Stimulus) (k : History) → knows_started (here k) v.core ≡ true → knows_started k v.core ≡ true → after v (here k) (Item.Stim stimulus) ≡ here (after self k (Item.Stim stimulus))
-    same-stimulus stimulus k there alone = same-after k (Item.Stim stimulus) (Item.Stim stimulus) refl refl (record { same = refl; started = there ∙ sym alone })
+    same-stimulus stimulus k there alone = same-after k (Item.Stim stimulus) (Item.Stim stimulus) (replied stimulus) refl (record { same = refl; started = there ∙ sym alone })
 
     pub same-drained : (k : History) → knows_started (here k) v.core ≡ true → knows_started k v.core ≡ true → after v (here k) Item.Drained ≡ here (after self k Item.Drained)
     same-drained k there alone = same-after k Item.Drained Item.Drained refl refl (record { same = refl; started = there ∙ sym alone })

@@ -20,13 +20,13 @@ use Rattle.osstate.specs.Sound.{is_posted, is_sender_known}
 use Rattle.oscript.specs.Calls.{is_action}
 use Rattle.oscall.specs.Border.{is_served}
 use Rattle.oskernel.specs.Admission.{admits, is_awaited, is_front_for, is_reply_to}
-use Rattle.oskernel.specs.Free.{is_empty, is_settled}
+use Rattle.oskernel.specs.Free.{is_empty, may_go_on}
 use Rattle.oskernel.specs.Taking.{is_acting, is_answered, is_filling, is_going_on, is_known, is_second_gate}
 use Rattle.oskernel.proofs.Phases.{scheduling_past}
 
 pub acting : (places : ℕ) (s : KernelState) (item : Item) → admits places s item ≡ true → is_acting item ≡ true → is_before_live (phase_after (Took item) s.progress.phase) ≡ false
 acting places s (Item.Pass2 cores) a b = refl
-acting places s (Item.Stim stimulus) a b = in_phase Phase.Live s.progress.phase is_before_live (and_parts (stands_in Phase.Live s.progress.phase) _ (and_parts _ (is_settled s) a).0).0 refl
+acting places s (Item.Stim stimulus) a b = in_phase Phase.Live s.progress.phase is_before_live (and_parts (stands_in Phase.Live s.progress.phase) _ (and_parts _ (may_go_on s) a).0).0 refl
 acting places s (Item.Received from number message) a b = scheduling_past s.progress.phase (and_parts (is_scheduling s.progress.phase) _ a).0
 acting places s item a b = absurd (false≢true b)
 
@@ -58,7 +58,7 @@ none-long (x ∷ xs) e = absurd (false≢true e)
 
 pub filling : (places : ℕ) (s : KernelState) (item : Item) → 1 ≤ places → admits places s item ≡ true → is_filling item ≡ true → length (outbox_after (Took item) s.border.outbox) < places
 filling places s (Item.Stim stimulus) some a b =
-    omega (arith, none-long s.border.outbox (and_parts _ (is_empty s.border.outbox) (and_parts _ (is_settled s) a).1).1)
+    omega (arith, none-long s.border.outbox (and_parts _ (is_empty s.border.outbox) (and_parts _ (may_go_on s) a).1).1)
 filling places s (Item.Received from number (Message.Request call)) some a b =
     ltb-true (length s.border.outbox) places (and_parts (is_served s.view call) (nat_lt (length s.border.outbox) places) (and_parts _ (is_awaited places s from (Message.Request call)) (and_parts (is_scheduling s.progress.phase) _ a).1).1).1
 filling places s (Item.Received from number (Message.Action call)) some a b = absurd (false≢true b)
@@ -71,7 +71,7 @@ empty [] e = refl
 empty (x ∷ xs) e = absurd (false≢true e)
 
 pub going_on : (places : ℕ) (s : KernelState) (item : Item) → admits places s item ≡ true → is_going_on item ≡ true → outbox_after (Took item) s.border.outbox ≡ []
-going_on places s (Item.Stim stimulus) a b = empty s.border.outbox (and_parts _ (is_empty s.border.outbox) (and_parts _ (is_settled s) a).1).1
+going_on places s (Item.Stim stimulus) a b = empty s.border.outbox (and_parts _ (is_empty s.border.outbox) (and_parts _ (may_go_on s) a).1).1
 going_on places s item a b = absurd (false≢true b)
 
 -- an admitted item is a stimulus that the core knows, or a message that is answered, or neither kind
@@ -86,6 +86,6 @@ message-known places s from (Message.Reply status) a = reply-known status false 
 message-known places s from (Message.Value status n) a = reply-known status true from s.border.open_call a
 
 pub known : (places : ℕ) (s : KernelState) (item : Item) → admits places s item ≡ true → is_known s item ≡ true
-known places s (Item.Stim stimulus) a = (and_parts _ (knows_stimulus s.view.own stimulus) (and_parts _ (is_settled s) a).0).1
+known places s (Item.Stim stimulus) a = (and_parts _ (knows_stimulus s.view.own stimulus) (and_parts _ (may_go_on s) a).0).1
 known places s (Item.Received from number message) a = message-known places s from message (and_parts _ (is_awaited places s from message) (and_parts (is_scheduling s.progress.phase) _ a).1).1
 known places s item a = refl

@@ -27,7 +27,7 @@ use Rattle.osstate.specs.State.{KernelState}
 use Rattle.osact.specs.Checks.{is_ok_status}
 use Rattle.oscript.specs.Calls.{is_action}
 use Rattle.oscall.specs.Border.{is_served}
-use Rattle.oskernel.specs.Free.{is_settled}
+use Rattle.oskernel.specs.Free.{is_settled, may_go_on}
 
 -- `StartCore` answers E_OS_ID exactly for a core that is not configured, and else E_OK, or E_OS_STATE for one
 -- that was started already. [AUTOSAR SWS OS 4.x, StartCore; E_OS_STATE before StartOS]
@@ -102,7 +102,7 @@ admits places s Item.Entered = stands_in Phase.Boot s.progress.phase && is_none 
 admits places s (Item.Pass1 agreement) = stands_in Phase.FirstGate s.progress.phase && is_agreement s.view s.view.own.mode agreement
 admits places s Item.Readied = stands_in Phase.BetweenGates s.progress.phase
 admits places s (Item.Pass2 cores) = stands_in Phase.SecondGate s.progress.phase && are_started_cores s.view cores
-admits places s (Item.Stim stimulus) = stands_in Phase.Live s.progress.phase && knows_stimulus s.view.own stimulus && is_settled s
+admits places s (Item.Stim stimulus) = stands_in Phase.Live s.progress.phase && knows_stimulus s.view.own stimulus && may_go_on s
 admits places s (Item.Posted core) = is_scheduling s.progress.phase && is_front_for core s.border.outbox
 admits places s (Item.Received from number message) = is_scheduling s.progress.phase && is_next_from places s from number message
 admits places s (Item.Granted spinlock) = false

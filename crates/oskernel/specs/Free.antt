@@ -1,7 +1,7 @@
 -- Whether a core may go on by itself.
 use Rattle.std.specs.Prelude.{◌&&◌, Bool, true, false, is_none, List, [], ◌∷◌}
 use Rattle.osbase.specs.declared.histories.Sent.{Sent}
-use Rattle.osbase.specs.Phases.{is_scheduling}
+use Rattle.osbase.specs.Phases.{is_going, is_scheduling}
 use Rattle.osstate.specs.State.{KernelState}
 
 -- No call is open. [own]
@@ -12,10 +12,18 @@ abbrev pub is_empty : List Sent → Bool
 is_empty [] = true
 is_empty (s ∷ ss) = false
 
--- No call is open, and nothing waits in the outbox: so a core takes its next stimulus. [own]
+-- No call is open, and nothing waits in the outbox: so a core drains. [own]
 abbrev pub is_settled : KernelState → Bool
 is_settled s = is_free s && is_empty s.border.outbox
 
--- The core schedules, and no call is open. [OSEK/VDX OS 2.2.3, section 4.6; that a core waits for a reply is this project's own]
+-- The core is active: it did not go down, and no call is open. [own]
+abbrev pub is_active : KernelState → Bool
+is_active s = is_free s && is_going s.progress.course
+
+-- An active core takes its next stimulus where nothing waits in the outbox. [own]
+abbrev pub may_go_on : KernelState → Bool
+may_go_on s = is_active s && is_empty s.border.outbox
+
+-- An active core that schedules dispatches. [OSEK/VDX OS 2.2.3, section 4.6; that a core waits for a reply is this project's own]
 abbrev pub may_dispatch : KernelState → Bool
-may_dispatch s = is_scheduling s.progress.phase && is_free s
+may_dispatch s = is_scheduling s.progress.phase && is_active s

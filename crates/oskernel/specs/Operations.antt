@@ -1,11 +1,18 @@
--- What an operation of a job does: the call that it is, or what the table says that has a row for it.
-use Rattle.std.specs.Prelude.{Option, Some, None, unwrap_or}
+-- What an operation of a job does: the call that it is, or what the table says that has a row for it; but while the job has suspended
+-- interrupts, nearly all services are refused.
+use Rattle.std.specs.Prelude.{Bool, true, false, if◌then◌else◌, Option, Some, None, unwrap_or}
+use Rattle.osbase.specs.declared.statuses.Status.TheVariants.{EOsDisabledint}
 use Rattle.osbase.specs.declared.statuses.ServiceId.{ServiceId}
+use Rattle.osbase.specs.declared.statuses.ServiceId.TheVariants as Service
 use Rattle.osbase.specs.declared.messages.RemoteCall.{RemoteCall}
 use Rattle.osbase.specs.declared.references.Runner.{Runner}
 use Rattle.oscript.specs.declared.Op.{Op}
 use Rattle.oscript.specs.Calls.{call_of_op}
-use Rattle.osact.specs.Acts.{Acts, nothing}
+use Rattle.oscript.specs.Frames.{service_of_op}
+use Rattle.osact.specs.Acts.{Acts, look, nothing}
+use Rattle.osact.specs.Callers.{has_suspended}
+use Rattle.osact.specs.Returning.{returns}
+use Rattle.osact.specs.Seen.{Seen}
 use Rattle.ostaskcall.specs.Tasks.{task_acts}
 use Rattle.osalarmcall.specs.Counters.{counter_acts}
 use Rattle.ostablecall.specs.Tables.{table_acts}
@@ -30,5 +37,27 @@ abbrev pub operates_by : Runner → Op → Option (ServiceId × Option RemoteCal
 operates_by r op None = acts_alone r op
 operates_by r op (Some c) = calls r c.0 c.1
 
+-- The services of spinlocks act in full while their caller has suspended interrupts. [own]
+abbrev pub acts_suspended : ServiceId → Bool
+acts_suspended Service.GetSpinlock = true
+acts_suspended Service.TryToGetSpinlock = true
+acts_suspended Service.ReleaseSpinlock = true
+acts_suspended service = false
+
+-- The service that is refused while its caller has suspended interrupts: each that answers a status, but for these.
+abbrev pub refused_of : Option ServiceId → Option ServiceId
+refused_of None = None
+refused_of (Some service) = if acts_suspended service then None else Some service
+
+-- The service of an operation that is refused now.
+abbrev pub refused_now : Seen → Runner → Op → Option ServiceId
+refused_now s r op = if has_suspended s r then refused_of (service_of_op op) else None
+
+-- Such a service answers E_OS_DISABLEDINT and has no effect; whatever else it would check comes after this.
+-- [AUTOSAR SWS OS 4.x, SWS_Os_00093]
+abbrev pub operates_unless : Runner → Option ServiceId → Acts → Acts
+operates_unless r None acts = acts
+operates_unless r (Some service) acts = returns r service EOsDisabledint None
+
 abbrev pub operates : Runner → Op → Acts
-operates r op = operates_by r op (call_of_op op)
+operates r op = look (λ s. operates_unless r (refused_now s r op) (operates_by r op (call_of_op op)))

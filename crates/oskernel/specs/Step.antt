@@ -3,8 +3,10 @@ use Rattle.std.specs.Prelude.{ℕ, ℤ, ◌==◌, Bool, false, if◌then◌else�
 use Rattle.std.specs.List.{enumerate_from, list_any}
 use Rattle.std.specs.Option.{option_map_or}
 use Rattle.osbase.specs.declared.statuses.Status.{Status}
+use Rattle.osbase.specs.declared.statuses.Status.TheVariants.{EOsCore}
 use Rattle.osbase.specs.declared.references.CoreId.{CoreId}
 use Rattle.osbase.specs.declared.references.ModeId.{ModeId}
+use Rattle.osbase.specs.declared.references.IsrRef.{IsrRef}
 use Rattle.osbase.specs.declared.references.TaskRef.{TaskRef}
 use Rattle.osbase.specs.declared.references.Runner.{Runner}
 use Rattle.osbase.specs.declared.messages.Message.{Message}
@@ -16,6 +18,7 @@ use Rattle.osbase.specs.declared.histories.Job.{Job}
 use Rattle.osbase.specs.declared.histories.OpenCall.{OpenCall}
 use Rattle.osbase.specs.declared.histories.Awaited.{Awaited}
 use Rattle.osbase.specs.History.{History, Printed, TableStarted, Took, same_job, current_task}
+use Rattle.osbase.specs.Phases.{is_going}
 use Rattle.oscript.specs.declared.Action.{Action}
 use Rattle.oscript.specs.declared.Action.TheVariants.{Perform, End}
 use Rattle.oscript.specs.Frames.{action_at}
@@ -31,7 +34,7 @@ use Rattle.osclock.specs.Clocks.{alarm_ref, counter_ref}
 use Rattle.ostable.specs.Tables.{table_ref}
 use Rattle.osstate.specs.Readings.{script_of, best_job, running, task_ref}
 use Rattle.osstate.specs.State.{state_of}
-use Rattle.osact.specs.Acts.{Acts, both, does, for_each, look, notes, nothing, prints, when}
+use Rattle.osact.specs.Acts.{Acts, Sends, both, does, for_each, look, notes, nothing, one_then, prints, when}
 use Rattle.osalarmcall.specs.Alarms.{sets_alarm}
 use Rattle.osdue.specs.Advancing.{counts}
 use Rattle.ostaskcall.specs.Tasks.{activates, ends_unasked}
@@ -39,6 +42,7 @@ use Rattle.oscall.specs.Border.{serves_request, serves_action}
 use Rattle.oscall.specs.Chaining.{resumes}
 use Rattle.oskernel.specs.Operations.{operates}
 use Rattle.oskernel.specs.Admission.{serves_in, takes_in}
+use Rattle.oskernel.specs.Faults.{protects}
 use Rattle.oskernel.specs.Free.{may_dispatch}
 
 -- An item may be taken where the state may take it to which the history leads. `places` is how many envelopes the outbox
@@ -96,19 +100,33 @@ performs r End = ends_unasked r
 abbrev pub goes_on : Option Runner → Acts
 goes_on running = option_map_or (λ (r : Runner). look (λ s. performs r (action_at (script_of s.core r) (s.row r).frame))) running nothing
 
--- The stimulus `tick`: its line, and then each hardware counter of the core goes on by one, in index order, and what is due by it
--- acts. [OSEK/VDX OS 2.2.3, section 9.1; AUTOSAR SWS OS 4.x, OsCounterType; the order: own]
+-- A counter of the core goes on by one, if it is a hardware counter, and what is due by it acts.
+-- [OSEK/VDX OS 2.2.3, section 9.1; AUTOSAR SWS OS 4.x, OsCounterType]
 abbrev pub counts_if_hardware : Core → ℕ → Counter → Acts
 counts_if_hardware core n counter = when counter.software nothing (counts (counter_ref core n))
 
-abbrev pub ticks : Acts
-ticks = both (prints Mark.Tick) (look (λ s. in_turn (counts_if_hardware s.core) s.core.counters))
+-- Each does, in index order; none of a core that is down. [the order: own]
+abbrev pub counts_each : Acts
+counts_each = look (λ s. in_turn (counts_if_hardware s.core) s.core.counters)
 
--- A stimulus. An interrupt cannot be taken yet.
+abbrev pub counts_unless_down : Acts
+counts_unless_down = look (λ s. when (is_going s.course) counts_each nothing)
+
+-- The stimulus `tick`: its line, by which the running job has used one tick of its budget; what follows if that was the last one; and then
+-- the counters. [the order: own]
+abbrev pub ticks : Acts
+ticks = both (prints Mark.Tick) (both (look (λ s. protects s s.running)) counts_unless_down)
+
+-- The stimulus `irq`: a job of the ISR is pending from here on; if one is pending already, the interrupt is lost.
+-- [AUTOSAR SWS OS 4.x, section 7.6; that one is pending at most: own]
+abbrev pub raises : IsrRef → Acts
+raises i = look (λ s. when (s.is_pending i) (prints (Mark.InterruptLost i)) (prints (Mark.InterruptAccepted i)))
+
+-- A stimulus.
 abbrev pub stimulates : Stimulus → Acts
 stimulates Stimulus.Op = look (λ s. goes_on s.running)
 stimulates Stimulus.Tick = ticks
-stimulates (Stimulus.Irq isr) = nothing
+stimulates (Stimulus.Irq isr) = raises isr
 
 -- The job whose call awaits a reply goes on with it; where none does, nothing happens. [own]
 abbrev pub resumes_with : Runner → Awaited → Status → Option ℤ → Acts
@@ -118,15 +136,15 @@ resumes_with r awaited status value = nothing
 abbrev pub closes : Option OpenCall → Status → Option ℤ → Acts
 closes awaits status value = option_map_or (λ (call : OpenCall). resumes_with call.runner call.awaits status value) awaits nothing
 
--- A message of another core.
+-- A message of another core. A core that is down answers each request E_OS_CORE and drops actions, without a line for either. [own]
 abbrev pub receives : CoreId → Message → Acts
-receives from (Message.Request call) = serves_request from call
-receives from (Message.Action call) = serves_action from call
+receives from (Message.Request call) = look (λ s. when (is_going s.course) (serves_request from call) (one_then (Sends from (Message.Reply EOsCore)) nothing))
+receives from (Message.Action call) = look (λ s. when (is_going s.course) (serves_action from call) nothing)
 receives from (Message.Reply status) = look (λ s. closes s.awaits status None)
 receives from (Message.Value status n) = look (λ s. closes s.awaits status (Some n))
 
--- What follows from an item at once, in the history with it. The last four of those that follow nothing cannot be taken
--- yet. [OSEK/VDX OS 2.2.3, section 11.3; AUTOSAR SWS OS 4.x, SWS_Os_00608 to SWS_Os_00610; items are this project's own]
+-- What follows from an item at once, in the history with it. Those of spinlocks, and a halt, cannot be
+-- taken yet. [OSEK/VDX OS 2.2.3, section 11.3; AUTOSAR SWS OS 4.x, SWS_Os_00608 to SWS_Os_00610; items are this project's own]
 abbrev pub effect : Item → Acts
 effect (Item.Began core status) = prints (Mark.StartCoreReturned core status)
 effect (Item.Pass1 agreement) = prints (gate_mark agreement)

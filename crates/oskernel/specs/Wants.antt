@@ -3,14 +3,15 @@ use Rattle.std.specs.Prelude.{if◌then◌else◌, Option, Some, None, List, [],
 use Rattle.osbase.specs.declared.references.CoreId.{CoreId}
 use Rattle.osbase.specs.declared.messages.Envelope.{Envelope}
 use Rattle.osbase.specs.declared.histories.Sent.{Sent}
+use Rattle.osbase.specs.declared.histories.Course.{Course}
 use Rattle.osbase.specs.declared.histories.Phase.{Phase}
 use Rattle.osbase.specs.History.{History}
 use Rattle.osplan.specs.View.{View}
 use Rattle.osstate.specs.Readings.{next_start}
 use Rattle.osstate.specs.State.{KernelState, state_of}
-use Rattle.oskernel.specs.Free.{is_free}
+use Rattle.oskernel.specs.Free.{is_active, is_free}
 use Rattle.oskernel.specs.declared.wants.Want.{Want}
-use Rattle.oskernel.specs.declared.wants.Want.TheVariants.{Start, Enter, Ready, Post, GoOn, Nothing}
+use Rattle.oskernel.specs.declared.wants.Want.TheVariants.{Start, Enter, Ready, Post, GoOn, Drain, Nothing}
 use Rattle.oskernel.specs.declared.wants.Watch.{Watch}
 
 abbrev pub start_or_enter : Option CoreId → Want
@@ -22,9 +23,13 @@ abbrev pub post_or : Want → List Sent → Want
 post_or want [] = want
 post_or want (s ∷ ss) = Post s.to
 
--- A core that waits for a reply does not go on.
+-- A core that waits for a reply does not go on, and one that is down drains, whatever stimuli are left.
+abbrev pub go_on_by : Course → Want
+go_on_by Course.Going = GoOn
+go_on_by Course.Down = Drain
+
 abbrev pub go_on_if_free : KernelState → Want
-go_on_if_free s = if is_free s then GoOn else Nothing
+go_on_if_free s = if is_free s then go_on_by s.progress.course else Nothing
 
 abbrev pub want_from : Phase → KernelState → Want
 want_from Phase.Boot s = start_or_enter (next_start s.view s.progress.began)
@@ -45,16 +50,16 @@ want_in s = want_from s.progress.phase s
 abbrev pub want_of : View → History → Want
 want_of v h = want_in (state_of v h)
 
--- A live core watches for a shutdown of all cores, unless a call is open. [own]
-abbrev pub watch_if_free : KernelState → Watch
-watch_if_free s = if is_free s then Watch.Halt else Watch.Nothing
+-- A live core watches for a shutdown of all cores, unless a call is open or it is down itself. [own]
+abbrev pub watch_if_active : KernelState → Watch
+watch_if_active s = if is_active s then Watch.Halt else Watch.Nothing
 
 -- What its look at the board waits for: to be started, a gate, a shutdown of all cores, the end, or nothing.
 abbrev pub watch_from : Phase → KernelState → Watch
 watch_from Phase.Off s = Watch.On
 watch_from Phase.FirstGate s = Watch.FirstGate
 watch_from Phase.SecondGate s = Watch.SecondGate
-watch_from Phase.Live s = watch_if_free s
+watch_from Phase.Live s = watch_if_active s
 watch_from Phase.Drained s = Watch.PassEnd
 watch_from Phase.Closing s = Watch.Last
 watch_from Phase.Boot s = Watch.Nothing

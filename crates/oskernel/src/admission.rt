@@ -9,7 +9,7 @@ ghost use Rattle.osstate.specs.Readings.{next_start};
 ghost use Rattle.oscall.specs.Border.{is_served};
 ghost use Rattle.oskernel.specs.Admission.{admits, answers_value, are_started_cores, is_agreement, is_awaited, is_for, is_front_for, is_next_from, is_reply_to, is_start_answer, is_started_now_or_before, is_unknown_core};
 
-use crate::free::is_settled;
+use crate::free::{is_settled, may_go_on};
 use osact::is_ok;
 use osbase::{
     Agreement, Awaited, CORE_NUMBERS, CoreId, CoreMode, CoreSet, Item, Message, ModeId, OpenCall,
@@ -37,7 +37,7 @@ pub(crate) fn is_admitted<const P: usize, const J: usize, const OUT: usize>(
         Item::Readied => phase.stands_in(Phase::BetweenGates),
         Item::Pass2(cores) => phase.stands_in(Phase::SecondGate) & are_started(state, cores),
         Item::Stim(stimulus) => {
-            phase.stands_in(Phase::Live) & state.knows(*stimulus) & is_settled(state)
+            phase.stands_in(Phase::Live) & state.knows(*stimulus) & may_go_on(state)
         }
         Item::Posted(core) => phase.is_scheduling() & is_front(state, *core),
         Item::Received {

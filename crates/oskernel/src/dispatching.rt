@@ -68,7 +68,7 @@ fn enter<const P: usize, const J: usize, const OUT: usize>(
 {
     match runner {
         Runner::Task(task) => enter_task(state, task, marks),
-        Runner::Isr(isr) => state.print(Mark::IsrEntered(isr), marks),
+        Runner::Isr(isr) => state.enter_isr(isr, marks),
     }
 }
 

@@ -11,15 +11,19 @@ ghost use Rattle.osstate.specs.Does.{Adds, Does, Effects, HasRoom, item_entries,
 ghost use Rattle.osstate.specs.Sound.{is_first_gate, is_posted, is_sender_known};
 ghost use Rattle.osact.specs.Terms.{MayBegin, MayPost, MayServe};
 ghost use Rattle.osact.specs.Acts.{does, look};
+ghost use Rattle.oscall.specs.Border.{is_served};
 ghost use Rattle.oskernel.specs.Admission.{admits};
 ghost use Rattle.oskernel.specs.Bounded.{step_entries};
 ghost use Rattle.oskernel.specs.Step.{closes, effect, gate_mark, goes_on, receives, stimulates};
 ghost use Rattle.oskernel.specs.Taking.{TakesItem, is_acting, is_answered, is_filling, is_going_on, is_known, is_request, is_second_gate};
 
+use crate::interrupts::raise;
 use crate::starting::start;
 use crate::ticks::tick;
 use osact::{Answer, Step};
-use osbase::{Agreement, Awaited, CoreId, Item, Mark, Message, Runner, Status, Stimulus};
+use osbase::{
+    Agreement, Awaited, CoreId, Item, Mark, Message, RemoteCall, Runner, Status, Stimulus,
+};
 use oscript::Action;
 use osstate::CoreState;
 
@@ -119,7 +123,7 @@ fn first_gate_mark(agreement: Agreement) -> Mark
     }
 }
 
-// A stimulus: one operation of the running job or its end, or a tick.
+// A stimulus: one operation of the running job or its end, a tick, or an interrupt.
 fn go_on<const P: usize, const J: usize, const OUT: usize>(
     state: &mut CoreState<'_, P, J, OUT>,
     stimulus: Stimulus,
@@ -132,7 +136,7 @@ fn go_on<const P: usize, const J: usize, const OUT: usize>(
     match stimulus {
         Stimulus::Op => go_on_by_one(state, marks),
         Stimulus::Tick => tick(state, marks),
-        Stimulus::Irq(_) => unreachable!(),
+        Stimulus::Irq(isr) => raise(state, isr, marks),
     }
 }
 
@@ -176,10 +180,45 @@ fn receive<const P: usize, const J: usize, const OUT: usize>(
     ensures { Effects service_entries service_marks (does (receives from message.now)) state.old state.new marks.old marks.new }
 {
     match message {
-        Message::Request(call) => oscall::serve_request(state, from, *call, marks),
-        Message::Action(call) => oscall::serve_action(state, from, *call, marks),
+        Message::Request(call) => serve_request(state, from, *call, marks),
+        Message::Action(call) => serve_action(state, from, *call, marks),
         Message::Reply(status) => close(state, *status, None, marks),
         Message::Value(status, value) => close(state, *status, Some(*value), marks),
+    }
+}
+
+// A core that is down answers E_OS_CORE.
+fn serve_request<const P: usize, const J: usize, const OUT: usize>(
+    state: &mut CoreState<'_, P, J, OUT>,
+    from: CoreId,
+    call: RemoteCall,
+    marks: &mut Vec<Mark>,
+)
+    requires served { IsTrue (is_served state.old.view call) }
+    requires sender { from.number < CORES }
+    requires posts { MayPost 1 OUT service_entries service_marks state.old marks.old }
+    ensures { Effects service_entries service_marks (does (receives from (Message.Request call))) state.old state.new marks.old marks.new }
+{
+    if state.course().is_going() {
+        oscall::serve_request(state, from, call, marks);
+    } else {
+        state.queue(from, Message::Reply(Status::EOsCore));
+    }
+}
+
+// A core that is down drops the action.
+fn serve_action<const P: usize, const J: usize, const OUT: usize>(
+    state: &mut CoreState<'_, P, J, OUT>,
+    from: CoreId,
+    call: RemoteCall,
+    marks: &mut Vec<Mark>,
+)
+    requires served { IsTrue (is_served state.old.view call) }
+    requires begins { MayBegin service_entries service_marks state.old marks.old }
+    ensures { Effects service_entries service_marks (does (receives from (Message.Action call))) state.old state.new marks.old marks.new }
+{
+    if state.course().is_going() {
+        oscall::serve_action(state, from, call, marks);
     }
 }
 

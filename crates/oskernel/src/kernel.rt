@@ -12,14 +12,14 @@ ghost use Rattle.osstate.specs.Does.{Adds, Does, Reads};
 ghost use Rattle.oskernel.specs.declared.kernel.TheConstants.{STEP_MARKS};
 ghost use Rattle.osplan.specs.Objects.{outbox_needed};
 ghost use Rattle.oskernel.specs.Step.{after, serves, takes};
-ghost use Rattle.oskernel.specs.Wants.{front_of, go_on_if_free, post_or as front_or, want_in, want_of, watch_if_free, watch_in, watch_of};
+ghost use Rattle.oskernel.specs.Wants.{front_of, go_on_if_free, post_or as front_or, want_in, want_of, watch_if_active, watch_in, watch_of};
 ghost use Rattle.oskernel.specs.Admission.{serves_in, takes_in};
 
 use crate::admission::is_admitted;
-use crate::free::is_free;
+use crate::free::{is_active, is_free};
 use crate::wants::{Want, Watch, start_or_enter};
 use crate::{dispatching, effects};
-use osbase::{CoreId, Envelope, Item, Mark, Phase};
+use osbase::{CoreId, Course, Envelope, Item, Mark, Phase};
 use osplan::Config;
 use osstate::CoreState;
 use std::marker::Model;
@@ -90,14 +90,16 @@ impl<'a, const P: usize, const J: usize, const OUT: usize> Kernel<'a, P, J, OUT>
         }
     }
 
-    // A core that waits for a reply does not go on.
+    // A core that waits for a reply does not go on, and one that is down drains.
     fn go_on(&self) -> Want
         ensures { result ≡ go_on_if_free self.now }
     {
-        if is_free(&self.state) {
-            Want::GoOn
-        } else {
-            Want::Nothing
+        if !is_free(&self.state) {
+            return Want::Nothing;
+        }
+        match self.state.course() {
+            Course::Going => Want::GoOn,
+            Course::Down => Want::Drain,
         }
     }
 
@@ -129,11 +131,11 @@ impl<'a, const P: usize, const J: usize, const OUT: usize> Kernel<'a, P, J, OUT>
         }
     }
 
-    // A live core watches for a shutdown of all cores, unless a call is open.
+    // A live core watches for a shutdown of all cores, unless a call is open or it is down itself.
     fn watch_halt(&self) -> Watch
-        ensures { result ≡ watch_if_free self.now }
+        ensures { result ≡ watch_if_active self.now }
     {
-        if is_free(&self.state) {
+        if is_active(&self.state) {
             Watch::Halt
         } else {
             Watch::Nothing

@@ -4,7 +4,9 @@
 mod admission;
 mod dispatching;
 mod effects;
+mod faults;
 mod free;
+mod interrupts;
 pub mod kernel;
 mod operations;
 mod starting;

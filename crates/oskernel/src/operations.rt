@@ -1,19 +1,22 @@
 //! The operations of a running job.
 
-ghost use Rattle.std.specs.Prelude.{◌+◌};
-ghost use Rattle.osstate.specs.Does.{Effects, service_entries, service_marks};
+ghost use Rattle.std.specs.Prelude.{◌≡◌, ◌+◌};
+ghost use Rattle.osstate.specs.Does.{Effects, Reads, service_entries, service_marks};
 ghost use Rattle.osplan.specs.Objects.{posted_at_once};
 ghost use Rattle.osact.specs.Terms.{MayOperate};
+ghost use Rattle.oscript.specs.Calls.{call_of_op};
 ghost use Rattle.osact.specs.Acts.{does};
-ghost use Rattle.oskernel.specs.Operations.{acts_alone, operates};
+ghost use Rattle.osact.specs.Seen.{seen_of};
+ghost use Rattle.oskernel.specs.Operations.{acts_alone, acts_suspended, operates, operates_by, refused_now, refused_of};
 
-use osact::Step;
-use osbase::Mark;
+use osact::{Step, refuse};
+use osbase::{Mark, ServiceId, Status};
 use oscall::{call, chaining, variables};
 use oscript::call_of_op;
 use osstate::CoreState;
 
-/// One operation of the running job of one of the core's tasks.
+/// One operation of the running job of one of the core's tasks or ISRs. While the job has suspended interrupts, nearly all
+/// services answer E_OS_DISABLEDINT and have no effect (AUTOSAR SWS OS 4.x, SWS_Os_00093).
 pub(crate) fn operate<const P: usize, const J: usize, const OUT: usize>(
     state: &mut CoreState<'_, P, J, OUT>,
     step: Step,
@@ -21,6 +24,54 @@ pub(crate) fn operate<const P: usize, const J: usize, const OUT: usize>(
 )
     requires { MayOperate (1 + posted_at_once state.old.view.own) OUT state.old step.runner step.op marks.old }
     ensures { Effects service_entries service_marks (does (operates step.runner step.op)) state.old state.new marks.old marks.new }
+{
+    match refused_now(state, step) {
+        Some(service) => refuse(state, step.runner, service, Status::EOsDisabledint, marks),
+        None => perform(state, step, marks),
+    }
+}
+
+// The service of the operation, if it is refused now.
+fn refused_now<const P: usize, const J: usize, const OUT: usize>(
+    state: &CoreState<'_, P, J, OUT>,
+    step: Step,
+) -> Option<ServiceId>
+    ensures { Reads (λ v h. refused_now (seen_of v h) step.runner step.op) state.now result }
+{
+    if state.is_locked(step.runner) {
+        refused_of(step.op.service())
+    } else {
+        None
+    }
+}
+
+// The service that is refused while its caller has suspended interrupts: each but those of spinlocks.
+fn refused_of(service: Option<ServiceId>) -> Option<ServiceId>
+    ensures { result ≡ refused_of service }
+{
+    match service {
+        Some(service) if !acts_suspended(service) => Some(service),
+        _ => None,
+    }
+}
+
+fn acts_suspended(service: ServiceId) -> bool
+    ensures { result ≡ acts_suspended service }
+{
+    matches!(
+        service,
+        ServiceId::GetSpinlock | ServiceId::TryToGetSpinlock | ServiceId::ReleaseSpinlock
+    )
+}
+
+// The call that the operation is, or what its family does.
+fn perform<const P: usize, const J: usize, const OUT: usize>(
+    state: &mut CoreState<'_, P, J, OUT>,
+    step: Step,
+    marks: &mut Vec<Mark>,
+)
+    requires { MayOperate (1 + posted_at_once state.old.view.own) OUT state.old step.runner step.op marks.old }
+    ensures { Effects service_entries service_marks (does (operates_by step.runner step.op (call_of_op step.op))) state.old state.new marks.old marks.new }
 {
     match call_of_op(step.op) {
         Some((service, target)) => call(state, step.runner, service, target, marks),

@@ -18,6 +18,8 @@ pub enum Want {
     Post(CoreId),
     /// Takes its next stimulus, or drains if there is none.
     GoOn,
+    /// Drains, whatever stimuli are left: it is down.
+    Drain,
     /// Nothing.
     Nothing,
 }

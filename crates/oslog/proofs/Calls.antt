@@ -43,20 +43,11 @@ use Rattle.oslog.specs.Words.{call_in, call_of, op_said}
 use Rattle.oslog.specs.declared.names.Named.{Named}
 use Rattle.oslog.specs.declared.names.Named.TheVariants as N
 use Rattle.oslog.specs.Logs.{is_call_representable}
-use Rattle.oslog.proofs.WordKinds.{int-word, named-is, number-word}
+use Rattle.oslog.proofs.WordKinds.{int-word, number-word, place-spells, place-there}
 use Rattle.oslog.proofs.Joining.{end-apart, joined-parts, split-none}
 use Rattle.oslog.proofs.Named.{is_there, named-formed, named-there, place-found}
 
--- ---- names
-
-object-is : (kind : ObjectKind) (n : Named) (found : Place) → if_object kind n ≡ Some found → n ≡ N.Object (record { kind = kind; place = found })
-object-is kind (N.Object object) found e =
-    let c = cond-some _ (Some object.place) found e in
-    let place : object.place ≡ found = cc in
-    ap (λ (k : ObjectKind). let n : Named = N.Object (record { kind = k; place = object.place }) in n) (same_kind-true object.kind kind c.0)
-    ∙ ap (λ (p : Place). let n : Named = N.Object (record { kind = kind; place = p }) in n) place
-object-is kind (N.Mode mode) found e = cc
-object-is kind (N.Isr isr) found e = cc
+-- ---- calls
 
 -- an operation that calls for an object is the one that a script has for that call
 call-op : (op : Op) (call : RemoteCall) → named_call op ≡ Some call → op ≡ op_of_call call
@@ -91,12 +82,6 @@ variable-word (v ∷ d ∷ []) x e =
 variable-word (v ∷ d ∷ f ∷ fs) x e = cc
 
 module _ (plan : Plan) (limits : IsTrue (is_within_limits plan)) (expressible : IsTrue (is_expressible plan)) where
-  place-spells : (kind : ObjectKind) (name : List ℕ) (found : Place) → place_named plan kind name ≡ Some found → name_of plan kind found ≡ name
-  place-spells kind name found e = let c = chained (if_object kind) (named_by plan name) found e in ap (name_of_named plan) (sym (object-is kind c.0 found c.2)) ∙ named-is plan name c.0 c.1
-
-  place-there : (kind : ObjectKind) (name : List ℕ) (found : Place) → place_named plan kind name ≡ Some found → is_object plan (record { kind = kind; place = found }) ≡ true
-  place-there kind name found e = let c = chained (if_object kind) (named_by plan name) found e in ap (is_there plan) (sym (object-is kind c.0 found c.2)) ∙ named-there plan limits expressible name c.0 c.1
-
   target-word : (k : ObjectKind) (w : List ℕ) (t : Option (List ℕ)) (b : Arg Place) → target_of w ≡ Some t → resolve_arg (place_named plan) (Object k t) ≡ Some b → arg_text (named (name_of plan) b) ≡ w
   target-word k w t b e r =
       elim (either (bytes_eq w (codes "?")) (Some None) (cond (is_name w) (Some (Some w)) None) t e) as (λ _. arg_text (named (name_of plan) b) ≡ w) [
@@ -110,7 +95,7 @@ module _ (plan : Plan) (limits : IsTrue (is_within_limits plan)) (expressible : 
             let some : Some w ≡ t = cc in
             let found : resolve_arg (place_named plan) (Object k (Some w)) ≡ Some b = subst (λ (t : Option (List ℕ)). resolve_arg (place_named plan) (Object k t) ≡ Some b) (sym some) r in
             let m = mapped (λ at. Object k (Some at)) (place_named plan k w) b found in
-            ap (λ (b : Arg Place). arg_text (named (name_of plan) b)) (sym m.2) ∙ place-spells k w m.0 m.1
+            ap (λ (b : Arg Place). arg_text (named (name_of plan) b)) (sym m.2) ∙ place-spells plan limits expressible k w m.0 m.1
       ]
 
   arg-word : (k : Kind) (w : List ℕ) (a : Arg (List ℕ)) (b : Arg Place) → is_kind k ≡ true → arg_of k w ≡ Some a → resolve_arg (place_named plan) a ≡ Some b → has_event b ≡ true → arg_text (named (name_of plan) b) ≡ w
@@ -162,7 +147,7 @@ module _ (plan : Plan) (limits : IsTrue (is_within_limits plan)) (expressible : 
   arg-there (Object kind None) arg args e all = let is : Object kind None ≡ arg = cc in rw (← is) all
   arg-there (Object kind (Some name)) arg args e all =
       let m = mapped (λ found. Object kind (Some found)) (place_named plan kind name) arg e in
-      rw (← m.2) (and_from _ _ (place-there kind name m.0 m.1) all)
+      rw (← m.2) (and_from _ _ (place-there plan limits expressible kind name m.0 m.1) all)
   arg-there (Mask mask) arg args e all = let is : Mask mask ≡ arg = cc in rw (← is) all
   arg-there (Number n) arg args e all = let is : Number n ≡ arg = cc in rw (← is) all
   arg-there (Int z) arg args e all = let is : Int z ≡ arg = cc in rw (← is) all

@@ -2,34 +2,38 @@
 use Rattle.std.proofs.Common.{◌≡◌, ℕ, ◌<◌, ◌≤◌, ◌^◌, ◌==◌, ◌&&◌, ℤ, true, not, nat_le, Some, None, option_map, List, [], ◌∷◌, length, map, IsTrue, refl, sym, ap, ◌∙◌, ◌⊎◌, inl, inr, arith}
 use Rattle.std.specs.Fmt.{decimal, signed_decimal}
 use Rattle.std.specs.List.{join_with_byte, list_all}
+use Rattle.std.proofs.lemmas.List.Folds.{list_all-append}
 use Rattle.std.proofs.lemmas.Bool.{and_from, and_parts, eqb-true, false≢true, leb-true}
-use Rattle.osbase.specs.Names.{is_name_part}
+use Rattle.osbase.specs.Names.{is_name, is_name_part}
+use Rattle.osbase.specs.Objects.{isr_object, isr_of}
 use Rattle.osbase.specs.Words.{status_name}
 use Rattle.osbase.specs.declared.items.Agreement.{Agreement}
 use Rattle.osbase.specs.declared.items.Item.{Item}
 use Rattle.osbase.specs.declared.items.Stimulus.{Stimulus}
 use Rattle.osbase.specs.declared.messages.Message.{Message}
+use Rattle.osbase.specs.declared.objects.ObjectKind.{ObjectKind}
 use Rattle.osbase.specs.declared.references.CoreId.{CoreId}
 use Rattle.osbase.specs.declared.statuses.Status.{Status}
 use Rattle.osbase.specs.declared.statuses.Status.TheVariants.{EOk}
 use Rattle.oscript.specs.Rows.{is_int}
-use Rattle.oscript.specs.declared.rows.Arg.TheVariants.{Int, Number}
+use Rattle.oscript.specs.declared.rows.Arg.TheVariants.{Int, Number, Object}
 use Rattle.oscript.specs.declared.rows.Kind as operation
 use Rattle.osforms.specs.Form.{words_of}
 use Rattle.osforms.specs.Word.{int_of, number_in}
 use Rattle.osforms.proofs.Joining.{all-none, has_none, joined-none, some-more, split-joined}
-use Rattle.osforms.proofs.KindTexts.{IsApart, arg_of-none, int-back, mapped, number-back}
+use Rattle.osforms.proofs.KindTexts.{IsApart, arg_of-none, int-back, mapped, name-back, number-back}
 use Rattle.osforms.proofs.RoundTrip.{space-apart}
 use Rattle.osplan.proofs.Tests.{all-append}
 use Rattle.osplan.specs.Expressible.{is_expressible}
 use Rattle.osplan.specs.Limits.{is_within_limits}
+use Rattle.osplan.specs.Names.{isr_name}
 use Rattle.osplan.specs.declared.plans.Plan.{Plan}
 use Rattle.oslog.specs.Forms.{form_of}
 use Rattle.oslog.specs.Items.{first_item, item_as, item_meant, later_words, led, line_of}
 use Rattle.oslog.specs.Logs.{is_core_number, is_message_representable, is_representable}
-use Rattle.oslog.specs.Naming.{mode_named}
+use Rattle.oslog.specs.Naming.{isr_named, mode_named}
 use Rattle.oslog.specs.Rows.{keyword_text, row_of}
-use Rattle.oslog.specs.Words.{core_of, status_of, tail_words, word_text}
+use Rattle.oslog.specs.Words.{core_of, irq_prefix, status_of, tail_words, word_text}
 use Rattle.oslog.specs.declared.forms.Parts.{Parts}
 use Rattle.oslog.specs.declared.rows.Keyword.{Keyword as Word}
 use Rattle.oslog.specs.declared.rows.Keyword.TheVariants as W
@@ -41,7 +45,7 @@ use Rattle.oslog.specs.declared.rows.TheConstants.{LINES}
 use Rattle.oslog.proofs.Calls.{call-read}
 use Rattle.oslog.proofs.Cores.{cores-none, cores-read}
 use Rattle.oslog.proofs.Joining.{end-apart, led-joined}
-use Rattle.oslog.proofs.Named.{mode-found, mode-only}
+use Rattle.oslog.proofs.Named.{mode-found, mode-only, object-formed, place-found}
 use Rattle.oslog.proofs.Sound.{is_tail_representable}
 use Rattle.oslog.proofs.WordKinds.{is_part_representable}
 
@@ -62,6 +66,10 @@ int-read z fits = let m = mapped Int (int_of (signed_decimal z)) (Int z) (int-ba
 
 -- ---- bytes
 
+prefix-none : (byte : ℕ) → (byte ≡ 32) ⊎ (byte ≡ 10) → has_none byte irq_prefix ≡ true
+prefix-none byte (inl is) = ap (λ (b : ℕ). has_none b irq_prefix) is
+prefix-none byte (inr is) = ap (λ (b : ℕ). has_none b irq_prefix) is
+
 status-parts : (s : Status) → list_all is_name_part (status_name s) ≡ true
 status-parts EOk = refl
 status-parts s = refl
@@ -79,21 +87,24 @@ module _ (byte : ℕ) (apart : IsApart byte) where
   number-none high n most short = arg_of-none byte (operation.Kind.Number 0 high) (decimal n) (Number n) apart (ap (option_map Number) (number-back 0 high n (omega arith) most (omega arith)))
 
 module _ (plan : Plan) (limits : IsTrue (is_within_limits plan)) (expressible : IsTrue (is_expressible plan)) where
-  part-none : (byte : ℕ) → IsApart byte → (k : Kind) (q : Parts) → is_part_representable plan q k ≡ true → has_none byte (word_text plan q k) ≡ true
-  part-none byte apart (K.Keyword word) q representable = all-none is_name_part byte (keyword_text word) apart.part (word-parts word)
-  part-none byte apart K.Core q representable = number-none byte apart 255 q.core.number (leb-true q.core.number 255 representable) (omega arith)
-  part-none byte apart K.Count q representable = number-none byte apart 18446744073709551615 q.count (leb-true q.count 18446744073709551615 representable) (omega arith)
-  part-none byte apart K.Status q representable = all-none is_name_part byte (status_name q.status) apart.part (status-parts q.status)
-  part-none byte apart K.Value q representable = arg_of-none byte operation.Kind.Int (signed_decimal q.value) (Int q.value) apart (int-back q.value representable)
-  part-none byte apart K.Mode q representable = ap (has_none byte) (mode-only plan limits expressible q.mode representable) ∙ all-none is_name_part byte (77 ∷ []) apart.part refl
-  part-none byte apart K.Irq q representable = absurd (false≢true representable)
-  part-none byte apart K.Spinlock q representable = absurd (false≢true representable)
+  part-none : (byte : ℕ) → IsApart byte → (byte ≡ 32) ⊎ (byte ≡ 10) → (k : Kind) (q : Parts) → is_part_representable plan q k ≡ true → has_none byte (word_text plan q k) ≡ true
+  part-none byte apart which (K.Keyword word) q representable = all-none is_name_part byte (keyword_text word) apart.part (word-parts word)
+  part-none byte apart which K.Core q representable = number-none byte apart 255 q.core.number (leb-true q.core.number 255 representable) (omega arith)
+  part-none byte apart which K.Count q representable = number-none byte apart 18446744073709551615 q.count (leb-true q.count 18446744073709551615 representable) (omega arith)
+  part-none byte apart which K.Status q representable = all-none is_name_part byte (status_name q.status) apart.part (status-parts q.status)
+  part-none byte apart which K.Value q representable = arg_of-none byte operation.Kind.Int (signed_decimal q.value) (Int q.value) apart (int-back q.value representable)
+  part-none byte apart which K.Mode q representable = ap (has_none byte) (mode-only plan limits expressible q.mode representable) ∙ all-none is_name_part byte (77 ∷ []) apart.part refl
+  part-none byte apart which K.Irq q representable =
+      let name = isr_name plan q.isr in
+      let formed : is_name name ≡ true = object-formed plan limits expressible (isr_object q.isr) representable in
+      list_all-append (λ b. not (b == byte)) irq_prefix name ∙ and_from _ _ (prefix-none byte which) (arg_of-none byte (operation.Kind.Object ObjectKind.Isr) name (Object ObjectKind.Isr (Some name)) apart (name-back ObjectKind.Isr name formed))
+  part-none byte apart which K.Spinlock q representable = absurd (false≢true representable)
 
-  parts-none : (byte : ℕ) → IsApart byte → (ks : List Kind) (q : Parts) → list_all (is_part_representable plan q) ks ≡ true → list_all (has_none byte) (map (word_text plan q) ks) ≡ true
-  parts-none byte apart [] q representable = refl
-  parts-none byte apart (k ∷ ks) q representable =
+  parts-none : (byte : ℕ) → IsApart byte → (byte ≡ 32) ⊎ (byte ≡ 10) → (ks : List Kind) (q : Parts) → list_all (is_part_representable plan q) ks ≡ true → list_all (has_none byte) (map (word_text plan q) ks) ≡ true
+  parts-none byte apart which [] q representable = refl
+  parts-none byte apart which (k ∷ ks) q representable =
       let parts = and_parts (is_part_representable plan q k) (list_all (is_part_representable plan q) ks) representable in
-      and_from _ _ (part-none byte apart k q parts.0) (parts-none byte apart ks q parts.1)
+      and_from _ _ (part-none byte apart which k q parts.0) (parts-none byte apart which ks q parts.1)
 
   -- ---- an item's words
 
@@ -124,7 +135,7 @@ module _ (plan : Plan) (limits : IsTrue (is_within_limits plan)) (expressible : 
       let parts = item-parts item representable in
       and_from _ _ (all-none is_name_part byte (keyword_text (row_of form.0).0) apart.part (word-parts (row_of form.0).0))
       (all-append (has_none byte) (map (word_text plan form.1) (row_of form.0).1) (tail_words plan form.1 (row_of form.0).2)
-      (parts-none byte apart (row_of form.0).1 form.1 parts.0) (tail-none byte apart which (row_of form.0).2 form.1 parts.1))
+      (parts-none byte apart which (row_of form.0).1 form.1 parts.0) (tail-none byte apart which (row_of form.0).2 form.1 parts.1))
 
   -- ---- an item by its words, one case for each
 
@@ -139,7 +150,7 @@ module _ (plan : Plan) (limits : IsTrue (is_within_limits plan)) (expressible : 
   words-read (Item.Pass2 cores) representable = rw (cores-read cores (eqb-true (length cores.members) 16 representable)) refl
   words-read (Item.Stim Stimulus.Op) representable = refl
   words-read (Item.Stim Stimulus.Tick) representable = refl
-  words-read (Item.Stim (Stimulus.Irq isr)) representable = absurd (false≢true representable)
+  words-read (Item.Stim (Stimulus.Irq isr)) representable = let found : isr_named plan (isr_name plan isr) ≡ Some isr = ap (option_map isr_of) (place-found plan limits expressible (isr_object isr) representable) in rw found refl
   words-read (Item.Posted core) representable = rw (core-read core representable) refl
   words-read (Item.Received from number message) representable =
       let parts = and_parts (is_core_number from && nat_le number 18446744073709551615) (is_message_representable plan message) representable in

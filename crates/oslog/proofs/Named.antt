@@ -20,6 +20,7 @@ use Rattle.osbase.specs.declared.objects.ObjectKind.{ObjectKind}
 use Rattle.osbase.specs.declared.objects.Place.{Place}
 use Rattle.osbase.specs.declared.references.CoreId.{CoreId}
 use Rattle.osbase.specs.declared.references.ModeId.{ModeId}
+use Rattle.osforms.proofs.RoundTrip.{chained}
 use Rattle.osplan.proofs.EveryKind.{kind-there}
 use Rattle.osplan.proofs.Tests.{all-append, all-flat, any-mapped, find-holds, find-passes}
 use Rattle.osplan.proofs.Within.{core-text-parts, few-objects, fits, limit-parts, names-formed, text-parts}
@@ -31,7 +32,7 @@ use Rattle.osplan.specs.View.{core_of}
 use Rattle.osplan.specs.declared.plans.Core.{Core}
 use Rattle.osplan.specs.declared.plans.Plan.{Plan}
 use Rattle.osplan.specs.declared.plans.TheConstants.{KINDS}
-use Rattle.oslog.specs.Naming.{HasFew, all_named, if_mode, if_object, isr_at, isrs_in, mode_at, mode_named, modes_in, name_of_named, named_by, named_in, object_at, objects_in, place_named}
+use Rattle.oslog.specs.Naming.{HasFew, all_named, if_mode, if_object, mode_at, mode_named, modes_in, name_of_named, named_by, named_in, object_at, objects_in, place_named}
 use Rattle.oslog.specs.declared.names.Named.{Named}
 use Rattle.oslog.specs.declared.names.Named.TheVariants as N
 
@@ -155,20 +156,12 @@ module _ (plan : Plan) where
       ∙ ap (λ (names : List (List ℕ)). names ++ map (name_of_named plan) (flat_map (objects_in core) kinds)) (kind-names core kind found)
       ∙ ap (λ (names : List (List ℕ)). names_in kind core ++ names) (kinds-names core kinds found)
 
-  core-names : (core : Core) → IsFound plan.cores core → is_core_expressible core ≡ true → map (name_of_named plan) (named_in core) ≡ object_names core
-  core-names core found said =
-      let none : isrs_in core ≡ [] = ap (λ isrs. map (isr_at core) (numbers_from 0 (length isrs))) (core-text-parts core said).isrs in
-      ap (λ (ns : List Named). map (name_of_named plan) (flat_map (objects_in core) KINDS ++ ns)) none
-      ∙ ap (map (name_of_named plan)) (append-nil (flat_map (objects_in core) KINDS))
-      ∙ kinds-names core KINDS found
-
-  cores-names : (cores : List Core) → AllByRecursion (IsFound plan.cores) cores → list_all is_core_expressible cores ≡ true → map (name_of_named plan) (flat_map named_in cores) ≡ flat_map object_names cores
-  cores-names [] found said = refl
-  cores-names (core ∷ cores) found said =
-      let parts = and_parts (is_core_expressible core) (list_all is_core_expressible cores) said in
+  cores-names : (cores : List Core) → AllByRecursion (IsFound plan.cores) cores → map (name_of_named plan) (flat_map named_in cores) ≡ flat_map object_names cores
+  cores-names [] found = refl
+  cores-names (core ∷ cores) found =
       map-append (name_of_named plan) (named_in core) (flat_map named_in cores)
-      ∙ ap (λ (names : List (List ℕ)). names ++ map (name_of_named plan) (flat_map named_in cores)) (core-names core found.0 parts.0)
-      ∙ ap (λ (names : List (List ℕ)). object_names core ++ names) (cores-names cores found.1 parts.1)
+      ∙ ap (λ (names : List (List ℕ)). names ++ map (name_of_named plan) (flat_map named_in cores)) (kinds-names core KINDS found.0)
+      ∙ ap (λ (names : List (List ℕ)). object_names core ++ names) (cores-names cores found.1)
 
   modes-names : map (name_of_named plan) (modes_in plan) ≡ plan.modes
   modes-names =
@@ -177,29 +170,20 @@ module _ (plan : Plan) where
       (λ k name is. let here : 0 + k ≡ k = omega arith in ap (λ i. name_of_named plan (mode_at i)) here ∙ ap (λ (o : Option (List ℕ)). option_map_or (λ (n : List ℕ). n) o []) is)
 
   -- what each core's objects and modes pass, all do that have a name
-  core-passes : (p : Named → Bool) (core : Core) → ((kind : ObjectKind) (i : ℕ) → i < object_count kind core → p (object_at core kind i) ≡ true) → is_core_expressible core ≡ true → list_all p (named_in core) ≡ true
-  core-passes p core each said =
-      let none : isrs_in core ≡ [] = ap (λ isrs. map (isr_at core) (numbers_from 0 (length isrs))) (core-text-parts core said).isrs in
-      all-append p (flat_map (objects_in core) KINDS) (isrs_in core)
-      (all-flat p (objects_in core) KINDS (every (λ kind. list_all p (objects_in core kind)) (λ kind. all-places p (object_at core kind) 0 (object_count kind core) (λ n lt. each kind n (omega (arith, lt)))) KINDS))
-      (ap (list_all p) none)
+  core-passes : (p : Named → Bool) (core : Core) → ((kind : ObjectKind) (i : ℕ) → i < object_count kind core → p (object_at core kind i) ≡ true) → list_all p (named_in core) ≡ true
+  core-passes p core each =
+      all-flat p (objects_in core) KINDS (every (λ kind. list_all p (objects_in core kind)) (λ kind. all-places p (object_at core kind) 0 (object_count kind core) (λ n lt. each kind n (omega (arith, lt)))) KINDS)
 
-  cores-pass : (p : Named → Bool) (cores : List Core) → ((core : Core) → IsFound plan.cores core → (kind : ObjectKind) (i : ℕ) → i < object_count kind core → p (object_at core kind i) ≡ true) → AllByRecursion (IsFound plan.cores) cores → list_all is_core_expressible cores ≡ true
-      → list_all p (flat_map named_in cores) ≡ true
-  cores-pass p [] each found said = refl
-  cores-pass p (core ∷ cores) each found said =
-      let parts = and_parts (is_core_expressible core) (list_all is_core_expressible cores) said in
-      all-append p (named_in core) (flat_map named_in cores) (core-passes p core (each core found.0) parts.0) (cores-pass p cores each found.1 parts.1)
+  cores-pass : (p : Named → Bool) (cores : List Core) → ((core : Core) → IsFound plan.cores core → (kind : ObjectKind) (i : ℕ) → i < object_count kind core → p (object_at core kind i) ≡ true) → AllByRecursion (IsFound plan.cores) cores → list_all p (flat_map named_in cores) ≡ true
+  cores-pass p [] each found = refl
+  cores-pass p (core ∷ cores) each found = all-append p (named_in core) (flat_map named_in cores) (core-passes p core (each core found.0)) (cores-pass p cores each found.1)
 
 -- ---- so few objects that each has a place in a byte
 
-pub few : (plan : Plan) → IsTrue (is_within_limits plan) → IsTrue (is_expressible plan) → (i : ℕ) (core : Core) → i < length plan.cores → core ≡ get_or plan.cores i core → HasFew core
-few plan limits said i core within is =
+pub few : (plan : Plan) → IsTrue (is_within_limits plan) → (i : ℕ) (core : Core) → i < length plan.cores → core ≡ get_or plan.cores i core → HasFew core
+few plan limits i core within is =
     let at : slice_get plan.cores i ≡ Some core = slice_get-get_or plan.cores i core within ∙ ap Some (sym is) in
-    let fit = fits plan core (passes-at (λ (c : Core). is_core_within (core_sizes plan c)) plan.cores i core (limit-parts plan limits).cores at) in
-    let none = (core-text-parts core (passes-at is_core_expressible plan.cores i core (text-parts plan said).cores at)).isrs in
-    let count : length core.isrs ≡ 0 = ap length none in
-    (few-objects core fit, omega arith)
+    few-objects core (fits plan core (passes-at (λ (c : Core). is_core_within (core_sizes plan c)) plan.cores i core (limit-parts plan limits).cores at))
 
 -- ---- all that has a name
 
@@ -207,7 +191,6 @@ few plan limits said i core within is =
 abbrev pub is_there : Plan → Named → Bool
 is_there plan (N.Mode mode) = is_mode plan mode
 is_there plan (N.Object object) = is_object plan object
-is_there plan (N.Isr isr) = false
 
 module _ (plan : Plan) (limits : IsTrue (is_within_limits plan)) (said : IsTrue (is_expressible plan)) where
   found : AllByRecursion (IsFound plan.cores) plan.cores
@@ -217,7 +200,7 @@ module _ (plan : Plan) (limits : IsTrue (is_within_limits plan)) (said : IsTrue 
   names-are =
       map-append (name_of_named plan) (modes_in plan) (flat_map named_in plan.cores)
       ∙ ap (λ (names : List (List ℕ)). names ++ map (name_of_named plan) (flat_map named_in plan.cores)) (modes-names plan)
-      ∙ ap (λ (names : List (List ℕ)). plan.modes ++ names) (cores-names plan plan.cores found (text-parts plan said).cores)
+      ∙ ap (λ (names : List (List ℕ)). plan.modes ++ names) (cores-names plan plan.cores found)
 
   all-formed : list_all is_name (declared_names plan) ≡ true
   all-formed =
@@ -236,7 +219,7 @@ module _ (plan : Plan) (limits : IsTrue (is_within_limits plan)) (said : IsTrue 
       all-append (is_there plan) (modes_in plan) (flat_map named_in plan.cores)
       (all-places (is_there plan) mode_at 0 (length plan.modes) (λ n lt. lt-ltb n (length plan.modes) (omega (arith, lt))))
       (cores-pass plan (is_there plan) plan.cores
-      (λ core is kind i lt. ap (λ (o : Option Core). option_map_or (λ (c : Core). nat_lt i (object_count kind c)) o false) is ∙ lt-ltb i (object_count kind core) lt) found (text-parts plan said).cores)
+      (λ core is kind i lt. ap (λ (o : Option Core). option_map_or (λ (c : Core). nat_lt i (object_count kind c)) o false) is ∙ lt-ltb i (object_count kind core) lt) found)
 
   -- What a name stands for is there, and the name is in form.
   pub named-there : (w : List ℕ) (n : Named) → named_by plan w ≡ Some n → is_there plan n ≡ true
@@ -275,9 +258,8 @@ module _ (plan : Plan) (limits : IsTrue (is_within_limits plan)) (said : IsTrue 
       by-name object
       (stands-back (modes_in plan) (flat_map named_in plan.cores) object
       (stands-core plan.cores place.core core object is
-      (stands-front (flat_map (objects_in core) KINDS) (isrs_in core) object
       (stands-kind core KINDS kind object (kind-there kind)
-      (subst (Stands (objects_in core kind)) at (stands-at (object_at core kind) 0 (object_count kind core) place.index within))))))
+      (subst (Stands (objects_in core kind)) at (stands-at (object_at core kind) 0 (object_count kind core) place.index within)))))
 
   pub place-found : (object : Object) → is_object plan object ≡ true → place_named plan object.kind (name_of plan object.kind object.place) ≡ Some object.place
   place-found object is = by (core_of plan object.place.core) refl is
@@ -287,3 +269,10 @@ module _ (plan : Plan) (limits : IsTrue (is_within_limits plan)) (said : IsTrue 
       by (Some core) here is =
           ap (option_and_then (if_object object.kind)) (object-found object.kind object.place core here (ltb-true object.place.index (object_count object.kind core) is))
           ∙ rw (same_kind-self object.kind) refl
+
+  -- So its name is in form.
+  pub object-formed : (object : Object) → is_object plan object ≡ true → is_name (name_of plan object.kind object.place) ≡ true
+  object-formed object is =
+      let name = name_of plan object.kind object.place in
+      let c = chained (if_object object.kind) (named_by plan name) object.place (place-found object is) in
+      named-formed name c.0 c.1

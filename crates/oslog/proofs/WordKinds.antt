@@ -1,12 +1,16 @@
 -- What a word of each kind says, and its text: a word that is read is the text of what it says, and that is representable.
-use Rattle.std.proofs.Common.{rules, inl, inr, ◌≡◌, ℕ, suc, ◌-◌, ◌<◌, ◌≤◌, ◌^◌, ◌==◌, ◌&&◌, nat_le, ℤ, pos, negsuc, Bool, true, false, Some, option_map, List, [], ◌∷◌, length, get_or, IsTrue, refl, sym, ap, ◌∙◌, arith}
+use Rattle.std.proofs.Common.{rules, inl, inr, ◌≡◌, ℕ, suc, ◌-◌, ◌<◌, ◌≤◌, ◌^◌, ◌==◌, ◌&&◌, nat_le, ℤ, pos, negsuc, Bool, true, false, Some, option_map, List, [], ◌∷◌, ◌++◌, length, get_or, IsTrue, refl, sym, ap, subst, ◌∙◌, arith}
 use Rattle.std.specs.Fmt.{decimal, signed_decimal}
 use Rattle.std.specs.Str.{bytes_eq}
 use Rattle.std.specs.Str.Parse.{digits_value}
-use Rattle.std.proofs.lemmas.Bool.{and_parts, false≢true, le-leb}
+use Rattle.std.proofs.lemmas.Bool.{and_parts, eqb-true, le-leb}
 use Rattle.std.proofs.lemmas.Fmt.{decimal-digits_value}
 use Rattle.std.proofs.lemmas.Slice.Eq.{bytes_eq-Decides}
+use Rattle.osbase.proofs.Same.{same_kind-true}
+use Rattle.osbase.specs.Objects.{isr_object, isr_of}
 use Rattle.osbase.specs.Words.{status_name}
+use Rattle.osbase.specs.declared.objects.ObjectKind.{ObjectKind}
+use Rattle.osbase.specs.declared.objects.Place.{Place}
 use Rattle.osbase.specs.declared.references.CoreId.{CoreId}
 use Rattle.osbase.specs.declared.references.IsrRef.{IsrRef}
 use Rattle.osbase.specs.declared.references.ModeId.{ModeId}
@@ -18,10 +22,10 @@ use Rattle.osforms.proofs.Numerals.{decimal-digits, decimal-some, own}
 use Rattle.osforms.proofs.RoundTrip.{chained}
 use Rattle.osplan.proofs.Tests.{find-holds}
 use Rattle.osplan.specs.Expressible.{is_expressible}
-use Rattle.osplan.specs.Limits.{is_mode, is_within_limits}
-use Rattle.osplan.specs.Names.{name_of_mode}
+use Rattle.osplan.specs.Limits.{is_mode, is_object, is_within_limits}
+use Rattle.osplan.specs.Names.{isr_name, name_of, name_of_mode}
 use Rattle.osplan.specs.declared.plans.Plan.{Plan}
-use Rattle.oslog.specs.Naming.{all_named, if_isr, if_mode, isr_named, mode_named, name_of_named, named_by}
+use Rattle.oslog.specs.Naming.{all_named, if_mode, if_object, isr_named, mode_named, name_of_named, named_by, place_named}
 use Rattle.oslog.specs.Rows.{keyword_text}
 use Rattle.oslog.specs.Words.{behind, core_of, irq_of, irq_prefix, status_of, with_word, word_text}
 use Rattle.oslog.specs.declared.forms.Parts.{Parts}
@@ -95,15 +99,25 @@ named-is plan w n e = (bytes_eq-Decides (name_of_named plan n) w).0 (find-holds 
 mode-is : (n : Named) (m : ModeId) → if_mode n ≡ Some m → n ≡ N.Mode m
 mode-is (N.Mode mode) m e = cc
 mode-is (N.Object object) m e = cc
-mode-is (N.Isr isr) m e = cc
 
-isr-is : (n : Named) (i : IsrRef) → if_isr n ≡ Some i → n ≡ N.Isr i
-isr-is (N.Isr isr) i e = cc
-isr-is (N.Mode mode) i e = cc
-isr-is (N.Object object) i e = cc
+object-is : (kind : ObjectKind) (n : Named) (found : Place) → if_object kind n ≡ Some found → n ≡ N.Object (record { kind = kind; place = found })
+object-is kind (N.Object object) found e =
+    let c = cond-some _ (Some object.place) found e in
+    let place : object.place ≡ found = cc in
+    ap (λ (k : ObjectKind). let n : Named = N.Object (record { kind = k; place = object.place }) in n) (same_kind-true object.kind kind c.0)
+    ∙ ap (λ (p : Place). let n : Named = N.Object (record { kind = kind; place = p }) in n) place
+object-is kind (N.Mode mode) found e = cc
 
 status-word : (w : List ℕ) (s : Status) → status_of w ≡ Some s → status_name s ≡ w
 status-word w s e = (bytes_eq-Decides (status_name s) w).0 (find-holds (λ (s : Status). bytes_eq (status_name s) w) STATUSES s e)
+
+-- what stands behind a text at the front of a word
+behind-is : (front word rest : List ℕ) → behind front word ≡ Some rest → front ++ rest ≡ word
+behind-is [] word rest e = let same : word ≡ rest = cc in sym same
+behind-is (f ∷ front) [] rest e = cc
+behind-is (f ∷ front) (c ∷ word) rest e =
+    let p = cond-some (f == c) (behind front word) rest e in
+    ap (λ (b : ℕ). b ∷ front ++ rest) (eqb-true f c p.0) ∙ ap (λ (text : List ℕ). c ∷ text) (behind-is front word rest p.1)
 
 -- ---- any kind
 
@@ -115,7 +129,7 @@ is_part_representable plan q K.Count = nat_le q.count 18446744073709551615
 is_part_representable plan q K.Status = true
 is_part_representable plan q K.Value = is_int q.value
 is_part_representable plan q K.Mode = is_mode plan q.mode
-is_part_representable plan q K.Irq = false
+is_part_representable plan q K.Irq = is_object plan (isr_object q.isr)
 is_part_representable plan q K.Spinlock = false
 
 -- Its text, and whether it is representable.
@@ -132,12 +146,18 @@ module _ (plan : Plan) (limits : IsTrue (is_within_limits plan)) (expressible : 
       let is = mode-is c.0 m c.2 in
       (ap (name_of_named plan) (sym is) ∙ named-is plan w c.0 c.1, ap (is_there plan) (sym is) ∙ named-there plan limits expressible w c.0 c.1)
 
-  -- no name is that of an ISR
-  no-isr : (w : List ℕ) (i : IsrRef) → irq_of plan w ≡ Some i → ⊥
-  no-isr w i e =
+  pub place-spells : (kind : ObjectKind) (name : List ℕ) (found : Place) → place_named plan kind name ≡ Some found → name_of plan kind found ≡ name
+  place-spells kind name found e = let c = chained (if_object kind) (named_by plan name) found e in ap (name_of_named plan) (sym (object-is kind c.0 found c.2)) ∙ named-is plan name c.0 c.1
+
+  pub place-there : (kind : ObjectKind) (name : List ℕ) (found : Place) → place_named plan kind name ≡ Some found → is_object plan (record { kind = kind; place = found }) ≡ true
+  place-there kind name found e = let c = chained (if_object kind) (named_by plan name) found e in ap (is_there plan) (sym (object-is kind c.0 found c.2)) ∙ named-there plan limits expressible name c.0 c.1
+
+  irq-back : (w : List ℕ) (i : IsrRef) → irq_of plan w ≡ Some i → (irq_prefix ++ isr_name plan i ≡ w) × (is_object plan (isr_object i) ≡ true)
+  irq-back w i e =
       let b = chained (isr_named plan) (behind irq_prefix w) i e in
-      let c = chained if_isr (named_by plan b.0) i b.2 in
-      false≢true (ap (is_there plan) (sym (isr-is c.0 i c.2)) ∙ named-there plan limits expressible b.0 c.0 c.1)
+      let m = mapped isr_of (place_named plan ObjectKind.Isr b.0) i b.2 in
+      subst (λ (isr : IsrRef). (irq_prefix ++ isr_name plan isr ≡ w) × (is_object plan (isr_object isr) ≡ true)) m.2
+      (ap (λ (name : List ℕ). irq_prefix ++ name) (place-spells ObjectKind.Isr b.0 m.0 m.1) ∙ behind-is irq_prefix w b.0 b.1, place-there ObjectKind.Isr b.0 m.0 m.1)
 
   pub word-back : (k : Kind) (w : List ℕ) (p q : Parts) → with_word plan k w p ≡ Some q → ◌≡◌ {A = List ℕ × Bool} (part_view plan q k) (w, true)
   word-back (K.Keyword word) w p q e = let c = cond-some (bytes_eq w (keyword_text word)) (Some p) q e in ap (λ (t : List ℕ). (t, true)) (sym ((bytes_eq-Decides w (keyword_text word)).0 c.0))
@@ -160,7 +180,10 @@ module _ (plan : Plan) (limits : IsTrue (is_within_limits plan)) (expressible : 
       let m = mapped (λ mode. record p { mode = mode }) (mode_named plan w) q e in
       let back = mode-back w m.0 m.1 in
       ap (λ (r : Parts). part_view plan r K.Mode) (sym m.2) ∙ pair (name_of_mode plan m.0) w (is_mode plan m.0) back.0 back.1
-  word-back K.Irq w p q e = let m = mapped (λ isr. record p { isr = isr }) (irq_of plan w) q e in absurd (no-isr w m.0 m.1)
+  word-back K.Irq w p q e =
+      let m = mapped (λ isr. record p { isr = isr }) (irq_of plan w) q e in
+      let back = irq-back w m.0 m.1 in
+      ap (λ (r : Parts). part_view plan r K.Irq) (sym m.2) ∙ pair (irq_prefix ++ isr_name plan m.0) w (is_object plan (isr_object m.0)) back.0 back.1
   word-back K.Spinlock w p q e = cc
 
 -- ---- a word of one kind leaves those of the others

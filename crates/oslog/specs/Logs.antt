@@ -1,7 +1,7 @@
 -- The log of items, and the items of a log. [own]
 use Rattle.std.specs.Prelude.{◌≡◌, ◌⊎◌, ℕ, ◌==◌, ◌&&◌, ◌++◌, nat_le, if◌then◌else◌, Bool, true, false, Option, Some, List, [], ◌∷◌, codes, length}
 use Rattle.std.specs.List.{flat_map, list_all}
-use Rattle.osbase.specs.Objects.{object_of_call}
+use Rattle.osbase.specs.Objects.{isr_object, object_of_call}
 use Rattle.osbase.specs.declared.items.Agreement.{Agreement}
 use Rattle.osbase.specs.declared.items.Item.{Item}
 use Rattle.osbase.specs.declared.items.Stimulus.{Stimulus}
@@ -39,12 +39,12 @@ is_message_representable plan (Message.Action call) = is_call_representable plan
 is_message_representable plan (Message.Reply status) = true
 is_message_representable plan (Message.Value status value) = is_int value
 
--- No ISR and no spinlock can be configured yet.
+-- No spinlock can be configured yet.
 abbrev pub is_representable : Plan → Item → Bool
 is_representable plan (Item.Began core status) = is_core_number core
 is_representable plan (Item.Pass1 (Agreement.Mode mode)) = is_mode plan mode
 is_representable plan (Item.Pass2 cores) = length cores.members == CORES
-is_representable plan (Item.Stim (Stimulus.Irq isr)) = false
+is_representable plan (Item.Stim (Stimulus.Irq isr)) = is_object plan (isr_object isr)
 is_representable plan (Item.Posted core) = is_core_number core
 is_representable plan (Item.Received from number message) = is_core_number from && nat_le number 18446744073709551615 && is_message_representable plan message
 is_representable plan (Item.Granted spinlock) = false

@@ -4,9 +4,9 @@ ghost use Rattle.std.specs.Prelude.{◌≡◌, ◌≤◌, ◌++◌, IfOk, IsTrue
 ghost use Rattle.osplan.specs.Expressible.{is_expressible};
 ghost use Rattle.osplan.specs.Limits.{is_within_limits};
 ghost use Rattle.osplan.specs.Objects.{object_count};
-ghost use Rattle.oslog.specs.Naming.{HasFew, Indexes, all_named, isr_named, isrs_in, mode_named, object_at, modes_in, name_of_named, named_in, objects_in};
+ghost use Rattle.oslog.specs.Naming.{HasFew, Indexes, all_named, isr_named, mode_named, object_at, modes_in, name_of_named, named_in, objects_in};
 
-use osbase::{IsrRef, List, ModeId, Object, ObjectKind, Place};
+use osbase::{IsrRef, List, ModeId, Object, ObjectKind, Place, Reference};
 use osforms::{Names, Places};
 use osplan::{Config, Core, KINDS, Plan};
 use std::alloc::{AllocError, Global};
@@ -17,7 +17,6 @@ use std::collections::HashMap;
 pub enum Named {
     Mode(ModeId),
     Object(Object),
-    Isr(IsrRef),
 }
 
 /// The names of a plan.
@@ -33,7 +32,6 @@ impl<'p> PlanNames<'p> {
         match named {
             Named::Mode(mode) => self.plan.name_of_mode(mode),
             Named::Object(object) => self.plan.name_of(object.kind, object.place),
-            Named::Isr(isr) => self.plan.isr_name(isr),
         }
     }
 }
@@ -83,22 +81,6 @@ fn push_objects(named: &mut List<Named>, core: &Core, kind: ObjectKind) -> Resul
     Ok(())
 }
 
-fn push_isrs(named: &mut List<Named>, core: &Core) -> Result<(), AllocError>
-    requires { length core.now.isrs ≤ 255 }
-    ensures { OnOk result (named.new ≡ named.old ++ isrs_in core.now) }
-{
-    let mut index = 0;
-    while usize::from(index) < core.isrs.len() {
-        let isr = IsrRef {
-            core: core.id,
-            index,
-        };
-        named.push(Named::Isr(isr))?;
-        index += 1;
-    }
-    Ok(())
-}
-
 fn push_core(named: &mut List<Named>, core: &Core) -> Result<(), AllocError>
     requires { HasFew core.now }
     ensures { OnOk result (named.new ≡ named.old ++ named_in core.now) }
@@ -106,13 +88,12 @@ fn push_core(named: &mut List<Named>, core: &Core) -> Result<(), AllocError>
     for kind in KINDS.iter() {
         push_objects(named, core, *kind)?;
     }
-    push_isrs(named, core)
+    Ok(())
 }
 
 // All that has a name.
 fn all_named(alloc: Global, plan: &Plan) -> Result<List<Named>, AllocError>
-    requires limits { IsTrue (is_within_limits plan.now) }
-    requires expressible { IsTrue (is_expressible plan.now) }
+    requires { IsTrue (is_within_limits plan.now) }
     ensures { IfOk result (λ named. named ≡ all_named plan.now) }
 {
     let mut named = List::new(alloc);
@@ -175,9 +156,9 @@ impl<'p> NameIndex<'p> {
     pub fn isr(&self, name: &str) -> Option<IsrRef>
         ensures { result ≡ isr_named self.now.config.now name.now }
     {
-        match self.index.get(name) {
-            Some(Named::Isr(isr)) => Some(*isr),
-            _ => None,
+        match self.place(ObjectKind::Isr, name) {
+            Some(place) => Some(IsrRef::at(place)),
+            None => None,
         }
     }
 }

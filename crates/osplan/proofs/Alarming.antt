@@ -16,8 +16,8 @@ use Rattle.osplan.specs.declared.plans.Plan.{Plan}
 use Rattle.osplan.specs.declared.plans.Table.{Table}
 use Rattle.osbase.specs.declared.messages.RemoteCall.{RemoteCall}
 use Rattle.osplan.specs.Clocked.{is_alarm_attached, is_table_attached}
-use Rattle.osplan.specs.Limits.{alarm_sizes, is_action_known, is_alarm_known, is_alarm_near, is_core_known, is_core_timed, is_mode, is_object, is_table_known, is_table_near, is_table_timed, is_task_known, table_sizes}
-use Rattle.osplan.specs.Objects.{alarm_modes, core_actions, has_index, may_act, may_name, table_actions, table_modes}
+use Rattle.osplan.specs.Limits.{alarm_sizes, is_action_known, is_alarm_known, is_alarm_near, is_core_known, is_core_timed, is_mode, is_object, is_table_known, is_table_near, is_table_timed, is_script_known, is_task_known, table_sizes}
+use Rattle.osplan.specs.Objects.{alarm_modes, core_actions, core_scripts, has_index, may_act, may_name, table_actions, table_modes}
 use Rattle.osplan.specs.View.{core_of, counter_in, own_counter}
 use Rattle.osplan.proofs.Tests.{all-append, all-both, all-flat, all-weaker, map-where}
 
@@ -36,14 +36,15 @@ module _ (plan : Plan) (core : Core) (found : core_of plan core.id ≡ Some core
       by false index = refl
       by true index = index refl
 
-  -- What its tasks, its alarms and its tables name is known.
+  -- What its scripts, its tasks, its alarms and its tables name is known.
   pub record KnownParts : Type 0 where
+    pub scripts : list_all (is_script_known plan) (core_scripts core) ≡ true
     pub tasks : list_all (is_task_known plan) core.tasks ≡ true
     pub alarms : list_all (is_alarm_known plan) core.alarms ≡ true
     pub tables : list_all (is_table_known plan) core.tables ≡ true
 
   pub known-parts : is_core_known plan core ≡ true → KnownParts
-  known-parts known = record { tasks = grind arith; alarms = grind arith; tables = grind arith }
+  known-parts known = record { scripts = grind arith; tasks = grind arith; alarms = grind arith; tables = grind arith }
 
   acts-each : (actions : List RemoteCall) → list_all (is_action_known plan) actions ≡ true → list_all (may_act core) actions ≡ true
   acts-each =

@@ -1,5 +1,5 @@
 -- The configuration of a separate core alone is within the limits, and a text can say it.
-use Rattle.std.proofs.Common.{◌≡◌, ℕ, Bool, true, false, not, ◌&&◌, nat_eq, nat_lt, List, [], ◌∷◌, ◌++◌, length, Option, Some, IsTrue, refl, sym, ap, subst, ◌∙◌}
+use Rattle.std.proofs.Common.{◌≡◌, ℕ, Bool, true, false, not, ◌&&◌, nat_eq, nat_lt, List, [], ◌∷◌, ◌++◌, length, Option, Some, IsTrue, refl, sym, ap, subst, ◌∙◌, arith}
 use Rattle.std.specs.List.{list_all, list_any, flat_map}
 use Rattle.std.specs.Option.{option_map_or}
 use Rattle.std.proofs.lemmas.List.{append-nil}
@@ -23,8 +23,8 @@ use Rattle.osplan.specs.declared.plans.Alarm.{Alarm}
 use Rattle.osplan.specs.declared.plans.Table.{Table}
 use Rattle.osbase.specs.declared.messages.RemoteCall.{RemoteCall}
 use Rattle.osplan.specs.View.{core_of}
-use Rattle.osplan.specs.Objects.{alarm_modes, object_count, table_actions, table_modes}
-use Rattle.osplan.specs.Limits.{CoreSizes, StartSizes, TableSizes, core_sizes, sizes_of, is_action_known, is_alarm_known, is_alarm_near, is_core_timed, is_core_within, is_table_known, is_table_near, is_within, is_object, is_op_known, is_mode, is_core_mode, is_task_known, is_core_known, is_core_near, is_within_limits}
+use Rattle.osplan.specs.Objects.{alarm_modes, core_scripts, object_count, table_actions, table_modes}
+use Rattle.osplan.specs.Limits.{CoreSizes, StartSizes, TableSizes, core_sizes, sizes_of, is_action_known, is_alarm_known, is_alarm_near, is_core_timed, is_core_within, is_table_known, is_table_near, is_within, is_object, is_op_known, is_mode, is_core_mode, is_script_known, is_task_known, is_core_known, is_core_near, is_within_limits}
 use Rattle.osplan.specs.Expressible.{is_core_expressible, is_expressible, are_distinct, object_names}
 use Rattle.osplan.specs.Separate.{agree, alone_of, has_operation, is_agreed_mode, is_named_elsewhere, is_off, is_on, is_separate, is_separate_core, is_started, names_other}
 use Rattle.osplan.proofs.Distinct.{distinct-kept, distinct-front, distinct-back}
@@ -71,18 +71,16 @@ module _ (plan : Plan) (id : CoreId) (core : Core) (found : core_of plan id ≡ 
       all-weaker (λ object. is_object plan object && not (not (is_on core.id object))) (is_object (alone_of plan id core)) own-object (objects_of op)
       (all-both (is_object plan) (λ object. not (not (is_on core.id object))) (objects_of op) parts.0 (all-not (λ object. not (is_on core.id object)) (objects_of op) (not-true _ parts.1)))
 
-  own-script : (task : Task) → (is_task_known plan task && not (list_any (names_other core.id) task.script)) ≡ true → is_task_known (alone_of plan id core) task ≡ true
-  own-script task h =
-      let parts = and_parts (is_task_known plan task) _ h in
-      let ops = and_parts (list_all (is_op_known plan) task.script) (list_all (is_mode plan) task.auto) parts.0 in
-      and_from _ _
-      (all-weaker (λ op. is_op_known plan op && not (names_other core.id op)) (is_op_known (alone_of plan id core)) own-operation task.script
-      (all-both (is_op_known plan) (λ op. not (names_other core.id op)) task.script ops.0 (all-not (names_other core.id) task.script (not-true _ parts.1)))) ops.1
+  own-script : (script : List Op) → (is_script_known plan script && not (list_any (names_other core.id) script)) ≡ true → is_script_known (alone_of plan id core) script ≡ true
+  own-script script h =
+      let parts = and_parts (is_script_known plan script) _ h in
+      all-weaker (λ op. is_op_known plan op && not (names_other core.id op)) (is_op_known (alone_of plan id core)) own-operation script
+      (all-both (is_op_known plan) (λ op. not (names_other core.id op)) script parts.0 (all-not (names_other core.id) script (not-true _ parts.1)))
 
-  own-scripts : list_all (is_task_known plan) core.tasks ≡ true → has_operation (names_other core.id) core ≡ false → list_all (is_task_known (alone_of plan id core)) core.tasks ≡ true
+  own-scripts : list_all (is_script_known plan) (core_scripts core) ≡ true → has_operation (names_other core.id) core ≡ false → list_all (is_script_known (alone_of plan id core)) (core_scripts core) ≡ true
   own-scripts known inside =
-      all-weaker (λ (task : Task). is_task_known plan task && not (list_any (names_other core.id) task.script)) (is_task_known (alone_of plan id core)) own-script core.tasks
-      (all-both (is_task_known plan) (λ (task : Task). not (list_any (names_other core.id) task.script)) core.tasks known (all-not (λ (task : Task). list_any (names_other core.id) task.script) core.tasks (or_parts (list_any (λ (task : Task). list_any (names_other core.id) task.script) core.tasks) _ inside).0))
+      all-weaker (λ (script : List Op). is_script_known plan script && not (list_any (names_other core.id) script)) (is_script_known (alone_of plan id core)) own-script (core_scripts core)
+      (all-both (is_script_known plan) (λ (script : List Op). not (list_any (names_other core.id) script)) (core_scripts core) known (all-not (list_any (names_other core.id)) (core_scripts core) inside))
 
   -- an action of this core is for an object of it
   own-action : (action : RemoteCall) → (is_action_known plan action && not (is_off core.id (object_of_call action))) ≡ true → is_action_known (alone_of plan id core) action ≡ true
@@ -142,8 +140,8 @@ module _ (plan : Plan) (id : CoreId) (core : Core) (found : core_of plan id ≡ 
   core-alone known near separate =
       let parts = known-parts plan core (ap (core_of plan) same ∙ found) known in
       let acting = or_parts _ _ (sym (any-acting (is_off core.id) core) ∙ separate.acting) in
-      let mode = and_parts (is_core_mode plan core.mode) _ (and_parts _ (list_all (is_alarm_known plan) core.alarms) (and_parts _ (list_all (is_table_known plan) core.tables) known).0).0 in
-      and_from _ _ (and_from _ _ (and_from _ _ mode.0 (own-scripts parts.tasks separate.inward)) (own-alarms parts.alarms near.alarms acting.0)) (own-tables-known parts.tables near.tables acting.1)
+      let mode : is_core_mode plan core.mode ≡ true = grind arith in
+      and_from _ _ (and_from _ _ (and_from _ _ (and_from _ _ mode (own-scripts parts.scripts separate.inward)) parts.tasks) (own-alarms parts.alarms near.alarms acting.0)) (own-tables-known parts.tables near.tables acting.1)
 
   -- its alarms' and its tables' counters are its own, in the whole as alone
   by-itself : core_of (alone_of plan id core) core.id ≡ Some core

@@ -1,6 +1,7 @@
 pub mod Tests
 pub mod Distinct
 pub mod Within
+pub mod Scripts
 pub mod Alarming
 pub mod Clocked
 pub mod Timing

@@ -1,5 +1,6 @@
 -- What a text can say of a configuration so far, beside its limits: names in form and all different, one mode, scripts whose
--- arguments are of their kinds, whose masks have events and that stay within themselves, actions likewise, and no ISR. [own]
+-- arguments are of their kinds, whose masks have events and that stay within themselves, those of ISRs without resources, and actions
+-- likewise. [own]
 -- Each is a test, so that a literal configuration passes it by computation.
 use Rattle.std.specs.Prelude.{ℕ, ◌==◌, ◌&&◌, nat_le, Bool, true, false, not, List, [], ◌∷◌, ◌++◌, length, codes}
 use Rattle.std.specs.List.{list_all, list_any, flat_map}
@@ -12,11 +13,12 @@ use Rattle.osbase.specs.Names.{is_name}
 use Rattle.oscript.specs.declared.Op.{Op}
 use Rattle.oscript.specs.Calls.{op_of_call}
 use Rattle.oscript.specs.Frames.{position_of}
-use Rattle.oscript.specs.Rows.{has_masks, is_in_form}
+use Rattle.oscript.specs.Rows.{has_masks, is_in_form, uses_resource}
 use Rattle.osplan.specs.declared.plans.Alarm.{Alarm}
 use Rattle.osplan.specs.declared.plans.Plan.{Plan}
 use Rattle.osplan.specs.declared.plans.Core.{Core}
 use Rattle.osplan.specs.declared.plans.Counter.{Counter}
+use Rattle.osplan.specs.declared.plans.Isr.{Isr}
 use Rattle.osplan.specs.declared.plans.Resource.{Resource}
 use Rattle.osplan.specs.declared.plans.Table.{Table}
 use Rattle.osplan.specs.declared.plans.Task.{Task}
@@ -46,7 +48,7 @@ abbrev pub are_distinct : List (List ℕ) → Bool
 are_distinct [] = true
 are_distinct (name ∷ names) = not (list_any (λ later. bytes_eq later name) names) && are_distinct names
 
--- The names of a core's objects, kind by kind. No ISR can be configured yet.
+-- The names of a core's objects, kind by kind.
 abbrev pub object_names : Core → List (List ℕ)
 object_names core = flat_map (λ (kind : ObjectKind). names_in kind core) KINDS
 
@@ -73,6 +75,14 @@ is_action_expressible action = is_in_form (op_of_call action) && has_masks (op_o
 abbrev pub is_task_expressible : Task → Bool
 is_task_expressible task = is_name task.name && list_all is_only_mode task.auto && is_script_expressible task.script
 
+-- No operation of the script takes or gives back a resource.
+abbrev pub is_free_of_resources : List Op → Bool
+is_free_of_resources script = not (list_any uses_resource script)
+
+-- An ISR has a name in form, and such a script that has to do with no resource. [own]
+abbrev pub is_isr_expressible : Isr → Bool
+is_isr_expressible isr = is_name isr.name && is_script_expressible isr.script && is_free_of_resources isr.script
+
 -- A resource has a name in form.
 abbrev pub is_resource_expressible : Resource → Bool
 is_resource_expressible resource = is_name resource.name
@@ -89,12 +99,12 @@ is_alarm_expressible alarm = is_name alarm.name && is_action_expressible alarm.a
 abbrev pub is_table_expressible : Table → Bool
 is_table_expressible table = is_name table.name && list_all is_action_expressible (table_actions table) && list_all is_only_mode (table_modes table)
 
--- A core is of the only mode, and has no ISR.
+-- A core is of the only mode.
 abbrev pub is_core_expressible : Core → Bool
 is_core_expressible core =
-    is_in_only_mode core.mode && list_all is_task_expressible core.tasks && list_all is_resource_expressible core.resources
-    && list_all is_counter_expressible core.counters && list_all is_alarm_expressible core.alarms
-    && list_all is_table_expressible core.tables && (length core.isrs == 0)
+    is_in_only_mode core.mode && list_all is_task_expressible core.tasks && list_all is_isr_expressible core.isrs
+    && list_all is_resource_expressible core.resources && list_all is_counter_expressible core.counters
+    && list_all is_alarm_expressible core.alarms && list_all is_table_expressible core.tables
 
 -- The whole configuration can be said by a text; the names that it declares are different.
 abbrev pub is_expressible : Plan → Bool

@@ -52,7 +52,8 @@ abbrev pub first_fault : List ConfFault → Option ConfFault
 first_fault [] = None
 first_fault (fault ∷ faults) = Some fault
 
--- What a step answered past the seam, where its fault has a name: seen by view, what the definition has, unless memory ran out.
+-- What a step answered whose fault has a name: the value as `view` sees it is what the definition has; or the fault, where that has
+-- none; or memory ran out.
 abbrev pub Faults : {Y : Type 0} → ConfFault → ConfFault → Option Y → Type 0
 Faults named fault read = (fault ≡ NoMemory) ⊎ ((fault ≡ named) × (read ≡ None))
 

@@ -1,3 +1,4 @@
+pub mod Protection
 pub mod Objects
 pub mod View
 pub mod Stimuli

@@ -4,7 +4,7 @@
 use Rattle.std.specs.Prelude.{ℕ, ◌-◌, ◌==◌, ◌&&◌, ◌||◌, nat_le, nat_lt, Bool, true, false, not, Option, Some, None, is_some, option_map, unwrap_or, List, [], ◌∷◌, length, map, sum_by}
 use Rattle.std.specs.List.{list_all, list_any}
 use Rattle.std.specs.Option.{option_map_or}
-use Rattle.osbase.specs.declared.limits.TheConstants.{ACTIONS, ALARMS, CONFIGURED_CORES, COUNTERS, GREATEST_DURATION, GREATEST_VALUE, JOBS, MAILBOX, MODES, OPERATIONS, POINTS, POSTED, RESOURCES, TABLES, TASKS}
+use Rattle.osbase.specs.declared.limits.TheConstants.{ACTIONS, ALARMS, CONFIGURED_CORES, COUNTERS, GREATEST_BUDGET, GREATEST_DURATION, GREATEST_VALUE, ISRS, JOBS, LEVELS, MAILBOX, MODES, OPERATIONS, POINTS, POSTED, RESOURCES, TABLES, TASKS}
 use Rattle.osbase.specs.declared.references.CoreId.{CoreId}
 use Rattle.osbase.specs.declared.references.CounterRef.{CounterRef}
 use Rattle.osbase.specs.declared.references.ModeId.{ModeId}
@@ -21,13 +21,14 @@ use Rattle.osplan.specs.declared.plans.ExpiryPoint.{ExpiryPoint}
 use Rattle.osplan.specs.declared.plans.Plan.{Plan}
 use Rattle.osplan.specs.declared.plans.Core.{Core}
 use Rattle.osplan.specs.declared.plans.Counter.{Counter}
+use Rattle.osplan.specs.declared.plans.Isr.{Isr}
 use Rattle.osplan.specs.declared.plans.Resource.{Resource}
 use Rattle.osplan.specs.declared.plans.Table.{Table}
 use Rattle.osplan.specs.declared.plans.TableStart.{TableStart}
 use Rattle.osplan.specs.declared.plans.Task.{Task}
 use Rattle.osbase.specs.declared.items.CoreMode.{CoreMode}
 use Rattle.osbase.specs.declared.items.CoreMode.TheVariants.{Named, DontCare}
-use Rattle.osplan.specs.Objects.{alarm_modes, has_index, posted_at_once, table_actions, table_modes}
+use Rattle.osplan.specs.Objects.{alarm_modes, core_scripts, has_index, posted_at_once, table_actions, table_modes}
 use Rattle.osplan.specs.Separate.{is_on, names_other}
 use Rattle.osplan.specs.View.{core_of, counter_in}
 
@@ -37,7 +38,11 @@ pub record TaskSizes : Type 0 where
   pub priority : Option ℕ
   pub activations : Option ℕ
   pub extended : Bool
-  pub operations : ℕ
+  pub budget : Option ℕ
+
+pub record IsrSizes : Type 0 where
+  pub level : Option ℕ
+  pub budget : Option ℕ
 
 pub record CounterSizes : Type 0 where
   pub max : Option ℕ
@@ -62,15 +67,18 @@ pub record TableSizes : Type 0 where
   pub counter : Option CounterSizes
 
 -- Of each alarm there are sizes if it is automatic. Posted is how many envelopes its alarms and tables may add to the outbox at once.
+-- Of each script there is the number of its operations.
 pub record CoreSizes : Type 0 where
   pub number : Option ℕ
   pub start : List (Option ℕ)
   pub tasks : List TaskSizes
+  pub isrs : List IsrSizes
   pub resources : List (Option ℕ)
   pub counters : List CounterSizes
   pub alarms : List (Option StartSizes)
   pub tables : List TableSizes
   pub posted : ℕ
+  pub scripts : List ℕ
 
 pub record Sizes : Type 0 where
   pub modes : ℕ
@@ -80,6 +88,7 @@ pub record Sizes : Type 0 where
 -- How many objects of a kind the sizes of a core are of.
 abbrev pub count_in : ObjectKind → CoreSizes → ℕ
 count_in ObjectKind.Task s = length s.tasks
+count_in ObjectKind.Isr s = length s.isrs
 count_in ObjectKind.Resource s = length s.resources
 count_in ObjectKind.Counter s = length s.counters
 count_in ObjectKind.Alarm s = length s.alarms
@@ -92,6 +101,7 @@ most_cores = CONFIGURED_CORES
 
 abbrev pub most_of : ObjectKind → ℕ
 most_of ObjectKind.Task = TASKS
+most_of ObjectKind.Isr = ISRS
 most_of ObjectKind.Resource = RESOURCES
 most_of ObjectKind.Counter = COUNTERS
 most_of ObjectKind.Alarm = ALARMS
@@ -113,17 +123,26 @@ abbrev pub most_activations : Bool → ℕ
 most_activations true = 1
 most_activations false = 64
 
--- A task: priority 0 to 31, of which 0 is the lowest [OSEK/VDX OS 2.2.3, section 4.5; the highest is own], and as many activations
--- as it may have [section 4.3].
-abbrev pub is_task_numbered : TaskSizes → Bool
-is_task_numbered s = is_between 0 31 s.priority && is_between 1 (most_activations s.extended) s.activations
+-- An execution budget in ticks, of which 0 stands for none [AUTOSAR SWS OS 4.x, OsTaskExecutionBudget; the most is own].
+abbrev pub is_budget : Option ℕ → Bool
+is_budget budget = is_between 0 GREATEST_BUDGET budget
 
--- And at most 256 operations, whatever they are. [own]
-abbrev pub is_task_short : TaskSizes → Bool
-is_task_short s = nat_le s.operations OPERATIONS
-
+-- A task: priority 0 to 31, of which 0 is the lowest [OSEK/VDX OS 2.2.3, section 4.5; the highest is own], as many activations
+-- as it may have [section 4.3], and its budget.
 abbrev pub is_task_within : TaskSizes → Bool
-is_task_within s = is_task_numbered s && is_task_short s
+is_task_within s = is_between 0 31 s.priority && is_between 1 (most_activations s.extended) s.activations && is_budget s.budget
+
+-- An ISR: level 1 to 16 [AUTOSAR SWS OS 4.x, OsIsr; the levels are own], and its budget [OsIsrExecutionBudget].
+abbrev pub is_isr_within : IsrSizes → Bool
+is_isr_within s = is_between 1 LEVELS s.level && is_budget s.budget
+
+-- And there are not too many. [own]
+abbrev pub are_isrs_within : List IsrSizes → Bool
+are_isrs_within isrs = nat_le (length isrs) (most_of ObjectKind.Isr) && list_all is_isr_within isrs
+
+-- A script of so many operations has at most 256, whatever they are. [own]
+abbrev pub is_short : ℕ → Bool
+is_short operations = nat_le operations OPERATIONS
 
 -- A number in a start list, of a core that is configured or not: 0 to 255 [AUTOSAR SWS OS 4.x, StartCore; the most is own].
 abbrev pub is_start : Option ℕ → Bool
@@ -162,7 +181,7 @@ is_alarm_within auto = option_map_or is_start_within auto true
 abbrev pub are_alarms_within : List (Option StartSizes) → Bool
 are_alarms_within alarms = nat_le (length alarms) (most_of ObjectKind.Alarm) && list_all is_alarm_within alarms
 
--- The offset of the table's first point; 0 where it has none.
+-- The offset of the table's first point; 0 where it has none, or one below 0, which is out of order.
 abbrev pub first_offset : List PointSizes → ℕ
 first_offset [] = 0
 first_offset (point ∷ points) = unwrap_or point.offset 0
@@ -192,26 +211,26 @@ are_tables_within tables = nat_le (length tables) (most_of ObjectKind.Table) && 
 abbrev pub jobs_of : TaskSizes → ℕ
 jobs_of s = unwrap_or s.activations 0
 
--- A core: number 0 to 7, its tasks, each of which passes the test, at most 64 jobs of all its tasks at once, its resources, counters,
--- alarms and tables, and what these post. [own]
-abbrev pub is_core_by : (TaskSizes → Bool) → CoreSizes → Bool
-is_core_by test s =
+-- A core: number 0 to 7, its tasks, at most 64 jobs of all its tasks at once, its ISRs, resources, counters, alarms and tables, and
+-- what these post. [own]
+abbrev pub is_core_numbered : CoreSizes → Bool
+is_core_numbered s =
     is_between 0 7 s.number && list_all is_start s.start
-    && nat_le (length s.tasks) (most_of ObjectKind.Task) && list_all test s.tasks && nat_le (sum_by jobs_of s.tasks) JOBS
-    && nat_le (length s.resources) (most_of ObjectKind.Resource) && list_all is_ceiling s.resources
+    && nat_le (length s.tasks) (most_of ObjectKind.Task) && list_all is_task_within s.tasks && nat_le (sum_by jobs_of s.tasks) JOBS
+    && are_isrs_within s.isrs && nat_le (length s.resources) (most_of ObjectKind.Resource) && list_all is_ceiling s.resources
     && are_counters_within s.counters && are_alarms_within s.alarms && are_tables_within s.tables && nat_le s.posted most_posted
 
--- The whole: 1 to 8 application modes, mailboxes of 1 to 16 envelopes, 1 to 8 cores. [own]
-abbrev pub is_by : (TaskSizes → Bool) → Sizes → Bool
-is_by test s =
-    is_between 1 MODES (Some s.modes) && is_between 1 MAILBOX s.cap && is_between 1 most_cores (Some (length s.cores))
-    && list_all (is_core_by test) s.cores
-
+-- And none of its scripts is too long.
 abbrev pub is_core_within : CoreSizes → Bool
-is_core_within s = is_core_by is_task_within s
+is_core_within s = is_core_numbered s && list_all is_short s.scripts
+
+-- The whole: 1 to 8 application modes, mailboxes of 1 to 16 envelopes, 1 to 8 cores, each of which passes the test. [own]
+abbrev pub is_by : (CoreSizes → Bool) → Sizes → Bool
+is_by test s =
+    is_between 1 MODES (Some s.modes) && is_between 1 MAILBOX s.cap && is_between 1 most_cores (Some (length s.cores)) && list_all test s.cores
 
 abbrev pub is_within : Sizes → Bool
-is_within s = is_by is_task_within s
+is_within s = is_by is_core_within s
 
 -- ---- the points of schedule tables
 
@@ -280,7 +299,10 @@ are_numbers_distinct (number ∷ numbers) = not (has_number numbers number) && a
 -- ---- the numbers of a configuration
 
 abbrev pub task_sizes : Task → TaskSizes
-task_sizes task = record { priority = Some task.priority; activations = Some task.activations; extended = task.extended; operations = length task.script }
+task_sizes task = record { priority = Some task.priority; activations = Some task.activations; extended = task.extended; budget = Some task.budget }
+
+abbrev pub isr_sizes : Isr → IsrSizes
+isr_sizes isr = record { level = Some isr.level; budget = Some isr.budget }
 
 abbrev pub number_of : CoreId → Option ℕ
 number_of id = Some id.number
@@ -321,11 +343,13 @@ core_sizes plan core = record {
   number = number_of core.id;
   start = map number_of core.start;
   tasks = map task_sizes core.tasks;
+  isrs = map isr_sizes core.isrs;
   resources = map ceiling_of core.resources;
   counters = map counter_sizes core.counters;
   alarms = map (alarm_sizes (counter_in plan)) core.alarms;
   tables = map (table_sizes (counter_in plan)) core.tables;
   posted = posted_at_once core;
+  scripts = map (λ (script : List Op). length script) (core_scripts core);
 }
 
 abbrev pub sizes_of : Plan → Sizes
@@ -348,9 +372,13 @@ abbrev pub is_core_mode : Plan → CoreMode → Bool
 is_core_mode plan (Named m) = is_mode plan m
 is_core_mode plan DontCare = true
 
--- What a task's script names is there, and the modes in which it starts by itself.
+-- What a script names is there.
+abbrev pub is_script_known : Plan → List Op → Bool
+is_script_known plan script = list_all (is_op_known plan) script
+
+-- The modes in which a task starts by itself are there.
 abbrev pub is_task_known : Plan → Task → Bool
-is_task_known plan task = list_all (is_op_known plan) task.script && list_all (is_mode plan) task.auto
+is_task_known plan task = list_all (is_mode plan) task.auto
 
 -- What an alarm or a table does is an action, and what that is for is there. [AUTOSAR SWS OS 4.x, OsAlarmAction and
 -- OsScheduleTableExpiryPoint]
@@ -367,10 +395,10 @@ abbrev pub is_table_known : Plan → Table → Bool
 is_table_known plan table =
     is_object plan (counter_object table.counter) && list_all (is_action_known plan) (table_actions table) && list_all (is_mode plan) (table_modes table)
 
--- A core's mode is there, and what its tasks, its alarms and its tables name.
+-- A core's mode is there, and what its scripts, its tasks, its alarms and its tables name.
 abbrev pub is_core_known : Plan → Core → Bool
 is_core_known plan core =
-    is_core_mode plan core.mode && list_all (is_task_known plan) core.tasks && list_all (is_alarm_known plan) core.alarms
+    is_core_mode plan core.mode && list_all (is_script_known plan) (core_scripts core) && list_all (is_task_known plan) core.tasks && list_all (is_alarm_known plan) core.alarms
     && list_all (is_table_known plan) core.tables
 
 -- On the core of this number the operation names no object of another core, where it may name its own alone.
@@ -388,7 +416,7 @@ is_table_near id table = is_on id (counter_object table.counter)
 -- So it is with each operation of the core's scripts, and with each of its alarms and tables. [own]
 abbrev pub is_core_near : Core → Bool
 is_core_near core =
-    list_all (λ (task : Task). list_all (stays_on core.id) task.script) core.tasks && list_all (is_alarm_near core.id) core.alarms
+    list_all (list_all (stays_on core.id)) (core_scripts core) && list_all (is_alarm_near core.id) core.alarms
     && list_all (is_table_near core.id) core.tables
 
 -- The points of each of the core's tables come in order.

@@ -10,9 +10,8 @@ use Rattle.osbase.specs.declared.references.ResourceRef.{ResourceRef}
 use Rattle.osbase.specs.declared.references.Runner.{Runner}
 use Rattle.osbase.specs.declared.references.TableRef.{TableRef}
 use Rattle.osbase.specs.declared.references.TaskRef.{TaskRef}
-use Rattle.osbase.specs.Objects.{alarm_place, resource_place, table_place, task_place}
+use Rattle.osbase.specs.Objects.{alarm_place, isr_place, resource_place, table_place, task_place}
 use Rattle.osplan.specs.declared.plans.Core.{Core}
-use Rattle.osplan.specs.declared.plans.Isr.{Isr}
 use Rattle.osplan.specs.declared.plans.Plan.{Plan}
 use Rattle.osplan.specs.Objects.{names_in}
 use Rattle.osplan.specs.View.{core_of}
@@ -20,7 +19,7 @@ use Rattle.osplan.specs.View.{core_of}
 abbrev pub name_of_mode : Plan → ModeId → List ℕ
 name_of_mode plan mode = option_map_or (λ (name : List ℕ). name) (slice_get plan.modes mode.index) []
 
--- ---- objects that operations name
+-- ---- objects
 
 -- The name of a core's object of a kind.
 abbrev pub name_in : ObjectKind → Core → ℕ → List ℕ
@@ -41,10 +40,8 @@ alarm_name plan alarm = name_of plan ObjectKind.Alarm (alarm_place alarm)
 abbrev pub table_name : Plan → TableRef → List ℕ
 table_name plan table = name_of plan ObjectKind.Table (table_place table)
 
--- ---- objects that no operation names yet
-
 abbrev pub isr_name : Plan → IsrRef → List ℕ
-isr_name plan isr = option_map_or (λ (core : Core). option_map_or (λ (i : Isr). i.name) (slice_get core.isrs isr.index) []) (core_of plan isr.core) []
+isr_name plan isr = name_of plan ObjectKind.Isr (isr_place isr)
 
 abbrev pub runner_name : Plan → Runner → List ℕ
 runner_name plan (Runner.Task task) = task_name plan task

@@ -1,19 +1,21 @@
--- The objects of a core, kind by kind, and what its alarms and schedule tables name.
+-- The objects of a core, kind by kind, its scripts, and what its alarms and schedule tables name.
 use Rattle.std.specs.Prelude.{ℕ, ◌+◌, ◌&&◌, ◌||◌, nat_lt, Bool, not, List, [], ◌∷◌, ◌++◌, count_by, flat_map, length, map, sum_by}
 use Rattle.std.specs.Option.{option_map_or}
 use Rattle.osbase.specs.declared.objects.ObjectKind.{ObjectKind}
-use Rattle.osbase.specs.declared.objects.ObjectKind.TheVariants.{Task, Resource, Counter, Alarm, Table}
+use Rattle.osbase.specs.declared.objects.ObjectKind.TheVariants.{Task, Isr, Resource, Counter, Alarm, Table}
 use Rattle.osbase.specs.declared.objects.Object.{Object}
 use Rattle.osbase.specs.declared.messages.RemoteCall.{RemoteCall}
 use Rattle.osbase.specs.declared.references.ModeId.{ModeId}
 use Rattle.osbase.specs.History.{greater, same_core}
 use Rattle.osbase.specs.Objects.{object_of_call}
+use Rattle.oscript.specs.declared.Op.{Op}
 use Rattle.oscript.specs.Calls.{is_action}
 use Rattle.osplan.specs.declared.plans.Alarm.{Alarm as AlarmValue}
 use Rattle.osplan.specs.declared.plans.AlarmStart.{AlarmStart}
 use Rattle.osplan.specs.declared.plans.Core.{Core}
 use Rattle.osplan.specs.declared.plans.Counter.{Counter as CounterValue}
 use Rattle.osplan.specs.declared.plans.ExpiryPoint.{ExpiryPoint}
+use Rattle.osplan.specs.declared.plans.Isr.{Isr as IsrValue}
 use Rattle.osplan.specs.declared.plans.Resource.{Resource as ResourceValue}
 use Rattle.osplan.specs.declared.plans.Table.{Table as TableValue}
 use Rattle.osplan.specs.declared.plans.TableStart.{TableStart}
@@ -22,6 +24,7 @@ use Rattle.osplan.specs.declared.plans.Task.{Task as TaskValue}
 -- How many objects of a kind a core has.
 abbrev pub object_count : ObjectKind → Core → ℕ
 object_count Task core = length core.tasks
+object_count Isr core = length core.isrs
 object_count Resource core = length core.resources
 object_count Counter core = length core.counters
 object_count Alarm core = length core.alarms
@@ -30,6 +33,7 @@ object_count Table core = length core.tables
 -- The names of a core's objects of a kind, in their order. What is said of the objects of every kind goes over these. [own]
 abbrev pub names_in : ObjectKind → Core → List (List ℕ)
 names_in Task core = map (λ (task : TaskValue). task.name) core.tasks
+names_in Isr core = map (λ (isr : IsrValue). isr.name) core.isrs
 names_in Resource core = map (λ (resource : ResourceValue). resource.name) core.resources
 names_in Counter core = map (λ (counter : CounterValue). counter.name) core.counters
 names_in Alarm core = map (λ (alarm : AlarmValue). alarm.name) core.alarms
@@ -46,6 +50,12 @@ is_own_object core object = same_core object.place.core core.id && has_index cor
 -- What a script of the core may name: an object of another core, or one of its own.
 abbrev pub may_name : Core → Object → Bool
 may_name core object = not (same_core object.place.core core.id) || is_own_object core object
+
+-- ---- scripts
+
+-- The scripts of a core: those of its tasks, and then those of its ISRs. What is said of scripts goes over all of these. [own]
+abbrev pub core_scripts : Core → List (List Op)
+core_scripts core = map (λ (task : TaskValue). task.script) core.tasks ++ map (λ (isr : IsrValue). isr.script) core.isrs
 
 -- ---- alarms
 

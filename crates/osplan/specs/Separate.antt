@@ -11,14 +11,12 @@ use Rattle.oscript.specs.declared.Op.{Op}
 use Rattle.oscript.specs.Rows.{objects_of}
 use Rattle.osplan.specs.declared.plans.Plan.{Plan}
 use Rattle.osplan.specs.declared.plans.Core.{Core}
-use Rattle.osplan.specs.declared.plans.Isr.{Isr}
-use Rattle.osplan.specs.declared.plans.Task.{Task}
 use Rattle.osbase.specs.declared.items.CoreMode.{CoreMode}
 use Rattle.osbase.specs.declared.items.CoreMode.TheVariants.{Named, DontCare}
 use Rattle.osplan.specs.declared.separate.Standing.{Standing}
 use Rattle.osplan.specs.declared.sides.Side.{Side}
 use Rattle.osplan.specs.declared.sides.Side.TheVariants.{On, Off}
-use Rattle.osplan.specs.Objects.{core_actions}
+use Rattle.osplan.specs.Objects.{core_actions, core_scripts}
 use Rattle.osplan.specs.View.{core_of}
 
 -- ---- which cores are started
@@ -93,9 +91,9 @@ names_own id op = op_names (is_on id) op
 abbrev pub names_other : CoreId → Op → Bool
 names_other id op = op_names (is_off id) op
 
--- A script of the core has such an operation, one of a task or of an ISR.
+-- A script of the core has such an operation.
 abbrev pub has_operation : (Op → Bool) → Core → Bool
-has_operation test core = list_any (λ (task : Task). list_any test task.script) core.tasks || list_any (λ (isr : Isr). list_any test isr.script) core.isrs
+has_operation test core = list_any (list_any test) (core_scripts core)
 
 -- An alarm or a schedule table of the core acts on an object that passes the test.
 abbrev pub acts_on : (Object → Bool) → Core → Bool

@@ -1,5 +1,5 @@
 -- Which stimuli the cores of a configuration know.
-use Rattle.std.specs.Prelude.{◌≡◌, ◌^◌, ◌≤◌, Bool, true, false, List, length}
+use Rattle.std.specs.Prelude.{◌≡◌, ◌^◌, ◌≤◌, Bool, true, is_some, List, length}
 use Rattle.std.specs.List.{list_all}
 use Rattle.osbase.specs.declared.references.CoreId.{CoreId}
 use Rattle.osbase.specs.declared.items.Stimulus.{Stimulus}
@@ -7,14 +7,14 @@ use Rattle.osbase.specs.declared.turns.CoreStimuli.{CoreStimuli}
 use Rattle.osbase.specs.Runs.{stimuli_of}
 use Rattle.osplan.specs.declared.plans.Core.{Core}
 use Rattle.osplan.specs.declared.plans.Plan.{Plan}
-use Rattle.osplan.specs.View.{view_of}
+use Rattle.osplan.specs.View.{own_isr, view_of}
 
--- Which stimulus the core knows: the running job's next operation, and a tick of its hardware counters. An interrupt is
--- that of an ISR, and none can be configured yet.
+-- Which stimulus the core knows: the running job's next operation, a tick of its hardware counters, and an interrupt of one of its
+-- ISRs.
 abbrev pub knows_stimulus : Core → Stimulus → Bool
 knows_stimulus core Stimulus.Op = true
 knows_stimulus core Stimulus.Tick = true
-knows_stimulus core (Stimulus.Irq isr) = false
+knows_stimulus core (Stimulus.Irq isr) = is_some (own_isr core isr)
 
 -- Each core's listed stimuli are such as it knows, and no more than it could take; a core that is not configured has no
 -- objects. Who plays them sees to it.

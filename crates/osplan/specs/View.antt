@@ -17,6 +17,7 @@ use Rattle.osplan.specs.declared.plans.Resource.{Resource}
 use Rattle.osplan.specs.declared.plans.Table.{Table}
 use Rattle.osplan.specs.declared.plans.Task.{Task}
 use Rattle.osbase.specs.declared.items.CoreMode.TheVariants.{DontCare}
+use Rattle.osplan.specs.declared.protection.Protection.TheVariants.{Shutdown}
 
 -- The core of this number, if one is configured.
 abbrev pub core_of : Plan → CoreId → Option Core
@@ -28,7 +29,7 @@ counter_in plan c = option_and_then (λ (core : Core). slice_get core.counters c
 
 -- A core that is not configured has nothing.
 abbrev pub no_core : CoreId → Core
-no_core id = record { id = id; mode = DontCare; start = []; tasks = []; resources = []; isrs = []; counters = []; alarms = []; tables = [] }
+no_core id = record { id = id; mode = DontCare; start = []; protection = Shutdown; tasks = []; isrs = []; resources = []; counters = []; alarms = []; tables = [] }
 
 -- What a core sees of the others: whether it is the master, and the numbers of the configured cores.
 pub record Around : Type 0 where

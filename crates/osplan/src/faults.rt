@@ -27,9 +27,9 @@ pub enum ConfFault {
     SpinOrder,
     /// An event mask that is not 1 to 4294967295.
     BadMask,
-    /// The points or the duration of a schedule table.
+    /// The offsets of a schedule table's points: their order, the duration, or what the counter allows.
     BadTable,
-    /// An operation, or its numbers.
+    /// An operation or an action: its form, or a number out of its range that is no mask.
     BadScript,
     /// Memory ran out while reading or cutting.
     NoMemory,

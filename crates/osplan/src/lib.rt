@@ -9,6 +9,7 @@ pub mod faults;
 mod names;
 pub mod own;
 pub mod plans;
+mod protection;
 pub mod separate;
 mod sides;
 
@@ -18,5 +19,6 @@ pub use plans::{
     Alarm, AlarmStart, Config, Core, Counter, ExpiryPoint, Isr, KINDS, Plan, Resource, Table,
     TableStart, Task,
 };
+pub use protection::Protection;
 pub use separate::{Standing, is_separate, standing_of};
 pub use sides::stays_on;

@@ -59,13 +59,7 @@ impl Plan {
     pub fn isr_name(&self, isr: IsrRef) -> &str
         ensures { result.now ≡ isr_name self.now isr }
     {
-        let Some(core) = self.core(isr.core) else {
-            return "";
-        };
-        match core.isrs.as_slice().get(usize::from(isr.index)) {
-            Some(isr) => isr.name.as_str(),
-            None => "",
-        }
+        self.name_of(ObjectKind::Isr, isr.place())
     }
 
     pub fn table_name(&self, table: TableRef) -> &str

@@ -30,11 +30,7 @@ pub fn task_of(core: &Core, task: TaskRef) -> Option<&Task>
 pub fn isr_of(core: &Core, isr: IsrRef) -> Option<&Isr>
     ensures { option_copied result ≡ own_isr core.now isr }
 {
-    let place = Place {
-        core: isr.core,
-        index: isr.index,
-    };
-    own_at(core.id, core.isrs.as_slice(), place)
+    own_at(core.id, core.isrs.as_slice(), isr.place())
 }
 
 /// The resource of this reference, if it is one of this core's.

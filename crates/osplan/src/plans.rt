@@ -2,13 +2,16 @@
 
 ghost use Rattle.std.specs.Prelude.{◌≡◌, ◌↔◌, IsTrue, Option, option_copied, slice_get};
 ghost use Rattle.std.specs.List.{list_all};
-ghost use Rattle.osplan.specs.Objects.{is_own_object, names_in, object_count};
+ghost use Rattle.osplan.specs.Objects.{core_scripts, is_own_object, names_in, object_count};
 ghost use Rattle.osplan.specs.Stimuli.{knows_stimulus};
 ghost use Rattle.osplan.specs.View.{core_of};
 ghost use Rattle.osplan.specs.Limits.{is_alarm_near, is_core_near, is_table_near, is_within_limits, stays_on};
 ghost use Rattle.osplan.specs.Expressible.{is_expressible};
+ghost use Rattle.osplan.specs.declared.plans.Isr.{Isr as IsrValue};
 ghost use Rattle.osplan.specs.declared.plans.Task.{Task as TaskValue};
 
+use crate::own::isr_of;
+use crate::protection::Protection;
 use crate::sides::{is_on, stays_on};
 use osbase::{
     CoreId, CoreMode, CounterRef, List, ModeId, Name, Object, ObjectKind, Reference, RemoteCall,
@@ -32,6 +35,8 @@ pub struct Task {
     /// Whether a task of greater priority takes the processor before this one ends or gives way
     /// (OSEK/VDX OS 2.2.3, section 4.6).
     pub preemptable: bool,
+    /// How many ticks a job may run until it ends or waits (AUTOSAR SWS OS 4.x, OsTaskExecutionBudget); 0 for any number.
+    pub budget: u32,
     pub script: Script,
 }
 
@@ -43,7 +48,7 @@ pub struct Resource {
     pub ceiling: u8,
 }
 
-/// A category 2 ISR (AUTOSAR SWS OS 4.x, OsIsr). None can be configured yet.
+/// A category 2 ISR (AUTOSAR SWS OS 4.x, OsIsr).
 #[derive(Clone, Debug, Drop)]
 pub struct Isr {
     pub name: Name,
@@ -128,9 +133,11 @@ pub struct Core {
     pub mode: CoreMode,
     /// The cores that it starts before StartOS, configured or not.
     pub start: List<CoreId>,
+    /// What it does when a job has used up its budget.
+    pub protection: Protection,
     pub tasks: List<Task>,
-    pub resources: List<Resource>,
     pub isrs: List<Isr>,
+    pub resources: List<Resource>,
     pub counters: List<Counter>,
     pub alarms: List<Alarm>,
     pub tables: List<Table>,
@@ -189,27 +196,44 @@ impl Config {
 }
 
 /// The kinds of a core's objects, in the order in which a configuration names them.
-pub const KINDS: [ObjectKind; 5] = [
+pub const KINDS: [ObjectKind; 6] = [
     ObjectKind::Task,
+    ObjectKind::Isr,
     ObjectKind::Resource,
     ObjectKind::Counter,
     ObjectKind::Alarm,
     ObjectKind::Table,
 ];
 
-fn is_script_near(id: CoreId, task: &Task) -> bool
-    ensures { result ≡ list_all (stays_on id) task.now.script }
+fn is_script_near(id: CoreId, script: &Script) -> bool
+    ensures { result ≡ list_all (stays_on id) script.now }
 {
-    task.script.as_slice().iter().all(|op| stays_on(id, *op))
+    script.as_slice().iter().all(|op| stays_on(id, *op))
 }
 
-fn are_scripts_near(core: &Core) -> bool
+fn are_tasks_near(core: &Core) -> bool
     ensures { result ≡ list_all (λ (task : TaskValue). list_all (stays_on core.now.id) task.script) core.now.tasks }
 {
     core.tasks
         .as_slice()
         .iter()
-        .all(|task| is_script_near(core.id, task))
+        .all(|task| is_script_near(core.id, &task.script))
+}
+
+fn are_isrs_near(core: &Core) -> bool
+    ensures { result ≡ list_all (λ (isr : IsrValue). list_all (stays_on core.now.id) isr.script) core.now.isrs }
+{
+    core.isrs
+        .as_slice()
+        .iter()
+        .all(|isr| is_script_near(core.id, &isr.script))
+}
+
+#[tactic(auto, using(crate::proofs::Scripts::all_scripts))]
+fn are_scripts_near(core: &Core) -> bool
+    ensures { result ≡ list_all (list_all (stays_on core.now.id)) (core_scripts core.now) }
+{
+    are_tasks_near(core) && are_isrs_near(core)
 }
 
 fn are_alarms_near(core: &Core) -> bool
@@ -247,14 +271,14 @@ impl Core {
             && usize::from(object.place.index) < self.count(object.kind)
     }
 
-    /// Whether the core knows the stimulus: the running job's next operation, and a tick.
+    /// Whether the core knows the stimulus: the running job's next operation, a tick, and an interrupt of one of its ISRs.
     pub fn knows(&self, stimulus: Stimulus) -> bool
         ensures { result ≡ knows_stimulus self.now stimulus }
     {
         match stimulus {
             Stimulus::Op => true,
             Stimulus::Tick => true,
-            Stimulus::Irq(_) => false,
+            Stimulus::Irq(isr) => isr_of(self, isr).is_some(),
         }
     }
 
@@ -263,6 +287,7 @@ impl Core {
     {
         match kind {
             ObjectKind::Task => self.tasks.len(),
+            ObjectKind::Isr => self.isrs.len(),
             ObjectKind::Resource => self.resources.len(),
             ObjectKind::Counter => self.counters.len(),
             ObjectKind::Alarm => self.alarms.len(),
@@ -278,6 +303,10 @@ impl Core {
         match kind {
             ObjectKind::Task => match self.tasks.as_slice().get(index) {
                 Some(task) => Some(task.name.as_str()),
+                None => None,
+            },
+            ObjectKind::Isr => match self.isrs.as_slice().get(index) {
+                Some(isr) => Some(isr.name.as_str()),
                 None => None,
             },
             ObjectKind::Resource => match self.resources.as_slice().get(index) {

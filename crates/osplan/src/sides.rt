@@ -10,7 +10,7 @@ ghost use Rattle.osplan.specs.declared.plans.ExpiryPoint.{ExpiryPoint as PointVa
 ghost use Rattle.osplan.specs.declared.plans.Isr.{Isr as IsrValue};
 ghost use Rattle.osplan.specs.declared.plans.Table.{Table as TableValue};
 ghost use Rattle.osplan.specs.declared.plans.Task.{Task as TaskValue};
-ghost use Rattle.osplan.specs.Separate.{acts_on, is_at, is_on, names_object, op_names};
+ghost use Rattle.osplan.specs.Separate.{acts_on, is_at, is_on, has_operation, names_object, op_names};
 
 use crate::plans::{Core, Table};
 use osbase::{CoreId, Object, Reference, RemoteCall};
@@ -85,6 +85,14 @@ impl Side {
             .any(|isr| self.is_named_by_script(isr.script.as_slice()))
     }
 
+    // Whether a script of the core names such an object.
+    #[tactic(auto, using(crate::proofs::Scripts::any_script))]
+    fn is_named_by_scripts(self, core: &Core) -> bool
+        ensures { result ≡ has_operation (op_names (is_at self)) core.now }
+    {
+        self.is_named_by_task(core) || self.is_named_by_isr(core)
+    }
+
     fn is_called_by(self, actions: &[RemoteCall]) -> bool
         ensures { result ≡ list_any (λ action. is_at self (object_of_call action)) actions.now }
     {
@@ -131,7 +139,7 @@ impl Side {
     pub fn is_named_by(self, core: &Core) -> bool
         ensures { result ≡ names_object (is_at self) core.now }
     {
-        self.is_named_by_task(core) || self.is_named_by_isr(core) || self.is_acted_on(core)
+        self.is_named_by_scripts(core) || self.is_acted_on(core)
     }
 }
 

@@ -24,7 +24,9 @@ impl Model for Slot {
 }
 
 impl Default for Slot {
-    fn default() -> Self {
+    fn default() -> Self
+        ensures { result ≡ record { index = 0; ceiling = 0 } }
+    {
         Slot {
             resource: HeldResource {
                 index: 0,
@@ -114,7 +116,9 @@ impl Held {
 }
 
 impl Default for Held {
-    fn default() -> Self {
+    fn default() -> Self
+        ensures { result ≡ [] }
+    {
         Held::new()
     }
 }

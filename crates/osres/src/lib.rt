@@ -1,8 +1,10 @@
-//! The resources that one job holds.
+//! The resources that one job holds, and how often it has suspended interrupts.
 //!
 //! Nothing here takes memory.
 #![tactic(auto)]
 
 pub mod held;
+pub mod locks;
 
 pub use held::{Held, greater};
+pub use locks::Locks;

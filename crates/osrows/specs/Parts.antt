@@ -29,6 +29,7 @@ use Rattle.osplan.specs.declared.plans.Plan.{Plan}
 use Rattle.osplan.specs.declared.plans.Core.{Core}
 use Rattle.osplan.specs.declared.plans.Table.{Table}
 use Rattle.osplan.specs.declared.plans.Task.{Task}
+use Rattle.osplan.specs.declared.protection.Protection.{Protection}
 use Rattle.osbase.specs.declared.items.CoreMode.TheVariants.{Named}
 use Rattle.osrows.specs.Example.{Example, core}
 
@@ -44,7 +45,7 @@ task_at n index = record { core = core n; index = index }
 
 -- a task of priority 1, one that starts by itself in mode M, and one that only ends
 abbrev pub task : List ℕ → List Op → Task
-task name script = record { name = name; priority = 1; auto = []; activations = 1; preemptable = true; extended = false; script = script }
+task name script = record { name = name; priority = 1; auto = []; activations = 1; preemptable = true; extended = false; budget = 0; script = script }
 
 abbrev pub auto_task : List ℕ → List Op → Task
 auto_task name script = record (task name script) { auto = mode ∷ [] }
@@ -66,7 +67,7 @@ with_events t = record t { extended = true }
 
 -- a core with these tasks
 abbrev pub core_of : ℕ → List CoreId → List Task → Core
-core_of n start tasks = record { id = core n; mode = Named mode; start = start; tasks = tasks; resources = []; isrs = []; counters = []; alarms = []; tables = [] }
+core_of n start tasks = record { id = core n; mode = Named mode; start = start; protection = Protection.Shutdown; tasks = tasks; isrs = []; resources = []; counters = []; alarms = []; tables = [] }
 
 -- with one resource, of this name and ceiling
 abbrev pub with_resource : List ℕ → ℕ → Core → Core

@@ -3,6 +3,7 @@
 
 pub mod border;
 pub mod clocks;
+pub mod interrupts;
 pub mod laws;
 pub mod logs;
 pub mod resources;

@@ -1,3 +1,4 @@
 pub mod Counts
 pub mod Places
 pub mod Words
+pub mod Ticks

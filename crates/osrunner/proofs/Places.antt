@@ -13,9 +13,9 @@ change-again f g zero (row ∷ all) same = ap (λ new. new ∷ all) (same row)
 change-again f g (suc place) (row ∷ all) same = ap (λ rest. row ∷ rest) (change-again f g place all same)
 
 -- a job that holds nothing ends as it goes back to its first operation
-pub free-end : (place : ℕ) (all : List Row) → length (row_at place all).held ≡ 0 → with_row_at place (λ (row : Row). record row { frame = rewound row.frame }) all ≡ with_row_at place ended all
+pub free-end : (place : ℕ) (all : List Row) → length (row_at place all).held ≡ 0 → with_row_at place (λ (row : Row). record row { frame = rewound row.frame; depth = 0; used = 0 }) all ≡ with_row_at place ended all
 free-end place [] free = refl
-free-end zero (row ∷ all) free = ap (λ (held : List HeldResource). (let new : Row = record row { held = held; frame = rewound row.frame } in new) ∷ all) (none row.held free)
+free-end zero (row ∷ all) free = ap (λ (held : List HeldResource). (let new : Row = record row { held = held; frame = rewound row.frame; depth = 0; used = 0 } in new) ∷ all) (none row.held free)
   where
     none : (xs : List HeldResource) → length xs ≡ 0 → xs ≡ []
     none [] e = refl

@@ -7,9 +7,10 @@ use Rattle.std.proofs.lemmas.Nat.Bits.{bit_at-lt, bit_at-zero, bit_at_and, bit_a
 use Rattle.osbase.specs.declared.references.TaskRef.{TaskRef}
 use Rattle.osbase.specs.declared.marks.Mark.{Mark}
 use Rattle.osbase.specs.declared.references.Runner.{Runner}
-use Rattle.osbase.specs.History.{History, Entry, Printed, Noted, Taken, Given, Done, same_runner, same_task, with_cleared, with_none_set, with_set}
+use Rattle.osbase.specs.History.{History, Entry, Printed, Noted, Taken, Given, Locked, Unlocked, Done, same_runner, same_task, with_cleared, with_none_set, with_set}
+use Rattle.osbase.specs.Interrupts.{running_job, runner_of_job}
 use Rattle.oscript.specs.declared.Op.{Op}
-use Rattle.oscript.specs.Runners.{Row, row_after, row_of, row_step}
+use Rattle.oscript.specs.Runners.{Row, row_after, row_by, row_of, row_step}
 use Rattle.osrunner.specs.Laws.{is_in_mask, has_mask, last_word, said_by}
 
 set-word : (x y : ℕ) (word : Bool) → x < 2 → y < 2 → nat_eq x 1 ≡ word → nat_eq (max x y) 1 ≡ unwrap_or (cond (nat_eq y 1) (Some true) None) word
@@ -61,11 +62,18 @@ last-said script t event (e ∷ h) below masks = of e rest.0 (last-said script t
     row : Row
     row = row_of script (Runner.Task t) h
 
+    running : Option Runner
+    running = runner_of_job (running_job h)
+
     kept : (e : Entry) (r : Runner) → (row_step script e row).events.set ≡ row.events.set → is_in_mask row.events.set event ≡ last_word t event h
         → is_in_mask (cond (same_runner r (Runner.Task t)) (row_step script e row) row).events.set event ≡ last_word t event h
     kept e r none same = word-kept (same_runner r (Runner.Task t)) event (row_step script e row) row (last_word t event h) none same
 
-    of : (e : Entry) → has_mask e ≡ true → is_in_mask row.events.set event ≡ last_word t event h → is_in_mask (row_after script (Runner.Task t) e row).events.set event ≡ unwrap_or (said_by t event e) (last_word t event h)
+    ticked : (who : Option Runner) → is_in_mask row.events.set event ≡ last_word t event h → is_in_mask (row_by script (Runner.Task t) (Printed Mark.Tick) who row).events.set event ≡ last_word t event h
+    ticked None same = same
+    ticked (Some r) same = kept (Printed Mark.Tick) r refl same
+
+    of : (e : Entry) → has_mask e ≡ true → is_in_mask row.events.set event ≡ last_word t event h → is_in_mask (row_after script (Runner.Task t) running e row).events.set event ≡ unwrap_or (said_by t event e) (last_word t event h)
     of (Printed (Mark.Activated u)) mask same = word-begun (same_task u t) event row (last_word t event h) same
     of (Printed (Mark.EventSet u m)) mask same = word-set (same_task u t) m event row (last_word t event h) same
     of (Printed (Mark.EventCleared u m)) mask same = word-cleared (same_task u t) m event row (last_word t event h) (ltb-true m (2 ^ 32) mask) below same
@@ -74,5 +82,8 @@ last-said script t event (e ∷ h) below masks = of e rest.0 (last-said script t
     of (Printed (Mark.Terminated u)) mask same = kept (Printed (Mark.Terminated u)) (Runner.Task u) refl same
     of (Noted (Taken r x)) mask same = kept (Noted (Taken r x)) r refl same
     of (Noted (Given r index)) mask same = kept (Noted (Given r index)) r refl same
+    of (Printed Mark.Tick) mask same = ticked running same
+    of (Noted (Locked r)) mask same = kept (Noted (Locked r)) r refl same
+    of (Noted (Unlocked r)) mask same = kept (Noted (Unlocked r)) r refl same
     of (Noted (Done r status value)) mask same = kept (Noted (Done r status value)) r refl same
     of e mask same = same

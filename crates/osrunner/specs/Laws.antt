@@ -1,11 +1,13 @@
--- What holds of the events of every history.
-use Rattle.std.specs.Prelude.{◌≡◌, ℕ, ◌==◌, ◌<◌, ◌^◌, nat_lt, Bool, true, false, ◌&&◌, IsTrue, if◌then◌else◌, Option, Some, None, unwrap_or, List, [], ◌∷◌}
+-- What holds of the events and the budgets of every history.
+use Rattle.std.specs.Prelude.{◌≡◌, ℕ, suc, ◌+◌, ◌==◌, ◌<◌, ◌^◌, nat_lt, Bool, true, false, ◌&&◌, IsTrue, if◌then◌else◌, Option, Some, None, unwrap_or, List, [], ◌∷◌}
 use Rattle.std.specs.Int.{bit_at}
 use Rattle.std.specs.List.{list_all}
+use Rattle.std.specs.Option.{option_map_or}
 use Rattle.osbase.specs.declared.references.TaskRef.{TaskRef}
 use Rattle.osbase.specs.declared.marks.Mark.{Mark}
 use Rattle.osbase.specs.declared.references.Runner.{Runner}
-use Rattle.osbase.specs.History.{History, Entry, Printed, same_task}
+use Rattle.osbase.specs.History.{History, Entry, Printed, same_runner, same_task}
+use Rattle.osbase.specs.Interrupts.{running_job, runner_of_job}
 use Rattle.oscript.specs.declared.Op.{Op}
 use Rattle.oscript.specs.Runners.{row_of}
 
@@ -36,3 +38,35 @@ has_mask e = true
 -- Each event of the task is set exactly if that is the last word on it, whatever the task's script.
 pub record IsLastWord (t : TaskRef) (h : History) : Type 0 where
   pub set : IsTrue (list_all has_mask h) → (script : List Op) (event : ℕ) → event < 32 → is_in_mask (row_of script (Runner.Task t) h).events.set event ≡ last_word t event h
+
+-- ---- budgets
+
+-- The entry is a tick, and at the history before it the runner's job is the running one.
+abbrev pub is_tick : Entry → Bool
+is_tick (Printed Mark.Tick) = true
+is_tick e = false
+
+abbrev pub is_running : Runner → History → Bool
+is_running r h = option_map_or (λ (q : Runner). same_runner q r) (runner_of_job (running_job h)) false
+
+-- The runner's job ends or waits by the entry.
+abbrev pub ends_or_waits : Runner → Entry → Bool
+ends_or_waits r (Printed (Mark.Terminated t)) = same_runner (Runner.Task t) r
+ends_or_waits r (Printed (Mark.IsrLeft i)) = same_runner (Runner.Isr i) r
+ends_or_waits r (Printed (Mark.EventAwaited t mask)) = same_runner (Runner.Task t) r
+ends_or_waits r e = false
+
+-- How many ticks there were while a job of the runner was the running one; and how many of them up to the last of its jobs' ends and
+-- waits.
+abbrev pub ticks_of : Runner → History → ℕ
+ticks_of r [] = 0
+ticks_of r (e ∷ h) = if is_tick e && is_running r h then suc (ticks_of r h) else ticks_of r h
+
+abbrev pub earlier_ticks_of : Runner → History → ℕ
+earlier_ticks_of r [] = 0
+earlier_ticks_of r (e ∷ h) = if ends_or_waits r e then ticks_of r h else earlier_ticks_of r h
+
+-- A job has used the ticks at which it was the running one since it began or last waited, and no other, whatever its script.
+-- [AUTOSAR SWS OS 4.x, SWS_Os_00028 and SWS_Os_00473; in ticks: own]
+pub record UsesTicksSince (r : Runner) (h : History) : Type 0 where
+  pub used : (script : List Op) → earlier_ticks_of r h + (row_of script r h).used ≡ ticks_of r h

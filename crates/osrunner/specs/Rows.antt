@@ -28,6 +28,12 @@ events_in r all = (row_in r all).events
 abbrev pub frame_in : Runner → List Row → Frame
 frame_in r all = (row_in r all).frame
 
+abbrev pub depth_in : Runner → List Row → ℕ
+depth_in r all = (row_in r all).depth
+
+abbrev pub used_in : Runner → List Row → ℕ
+used_in r all = (row_in r all).used
+
 -- All rows, with one changed.
 abbrev pub with_row_at : ℕ → (Row → Row) → List Row → List Row
 with_row_at place f all = slice_set all place (f (row_at place all))

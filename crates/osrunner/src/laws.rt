@@ -1,11 +1,18 @@
-//! What holds of the events of every history.
+//! What holds of the events and the budgets of every history.
 
 ghost use Rattle.osbase.specs.declared.references.TaskRef.{TaskRef};
 ghost use Rattle.osbase.specs.History.{History};
-ghost use Rattle.osrunner.specs.Laws.{IsLastWord};
+ghost use Rattle.osbase.specs.declared.references.Runner.{Runner};
+ghost use Rattle.osrunner.specs.Laws.{IsLastWord, UsesTicksSince};
 
 /// An event of a task is set exactly if the last entry that concerns it sets it, whatever happened (OSEK/VDX OS
 /// 2.2.3, section 7).
 pub fn events_are_as_last_said()
     ensures { (t : TaskRef) → (h : History) → IsLastWord t h }
+{}
+
+/// A job has used those ticks of its budget at which it was the running one, since it began or last waited, whatever happened
+/// (AUTOSAR SWS OS 4.x, SWS_Os_00028 and SWS_Os_00473).
+pub fn budgets_are_the_ticks_since()
+    ensures { (r : Runner) → (h : History) → UsesTicksSince r h }
 {}

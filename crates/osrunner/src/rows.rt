@@ -1,16 +1,19 @@
 //! What belongs to each task and ISR of a core, as one row for each.
 
-ghost use Rattle.std.specs.Prelude.{◌≡◌, ◌==◌, ◌<◌, ◌∷◌, [], drop, false, length, replicate, slice_get};
+ghost use Rattle.std.specs.Prelude.{◌≡◌, ◌==◌, ◌<◌, ◌^◌, ◌∷◌, [], drop, false, length, nat_lt, replicate, slice_get, suc};
 ghost use Rattle.osbase.specs.History.{greatest_ceiling, is_waiting};
+ghost use Rattle.osbase.specs.Interrupts.{deeper, shallower};
+ghost use Rattle.osbudget.specs.Budget.{is_reached};
 ghost use Rattle.oscript.specs.Frames.{action_at, completed, rewound};
-ghost use Rattle.oscript.specs.Runners.{ended, first_row};
-ghost use Rattle.osrunner.specs.Rows.{events_in, frame_in, held_in, is_occupied, row_at, with_row, with_row_at};
+ghost use Rattle.oscript.specs.Runners.{ended, first_row, waiting_for};
+ghost use Rattle.osrunner.specs.Rows.{depth_in, events_in, frame_in, held_in, is_occupied, row_at, used_in, with_row, with_row_at};
 
 use arrayvec::ArrayVec;
 use osbase::{HeldResource, RESOURCES, RUNNERS, Runner, Status, TaskEvents};
+use osbudget::Used;
 use oscript::{Action, Frame, Op};
-use osevent::no_events;
-use osres::Held;
+use osevent::{no_events, with_awaited};
+use osres::{Held, Locks};
 use std::marker::Model;
 
 // What belongs to one task or ISR.
@@ -19,6 +22,8 @@ struct RunnerRow {
     held: Held,
     events: TaskEvents,
     frame: Frame,
+    locks: Locks,
+    used: Used,
 }
 
 impl Model for RunnerRow {
@@ -26,7 +31,7 @@ impl Model for RunnerRow {
 
     ghost Value = { Row };
 
-    ghost view = { λ row. record { held = row.held; events = row.events; frame = row.frame } };
+    ghost view = { λ row. record { held = row.held; events = row.events; frame = row.frame; depth = row.locks; used = row.used } };
 }
 
 impl RunnerRow {
@@ -38,12 +43,16 @@ impl RunnerRow {
             held: Held::new(),
             events: no_events(),
             frame: Frame::new(),
+            locks: Locks::new(),
+            used: Used::new(),
         }
     }
 }
 
 impl Default for RunnerRow {
-    fn default() -> Self {
+    fn default() -> Self
+        ensures { result ≡ first_row }
+    {
         RunnerRow::new()
     }
 }
@@ -108,8 +117,8 @@ impl Rows {
         Some(resource)
     }
 
-    /// The runner's oldest job has ended: it gives back all that it holds, and the next one begins at the first operation
-    /// (AUTOSAR SWS OS 4.x, SWS_Os_00070, for the resources).
+    /// The runner's oldest job has ended: it gives back all that it holds and resumes interrupts, and the next one begins
+    /// at the first operation, with its whole budget (AUTOSAR SWS OS 4.x, SWS_Os_00070, for the resources).
     pub fn end(&mut self, runner: Runner)
         ensures { self.new ≡ with_row runner ended self.old }
     {
@@ -117,6 +126,36 @@ impl Rows {
             self.lower(runner);
         }
         rewind_at(&mut self.rows, runner.slot());
+    }
+
+    /// The runner's job waits for one of these events; once it is released, it has its whole budget (OSEK/VDX OS 2.2.3,
+    /// section 13.5.3.4; AUTOSAR SWS OS 4.x, SWS_Os_00473).
+    pub fn wait(&mut self, runner: Runner, mask: u32)
+        ensures { self.new ≡ with_row runner (waiting_for mask) self.old }
+    {
+        wait_at(&mut self.rows, runner.slot(), mask);
+    }
+
+    /// The runner's oldest job suspends interrupts once more (OSEK/VDX OS 2.2.3, section 13.3.2.3).
+    pub fn lock_interrupts(&mut self, runner: Runner)
+        ensures { self.new ≡ with_row runner (λ row. record row { depth = deeper row.depth }) self.old }
+    {
+        lock_at(&mut self.rows, runner.slot());
+    }
+
+    /// The runner's oldest job resumes interrupts once (OSEK/VDX OS 2.2.3, section 13.3.2.4).
+    pub fn unlock_interrupts(&mut self, runner: Runner)
+        ensures { self.new ≡ with_row runner (λ row. record row { depth = shallower row.depth }) self.old }
+    {
+        unlock_at(&mut self.rows, runner.slot());
+    }
+
+    /// The runner's oldest job has used one tick more of its budget (AUTOSAR SWS OS 4.x, SWS_Os_00028).
+    pub fn charge(&mut self, runner: Runner)
+        requires count { used_in runner self.old < 2 ^ 63 }
+        ensures { self.new ≡ with_row runner (λ row. record row { used = suc row.used }) self.old }
+    {
+        charge_at(&mut self.rows, runner.slot());
     }
 
     /// The runner's task has these events now (OSEK/VDX OS 2.2.3, section 7).
@@ -131,6 +170,27 @@ impl Rows {
         ensures { self.new ≡ with_row runner (λ row. record row { frame = completed script.now row.frame status value }) self.old }
     {
         complete_at(&mut self.rows, runner.slot(), script, status, value);
+    }
+
+    /// Whether the runner's oldest job has suspended interrupts (OSEK/VDX OS 2.2.3, section 13.3.2.3).
+    #[inline(always)]
+    pub fn is_locked(&self, runner: Runner) -> bool
+        ensures { result ≡ nat_lt 0 (depth_in runner self.now) }
+    {
+        match self.rows.as_slice().get(runner.slot()) {
+            Some(row) => row.locks.is_locked(),
+            None => false,
+        }
+    }
+
+    /// Whether the runner's oldest job has reached this budget, of ticks (AUTOSAR SWS OS 4.x, SWS_Os_00064).
+    pub fn is_spent(&self, runner: Runner, budget: u32) -> bool
+        ensures { result ≡ is_reached budget (used_in runner self.now) }
+    {
+        match self.rows.as_slice().get(runner.slot()) {
+            Some(row) => row.used.decide(budget),
+            None => Used::new().decide(budget),
+        }
     }
 
     /// Whether a job holds the resource of this index.
@@ -213,7 +273,9 @@ impl Rows {
 }
 
 impl Default for Rows {
-    fn default() -> Self {
+    fn default() -> Self
+        ensures { result ≡ replicate RUNNERS first_row }
+    {
         Rows::new()
     }
 }
@@ -240,12 +302,56 @@ fn lower_at(rows: &mut ArrayVec<RunnerRow, RUNNERS>, place: usize) -> Option<Hel
 }
 
 fn rewind_at(rows: &mut ArrayVec<RunnerRow, RUNNERS>, place: usize)
-    ensures { rows.new.items ≡ with_row_at place (λ row. record row { frame = rewound row.frame }) rows.old.items }
+    ensures { rows.new.items ≡ with_row_at place (λ row. record row { frame = rewound row.frame; depth = 0; used = 0 }) rows.old.items }
 {
     let rows = rows.as_mut_slice();
     if place < rows.len() {
         let row = &mut rows[place];
         row.frame.rewind();
+        row.locks.give_back();
+        row.used.reset();
+    }
+}
+
+fn wait_at(rows: &mut ArrayVec<RunnerRow, RUNNERS>, place: usize, mask: u32)
+    ensures { rows.new.items ≡ with_row_at place (waiting_for mask) rows.old.items }
+{
+    let rows = rows.as_mut_slice();
+    if place < rows.len() {
+        let row = &mut rows[place];
+        row.events = with_awaited(row.events, Some(mask));
+        row.used.reset();
+    }
+}
+
+fn lock_at(rows: &mut ArrayVec<RunnerRow, RUNNERS>, place: usize)
+    ensures { rows.new.items ≡ with_row_at place (λ row. record row { depth = deeper row.depth }) rows.old.items }
+{
+    let rows = rows.as_mut_slice();
+    if place < rows.len() {
+        let row = &mut rows[place];
+        row.locks.lock_interrupts();
+    }
+}
+
+fn unlock_at(rows: &mut ArrayVec<RunnerRow, RUNNERS>, place: usize)
+    ensures { rows.new.items ≡ with_row_at place (λ row. record row { depth = shallower row.depth }) rows.old.items }
+{
+    let rows = rows.as_mut_slice();
+    if place < rows.len() {
+        let row = &mut rows[place];
+        row.locks.unlock_interrupts();
+    }
+}
+
+fn charge_at(rows: &mut ArrayVec<RunnerRow, RUNNERS>, place: usize)
+    requires { (row_at place rows.old.items).used < 2 ^ 63 }
+    ensures { rows.new.items ≡ with_row_at place (λ row. record row { used = suc row.used }) rows.old.items }
+{
+    let rows = rows.as_mut_slice();
+    if place < rows.len() {
+        let row = &mut rows[place];
+        row.used.charge();
     }
 }
 

@@ -1,9 +1,11 @@
 -- The shape of a configuration: the members and their types, before any limit or name is judged. [own]
-use Rattle.std.specs.Prelude.{ℕ, Bool, true, false, Option, Some, None, List, [], ◌∷◌, codes, map}
+use Rattle.std.specs.Prelude.{ℕ, Bool, true, false, Option, Some, None, option_and_then, List, [], ◌∷◌, codes, map}
 use Rattle.std.specs.List.{list_all}
 use Rattle.osbase.specs.declared.objects.ObjectKind.{ObjectKind}
 use Rattle.osbase.specs.Names.{is_name}
+use Rattle.osplan.specs.Protection.{protection_named}
 use Rattle.osplan.specs.declared.plans.TheConstants.{KINDS}
+use Rattle.osplan.specs.declared.protection.Protection.{Protection}
 use Rattle.serde_json.specs.Data.{Data}
 use Rattle.serde_json.specs.Find.{as_bool, as_str}
 use Rattle.osshape.specs.declared.shapes.AlarmStartText.{AlarmStartText}
@@ -11,6 +13,7 @@ use Rattle.osshape.specs.declared.shapes.AlarmText.{AlarmText}
 use Rattle.osshape.specs.declared.shapes.ConfigText.{ConfigText}
 use Rattle.osshape.specs.declared.shapes.CoreText.{CoreText}
 use Rattle.osshape.specs.declared.shapes.CounterText.{CounterText}
+use Rattle.osshape.specs.declared.shapes.IsrText.{IsrText}
 use Rattle.osshape.specs.declared.shapes.Named.{Named}
 use Rattle.osshape.specs.declared.shapes.ResourceText.{ResourceText}
 use Rattle.osshape.specs.declared.shapes.TaskText.{TaskText}
@@ -21,18 +24,29 @@ use Rattle.osread.specs.Reading.{◌>>=◌}
 use Rattle.osread.specs.Json.{whole_of, name_of, each_of, or_null, member_of, member_or, only_members}
 
 -- A task: its name, priority and script; the modes of its autostart, none by default; its activation limit, 1 by default; whether it
--- is extended, which is not so by default, and whether it can be preempted, which is so.
+-- is extended, which is not so by default, and whether it can be preempted, which is so; its execution budget, 0 by default.
 unfoldable pub task_shape : Data → Option TaskText
 task_shape d = do
-  _ ← only_members (codes "name" ∷ codes "prio" ∷ codes "auto" ∷ codes "activations" ∷ codes "extended" ∷ codes "preemptable" ∷ codes "script" ∷ []) d
+  _ ← only_members (codes "name" ∷ codes "prio" ∷ codes "auto" ∷ codes "activations" ∷ codes "extended" ∷ codes "preemptable" ∷ codes "budget" ∷ codes "script" ∷ []) d
   name ← member_of name_of (codes "name") d
   prio ← member_of whole_of (codes "prio") d
   auto ← member_or (each_of name_of) [] (codes "auto") d
   activations ← member_or whole_of (Some 1) (codes "activations") d
   extended ← member_or as_bool false (codes "extended") d
   preemptable ← member_or as_bool true (codes "preemptable") d
+  budget ← member_or whole_of (Some 0) (codes "budget") d
   script ← member_of as_str (codes "script") d
-  Some (record { name = name; prio = prio; auto = auto; activations = activations; extended = extended; preemptable = preemptable; script = script })
+  Some (record { name = name; prio = prio; auto = auto; activations = activations; extended = extended; preemptable = preemptable; budget = budget; script = script })
+
+-- An ISR: its name, level and script; its execution budget, 0 by default.
+unfoldable pub isr_shape : Data → Option IsrText
+isr_shape d = do
+  _ ← only_members (codes "name" ∷ codes "level" ∷ codes "budget" ∷ codes "script" ∷ []) d
+  name ← member_of name_of (codes "name") d
+  level ← member_of whole_of (codes "level") d
+  budget ← member_or whole_of (Some 0) (codes "budget") d
+  script ← member_of as_str (codes "script") d
+  Some (record { name = name; level = level; budget = budget; script = script })
 
 -- A resource: its name and ceiling.
 unfoldable pub resource_shape : Data → Option ResourceText
@@ -100,18 +114,25 @@ table_shape d = do
   auto ← member_or (or_null table_start_shape) None (codes "auto") d
   Some (record { name = name; counter = counter; duration = duration; points = points; repeating = repeating; auto = auto })
 
--- A core: its number; the cores that it starts, its tasks, its resources, its counters, its alarms and its tables, none by default.
+-- How a core answers a time fault: one of the words for it.
+abbrev pub protection_of : Data → Option Protection
+protection_of d = option_and_then protection_named (as_str d)
+
+-- A core: its number; how it answers a time fault, PRO_SHUTDOWN by default; the cores that it starts, its tasks, its ISRs, its
+-- resources, its counters, its alarms and its tables, none by default.
 unfoldable pub core_shape : Data → Option CoreText
 core_shape d = do
-  _ ← only_members (codes "id" ∷ codes "start" ∷ codes "tasks" ∷ codes "resources" ∷ codes "counters" ∷ codes "alarms" ∷ codes "tables" ∷ []) d
+  _ ← only_members (codes "id" ∷ codes "start" ∷ codes "protection" ∷ codes "tasks" ∷ codes "isrs" ∷ codes "resources" ∷ codes "counters" ∷ codes "alarms" ∷ codes "tables" ∷ []) d
   id ← member_of whole_of (codes "id") d
   start ← member_or (each_of whole_of) [] (codes "start") d
+  protection ← member_or protection_of Protection.Shutdown (codes "protection") d
   tasks ← member_or (each_of task_shape) [] (codes "tasks") d
+  isrs ← member_or (each_of isr_shape) [] (codes "isrs") d
   resources ← member_or (each_of resource_shape) [] (codes "resources") d
   counters ← member_or (each_of counter_shape) [] (codes "counters") d
   alarms ← member_or (each_of alarm_shape) [] (codes "alarms") d
   tables ← member_or (each_of table_shape) [] (codes "tables") d
-  Some (record { id = id; start = start; tasks = tasks; resources = resources; counters = counters; alarms = alarms; tables = tables })
+  Some (record { id = id; start = start; protection = protection; tasks = tasks; isrs = isrs; resources = resources; counters = counters; alarms = alarms; tables = tables })
 
 -- A configuration: its version, 1 by default; the size of a mailbox, 16 by default; the master core, 0 by default; its cores.
 unfoldable pub config_shape : Data → Option ConfigText
@@ -135,6 +156,7 @@ numbered counter = record { name = counter.name; max = counter.max; min = counte
 -- What a core's text has of each object of a kind, in their order. What is said of the objects of every kind goes over these.
 abbrev pub objects_in : ObjectKind → CoreText → List Named
 objects_in ObjectKind.Task core = map (λ (task : TaskText). unnumbered task.name) core.tasks
+objects_in ObjectKind.Isr core = map (λ (isr : IsrText). unnumbered isr.name) core.isrs
 objects_in ObjectKind.Resource core = map (λ (resource : ResourceText). unnumbered resource.name) core.resources
 objects_in ObjectKind.Counter core = map numbered core.counters
 objects_in ObjectKind.Alarm core = map (λ (alarm : AlarmText). unnumbered alarm.name) core.alarms

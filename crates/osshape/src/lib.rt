@@ -13,7 +13,7 @@ mod table_shapes;
 pub use declarations::{Declaration, byte_of, number_id, word_of};
 pub use places::{MODE, Objects};
 pub use shapes::{
-    AlarmStartText, AlarmText, ConfigReader, ConfigText, CoreText, CounterText, ResourceText,
-    TaskText,
+    AlarmStartText, AlarmText, ConfigReader, ConfigText, CoreText, CounterText, IsrText,
+    ResourceText, TaskText,
 };
 pub use table_shapes::{PointText, TableStartText, TableText};

@@ -7,11 +7,12 @@ ghost use Rattle.osbase.specs.Names.{is_name};
 ghost use Rattle.osread.specs.Json.{each_of, member_or};
 ghost use Rattle.osread.specs.Reading.{Gives};
 ghost use Rattle.serde_json.specs.View.{view};
-ghost use Rattle.osshape.specs.Shape.{task_shape, resource_shape, counter_shape, alarm_start_shape, alarm_shape, core_shape, config_shape, has_named_objects, numbered, objects_in, unnumbered};
+ghost use Rattle.osshape.specs.Shape.{task_shape, isr_shape, resource_shape, counter_shape, alarm_start_shape, alarm_shape, core_shape, config_shape, has_named_objects, numbered, objects_in, protection_of, unnumbered};
 ghost use Rattle.osshape.specs.declared.shapes.Named.{Named as NamedValue};
 
 use crate::table_shapes::{TableReader, TableText};
 use osbase::{List, ObjectKind};
+use osplan::Protection;
 use osread::{
     BoolReader, JsonReader, ListOf, NameReader, OrNull, Refusal, Text, TextReader, Whole,
     WholeReader, at, at_or, only_members,
@@ -28,6 +29,16 @@ pub struct TaskText<'v> {
     pub activations: Whole,
     pub extended: bool,
     pub preemptable: bool,
+    pub budget: Whole,
+    pub script: Text<'v>,
+}
+
+/// An ISR as a text has it.
+#[derive(Debug, Drop)]
+pub struct IsrText<'v> {
+    pub name: Text<'v>,
+    pub level: Whole,
+    pub budget: Whole,
     pub script: Text<'v>,
 }
 
@@ -69,7 +80,9 @@ pub struct AlarmText<'v> {
 pub struct CoreText<'v> {
     pub id: Whole,
     pub start: List<Whole>,
+    pub protection: Protection,
     pub tasks: List<TaskText<'v>>,
+    pub isrs: List<IsrText<'v>>,
     pub resources: List<ResourceText<'v>>,
     pub counters: List<CounterText<'v>>,
     pub alarms: List<AlarmText<'v>>,
@@ -105,6 +118,14 @@ fn unnumbered<'v>(name: &Text<'v>) -> Named<'v>
 
 impl<'v> Declared<'v> for TaskText<'v> {
     ghost named = { λ task. unnumbered task.name };
+
+    fn named(&self) -> Named<'v> {
+        unnumbered(&self.name)
+    }
+}
+
+impl<'v> Declared<'v> for IsrText<'v> {
+    ghost named = { λ isr. unnumbered isr.name };
 
     fn named(&self) -> Named<'v> {
         unnumbered(&self.name)
@@ -171,6 +192,7 @@ impl<'v> CoreText<'v> {
     {
         match kind {
             ObjectKind::Task => each_named(alloc, &self.tasks),
+            ObjectKind::Isr => each_named(alloc, &self.isrs),
             ObjectKind::Resource => each_named(alloc, &self.resources),
             ObjectKind::Counter => each_named(alloc, &self.counters),
             ObjectKind::Alarm => each_named(alloc, &self.alarms),
@@ -221,6 +243,7 @@ impl<'v> JsonReader<'v, TaskText<'v>> for TaskReader {
                 "activations",
                 "extended",
                 "preemptable",
+                "budget",
                 "script",
             ],
         )?;
@@ -231,6 +254,28 @@ impl<'v> JsonReader<'v, TaskText<'v>> for TaskReader {
             activations: at_or(alloc, value, "activations", &WholeReader, Some(1))?,
             extended: at_or(alloc, value, "extended", &BoolReader, false)?,
             preemptable: at_or(alloc, value, "preemptable", &BoolReader, true)?,
+            budget: at_or(alloc, value, "budget", &WholeReader, Some(0))?,
+            script: at(alloc, value, "script", &TextReader)?,
+        })
+    }
+}
+
+// Reads an ISR.
+#[derive(Clone, Copy, Debug)]
+struct IsrReader;
+
+impl<'v> JsonReader<'v, IsrText<'v>> for IsrReader {
+    ghost shape = { λ _ d. isr_shape d };
+
+    ghost passes = { λ _ isr. is_name isr.name };
+
+    #[tactic(auto, unfolding(crate::specs::Shape::isr_shape))]
+    fn read(&self, alloc: Global, value: &'v Value) -> Result<IsrText<'v>, Refusal> {
+        only_members(value, &["name", "level", "budget", "script"])?;
+        Ok(IsrText {
+            name: at(alloc, value, "name", &NameReader)?,
+            level: at(alloc, value, "level", &WholeReader)?,
+            budget: at_or(alloc, value, "budget", &WholeReader, Some(0))?,
             script: at(alloc, value, "script", &TextReader)?,
         })
     }
@@ -325,6 +370,21 @@ impl<'v> JsonReader<'v, AlarmText<'v>> for AlarmReader {
     }
 }
 
+// Reads how a core answers a time fault.
+#[derive(Clone, Copy, Debug)]
+struct ProtectionReader;
+
+impl<'v> JsonReader<'v, Protection> for ProtectionReader {
+    ghost shape = { λ _ d. protection_of d };
+
+    ghost passes = { λ _ _. true };
+
+    fn read(&self, _alloc: Global, value: &'v Value) -> Result<Protection, Refusal> {
+        let word = value.as_str().ok_or(Refusal::Unfit)?;
+        Protection::named(word).ok_or(Refusal::Unfit)
+    }
+}
+
 // Reads a core.
 #[derive(Clone, Copy, Debug)]
 struct CoreReader;
@@ -341,7 +401,9 @@ impl<'v> JsonReader<'v, CoreText<'v>> for CoreReader {
             &[
                 "id",
                 "start",
+                "protection",
                 "tasks",
+                "isrs",
                 "resources",
                 "counters",
                 "alarms",
@@ -351,7 +413,15 @@ impl<'v> JsonReader<'v, CoreText<'v>> for CoreReader {
         Ok(CoreText {
             id: at(alloc, value, "id", &WholeReader)?,
             start: list_at(alloc, value, "start", WholeReader)?,
+            protection: at_or(
+                alloc,
+                value,
+                "protection",
+                &ProtectionReader,
+                Protection::Shutdown,
+            )?,
             tasks: list_at(alloc, value, "tasks", TaskReader)?,
+            isrs: list_at(alloc, value, "isrs", IsrReader)?,
             resources: list_at(alloc, value, "resources", ResourceReader)?,
             counters: list_at(alloc, value, "counters", CounterReader)?,
             alarms: list_at(alloc, value, "alarms", AlarmReader)?,

@@ -1,5 +1,5 @@
 -- The state of a core that took no item.
-use Rattle.std.proofs.Common.{◌≡◌, ℕ, zero, suc, ◌+◌, ◌≤◌, Bool, true, false, cond, IsTrue, Option, Some, None, is_some, List, [], ◌∷◌, length, map, refl, ap, sym, subst, ◌∙◌, arith, replicate, nat_lt, sum_by, get_or, unwrap_or}
+use Rattle.std.proofs.Common.{◌≡◌, ℕ, zero, suc, ◌+◌, ◌≤◌, Bool, true, false, cond, IsTrue, Option, Some, None, is_some, List, [], ◌∷◌, map, refl, ap, sym, subst, ◌∙◌, arith, replicate, nat_lt, sum_by, get_or, unwrap_or}
 use Rattle.std.specs.List.{find, list_all, slice_get}
 use Rattle.std.specs.Option.{option_map_or}
 use Rattle.std.proofs.lemmas.Bool.{false≢true, and_parts}
@@ -19,12 +19,13 @@ use Rattle.osplan.specs.declared.plans.Isr.{Isr}
 use Rattle.osplan.specs.declared.plans.Resource.{Resource}
 use Rattle.osplan.specs.declared.plans.Task.{Task}
 use Rattle.osplan.specs.View.{View, core_of, no_core, own_isr, own_task, view_from, view_of}
-use Rattle.osplan.specs.Limits.{is_within_limits, is_core_known, is_task_known, is_object, is_op_known}
-use Rattle.osplan.specs.Expressible.{is_core_expressible, is_expressible}
-use Rattle.osplan.specs.Objects.{may_name}
+use Rattle.osplan.specs.Limits.{is_within_limits, is_core_known, is_script_known, is_object, is_op_known}
+use Rattle.osplan.specs.Expressible.{is_expressible}
+use Rattle.osplan.specs.Objects.{core_scripts, may_name}
 use Rattle.osclock.specs.Clocks.{ClockState, clocks_of}
 use Rattle.ostable.proofs.Waiting.{waits-begun}
 use Rattle.ostable.specs.Tables.{TableStates, tables_of}
+use Rattle.osrunner.specs.Rows.{row_at}
 use Rattle.osjobs.specs.Jobs.{JobState, first_jobs}
 use Rattle.osstate.specs.declared.progress.Progress.{Progress}
 use Rattle.osstate.specs.State.{state_of}
@@ -36,18 +37,16 @@ use Rattle.osplan.proofs.Tests.{all-weaker, find-holds, find-passes}
 use Rattle.osbase.proofs.Places.{passes-at}
 use Rattle.osplan.proofs.Alarming.{known-actions, known-named, known-parts}
 use Rattle.osplan.proofs.Clocked.{clocks_within}
-use Rattle.osplan.proofs.Within.{FitsKernel, limit-parts, core-fits, core-text-parts, text-parts}
+use Rattle.osplan.proofs.Within.{FitsKernel, limit-parts, core-fits}
+use Rattle.osplan.proofs.Scripts.{all_scripts}
 
 -- An operation of a configuration names objects that are there, so on this core some of its own.
-known_scripts : (plan : Plan) (core : Core) → is_core_known plan core ≡ true → core_of plan core.id ≡ Some core → list_all (λ (t : Task). list_all (has_objects_of core) t.script) core.tasks ≡ true
+known_scripts : (plan : Plan) (core : Core) → is_core_known plan core ≡ true → core_of plan core.id ≡ Some core → list_all (list_all (has_objects_of core)) (core_scripts core) ≡ true
 known_scripts plan core known found =
-    all-weaker (is_task_known plan) (λ (t : Task). list_all (has_objects_of core) t.script) each core.tasks (known-parts plan core found known).tasks
+    all-weaker (is_script_known plan) (list_all (has_objects_of core)) (all-weaker (is_op_known plan) (has_objects_of core) known_op) (core_scripts core) (known-parts plan core found known).scripts
   where
     known_op : (op : Op) → is_op_known plan op ≡ true → has_objects_of core op ≡ true
     known_op op h = all-weaker (is_object plan) (may_name core) (known-named plan core found) (objects_of op) h
-
-    each : (t : Task) → is_task_known plan t ≡ true → list_all (has_objects_of core) t.script ≡ true
-    each t h = all-weaker (is_op_known plan) (has_objects_of core) known_op t.script (and_parts (list_all (is_op_known plan) t.script) _ h).0
 
 -- A configured core's number is the one by which it is found.
 pub id_is : (plan : Plan) (id : CoreId) (core : Core) → core_of plan id ≡ Some core → core.id ≡ id
@@ -69,27 +68,30 @@ state-begun plan id core found =
     ∙ ap (λ (v : View). state_of v []) (view-own plan id core found)
 
 -- Whatever a runner's script names on this core is there.
-scripts-known : (core : Core) → list_all (λ (t : Task). list_all (has_objects_of core) t.script) core.tasks ≡ true → core.isrs ≡ [] → (r : Runner) → list_all (has_objects_of core) (script_of core r) ≡ true
-scripts-known core tasks none (Runner.Task t) = by (own_task core t) refl
+scripts-known : (core : Core) → list_all (list_all (has_objects_of core)) (core_scripts core) ≡ true → (r : Runner) → list_all (has_objects_of core) (script_of core r) ≡ true
+scripts-known core all r = by r
   where
-    listed : (u : Task) (b : Bool) → cond b (slice_get core.tasks t.index) None ≡ Some u → list_all (has_objects_of core) u.script ≡ true
-    listed u true e = passes-at (λ (w : Task). list_all (has_objects_of core) w.script) core.tasks t.index u tasks e
-    listed u false e = cc
+    parts : (list_all (λ (t : Task). list_all (has_objects_of core) t.script) core.tasks ≡ true) × (list_all (λ (i : Isr). list_all (has_objects_of core) i.script) core.isrs ≡ true)
+    parts = and_parts _ _ (sym (all_scripts (list_all (has_objects_of core)) core) ∙ all)
 
-    by : (o : Option Task) → own_task core t ≡ o → list_all (has_objects_of core) (option_map_or (λ (u : Task). u.script) o []) ≡ true
-    by None e = refl
-    by (Some u) e = listed u (same_core t.core core.id) e
-scripts-known core tasks none (Runner.Isr i) =
-    ap (λ (o : Option Isr). list_all (has_objects_of core) (option_map_or (λ (x : Isr). x.script) o [])) (nobody (same_core i.core core.id))
-  where
-    nobody : (b : Bool) → cond b (slice_get core.isrs i.index) None ≡ None
-    nobody true = ap (λ (xs : List Isr). slice_get xs i.index) none
-    nobody false = refl
+    listed : {X : Type 0} (script : X → List Op) (xs : List X) (n : ℕ) → list_all (λ x. list_all (has_objects_of core) (script x)) xs ≡ true → (b : Bool) (o : Option X) → cond b (slice_get xs n) None ≡ o → list_all (has_objects_of core) (option_map_or script o []) ≡ true
+    listed script xs n each b None e = refl
+    listed script xs n each true (Some x) e = passes-at (λ x. list_all (has_objects_of core) (script x)) xs n x each e
+    listed script xs n each false (Some x) e = cc
+
+    by : (q : Runner) → list_all (has_objects_of core) (script_of core q) ≡ true
+    by (Runner.Task t) = listed (λ (u : Task). u.script) core.tasks t.index parts.0 (same_core t.core core.id) (own_task core t) refl
+    by (Runner.Isr i) = listed (λ (u : Isr). u.script) core.isrs i.index parts.1 (same_core i.core core.id) (own_isr core i) refl
 
 zeros_low : (n k : ℕ) → get_or (replicate n 0) k 0 ≤ 0
 zeros_low zero k = omega arith
 zeros_low (suc n) zero = omega arith
 zeros_low (suc n) (suc k) = zeros_low n k
+
+unused : (n place : ℕ) → (row_at place (replicate n first_row)).used ≤ 0
+unused zero place = omega arith
+unused (suc n) zero = omega arith
+unused (suc n) (suc place) = unused n place
 
 -- And it is sound.
 pub sound-begun : (priorities room : ℕ) (plan : Plan) (id : CoreId) (core : Core) (master : Bool) → IsTrue (is_within_limits plan) → IsTrue (is_expressible plan) → core_of plan id ≡ Some core
@@ -99,18 +101,18 @@ pub sound-begun : (priorities room : ℕ) (plan : Plan) (id : CoreId) (core : Co
 sound-begun priorities room plan id core master limits text found below ceilings sum = record {
   tasks = record {
     tasks = fits.tasks;
-    isrs = omega (arith, ap length none);
+    isrs = fits.isrs;
     bounded = subst (λ (v : View). list_all (λ (t : Task). nat_lt t.priority priorities) v.own.tasks ≡ true) (sym (view-own plan id core found)) below;
     limits = subst (λ (v : View). sum_by (λ (t : Task). t.activations) v.own.tasks ≤ room) (sym (view-own plan id core found)) sum;
     some = fits.some;
   };
   objects = record {
-    scripts = scripts-known core (known_scripts plan core known mine) none;
+    scripts = scripts-known core (known_scripts plan core known mine);
     actions = known-actions plan core mine known;
     resources = fits.resources;
     ceilings = subst (λ (v : View). list_all (λ (r : Resource). nat_lt r.ceiling priorities) v.own.resources ≡ true) (sym (view-own plan id core found)) ceilings;
   };
-  jobs = record { within = (λ r. omega arith); stamps = tt; idle = (λ e. refl) };
+  jobs = record { within = (λ r. omega arith); stamps = tt; idle = (λ e. refl); interrupts = (λ r. omega arith); entered = (λ i. omega arith); used = unused RUNNERS };
   progress = record { agreed = before_gate master; began = omega arith; items = omega arith };
   border = record { caller = tt; queued = zeros_low CORES; received = zeros_low CORES };
   times = record {
@@ -132,9 +134,6 @@ sound-begun priorities room plan id core master limits text found below ceilings
 
     fits : FitsKernel core
     fits = core-fits plan id core limits found
-
-    none : core.isrs ≡ []
-    none = (core-text-parts core (find-passes (λ (c : Core). same_core c.id id) is_core_expressible plan.cores core (text-parts plan text).cores found)).isrs
 
 -- The parts of a state before any item, each with what it is.
 pub parts-begun : (plan : Plan) (core : Core) (b : Bool) (p : Progress) (jobs : JobState) (clocks : ClockState) (tables : TableStates) (outbox : List Sent) → p ≡ first_progress b → jobs ≡ first_jobs → clocks ≡ clocks_of core [] → tables ≡ tables_of core [] → outbox ≡ []

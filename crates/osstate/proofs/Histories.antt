@@ -1,8 +1,8 @@
 -- What an entry does to the state is what it does to each reading of the history.
-use Rattle.std.proofs.Common.{◌≡◌, ℕ, zero, suc, ◌+◌, ◌-◌, ◌≤◌, ◌<◌, nat_eq, nat_lt, Bool, true, false, cond, Option, Some, None, is_some, List, [], ◌∷◌, length, map, refl, ap, sym, subst, ◌∙◌, arith, add-one, get_or, slice_index}
+use Rattle.std.proofs.Common.{◌≡◌, ℕ, zero, suc, ◌+◌, ◌-◌, ◌≤◌, ◌<◌, nat_eq, nat_lt, Bool, true, false, cond, Option, Some, None, is_some, List, [], ◌∷◌, length, map, refl, ap, sym, subst, ◌∙◌, arith, add-one, slice_index}
 use Rattle.std.specs.List.{slice_get, slice_set}
 use Rattle.std.specs.Option.{option_map_or}
-use Rattle.std.proofs.lemmas.Bool.{false≢true, eqb-true, lt-ltb, ltb-true, ltb-false, false_from_ne_true, cond-true, cond-false}
+use Rattle.std.proofs.lemmas.Bool.{and_from, false≢true, eqb-true, lt-ltb, ltb-true, ltb-false, false_from_ne_true, cond-true, cond-false}
 use Rattle.std.proofs.lemmas.Bool.Decides.{nat_tests}
 use Rattle.osbase.specs.declared.references.CoreId.{CoreId}
 use Rattle.osbase.specs.declared.references.IsrRef.{IsrRef}
@@ -10,9 +10,9 @@ use Rattle.osbase.specs.declared.references.TaskRef.{TaskRef}
 use Rattle.osbase.specs.declared.references.Runner.{Runner}
 use Rattle.osbase.specs.declared.messages.Message.{Message}
 use Rattle.osbase.specs.declared.items.Item.{Item}
-use Rattle.osbase.specs.declared.marks.Mark.{Mark}
 use Rattle.osbase.specs.declared.limits.TheConstants.{CORES, ISRS, RUNNERS, TASKS}
-use Rattle.osbase.specs.History.{History, Entry, Took, Printed, Noted, Queued, same_core, same_runner, queued_count, received_count, envelope_with}
+use Rattle.osbase.specs.History.{History, Entry, Took, Noted, Queued, same_core, same_runner, queued_count, received_count, envelope_with}
+use Rattle.osbase.specs.Interrupts.{running_job, runner_of_job}
 use Rattle.osbase.specs.Sets.{core_ids, numbers_from, slot_of}
 use Rattle.osbase.proofs.Same.{same_core-true, same_core-refl, same_runner-true, same_runner-refl}
 use Rattle.osbase.proofs.Tables.{table-at, table-set}
@@ -21,14 +21,14 @@ use Rattle.osplan.specs.declared.plans.Core.{Core}
 use Rattle.osplan.specs.Clocked.{are_clocks_within}
 use Rattle.osplan.specs.View.{View, own_isr, own_task}
 use Rattle.osrunner.specs.Rows.{rows_by}
-use Rattle.osclock.specs.Clocks.{ClockState}
+use Rattle.osclock.specs.Clocks.{ClockState, is_setting_granted}
 use Rattle.osclock.proofs.Law.{after}
 use Rattle.ostable.specs.Tables.{TableStates}
 use Rattle.ostable.proofs.Law.{after as tables-after}
 use Rattle.osjobs.specs.Priorities.{is_own_runner}
 use Rattle.osstate.specs.Readings.{isr_ref, rows_of, runner_at, script_of, task_ref}
 use Rattle.osstate.specs.State.{KernelState, state_of}
-use Rattle.osstate.specs.Steps.{next_envelope, one_more, queued_after, received_after, rows_after, script_for, state_after}
+use Rattle.osstate.specs.Steps.{next_envelope, one_more, queued_after, received_after, rows_after, runner_by, script_for, state_after}
 use Rattle.osstate.specs.Sound.{IsSound, is_sender_known}
 use Rattle.osstate.specs.Does.{Notes}
 
@@ -65,7 +65,7 @@ own_task_place core t h = cases (same_core t.core core.id) refl h
     cases true e h = (ap (λ (c : CoreId). let r : TaskRef = record { core = c; index = t.index } in r) (same_core-true t.core core.id e), place-some core.tasks t.index h)
     cases false e h = absurd (false≢true h)
 
-own_isr_place : (core : Core) (i : IsrRef) → is_some (own_isr core i) ≡ true → (i ≡ isr_ref core i.index) × (i.index < length core.isrs)
+pub own_isr_place : (core : Core) (i : IsrRef) → is_some (own_isr core i) ≡ true → (i ≡ isr_ref core i.index) × (i.index < length core.isrs)
 own_isr_place core i h = cases (same_core i.core core.id) refl h
   where
     cases : (b : Bool) → same_core i.core core.id ≡ b → is_some (cond b (slice_get core.isrs i.index) None) ≡ true → (i ≡ isr_ref core i.index) × (i.index < length core.isrs)
@@ -121,9 +121,13 @@ rows-law core e (Some r) h placed =
     ∙ table-set now then 0 RUNNERS (slot_of r) (slot_of r) (omega arith) p.within
     (λ m other. sym (cond-false (same_runner r (runner_at core m)) (row_step (script_of core (runner_at core m)) e (now m)) (now m) (apart core r m other)))
 
+-- The runner whose row an entry changes after a history.
+abbrev who_after : Entry → History → Option Runner
+who_after e h = runner_of (runner_of_job (running_job h)) e
+
 -- What an entry does to the rows it does to each runner's row of the history: once for all entries and all readings of a runner.
-pub rows-stand : (core : Core) (e : Entry) (h : History) → ((r : Runner) → runner_of e ≡ Some r → HasSlot core r) → rows_after core e (rows_of core h) ≡ rows_of core (e ∷ h)
-rows-stand core e h placed = rows-law core e (runner_of e) h placed
+pub rows-stand : (core : Core) (e : Entry) (h : History) → ((r : Runner) → who_after e h ≡ Some r → HasSlot core r) → rows_after core e (who_after e h) (rows_of core h) ≡ rows_of core (e ∷ h)
+rows-stand core e h placed = rows-law core e (who_after e h) h placed
 
 -- ---- the whole state
 
@@ -141,17 +145,19 @@ received-stand : (e : Entry) (h : History) → are_numbers_known e ≡ true → 
 received-stand (Took (Item.Received from number m)) h known = counts_one (λ (s : CoreId). received_count s h) from (ltb-true from.number CORES known)
 received-stand e h known = refl
 
--- An entry that this core may have: its runner, if it has one, is the core's own.
-pub record IsOwnEntry (core : Core) (e : Entry) : Type 0 where
-  pub placed : (r : Runner) → runner_of e ≡ Some r → HasSlot core r
-  pub clocks : are_clocks_within core ≡ true
+-- An entry that this core may have: its runner, if it has one, is the core's own, and it sets no alarm but as a service grants it.
+pub record IsOwnEntry (s : KernelState) (e : Entry) : Type 0 where
+  pub placed : (r : Runner) → runner_by e s.tasks ≡ Some r → HasSlot s.view.own r
+  pub clocks : are_clocks_within s.view.own ≡ true
   pub numbers : are_numbers_known e ≡ true
+  pub granted : is_setting_granted s.view.own e ≡ true
 
-pub own_entry : {priorities room : ℕ} {s : KernelState} (e : Entry) → IsSound priorities room s → option_map_or (is_own_runner s.view.own) (runner_of e) true ≡ true → are_numbers_known e ≡ true → IsOwnEntry s.view.own e
-own_entry {s = s} e sound own numbers = record {
+pub own_entry : {priorities room : ℕ} {s : KernelState} (e : Entry) → IsSound priorities room s → option_map_or (is_own_runner s.view.own) (runner_by e s.tasks) true ≡ true → are_numbers_known e ≡ true → is_setting_granted s.view.own e ≡ true → IsOwnEntry s e
+own_entry {s = s} e sound own numbers granted = record {
   placed = (λ r is. own_slot s.view.own r sound.tasks.tasks sound.tasks.isrs (ap (λ (o : Option Runner). option_map_or (is_own_runner s.view.own) o true) (sym is) ∙ own));
   clocks = sound.times.clocks.within;
   numbers = numbers;
+  granted = granted;
 }
 
 -- Two states that agree in every part are one.
@@ -165,26 +171,28 @@ agreeing s entries rows clocks tables queued received same_entries same_rows sam
     ∙ ap (λ (x : List ℕ). record s { border = record s.border { queued = x; received = received } }) same_queued
     ∙ ap (λ (x : List ℕ). record s { border = record s.border { received = x } }) same_received
 
-pub state-stands : (v : View) (e : Entry) (h : History) → IsOwnEntry v.own e → state_after e (state_of v h) ≡ state_of v (e ∷ h)
+pub state-stands : (v : View) (e : Entry) (h : History) → IsOwnEntry (state_of v h) e → state_after e (state_of v h) ≡ state_of v (e ∷ h)
 state-stands v e h own =
     agreeing (state_of v (e ∷ h)) _ _ _ _ _ _ (add-one (length h)) (rows-stand v.own e h own.placed) (after v.own e h own.clocks) (tables-after v.own e h own.clocks)
     (queued-stand e h own.numbers) (received-stand e h own.numbers)
 
 -- ---- a state that went on by an entry stands for the history with it
 
-pub notes : {e : Entry} {old new : KernelState} → new ≡ state_after e old → IsOwnEntry old.view.own e → Notes (λ v h. e ∷ h) old new
+pub notes : {e : Entry} {old new : KernelState} → new ≡ state_after e old → IsOwnEntry old e → Notes (λ v h. e ∷ h) old new
 notes {e} is own v h stands =
-    record { is = is ∙ ap (state_after e) stands.is ∙ state-stands v e h (subst (λ (s : KernelState). IsOwnEntry s.view.own e) stands.is own) }
+    let mine : IsOwnEntry (state_of v h) e = subst (λ (s : KernelState). IsOwnEntry s e) stands.is own in
+    record { is = is ∙ ap (state_after e) stands.is ∙ state-stands v e h mine; granted = and_from (is_setting_granted v.own e) _ mine.granted stands.granted }
 
 -- and so one that queued the next envelope
-pub notes_queued : {to : CoreId} {message : Message} {old new : KernelState} → IsOwnEntry old.view.own (Noted (Queued to (next_envelope old to message))) → to.number < CORES → new ≡ state_after (Noted (Queued to (next_envelope old to message))) old
+pub notes_queued : {to : CoreId} {message : Message} {old new : KernelState} → IsOwnEntry old (Noted (Queued to (next_envelope old to message))) → to.number < CORES → new ≡ state_after (Noted (Queued to (next_envelope old to message))) old
     → Notes (λ v h. Noted (Queued to (envelope_with (queued_count to h) message)) ∷ h) old new
 notes_queued {to} {message} own known is v h stands =
     record {
       is = is ∙ ap (λ (q : KernelState). state_after (Noted (Queued to (next_envelope q to message))) q) stands.is
           ∙ ap (λ (n : ℕ). state_after (Noted (Queued to (envelope_with n message))) (state_of v h)) (count_at (λ (d : CoreId). queued_count d h) to known)
           ∙ state-stands v (Noted (Queued to (envelope_with (queued_count to h) message))) h numbered;
+      granted = stands.granted;
     }
   where
-    numbered : IsOwnEntry v.own (Noted (Queued to (envelope_with (queued_count to h) message)))
-    numbered = record { placed = (λ r is. cc); clocks = ap (λ (s : KernelState). are_clocks_within s.view.own) (sym stands.is) ∙ own.clocks; numbers = own.numbers }
+    numbered : IsOwnEntry (state_of v h) (Noted (Queued to (envelope_with (queued_count to h) message)))
+    numbered = record { placed = (λ r is. cc); clocks = ap (λ (s : KernelState). are_clocks_within s.view.own) (sym stands.is) ∙ own.clocks; numbers = own.numbers; granted = refl }

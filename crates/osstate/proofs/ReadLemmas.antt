@@ -1,7 +1,7 @@
 -- What is read off the state is what is read off the history.
-use Rattle.std.proofs.Common.{◌≡◌, ℕ, Bool, true, false, cond, List, [], flat_map, map, Option, Some, None, IfSome, IsTrue, refl, ap, sym, subst, ◌∙◌}
+use Rattle.std.proofs.Common.{◌≡◌, ℕ, Bool, true, false, cond, List, flat_map, map, Option, Some, None, IfSome, IsTrue, refl, ap, sym, subst, ◌∙◌}
 use Rattle.std.specs.List.{list_all, slice_get}
-use Rattle.std.proofs.lemmas.Bool.{and_parts, true≢false}
+use Rattle.std.proofs.lemmas.Bool.{and_parts}
 use Rattle.std.proofs.lemmas.List.Folds.{list_all-append, list_all-map}
 use Rattle.std.specs.Option.{option_map_or}
 use Rattle.osbase.specs.declared.references.AlarmRef.{AlarmRef}
@@ -81,12 +81,12 @@ reads_value s c n own is v h stands =
 
 pub reads_in_use : (s : KernelState) (a : AlarmRef) (b : Bool) → is_own_object s.view.own (alarm_object a) ≡ true → b ≡ is_used (alarm_in a s.clocks) → Reads (λ v h. is_in_use_by v.own a h) s b
 reads_in_use s a b own is v h stands =
-    read (λ (q : KernelState). is_used (alarm_in a q.clocks)) is stands ∙ used-read v.own a h (subst (λ (q : KernelState). is_own_object q.view.own (alarm_object a) ≡ true) stands.is own)
+    read (λ (q : KernelState). is_used (alarm_in a q.clocks)) is stands ∙ used-read v.own a h (subst (λ (q : KernelState). is_own_object q.view.own (alarm_object a) ≡ true) stands.is own) stands.granted
 
 pub reads_left : (s : KernelState) (a : AlarmRef) (n : Option ℕ) → are_clocks_within s.view.own ≡ true → is_own_object s.view.own (alarm_object a) ≡ true → n ≡ left_in s.view.own a s.clocks → Reads (λ v h. left_by v.own a h) s n
 reads_left s a n within own is v h stands =
     read (λ (q : KernelState). left_in q.view.own a q.clocks) is stands
-    ∙ left-read v.own a h (subst (λ (q : KernelState). are_clocks_within q.view.own ≡ true) stands.is within) (subst (λ (q : KernelState). is_own_object q.view.own (alarm_object a) ≡ true) stands.is own)
+    ∙ left-read v.own a h (subst (λ (q : KernelState). are_clocks_within q.view.own ≡ true) stands.is within) (subst (λ (q : KernelState). is_own_object q.view.own (alarm_object a) ≡ true) stands.is own) stands.granted
 
 pub reads_counts_to : (s : KernelState) (a : AlarmRef) (start n : ℕ) → are_clocks_within s.view.own ≡ true → is_own_object s.view.own (alarm_object a) ≡ true → n ≡ counts_to_in s.view.own a start s.clocks → Reads (λ v h. counts_to_by v.own a start h) s n
 reads_counts_to s a start n within own is v h stands =
@@ -95,7 +95,7 @@ reads_counts_to s a start n within own is v h stands =
 
 pub reads_dues : (s : KernelState) (c : CounterRef) (alarms : List AlarmRef) → are_clocks_within s.view.own ≡ true → alarms ≡ due_in s.view.own c s.clocks → Reads (λ v h. due_by v.own c h) s alarms
 reads_dues s c alarms within is v h stands =
-    read (λ (q : KernelState). due_in q.view.own c q.clocks) is stands ∙ dues-read v.own c h (subst (λ (q : KernelState). are_clocks_within q.view.own ≡ true) stands.is within)
+    read (λ (q : KernelState). due_in q.view.own c q.clocks) is stands ∙ dues-read v.own c h (subst (λ (q : KernelState). are_clocks_within q.view.own ≡ true) stands.is within) stands.granted
 
 pub reads_counts_to_value : (s : KernelState) (c : CounterRef) (start n : ℕ) → is_own_object s.view.own (counter_object c) ≡ true → n ≡ counts_to_value_in c start s.clocks → Reads (λ v h. counts_to_value_by v.own c start h) s n
 reads_counts_to_value s c start n own is v h stands =

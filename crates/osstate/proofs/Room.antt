@@ -1,22 +1,29 @@
--- The live jobs of a core that keeps its tasks' limits are at most as many as the limits sum to.
-use Rattle.std.proofs.Common.{◌≡◌, ℕ, zero, suc, ◌+◌, ◌≤◌, ◌<◌, Bool, true, false, cond, Option, Some, None, List, [], ◌∷◌, length, refl, ap, sym, subst, ◌∙◌, arith, sum_by, is_some, IfSome, IsTrue}
+-- The live jobs of a core that keeps its tasks' limits are at most as many as the limits sum to; and how many there are of its ISRs.
+use Rattle.std.proofs.Common.{◌≡◌, ℕ, zero, suc, ◌+◌, ◌≤◌, ◌<◌, nat_lt, Bool, true, false, cond, Option, Some, None, List, [], ◌∷◌, ◌++◌, length, length-append, refl, ap, sym, subst, ◌∙◌, arith, sum_by, is_some, IfSome}
 use Rattle.std.specs.List.{slice_get, All}
-use Rattle.std.specs.Option.{option_map_or}
+use Rattle.std.specs.Option.{option_map_or, option_or}
+use Rattle.std.proofs.lemmas.Bool.{ltb-false, ltb-true}
+use Rattle.std.proofs.lemmas.Bool.Decides.{nat_tests}
 use Rattle.std.proofs.lemmas.List.Sums.{sum_by-cons}
 use Rattle.std.proofs.lemmas.List.Elements.{All-nil, All-cons}
 use Rattle.osbase.specs.declared.references.CoreId.{CoreId}
 use Rattle.osbase.specs.declared.references.TaskRef.{TaskRef}
+use Rattle.osbase.specs.declared.references.IsrRef.{IsrRef}
 use Rattle.osbase.specs.declared.references.Runner.{Runner}
 use Rattle.osbase.specs.declared.histories.Job.{Job}
-use Rattle.osbase.specs.History.{same_core, same_runner, job_count, oldest, oldest_of}
+use Rattle.osbase.specs.declared.limits.TheConstants.{INTERRUPTS, ISRS}
+use Rattle.osbase.specs.History.{same_core, same_isr, same_runner, job_count, oldest, oldest_of}
+use Rattle.osbase.specs.Interrupts.{is_pending_among, isr_count, oldest_entered, runner_of_job, without_isr}
 use Rattle.osplan.specs.declared.plans.Core.{Core}
 use Rattle.osplan.specs.declared.plans.Task.{Task}
-use Rattle.osplan.specs.View.{own_task}
-use Rattle.osjobs.specs.Jobs.{is_current}
+use Rattle.osplan.specs.View.{own_isr, own_task}
+use Rattle.osjobs.specs.Jobs.{IsrState, JobState, running_among}
 use Rattle.osjobs.specs.Priorities.{is_own_runner}
-use Rattle.osstate.specs.Sound.{activation_limit}
-use Rattle.osbase.proofs.Same.{same_core-true, same_core-refl, same_runner-refl, same_task-refl}
-use Rattle.osstate.proofs.JobLists.{job_count-rest}
+use Rattle.osstate.specs.Readings.{isr_ref}
+use Rattle.osstate.specs.Sound.{activation_limit, entered_limit, interrupt_limit, isr_limit}
+use Rattle.osbase.proofs.Same.{same_core-true, same_core-refl, same_isr-true, same_runner-refl, same_runner-true, same_task-refl}
+use Rattle.osstate.proofs.Histories.{own_isr_place}
+use Rattle.osstate.proofs.JobLists.{job_count-rest, within_append}
 
 abbrev at : CoreId → ℕ → Runner
 at core index = Runner.Task (record { core = core; index = index })
@@ -104,12 +111,15 @@ own_from_place core (Runner.Task t) h = cases (own_task core t) h
     cases None h = absurd (omega (arith, h))
     cases (Some x) h = refl
 
--- each live job is one of the core's own
+-- each live job within such limits is one of the core's own
+all_by : (core : Core) (limit : Runner → ℕ) → ((r : Runner) → 0 < limit r → is_own_runner core r ≡ true) → (js : List Job) → ((r : Runner) → job_count r js ≤ limit r) → All (λ (j : Job). is_own_runner core j.runner ≡ true) js
+all_by core limit own [] within = All-nil (λ (j : Job). is_own_runner core j.runner ≡ true)
+all_by core limit own (j ∷ js) within =
+    let some : 0 < limit j.runner = omega (arith, within j.runner, job_count-same j.runner j js (same_runner-refl j.runner)) in
+    All-cons (λ (j : Job). is_own_runner core j.runner ≡ true) j js (own j.runner some) (all_by core limit own js (λ r. omega (arith, within r, job_count-rest r j js)))
+
 pub all_own : (core : Core) (js : List Job) → ((r : Runner) → job_count r js ≤ activation_limit core r) → All (λ (j : Job). is_own_runner core j.runner ≡ true) js
-all_own core [] within = All-nil (λ (j : Job). is_own_runner core j.runner ≡ true)
-all_own core (j ∷ js) within =
-    let some : 0 < activation_limit core j.runner = omega (arith, within j.runner, job_count-same j.runner j js (same_runner-refl j.runner)) in
-    All-cons (λ (j : Job). is_own_runner core j.runner ≡ true) j js (own_from_place core j.runner some) (all_own core js (λ r. omega (arith, within r, job_count-rest r j js)))
+all_own core js within = all_by core (activation_limit core) (own_from_place core) js within
 
 -- the oldest job of a runner is live
 oldest_counted : (r : Runner) (js : List Job) (j : Job) → oldest r js ≡ Some j → 0 < job_count j.runner js
@@ -124,28 +134,188 @@ oldest_counted r (x ∷ js) j e = cases (same_runner x.runner r) e (λ later. ol
     cases false e rest = omega (arith, rest e, job_count-rest j.runner x js)
 
 -- so it is one of the core's own
-pub own_oldest : (core : Core) (current : Option TaskRef) (js : List Job) (j : Job) → ((r : Runner) → job_count r js ≤ activation_limit core r) → oldest_of current js ≡ Some j → is_own_runner core j.runner ≡ true
+own_oldest : (core : Core) (current : Option TaskRef) (js : List Job) (j : Job) → ((r : Runner) → job_count r js ≤ activation_limit core r) → oldest_of current js ≡ Some j → is_own_runner core j.runner ≡ true
 own_oldest core None js j within e = cc
 own_oldest core (Some t) js j within e = own_from_place core j.runner (omega (arith, within j.runner, oldest_counted (Runner.Task t) js j e))
 
--- and it is live
-pub live_current : (current : Option TaskRef) (js : List Job) (o : Option Job) → o ≡ oldest_of current js → IfSome o (λ j. 0 < job_count j.runner js)
-live_current current js None e = tt
-live_current None js (Some j) e = cc
-live_current (Some t) js (Some j) e = oldest_counted (Runner.Task t) js j (sym e)
-
-pub own_current : (core : Core) (current : Option TaskRef) (js : List Job) (o : Option Job) → ((r : Runner) → job_count r js ≤ activation_limit core r) → o ≡ oldest_of current js → IfSome o (λ j. is_own_runner core j.runner ≡ true)
+own_current : (core : Core) (current : Option TaskRef) (js : List Job) (o : Option Job) → ((r : Runner) → job_count r js ≤ activation_limit core r) → o ≡ oldest_of current js → IfSome o (λ j. is_own_runner core j.runner ≡ true)
 own_current core current js None within e = tt
 own_current core current js (Some j) within e = own_oldest core current js j within (sym e)
 
--- and it is the current task's
-pub runs_current : (current : Option TaskRef) (js : List Job) (o : Option Job) → o ≡ oldest_of current js → IfSome o (λ j. IsTrue (is_current current j.runner))
-runs_current current js None e = tt
-runs_current None js (Some j) e = cc
-runs_current (Some t) [] (Some j) e = cc
-runs_current (Some t) (x ∷ js) (Some j) e = cases (same_runner x.runner (Runner.Task t)) refl e (λ later. runs_current (Some t) js (Some j) later)
+-- ---- jobs of ISRs
+
+abbrev isr_at : Core → ℕ → Runner
+isr_at core n = Runner.Isr (isr_ref core n)
+
+-- the jobs of the first so many ISRs, summed
+abbrev isr_total : Core → ℕ → List Job → ℕ
+isr_total core zero js = 0
+isr_total core (suc n) js = job_count (isr_at core n) js + isr_total core n js
+
+isr_total-rest : (core : Core) (n : ℕ) (j : Job) (js : List Job) → isr_total core n js ≤ isr_total core n (j ∷ js)
+isr_total-rest core zero j js = omega arith
+isr_total-rest core (suc n) j js = omega (arith, isr_total-rest core n j js, job_count-rest (isr_at core n) j js)
+
+-- a job of one of them makes the sum greater
+isr_total-more : (core : Core) (n k : ℕ) (j : Job) (js : List Job) → k < n → j.runner ≡ isr_at core k → suc (isr_total core n js) ≤ isr_total core n (j ∷ js)
+isr_total-more core zero k j js h r = absurd (omega (arith, h))
+isr_total-more core (suc n) k j js h r = by (nat_lt k n) refl (λ low. isr_total-more core n k j js low r)
   where
-    cases : (b : Bool) → same_runner x.runner (Runner.Task t) ≡ b → Some j ≡ cond b (Some x) (oldest (Runner.Task t) js)
-        → (Some j ≡ oldest (Runner.Task t) js → same_runner j.runner (Runner.Task t) ≡ true) → same_runner j.runner (Runner.Task t) ≡ true
-    cases true same e rest = subst (λ (o : Option Job). IfSome o (λ y. same_runner y.runner (Runner.Task t) ≡ true)) (sym e) same
-    cases false same e rest = rest e
+    by : (b : Bool) → nat_lt k n ≡ b → (k < n → suc (isr_total core n js) ≤ isr_total core n (j ∷ js))
+        → suc (job_count (isr_at core n) js + isr_total core n js) ≤ job_count (isr_at core n) (j ∷ js) + isr_total core n (j ∷ js)
+    by true e rest = omega (arith, rest (ltb-true k n e), job_count-rest (isr_at core n) j js)
+    by false e rest =
+        let last : k ≡ n = grind (arith, nat_tests, e, h) in
+        let same : same_runner j.runner (isr_at core n) ≡ true = subst (λ (q : Runner). same_runner q (isr_at core n) ≡ true) (sym (r ∙ ap (isr_at core) last)) (same_runner-refl (isr_at core n)) in
+        omega (arith, job_count-same (isr_at core n) j js same, isr_total-rest core n j js)
+
+-- what has a limit above none is an own ISR
+own_from_isr_limit : (most : ℕ) (core : Core) (r : Runner) → 0 < isr_limit most core r → (i : IsrRef) × (r ≡ Runner.Isr i) × (is_some (own_isr core i) ≡ true)
+own_from_isr_limit most core (Runner.Task t) h = absurd (omega (arith, h))
+own_from_isr_limit most core (Runner.Isr i) h = (i, refl, cases (is_some (own_isr core i)) h)
+  where
+    cases : (b : Bool) → 0 < cond b most 0 → b ≡ true
+    cases true h = refl
+    cases false h = absurd (omega (arith, h))
+
+own_from_interrupt : (core : Core) (r : Runner) → 0 < interrupt_limit core r → is_own_runner core r ≡ true
+own_from_interrupt core r h =
+    let own = own_from_isr_limit 2 core r h in
+    ap (is_own_runner core) own.1 ∙ own.2
+
+length-isr_total : (most : ℕ) (core : Core) (js : List Job) → length core.isrs ≤ ISRS → ((r : Runner) → job_count r js ≤ isr_limit most core r) → length js ≤ isr_total core ISRS js
+length-isr_total most core [] few within = omega arith
+length-isr_total most core (j ∷ js) few within =
+    let some : 0 < isr_limit most core j.runner = omega (arith, within j.runner, job_count-same j.runner j js (same_runner-refl j.runner)) in
+    let own = own_from_isr_limit most core j.runner some in
+    let place = own_isr_place core own.0 own.2 in
+    let rest = length-isr_total most core js few (λ r. omega (arith, within r, job_count-rest r j js)) in
+    omega (arith, rest, isr_total-more core ISRS own.0.index j js (omega (arith, place.1, few)) (own.1 ∙ ap Runner.Isr place.0))
+
+-- so many for each of so many ISRs
+abbrev each_most : ℕ → ℕ → ℕ
+each_most most zero = 0
+each_most most (suc n) = most + each_most most n
+
+isr_limit-most : (most : ℕ) (core : Core) (r : Runner) → isr_limit most core r ≤ most
+isr_limit-most most core (Runner.Task t) = omega arith
+isr_limit-most most core (Runner.Isr i) = cases (is_some (own_isr core i))
+  where
+    cases : (b : Bool) → cond b most 0 ≤ most
+    cases true = omega arith
+    cases false = omega arith
+
+isr_total-le : (most : ℕ) (core : Core) (n : ℕ) (js : List Job) → ((r : Runner) → job_count r js ≤ isr_limit most core r) → isr_total core n js ≤ each_most most n
+isr_total-le most core zero js within = omega arith
+isr_total-le most core (suc n) js within = omega (arith, within (isr_at core n), isr_limit-most most core (isr_at core n), isr_total-le most core n js within)
+
+length-isrs : (most : ℕ) (core : Core) (js : List Job) → length core.isrs ≤ ISRS → ((r : Runner) → job_count r js ≤ isr_limit most core r) → length js ≤ each_most most ISRS
+length-isrs most core js few within = omega (arith, length-isr_total most core js few within, isr_total-le most core ISRS js within)
+
+-- at most two live jobs of each ISR, so there is a place for one more of an ISR that has fewer
+pub interrupt_place : (core : Core) (i : IsrRef) (js : List Job) → length core.isrs ≤ ISRS → ((r : Runner) → job_count r js ≤ interrupt_limit core r) → job_count (Runner.Isr i) js < interrupt_limit core (Runner.Isr i) → length js < INTERRUPTS
+interrupt_place core i js few within below =
+    let job : Job = record { runner = Runner.Isr i; stamp = 0 } in
+    omega (arith, length-isrs 2 core (js ++ job ∷ []) few (within_append (interrupt_limit core) js job within below), length-append js (job ∷ []))
+
+pub all_isrs_own : (core : Core) (js : List Job) → ((r : Runner) → job_count r js ≤ interrupt_limit core r) → All (λ (j : Job). is_own_runner core j.runner ≡ true) js
+all_isrs_own core js within = all_by core (interrupt_limit core) (own_from_interrupt core) js within
+
+-- ---- ISRs that were started
+
+pub isr_count-without : (k i : IsrRef) (xs : List IsrRef) → isr_count k (without_isr i xs) ≤ isr_count k xs
+isr_count-without k i [] = omega arith
+isr_count-without k i (x ∷ xs) =
+    elim (same_isr x i) as (λ b. isr_count k (cond b xs (x ∷ without_isr i xs)) ≤ cond (same_isr x k) (suc (isr_count k xs)) (isr_count k xs)) [
+      | true ↦ more (same_isr x k) (isr_count k xs)
+      | false ↦ both (same_isr x k) (isr_count k (without_isr i xs)) (isr_count k xs) (isr_count-without k i xs)
+    ]
+  where
+    more : (b : Bool) (n : ℕ) → n ≤ cond b (suc n) n
+    more b n = elim b as (λ v. n ≤ cond v (suc n) n) [ true ↦ omega arith | false ↦ omega arith ]
+
+    both : (b : Bool) (m n : ℕ) → m ≤ n → cond b (suc m) m ≤ cond b (suc n) n
+    both b m n h = elim b as (λ v. cond v (suc m) m ≤ cond v (suc n) n) [ true ↦ omega arith | false ↦ h ]
+
+-- one that is there once at most is not there without itself
+isr_count-none : (i : IsrRef) (xs : List IsrRef) → isr_count i xs ≤ 1 → isr_count i (without_isr i xs) ≤ 0
+isr_count-none i [] h = omega arith
+isr_count-none i (x ∷ xs) h = by (same_isr x i) refl h (λ few. isr_count-none i xs few)
+  where
+    by : (b : Bool) → same_isr x i ≡ b → cond b (suc (isr_count i xs)) (isr_count i xs) ≤ 1 → (isr_count i xs ≤ 1 → isr_count i (without_isr i xs) ≤ 0) → isr_count i (cond b xs (x ∷ without_isr i xs)) ≤ 0
+    by true e h rest = omega (arith, h)
+    by false e h rest =
+        let here : isr_count i (x ∷ without_isr i xs) ≡ isr_count i (without_isr i xs) = rw e refl in
+        omega (arith, here, rest h)
+
+-- so with one that is started now, each is there once at most
+pub entered_on : (core : Core) (i : IsrRef) (xs : List IsrRef) → is_own_runner core (Runner.Isr i) ≡ true → ((k : IsrRef) → isr_count k xs ≤ entered_limit core k) → (k : IsrRef) → isr_count k (i ∷ without_isr i xs) ≤ entered_limit core k
+entered_on core i xs own within k = by (same_isr i k) refl
+  where
+    by : (b : Bool) → same_isr i k ≡ b → cond b (suc (isr_count k (without_isr i xs))) (isr_count k (without_isr i xs)) ≤ entered_limit core k
+    by true e =
+        let same : Runner.Isr i ≡ Runner.Isr k = same_runner-true (Runner.Isr i) (Runner.Isr k) e in
+        subst (λ (r : Runner). suc (isr_count k (without_isr i xs)) ≤ isr_limit 1 core r) same
+        (let one : isr_limit 1 core (Runner.Isr i) ≡ 1 = ap (λ (b : Bool). cond b 1 0) own in
+        let low = isr_count-none k xs (omega (arith, within k, isr_limit-most 1 core (Runner.Isr k))) in
+        let none : isr_count k (without_isr i xs) ≤ 0 = subst (λ (x : IsrRef). isr_count k (without_isr x xs) ≤ 0) (sym (same_isr-true i k e)) low in
+        omega (arith, one, none))
+    by false e = omega (arith, within k, isr_count-without k i xs)
+
+-- their jobs, if each had one
+abbrev jobs_of : List IsrRef → List Job
+jobs_of [] = []
+jobs_of (i ∷ xs) = record { runner = Runner.Isr i; stamp = 0 } ∷ jobs_of xs
+
+length-jobs_of : (xs : List IsrRef) → length (jobs_of xs) ≡ length xs
+length-jobs_of [] = refl
+length-jobs_of (i ∷ xs) = ap suc (length-jobs_of xs)
+
+count-jobs_of : (core : Core) (xs : List IsrRef) → ((k : IsrRef) → isr_count k xs ≤ entered_limit core k) → (r : Runner) → job_count r (jobs_of xs) ≤ isr_limit 1 core r
+count-jobs_of core xs within (Runner.Task t) = none xs
+  where
+    none : (ys : List IsrRef) → job_count (Runner.Task t) (jobs_of ys) ≤ 0
+    none [] = omega arith
+    none (y ∷ ys) = none ys
+count-jobs_of core xs within (Runner.Isr k) = omega (arith, within k, same xs)
+  where
+    same : (ys : List IsrRef) → job_count (Runner.Isr k) (jobs_of ys) ≡ isr_count k ys
+    same [] = refl
+    same (y ∷ ys) = ap (λ (n : ℕ). cond (same_isr y k) (suc n) n) (same ys)
+
+-- there are no more of them than places
+entered_few : (core : Core) (xs : List IsrRef) → length core.isrs ≤ ISRS → ((k : IsrRef) → isr_count k xs ≤ entered_limit core k) → length xs ≤ ISRS
+entered_few core xs few within = omega (arith, length-jobs_of xs, length-isrs 1 core (jobs_of xs) few (count-jobs_of core xs within))
+
+pub entered_place : (core : Core) (i : IsrRef) (xs : List IsrRef) → length core.isrs ≤ ISRS → is_own_runner core (Runner.Isr i) ≡ true → ((k : IsrRef) → isr_count k xs ≤ entered_limit core k) → length (without_isr i xs) < ISRS
+entered_place core i xs few own within = omega (arith, entered_few core (i ∷ without_isr i xs) few (entered_on core i xs own within))
+
+-- if none is pending, there is room for one
+pub not_pending : (core : Core) (i : IsrRef) (s : IsrState) → ((k : IsrRef) → isr_count k s.entered ≤ entered_limit core k) → is_own_runner core (Runner.Isr i) ≡ true → is_pending_among i s.entered s.live ≡ false
+    → job_count (Runner.Isr i) s.live < interrupt_limit core (Runner.Isr i)
+not_pending core i s within own none =
+    let most : isr_limit 1 core (Runner.Isr i) ≡ 1 = ap (λ (b : Bool). cond b 1 0) own in
+    let room : interrupt_limit core (Runner.Isr i) ≡ 2 = ap (λ (b : Bool). cond b 2 0) own in
+    omega (arith, within i, most, room, ltb-false (isr_count i s.entered) (job_count (Runner.Isr i) s.live) none)
+
+-- ---- the running job
+
+own_entered : (core : Core) (isrs : List IsrRef) (js : List Job) (j : Job) → ((r : Runner) → job_count r js ≤ interrupt_limit core r) → oldest_entered isrs js ≡ Some j → is_own_runner core j.runner ≡ true
+own_entered core [] js j within e = cc
+own_entered core (i ∷ isrs) js j within e = own_from_interrupt core j.runner (omega (arith, within j.runner, oldest_counted (Runner.Isr i) js j e))
+
+pub own_running : (core : Core) (s : JobState) (o : Option Job) → ((r : Runner) → job_count r s.jobs ≤ activation_limit core r) → ((r : Runner) → job_count r s.isrs.live ≤ interrupt_limit core r) → o ≡ running_among s
+    → IfSome o (λ j. is_own_runner core j.runner ≡ true)
+own_running core s o within within_isrs e = by (oldest_entered s.isrs.entered s.isrs.live) refl e
+  where
+    by : (b : Option Job) → oldest_entered s.isrs.entered s.isrs.live ≡ b → o ≡ option_or b (oldest_of s.current s.jobs) → IfSome o (λ j. is_own_runner core j.runner ≡ true)
+    by None f e = own_current core s.current s.jobs o within e
+    by (Some k) f e = subst (λ (p : Option Job). IfSome p (λ j. is_own_runner core j.runner ≡ true)) (sym e) (own_entered core s.isrs.entered s.isrs.live k within_isrs f)
+
+-- so a tick charges an own runner, if any
+pub own_charged : (core : Core) (s : JobState) → ((r : Runner) → job_count r s.jobs ≤ activation_limit core r) → ((r : Runner) → job_count r s.isrs.live ≤ interrupt_limit core r) → option_map_or (is_own_runner core) (runner_of_job (running_among s)) true ≡ true
+own_charged core s within within_isrs = by (running_among s) (own_running core s (running_among s) within within_isrs refl)
+  where
+    by : (o : Option Job) → IfSome o (λ j. is_own_runner core j.runner ≡ true) → option_map_or (is_own_runner core) (runner_of_job o) true ≡ true
+    by None own = refl
+    by (Some j) own = own

@@ -7,16 +7,22 @@ use Rattle.osbase.specs.declared.references.CoreId.{CoreId}
 use Rattle.osbase.specs.declared.references.TaskRef.{TaskRef}
 use Rattle.osbase.specs.declared.items.Item.{Item}
 use Rattle.osbase.specs.declared.items.Agreement.{Agreement}
+use Rattle.osbase.specs.declared.histories.Course.{Course}
 use Rattle.osbase.specs.declared.histories.Phase.{Phase}
 use Rattle.osbase.specs.declared.histories.Sent.{Sent}
 use Rattle.osbase.specs.declared.references.Runner.{Runner}
 use Rattle.osbase.specs.declared.marks.Mark.{Mark}
-use Rattle.oscript.specs.Runners.{runner_of}
-use Rattle.osjobs.specs.Jobs.{Each, JobState, is_plain}
+use Rattle.osbase.specs.declared.references.IsrRef.{IsrRef}
+use Rattle.osbase.specs.Interrupts.{entered_after, isr_count, isr_jobs_after, runner_of_job}
+use Rattle.osbase.specs.Sets.{slot_of}
+use Rattle.oscript.specs.declared.Op.{Op}
+use Rattle.oscript.specs.Runners.{Row, row_step, runner_of}
+use Rattle.osrunner.specs.Rows.{row_at, rows_by}
+use Rattle.osjobs.specs.Jobs.{Each, IsrState, JobState, is_plain, isrs_by, jobs_by, running_among}
 use Rattle.osjobs.proofs.Stamps.{each-anew, each-less, each-push, each-weaker}
 use Rattle.osbase.specs.declared.histories.Job.{Job}
 use Rattle.osbase.specs.declared.histories.OpenCall.{OpenCall}
-use Rattle.osbase.specs.History.{Printed, Took, agreement_after, began_after, closed_by, job_count, jobs_after, open_after, same_core, same_runner, stamped_anew, without_oldest, phase_on}
+use Rattle.osbase.specs.History.{Entry, Printed, Noted, Took, Taken, agreement_after, began_after, closed_by, job_count, jobs_after, open_after, same_core, same_runner, stamped_anew, without_oldest, phase_on}
 use Rattle.osplan.specs.declared.plans.Core.{Core}
 use Rattle.osplan.specs.declared.plans.Task.{Task}
 use Rattle.osplan.specs.View.{own_task}
@@ -27,11 +33,12 @@ use Rattle.ostable.specs.Waiting.{all_wait_by_counter}
 use Rattle.osjobs.specs.Priorities.{is_own_runner}
 use Rattle.osstate.specs.declared.progress.Progress.{Progress}
 use Rattle.osstate.specs.State.{BorderState, KernelState}
-use Rattle.osstate.specs.Steps.{one_more, progress_after, received_after, state_after}
+use Rattle.osstate.specs.Readings.{script_of}
+use Rattle.osstate.specs.Steps.{one_more, progress_after, received_after, runner_by, state_after, tasks_after}
 use Rattle.osbase.specs.Phases.{is_before_live, is_past_first_gate}
-use Rattle.osstate.specs.Sound.{HasBorder, HasClocks, HasJobs, IsSound, IsUnderWay, activation_limit, is_agreed, is_first_gate}
+use Rattle.osstate.specs.Sound.{HasBorder, HasClocks, HasJobs, IsSound, IsUnderWay, activation_limit, entered_limit, interrupt_limit, is_agreed, is_first_gate}
 use Rattle.osstate.proofs.JobLists.{within_append, job_count-stamped_anew, job_count-without_oldest}
-use Rattle.osstate.proofs.Room.{length_within}
+use Rattle.osstate.proofs.Room.{entered_on, isr_count-without, length_within}
 
 -- ---- what an entry leaves: its part is given anew, and the others stay
 
@@ -42,32 +49,85 @@ older-still entries jobs older = each-weaker (λ (j : Job). j.stamp < entries) (
 pub under-way : {p : Progress} → IsUnderWay p → IsUnderWay (record p { entries = p.entries + 1 })
 under-way sound = record { agreed = sound.agreed; began = omega (arith, sound.began); items = omega (arith, sound.items) }
 
-pub jobs-later : {core : Core} {phase : Phase} {entries : ℕ} {jobs : List Job} → HasJobs core phase entries jobs → HasJobs core phase (entries + 1) jobs
-jobs-later {entries = entries} {jobs = jobs} sound = record { within = sound.within; stamps = older-still entries jobs sound.stamps; idle = sound.idle }
+pub jobs-later : {core : Core} {phase : Phase} {entries : ℕ} {s : JobState} → HasJobs core phase entries s → HasJobs core phase (entries + 1) s
+jobs-later {entries = entries} {s = s} sound = record {
+  within = sound.within;
+  stamps = older-still entries s.jobs sound.stamps;
+  idle = sound.idle;
+  interrupts = sound.interrupts;
+  entered = sound.entered;
+  used = (λ place. omega (arith, sound.used place));
+}
+
+-- an entry charges a job with one tick at most
+used-step : (script : List Op) (e : Entry) (row : Row) (most : ℕ) → row.used ≤ most → (row_step script e row).used ≤ most + 1
+used-step script (Printed Mark.Tick) row most few = omega (arith, few)
+used-step script (Printed (Mark.Terminated t)) row most few = omega arith
+used-step script (Printed (Mark.IsrLeft i)) row most few = omega arith
+used-step script (Printed (Mark.EventAwaited t mask)) row most few = omega arith
+used-step script (Noted (Taken r x)) row most few = omega (arith, few)
+used-step script e row most few = omega (arith, few)
+
+used-by : (script : List Op) (e : Entry) (who : Option Runner) (rows : List Row) (most : ℕ) → ((place : ℕ) → (row_at place rows).used ≤ most) → (place : ℕ) → (row_at place (rows_by script e who rows)).used ≤ most + 1
+used-by script e None rows most few place = omega (arith, few place)
+used-by script e (Some r) rows most few place = at (row_step script e (row_at (slot_of r) rows)) (used-step script e (row_at (slot_of r) rows) most (few (slot_of r))) rows (slot_of r) place few
+  where
+    at : (row : Row) → row.used ≤ most + 1 → (all : List Row) (i k : ℕ) → ((j : ℕ) → (row_at j all).used ≤ most) → (row_at k (slice_set all i row)).used ≤ most + 1
+    at row h [] i k each = omega (arith, each k)
+    at row h (x ∷ all) zero zero each = h
+    at row h (x ∷ all) zero (suc k) each = omega (arith, each (suc k))
+    at row h (x ∷ all) (suc i) zero each = omega (arith, each zero)
+    at row h (x ∷ all) (suc i) (suc k) each = at row h all i k (λ j. each (suc j))
+
+-- what an entry leaves of the jobs: how those of tasks and of ISRs are within their limits is given anew
+pub jobs-on : {core : Core} {phase : Phase} {entries : ℕ} {s : JobState} (script : List Op) (e : Entry) (stamp : ℕ) → HasJobs core phase entries s
+    → ((r : Runner) → job_count r (jobs_after e stamp s.jobs) ≤ activation_limit core r) → Each (λ (j : Job). j.stamp < entries + 1) (jobs_after e stamp s.jobs) → (IsTrue (is_before_live phase) → jobs_after e stamp s.jobs ≡ [])
+    → ((r : Runner) → job_count r (isr_jobs_after e stamp s.isrs.live) ≤ interrupt_limit core r) → ((i : IsrRef) → isr_count i (entered_after e s.isrs.entered) ≤ entered_limit core i)
+    → HasJobs core phase (entries + 1) (jobs_by script e stamp s)
+jobs-on {entries = entries} {s = s} script e stamp sound within stamps idle interrupts entered = record {
+  within = within;
+  stamps = stamps;
+  idle = idle;
+  interrupts = interrupts;
+  entered = entered;
+  used = used-by script e (runner_by e s) s.rows entries sound.used;
+}
 
 pub border-later : {core : Core} {entries : ℕ} {border : BorderState} → HasBorder core entries border → HasBorder core (entries + 1) border
 border-later sound = record { caller = sound.caller; queued = (λ k. omega (arith, sound.queued k)); received = (λ k. omega (arith, sound.received k)) }
 
 pub goes-on : {priorities room : ℕ} {s : KernelState} (tasks : JobState) (border : BorderState) {clocks : ClockState} {timetables : TableStates} → IsSound priorities room s
-    → HasJobs s.view.own s.progress.phase (s.progress.entries + 1) tasks.jobs → HasBorder s.view.own (s.progress.entries + 1) border → HasClocks s.view.own clocks timetables
+    → HasJobs s.view.own s.progress.phase (s.progress.entries + 1) tasks → HasBorder s.view.own (s.progress.entries + 1) border → HasClocks s.view.own clocks timetables
     → IsSound priorities room (record s { progress = record s.progress { entries = s.progress.entries + 1 }; tasks = tasks; border = border; clocks = clocks; tables = timetables })
 goes-on tasks border sound jobs crossing times = record { tasks = sound.tasks; objects = sound.objects; jobs = jobs; progress = under-way sound.progress; border = crossing; times = times }
 
--- an entry that begins and ends no job
-pub same-jobs : {priorities room : ℕ} {s : KernelState} (tasks : JobState) → tasks.jobs ≡ s.tasks.jobs → IsSound priorities room s
-    → IsSound priorities room (record s { progress = record s.progress { entries = s.progress.entries + 1 }; tasks = tasks })
-same-jobs {s = s} tasks same sound =
-    goes-on tasks s.border sound (subst (HasJobs s.view.own s.progress.phase (s.progress.entries + 1)) (sym same) (jobs-later sound.jobs)) (border-later sound.border) sound.times
+-- an entry that begins and ends no job, and by which no ISR is started
+pub jobs-kept : {core : Core} {phase : Phase} {entries : ℕ} {s : JobState} (script : List Op) (e : Entry) (stamp : ℕ) → jobs_after e stamp s.jobs ≡ s.jobs → isrs_by e stamp s.isrs ≡ s.isrs → HasJobs core phase entries s
+    → HasJobs core phase (entries + 1) (jobs_by script e stamp s)
+jobs-kept {core} {entries = entries} {s = s} script e stamp same none sound = jobs-on script e stamp sound
+    (λ r. subst (λ (jobs : List Job). job_count r jobs ≤ activation_limit core r) (sym same) (sound.within r))
+    (subst (Each (λ (j : Job). j.stamp < entries + 1)) (sym same) (older-still entries s.jobs sound.stamps))
+    (λ before. same ∙ sound.idle before)
+    (λ r. subst (λ (isrs : IsrState). job_count r isrs.live ≤ interrupt_limit core r) (sym none) (sound.interrupts r))
+    (λ i. subst (λ (isrs : IsrState). isr_count i isrs.entered ≤ entered_limit core i) (sym none) (sound.entered i))
+
+pub same-jobs : {priorities room : ℕ} {s : KernelState} (script : List Op) (e : Entry) → jobs_after e 0 s.tasks.jobs ≡ s.tasks.jobs → isrs_by e 0 s.tasks.isrs ≡ s.tasks.isrs → IsSound priorities room s
+    → IsSound priorities room (record s { progress = record s.progress { entries = s.progress.entries + 1 }; tasks = jobs_by script e 0 s.tasks })
+same-jobs {s = s} script e same none sound =
+    goes-on (jobs_by script e 0 s.tasks) s.border sound (jobs-kept script e 0 same none sound.jobs) (border-later sound.border) sound.times
 
 pub activated : (priorities room : ℕ) (t : TaskRef) (s : KernelState) → IsSound priorities room s → job_count (Runner.Task t) s.tasks.jobs < activation_limit s.view.own (Runner.Task t) → is_before_live s.progress.phase ≡ false → IsSound priorities room (state_after (Printed (Mark.Activated t)) s)
 activated priorities room t s sound below live = goes-on _ _ sound jobs (border-later sound.border) sound.times
   where
-    jobs : HasJobs s.view.own s.progress.phase (s.progress.entries + 1) (s.tasks.jobs ++ record { runner = Runner.Task t; stamp = s.progress.entries } ∷ [])
-    jobs = record {
-      within = within_append (activation_limit s.view.own) s.tasks.jobs (record { runner = Runner.Task t; stamp = s.progress.entries }) sound.jobs.within below;
-      stamps = each-push (λ (j : Job). j.stamp < s.progress.entries + 1) s.tasks.jobs (record { runner = Runner.Task t; stamp = s.progress.entries }) (older-still s.progress.entries s.tasks.jobs sound.jobs.stamps) (omega arith);
-      idle = (λ e. absurd (false≢true (sym live ∙ e)));
-    }
+    job : Job
+    job = record { runner = Runner.Task t; stamp = s.progress.entries }
+
+    jobs : HasJobs s.view.own s.progress.phase (s.progress.entries + 1) (tasks_after s.view.own (Printed (Mark.Activated t)) s.progress.entries s.tasks)
+    jobs = jobs-on (script_of s.view.own (Runner.Task t)) (Printed (Mark.Activated t)) s.progress.entries sound.jobs
+        (within_append (activation_limit s.view.own) s.tasks.jobs job sound.jobs.within below)
+        (each-push (λ (j : Job). j.stamp < s.progress.entries + 1) s.tasks.jobs job (older-still s.progress.entries s.tasks.jobs sound.jobs.stamps) (omega arith))
+        (λ e. absurd (false≢true (sym live ∙ e)))
+        sound.jobs.interrupts sound.jobs.entered
 
 -- a call that is open after its own runner's entries were told is the one that was open
 pub still_own : (test : Runner → Bool) (r : Runner) (open_call : Option OpenCall) → IfSome open_call (λ call. IsTrue (test call.runner)) → IfSome (closed_by r open_call) (λ call. IsTrue (test call.runner))
@@ -84,22 +144,48 @@ border-closed {core = core} {border = border} r sound = record {
 pub terminated : (priorities room : ℕ) (t : TaskRef) (s : KernelState) → IsSound priorities room s → IsSound priorities room (state_after (Printed (Mark.Terminated t)) s)
 terminated priorities room t s sound = goes-on _ _ sound jobs (border-closed (Runner.Task t) sound.border) sound.times
   where
-    jobs : HasJobs s.view.own s.progress.phase (s.progress.entries + 1) (without_oldest (Runner.Task t) s.tasks.jobs)
-    jobs = record {
-      within = (λ r. omega (arith, sound.jobs.within r, job_count-without_oldest r (Runner.Task t) s.tasks.jobs));
-      stamps = each-less (λ (j : Job). j.stamp < s.progress.entries + 1) (Runner.Task t) s.tasks.jobs (older-still s.progress.entries s.tasks.jobs sound.jobs.stamps);
-      idle = (λ e. ap (without_oldest (Runner.Task t)) (sound.jobs.idle e));
-    }
+    jobs : HasJobs s.view.own s.progress.phase (s.progress.entries + 1) (tasks_after s.view.own (Printed (Mark.Terminated t)) s.progress.entries s.tasks)
+    jobs = jobs-on (script_of s.view.own (Runner.Task t)) (Printed (Mark.Terminated t)) s.progress.entries sound.jobs
+        (λ r. omega (arith, sound.jobs.within r, job_count-without_oldest r (Runner.Task t) s.tasks.jobs))
+        (each-less (λ (j : Job). j.stamp < s.progress.entries + 1) (Runner.Task t) s.tasks.jobs (older-still s.progress.entries s.tasks.jobs sound.jobs.stamps))
+        (λ e. ap (without_oldest (Runner.Task t)) (sound.jobs.idle e))
+        sound.jobs.interrupts sound.jobs.entered
 
 pub released : (priorities room : ℕ) (t : TaskRef) (s : KernelState) → IsSound priorities room s → IsSound priorities room (state_after (Printed (Mark.Released t)) s)
 released priorities room t s sound = goes-on _ _ sound jobs (border-later sound.border) sound.times
   where
-    jobs : HasJobs s.view.own s.progress.phase (s.progress.entries + 1) (stamped_anew (Runner.Task t) s.progress.entries s.tasks.jobs)
-    jobs = record {
-      within = (λ r. omega (arith, sound.jobs.within r, job_count-stamped_anew r (Runner.Task t) s.progress.entries s.tasks.jobs));
-      stamps = each-anew (λ (j : Job). j.stamp < s.progress.entries + 1) (Runner.Task t) s.progress.entries s.tasks.jobs (older-still s.progress.entries s.tasks.jobs sound.jobs.stamps) (λ j. omega arith);
-      idle = (λ e. ap (stamped_anew (Runner.Task t) s.progress.entries) (sound.jobs.idle e));
-    }
+    jobs : HasJobs s.view.own s.progress.phase (s.progress.entries + 1) (tasks_after s.view.own (Printed (Mark.Released t)) s.progress.entries s.tasks)
+    jobs = jobs-on (script_of s.view.own (Runner.Task t)) (Printed (Mark.Released t)) s.progress.entries sound.jobs
+        (λ r. omega (arith, sound.jobs.within r, job_count-stamped_anew r (Runner.Task t) s.progress.entries s.tasks.jobs))
+        (each-anew (λ (j : Job). j.stamp < s.progress.entries + 1) (Runner.Task t) s.progress.entries s.tasks.jobs (older-still s.progress.entries s.tasks.jobs sound.jobs.stamps) (λ j. omega arith))
+        (λ e. ap (stamped_anew (Runner.Task t) s.progress.entries) (sound.jobs.idle e))
+        sound.jobs.interrupts sound.jobs.entered
+
+-- ---- ISRs
+
+pub accepted : (priorities room : ℕ) (i : IsrRef) (s : KernelState) → IsSound priorities room s → job_count (Runner.Isr i) s.tasks.isrs.live < interrupt_limit s.view.own (Runner.Isr i)
+    → IsSound priorities room (state_after (Printed (Mark.InterruptAccepted i)) s)
+accepted priorities room i s sound below = goes-on _ _ sound jobs (border-later sound.border) sound.times
+  where
+    jobs : HasJobs s.view.own s.progress.phase (s.progress.entries + 1) (tasks_after s.view.own (Printed (Mark.InterruptAccepted i)) s.progress.entries s.tasks)
+    jobs = jobs-on [] (Printed (Mark.InterruptAccepted i)) s.progress.entries sound.jobs sound.jobs.within (older-still s.progress.entries s.tasks.jobs sound.jobs.stamps) sound.jobs.idle
+        (within_append (interrupt_limit s.view.own) s.tasks.isrs.live (record { runner = Runner.Isr i; stamp = s.progress.entries }) sound.jobs.interrupts below)
+        sound.jobs.entered
+
+pub isr_entered : (priorities room : ℕ) (i : IsrRef) (s : KernelState) → IsSound priorities room s → is_own_runner s.view.own (Runner.Isr i) ≡ true → IsSound priorities room (state_after (Printed (Mark.IsrEntered i)) s)
+isr_entered priorities room i s sound own = goes-on _ _ sound jobs (border-later sound.border) sound.times
+  where
+    jobs : HasJobs s.view.own s.progress.phase (s.progress.entries + 1) (tasks_after s.view.own (Printed (Mark.IsrEntered i)) s.progress.entries s.tasks)
+    jobs = jobs-on [] (Printed (Mark.IsrEntered i)) s.progress.entries sound.jobs sound.jobs.within (older-still s.progress.entries s.tasks.jobs sound.jobs.stamps) sound.jobs.idle
+        sound.jobs.interrupts (entered_on s.view.own i s.tasks.isrs.entered own sound.jobs.entered)
+
+pub isr_left : (priorities room : ℕ) (i : IsrRef) (s : KernelState) → IsSound priorities room s → IsSound priorities room (state_after (Printed (Mark.IsrLeft i)) s)
+isr_left priorities room i s sound = goes-on _ _ sound jobs (border-closed (Runner.Isr i) sound.border) sound.times
+  where
+    jobs : HasJobs s.view.own s.progress.phase (s.progress.entries + 1) (tasks_after s.view.own (Printed (Mark.IsrLeft i)) s.progress.entries s.tasks)
+    jobs = jobs-on (script_of s.view.own (Runner.Isr i)) (Printed (Mark.IsrLeft i)) s.progress.entries sound.jobs sound.jobs.within (older-still s.progress.entries s.tasks.jobs sound.jobs.stamps) sound.jobs.idle
+        (λ r. omega (arith, sound.jobs.interrupts r, job_count-without_oldest r (Runner.Isr i) s.tasks.isrs.live))
+        (λ k. omega (arith, sound.jobs.entered k, isr_count-without k i s.tasks.isrs.entered))
 
 -- and then the task has fewer jobs than it may have
 fewer : (r : Runner) (js : List Job) (most : ℕ) → 1 ≤ most → job_count r js ≤ most → job_count r (without_oldest r js) < most
@@ -174,7 +260,14 @@ pub taken : (priorities room : ℕ) (item : Item) (outbox : List Sent) (s : Kern
 taken priorities room item outbox s sound forward onward = record {
   tasks = sound.tasks;
   objects = sound.objects;
-  jobs = record { within = sound.jobs.within; stamps = older-still s.progress.entries s.tasks.jobs sound.jobs.stamps; idle = (λ e. sound.jobs.idle (forward e)) };
+  jobs = record {
+    within = sound.jobs.within;
+    stamps = older-still s.progress.entries s.tasks.jobs sound.jobs.stamps;
+    idle = (λ e. sound.jobs.idle (forward e));
+    interrupts = sound.jobs.interrupts;
+    entered = sound.jobs.entered;
+    used = (λ place. omega (arith, sound.jobs.used place));
+  };
   progress = record {
     agreed = agreed-on item s.progress.phase s.progress.agreement onward sound.progress.agreed;
     began = began-within item s.progress.began s.progress.entries sound.progress.began;
@@ -185,6 +278,17 @@ taken priorities room item outbox s sound forward onward = record {
     queued = (λ k. omega (arith, sound.border.queued k));
     received = received-within item s.border.received s.progress.entries sound.border.received;
   };
+  times = sound.times;
+}
+
+-- the core goes down
+pub went-down : {priorities room : ℕ} {s : KernelState} → IsSound priorities room s → IsSound priorities room (record s { progress = record s.progress { course = Course.Down; entries = s.progress.entries + 1 } })
+went-down sound = record {
+  tasks = sound.tasks;
+  objects = sound.objects;
+  jobs = jobs-later sound.jobs;
+  progress = record { agreed = sound.progress.agreed; began = omega (arith, sound.progress.began); items = omega (arith, sound.progress.items) };
+  border = border-later sound.border;
   times = sound.times;
 }
 
@@ -201,16 +305,24 @@ plain-jobs (Mark.Terminated t) stamp jobs e = absurd (false≢true e)
 plain-jobs (Mark.Released t) stamp jobs e = absurd (false≢true e)
 plain-jobs m stamp jobs e = refl
 
--- nor does it change a row
-plain-runner : (m : Mark) → is_plain m ≡ true → runner_of (Printed m) ≡ None
-plain-runner (Mark.Activated t) e = absurd (false≢true e)
-plain-runner (Mark.Terminated t) e = absurd (false≢true e)
-plain-runner (Mark.IsrLeft i) e = absurd (false≢true e)
-plain-runner (Mark.EventSet t mask) e = absurd (false≢true e)
-plain-runner (Mark.EventCleared t mask) e = absurd (false≢true e)
-plain-runner (Mark.EventAwaited t mask) e = absurd (false≢true e)
-plain-runner (Mark.Released t) e = absurd (false≢true e)
-plain-runner m e = refl
+-- nor one of an ISR
+pub plain-isrs : (m : Mark) (stamp : ℕ) (s : IsrState) → is_plain m ≡ true → isrs_by (Printed m) stamp s ≡ s
+plain-isrs (Mark.InterruptAccepted i) stamp s e = absurd (false≢true e)
+plain-isrs (Mark.IsrEntered i) stamp s e = absurd (false≢true e)
+plain-isrs (Mark.IsrLeft i) stamp s e = absurd (false≢true e)
+plain-isrs m stamp s e = refl
 
-pub plain-own : (core : Core) (m : Mark) → is_plain m ≡ true → option_map_or (is_own_runner core) (runner_of (Printed m)) true ≡ true
-plain-own core m e = ap (λ (o : Option Runner). option_map_or (is_own_runner core) o true) (plain-runner m e)
+-- nor does it change a row
+plain-runner : (who : Option Runner) (m : Mark) → is_plain m ≡ true → runner_of who (Printed m) ≡ None
+plain-runner who Mark.Tick e = absurd (false≢true e)
+plain-runner who (Mark.Activated t) e = absurd (false≢true e)
+plain-runner who (Mark.Terminated t) e = absurd (false≢true e)
+plain-runner who (Mark.IsrLeft i) e = absurd (false≢true e)
+plain-runner who (Mark.EventSet t mask) e = absurd (false≢true e)
+plain-runner who (Mark.EventCleared t mask) e = absurd (false≢true e)
+plain-runner who (Mark.EventAwaited t mask) e = absurd (false≢true e)
+plain-runner who (Mark.Released t) e = absurd (false≢true e)
+plain-runner who m e = refl
+
+pub plain-own : (core : Core) (s : JobState) (m : Mark) → is_plain m ≡ true → option_map_or (is_own_runner core) (runner_by (Printed m) s) true ≡ true
+plain-own core s m e = ap (λ (o : Option Runner). option_map_or (is_own_runner core) o true) (plain-runner (runner_of_job (running_among s)) m e)

@@ -13,7 +13,7 @@ use Rattle.osstate.specs.Readings.{script_of}
 use Rattle.osstate.specs.Sound.{activation_limit}
 use Rattle.osstate.specs.State.{KernelState, state_of}
 
--- The running job. [OSEK/VDX OS 2.2.3, section 4.2]
+-- The running job. [OSEK/VDX OS 2.2.3, section 4.2 and 6]
 abbrev pub running_in : KernelState → Option Job
 running_in s = running_among s.tasks
 
@@ -21,7 +21,7 @@ running_in s = running_among s.tasks
 abbrev pub raised_in : KernelState → Option Job
 raised_in s = raised_among s.view.own s.tasks
 
--- The job to run: of the able jobs of greatest current priority the oldest.
+-- The job to run.
 abbrev pub best_in : KernelState → Option Job
 best_in s = best_among s.view.own s.tasks
 

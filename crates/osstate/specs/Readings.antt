@@ -1,7 +1,7 @@
 -- What is read off a core's history with what the core sees of its configuration.
 use Rattle.std.specs.Prelude.{ℕ, ◌-◌, nat_lt, Bool, if◌then◌else◌, Option, Some, None, List, [], filter, map, option_map, slice_get}
 use Rattle.std.specs.List.{enumerate_from}
-use Rattle.std.specs.Option.{option_map_or}
+use Rattle.std.specs.Option.{option_map_or, option_or}
 use Rattle.osbase.specs.declared.references.AlarmRef.{AlarmRef}
 use Rattle.osbase.specs.declared.references.CoreId.{CoreId}
 use Rattle.osbase.specs.declared.references.CounterRef.{CounterRef}
@@ -15,6 +15,7 @@ use Rattle.osbase.specs.declared.histories.HeldResource.{HeldResource}
 use Rattle.osbase.specs.declared.histories.Phase.{Phase}
 use Rattle.osbase.specs.declared.histories.TaskEvents.{TaskEvents}
 use Rattle.osbase.specs.History.{History, same_core, current_job, giving_way, live_jobs, first_greatest, started_cores, phase_of}
+use Rattle.osbase.specs.Interrupts.{entered_isrs, is_pending_among, isr_jobs, running_job}
 use Rattle.osbase.specs.Sets.{has_core, numbers_from}
 use Rattle.oscript.specs.declared.Op.{Op}
 use Rattle.oscript.specs.declared.Frame.{Frame}
@@ -31,7 +32,8 @@ use Rattle.osbase.specs.declared.limits.TheConstants.{RUNNERS, TASKS}
 use Rattle.osclock.specs.Clocks.{alarm_ref, counter_ref}
 use Rattle.ostable.specs.Tables.{table_ref}
 use Rattle.osrunner.specs.Rows.{row_in}
-use Rattle.osjobs.specs.Priorities.{is_able_in, priority_by, raised_of}
+use Rattle.osjobs.specs.Jobs.{is_locked_in}
+use Rattle.osjobs.specs.Priorities.{is_able_in, level_by, priority_by, raised_of}
 
 -- The object is one of this core's.
 abbrev pub is_own : View → CoreId → Bool
@@ -41,6 +43,12 @@ is_own v core = same_core core v.core
 abbrev pub script_of : Core → Runner → List Op
 script_of core (Runner.Task t) = option_map_or (λ (task : Task). task.script) (own_task core t) []
 script_of core (Runner.Isr i) = option_map_or (λ (isr : Isr). isr.script) (own_isr core i) []
+
+-- How many ticks a job of a task or an ISR may use; 0 is any number. [AUTOSAR SWS OS 4.x, OsTaskExecutionBudget and OsIsrExecutionBudget;
+-- in ticks: own]
+abbrev pub budget_of : Core → Runner → ℕ
+budget_of core (Runner.Task t) = option_map_or (λ (task : Task). task.budget) (own_task core t) 0
+budget_of core (Runner.Isr i) = option_map_or (λ (isr : Isr). isr.budget) (own_isr core i) 0
 
 -- A task and an ISR of the core by their indexes, and either by its place: the tasks come first.
 abbrev pub task_ref : Core → ℕ → TaskRef
@@ -56,8 +64,8 @@ runner_at core place = if nat_lt place TASKS then Runner.Task (task_ref core pla
 abbrev pub rows_of : Core → History → List Row
 rows_of core h = map (λ (n : ℕ). row_of (script_of core (runner_at core n)) (runner_at core n) h) (numbers_from 0 RUNNERS)
 
--- The row of one of the core's tasks or ISRs, and its fields: what its oldest live job holds, the newest first; its events; and where
--- that job stands.
+-- The row of one of the core's tasks or ISRs, and its fields: what its oldest live job holds, the newest first; its events; where that
+-- job stands; how often it has suspended interrupts; and how many ticks of its budget it has used.
 abbrev pub row_at : View → Runner → History → Row
 row_at v r h = row_in r (rows_of v.own h)
 
@@ -69,6 +77,20 @@ events_at v r h = (row_at v r h).events
 
 abbrev pub frame_at : View → Runner → History → Frame
 frame_at v r h = (row_at v r h).frame
+
+abbrev pub depth_at : View → Runner → History → ℕ
+depth_at v r h = (row_at v r h).depth
+
+abbrev pub used_at : View → Runner → History → ℕ
+used_at v r h = (row_at v r h).used
+
+-- The runner's oldest live job has suspended interrupts. [OSEK/VDX OS 2.2.3, section 13.3.2.3]
+abbrev pub is_locked : View → Runner → History → Bool
+is_locked v r h = nat_lt 0 (depth_at v r h)
+
+-- A job of the ISR is pending. [AUTOSAR SWS OS 4.x, section 7.6]
+abbrev pub is_pending : IsrRef → History → Bool
+is_pending i h = is_pending_among i (entered_isrs h) (isr_jobs h)
 
 -- A resource that a script names, as a job would hold it; none for the invalid identifier, and for one that is not the core's own,
 -- which no script of an accepted configuration names.
@@ -89,23 +111,30 @@ abbrev pub table_named : Core → Option TableRef → Option Table
 table_named core None = None
 table_named core (Some s) = own_table core s
 
--- The current priority of a job: the greatest of its static one, of the ceilings of what its runner holds and, for the running
--- job of a task that cannot be preempted, unless it gives way, of all tasks. [OSEK/VDX OS 2.2.3, section 4.5, 4.6.2 and 8.5]
+-- The current priority of a job: the greatest of its static one, of the ceilings of what it holds and, for the current job of a task
+-- that cannot be preempted, unless it gives way, of all tasks. [OSEK/VDX OS 2.2.3, section 4.5, 4.6.2 and 8.5]
 abbrev pub current_priority : View → History → Job → ℕ
-current_priority v h j = priority_by v.own (rows_of v.own h) (raised_of v.own (giving_way h) (current_job h)) j
+current_priority v h j = priority_by v.own (live_jobs h) (rows_of v.own h) (raised_of v.own (giving_way h) (current_job h)) j
 
--- A live job that may run: one of a task that does not wait. [OSEK/VDX OS 2.2.3, section 4.2.1]
+-- A live job that may run: the oldest of its task, unless it waits. [OSEK/VDX OS 2.2.3, section 4.2.1 and 4.3]
 abbrev pub is_able : View → History → Job → Bool
-is_able v h j = is_able_in (rows_of v.own h) j
+is_able v h j = is_able_in (live_jobs h) (rows_of v.own h) j
 
--- The running job: the current one, since there are no ISR jobs yet. [OSEK/VDX OS 2.2.3, section 4.2]
+-- The running job: that of the ISR that was started last, or else the current one. [OSEK/VDX OS 2.2.3, section 4.2 and 6]
 abbrev pub running : View → History → Option Job
-running v h = current_job h
+running v h = running_job h
 
--- The job to run: the able job of greatest current priority, and of these the one of smallest stamp.
+-- Of the able jobs of tasks those of greatest current priority, and of these the one of smallest stamp.
 -- [OSEK/VDX OS 2.2.3, section 4.4 and 4.5; the code reads the same list through.]
+abbrev pub best_task : View → History → Option Job
+best_task v h = first_greatest (current_priority v h) (filter (is_able v h) (live_jobs h))
+
+-- The job to run: the running one, if it has suspended interrupts; else of the jobs of ISRs of greatest level the one of smallest stamp;
+-- else the best one of a task. [OSEK/VDX OS 2.2.3, section 4.4, 4.5, 6 and 13.3.2.3; AUTOSAR SWS OS 4.x, section 7.6]
 abbrev pub best_job : View → History → Option Job
-best_job v h = first_greatest (current_priority v h) (filter (is_able v h) (live_jobs h))
+best_job v h =
+    if is_locked_in (rows_of v.own h) (running v h) then running v h
+    else option_or (first_greatest (level_by v.own) (isr_jobs h)) (best_task v h)
 
 -- The core was started, as far as this core learned at the second gate. [own: isolation]
 abbrev pub knows_started : History → CoreId → Bool

@@ -1,7 +1,8 @@
 -- What holds of the state of every kernel: that nothing runs out of its room. All of it is this project's own.
-use Rattle.std.specs.Prelude.{◌≡◌, ℕ, ◌<◌, ◌≤◌, nat_le, nat_lt, Bool, true, false, IsTrue, IfSome, Option, Some, List, [], length, slice_index, sum_by}
+use Rattle.std.specs.Prelude.{◌≡◌, ℕ, ◌<◌, ◌≤◌, nat_le, nat_lt, Bool, true, false, if◌then◌else◌, IsTrue, IfSome, Option, Some, is_some, [], length, slice_index, sum_by}
 use Rattle.std.specs.List.{list_all}
 use Rattle.std.specs.Option.{option_map_or}
+use Rattle.osbase.specs.declared.references.IsrRef.{IsrRef}
 use Rattle.osbase.specs.declared.references.Runner.{Runner}
 use Rattle.osbase.specs.declared.histories.Job.{Job}
 use Rattle.osbase.specs.declared.histories.Phase.{Phase}
@@ -9,6 +10,7 @@ use Rattle.osbase.specs.declared.items.Agreement.{Agreement}
 use Rattle.osbase.specs.declared.items.Item.{Item}
 use Rattle.osbase.specs.declared.limits.TheConstants.{CORES, ISRS, TASKS}
 use Rattle.osbase.specs.History.{job_count}
+use Rattle.osbase.specs.Interrupts.{isr_count}
 use Rattle.osbase.specs.Phases.{is_before_live, is_past_first_gate}
 use Rattle.oscript.specs.declared.Op.{Op}
 use Rattle.oscript.specs.Rows.{objects_of}
@@ -18,9 +20,10 @@ use Rattle.osplan.specs.declared.plans.Core.{Core}
 use Rattle.osplan.specs.declared.plans.Resource.{Resource}
 use Rattle.osplan.specs.declared.plans.Task.{Task}
 use Rattle.osplan.specs.Objects.{core_actions, may_act, may_name}
-use Rattle.osplan.specs.View.{own_task}
+use Rattle.osplan.specs.View.{own_isr, own_task}
 use Rattle.osbase.specs.declared.limits.TheConstants.{RESOURCES}
-use Rattle.osjobs.specs.Jobs.{Each}
+use Rattle.osrunner.specs.Rows.{row_at}
+use Rattle.osjobs.specs.Jobs.{Each, JobState}
 use Rattle.osjobs.specs.Priorities.{is_own_runner}
 use Rattle.osclock.specs.Clocks.{AreClocks, ClockState}
 use Rattle.ostable.specs.Tables.{AreTables, TableStates}
@@ -35,10 +38,22 @@ is_agreed (Some (Agreement.Mode m)) = true
 is_agreed (Some Agreement.NoMode) = true
 is_agreed other = false
 
--- How many jobs of a runner may be live at once; none of what is not the core's own.
+-- How many jobs of a task may be live at once; none of what is not the core's own.
 abbrev pub activation_limit : Core → Runner → ℕ
 activation_limit core (Runner.Task t) = option_map_or (λ (task : Task). task.activations) (own_task core t) 0
 activation_limit core (Runner.Isr i) = 0
+
+-- And how many of an ISR: so many of an own one.
+abbrev pub isr_limit : ℕ → Core → Runner → ℕ
+isr_limit most core (Runner.Task t) = 0
+isr_limit most core (Runner.Isr i) = if is_some (own_isr core i) then most else 0
+
+-- One that was started and one that is pending are live at once.
+abbrev pub interrupt_limit : Core → Runner → ℕ
+interrupt_limit core r = isr_limit 2 core r
+
+abbrev pub entered_limit : Core → IsrRef → ℕ
+entered_limit core i = isr_limit 1 core (Runner.Isr i)
 
 -- The core may name whatever the operation names.
 abbrev pub has_objects_of : Core → Op → Bool
@@ -83,12 +98,16 @@ pub record HasObjects (priorities : ℕ) (core : Core) : Type 0 where
   pub resources : length core.resources ≤ RESOURCES
   pub ceilings : IsTrue (list_all (λ (r : Resource). nat_lt r.ceiling priorities) core.resources)
 
--- No runner has more live jobs than it may have, and none before the core schedules. Each began or was released at an entry that the
--- history has, so the stamp of the next entry is greater than theirs.
-pub record HasJobs (core : Core) (phase : Phase) (entries : ℕ) (jobs : List Job) : Type 0 where
-  pub within : (r : Runner) → job_count r jobs ≤ activation_limit core r
-  pub stamps : Each (λ (j : Job). j.stamp < entries) jobs
-  pub idle : IsTrue (is_before_live phase) → jobs ≡ []
+-- No task has more live jobs than it may have, and none before the core schedules. Each began or was released at an entry that the
+-- history has, so the stamp of the next entry is greater than theirs. No ISR has more live jobs than it may have, and at most one of
+-- them was started. No job has used more ticks than the history has entries.
+pub record HasJobs (core : Core) (phase : Phase) (entries : ℕ) (s : JobState) : Type 0 where
+  pub within : (r : Runner) → job_count r s.jobs ≤ activation_limit core r
+  pub stamps : Each (λ (j : Job). j.stamp < entries) s.jobs
+  pub idle : IsTrue (is_before_live phase) → s.jobs ≡ []
+  pub interrupts : (r : Runner) → job_count r s.isrs.live ≤ interrupt_limit core r
+  pub entered : (i : IsrRef) → isr_count i s.isrs.entered ≤ entered_limit core i
+  pub used : (place : ℕ) → (row_at place s.rows).used ≤ entries
 
 -- A core that goes on past the first gate met no conflict of modes there. Nothing is counted more often than the history has entries.
 pub record IsUnderWay (p : Progress) : Type 0 where
@@ -113,7 +132,7 @@ pub record HasClocks (core : Core) (counters : ClockState) (schedules : TableSta
 pub record IsSound (priorities room : ℕ) (s : KernelState) : Type 0 where
   pub tasks : HasTasks priorities room s.view.own
   pub objects : HasObjects priorities s.view.own
-  pub jobs : HasJobs s.view.own s.progress.phase s.progress.entries s.tasks.jobs
+  pub jobs : HasJobs s.view.own s.progress.phase s.progress.entries s.tasks
   pub progress : IsUnderWay s.progress
   pub border : HasBorder s.view.own s.progress.entries s.border
   pub times : HasClocks s.view.own s.clocks s.tables

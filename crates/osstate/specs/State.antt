@@ -1,13 +1,14 @@
 -- The state that a kernel keeps, and what it means that it stands for a history.
-use Rattle.std.specs.Prelude.{◌≡◌, ℕ, Option, List, length, map}
+use Rattle.std.specs.Prelude.{◌≡◌, ℕ, IsTrue, Option, List, length, map}
 use Rattle.osbase.specs.declared.references.CoreId.{CoreId}
 use Rattle.osbase.specs.declared.histories.OpenCall.{OpenCall}
 use Rattle.osbase.specs.declared.histories.Sent.{Sent}
-use Rattle.osbase.specs.History.{History, began_count, agreement_of, started_cores, live_jobs, current_task, giving_way, open_call, outbox, queued_count, received_count, item_count}
+use Rattle.osbase.specs.History.{History, began_count, agreement_of, course_of, started_cores, live_jobs, current_task, giving_way, open_call, outbox, queued_count, received_count, item_count}
+use Rattle.osbase.specs.Interrupts.{entered_isrs, isr_jobs}
 use Rattle.osbase.specs.Sets.{core_ids}
 use Rattle.osplan.specs.View.{View}
-use Rattle.osjobs.specs.Jobs.{JobState}
-use Rattle.osclock.specs.Clocks.{ClockState, clocks_of}
+use Rattle.osjobs.specs.Jobs.{IsrState, JobState}
+use Rattle.osclock.specs.Clocks.{ClockState, are_settings_granted, clocks_of}
 use Rattle.ostable.specs.Tables.{TableStates, tables_of}
 use Rattle.osstate.specs.declared.progress.Progress.{Progress}
 use Rattle.osstate.specs.Readings.{phase_at, rows_of}
@@ -33,6 +34,7 @@ pub record KernelState : Type 0 where
 abbrev pub progress_of : View → History → Progress
 progress_of v h = record {
   phase = phase_at v h;
+  course = course_of h;
   began = began_count h;
   agreement = agreement_of h;
   started = started_cores h;
@@ -40,8 +42,11 @@ progress_of v h = record {
   entries = length h;
 }
 
+abbrev pub isrs_of : History → IsrState
+isrs_of h = record { live = isr_jobs h; entered = entered_isrs h }
+
 abbrev pub tasks_of : View → History → JobState
-tasks_of v h = record { jobs = live_jobs h; current = current_task h; giving_way = giving_way h; rows = rows_of v.own h }
+tasks_of v h = record { jobs = live_jobs h; current = current_task h; giving_way = giving_way h; rows = rows_of v.own h; isrs = isrs_of h }
 
 abbrev pub border_of : History → BorderState
 border_of h = record {
@@ -55,7 +60,8 @@ border_of h = record {
 abbrev pub state_of : View → History → KernelState
 state_of v h = record { view = v; progress = progress_of v h; tasks = tasks_of v h; clocks = clocks_of v.own h; tables = tables_of v.own h; border = border_of h }
 
--- The kernel stands for this history of this core: each of its fields equals what it is for. A relation,
--- so that the kernel needs to store no history. [own]
+-- The kernel stands for this history of this core: each of its fields equals what it is for, and each alarm was set as a service
+-- grants it. A relation, so that the kernel needs to store no history. [own]
 pub record Stands (v : View) (h : History) (s : KernelState) : Type 0 where
   pub is : s ≡ state_of v h
+  pub granted : IsTrue (are_settings_granted v.own h)

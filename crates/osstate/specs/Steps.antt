@@ -6,14 +6,16 @@ use Rattle.osbase.specs.declared.messages.Message.{Message}
 use Rattle.osbase.specs.declared.messages.Envelope.{Envelope}
 use Rattle.osbase.specs.declared.items.Item.TheVariants as Item
 use Rattle.osbase.specs.declared.limits.TheConstants.{CORES}
-use Rattle.osbase.specs.History.{Entry, Took, Noted, Queued, first_phase, phase_after, began_after, agreement_after, started_after, items_after, open_after, outbox_after, no_cores, envelope_with}
+use Rattle.osbase.specs.History.{Entry, Took, Noted, Queued, first_phase, phase_after, began_after, agreement_after, course_after, started_after, items_after, open_after, outbox_after, no_cores, envelope_with}
+use Rattle.osbase.specs.declared.histories.Course.{Course}
+use Rattle.osbase.specs.Interrupts.{runner_of_job}
 use Rattle.oscript.specs.declared.Op.{Op}
 use Rattle.oscript.specs.Runners.{Row, runner_of}
 use Rattle.osplan.specs.declared.plans.Plan.{Plan}
 use Rattle.osplan.specs.declared.plans.Core.{Core}
 use Rattle.osplan.specs.View.{view_from}
 use Rattle.osrunner.specs.Rows.{rows_by}
-use Rattle.osjobs.specs.Jobs.{JobState, first_jobs, jobs_by}
+use Rattle.osjobs.specs.Jobs.{JobState, first_jobs, jobs_by, running_among}
 use Rattle.osclock.specs.Clocks.{ClockState, clocks_by, clocks_of}
 use Rattle.ostable.specs.Tables.{TableStates, tables_by, tables_of}
 use Rattle.osstate.specs.declared.progress.Progress.{Progress}
@@ -25,6 +27,7 @@ use Rattle.osstate.specs.State.{KernelState, BorderState}
 abbrev pub progress_after : Entry → Progress → Progress
 progress_after e p = record {
   phase = phase_after e p.phase;
+  course = course_after e p.course;
   began = began_after e p.began;
   agreement = agreement_after e p.agreement;
   started = started_after e p.started;
@@ -34,21 +37,25 @@ progress_after e p = record {
 
 -- Where the master begins, and another core.
 abbrev pub first_progress : Bool → Progress
-first_progress is_master = record { phase = first_phase is_master; began = 0; agreement = None; started = no_cores; items = 0; entries = 0 }
+first_progress is_master = record { phase = first_phase is_master; course = Course.Going; began = 0; agreement = None; started = no_cores; items = 0; entries = 0 }
 
 -- ---- the tasks
 
--- The script of the runner whose row an entry changes.
+-- The runner whose row an entry changes.
+abbrev pub runner_by : Entry → JobState → Option Runner
+runner_by e s = runner_of (runner_of_job (running_among s)) e
+
+-- The script of that runner.
 abbrev pub script_for : Core → Option Runner → List Op
 script_for core None = []
 script_for core (Some r) = script_of core r
 
--- The rows after an entry, and all that is kept of jobs.
-abbrev pub rows_after : Core → Entry → List Row → List Row
-rows_after core e rows = rows_by (script_for core (runner_of e)) e (runner_of e) rows
+-- The rows after an entry that changes this runner's, and all that is kept of jobs.
+abbrev pub rows_after : Core → Entry → Option Runner → List Row → List Row
+rows_after core e who rows = rows_by (script_for core who) e who rows
 
 abbrev pub tasks_after : Core → Entry → ℕ → JobState → JobState
-tasks_after core e stamp s = jobs_by (script_for core (runner_of e)) e stamp s
+tasks_after core e stamp s = jobs_by (script_for core (runner_by e s)) e stamp s
 
 -- ---- the border
 

@@ -1,16 +1,17 @@
 //! Where a core stands: the part of its state that speaks of no task and of no other core.
 
 ghost use Rattle.std.specs.Prelude.{◌≡◌, ◌<◌, ◌^◌, vec_capacity, vec_len};
-ghost use Rattle.osbase.specs.History.{Took, Printed, agreement_after, began_after, phase_after, phase_past_first_gate, started_after};
+ghost use Rattle.osbase.specs.History.{Took, Printed, Noted, WentDown, agreement_after, began_after, phase_after, phase_past_first_gate, started_after};
 ghost use Rattle.osstate.specs.Does.{Joins};
 ghost use Rattle.osstate.specs.Steps.{first_progress, progress_after};
 
-use osbase::{Agreement, CORES, CoreSet, Item, Mark, Phase};
+use osbase::{Agreement, CORES, CoreSet, Course, Item, Mark, Phase};
 
 /// Where a core stands.
 #[derive(Clone, Copy, Debug, PartialEq, Eq)]
 pub struct Progress {
     pub phase: Phase,
+    pub course: Course,
     /// How many entries of the start list are done.
     pub began: usize,
     /// What the first gate came to, once it is passed.
@@ -30,6 +31,7 @@ impl Progress {
     {
         Progress {
             phase: if is_master { Phase::Boot } else { Phase::Off },
+            course: Course::Going,
             began: 0,
             agreement: None,
             started: CoreSet {
@@ -52,6 +54,15 @@ impl Progress {
         self.agreement = agreement_by(self.agreement, item);
         self.started = started_by(self.started, item);
         self.items += 1;
+        self.entries += 1;
+    }
+
+    /// The core goes down (AUTOSAR SWS OS 4.x, ShutdownOS).
+    pub(crate) fn go_down(&mut self)
+        requires { self.old.entries < 2 ^ 63 }
+        ensures { self.new ≡ progress_after (Noted WentDown) self.old }
+    {
+        self.course = Course::Down;
         self.entries += 1;
     }
 

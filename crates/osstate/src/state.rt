@@ -1,48 +1,46 @@
 //! The state of a core.
 
-ghost use Rattle.std.specs.Prelude.{◌≡◌, ◌==◌, ◌||◌, ◌∷◌, ◌<◌, ◌≤◌, ◌^◌, [], nat_lt, IsTrue, IsSome, IfSome, false, true, length, nat_le, option_copied, option_map, Some, slice_get, slice_index, suc, sum_by};
+ghost use Rattle.std.specs.Prelude.{◌≡◌, ◌==◌, ◌||◌, ◌∷◌, ◌<◌, ◌≤◌, ◌^◌, [], nat_lt, IsTrue, IsSome, IfSome, false, true, length, nat_le, Some, slice_get, slice_index, sum_by};
 ghost use Rattle.std.specs.List.{list_all};
-ghost use Rattle.osbase.specs.declared.references.AlarmRef.{AlarmRef as AlarmRefValue};
 ghost use Rattle.osbase.specs.declared.limits.TheConstants.{CORES};
-ghost use Rattle.osbase.specs.History.{Took, Printed, Noted, AlarmCancelled, AlarmSet, Counted, Opened, Queued, Taken, Given, Done, job_count, phase_after, queued_count, same_core, envelope_with};
-ghost use Rattle.osbase.specs.Objects.{alarm_object, counter_object};
+ghost use Rattle.osbase.specs.History.{Took, Printed, Noted, Opened, Queued, Taken, Given, Locked, Unlocked, WentDown, Done, job_count, phase_after, queued_count, same_core, envelope_with};
+ghost use Rattle.osbase.specs.Interrupts.{is_pending_among};
 ghost use Rattle.osbase.specs.Phases.{is_before_live, is_past_first_gate};
 ghost use Rattle.osbase.specs.Sets.{has_core};
 ghost use Rattle.osplan.specs.declared.plans.Resource.{Resource as ResourceValue};
 ghost use Rattle.osplan.specs.declared.plans.Task.{Task as TaskValue};
-ghost use Rattle.osplan.specs.Clocked.{are_clocks_within};
-ghost use Rattle.osplan.specs.Objects.{is_own_object, may_act};
-ghost use Rattle.osplan.specs.declared.plans.Alarm.{Alarm as AlarmValue};
+ghost use Rattle.osplan.specs.Objects.{is_own_object};
 ghost use Rattle.osplan.specs.Stimuli.{knows_stimulus};
-ghost use Rattle.osplan.specs.View.{core_of, is_configured, own_alarm, own_task, view_of};
-ghost use Rattle.osclock.specs.Clocks.{alarm_in, attached_to, counter_in, counts_to_by, counts_to_in, due_by, due_in, is_in_use_by, is_used, left_by, left_in, max_for, value_by};
+ghost use Rattle.osplan.specs.View.{core_of, is_configured, view_of};
 ghost use Rattle.osjobs.specs.Jobs.{is_current, is_plain};
-ghost use Rattle.osrunner.specs.Rows.{events_in, frame_in, held_in, is_occupied};
+ghost use Rattle.osrunner.specs.Rows.{depth_in, events_in, frame_in, held_in, is_occupied, used_in};
+ghost use Rattle.osbudget.specs.Budget.{is_reached};
 ghost use Rattle.osjobs.specs.Priorities.{holds_any, is_extended, is_newest, is_own_runner, static_priority};
 ghost use Rattle.osstate.specs.Does.{Effects, HasRoom, Notes, Reads, Remarks};
 ghost use Rattle.osstate.specs.Queries.{best_in, is_at_limit_in, is_suspended, is_suspended_in, next_action_in, running_in};
-ghost use Rattle.osstate.specs.Readings.{alarm_named, best_job, counter_named, events_at, frame_at, is_own, next_start, resource_of, resources_of, rows_of, script_of};
+ghost use Rattle.osstate.specs.Readings.{best_job, budget_of, events_at, frame_at, is_locked, is_own, is_pending, next_start, resource_of, resources_of, rows_of, script_of, used_at};
 ghost use Rattle.oscript.specs.Frames.{action_at};
-ghost use Rattle.osstate.specs.Sound.{activation_limit, is_action_known, is_agreed, is_first_gate, is_posted, is_sender_known};
+ghost use Rattle.osstate.specs.Sound.{activation_limit, interrupt_limit, is_action_known, is_agreed, is_first_gate, is_posted, is_sender_known};
 ghost use Rattle.osstate.specs.State.{state_of};
 ghost use Rattle.osstate.specs.Steps.{next_envelope, state_after};
 
+mod alarms;
 mod tables;
 
 use crate::border::{self, Border};
 use crate::progress::Progress;
-use crate::scripts::script_of;
+use crate::scripts::{budget_of, script_of};
 use crate::slots::SentSlot;
 use arrayvec::ArrayVec;
 use osbase::{
-    Agreement, AlarmRef, CORES, CoreId, CoreMode, CounterRef, Envelope, HeldResource, IsrRef, Item,
-    Job, Mark, Message, Object, OpenCall, Phase, RESOURCES, RemoteCall, ResourceRef, Runner, Sent,
-    Status, Stimulus, TaskEvents, TaskRef,
+    Agreement, CORES, CoreId, CoreMode, Course, Envelope, HeldResource, IsrRef, Item, Job, Mark,
+    Message, Object, OpenCall, Phase, RESOURCES, ResourceRef, Runner, Sent, Status, Stimulus,
+    TaskEvents, TaskRef,
 };
-use osclock::{AlarmList, Clocks};
+use osclock::Clocks;
 use oscript::{Action, Frame};
 use osjobs::Jobs;
-use osplan::{Alarm, Config, Core, Counter, Task, own};
+use osplan::{Config, Core, Protection, Task, own};
 use ostable::Tables;
 use std::marker::Model;
 
@@ -132,8 +130,8 @@ impl<'a, const P: usize, const J: usize, const OUT: usize> CoreState<'a, P, J, O
         self.progress.record(Mark::Activated(task), marks);
     }
 
-    /// The oldest job of one of the core's tasks has ended, if there is one: it gives back all that it holds, and
-    /// runs no longer. So the task has fewer jobs than it may have.
+    /// The oldest job of one of the core's tasks has ended, if there is one: it gives back all that it holds, resumes
+    /// interrupts, and runs no longer. So the task has fewer jobs than it may have.
     pub fn terminate(&mut self, task: TaskRef, marks: &mut Vec<Mark>)
         requires own { IsTrue (is_own_runner self.old.view.own (Runner.Task task)) }
         requires room { HasRoom 1 1 self.old marks.old }
@@ -146,8 +144,32 @@ impl<'a, const P: usize, const J: usize, const OUT: usize> CoreState<'a, P, J, O
         self.progress.record(Mark::Terminated(task), marks);
     }
 
-    /// The oldest job of one of the core's ISRs has ended: it gives back all that it holds (AUTOSAR SWS OS 4.x,
-    /// SWS_Os_00070).
+    /// An interrupt of one of the core's ISRs is accepted: a job of it begins, and is pending (AUTOSAR SWS OS 4.x, section
+    /// 7.6).
+    pub fn accept(&mut self, isr: IsrRef, marks: &mut Vec<Mark>)
+        requires limit { job_count (Runner.Isr isr) self.old.tasks.isrs.live < interrupt_limit self.old.view.own (Runner.Isr isr) }
+        requires room { HasRoom 1 1 self.old marks.old }
+        ensures state { self.new ≡ state_after (Printed (Mark.InterruptAccepted isr)) self.old }
+        ensures effects { Effects 1 1 (λ v h. Printed (Mark.InterruptAccepted isr) ∷ h) self.old self.new marks.old marks.new }
+    {
+        self.jobs.accept(isr, self.progress.entries);
+        self.progress.record(Mark::InterruptAccepted(isr), marks);
+    }
+
+    /// The oldest job of one of the core's ISRs is started: it runs, whatever ran before, and the task in the running state
+    /// stays in it.
+    pub fn enter_isr(&mut self, isr: IsrRef, marks: &mut Vec<Mark>)
+        requires own { IsTrue (is_own_runner self.old.view.own (Runner.Isr isr)) }
+        requires room { HasRoom 1 1 self.old marks.old }
+        ensures state { self.new ≡ state_after (Printed (Mark.IsrEntered isr)) self.old }
+        ensures effects { Effects 1 1 (λ v h. Printed (Mark.IsrEntered isr) ∷ h) self.old self.new marks.old marks.new }
+    {
+        self.jobs.enter_isr(isr);
+        self.progress.record(Mark::IsrEntered(isr), marks);
+    }
+
+    /// The oldest job of one of the core's ISRs has ended, if there is one: it gives back all that it holds, resumes
+    /// interrupts, and runs no longer (AUTOSAR SWS OS 4.x, SWS_Os_00070).
     pub fn leave_isr(&mut self, isr: IsrRef, marks: &mut Vec<Mark>)
         requires own { IsTrue (is_own_runner self.old.view.own (Runner.Isr isr)) }
         requires room { HasRoom 1 1 self.old marks.old }
@@ -157,6 +179,48 @@ impl<'a, const P: usize, const J: usize, const OUT: usize> CoreState<'a, P, J, O
         self.jobs.end_isr(isr);
         self.border.open_call = border::closed_by(Runner::Isr(isr), self.border.open_call);
         self.progress.record(Mark::IsrLeft(isr), marks);
+    }
+
+    /// A tick: the running job, if there is one, has used one more of its budget (AUTOSAR SWS OS 4.x, SWS_Os_00028).
+    pub fn tick(&mut self, marks: &mut Vec<Mark>)
+        requires { HasRoom 1 1 self.old marks.old }
+        ensures state { self.new ≡ state_after (Printed Mark.Tick) self.old }
+        ensures effects { Effects 1 1 (λ v h. Printed Mark.Tick ∷ h) self.old self.new marks.old marks.new }
+    {
+        self.jobs.tick();
+        self.progress.record(Mark::Tick, marks);
+    }
+
+    /// The oldest job of one of the core's tasks or ISRs suspends interrupts once more (OSEK/VDX OS 2.2.3, section
+    /// 13.3.2.3).
+    pub fn lock_interrupts(&mut self, runner: Runner)
+        requires own { IsTrue (is_own_runner self.old.view.own runner) }
+        requires count { self.old.progress.entries < 2 ^ 63 }
+        ensures state { self.new ≡ state_after (Noted (Locked runner)) self.old }
+        ensures remarks { Remarks 1 (λ v h. Noted (Locked runner) ∷ h) self.old self.new }
+    {
+        self.jobs.lock_interrupts(runner);
+        self.progress.entries += 1;
+    }
+
+    /// The oldest job of one of the core's tasks or ISRs resumes interrupts once (OSEK/VDX OS 2.2.3, section 13.3.2.4).
+    pub fn unlock_interrupts(&mut self, runner: Runner)
+        requires own { IsTrue (is_own_runner self.old.view.own runner) }
+        requires count { self.old.progress.entries < 2 ^ 63 }
+        ensures state { self.new ≡ state_after (Noted (Unlocked runner)) self.old }
+        ensures remarks { Remarks 1 (λ v h. Noted (Unlocked runner) ∷ h) self.old self.new }
+    {
+        self.jobs.unlock_interrupts(runner);
+        self.progress.entries += 1;
+    }
+
+    /// The core goes down: it schedules and serves no longer (AUTOSAR SWS OS 4.x, ShutdownOS).
+    pub fn go_down(&mut self)
+        requires count { self.old.progress.entries < 2 ^ 63 }
+        ensures state { self.new ≡ state_after (Noted WentDown) self.old }
+        ensures remarks { Remarks 1 (λ v h. Noted WentDown ∷ h) self.old self.new }
+    {
+        self.progress.go_down();
     }
 
     /// A task enters the running state, and PreTaskHook is called (OSEK/VDX OS 2.2.3, section 11.5).
@@ -202,8 +266,8 @@ impl<'a, const P: usize, const J: usize, const OUT: usize> CoreState<'a, P, J, O
             .record(Mark::EventCleared { task, mask }, marks);
     }
 
-    /// One of the core's tasks waits for one of these events: no job of it may run (OSEK/VDX OS 2.2.3, section 4.2.1 and
-    /// 13.5.3.4).
+    /// One of the core's tasks waits for one of these events: no job of it may run, and once it is released its job has its
+    /// whole budget (OSEK/VDX OS 2.2.3, section 4.2.1 and 13.5.3.4; AUTOSAR SWS OS 4.x, SWS_Os_00473).
     pub fn wait(&mut self, task: TaskRef, mask: u32, marks: &mut Vec<Mark>)
         requires own { IsTrue (is_own_runner self.old.view.own (Runner.Task task)) }
         requires room { HasRoom 1 1 self.old marks.old }
@@ -227,7 +291,7 @@ impl<'a, const P: usize, const J: usize, const OUT: usize> CoreState<'a, P, J, O
         self.progress.record(Mark::Released(task), marks);
     }
 
-    /// A mark that begins and ends no job, by which no task enters or leaves the running state and no row
+    /// A mark that begins and ends no job, by which no task enters or leaves the running state, no ISR is started and no row
     /// changes.
     pub fn print(&mut self, mark: Mark, marks: &mut Vec<Mark>)
         requires plain { IsTrue (is_plain mark) }
@@ -264,45 +328,6 @@ impl<'a, const P: usize, const J: usize, const OUT: usize> CoreState<'a, P, J, O
         ensures remarks { Remarks 1 (λ v h. Noted (Opened call) ∷ h) self.old self.new }
     {
         self.border.open_call = Some(call);
-        self.progress.entries += 1;
-    }
-
-    /// One of the core's counters goes on by one, and with it each alarm and each schedule table of it (OSEK/VDX OS 2.2.3,
-    /// section 9.1 and 9.2; AUTOSAR SWS OS 4.x, section 7.3).
-    pub fn count(&mut self, counter: CounterRef)
-        requires own { IsTrue (is_own_object self.old.view.own (counter_object counter)) }
-        requires count { self.old.progress.entries < 2 ^ 63 }
-        ensures state { self.new ≡ state_after (Noted (Counted counter)) self.old }
-        ensures remarks { Remarks 1 (λ v h. Noted (Counted counter) ∷ h) self.old self.new }
-    {
-        self.clocks.count(self.core, counter);
-        self.tables.count(self.core, counter);
-        self.progress.entries += 1;
-    }
-
-    /// One of the core's alarms is due after so many counts of its counter, at most a full turn, and again after each
-    /// cycle (OSEK/VDX OS 2.2.3, section 13.6.3.3 and 13.6.3.4).
-    pub fn set_alarm(&mut self, alarm: AlarmRef, first: u32, cycle: u32)
-        requires own { IsTrue (is_own_object self.old.view.own (alarm_object alarm)) }
-        requires later { 0 < first }
-        requires turn { first ≤ suc (max_for self.old.view.own alarm) }
-        requires cycle { cycle ≤ max_for self.old.view.own alarm }
-        requires count { self.old.progress.entries < 2 ^ 63 }
-        ensures state { self.new ≡ state_after (Noted (AlarmSet alarm first cycle)) self.old }
-        ensures remarks { Remarks 1 (λ v h. Noted (AlarmSet alarm first cycle) ∷ h) self.old self.new }
-    {
-        self.clocks.set_alarm(self.core, alarm, first, cycle);
-        self.progress.entries += 1;
-    }
-
-    /// One of the core's alarms is not in use any longer (OSEK/VDX OS 2.2.3, section 13.6.3.5).
-    pub fn cancel_alarm(&mut self, alarm: AlarmRef)
-        requires own { IsTrue (is_own_object self.old.view.own (alarm_object alarm)) }
-        requires count { self.old.progress.entries < 2 ^ 63 }
-        ensures state { self.new ≡ state_after (Noted (AlarmCancelled alarm)) self.old }
-        ensures remarks { Remarks 1 (λ v h. Noted (AlarmCancelled alarm) ∷ h) self.old self.new }
-    {
-        self.clocks.cancel_alarm(self.core, alarm);
         self.progress.entries += 1;
     }
 
@@ -351,6 +376,13 @@ impl<'a, const P: usize, const J: usize, const OUT: usize> CoreState<'a, P, J, O
         ensures { result ≡ self.now.progress.phase }
     {
         self.progress.phase
+    }
+
+    /// Whether the core goes on, or went down.
+    pub fn course(&self) -> Course
+        ensures { result ≡ self.now.progress.course }
+    {
+        self.progress.course
     }
 
     /// How many items were taken.
@@ -490,18 +522,18 @@ impl<'a, const P: usize, const J: usize, const OUT: usize> CoreState<'a, P, J, O
         self.config.plan().modes.len()
     }
 
-    /// The running job: the oldest live job of the task in the running state.
+    /// The running job: that of the ISR that was started last, or else the oldest live job of the task in the running state
+    /// (OSEK/VDX OS 2.2.3, section 4.2 and 6).
     pub fn running_job(&self) -> Option<Job>
         ensures value { result ≡ running_in self.now }
-        ensures live { IfSome result (λ job. 0 < job_count job.runner self.now.tasks.jobs) }
         ensures own { IfSome result (λ job. IsTrue (is_own_runner self.now.view.own job.runner)) }
-        ensures current { IfSome result (λ job. IsTrue (is_current self.now.tasks.current job.runner)) }
     {
         self.jobs.running()
     }
 
-    /// The job to run: of the able jobs of greatest current priority the oldest (OSEK/VDX OS 2.2.3, section 4.4
-    /// and 4.5), where this one is running.
+    /// The job to run, where this one is running: that one, if it has suspended interrupts; else of the jobs of ISRs of
+    /// greatest level the oldest; else of the able jobs of tasks of greatest current priority the oldest (OSEK/VDX OS 2.2.3,
+    /// section 4.4, 4.5, 6 and 13.3.2.3).
     pub fn best_job(&mut self, running: Option<Job>) -> Option<Job>
         requires { running ≡ running_in self.old }
         ensures value { result ≡ best_in self.old }
@@ -527,110 +559,6 @@ impl<'a, const P: usize, const J: usize, const OUT: usize> CoreState<'a, P, J, O
         })
     }
 
-    /// A counter of the core that a script names; none for the invalid identifier, and for one of another core.
-    pub fn counter(&self, target: Option<CounterRef>) -> Option<&'a Counter>
-        ensures value { option_copied result ≡ counter_named self.now.view.own target }
-        ensures reads { Reads (λ v h. counter_named v.own target) self.now (option_copied result) }
-        ensures within { IsTrue (are_clocks_within self.now.view.own) }
-    {
-        let core = self.core;
-        own::counter_of(core, target?)
-    }
-
-    /// An alarm of the core that a script names; none for the invalid identifier, and for one of another core.
-    pub fn alarm(&self, target: Option<AlarmRef>) -> Option<&'a Alarm>
-        ensures value { option_copied result ≡ alarm_named self.now.view.own target }
-        ensures reads { Reads (λ v h. alarm_named v.own target) self.now (option_copied result) }
-    {
-        let core = self.core;
-        own::alarm_of(core, target?)
-    }
-
-    /// The core's counters, in index order.
-    pub fn counters(&self) -> &'a [Counter]
-        ensures value { result.now ≡ self.now.view.own.counters }
-        ensures few { length result.now ≤ 8 }
-        ensures within { IsTrue (are_clocks_within self.now.view.own) }
-    {
-        let core = self.core;
-        core.counters.as_slice()
-    }
-
-    /// The core's alarms, in index order.
-    pub fn alarms(&self) -> &'a [Alarm]
-        ensures value { result.now ≡ self.now.view.own.alarms }
-        ensures few { length result.now ≤ 32 }
-        ensures within { IsTrue (are_clocks_within self.now.view.own) }
-    {
-        let core = self.core;
-        core.alarms.as_slice()
-    }
-
-    /// The value of one of the core's counters (OSEK/VDX OS 2.2.3, section 9.1).
-    pub fn counter_value(&self, counter: CounterRef) -> u32
-        requires own { IsTrue (is_own_object self.now.view.own (counter_object counter)) }
-        ensures value { result ≡ (counter_in counter self.now.clocks).value }
-        ensures reads { Reads (λ v h. value_by v.own counter h) self.now result }
-    {
-        self.clocks.value(counter)
-    }
-
-    /// Whether one of the core's alarms is in use (OSEK/VDX OS 2.2.3, section 9.2).
-    pub fn is_alarm_in_use(&self, alarm: AlarmRef) -> bool
-        requires own { IsTrue (is_own_object self.now.view.own (alarm_object alarm)) }
-        ensures value { result ≡ is_used (alarm_in alarm self.now.clocks) }
-        ensures reads { Reads (λ v h. is_in_use_by v.own alarm h) self.now result }
-    {
-        self.clocks.is_in_use(alarm)
-    }
-
-    /// How many counts are left until one of the core's alarms is due; none for one that is not in use
-    /// (OSEK/VDX OS 2.2.3, section 13.6.3.2).
-    pub fn counts_left(&self, alarm: AlarmRef) -> Option<u32>
-        requires own { IsTrue (is_own_object self.now.view.own (alarm_object alarm)) }
-        ensures value { result ≡ left_in self.now.view.own alarm self.now.clocks }
-        ensures reads { Reads (λ v h. left_by v.own alarm h) self.now result }
-    {
-        self.clocks.left(self.core, alarm)
-    }
-
-    /// After how many counts the counter of one of the core's alarms has this value; the value that it has is a full turn
-    /// away (OSEK/VDX OS 2.2.3, section 13.6.3.4).
-    pub fn counts_to(&self, alarm: AlarmRef, start: u32) -> u32
-        requires own { IsTrue (is_own_object self.now.view.own (alarm_object alarm)) }
-        requires turn { start ≤ max_for self.now.view.own alarm }
-        ensures value { result ≡ counts_to_in self.now.view.own alarm start self.now.clocks }
-        ensures reads { Reads (λ v h. counts_to_by v.own alarm start h) self.now result }
-        ensures later { 0 < result }
-        ensures within { result ≤ suc (max_for self.now.view.own alarm) }
-    {
-        self.clocks.counts_to(self.core, alarm, start)
-    }
-
-    /// What one of the core's alarms does when it is due (AUTOSAR SWS OS 4.x, OsAlarmAction).
-    pub fn alarm_action(&self, alarm: AlarmRef) -> RemoteCall
-        requires own { IsTrue (is_own_object self.now.view.own (alarm_object alarm)) }
-        ensures value { option_map (λ (x : AlarmValue). x.action) (own_alarm self.now.view.own alarm) ≡ Some result }
-        ensures known { IsTrue (may_act self.now.view.own result) }
-    {
-        match own::alarm_of(self.core, alarm) {
-            Some(own) => own.action,
-            None => unreachable!(),
-        }
-    }
-
-    /// The alarms of one of the core's counters that are due at its next count, in index order (OSEK/VDX OS 2.2.3,
-    /// section 9.2).
-    pub fn due_next(&self, counter: CounterRef) -> AlarmList
-        requires own { IsTrue (is_own_object self.now.view.own (counter_object counter)) }
-        ensures value { result.items ≡ due_in self.now.view.own counter self.now.clocks }
-        ensures reads { Reads (λ v h. due_by v.own counter h) self.now result.items }
-        ensures own { IsTrue (list_all (λ (a : AlarmRefValue). is_own_object self.now.view.own (alarm_object a)) result.items) }
-        ensures few { length result.items ≤ length (attached_to self.now.view.own counter) }
-    {
-        self.clocks.due_next(self.core, counter)
-    }
-
     /// The priority of one of the core's tasks as it is configured (OSEK/VDX OS 2.2.3, section 4.5).
     pub fn static_priority(&self, runner: Runner) -> u8
         requires { IsTrue (is_own_runner self.now.view.own runner) }
@@ -654,6 +582,41 @@ impl<'a, const P: usize, const J: usize, const OUT: usize> CoreState<'a, P, J, O
         ensures reads { Reads (λ v h. events_at v runner h) self.now result }
     {
         self.jobs.events(runner)
+    }
+
+    /// Whether the oldest job of one of the core's tasks or ISRs has suspended interrupts (OSEK/VDX OS 2.2.3, section
+    /// 13.3.2.3).
+    pub fn is_locked(&self, runner: Runner) -> bool
+        ensures value { result ≡ nat_lt 0 (depth_in runner self.now.tasks.rows) }
+        ensures reads { Reads (λ v h. is_locked v runner h) self.now result }
+    {
+        self.jobs.is_locked(runner)
+    }
+
+    /// Whether the oldest job of one of the core's tasks or ISRs has reached its budget (AUTOSAR SWS OS 4.x, SWS_Os_00064 and
+    /// SWS_Os_00210).
+    pub fn is_spent(&self, runner: Runner) -> bool
+        ensures value { result ≡ is_reached (budget_of self.now.view.own runner) (used_in runner self.now.tasks.rows) }
+        ensures reads { Reads (λ v h. is_reached (budget_of v.own runner) (used_at v runner h)) self.now result }
+    {
+        self.jobs.is_spent(runner, budget_of(self.core, runner))
+    }
+
+    /// What the core does when a job has reached its budget (AUTOSAR SWS OS 4.x, ProtectionReturnType).
+    pub fn protection(&self) -> Protection
+        ensures value { result ≡ self.now.view.own.protection }
+        ensures reads { Reads (λ v h. v.own.protection) self.now result }
+    {
+        self.core.protection
+    }
+
+    /// Whether a job of the ISR is pending (AUTOSAR SWS OS 4.x, section 7.6).
+    pub fn is_pending(&self, isr: IsrRef) -> bool
+        ensures value { result ≡ is_pending_among isr self.now.tasks.isrs.entered self.now.tasks.isrs.live }
+        ensures reads { Reads (λ v h. is_pending isr h) self.now result }
+        ensures limit { IsTrue (is_own_runner self.now.view.own (Runner.Isr isr)) → result ≡ false → job_count (Runner.Isr isr) self.now.tasks.isrs.live < interrupt_limit self.now.view.own (Runner.Isr isr) }
+    {
+        self.jobs.is_pending(isr)
     }
 
     /// Whether no job of the task is live (OSEK/VDX OS 2.2.3, section 4.2.1).

@@ -27,7 +27,7 @@ module _ (l : Leave) where
 
   pub ends_unasked-ok : (r : Runner) → IsNamed l r → Allowed (ends_unasked r)
   ends_unasked-ok (Runner.Task t) n = ((refl, tt), ends-ok (Runner.Task t) n)
-  ends_unasked-ok (Runner.Isr i) n = ends-ok (Runner.Isr i) n
+  ends_unasked-ok (Runner.Isr i) n = ((λ s seen. (λ o. (refl, tt), λ o. tt)), ends-ok (Runner.Isr i) n)
 
   clears-ok : (r : Runner) (mask : ℕ) → IsNamed l r → Allowed (clears r mask)
   clears-ok (Runner.Task t) mask n = (n, tt)
@@ -62,4 +62,6 @@ module _ (l : Leave) where
   task_acts-ok r (Op.WaitEvent mask) n = λ s seen.
       answers-ok l r Service.WaitEvent (waiting_checks s r) (goes_on_or_waits r mask) n
       (λ e t seen_then. (λ o. returns-ok l r Service.WaitEvent EOk None n, λ o. begins_to_wait-ok r mask n))
+  task_acts-ok r Op.SuspendAllInterrupts n = (refl, (refl, tt))
+  task_acts-ok r Op.ResumeAllInterrupts n = (refl, (refl, tt))
   task_acts-ok r op n = tt

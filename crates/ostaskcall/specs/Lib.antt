@@ -1,3 +1,4 @@
+pub mod Interrupts
 pub mod Tasks
 pub mod Resources
 pub mod Events

@@ -13,6 +13,7 @@ use Rattle.osact.specs.Returning.{answers, returns}
 use Rattle.osact.specs.Seen.{Seen, is_at_limit}
 use Rattle.osact.specs.Service.{Service, without_value}
 use Rattle.ostaskcall.specs.Events.{clears_event, gets_event, waits_event}
+use Rattle.ostaskcall.specs.Interrupts.{reports_suspended, resumes_interrupts, suspends_interrupts}
 use Rattle.ostaskcall.specs.Resources.{gets_resource, releases_resource}
 
 -- A job of the task begins. [OSEK/VDX OS 2.2.3, section 4.3]
@@ -28,11 +29,11 @@ abbrev pub ends : Runner → Acts
 ends (Runner.Task t) = both (prints (Mark.PostTaskHook t)) (prints (Mark.Terminated t))
 ends (Runner.Isr i) = prints (Mark.IsrLeft i)
 
--- A job that comes to the end of its script: a task is ended by the OS with E_OS_MISSINGEND.
+-- A job that comes to the end of its script: a task is ended by the OS with E_OS_MISSINGEND, and with no other status; an ISR ends.
 -- [AUTOSAR SWS OS 4.x, SWS_Os_00069, SWS_Os_00052]
 abbrev pub ends_unasked : Runner → Acts
 ends_unasked (Runner.Task t) = both (prints (Mark.ErrorHook EOsMissingend)) (ends (Runner.Task t))
-ends_unasked (Runner.Isr i) = ends (Runner.Isr i)
+ends_unasked (Runner.Isr i) = both (reports_suspended (Runner.Isr i)) (ends (Runner.Isr i))
 
 -- What TerminateTask and Schedule check: that a task calls, then that its job holds no resource.
 -- [OSEK/VDX OS 2.2.3, section 8.2, 13.2.3.2 and 13.2.3.4]
@@ -48,7 +49,7 @@ terminates r = look (λ s. answers r ServiceId.TerminateTask (task_checks s r) (
 abbrev pub schedules : Runner → Acts
 schedules r = look (λ s. answers r ServiceId.Schedule (task_checks s r) (returns r ServiceId.Schedule EOk None))
 
--- ---- the operations that are services of tasks, resources and events
+-- ---- the operations that are services of tasks, resources, events and interrupts
 
 -- The table of the family: what an operation does for a runner, if it is one of these services.
 abbrev pub task_acts : Runner → Op → Option Acts
@@ -59,4 +60,6 @@ task_acts r (Op.ReleaseResource target) = Some (releases_resource r target)
 task_acts r (Op.ClearEvent mask) = Some (clears_event r mask)
 task_acts r (Op.GetEvent target x) = Some (gets_event r target)
 task_acts r (Op.WaitEvent mask) = Some (waits_event r mask)
+task_acts r Op.SuspendAllInterrupts = Some (suspends_interrupts r)
+task_acts r Op.ResumeAllInterrupts = Some (resumes_interrupts r)
 task_acts r op = None

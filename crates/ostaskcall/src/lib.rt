@@ -1,9 +1,10 @@
-//! The services of tasks, resources and events.
+//! The services of tasks, resources, events and interrupts.
 //!
 //! No function here takes memory. Each asks for room for the entries and marks that it adds.
 #![tactic(auto)]
 
 pub mod events;
+mod interrupts;
 pub mod resources;
 pub mod tasks;
 

@@ -15,6 +15,7 @@ ghost use Rattle.osact.specs.Service.{answers_with, carries_out};
 ghost use Rattle.ostaskcall.specs.Tasks.{activation, ends, ends_unasked, schedules, task_acts, task_checks, terminates};
 
 use crate::events::{clear_event, get_event, wait_event};
+use crate::interrupts::{report_suspended, resume_interrupts, suspend_interrupts};
 use crate::resources::{get_resource, release_resource};
 use osact::{Answer, Step, finish, is_ok, refuse, without_value};
 use osbase::{Mark, Runner, ServiceId, Status, TaskRef};
@@ -75,7 +76,8 @@ pub fn end<const P: usize, const J: usize, const OUT: usize>(
 }
 
 /// A job of one of the core's tasks or ISRs that comes to the end of its script. A task's is ended by the OS with
-/// E_OS_MISSINGEND (AUTOSAR SWS OS 4.x, SWS_Os_00052 and SWS_Os_00069).
+/// E_OS_MISSINGEND (AUTOSAR SWS OS 4.x, SWS_Os_00052 and SWS_Os_00069); of an ISR that has interrupts suspended ErrorHook
+/// is called first, with E_OS_DISABLEDINT (SWS_Os_00368).
 pub fn end_unasked<const P: usize, const J: usize, const OUT: usize>(
     state: &mut CoreState<'_, P, J, OUT>,
     runner: Runner,
@@ -89,7 +91,10 @@ pub fn end_unasked<const P: usize, const J: usize, const OUT: usize>(
             state.print(Mark::ErrorHook(Status::EOsMissingend), marks);
             end_task(state, task, marks);
         }
-        Runner::Isr(_) => end(state, runner, marks),
+        Runner::Isr(_) => {
+            report_suspended(state, runner, marks);
+            end(state, runner, marks);
+        }
     }
 }
 
@@ -159,8 +164,8 @@ fn schedule<const P: usize, const J: usize, const OUT: usize>(
     finish(state, runner, ServiceId::Schedule, answer, marks);
 }
 
-/// An operation of a running job of one of the core's tasks, if it is a service of tasks, resources or events: it is done, and the answer
-/// is yes. Else nothing changes.
+/// An operation of a running job of one of the core's tasks or ISRs, if it is a service of tasks, resources, events or interrupts: it
+/// is done, and the answer is yes. Else nothing changes.
 pub fn operate<const P: usize, const J: usize, const OUT: usize>(
     state: &mut CoreState<'_, P, J, OUT>,
     step: Step,
@@ -197,6 +202,14 @@ pub fn operate<const P: usize, const J: usize, const OUT: usize>(
         }
         Op::WaitEvent(mask) => {
             wait_event(state, runner, mask, marks);
+            true
+        }
+        Op::SuspendAllInterrupts => {
+            suspend_interrupts(state, runner);
+            true
+        }
+        Op::ResumeAllInterrupts => {
+            resume_interrupts(state, runner);
             true
         }
         _ => false,

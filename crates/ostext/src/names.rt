@@ -1,9 +1,7 @@
 //! The names of objects, as a core's block needs them.
 
-ghost use Rattle.std.specs.Prelude.{◌≡◌, [], option_copied, slice_get};
-ghost use Rattle.std.specs.Option.{option_map_or};
+ghost use Rattle.std.specs.Prelude.{◌≡◌, option_copied};
 ghost use Rattle.osbase.specs.declared.objects.ObjectKind.{ObjectKind};
-ghost use Rattle.osplan.specs.declared.plans.Isr.{Isr};
 ghost use Rattle.osplan.specs.Names.{alarm_name, isr_name, name_in, name_of, runner_name, table_name, task_name};
 ghost use Rattle.osplan.specs.View.{core_of};
 
@@ -126,7 +124,7 @@ fn task_in(core: &Core, index: u8) -> &str
 
 #[inline]
 fn isr_in(core: &Core, index: u8) -> &str
-    ensures { result.now ≡ option_map_or (λ (i : Isr). i.name) (slice_get core.now.isrs index) [] }
+    ensures { result.now ≡ name_in ObjectKind.Isr core.now index }
 {
     match core.isrs.as_slice().get(usize::from(index)) {
         Some(isr) => isr.name.as_str(),

@@ -1,9 +1,8 @@
 -- What a worker's turns ask, and which items the answers result in.
-use Rattle.std.proofs.Common.{◌≡◌, ◌⊎◌, ℕ, ◌<◌, Bool, true, false, cond, nat_le, nat_lt, Option, Some, None, is_some, IsSome, IsTrue, List, [], ◌∷◌, ◌++◌, length, map, inl, inr, refl, sym, ap, subst, ◌∙◌, arith, unwrap_or, sum_by}
+use Rattle.std.proofs.Common.{◌≡◌, ◌⊎◌, ◌<◌, Bool, true, false, cond, nat_le, Option, Some, None, is_some, IsSome, IsTrue, List, [], ◌∷◌, ◌++◌, length, map, inl, inr, refl, sym, ap, subst, ◌∙◌, arith, unwrap_or}
 use Rattle.std.specs.List.{list_all}
 use Rattle.std.proofs.lemmas.Bool.{and_parts, eqb-true, ltb-true}
 use Rattle.std.proofs.lemmas.Option.{same_Some}
-use Rattle.osbase.specs.declared.statuses.Status.{Status}
 use Rattle.osbase.specs.declared.statuses.Status.TheVariants.{EOk, EOsId, EOsState}
 use Rattle.osbase.specs.declared.references.CoreId.{CoreId}
 use Rattle.osbase.specs.declared.items.CoreMode.{CoreMode}
@@ -15,9 +14,8 @@ use Rattle.osbase.specs.History.{same_core}
 use Rattle.osbase.specs.Sets.{has_core}
 use Rattle.osplan.specs.declared.plans.Plan.{Plan}
 use Rattle.osplan.specs.declared.plans.Core.{Core}
-use Rattle.osplan.specs.Limits.{are_alarms_within, are_counters_within, are_tables_within, alarm_sizes, ceiling_of, core_sizes, counter_sizes, is_alarm_known, is_ceiling, is_core_known, is_core_mode, is_core_within, is_table_known, is_task_known, is_task_within, is_within_limits, jobs_of, table_sizes, task_sizes}
-use Rattle.osplan.specs.Objects.{posted_at_once}
-use Rattle.osplan.specs.View.{View, core_of, counter_in, is_configured, no_core, view_of}
+use Rattle.osplan.specs.Limits.{core_sizes, is_between, is_core_known, is_core_mode, is_core_within, is_within_limits}
+use Rattle.osplan.specs.View.{View, core_of, is_configured, no_core, view_of}
 use Rattle.osplan.proofs.Tests.{find-holds, find-passes}
 use Rattle.osplan.proofs.Within.{between, limit-parts}
 use Rattle.osstate.proofs.Begun.{is_some-core_of}
@@ -156,15 +154,8 @@ unasked-no-mail id watch ask i e = cc
 module _ (plan : Plan) (limits : IsTrue (is_within_limits plan)) where
   number-low : (core : Core) → is_core_within (core_sizes plan core) ≡ true → core.id.number < 8
   number-low core h =
-      let starts = map (alarm_sizes (counter_in plan)) core.alarms in
-      let timed = map (table_sizes (counter_in plan)) core.tables in
-      let counters = and_parts _ (are_counters_within (map counter_sizes core.counters)) (and_parts _ (are_alarms_within starts) (and_parts _ (are_tables_within timed) (and_parts _ (nat_le (posted_at_once core) 56) h).0).0).0 in
-      let ceilings = and_parts _ (list_all is_ceiling (map ceiling_of core.resources)) counters.0 in
-      let resources = and_parts _ (nat_le (length (map ceiling_of core.resources)) 16) ceilings.0 in
-      let sum = and_parts _ (nat_le (sum_by jobs_of (map task_sizes core.tasks)) 64) resources.0 in
-      let tasks = and_parts _ (list_all is_task_within (map task_sizes core.tasks)) sum.0 in
-      let few = and_parts _ _ tasks.0 in
-      let number = between _ _ core.id.number (and_parts _ _ few.0).0 in
+      let within : is_between 0 7 (Some core.id.number) ≡ true = grind arith in
+      let number = between 0 7 core.id.number within in
       omega arith
 
   core-low : (k : CoreId) (o : Option Core) → core_of plan k ≡ o → is_some o ≡ true → k.number < 8
@@ -198,9 +189,7 @@ module _ (plan : Plan) (limits : IsTrue (is_within_limits plan)) where
   mode-of id None found = tt
   mode-of id (Some core) found =
       let known = find-passes (λ (c : Core). same_core c.id id) (is_core_known plan) plan.cores core (limit-parts plan limits).known found in
-      let alarms = and_parts _ (list_all (is_table_known plan) core.tables) known in
-      let tasks = and_parts _ (list_all (is_alarm_known plan) core.alarms) alarms.0 in
-      mode-low core.mode (and_parts (is_core_mode plan core.mode) (list_all (is_task_known plan) core.tasks) tasks.0).0
+      mode-low core.mode (grind arith)
 
   -- What a core's own turn asks: of the board a call that changes it and has a place there, of the spinlocks nothing yet, and
   -- nothing that serves another core.
@@ -221,6 +210,7 @@ module _ (plan : Plan) (limits : IsTrue (is_within_limits plan)) where
   own-asks id next (Want.Post to) = tt
   own-asks id (Some s) Want.GoOn = tt
   own-asks id None Want.GoOn = (tt, tt)
+  own-asks id next Want.Drain = (tt, tt)
   own-asks id next Want.Nothing = tt
 
   pub own-board : (id : CoreId) (next : Option Stimulus) (want : Want) (call : BoardCall) → own_asked (view_of plan id) next want ≡ Some (OfBoard call) → ChangesBoard call × HasPlace call

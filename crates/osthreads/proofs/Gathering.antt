@@ -26,7 +26,7 @@ use Rattle.osturn.specs.Sound.{AreSound}
 use Rattle.osthreads.specs.declared.ending.Ending.{Ending}
 use Rattle.osplan.specs.declared.plans.Plan.{Plan}
 use Rattle.osbase.specs.declared.turns.CoreStimuli.{CoreStimuli}
-use Rattle.osthreads.specs.Runs.{AreDelivered, AreFinished, AreRuns, IsDelivered, IsOneBoard, IsOneCore, new_board}
+use Rattle.osthreads.specs.Runs.{AreFinished, AreRuns, IsDelivered, new_board}
 use Rattle.osthreads.specs.Threads.{AreAllFinished, AreEnded, AreReady, AreSettled, IsEnded, IsSettled}
 use Rattle.osthreads.specs.declared.turns.Stop.{Stop}
 use Rattle.osthreads.specs.Working.{IsFinished, Refusal, is_finished_by, is_kept_by, is_short_of_memory, refusal_at, refused_from}

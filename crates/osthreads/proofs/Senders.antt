@@ -1,15 +1,14 @@
 -- A core receives from configured cores only, and those that are not configured have no list.
-use Rattle.std.proofs.Common.{◌≡◌, ◌<◌, ◌≤◌, ◌+◌, ◌==◌, ◌||◌, ◌&&◌, ℕ, zero, suc, Bool, true, false, not, cond, nat_lt, Option, Some, None, is_some, IsSome, IsTrue, List, [], ◌∷◌, ◌++◌, length, map, filter, refl, sym, ap, subst, ◌∙◌, arith, get_or}
-use Rattle.std.specs.List.{list_all, slice_get}
-use Rattle.std.proofs.lemmas.Bool.{and_parts, eqb-true, eq-eqb, false≢true, ltb-true, ne_eqb, or_left, or_right, or_parts, true≢false}
+use Rattle.std.proofs.Common.{◌≡◌, ◌<◌, ◌≤◌, ◌+◌, ◌==◌, ◌||◌, ℕ, zero, suc, Bool, true, false, not, cond, nat_lt, Some, is_some, IsSome, IsTrue, List, [], ◌∷◌, ◌++◌, length, map, filter, refl, sym, ap, subst, ◌∙◌, arith}
+use Rattle.std.specs.List.{slice_get}
+use Rattle.std.proofs.lemmas.Bool.{and_parts, false≢true, ltb-true, ne_eqb, or_left, or_right, true≢false}
 use Rattle.std.proofs.lemmas.Bool.Decides.{nat_tests}
 use Rattle.std.proofs.lemmas.Option.{slice_get_read}
 use Rattle.osbase.specs.declared.references.CoreId.{CoreId}
-use Rattle.osbase.specs.declared.messages.Envelope.{Envelope}
 use Rattle.osbase.specs.declared.items.CoreSet.{CoreSet}
 use Rattle.osbase.specs.declared.items.Item.{Item}
 use Rattle.osbase.specs.declared.limits.TheConstants.{CORES}
-use Rattle.osbase.specs.History.{History, Took, received, same_core, started_cores}
+use Rattle.osbase.specs.History.{History, Took, received, started_cores}
 use Rattle.osbase.specs.Phases.{is_scheduling}
 use Rattle.osbase.specs.Sets.{core_ids, has_core, numbers_from}
 use Rattle.osbase.proofs.Same.{same_core-true}

@@ -1,23 +1,24 @@
 -- What an item adds to what a worker has done: to its core, to its calls of the board and to its end of the mail.
-use Rattle.std.proofs.Common.{◌≡◌, ◌⊎◌, ℕ, zero, suc, ◌+◌, ◌≤◌, Bool, true, false, cond, Option, Some, None, List, [], ◌∷◌, ◌++◌, length, drop, inl, inr, ⊎_elim, refl, sym, ap, subst, ◌∙◌, arith, append_assoc, append-nil, length-append}
+use Rattle.std.proofs.Common.{◌≡◌, ℕ, zero, suc, ◌+◌, ◌≤◌, Bool, true, false, cond, Option, Some, None, List, [], ◌∷◌, ◌++◌, length, drop, inl, inr, ⊎_elim, refl, sym, ap, subst, ◌∙◌, arith, append_assoc, append-nil, length-append}
 use Rattle.std.specs.List.{AllByRecursion, slice_get}
 use Rattle.std.proofs.lemmas.Option.{same_Some}
 use Rattle.osbase.specs.declared.statuses.Status.TheVariants.{EOsId}
 use Rattle.osbase.specs.declared.references.CoreId.{CoreId}
 use Rattle.osbase.specs.declared.messages.Envelope.{Envelope}
+use Rattle.osbase.specs.declared.histories.Course.{Course}
 use Rattle.osbase.specs.declared.histories.Sent.{Sent}
 use Rattle.osbase.specs.declared.items.Item.{Item}
 use Rattle.osbase.specs.declared.items.Stimulus.{Stimulus}
 use Rattle.osbase.specs.declared.turns.CoreStimuli.{CoreStimuli}
-use Rattle.osbase.specs.History.{History, front_envelope, outbox, posted, received, same_core}
+use Rattle.osbase.specs.History.{History, course_of, front_envelope, outbox, posted, received, same_core}
 use Rattle.osbase.specs.Runs.{stimuli_of}
 use Rattle.osplan.specs.declared.plans.Plan.{Plan}
 use Rattle.osplan.specs.View.{View, view_of}
-use Rattle.osstate.specs.State.{KernelState}
+use Rattle.osstate.specs.State.{KernelState, state_of}
 use Rattle.oskernel.specs.declared.wants.Watch.{Watch}
 use Rattle.oskernel.specs.Admission.{serves_in, takes_in}
 use Rattle.oskernel.specs.Step.{after, history_from, outbox_size, serves, takes}
-use Rattle.oskernel.specs.Wants.{front_of, want_in, watch_in}
+use Rattle.oskernel.specs.Wants.{front_of, want_in, want_of, watch_in, watch_of}
 use Rattle.oskernel.proofs.Stages.{is_mail}
 use Rattle.osseat.specs.Histories.{Thinned, entry}
 use Rattle.osseat.proofs.Thins.{logged}
@@ -32,7 +33,7 @@ use Rattle.osturn.specs.declared.asks.Ask.TheVariants.{OfBoard, OfSpins, Room, O
 use Rattle.osturn.specs.declared.asks.Answer.{Answer}
 use Rattle.osturn.specs.declared.asks.Answer.TheVariants.{Replied, Spun, HasRoom, Found, Unasked}
 use Rattle.osturn.specs.declared.seats.Seat.{Seat}
-use Rattle.osturn.specs.Asking.{Calls, asked_by, joined, named_by, no_calls, told_by}
+use Rattle.osturn.specs.Asking.{asked_by, joined, named_by, no_calls, told_by}
 use Rattle.osturn.specs.Fits.{AreAnswered, FitsCore, Leads, history_by, stimuli_in}
 use Rattle.osturn.specs.Seats.{stimulus_count}
 use Rattle.osturn.proofs.Answered.{answered-push, joined-none}
@@ -41,7 +42,7 @@ use Rattle.osturn.proofs.Leading.{halted-item, is-item, passing-item, spun-item}
 use Rattle.osturn.proofs.Longer.{IsInTurn, core-on, history_from-push, length-stimuli_in}
 use Rattle.osturn.proofs.Seated.{Keeps, Took, seated-kept, seated-on}
 use Rattle.osturn.proofs.Streams.{envelope_in, is_from, is_post_to, posted-after, received-is}
-use Rattle.osthreads.specs.Working.{AreCalls, HasDone, IsAsked, IsAtWork, IsFruitless, IsIdleLook, IsMailed, IsRefused, Refusal, of_board, refused_from}
+use Rattle.osthreads.specs.Working.{AreCalls, HasDone, IsAsked, IsAtWork, IsFruitless, IsIdleLook, IsMailed, of_board}
 
 -- ---- stimuli
 
@@ -53,19 +54,19 @@ front-drop (suc n) [] = refl
 front-drop (suc n) (x ∷ xs) = front-drop n xs
 
 -- An item that a turn names is in turn, where the turn asks for what comes next.
-module _ (v : View) (listed : List Stimulus) (past : List Item) where
-  is : (j i : Item) → Some j ≡ Some i → IsInTurn listed past j → IsInTurn listed past i
-  is j i e next = is-item (IsInTurn listed past) j i next e
+module _ (v : View) (listed : List Stimulus) (course : Course) (past : List Item) where
+  is : (j i : Item) → Some j ≡ Some i → IsInTurn listed course past j → IsInTurn listed course past i
+  is j i e next = is-item (IsInTurn listed course past) j i next e
 
-  follows : (watch : Watch) (ask : Ask) (answer : Answer) (i : Item) → IsOwnAsk v (slice_get listed (length (stimuli_in past))) (Some ask) → named_by v.core watch ask answer ≡ Some i → IsInTurn listed past i
-  follows watch (OfBoard Look) (Replied (Shown view)) i own e = passing-item (IsInTurn listed past) tt (λ agreement. tt) (λ cores. tt) tt v.core view watch i e
+  follows : (watch : Watch) (ask : Ask) (answer : Answer) (i : Item) → IsOwnAsk v course (slice_get listed (length (stimuli_in past))) (Some ask) → named_by v.core watch ask answer ≡ Some i → IsInTurn listed course past i
+  follows watch (OfBoard Look) (Replied (Shown view)) i own e = passing-item (IsInTurn listed course past) tt (λ agreement. tt) (λ cores. tt) tt v.core view watch i e
   follows watch (OfBoard (Start k)) (Replied (Started status)) i own e = is (Item.Began k status) i e tt
   follows watch (OfBoard (Enter mode)) (Replied Acknowledged) i own e = is Item.Entered i e tt
   follows watch (OfBoard MakeReady) (Replied Acknowledged) i own e = is Item.Readied i e tt
   follows watch (OfBoard Drain) (Replied Acknowledged) i own e = is Item.Drained i e own
-  follows watch (OfBoard LookHalt) (Replied (Halting halt)) i own e = halted-item (IsInTurn listed past) (λ asked. tt) (λ core status. tt) watch halt i e
+  follows watch (OfBoard LookHalt) (Replied (Halting halt)) i own e = halted-item (IsInTurn listed course past) (λ asked. tt) (λ core status. tt) watch halt i e
   follows watch (OfBoard (AskHalt status)) (Replied reply) i own e = absurd own
-  follows watch (OfSpins wish) (Spun reply) i own e = spun-item (IsInTurn listed past) (λ l. tt) (λ l taken. tt) (λ l. tt) wish reply i e
+  follows watch (OfSpins wish) (Spun reply) i own e = spun-item (IsInTurn listed course past) (λ l. tt) (λ l taken. tt) (λ l. tt) wish reply i e
   follows watch (Room to) (HasRoom true) i own e = is (Item.Posted to) i e tt
   follows watch (Oldest from) (Found (Some x)) i own e = is (Item.Received from x.number x.message) i e tt
   follows watch (StartUnknown k) Unasked i own e = is (Item.Began k EOsId) i e tt
@@ -101,7 +102,7 @@ module _ (plan : Plan) (stimuli : List CoreStimuli) (old : Seat) (work : IsAtWor
         ∙ ap (history_by plan old.id) took.items
         ∙ history_from-push v [] old.items.items item
 
-    work-on : takes outbox_size v h item ≡ true → IsInTurn (stimuli_of stimuli old.id) old.items.items item → IsAtWork plan stimuli new
+    work-on : takes outbox_size v h item ≡ true → IsInTurn (stimuli_of stimuli old.id) (course_of h) old.items.items item → IsAtWork plan stimuli new
     work-on may next = record {
       seated = seated-on plan stimuli old new item work.seated may took;
       fits = subst (λ (i : CoreId). FitsCore plan stimuli i new.items.items) (sym took.id)
@@ -264,19 +265,22 @@ module _ (plan : Plan) (stimuli : List CoreStimuli) (loads : ℕ) (old new : Sea
   abbrev past : History
   past = history_by plan old.id old.items.items
 
+  asks-it : asked_by view (want_of view past) (watch_of view past) (slice_get old.stimuli.now 0) asked.0 ≡ Some ask
+  asks-it = subst (λ (k : KernelState). asked_by view (want_in k) (watch_in k) (slice_get old.stimuli.now 0) asked.0 ≡ Some ask) done.work.seated.tracks.stands.is asked.1
+
   leads : Leads view past ask answer item
   leads = record {
     choice = asked.0;
     next = slice_get old.stimuli.now 0;
-    asks = subst (λ (k : KernelState). asked_by view (want_in k) (watch_in k) (slice_get old.stimuli.now 0) asked.0 ≡ Some ask) done.work.seated.tracks.stands.is asked.1;
+    asks = asks-it;
     names = subst (λ (k : KernelState). named_by old.id (watch_in k) ask answer ≡ Some item) done.work.seated.tracks.stands.is names;
   }
 
-  in-turn : IsInTurn (stimuli_of stimuli old.id) old.items.items item
+  in-turn : IsInTurn (stimuli_of stimuli old.id) (course_of past) old.items.items item
   in-turn =
-      follows view (stimuli_of stimuli old.id) old.items.items (watch_in old.kernel) ask answer item
-      (subst (λ (next : Option Stimulus). IsOwnAsk view next (Some ask)) (next-left plan stimuli old done.work)
-      (subst (IsOwnAsk view (slice_get old.stimuli.now 0)) asked.1 (asks-own view (want_in old.kernel) (watch_in old.kernel) (slice_get old.stimuli.now 0) asked.0))) names
+      follows view (stimuli_of stimuli old.id) (course_of past) old.items.items (watch_in (state_of view past)) ask answer item
+      (subst (λ (next : Option Stimulus). IsOwnAsk view (course_of past) next (Some ask)) (next-left plan stimuli old done.work)
+      (subst (IsOwnAsk view (course_of past) (slice_get old.stimuli.now 0)) asks-it (asks-own view (state_of view past) (slice_get old.stimuli.now 0) asked.0))) leads.names
 
   done-on : AreCalls view (old.items.items ++ item ∷ []) mine' 0 → IsMailed view (after view past item) sent' taken' None → HasDone plan stimuli new mine' sent' taken' None 0
   done-on calls mail = record {

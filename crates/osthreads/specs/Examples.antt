@@ -1,9 +1,8 @@
 -- The configuration of the tests and their stimuli, as data. [own]
-use Rattle.std.specs.Prelude.{Bool, true, false, if◌then◌else◌, Option, Some, List, [], ◌∷◌, ℕ, codes, pos}
+use Rattle.std.specs.Prelude.{Bool, true, false, if◌then◌else◌, Some, List, [], ◌∷◌, ℕ, codes, pos}
 use Rattle.osbase.specs.declared.references.CoreId.{CoreId}
 use Rattle.osbase.specs.declared.references.ModeId.{ModeId}
 use Rattle.osbase.specs.declared.references.TaskRef.{TaskRef}
-use Rattle.osbase.specs.declared.references.Variable.{Variable}
 use Rattle.osbase.specs.declared.items.CoreMode.{CoreMode}
 use Rattle.osbase.specs.declared.items.Stimulus.{Stimulus}
 use Rattle.osbase.specs.declared.turns.CoreStimuli.{CoreStimuli}
@@ -11,6 +10,7 @@ use Rattle.oscript.specs.declared.Op.{Op}
 use Rattle.osplan.specs.declared.plans.Core.{Core}
 use Rattle.osplan.specs.declared.plans.Plan.{Plan}
 use Rattle.osplan.specs.declared.plans.Task.{Task}
+use Rattle.osplan.specs.declared.protection.Protection.{Protection}
 
 abbrev pub only_mode : ModeId
 only_mode = record { index = 0 }
@@ -23,7 +23,7 @@ nth_task core n = record { core = nth_core core; index = n }
 
 abbrev pub task_by : List ℕ → Bool → List Op → Task
 task_by name auto ops =
-    record { name = name; priority = 1; auto = (if auto then only_mode ∷ [] else []); activations = 1; extended = false; preemptable = true; script = ops }
+    record { name = name; priority = 1; auto = (if auto then only_mode ∷ [] else []); activations = 1; extended = false; preemptable = true; budget = 0; script = ops }
 
 -- A task that activates one of another core, and a task that this one may activate.
 abbrev pub callers_by : List ℕ → TaskRef → List ℕ → List Task
@@ -31,7 +31,7 @@ callers_by name other called = task_by name true (Op.ActivateTask (Some other) �
 
 abbrev pub core_by : CoreId → List CoreId → List Task → Core
 core_by id start tasks =
-    record { id = id; mode = CoreMode.Named only_mode; start = start; tasks = tasks; resources = []; isrs = []; counters = []; alarms = []; tables = [] }
+    record { id = id; mode = CoreMode.Named only_mode; start = start; protection = Protection.Shutdown; tasks = tasks; isrs = []; resources = []; counters = []; alarms = []; tables = [] }
 
 -- Cores 0 and 1 activate a task of each other, core 2 is separate, and nobody starts core 3.
 abbrev pub four_cores : Plan

@@ -1,6 +1,6 @@
 -- What the run of one core results in, and what the runs of all cores result in together. It is said of reports, of the board's calls
 -- and of the envelopes, and of no turns and no threads. [own]
-use Rattle.std.specs.Prelude.{◌≡◌, ℕ, List, [], ◌∷◌}
+use Rattle.std.specs.Prelude.{ℕ, List, [], ◌∷◌}
 use Rattle.std.specs.List.{AllByRecursion}
 use Rattle.osbase.specs.declared.references.CoreId.{CoreId}
 use Rattle.osbase.specs.declared.turns.CoreStimuli.{CoreStimuli}

@@ -9,7 +9,7 @@ use osbase::{
     Stimuli, Stimulus, TaskRef, Variable,
 };
 use oscript::Op;
-use osplan::{Config, Core, Plan, Task, cut};
+use osplan::{Config, Core, Plan, Protection, Task, cut};
 use std::alloc::{AllocError, Global};
 use std::sync::Wait;
 use std::sync::atomic::{AtomicU64, Ordering};
@@ -72,6 +72,7 @@ fn task(alloc: Global, name: &str, is_auto: bool, ops: &[Op]) -> Result<Task, Al
         activations: 1,
         extended: false,
         preemptable: true,
+        budget: 0,
         script: List::from_vec(ops.to_vec(alloc)?),
     })
 }
@@ -107,9 +108,10 @@ fn core(alloc: Global, id: CoreId, start: &[CoreId], tasks: List<Task>) -> Resul
         id,
         mode: CoreMode::Named(MODE),
         start: List::from_vec(start.to_vec(alloc)?),
+        protection: Protection::Shutdown,
         tasks,
-        resources: List::new(alloc),
         isrs: List::new(alloc),
+        resources: List::new(alloc),
         counters: List::new(alloc),
         alarms: List::new(alloc),
         tables: List::new(alloc),

@@ -37,11 +37,11 @@ use Rattle.oskernel.proofs.Stages.{is_mail}
 use Rattle.oskernel.proofs.Stepping.{alone_view, around_master}
 use Rattle.ostext.specs.Trace.{line_end, line_of, lines_of, title_of}
 use Rattle.ostext.proofs.Named.{lines-same}
-use Rattle.osturn.specs.Sound.{alone_block, alone_items, alone_report, ArePrintedAlone, IsAlone, own_agreement}
+use Rattle.osturn.specs.Sound.{alone_block, alone_items, alone_report, ArePrintedAlone, IsAlone, own_agreement, until_down}
 use Rattle.osboard.specs.Boards.{with_core}
 use Rattle.osturn.specs.Asking.{Calls}
 use Rattle.osturn.specs.Fits.{Fits, FitsBy, IsBeginning, has_drained, history_by, items_of}
-use Rattle.osturn.proofs.Ahead.{boot_items, Goes, goes-alone, solo-alone}
+use Rattle.osturn.proofs.Ahead.{boot_items, Goes, goes-alone, live_items, solo-alone}
 use Rattle.osturn.proofs.Beginnings.{begins-all_pass, begins-flat_map}
 use Rattle.osturn.proofs.Mailed.{is_reply, posts-replies, takes-no-mail}
 use Rattle.osturn.proofs.Members.{has_core-more, nobody-there, only-own}
@@ -138,6 +138,10 @@ module _ (plan : Plan) (stimuli : List CoreStimuli) (lists : List (CoreId × Lis
     in_mode : v.own.mode ≡ Named m
     in_mode = ap (λ (o : Option Core). (unwrap_or o (no_core id)).mode) found ∙ mode
 
+    -- What it sees alone.
+    abbrev self : View
+    self = alone_view v (id ∷ [])
+
     abbrev Trace : View → List Item → List Mark
     Trace view items = marks_of (history_from view [] items)
 
@@ -159,14 +163,20 @@ module _ (plan : Plan) (stimuli : List CoreStimuli) (lists : List (CoreId × Lis
     abbrev listed : List Stimulus
     listed = stimuli_of stimuli id
 
-    items_alone : alone_items plan stimuli id ≡ boot_items m (only id) listed
-    items_alone = ap (λ (k : CoreMode). Item.Entered ∷ Item.Pass1 (own_agreement k) ∷ Item.Readied ∷ Item.Pass2 (only id) ∷ map Item.Stim listed ++ Item.Drained ∷ []) in_mode
+    abbrev gates_by : CoreMode → List Item
+    gates_by k = Item.Entered ∷ Item.Pass1 (own_agreement k) ∷ Item.Readied ∷ Item.Pass2 (only id) ∷ []
 
-    goes : Goes v (alone_view v (id ∷ [])) [] [] (items_of lists id) (boot_items m (only id) listed)
+    abbrev items_by : View → CoreMode → List Item
+    items_by view k = gates_by k ++ live_items (until_down view (history_from view [] (gates_by k)) listed)
+
+    items_alone : alone_items plan stimuli id ≡ boot_items self m (only id) listed
+    items_alone = ap (λ (view : View). items_by view v.own.mode) view_alone ∙ ap (items_by self) in_mode
+
+    goes : Goes v self [] [] (items_of lists id) (boot_items self m (only id) listed)
     goes = goes-alone v (id ∷ []) allowed m in_mode no_start (only id) (only-own id low) (items_of lists id) listed
         (record { each = (fits.cores id).alone; no_mail = no_mail; agreed = no_conflict }) ((fits.cores id).begins, (fits.cores id).drains)
 
-    takes_alone : solo (alone_view v (id ∷ [])) (boot_items m (only id) listed) ≡ Some (history_from (alone_view v (id ∷ [])) [] (boot_items m (only id) listed))
+    takes_alone : solo self (boot_items self m (only id) listed) ≡ Some (history_from self [] (boot_items self m (only id) listed))
     takes_alone =
         let few = known.few id in
         solo-alone v (id ∷ []) allowed m in_mode no_start (only id) (only-own id low) (only-known v low) listed (known.there id) (omega arith)
@@ -178,14 +188,14 @@ module _ (plan : Plan) (stimuli : List CoreStimuli) (lists : List (CoreId × Lis
     lines_alone : lines_of plan marks ≡ lines_of (cut_of plan id) marks
     lines_alone =
         lines-same plan (cut_of plan id) (is_own v) core_alone marks
-        (inward-items v allowed own_self (items_of lists id) [] no_mail (record { own = refl; calm = record { closed = refl; empty = refl } })).own
+        (inward-items v allowed own_self (items_of lists id) [] (fits.cores id).alone no_mail (record { own = refl; calm = record { closed = refl; empty = refl } })).own
 
     begins_alone : IsBeginning marks (alone_report plan stimuli id).marks
     begins_alone = subst (λ (view : View). IsBeginning marks (Trace view (alone_items plan stimuli id))) (sym view_alone)
-        (subst (λ (items : List Item). IsBeginning marks (Trace (alone_view v (id ∷ [])) items)) (sym items_alone) goes.0)
+        (subst (λ (items : List Item). IsBeginning marks (Trace self items)) (sym items_alone) goes.0)
 
     whole_alone : has_drained (items_of lists id) ≡ true → marks ≡ (alone_report plan stimuli id).marks
-    whole_alone drained = goes.1 drained ∙ ap (Trace (alone_view v (id ∷ []))) (sym items_alone) ∙ ap (λ (view : View). Trace view (alone_items plan stimuli id)) (sym view_alone)
+    whole_alone drained = goes.1 drained ∙ ap (Trace self) (sym items_alone) ∙ ap (λ (view : View). Trace view (alone_items plan stimuli id)) (sym view_alone)
 
     is_alone : IsAlone plan stimuli id (items_of lists id)
     is_alone = record {
@@ -195,7 +205,7 @@ module _ (plan : Plan) (stimuli : List CoreStimuli) (lists : List (CoreId × Lis
           (begins-flat_map (λ (m : Mark). line_of (cut_of plan id) m ++ line_end) (title_of id ++ line_end) marks _ begins_alone);
       block_whole = λ drained. ap (λ (lines : List ℕ). (title_of id ++ line_end) ++ lines) (lines_alone ∙ ap (lines_of (cut_of plan id)) (whole_alone drained));
       alone = subst (λ (view : View). solo view (alone_items plan stimuli id) ≡ Some (history_from view [] (alone_items plan stimuli id))) (sym view_alone)
-          (subst (λ (items : List Item). solo (alone_view v (id ∷ [])) items ≡ Some (history_from (alone_view v (id ∷ [])) [] items)) (sym items_alone) takes_alone);
+          (subst (λ (items : List Item). solo self items ≡ Some (history_from self [] items)) (sym items_alone) takes_alone);
     }
 
 -- Where the items of all cores fit, each separate core is alone.

@@ -3,6 +3,7 @@ pub mod Members
 pub mod Sizes
 pub mod Configured
 pub mod Leading
+pub mod Going
 pub mod Asked
 pub mod Streams
 pub mod Longer

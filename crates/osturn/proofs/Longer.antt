@@ -4,8 +4,10 @@ use Rattle.std.specs.List.{slice_get}
 use Rattle.osbase.specs.declared.references.CoreId.{CoreId}
 use Rattle.osbase.specs.declared.items.Item.{Item}
 use Rattle.osbase.specs.declared.items.Stimulus.{Stimulus}
+use Rattle.osbase.specs.declared.histories.Course.{Course}
 use Rattle.osbase.specs.declared.turns.CoreStimuli.{CoreStimuli}
-use Rattle.osbase.specs.History.{History}
+use Rattle.osbase.specs.History.{History, course_of}
+use Rattle.osbase.specs.Phases.{is_going}
 use Rattle.osbase.specs.Runs.{stimuli_of}
 use Rattle.osplan.specs.declared.plans.Plan.{Plan}
 use Rattle.osplan.specs.View.{View, view_of}
@@ -15,6 +17,7 @@ use Rattle.osturn.specs.Fits.{has_drained, is_drain, stimuli_in, FitsCore, IsBeg
 use Rattle.std.proofs.lemmas.Bool.{false≢true}
 use Rattle.std.proofs.lemmas.Option.{slice_get_past}
 use Rattle.osturn.proofs.Beginnings.{begins-next, begins-whole}
+use Rattle.osturn.proofs.Going.{going-before}
 
 -- The items in order.
 pub history_from-push : (v : View) (h : History) (items : List Item) (item : Item) → history_from v h (items ++ item ∷ []) ≡ after v (history_from v h items) item
@@ -59,55 +62,63 @@ solo-push v h (i ∷ items) item so_far taken = by (takes outbox_size v h i) so_
     by true e rest = rest e
     by false e rest = cc
 
--- What an item says of the stimuli of the core that takes it: that it is the next one, or that there is none.
-abbrev pub IsInTurn : List Stimulus → List Item → Item → Type 0
-IsInTurn listed past (Item.Stim s) = slice_get listed (length (stimuli_in past)) ≡ Some s
-IsInTurn listed past Item.Drained = slice_get listed (length (stimuli_in past)) ≡ None
-IsInTurn listed past item = Unit {0}
+-- What an item says of the stimuli of the core that takes it: that it is the next one, or that there is none, unless the core is
+-- down.
+abbrev pub IsInTurn : List Stimulus → Course → List Item → Item → Type 0
+IsInTurn listed course past (Item.Stim s) = slice_get listed (length (stimuli_in past)) ≡ Some s
+IsInTurn listed course past Item.Drained = is_going course ≡ true → slice_get listed (length (stimuli_in past)) ≡ None
+IsInTurn listed course past item = Unit {0}
 
 -- A core's items, and one more that is in turn.
 module _ (plan : Plan) (stimuli : List CoreStimuli) (core : CoreId) (past : List Item) (fits : FitsCore plan stimuli core past) where
   abbrev listed_stimuli : List Stimulus
   listed_stimuli = stimuli_of stimuli core
 
+  abbrev IsGoing : Type 0
+  IsGoing = is_going (course_of (history_by plan core past)) ≡ true
+
   abbrev BeginsOn : Item → Type 0
-  BeginsOn item = IsBeginning (stimuli_in past ++ stimuli_in (item ∷ [])) listed_stimuli × ((has_drained past || is_drain item) ≡ true → stimuli_in past ++ stimuli_in (item ∷ []) ≡ listed_stimuli)
+  BeginsOn item = IsBeginning (stimuli_in past ++ stimuli_in (item ∷ [])) listed_stimuli × ((has_drained past || is_drain item) ≡ true → IsGoing → stimuli_in past ++ stimuli_in (item ∷ []) ≡ listed_stimuli)
 
   by_stimulus : (s : Stimulus) → slice_get listed_stimuli (length (stimuli_in past)) ≡ Some s → BeginsOn (Item.Stim s)
-  by_stimulus s next = (begins-next (stimuli_in past) listed_stimuli s fits.begins next, λ drained. none_left (has_drained past) refl drained)
+  by_stimulus s next = (begins-next (stimuli_in past) listed_stimuli s fits.begins next, λ drained going. none_left going (has_drained past) refl drained)
     where
-      none_left : (b : Bool) → has_drained past ≡ b → (b || false) ≡ true → stimuli_in past ++ s ∷ [] ≡ listed_stimuli
-      none_left true e drained =
-          let whole : stimuli_in past ≡ listed_stimuli = fits.drains e in
+      none_left : IsGoing → (b : Bool) → has_drained past ≡ b → (b || false) ≡ true → stimuli_in past ++ s ∷ [] ≡ listed_stimuli
+      none_left going true e drained =
+          let whole : stimuli_in past ≡ listed_stimuli = fits.drains e going in
           let clash : None ≡ Some s = sym (slice_get_past listed_stimuli (length listed_stimuli) (omega arith)) ∙ ap (λ (xs : List Stimulus). slice_get listed_stimuli (length xs)) (sym whole) ∙ next in
           cc
-      none_left false e drained = absurd (false≢true drained)
+      none_left going false e drained = absurd (false≢true drained)
 
-  by_drain : slice_get listed_stimuli (length (stimuli_in past)) ≡ None → BeginsOn Item.Drained
-  by_drain none =
-      let whole : stimuli_in past ≡ listed_stimuli = begins-whole (stimuli_in past) listed_stimuli fits.begins none in
-      (([], append-nil (stimuli_in past ++ []) ∙ append-nil (stimuli_in past) ∙ whole), λ drained. append-nil (stimuli_in past) ∙ whole)
+  -- an item that is no stimulus adds none
+  as_before : (item : Item) → stimuli_in (item ∷ []) ≡ [] → IsBeginning (stimuli_in past ++ stimuli_in (item ∷ [])) listed_stimuli
+  as_before item none =
+      subst (λ (xs : List Stimulus). IsBeginning (stimuli_in past ++ xs) listed_stimuli) (sym none) (subst (λ (xs : List Stimulus). IsBeginning xs listed_stimuli) (sym (append-nil (stimuli_in past))) fits.begins)
+
+  by_drain : (IsGoing → slice_get listed_stimuli (length (stimuli_in past)) ≡ None) → BeginsOn Item.Drained
+  by_drain none = (as_before Item.Drained refl, λ drained going. append-nil (stimuli_in past) ∙ begins-whole (stimuli_in past) listed_stimuli fits.begins (none going))
 
   plainly : (item : Item) → stimuli_in (item ∷ []) ≡ [] → is_drain item ≡ false → BeginsOn item
   plainly item none no_drain = (
-    subst (λ (xs : List Stimulus). IsBeginning (stimuli_in past ++ xs) listed_stimuli) (sym none) (subst (λ (xs : List Stimulus). IsBeginning xs listed_stimuli) (sym (append-nil (stimuli_in past))) fits.begins),
-    λ drained. ap (λ (xs : List Stimulus). stimuli_in past ++ xs) none ∙ append-nil (stimuli_in past) ∙ before (has_drained past) refl (subst (λ (b : Bool). (has_drained past || b) ≡ true) no_drain drained),
+    as_before item none,
+    λ drained going. ap (λ (xs : List Stimulus). stimuli_in past ++ xs) none ∙ append-nil (stimuli_in past) ∙ before going (has_drained past) refl (subst (λ (b : Bool). (has_drained past || b) ≡ true) no_drain drained),
   )
     where
-      before : (b : Bool) → has_drained past ≡ b → (b || false) ≡ true → stimuli_in past ≡ listed_stimuli
-      before true e drained = fits.drains e
-      before false e drained = absurd (false≢true drained)
+      before : IsGoing → (b : Bool) → has_drained past ≡ b → (b || false) ≡ true → stimuli_in past ≡ listed_stimuli
+      before going true e drained = fits.drains e going
+      before going false e drained = absurd (false≢true drained)
 
-  begins_on : (item : Item) → IsInTurn listed_stimuli past item → BeginsOn item
+  begins_on : (item : Item) → IsInTurn listed_stimuli (course_of (history_by plan core past)) past item → BeginsOn item
   begins_on (Item.Stim s) next = by_stimulus s next
   begins_on Item.Drained next = by_drain next
   begins_on item next = plainly item refl refl
 
-  pub core-on : (item : Item) → IsInTurn listed_stimuli past item → takes outbox_size (view_of plan core) (history_by plan core past) item ≡ true → FitsCore plan stimuli core (past ++ item ∷ [])
+  pub core-on : (item : Item) → IsInTurn listed_stimuli (course_of (history_by plan core past)) past item → takes outbox_size (view_of plan core) (history_by plan core past) item ≡ true → FitsCore plan stimuli core (past ++ item ∷ [])
   core-on item next taken =
       let on = begins_on item next in
       record {
         alone = solo-push (view_of plan core) [] past item fits.alone taken ∙ ap Some (sym (history_from-push (view_of plan core) [] past item));
         begins = subst (λ (xs : List Stimulus). IsBeginning xs listed_stimuli) (sym (stimuli_in-push past item)) on.0;
-        drains = λ drained. stimuli_in-push past item ∙ on.1 (sym (has_drained-push past item) ∙ drained);
+        drains = λ drained going. stimuli_in-push past item ∙ on.1 (sym (has_drained-push past item) ∙ drained)
+            (going-before (view_of plan core) (history_by plan core past) item (subst (λ (h : History). is_going (course_of h) ≡ true) (history_from-push (view_of plan core) [] past item) going));
       }

@@ -11,8 +11,9 @@ use Rattle.osbase.specs.declared.references.ModeId.{ModeId}
 use Rattle.osbase.specs.declared.items.Agreement.{Agreement}
 use Rattle.osbase.specs.declared.items.Item.{Item}
 use Rattle.osbase.specs.declared.items.Stimulus.{Stimulus}
+use Rattle.osbase.specs.declared.histories.Course.{Course}
 use Rattle.osbase.specs.declared.histories.Phase.{Phase}
-use Rattle.osbase.specs.History.{History, began_count, no_cores, phase_of, same_core}
+use Rattle.osbase.specs.History.{History, began_count, course_of, no_cores, phase_of, same_core}
 use Rattle.osbase.specs.Sets.{has_core}
 use Rattle.osbase.proofs.Same.{same_core-true, same_core-refl}
 use Rattle.osplan.specs.declared.plans.Plan.{Plan}
@@ -223,7 +224,7 @@ module _ (plan : Plan) (m : ModeId) where
       }
 
       -- The call of a turn whose item may be taken keeps the board sane.
-      keeps : (call : BoardCall) (reply : BoardReply) (i : Item) (next : Option Stimulus) → IsOwnAsk v next (Some (OfBoard call)) → replied core (watch_of v h) call reply ≡ Some i → admits outbox_size (state_of v h) i ≡ true → (b : BoardState) → Sane b → Sane (board_after core call b)
+      keeps : (call : BoardCall) (reply : BoardReply) (i : Item) (next : Option Stimulus) → IsOwnAsk v (course_of h) next (Some (OfBoard call)) → replied core (watch_of v h) call reply ≡ Some i → admits outbox_size (state_of v h) i ≡ true → (b : BoardState) → Sane b → Sane (board_after core call b)
       keeps (Start k) (Started status) i next own e taken = start-keeps k (starts k status own (subst (λ (j : Item). admits outbox_size (state_of v h) j ≡ true) (sym (same_Some _ _ e)) taken))
       keeps (Start k) reply i next own e taken = cc
       keeps (Enter mode) Acknowledged i next own e taken = λ b sane. record {
@@ -253,7 +254,7 @@ module _ (plan : Plan) (m : ModeId) where
 
         by : (ask : Ask) (answer : Answer) → Leads v h ask answer i → (IfOn (after v h i) → Relies one_board Sane core all.3.board) → Relies one_board Sane core ((told_by core ask answer).board ++ all.3.board)
         by (OfBoard call) (Replied reply) leads later = (
-          keeps h if_on call reply i leads.next (subst (IsOwnAsk v leads.next) leads.asks (asks-own v _ _ leads.next leads.choice)) leads.names turn.0,
+          keeps h if_on call reply i leads.next (subst (IsOwnAsk v (course_of h) leads.next) leads.asks (asks-own v (state_of v h) leads.next leads.choice)) leads.names turn.0,
           λ sees. later (on-later (λ off. turned-on sees off)),
         )
           where
@@ -290,20 +291,20 @@ module _ (plan : Plan) (m : ModeId) where
     abbrev Heard : Watch → Item → Ask → Answer → Type 0
     Heard watch i ask answer = (halt : Option (CoreId × Status)) × (ask ≡ OfBoard LookHalt) × (answer ≡ Replied (Halting halt)) × (halted watch halt ≡ Some i)
 
-    heard : (next : Option Stimulus) (watch : Watch) (ask : Ask) (answer : Answer) (i : Item) → IsOwnAsk v next (Some ask) → named_by core watch ask answer ≡ Some i → is_halting i ≡ true → Heard watch i ask answer
-    heard next watch (OfBoard LookHalt) (Replied (Halting halt)) i own e halts = (halt, refl, refl, e)
-    heard next watch (OfBoard Look) (Replied (Shown b)) i own e halts = absurd (both_ways (is_halting i) (passing-item (λ j. is_halting j ≡ false) refl (λ agreement. refl) (λ cores. refl) refl core b watch i e) halts)
-    heard next watch (OfBoard (AskHalt status)) answer i own e halts = absurd own
-    heard next watch (OfBoard (Start k)) (Replied (Started status)) i own e halts = unlike is_halting _ i e refl halts
-    heard next watch (OfBoard (Enter mode)) (Replied Acknowledged) i own e halts = unlike is_halting _ i e refl halts
-    heard next watch (OfBoard MakeReady) (Replied Acknowledged) i own e halts = unlike is_halting _ i e refl halts
-    heard next watch (OfBoard Drain) (Replied Acknowledged) i own e halts = unlike is_halting _ i e refl halts
-    heard next watch (OfSpins wish) (Spun reply) i own e halts = absurd (both_ways (is_halting i) (spun-item (λ j. is_halting j ≡ false) (λ l. refl) (λ l taken. refl) (λ l. refl) wish reply i e) halts)
-    heard next watch (Room to) (HasRoom true) i own e halts = unlike is_halting _ i e refl halts
-    heard next watch (Oldest from) (Found (Some x)) i own e halts = unlike is_halting _ i e refl halts
-    heard next watch (StartUnknown k) Unasked i own e halts = unlike is_halting _ i e refl halts
-    heard next watch (TakeStimulus s) Unasked i own e halts = unlike is_halting _ i e refl halts
-    heard next watch ask answer i own e halts = cc
+    heard : (course : Course) (next : Option Stimulus) (watch : Watch) (ask : Ask) (answer : Answer) (i : Item) → IsOwnAsk v course next (Some ask) → named_by core watch ask answer ≡ Some i → is_halting i ≡ true → Heard watch i ask answer
+    heard course next watch (OfBoard LookHalt) (Replied (Halting halt)) i own e halts = (halt, refl, refl, e)
+    heard course next watch (OfBoard Look) (Replied (Shown b)) i own e halts = absurd (both_ways (is_halting i) (passing-item (λ j. is_halting j ≡ false) refl (λ agreement. refl) (λ cores. refl) refl core b watch i e) halts)
+    heard course next watch (OfBoard (AskHalt status)) answer i own e halts = absurd own
+    heard course next watch (OfBoard (Start k)) (Replied (Started status)) i own e halts = unlike is_halting _ i e refl halts
+    heard course next watch (OfBoard (Enter mode)) (Replied Acknowledged) i own e halts = unlike is_halting _ i e refl halts
+    heard course next watch (OfBoard MakeReady) (Replied Acknowledged) i own e halts = unlike is_halting _ i e refl halts
+    heard course next watch (OfBoard Drain) (Replied Acknowledged) i own e halts = unlike is_halting _ i e refl halts
+    heard course next watch (OfSpins wish) (Spun reply) i own e halts = absurd (both_ways (is_halting i) (spun-item (λ j. is_halting j ≡ false) (λ l. refl) (λ l taken. refl) (λ l. refl) wish reply i e) halts)
+    heard course next watch (Room to) (HasRoom true) i own e halts = unlike is_halting _ i e refl halts
+    heard course next watch (Oldest from) (Found (Some x)) i own e halts = unlike is_halting _ i e refl halts
+    heard course next watch (StartUnknown k) Unasked i own e halts = unlike is_halting _ i e refl halts
+    heard course next watch (TakeStimulus s) Unasked i own e halts = unlike is_halting _ i e refl halts
+    heard course next watch ask answer i own e halts = cc
 
     -- And it tells of one.
     halting-told : (watch : Watch) (halt : Option (CoreId × Status)) (i : Item) → halted watch halt ≡ Some i → is_halting i ≡ true → is_some halt ≡ true
@@ -314,13 +315,13 @@ module _ (plan : Plan) (m : ModeId) where
     told-as : (halt : Option (CoreId × Status)) (s : BoardState) → Halting halt ≡ board_reply core LookHalt s → halt ≡ s.halt
     told-as halt s e = cc
 
-    quiet-item : (next : Option Stimulus) (watch : Watch) (i : Item) (ask : Ask) (answer : Answer) → IsOwnAsk v next (Some ask) → named_by core watch ask answer ≡ Some i → Seen ask answer → is_halting i ≡ false
-    quiet-item next watch i ask answer own e seen = by (is_halting i) refl
+    quiet-item : (course : Course) (next : Option Stimulus) (watch : Watch) (i : Item) (ask : Ask) (answer : Answer) → IsOwnAsk v course next (Some ask) → named_by core watch ask answer ≡ Some i → Seen ask answer → is_halting i ≡ false
+    quiet-item course next watch i ask answer own e seen = by (is_halting i) refl
       where
         by : (b : Bool) → is_halting i ≡ b → b ≡ false
         by false halts = refl
         by true halts =
-            let look = heard next watch ask answer i own e halts in
+            let look = heard course next watch ask answer i own e halts in
             let sees = seen LookHalt (Halting look.0) look.1 look.2 in
             absurd (false≢true (ap is_some (sym (told-as look.0 sees.state sees.answers ∙ sees.has.quiet)) ∙ halting-told watch look.0 i look.3 halts))
 
@@ -330,9 +331,9 @@ module _ (plan : Plan) (m : ModeId) where
     all-agreed (i ∷ is) h es all see =
         let parts = by all.0 all.1 all.2 (subst (λ (c : Calls). AllSee one_board Sane c.board) all.4 see) in
         let rest = all-agreed is (after v h i) all.3 all.5 parts.1 in
-        let own = subst (IsOwnAsk v all.2.next) all.2.asks (asks-own v _ _ all.2.next all.2.choice) in (
+        let own = subst (IsOwnAsk v (course_of h) all.2.next) all.2.asks (asks-own v (state_of v h) all.2.next all.2.choice) in (
           and_from _ _ (not_from_false (is_conflict i) (agreed-item (watch_of v h) i all.0 all.1 all.2.names parts.0)) rest.0,
-          and_from _ _ (not_from_false (is_halting i) (quiet-item all.2.next (watch_of v h) i all.0 all.1 own all.2.names parts.0)) rest.1,
+          and_from _ _ (not_from_false (is_halting i) (quiet-item (course_of h) all.2.next (watch_of v h) i all.0 all.1 own all.2.names parts.0)) rest.1,
         )
       where
         by : (ask : Ask) (answer : Answer) → Leads v h ask answer i → AllSee one_board Sane ((told_by core ask answer).board ++ all.3.board) → Seen ask answer × AllSee one_board Sane all.3.board

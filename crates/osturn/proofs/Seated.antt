@@ -24,7 +24,7 @@ use Rattle.osturn.proofs.Ending.{ended-by}
 -- A core that took nothing.
 pub seated-first : (plan : Plan) (stimuli : List CoreStimuli) (seat : Seat) (id : CoreId) → seat.id ≡ id → seat.kernel ≡ state_of (view_of plan id) [] → seat.stimuli.now ≡ stimuli_of stimuli id → seat.items.items ≡ [] → seat.marks.items ≡ [] → IsSeated plan stimuli seat
 seated-first plan stimuli seat id is_id is_kernel is_left no_items no_marks = record {
-  tracks = rw (is_id, no_items, no_marks) (record { stands = record { is = is_kernel }; added = []; behind = refl; shows = refl });
+  tracks = rw (is_id, no_items, no_marks) (record { stands = record { is = is_kernel; granted = refl }; added = []; behind = refl; shows = refl });
   alone = rw (is_id, no_items) refl;
   left = rw (is_id, no_items) is_left;
 }

@@ -47,6 +47,7 @@ own_asked v next Want.Enter = Some (OfBoard (Enter v.own.mode))
 own_asked v next Want.Ready = Some (OfBoard MakeReady)
 own_asked v next (Want.Post to) = Some (Room to)
 own_asked v next Want.GoOn = Some (going_on next)
+own_asked v next Want.Drain = Some (OfBoard Drain)
 own_asked v next Want.Nothing = None
 
 -- A look loads one word of the board: that of the shutdown of all cores, where it waits for one or for the end, and else

@@ -7,7 +7,8 @@ use Rattle.osbase.specs.declared.items.Item.{Item}
 use Rattle.osbase.specs.declared.items.Stimulus.{Stimulus}
 use Rattle.osbase.specs.declared.turns.Choice.{Choice}
 use Rattle.osbase.specs.declared.turns.CoreStimuli.{CoreStimuli}
-use Rattle.osbase.specs.History.{History, posted, received, same_core}
+use Rattle.osbase.specs.History.{History, course_of, posted, received, same_core}
+use Rattle.osbase.specs.Phases.{is_going}
 use Rattle.osbase.specs.Runs.{stimuli_of}
 use Rattle.osplan.specs.declared.plans.Plan.{Plan}
 use Rattle.osplan.specs.View.{View, core_of, view_of}
@@ -50,11 +51,12 @@ abbrev pub has_drained : List Item → Bool
 has_drained [] = false
 has_drained (item ∷ items) = is_drain item || has_drained items
 
--- A core's items: each in turn may be taken; its stimuli begin the listed ones, and are all of them once it has drained.
+-- A core's items: each in turn may be taken; its stimuli begin the listed ones, and are all of them once it has drained, unless it
+-- is down.
 pub record FitsCore (plan : Plan) (stimuli : List CoreStimuli) (id : CoreId) (items : List Item) : Type 0 where
   pub alone : solo (view_of plan id) items ≡ Some (history_by plan id items)
   pub begins : IsBeginning (stimuli_in items) (stimuli_of stimuli id)
-  pub drains : has_drained items ≡ true → stimuli_in items ≡ stimuli_of stimuli id
+  pub drains : has_drained items ≡ true → is_going (course_of (history_by plan id items)) ≡ true → stimuli_in items ≡ stimuli_of stimuli id
 
 -- A turn of the core asks this, and the answer leads to this item.
 pub record Leads (v : View) (h : History) (ask : Ask) (answer : Answer) (item : Item) : Type 0 where

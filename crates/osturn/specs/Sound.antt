@@ -1,20 +1,22 @@
 -- The promise about a run, said of what was given (configuration and listed stimuli) and of the reports, and of nothing
 -- else: whoever runs the cores, in turns or otherwise, can promise it.
-use Rattle.std.specs.Prelude.{◌≡◌, ℕ, Bool, true, false, IsTrue, Some, List, ◌∷◌, [], ◌++◌, map}
+use Rattle.std.specs.Prelude.{◌≡◌, ℕ, Bool, true, false, if◌then◌else◌, IsTrue, Some, List, ◌∷◌, [], ◌++◌, map}
 use Rattle.std.specs.List.{AllByRecursion}
 use Rattle.osbase.specs.declared.references.CoreId.{CoreId}
 use Rattle.osbase.specs.declared.items.Agreement.{Agreement}
 use Rattle.osbase.specs.declared.items.Item.{Item}
+use Rattle.osbase.specs.declared.items.Stimulus.{Stimulus}
 use Rattle.osbase.specs.declared.turns.CoreStimuli.{CoreStimuli}
 use Rattle.osbase.specs.declared.turns.Report.{Report}
-use Rattle.osbase.specs.History.{marks_of, no_cores}
+use Rattle.osbase.specs.History.{History, course_of, marks_of, no_cores}
+use Rattle.osbase.specs.Phases.{is_going}
 use Rattle.osbase.specs.Runs.{stimuli_of}
 use Rattle.osplan.specs.declared.plans.Plan.{Plan}
 use Rattle.osbase.specs.declared.items.CoreMode.{CoreMode}
 use Rattle.osbase.specs.declared.items.CoreMode.TheVariants.{Named, DontCare}
 use Rattle.osplan.specs.Separate.{cut_of, is_separate}
-use Rattle.osplan.specs.View.{view_of}
-use Rattle.oskernel.specs.Step.{solo}
+use Rattle.osplan.specs.View.{View, view_of}
+use Rattle.oskernel.specs.Step.{after, solo}
 use Rattle.ostext.specs.Trace.{block_of}
 use Rattle.osboard.specs.Boards.{with_core}
 use Rattle.osturn.specs.Fits.{Fits, IsBeginning, has_drained, history_by, ids_of, items_of}
@@ -54,12 +56,22 @@ abbrev pub own_agreement : CoreMode → Agreement
 own_agreement (Named m) = Agreement.Mode m
 own_agreement DontCare = Agreement.NoMode
 
--- What a core takes that runs by itself: each gate, with what it comes to for this core alone, its stimuli in
--- order, and that it has drained. [own]
+-- Each gate, with what it comes to for this core alone.
+abbrev pub gate_items : Plan → CoreId → List Item
+gate_items plan id = Item.Entered ∷ Item.Pass1 (own_agreement (view_of plan id).own.mode) ∷ Item.Readied ∷ Item.Pass2 (with_core id no_cores) ∷ []
+
+-- The stimuli that a core takes by itself from here on, one after the other: all of these, or those up to the first by which it goes
+-- down.
+abbrev pub until_down : View → History → List Stimulus → List Stimulus
+until_down v h [] = []
+until_down v h (s ∷ stimuli) = if is_going (course_of h) then s ∷ until_down v (after v h (Item.Stim s)) stimuli else []
+
+-- What a core takes that runs by itself: each gate, its stimuli in order up to the first by which it goes down, and that it has drained.
+-- [own]
 abbrev pub alone_items : Plan → List CoreStimuli → CoreId → List Item
 alone_items plan stimuli id =
-    Item.Entered ∷ Item.Pass1 (own_agreement (view_of plan id).own.mode) ∷ Item.Readied ∷ Item.Pass2 (with_core id no_cores)
-    ∷ map Item.Stim (stimuli_of stimuli id) ++ Item.Drained ∷ []
+    gate_items plan id
+    ++ map Item.Stim (until_down (view_of (cut_of plan id) id) (history_by (cut_of plan id) id (gate_items plan id)) (stimuli_of stimuli id)) ++ Item.Drained ∷ []
 
 -- What they come to by the core's own configuration, and the text of it, with the names of that configuration. [own]
 abbrev pub alone_report : Plan → List CoreStimuli → CoreId → Report

@@ -82,6 +82,7 @@ pub fn own_asked(plan: &Plan, id: CoreId, want: Want, next: Option<Stimulus>) ->
         Want::Ready => Some(Ask::OfBoard(BoardCall::MakeReady)),
         Want::Post(to) => Some(Ask::Room(to)),
         Want::GoOn => Some(going_on(next)),
+        Want::Drain => Some(Ask::OfBoard(BoardCall::Drain)),
         Want::Nothing => None,
     }
 }

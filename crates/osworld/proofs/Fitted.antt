@@ -7,10 +7,11 @@ use Rattle.osbase.specs.declared.messages.Envelope.{Envelope}
 use Rattle.osbase.specs.declared.items.Item.{Item}
 use Rattle.osbase.specs.declared.turns.Choice.{Choice}
 use Rattle.osbase.specs.declared.turns.CoreStimuli.{CoreStimuli}
-use Rattle.osbase.specs.History.{History, front_envelope, outbox, posted, received, received_count, same_core, envelope_with}
+use Rattle.osbase.specs.History.{History, course_of, front_envelope, outbox, posted, received, received_count, same_core, envelope_with}
 use Rattle.osbase.specs.Runs.{stimuli_of}
 use Rattle.osplan.specs.declared.plans.Plan.{Plan}
 use Rattle.osplan.specs.View.{view_of}
+use Rattle.osstate.specs.State.{state_of}
 use Rattle.osplan.proofs.Starting.{and-true}
 use Rattle.osbase.proofs.Same.{same_core-true}
 use Rattle.osseat.specs.Histories.{IsLegal, entry}
@@ -45,9 +46,9 @@ next-envelope plan stimuli w core from (Item.Received f number m) is next =
 next-envelope plan stimuli w core from i is next = absurd (false≢true is)
 
 -- an item that a turn names is in turn
-in-turn : (plan : Plan) (stimuli : List CoreStimuli) (w : World) (core : CoreId) (item : Item) → IsNext plan stimuli w core item → IsInTurn (stimuli_of stimuli core) (items_in w core) item
+in-turn : (plan : Plan) (stimuli : List CoreStimuli) (w : World) (core : CoreId) (item : Item) → IsNext plan stimuli w core item → IsInTurn (stimuli_of stimuli core) (course_of (history_in plan w core)) (items_in w core) item
 in-turn plan stimuli w core (Item.Stim s) next = ap (slice_get (stimuli_of stimuli core)) (length-stimuli_in (items_in w core)) ∙ next
-in-turn plan stimuli w core Item.Drained next = ap (slice_get (stimuli_of stimuli core)) (length-stimuli_in (items_in w core)) ∙ next
+in-turn plan stimuli w core Item.Drained next = λ going. ap (slice_get (stimuli_of stimuli core)) (length-stimuli_in (items_in w core)) ∙ next going
 in-turn plan stimuli w core item next = tt
 
 -- a world in which a turn appended an item
@@ -56,7 +57,8 @@ module _ (plan : Plan) (stimuli : List CoreStimuli) (w : World) (fits : WorldFit
   next = appends plan w core ask item
 
   follows-on : IsNext plan stimuli w core item
-  follows-on = follows plan stimuli w core _ ask item (subst (IsOwnAsk (view_of plan core) (next_stimulus stimuli w core)) turn.asks (asks-own (view_of plan core) _ _ _ turn.choice)) turn.names
+  follows-on = follows plan stimuli w core _ ask item
+      (subst (IsOwnAsk (view_of plan core) (course_of (history_in plan w core)) (next_stimulus stimuli w core)) turn.asks (asks-own (view_of plan core) (state_of (view_of plan core) (history_in plan w core)) _ turn.choice)) turn.names
 
   items-same : items_in next core ≡ items_in w core ++ item ∷ []
   items-same = ap items_by (list_of-same core item w.items p turn.listed) ∙ ap (λ (o : Option (CoreId × List Item)). items_by o ++ item ∷ []) (sym turn.listed)
@@ -140,7 +142,7 @@ module _ (plan : Plan) (stimuli : List CoreStimuli) (w : World) (fits : WorldFit
 
 first-fits : (plan : Plan) (stimuli : List CoreStimuli) → WorldFits plan stimuli (first_world plan)
 first-fits plan stimuli = record {
-  cores = λ id. subst (FitsCore plan stimuli id) (sym (nothing_of plan id (ids_of plan))) (record { alone = refl; begins = (stimuli_of stimuli id, refl); drains = λ drained. absurd (false≢true drained) });
+  cores = λ id. subst (FitsCore plan stimuli id) (sym (nothing_of plan id (ids_of plan))) (record { alone = refl; begins = (stimuli_of stimuli id, refl); drains = λ drained going. absurd (false≢true drained) });
   streams = λ from to. subst (λ (h : History). IsBeginning (received from h) (posted to (history_in plan (first_world plan) from))) (sym (no_history plan to)) (posted to (history_in plan (first_world plan) from), refl);
   board = tt;
   spins = tt;

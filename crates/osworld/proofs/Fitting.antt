@@ -5,7 +5,8 @@ use Rattle.osbase.specs.declared.references.CoreId.{CoreId}
 use Rattle.osbase.specs.declared.messages.Envelope.{Envelope}
 use Rattle.osbase.specs.declared.items.Item.{Item}
 use Rattle.osbase.specs.declared.turns.CoreStimuli.{CoreStimuli}
-use Rattle.osbase.specs.History.{posted, received_count, envelope_with}
+use Rattle.osbase.specs.History.{course_of, posted, received_count, envelope_with}
+use Rattle.osbase.specs.Phases.{is_going}
 use Rattle.osbase.specs.Runs.{stimuli_of}
 use Rattle.osplan.specs.declared.plans.Plan.{Plan}
 use Rattle.osplan.specs.View.{view_of}
@@ -24,7 +25,7 @@ use Rattle.osturn.proofs.Leading.{halted-item, is-item, passing-item, spun-item}
 -- What is known of an item that a turn of this core names.
 abbrev pub IsNext : Plan → List CoreStimuli → World → CoreId → Item → Type 0
 IsNext plan stimuli w id (Item.Stim s) = slice_get (stimuli_of stimuli id) (stimulus_count (items_in w id)) ≡ Some s
-IsNext plan stimuli w id Item.Drained = slice_get (stimuli_of stimuli id) (stimulus_count (items_in w id)) ≡ None
+IsNext plan stimuli w id Item.Drained = is_going (course_of (history_in plan w id)) ≡ true → slice_get (stimuli_of stimuli id) (stimulus_count (items_in w id)) ≡ None
 IsNext plan stimuli w id (Item.Received from number m) = slice_get (posted id (history_in plan w from)) (received_count from (history_in plan w id)) ≡ Some (envelope_with number m)
 IsNext plan stimuli w id item = Unit {0}
 
@@ -32,7 +33,7 @@ module _ (plan : Plan) (stimuli : List CoreStimuli) (w : World) (id : CoreId) wh
   is : (j i : Item) → Some j ≡ Some i → IsNext plan stimuli w id j → IsNext plan stimuli w id i
   is j i e next = is-item (IsNext plan stimuli w id) j i next e
 
-  pub follows : (watch : Watch) (ask : Ask) (i : Item) → IsOwnAsk (view_of plan id) (next_stimulus stimuli w id) (Some ask) → named_by id watch ask (answer_in plan w id ask) ≡ Some i → IsNext plan stimuli w id i
+  pub follows : (watch : Watch) (ask : Ask) (i : Item) → IsOwnAsk (view_of plan id) (course_of (history_in plan w id)) (next_stimulus stimuli w id) (Some ask) → named_by id watch ask (answer_in plan w id ask) ≡ Some i → IsNext plan stimuli w id i
   follows watch (OfBoard Look) i own e = passing-item (IsNext plan stimuli w id) tt (λ agreement. tt) (λ cores. tt) tt id (board_in plan w).view watch i e
   follows watch (OfBoard Drain) i own e = is Item.Drained i e own
   follows watch (OfBoard LookHalt) i own e = halted-item (IsNext plan stimuli w id) (λ asked. tt) (λ core status. tt) watch (board_in plan w).halt i e

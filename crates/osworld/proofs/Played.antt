@@ -103,7 +103,9 @@ module _ (old run new : Run) (same : run.config ≡ old.config) (turns more : Tu
   stops-on later stops stimuli w plays = record {
     before = length turns + cut.before;
     within = let lt = cut.within in let all = length-append turns (more ++ later) in let rest = length-append more later in omega (arith, lt, all, rest);
-    appends = rw (add-assoc, there cut.before (le-of cut.within), there (cut.before + 1) (next-of cut.within)) cut.appends;
+    appends = ap (λ (v : World). is_unchanged v (along ((length turns + cut.before) + 1))) (there cut.before (le-of cut.within))
+        ∙ ap (is_unchanged (world_from old.config.now stimuli here (take cut.before more))) (ap along add-assoc ∙ there (cut.before + 1) (next-of cut.within))
+        ∙ cut.appends;
     plays = rw (there cut.before (le-of cut.within)) cut.plays;
   }
     where
@@ -122,7 +124,10 @@ module _ (old run new : Run) (same : run.config ≡ old.config) (turns more : Tu
       add-assoc : (length turns + cut.before) + 1 ≡ length turns + (cut.before + 1)
       add-assoc = omega arith
 
-      there : (n : ℕ) → n ≤ length more → world_from old.config.now stimuli w (take (length turns + n) (turns ++ (more ++ later))) ≡ world_from old.config.now stimuli here (take n more)
+      along : ℕ → World
+      along n = world_from old.config.now stimuli w (take n (turns ++ (more ++ later)))
+
+      there : (n : ℕ) → n ≤ length more → along (length turns + n) ≡ world_from old.config.now stimuli here (take n more)
       there n le =
           ap (world_from old.config.now stimuli w) (take-append-add turns (more ++ later) n ∙ ap (λ (ts : Turns). turns ++ ts) (take-append-le n more later le))
           ∙ world_from-append old.config.now stimuli w turns (take n more)

@@ -17,7 +17,8 @@ use thiserror::Error;
 /// Why there is no run, or only its beginning.
 #[derive(Debug, Drop, Error)]
 pub enum RunFault {
-    /// Memory was refused for the cores' seats, the mailboxes, the reports or a round: there is nothing to report.
+    /// No turn was played, and there is nothing to report: memory was refused for the cores' seats, the mailboxes, the reports or
+    /// a round.
     #[error("out of memory")]
     NotBegun,
     /// A growth was refused before the turn that needed it. The reports are those of the turns before.

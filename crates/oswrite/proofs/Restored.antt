@@ -7,25 +7,29 @@ use Rattle.std.proofs.lemmas.Slice.Eq.{bytes_eq-Decides}
 use Rattle.serde_json.specs.Data.{Data}
 use Rattle.serde_json.specs.View.{items_of}
 use Rattle.osbase.specs.Objects.{counter_object, counter_place, object_of_call}
-use Rattle.oscheck.specs.Words.{Alarm, AlarmStart, Core, Counter, CounterRef, ExpiryPoint, ModeId, Plan, RemoteCall, Resource, Table, TableStart, Task, CoreId, CoreMode, Declaration, Object, ObjectKind, Op, AlarmStartText, ResourceText, TableStartText, TableText}
+use Rattle.oscheck.specs.Words.{Alarm, AlarmStart, Core, Counter, CounterRef, ExpiryPoint, Isr, IsrText, ModeId, Plan, RemoteCall, Resource, Table, TableStart, Task, CoreId, CoreMode, Declaration, Object, ObjectKind, Op, AlarmStartText, ResourceText, TableStartText, TableText}
 use Rattle.osbase.specs.Names.{is_name}
 use Rattle.osplan.specs.Limits as limits
-use Rattle.osplan.specs.Limits.{number_of, CoreSizes, CounterSizes, PointSizes, TableSizes, are_counters_within, is_alarm_within, is_between, is_start, is_table_start_within, is_table_timed, is_table_within, is_task_within, is_core_within, same_number, has_number, are_numbers_distinct}
-use Rattle.osplan.specs.Expressible.{mode_name, are_mode_name, is_only_mode, is_task_expressible, is_resource_expressible, is_counter_expressible, is_action_expressible, is_alarm_expressible, is_table_expressible, is_core_expressible, is_expressible}
+use Rattle.osplan.specs.Limits.{number_of, CoreSizes, CounterSizes, PointSizes, TableSizes, are_counters_within, is_alarm_within, is_between, is_start, is_table_start_within, is_table_timed, is_table_within, is_task_within, is_isr_within, is_core_within, same_number, has_number, are_numbers_distinct}
+use Rattle.osplan.specs.Expressible.{mode_name, are_mode_name, is_only_mode, is_task_expressible, is_isr_expressible, is_resource_expressible, is_counter_expressible, is_action_expressible, is_alarm_expressible, is_table_expressible, is_core_expressible, is_expressible}
 use Rattle.osread.specs.Reading.{each}
 use Rattle.osread.specs.Json.{elements, whole_of, name_of as read_name, or_null}
 use Rattle.serde_json.specs.Find.{as_str}
-use Rattle.osshape.specs.Shape.{task_shape, resource_shape, counter_shape, alarm_start_shape, alarm_shape, point_shape, table_start_shape, table_shape, core_shape, config_shape}
+use Rattle.osshape.specs.Shape.{task_shape, isr_shape, resource_shape, counter_shape, alarm_start_shape, alarm_shape, point_shape, table_start_shape, table_shape, core_shape, config_shape}
 use Rattle.osplan.specs.Names.{name_of_mode, name_of}
 use Rattle.osplan.specs.Objects.{alarm_modes, table_actions, table_modes, posted_at_once}
+use Rattle.osplan.specs.Objects as plans
+use Rattle.osplan.specs.Protection.{protection_named, protection_word}
+use Rattle.osplan.specs.declared.protection.Protection.{Protection}
+use Rattle.osplan.proofs.Scripts.{all_scripts}
 use Rattle.osplan.proofs.Tests.{all-both, all-weaker, each-flat, find-holds, any-find, any-mapped}
 use Rattle.osplan.proofs.Within.{limit-parts, text-parts, core-text-parts, TextParts, LimitParts}
 use Rattle.osdraft.proofs.Loops.{always}
 use Rattle.osdraft.proofs.Right.{three-parts, acting-right, each-right, is_right}
-use Rattle.oswrite.specs.Writing.{id_data, mode_data, task_data, resource_data, counter_data, start_data, or_null_data, alarm_data, action_data, point_data, table_start_data, table_data, core_data, config_data, op_text, script_text}
+use Rattle.oswrite.specs.Writing.{id_data, mode_data, task_data, isr_data, resource_data, counter_data, start_data, or_null_data, alarm_data, action_data, point_data, table_start_data, table_data, core_data, config_data, op_text, script_text}
 use Rattle.osread.proofs.Contents.{elements-items_of}
 use Rattle.oswrite.proofs.Placed.{found, names-said, placed}
-use Rattle.oswrite.proofs.Said.{task_said, resource_said, counter_said, start_said, counter_name, action_said, alarm_said, point_said, table_start_said, table_said, core_said, config_said}
+use Rattle.oswrite.proofs.Said.{task_said, isr_said, resource_said, counter_said, start_said, counter_name, action_said, alarm_said, point_said, table_start_said, table_said, core_said, config_said}
 use Rattle.std.proofs.lemmas.List.Folds.{list_all-map}
 use Rattle.std.proofs.lemmas.Simd.{map-map}
 use Rattle.osbase.specs.History.{same_core}
@@ -42,20 +46,20 @@ use Rattle.osplan.specs.Expressible as said
 use Rattle.osplan.proofs.Distinct.{distinct-back}
 use Rattle.osplan.proofs.Starting.{master-low}
 use Rattle.oscheck.specs.Action.{action_of, any_action}
-use Rattle.oscheck.specs.Check.{counter_sizes, task_sizes, start_sizes, alarm_sizes, point_sizes, table_sizes, core_sizes, sizes_of, numbers_of, is_text_within, is_each_once, is_mode_name, are_known, are_near, is_core_timed, are_timed, are_masks, are_operations, tests_of}
+use Rattle.oscheck.specs.Check.{core_scripts, counter_sizes, isr_sizes, task_sizes, start_sizes, alarm_sizes, point_sizes, table_sizes, core_sizes, sizes_of, numbers_of, is_text_within, is_each_once, is_mode_name, are_known, are_near, is_core_timed, are_timed, are_masks, are_operations, tests_of}
 use Rattle.osshape.specs.Declarations.{counter_ref, number_id, declarations, place_of, names_of, counter_declared, declared_sizes, id_of}
 use Rattle.oscheck.specs.Operation.{is_operation, is_operation_known, operations_of, op_of}
-use Rattle.osdraft.specs.Meaning.{only_mode, task_plan, resource_plan, counter_plan, start_plan, alarm_plan, point_plan, table_start_plan, table_plan, core_plan, plan_of, config_of, config_of_shape}
+use Rattle.osdraft.specs.Meaning.{only_mode, task_plan, isr_plan, resource_plan, counter_plan, start_plan, alarm_plan, point_plan, table_start_plan, table_plan, core_plan, plan_of, config_of, config_of_shape}
 use Rattle.osshape.proofs.Lists.{map-back, list_all-by, map-same}
 use Rattle.osdraft.proofs.Found.{IsByte, byte-small, is-byte, is-word, HasCounters, NamedCounter, named-counter, IsFound, each-found}
 use Rattle.oswrite.proofs.Joining.{parts-pieces}
-use Rattle.std.proofs.lemmas.List.{length-map}
+use Rattle.std.proofs.lemmas.List.{length-map, map-append}
 use Rattle.osforms.proofs.ActionTexts.{meant_action}
 use Rattle.serde_json.specs.Read.{read}
 use Rattle.osplan.specs.Fault.{if_faultless, failing}
 use Rattle.oscheck.specs.declared.verdicts.Verdict.{Verdict}
-use Rattle.oscheck.specs.Verdict.{action_verdict, alarm_verdict, both, core_verdict, each as each_verdict, op_verdict, point_verdict, table_verdict, task_verdict, text_verdict}
-use Rattle.osdraft.proofs.Meant.{near_kept, TableLimits, table-limits, cap-byte, counter-words, posted-same, start-words, table-start-word, task-bytes}
+use Rattle.oscheck.specs.Verdict.{action_verdict, alarm_verdict, both, core_verdict, each as each_verdict, isr_verdict, op_verdict, point_verdict, table_verdict, task_verdict, text_verdict}
+use Rattle.osdraft.proofs.Meant.{near_kept, TableLimits, table-limits, cap-byte, counter-words, isr-bytes, posted-same, start-words, table-start-word, task-bytes}
 use Rattle.osforms.specs.Action.{is_action as is_action_text}
 
 -- ---- modes
@@ -90,6 +94,11 @@ mode-back : (mode : CoreMode) → said.is_in_only_mode mode ≡ true → Named o
 mode-back (Named m) h = ap Named (sym (mode-is m h))
 mode-back DontCare h = absurd (true≢false (sym h))
 
+-- the word of an answer is read as the answer; the first clause is only there to make a case of each
+protection-back : (p : Protection) → protection_named (protection_word p) ≡ Some p
+protection-back Protection.Ignore = refl
+protection-back p = refl
+
 -- ---- what each operation, each object and each core of a configuration keeps
 
 abbrev is_kept_op : Plan → Op → Bool
@@ -103,7 +112,10 @@ abbrev is_sound_action : Plan → RemoteCall → Bool
 is_sound_action plan action = limits.is_action_known plan action && said.is_action_expressible action
 
 abbrev is_kept_task : Plan → Task → Bool
-is_kept_task plan task = is_task_within (limits.task_sizes task) && limits.is_task_known plan task && said.is_task_expressible task
+is_kept_task plan task = is_task_within (limits.task_sizes task) && limits.is_script_known plan task.script && said.is_task_expressible task
+
+abbrev is_kept_isr : Plan → Isr → Bool
+is_kept_isr plan isr = is_isr_within (limits.isr_sizes isr) && limits.is_script_known plan isr.script && said.is_isr_expressible isr
 
 abbrev is_kept_alarm : Plan → Alarm → Bool
 is_kept_alarm plan alarm = is_alarm_within (limits.alarm_sizes (counter_in plan) alarm) && limits.is_alarm_known plan alarm && said.is_alarm_expressible alarm
@@ -121,10 +133,14 @@ is_kept_core plan core = is_core_within (limits.core_sizes plan core) && limits.
 -- The parts of a core's limits, and what a task keeps of its numbers, its modes and its script.
 core-limits : (s : CoreSizes) → is_core_within s ≡ true → (is_between 0 7 s.number ≡ true) × (list_all is_start s.start ≡ true) × (list_all is_task_within s.tasks ≡ true) × (list_all limits.is_ceiling s.resources ≡ true)
     × (are_counters_within s.counters ≡ true) × (list_all limits.is_counter_within s.counters ≡ true) × (list_all is_alarm_within s.alarms ≡ true) × (list_all is_table_within s.tables ≡ true)
-core-limits s h = (grind arith, grind arith, grind arith, grind arith, grind arith, grind arith, grind arith, grind arith)
+    × (list_all is_isr_within s.isrs ≡ true)
+core-limits s h = (grind arith, grind arith, grind arith, grind arith, grind arith, grind arith, grind arith, grind arith, grind arith)
 
 kept-task : (plan : Plan) (task : Task) → is_kept_task plan task ≡ true → (is_task_within (limits.task_sizes task) ≡ true) × (list_all said.is_only_mode task.auto ≡ true) × (list_all (is_kept_op plan) task.script ≡ true) × (said.is_jumping_within task.script ≡ true)
 kept-task plan task h = (grind arith, grind arith, all-both _ has_masks task.script (all-both (limits.is_op_known plan) is_in_form task.script (grind arith) (grind arith)) (grind arith), grind arith)
+
+kept-isr : (plan : Plan) (isr : Isr) → is_kept_isr plan isr ≡ true → (is_isr_within (limits.isr_sizes isr) ≡ true) × (list_all (is_kept_op plan) isr.script ≡ true) × (said.is_jumping_within isr.script ≡ true) × (said.is_free_of_resources isr.script ≡ true)
+kept-isr plan isr h = (grind arith, all-both _ has_masks isr.script (all-both (limits.is_op_known plan) is_in_form isr.script (grind arith) (grind arith)) (grind arith), grind arith, grind arith)
 
 -- Of an alarm, or of a table, what it keeps of its numbers, its counter, what it does, and its modes. Each is of tests that are given,
 -- whatever they are.
@@ -164,11 +180,15 @@ kept-points plan table h =
 -- The objects of a core that say anything but numbers.
 record KeptCore (plan : Plan) (core : Core) : Type 0 where
   tasks : list_all (is_kept_task plan) core.tasks ≡ true
+  isrs : list_all (is_kept_isr plan) core.isrs ≡ true
   alarms : list_all (is_kept_alarm plan) core.alarms ≡ true
   tables : list_all (is_kept_table plan) core.tables ≡ true
 
 four-parts : (a b c d : Bool) → (a && b && c && d) ≡ true → (a ≡ true) × (b ≡ true) × (c ≡ true) × (d ≡ true)
 four-parts a b c d h = (grind arith, grind arith, grind arith, grind arith)
+
+five-parts : (a b c d e : Bool) → (a && b && c && d && e) ≡ true → (a ≡ true) × (b ≡ true) × (c ≡ true) × (d ≡ true) × (e ≡ true)
+five-parts a b c d e h = (grind arith, grind arith, grind arith, grind arith, grind arith)
 
 core-inside : (plan : Plan) (core : Core) → is_kept_core plan core ≡ true → is_core_within (limits.core_sizes plan core) ≡ true
 core-inside plan core h = (four-parts (is_core_within (limits.core_sizes plan core)) (limits.is_core_known plan core) (limits.is_core_timed plan core) (said.is_core_expressible core) h).0
@@ -177,13 +197,15 @@ kept-core : (plan : Plan) (core : Core) → is_kept_core plan core ≡ true → 
 kept-core plan core h =
     let parts = four-parts (is_core_within (limits.core_sizes plan core)) (limits.is_core_known plan core) (limits.is_core_timed plan core) (said.is_core_expressible core) h in
     let limit = core-limits (limits.core_sizes plan core) parts.0 in
-    let known = four-parts (limits.is_core_mode plan core.mode) (list_all (limits.is_task_known plan) core.tasks) (list_all (limits.is_alarm_known plan) core.alarms) (list_all (limits.is_table_known plan) core.tables) parts.1 in
+    let known = five-parts (limits.is_core_mode plan core.mode) (list_all (limits.is_script_known plan) (plans.core_scripts core)) (list_all (limits.is_task_known plan) core.tasks) (list_all (limits.is_alarm_known plan) core.alarms) (list_all (limits.is_table_known plan) core.tables) parts.1 in
+    let scripts = and_parts _ _ (sym (all_scripts (limits.is_script_known plan) core) ∙ known.1) in
     let texts = core-text-parts core parts.3 in
     record {
-      tasks = all-both _ said.is_task_expressible core.tasks (all-both _ (limits.is_task_known plan) core.tasks (sym (list_all-map is_task_within limits.task_sizes core.tasks) ∙ limit.2) known.1) texts.tasks;
-      alarms = all-both _ said.is_alarm_expressible core.alarms (all-both _ (limits.is_alarm_known plan) core.alarms (sym (list_all-map is_alarm_within (limits.alarm_sizes (counter_in plan)) core.alarms) ∙ limit.6) known.2) texts.alarms;
+      tasks = all-both _ said.is_task_expressible core.tasks (all-both _ (λ (task : Task). limits.is_script_known plan task.script) core.tasks (sym (list_all-map is_task_within limits.task_sizes core.tasks) ∙ limit.2) scripts.0) texts.tasks;
+      isrs = all-both _ said.is_isr_expressible core.isrs (all-both _ (λ (isr : Isr). limits.is_script_known plan isr.script) core.isrs (sym (list_all-map is_isr_within limits.isr_sizes core.isrs) ∙ limit.8) scripts.1) texts.isrs;
+      alarms = all-both _ said.is_alarm_expressible core.alarms (all-both _ (limits.is_alarm_known plan) core.alarms (sym (list_all-map is_alarm_within (limits.alarm_sizes (counter_in plan)) core.alarms) ∙ limit.6) known.3) texts.alarms;
       tables = all-both _ said.is_table_expressible core.tables
-          (all-both _ (limits.is_table_known plan) core.tables (all-both _ _ core.tables (sym (list_all-map is_table_within (limits.table_sizes (counter_in plan)) core.tables) ∙ limit.7) parts.2) known.3) texts.tables;
+          (all-both _ (limits.is_table_known plan) core.tables (all-both _ _ core.tables (sym (list_all-map is_table_within (limits.table_sizes (counter_in plan)) core.tables) ∙ limit.7) parts.2) known.4) texts.tables;
     }
 
 kept-cores : (plan : Plan) → IsTrue (limits.is_within_limits plan) → IsTrue (said.is_expressible plan) → list_all (is_kept_core plan) plan.cores ≡ true
@@ -191,8 +213,8 @@ kept-cores plan inside sayable =
     let within = limit-parts plan inside in
     all-both _ _ plan.cores (all-both _ _ plan.cores (all-both _ _ plan.cores within.cores within.known) within.timed) (text-parts plan sayable).cores
 
-right-of-three : (a b c : Verdict) → is_right a ≡ true → is_right b ≡ true → is_right c ≡ true → is_right (both (both a b) c) ≡ true
-right-of-three a b c first second third = grind arith
+right-of-four : (a b c d : Verdict) → is_right a ≡ true → is_right b ≡ true → is_right c ≡ true → is_right d ≡ true → is_right (both (both (both a b) c) d) ≡ true
+right-of-four a b c d first second third fourth = grind arith
 
 right-of-each : {X Y : Type 0} (p : X → Bool) (g : X → Y) (f : Y → Verdict) → ((x : X) → p x ≡ true → is_right (f (g x)) ≡ true) → (xs : List X) → list_all p xs ≡ true → is_right (each_verdict f (map g xs)) ≡ true
 right-of-each p g f right xs all = each-right f (map g xs) ∙ list_all-by p (λ y. is_right (f y)) g right xs all
@@ -223,6 +245,10 @@ module _ (plan : Plan) (inside : IsTrue (limits.is_within_limits plan)) (sayable
   task-shape task h =
       let name : is_name task.name ≡ true = grind arith in
       rw (name, modes-shape task.auto (grind arith)) refl
+
+  isr-shape : (isr : Isr) → is_isr_expressible isr ≡ true → isr_shape (isr_data plan isr) ≡ Some (isr_said plan isr)
+  unfolding isr_shape
+  isr-shape isr h = let name : is_name isr.name ≡ true = grind arith in rw name refl
 
   resource-shape : (resource : Resource) → is_resource_expressible resource ≡ true → resource_shape (resource_data resource) ≡ Some (resource_said resource)
   unfolding resource_shape
@@ -284,6 +310,8 @@ module _ (plan : Plan) (inside : IsTrue (limits.is_within_limits plan)) (sayable
       rw (
         each-items alarm_shape (alarm_data plan) (alarm_said plan) (λ (alarm : Alarm). is_alarm_expressible alarm && limits.is_alarm_known plan alarm) alarm-shape core.alarms alarms,
         each-items counter_shape counter_data counter_said is_counter_expressible counter-shape core.counters parts.counters,
+        each-items isr_shape (isr_data plan) (isr_said plan) is_isr_expressible isr-shape core.isrs parts.isrs,
+        protection-back core.protection,
         each-items resource_shape resource_data resource_said is_resource_expressible resource-shape core.resources parts.resources,
         each-items whole_of id_data number_of (λ id. true) (λ id e. refl) core.start (always core.start),
         each-items table_shape (table_data plan) (table_said plan) (λ (table : Table). is_table_expressible table && limits.is_table_known plan table) table-shape core.tables tables,
@@ -341,7 +369,13 @@ module _ (plan : Plan) (inside : IsTrue (limits.is_within_limits plan)) (sayable
   task-back task h =
       let kept = kept-task plan task h in
       let bytes = task-bytes (limits.task_sizes task) kept.0 in
-      rw (inside-some bytes.0, inside-some bytes.1, modes-back task.auto kept.1, script-back task.script kept.2, ops-back task.script kept.2) refl
+      rw (inside-some bytes.0, inside-some bytes.1, inside-some bytes.2, modes-back task.auto kept.1, script-back task.script kept.2, ops-back task.script kept.2) refl
+
+  isr-back : (isr : Isr) → is_kept_isr plan isr ≡ true → isr_plan objects (isr_said plan isr) ≡ isr
+  isr-back isr h =
+      let kept = kept-isr plan isr h in
+      let bytes = isr-bytes (limits.isr_sizes isr) kept.0 in
+      rw (inside-some bytes.0, inside-some bytes.1, script-back isr.script kept.1, ops-back isr.script kept.1) refl
 
   resource-back : (resource : Resource) → limits.is_ceiling (limits.ceiling_of resource) ≡ true → resource_plan (resource_said resource) ≡ resource
   resource-back resource h = rw (inside-some (is-byte 0 31 (limits.ceiling_of resource) h (omega arith))) refl
@@ -438,11 +472,11 @@ module _ (plan : Plan) (inside : IsTrue (limits.is_within_limits plan)) (sayable
         mode-back core.mode texts.mode,
         map-back number_id number_of (λ id. is_start (number_of id)) (λ id e. id-back id (is-byte 0 255 (number_of id) e (omega arith))) core.start (sym (list_all-map is_start number_of core.start) ∙ limit.1),
         map-back (task_plan objects) (task_said plan) (is_kept_task plan) task-back core.tasks kept.tasks,
+        map-back (isr_plan objects) (isr_said plan) (is_kept_isr plan) isr-back core.isrs kept.isrs,
         map-back resource_plan resource_said (λ (resource : Resource). limits.is_ceiling (limits.ceiling_of resource)) resource-back core.resources (sym (list_all-map limits.is_ceiling limits.ceiling_of core.resources) ∙ limit.3),
         map-back counter_plan counter_said (λ (counter : Counter). limits.is_counter_within (limits.counter_sizes counter)) counter-back core.counters (sym (list_all-map limits.is_counter_within limits.counter_sizes core.counters) ∙ limit.5),
         map-back (alarm_plan objects core.id) (alarm_said plan) (is_kept_alarm plan) (alarm-back core.id) core.alarms kept.alarms,
         map-back (table_plan objects core.id) (table_said plan) (is_kept_table plan) (table-back core.id) core.tables kept.tables,
-        texts.isrs,
       ) refl
 
   plan-back : plan_of (config_said plan) ≡ plan
@@ -490,6 +524,15 @@ module _ (plan : Plan) (inside : IsTrue (limits.is_within_limits plan)) (sayable
       let jumps = ap said.is_jumping_within (ops-back task.script kept.2) ∙ kept.3 in
       rw (script-back task.script kept.2) (and_from _ _ (and_from _ _ (and_from _ _ (modes-known task.auto kept.1) ops.0) ops.1) (and_from _ _ ops.2 jumps))
 
+  isr-right : (id : CoreId) (isr : Isr) → is_kept_isr plan isr ≡ true → is_right (isr_verdict objects id (isr_said plan isr).script) ≡ true
+  isr-right id isr h =
+      let kept = kept-isr plan isr h in
+      let texts = map (op_text plan) isr.script in
+      let ops = three-parts (list_all (is_operation_known objects) texts) (list_all text_has_masks texts) (list_all is_operation texts) (right-of-each (is_kept_op plan) (op_text plan) (op_verdict objects id) (op-right id) isr.script kept.1) in
+      let jumps = ap said.is_jumping_within (ops-back isr.script kept.1) ∙ kept.2 in
+      let free = ap said.is_free_of_resources (ops-back isr.script kept.1) ∙ kept.3 in
+      rw (script-back isr.script kept.1) (and_from _ _ (and_from _ _ ops.0 ops.1) (and_from _ _ (and_from _ _ ops.2 jumps) free))
+
   action-right : (action : RemoteCall) → is_kept_action plan action ≡ true → is_right (action_verdict objects (action_said plan action)) ≡ true
   action-right action h =
       let op = op_of_call action in
@@ -517,8 +560,9 @@ module _ (plan : Plan) (inside : IsTrue (limits.is_within_limits plan)) (sayable
   core-right core h =
       let kept = kept-core plan core h in
       let id = id_of (core_said plan core) in
-      right-of-three (each_verdict (task_verdict objects id) (map (task_said plan) core.tasks)) (each_verdict (alarm_verdict objects id) (map (alarm_said plan) core.alarms)) (each_verdict (table_verdict objects id) (map (table_said plan) core.tables))
+      right-of-four (each_verdict (task_verdict objects id) (map (task_said plan) core.tasks)) (each_verdict (λ (isr : IsrText). isr_verdict objects id isr.script) (map (isr_said plan) core.isrs)) (each_verdict (alarm_verdict objects id) (map (alarm_said plan) core.alarms)) (each_verdict (table_verdict objects id) (map (table_said plan) core.tables))
       (right-of-each (is_kept_task plan) (task_said plan) (task_verdict objects id) (task-right id) core.tasks kept.tasks)
+      (right-of-each (is_kept_isr plan) (isr_said plan) (λ (isr : IsrText). isr_verdict objects id isr.script) (isr-right id) core.isrs kept.isrs)
       (right-of-each (is_kept_alarm plan) (alarm_said plan) (alarm_verdict objects id) (alarm-right id) core.alarms kept.alarms)
       (right-of-each (is_kept_table plan) (table_said plan) (table_verdict objects id) (table-right id) core.tables kept.tables)
 
@@ -538,8 +582,20 @@ module _ (plan : Plan) (inside : IsTrue (limits.is_within_limits plan)) (sayable
 
   -- ---- limits: the text has the configuration's numbers
 
-  task-numbers : (task : Task) → is_kept_task plan task ≡ true → task_sizes (task_said plan task) ≡ limits.task_sizes task
-  task-numbers task h = rw (script-back task.script (kept-task plan task h).2, length-map task.script (op_text plan)) refl
+  scripts-said : (core : Core) → core_scripts (core_said plan core) ≡ map (script_text plan) (plans.core_scripts core)
+  scripts-said core = simp (map-append, map-map)
+
+  scripts-kept : (core : Core) → KeptCore plan core → list_all (list_all (is_kept_op plan)) (plans.core_scripts core) ≡ true
+  scripts-kept core kept =
+      all_scripts (list_all (is_kept_op plan)) core
+      ∙ and_from _ _ (all-weaker (is_kept_task plan) (λ (task : Task). list_all (is_kept_op plan) task.script) (λ task h. (kept-task plan task h).2) core.tasks kept.tasks)
+      (all-weaker (is_kept_isr plan) (λ (isr : Isr). list_all (is_kept_op plan) isr.script) (λ isr h. (kept-isr plan isr h).1) core.isrs kept.isrs)
+
+  scripts-numbers : (core : Core) → KeptCore plan core → map (λ (script : List ℕ). length (operations_of script)) (core_scripts (core_said plan core)) ≡ map (λ (script : List Op). length script) (plans.core_scripts core)
+  scripts-numbers core kept =
+      ap (map (λ (script : List ℕ). length (operations_of script))) (scripts-said core)
+      ∙ map-same (λ (script : List ℕ). length (operations_of script)) (script_text plan) (λ (script : List Op). length script) (list_all (is_kept_op plan))
+      (λ script h. rw (script-back script h) (length-map script (op_text plan))) (plans.core_scripts core) (scripts-kept core kept)
 
   -- the counter that a name finds has the numbers of the one that is meant
   counter-numbers : (id : CoreId) (counter : CounterRef) → limits.is_object plan (counter_object counter) ≡ true → option_map declared_sizes (counter_declared objects (counter_name plan counter)) ≡ option_map limits.counter_sizes (counter_in plan counter)
@@ -567,12 +623,14 @@ module _ (plan : Plan) (inside : IsTrue (limits.is_within_limits plan)) (sayable
   core-numbers core h =
       let k = kept-core plan core h in
       rw (
-        map-same task_sizes (task_said plan) limits.task_sizes (is_kept_task plan) task-numbers core.tasks k.tasks,
+        map-map task_sizes (task_said plan) core.tasks,
+        map-map isr_sizes (isr_said plan) core.isrs,
         map-map (λ (r : ResourceText). r.ceiling) resource_said core.resources,
         map-map counter_sizes counter_said core.counters,
         map-same (alarm_sizes objects) (alarm_said plan) (limits.alarm_sizes (counter_in plan)) (is_kept_alarm plan) (alarm-numbers core.id) core.alarms k.alarms,
         map-same (table_sizes objects) (table_said plan) (limits.table_sizes (counter_in plan)) (is_kept_table plan) (table-numbers core.id) core.tables k.tables,
         sym (posted-same objects apart (core_said plan core) (core-right core h)) ∙ ap posted_at_once (core-back core h),
+        scripts-numbers core k,
       ) refl
 
   plan-numbers : sizes_of (config_said plan) ≡ limits.sizes_of plan

@@ -1,14 +1,17 @@
 -- What the text of a configuration says.
 use Rattle.std.proofs.Common.{ℕ, List, map, Some, option_map}
 use Rattle.osbase.specs.Objects.{counter_place}
-use Rattle.oscheck.specs.Words.{Alarm, AlarmStart, AlarmStartText, AlarmText, ConfigText, Core, CoreText, Counter, CounterRef, CounterText, ExpiryPoint, ObjectKind, Plan, PointText, RemoteCall, Resource, ResourceText, Table, TableStart, TableStartText, TableText, Task, TaskText}
+use Rattle.oscheck.specs.Words.{Alarm, AlarmStart, AlarmStartText, AlarmText, ConfigText, Core, CoreText, Counter, CounterRef, CounterText, ExpiryPoint, Isr, IsrText, ObjectKind, Plan, PointText, RemoteCall, Resource, ResourceText, Table, TableStart, TableStartText, TableText, Task, TaskText}
 use Rattle.oscript.specs.Calls.{op_of_call}
 use Rattle.osplan.specs.Limits.{ceiling_of, number_of}
 use Rattle.osplan.specs.Names.{name_of, name_of_mode}
 use Rattle.oswrite.specs.Writing.{op_text, script_text}
 
 abbrev pub task_said : Plan → Task → TaskText
-task_said plan task = record { name = task.name; prio = Some task.priority; auto = map (name_of_mode plan) task.auto; activations = Some task.activations; extended = task.extended; preemptable = task.preemptable; script = script_text plan task.script }
+task_said plan task = record { name = task.name; prio = Some task.priority; auto = map (name_of_mode plan) task.auto; activations = Some task.activations; extended = task.extended; preemptable = task.preemptable; budget = Some task.budget; script = script_text plan task.script }
+
+abbrev pub isr_said : Plan → Isr → IsrText
+isr_said plan isr = record { name = isr.name; level = Some isr.level; budget = Some isr.budget; script = script_text plan isr.script }
 
 abbrev pub resource_said : Resource → ResourceText
 resource_said resource = record { name = resource.name; ceiling = ceiling_of resource }
@@ -45,7 +48,17 @@ table_said plan table = record {
 }
 
 abbrev pub core_said : Plan → Core → CoreText
-core_said plan core = record { id = number_of core.id; start = map number_of core.start; tasks = map (task_said plan) core.tasks; resources = map resource_said core.resources; counters = map counter_said core.counters; alarms = map (alarm_said plan) core.alarms; tables = map (table_said plan) core.tables }
+core_said plan core = record {
+  id = number_of core.id;
+  start = map number_of core.start;
+  protection = core.protection;
+  tasks = map (task_said plan) core.tasks;
+  isrs = map (isr_said plan) core.isrs;
+  resources = map resource_said core.resources;
+  counters = map counter_said core.counters;
+  alarms = map (alarm_said plan) core.alarms;
+  tables = map (table_said plan) core.tables;
+}
 
 abbrev pub config_said : Plan → ConfigText
 config_said plan = record { version = Some 1; cap = Some plan.cap; master = number_of plan.master; cores = map (core_said plan) plan.cores }

@@ -5,10 +5,11 @@ use Rattle.serde_json.specs.Data.{unsigned, Data, null, boolean, number, string,
 use Rattle.serde_json.specs.View.{items_of}
 use Rattle.serde_json.specs.Written.{compact_text}
 use Rattle.osbase.specs.Objects.{counter_place}
-use Rattle.oscheck.specs.Words.{Alarm, AlarmStart, Core, CoreId, Counter, ExpiryPoint, ModeId, ObjectKind, Op, Plan, RemoteCall, Resource, Table, TableStart, Task}
+use Rattle.oscheck.specs.Words.{Alarm, AlarmStart, Core, CoreId, Counter, ExpiryPoint, Isr, ModeId, ObjectKind, Op, Plan, RemoteCall, Resource, Table, TableStart, Task}
 use Rattle.osforms.specs.Operation as forms
 use Rattle.oscript.specs.Calls.{op_of_call}
 use Rattle.osplan.specs.Names.{name_of_mode, name_of}
+use Rattle.osplan.specs.Protection.{protection_word}
 
 -- ---- scripts
 
@@ -39,17 +40,26 @@ id_data id = whole_data id.number
 abbrev pub mode_data : Plan → ModeId → Data
 mode_data plan mode = string (name_of_mode plan mode)
 
--- A task: its activation limit, the modes of its autostart, whether it is extended, its name, whether it can be preempted, its
--- priority and script.
+-- A task: its activation limit, the modes of its autostart, its execution budget, whether it is extended, its name, whether it can be
+-- preempted, its priority and script.
 abbrev pub task_data : Plan → Task → Data
 task_data plan task = object
     (member (codes "activations") (whole_data task.activations)
     (member (codes "auto") (list_data (mode_data plan) task.auto)
+    (member (codes "budget") (whole_data task.budget)
     (member (codes "extended") (boolean task.extended)
     (member (codes "name") (string task.name)
     (member (codes "preemptable") (boolean task.preemptable)
     (member (codes "prio") (whole_data task.priority)
-    (member (codes "script") (string (script_text plan task.script)) no_members)))))))
+    (member (codes "script") (string (script_text plan task.script)) no_members))))))))
+
+-- An ISR: its execution budget, level, name and script.
+abbrev pub isr_data : Plan → Isr → Data
+isr_data plan isr = object
+    (member (codes "budget") (whole_data isr.budget)
+    (member (codes "level") (whole_data isr.level)
+    (member (codes "name") (string isr.name)
+    (member (codes "script") (string (script_text plan isr.script)) no_members))))
 
 -- A resource: its ceiling and name.
 abbrev pub resource_data : Resource → Data
@@ -105,16 +115,19 @@ table_data plan table = object
     (member (codes "points") (list_data (point_data plan) table.points)
     (member (codes "repeating") (boolean table.repeating) no_members))))))
 
--- A core: its alarms, its counters, its number, its resources, the cores that it starts, its tables and its tasks.
+-- A core: its alarms, its counters, its number, its ISRs, how it answers a time fault, its resources, the cores that it starts, its
+-- tables and its tasks.
 abbrev pub core_data : Plan → Core → Data
 core_data plan core = object
     (member (codes "alarms") (list_data (alarm_data plan) core.alarms)
     (member (codes "counters") (list_data counter_data core.counters)
     (member (codes "id") (id_data core.id)
+    (member (codes "isrs") (list_data (isr_data plan) core.isrs)
+    (member (codes "protection") (string (protection_word core.protection))
     (member (codes "resources") (list_data resource_data core.resources)
     (member (codes "start") (list_data id_data core.start)
     (member (codes "tables") (list_data (table_data plan) core.tables)
-    (member (codes "tasks") (list_data (task_data plan) core.tasks) no_members)))))))
+    (member (codes "tasks") (list_data (task_data plan) core.tasks) no_members)))))))))
 
 -- A configuration, with every member of its text, in ascending order of names: the size of a mailbox, its cores, the master core and
 -- the version, 1. [own]

@@ -4,13 +4,13 @@ ghost use Rattle.std.specs.Prelude.{◌≡◌, IfErr, IfOk, Some, string_bytes};
 ghost use Rattle.serde_json.specs.Data.{Data};
 ghost use Rattle.serde_json.specs.View.{view};
 ghost use Rattle.osdraft.specs.Meaning.{config_of};
-ghost use Rattle.oswrite.specs.Writing.{script_text, id_data, mode_data, list_data, start_data, or_null_data, alarm_data, action_data, point_data, table_start_data, table_data, counter_data, resource_data, task_data, core_data, config_data, config_text};
+ghost use Rattle.oswrite.specs.Writing.{script_text, id_data, mode_data, list_data, start_data, or_null_data, alarm_data, action_data, point_data, table_start_data, table_data, counter_data, resource_data, isr_data, task_data, core_data, config_data, config_text};
 
 use osbase::{CoreId, ModeId, ObjectKind, Place, Reference, RemoteCall};
 use oscript::{Op, op_of_call};
 use osforms::{Names, op_text};
 use osplan::{
-    Alarm, AlarmStart, ConfFault, Config, Core, Counter, ExpiryPoint, Plan, Resource, Table,
+    Alarm, AlarmStart, ConfFault, Config, Core, Counter, ExpiryPoint, Isr, Plan, Resource, Table,
     TableStart, Task,
 };
 use serde_json::{Value, json};
@@ -102,10 +102,25 @@ impl Writer<Task> for PlanWriter<'_> {
         json!(in alloc; {
             "activations": u64::from(task.activations),
             "auto": auto,
+            "budget": u64::from(task.budget),
             "extended": task.extended,
             "name": task.name.as_str(),
             "preemptable": task.preemptable,
             "prio": u64::from(task.priority),
+            "script": script
+        })
+    }
+}
+
+impl Writer<Isr> for PlanWriter<'_> {
+    ghost written = { λ writer. isr_data writer.plan.now };
+
+    fn value(&self, alloc: Global, isr: &Isr) -> Result<Value, AllocError> {
+        let script = script_text(alloc, self, isr.script.as_slice())?;
+        json!(in alloc; {
+            "budget": u64::from(isr.budget),
+            "level": u64::from(isr.level),
+            "name": isr.name.as_str(),
             "script": script
         })
     }
@@ -224,6 +239,7 @@ impl Writer<Core> for PlanWriter<'_> {
     fn value(&self, alloc: Global, core: &Core) -> Result<Value, AllocError> {
         let alarms = list_value(alloc, self, core.alarms.as_slice())?;
         let counters = list_value(alloc, self, core.counters.as_slice())?;
+        let isrs = list_value(alloc, self, core.isrs.as_slice())?;
         let resources = list_value(alloc, self, core.resources.as_slice())?;
         let start = list_value(alloc, self, core.start.as_slice())?;
         let tables = list_value(alloc, self, core.tables.as_slice())?;
@@ -232,6 +248,8 @@ impl Writer<Core> for PlanWriter<'_> {
             "alarms": alarms,
             "counters": counters,
             "id": u64::from(core.id.number),
+            "isrs": isrs,
+            "protection": core.protection.word(),
             "resources": resources,
             "start": start,
             "tables": tables,

@@ -15,7 +15,7 @@ use osbase::{
 };
 use oscript::Op;
 use oskernel::{Kernel, Want};
-use osplan::{Config, Core, Plan, Task};
+use osplan::{Config, Core, Plan, Protection, Task};
 use std::alloc::{AllocError, Global};
 use std::test::Fail;
 
@@ -36,7 +36,7 @@ const TASK_B: TaskRef = TaskRef {
 };
 
 fn task(alloc: Global, name: &str, is_auto: bool, ops: &[Op]) -> Result<Task, AllocError>
-    ensures { IfOk result (λ task. task ≡ record { name = name.now; priority = 1; auto = (if is_auto then MODE ∷ [] else []); activations = 1; extended = false; preemptable = true; script = ops.now }) }
+    ensures { IfOk result (λ task. task ≡ record { name = name.now; priority = 1; auto = (if is_auto then MODE ∷ [] else []); activations = 1; extended = false; preemptable = true; budget = 0; script = ops.now }) }
 {
     let auto = if is_auto { &[MODE][..] } else { &[] };
     Ok(Task {
@@ -46,12 +46,13 @@ fn task(alloc: Global, name: &str, is_auto: bool, ops: &[Op]) -> Result<Task, Al
         activations: 1,
         extended: false,
         preemptable: true,
+        budget: 0,
         script: List::from_vec(ops.to_vec(alloc)?),
     })
 }
 
 fn core(alloc: Global, id: CoreId, start: &[CoreId], task: Task) -> Result<Core, AllocError>
-    ensures { IfOk result (λ core. core ≡ record { id = id; mode = CoreMode.Named MODE; start = start.now; tasks = task ∷ []; resources = []; isrs = []; counters = []; alarms = []; tables = [] }) }
+    ensures { IfOk result (λ core. core ≡ record { id = id; mode = CoreMode.Named MODE; start = start.now; protection = Protection.Shutdown; tasks = task ∷ []; isrs = []; resources = []; counters = []; alarms = []; tables = [] }) }
 {
     let mut tasks = List::new(alloc);
     tasks.push(task)?;
@@ -59,9 +60,10 @@ fn core(alloc: Global, id: CoreId, start: &[CoreId], task: Task) -> Result<Core,
         id,
         mode: CoreMode::Named(MODE),
         start: List::from_vec(start.to_vec(alloc)?),
+        protection: Protection::Shutdown,
         tasks,
-        resources: List::new(alloc),
         isrs: List::new(alloc),
+        resources: List::new(alloc),
         counters: List::new(alloc),
         alarms: List::new(alloc),
         tables: List::new(alloc),

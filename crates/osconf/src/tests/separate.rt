@@ -1,6 +1,6 @@
 //! Which cores are separate, and so may be cut.
 
-use super::{alarms, configured, counters, events, tables};
+use super::{alarms, configured, counters, events, isrs, tables};
 use crate::{ConfFault, cut, is_separate};
 use osbase::CoreId;
 use std::test::Fail;
@@ -27,6 +27,10 @@ const INWARD: &str =
 // The other core's alarm, though that core is never started.
 const ALARM_INWARD: &str =
     r#"{"cores":[{"id":0,"tasks":[{"name":"A","prio":1,"script":""}]},{"id":1,"tasks":[{"name":"B","prio":1,"script":""}],"counters":[{"name":"K","max":9}],"alarms":[{"name":"W","counter":"K","action":"ActivateTask @"}]}]}"#;
+
+// The other core's ISR, though that core is never started.
+const ISR_INWARD: &str =
+    r#"{"cores":[{"id":0,"tasks":[{"name":"A","prio":1,"script":""}]},{"id":1,"tasks":[{"name":"B","prio":1,"script":""}],"isrs":[{"name":"I","level":1,"script":"ActivateTask @"}]}]}"#;
 
 // A core that starts itself.
 const ITSELF: &str = r#"{"cores":[{"id":0,"start":[0]}]}"#;
@@ -101,6 +105,19 @@ const STANDINGS: &[Standing] = &[
     },
     Standing {
         text: ALARM_INWARD,
+        core: 0,
+        separate: &["B"],
+        bound: &["A"],
+    },
+    // An ISR's script that names another core's task binds both cores.
+    Standing {
+        text: isrs::TWO_CORES,
+        core: 0,
+        separate: &["ActivateTask A;SetEvent W 1;GetEvent ? v0"],
+        bound: &["ActivateTask B"],
+    },
+    Standing {
+        text: ISR_INWARD,
         core: 0,
         separate: &["B"],
         bound: &["A"],

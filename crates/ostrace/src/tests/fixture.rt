@@ -7,7 +7,7 @@ use osbase::{
     CoreId, CoreMode, List, Mark, ModeId, Name, Place, Reference, RemoteCall, Report, Status,
     TaskRef,
 };
-use osplan::{Alarm, Config, Core, Isr, Plan, Table, Task};
+use osplan::{Alarm, Config, Core, Isr, Plan, Protection, Table, Task};
 use std::alloc::{AllocError, Global};
 
 pub const ZERO: CoreId = CoreId { number: 0 };
@@ -49,21 +49,23 @@ fn task(alloc: Global, name: &str) -> Result<Task, AllocError> {
         activations: 1,
         extended: false,
         preemptable: true,
+        budget: 0,
         script: List::new(alloc),
     })
 }
 
 // A core that has no object.
 fn bare_core(alloc: Global, id: CoreId) -> Core
-    ensures { result ≡ record { id = id; mode = CoreMode.Named (record { index = 0 }); start = []; tasks = []; resources = []; isrs = []; counters = []; alarms = []; tables = [] } }
+    ensures { result ≡ record { id = id; mode = CoreMode.Named (record { index = 0 }); start = []; protection = Protection.Shutdown; tasks = []; isrs = []; resources = []; counters = []; alarms = []; tables = [] } }
 {
     Core {
         id,
         mode: CoreMode::Named(ModeId { index: 0 }),
         start: List::new(alloc),
+        protection: Protection::Shutdown,
         tasks: List::new(alloc),
-        resources: List::new(alloc),
         isrs: List::new(alloc),
+        resources: List::new(alloc),
         counters: List::new(alloc),
         alarms: List::new(alloc),
         tables: List::new(alloc),

@@ -1,4 +1,4 @@
-use Rattle.std.proofs.Common.{◌≡◌, Bool, true, cond, ap, sym, ◌∙◌, lit≤}
+use Rattle.std.proofs.Common.{◌≡◌, Bool, true, false, cond, ap, sym, ◌∙◌, lit≤}
 use Rattle.osbase.specs.declared.objects.Object.{Object}
 use Rattle.osstate.specs.Readings.{is_own}
 use Rattle.osstate.specs.State.{KernelState}
@@ -19,3 +19,11 @@ returns g c =
     ap (λ (b : Bool). cond b (does (serves c.args.runner c.args.service (service_of c.args.call (seen_of v h))) v h) (does (asks c.args.runner c.args.service (core_of_call c.args.call) c.args.call) v h)) own
     ∙ ap (λ (answer : Answer). does (returns_with c.args.runner c.args.service answer) v (does (carries_out (service_of c.args.call)) v h)) (sym (c.serve-answer.ensures.answer v h stands)))
     (lit≤ tt) (lit≤ tt) (then c.serve-answer.ensures.effects c.finish.ensures)
+
+pub returns-then-not-is_own : goal.returns-then-not-is_own
+returns-then-not-is_own g c =
+    as_effect {f = does (asks c.args.runner c.args.service c.object.result.place.core c.args.call)} (λ v h stands.
+    let other : is_own v (core_of_call c.args.call) ≡ false = ap (λ (o : Object). is_own v o.place.core) (sym c.object.ensures) ∙ sym (read (λ (s : KernelState). is_own s.view c.object.result.place.core) c.is_own.ensures.value stands) ∙ c.if-not-is_own.true in
+    ap (λ (b : Bool). cond b (does (serves c.args.runner c.args.service (service_of c.args.call (seen_of v h))) v h) (does (asks c.args.runner c.args.service (core_of_call c.args.call) c.args.call) v h)) other
+    ∙ ap (λ (o : Object). does (asks c.args.runner c.args.service o.place.core c.args.call) v h) (sym c.object.ensures))
+    (lit≤ tt) (lit≤ tt) c.ask.ensures

@@ -9,8 +9,15 @@ use Rattle.osstate.proofs.Effecting.{as_effect}
 use Rattle.osstate.proofs.ReadLemmas.{read}
 use Rattle.osact.specs.Acts.{does, prints}
 use Rattle.oscall.specs.Border.{core_of_call}
-use Rattle.osdue.specs.Expiring.{posts}
+use Rattle.osdue.specs.Expiring.{acts_here, posts}
 use Rattle.osdue.proofs.expiring.act.Goals as goal
+
+pub returns-then-is_own-clause-effects : goal.returns-then-is_own-clause-effects
+returns-then-is_own-clause-effects g c =
+    as_effect {f = does (acts_here c.args.call)} (λ v h stands.
+    let own : is_own v (core_of_call c.args.call) ≡ true = ap (λ (o : Object). is_own v o.place.core) (sym c.object.ensures) ∙ sym (read (λ (s : KernelState). is_own s.view c.object.result.place.core) c.is_own.ensures.value stands) ∙ c.if-is_own.true in
+    rw (own) refl)
+    (lit≤ tt) (lit≤ tt) c.act_here.ensures.effects
 
 pub returns-then-knows_started-clause-effects : goal.returns-then-knows_started-clause-effects
 returns-then-knows_started-clause-effects g c =

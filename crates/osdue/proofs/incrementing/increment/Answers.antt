@@ -1,4 +1,4 @@
-use Rattle.std.proofs.Common.{◌≡◌, ◌≤◌, ◌+◌, ◌*◌, ◌^◌, true, false, Some, None, length, suc, vec_len, vec_capacity, rules, refl, ap, sym, ◌∙◌, arith, lit≤}
+use Rattle.std.proofs.Common.{◌≡◌, ◌≤◌, ◌+◌, ◌*◌, ◌^◌, true, false, Some, None, length, suc, vec_len, vec_capacity, rules, refl, sym, ◌∙◌, arith, lit≤}
 use Rattle.osbase.specs.declared.statuses.ServiceId.TheVariants as Service
 use Rattle.osbase.specs.declared.statuses.Status.TheVariants.{EOsCore, EOsId}
 use Rattle.osclock.specs.Clocks.{attached_to}

@@ -1,5 +1,6 @@
 use Rattle.std.proofs.Common.{◌≡◌, ◌<◌, IsTrue, false, get_or, length, rules, ap, sym, ◌∙◌}
 use Rattle.osbase.specs.History.{same_core}
+use Rattle.osbase.specs.Phases.{is_before_live}
 use Rattle.std.proofs.lemmas.List.{take_all}
 use Rattle.oscript.specs.Calls.{any_action}
 use Rattle.osplan.specs.Objects.{may_act}
@@ -20,7 +21,8 @@ act-requires g c =
     known-call c.loop-action.state.view.own a (still-passes next c.loop-action.invariant may_act (all-filter (may_act c.args.state.now.view.own) (is_of_kind c.args.activating) c.args.actions.now c.requires.known)) in
     let place : (same_core (core_of_call a) c.loop-action.state.view.own.id ≡ false → length c.loop-action.state.border.outbox < g.row.OUT) = place-left _ _ _ (places-left next c.loop-action.invariant c.requires.posts.outbox) in
     let room : HasRoom 2 2 c.loop-action.state c.loop-action.marks = room-left next c.loop-action.invariant c.requires.posts.room in
-    search (rules, known, place, room)
+    let live : is_before_live c.loop-action.state.progress.phase ≡ false = ap is_before_live c.loop-action.invariant.effects.stays.phase ∙ c.requires.posts.live in
+    search (rules, known, place, room, live)
 
 pub loop-action-preserved : goal.loop-action-preserved
 loop-action-preserved g c = elim c.if-is_of_kind.branch [

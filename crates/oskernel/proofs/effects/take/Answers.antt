@@ -29,7 +29,7 @@ follow-requires g c =
     let entries = ap (λ (s : KernelState). s.progress.entries) c.take_item.ensures.state in
     let count : c.take_item.new.self.progress.entries + item_entries ≤ 2 ^ 63 = omega (arith, entries, c.requires.room.count) in
     let place : vec_len c.args.marks.now + item_marks ≤ vec_capacity c.args.marks.now = c.requires.room.place in
-    search (rules, known, c.show_admitted.ensures.sender, live, past, fresh, outbox, empty, places, count, place)
+    (search rules, (known, (c.show_admitted.ensures.sender, (live, (past, (fresh, (outbox, (empty, (places, record { count = count; place = place })))))))))
 
 pub returns-clause-does : goal.returns-clause-does
 returns-clause-does g c v h earlier base tracks =

@@ -1,9 +1,14 @@
-use Rattle.std.proofs.Common.{◌≡◌, ℕ, Bool, true, false, Option, Some, None, is_some, unwrap_or, refl, arith, Vec, Global}
+use Rattle.std.proofs.Common.{◌≡◌, ◌+◌, ◌≤◌, ℕ, Bool, true, false, Option, Some, None, is_some, unwrap_or, length, refl, rules, sym, subst, ◌∙◌, arith, Vec, Global}
+use Rattle.std.proofs.lemmas.Bool.{false≢true}
 use Rattle.osbase.specs.declared.marks.Mark.{Mark}
+use Rattle.osbase.specs.declared.references.Runner.{Runner}
+use Rattle.oscript.specs.declared.Op.{Op}
+use Rattle.osplan.specs.Objects.{posted_at_once}
 use Rattle.osstate.specs.Does.{Effects}
 use Rattle.osstate.specs.State.{KernelState}
 use Rattle.osstate.proofs.Effecting.{as_effect, unprinted}
 use Rattle.osact.specs.Acts.{Acts, does, nothing}
+use Rattle.osact.specs.Terms.{MayOperate}
 use Rattle.osact.proofs.Remarking.{unmoved}
 use Rattle.ostaskcall.specs.Tasks.{task_acts}
 use Rattle.osalarmcall.specs.Counters.{counter_acts}
@@ -19,8 +24,8 @@ module _ {n m : ℕ} {s s' : KernelState} {x x' : Vec Mark Global} {known : Bool
   next rest {t} {y} absent same e = by o is
     where
       by : (p : Option Acts) → known ≡ is_some p → Effects n m (does (unwrap_or p rest)) s s' x x'
-      by None i = rw (← same.0, ← same.1) e
-      by (Some acts) i = cc
+      by None i = subst (λ (q : KernelState). Effects n m (does rest) q s' x x') same.0 (subst (λ (z : Vec Mark Global). Effects n m (does rest) t s' z x') same.1 e)
+      by (Some acts) i = absurd (false≢true (sym absent ∙ i))
 
   -- The last one knows it, or nothing happens.
   last : (known ≡ true → Effects n m (does (unwrap_or o nothing)) s s' x x') → (known ≡ false → (s' ≡ s) × (x' ≡ x)) → Effects n m (does (unwrap_or o nothing)) s s' x x'
@@ -29,6 +34,32 @@ module _ {n m : ℕ} {s s' : KernelState} {x x' : Vec Mark Global} {known : Bool
       by : (p : Option Acts) → known ≡ is_some p → (known ≡ true → Effects n m (does (unwrap_or p nothing)) s s' x x') → Effects n m (does (unwrap_or p nothing)) s s' x x'
       by None i e = rw ((others i).0, (others i).1) (as_effect {f = λ v h. h} (λ v h stands. refl) (omega arith) (omega arith) (unprinted unmoved))
       by (Some acts) i e = e i
+
+-- What the next family asks for stays so where nothing has changed.
+same-still : {s t u : KernelState} {x y z : Vec Mark Global} → (t ≡ s) × (y ≡ x) → (u ≡ t) × (z ≡ y) → (u ≡ s) × (z ≡ x)
+same-still first second = (second.0 ∙ first.0, second.1 ∙ first.1)
+
+may-still : (places : KernelState → ℕ) {most size : ℕ} {s t : KernelState} {r : Runner} {op : Op} {x y : Vec Mark Global} → places s ≤ most → (t ≡ s) × (y ≡ x) → MayOperate most size s r op x → MayOperate (places t) size t r op y
+may-still places {size = size} {s = s} {r = r} {op = op} {y = y} few same may =
+    subst (λ (q : KernelState). MayOperate (places q) size q r op y) (sym same.0)
+    (subst (λ (z : Vec Mark Global). MayOperate (places s) size s r op z) (sym same.1) (record {
+      known = may.known;
+      serves = record { own = may.serves.own; posts = record { live = may.serves.posts.live; outbox = omega (arith, may.serves.posts.outbox); room = may.serves.posts.room } };
+    }))
+
+pub operate-requires-3 : goal.operate-requires-3
+operate-requires-3 g c = (
+  search rules,
+  may-still (λ s. 1) (omega arith) (same-still (c.operate.ensures.others c.if-operate.false) (c.operate-2.ensures.others c.if-operate-2.false)) c.requires,
+)
+
+pub operate-requires-5 : goal.operate-requires-5
+operate-requires-5 g c = (
+  search rules,
+  may-still (λ s. posted_at_once s.view.own) (omega arith)
+      (same-still (same-still (same-still (c.operate.ensures.others c.if-operate.false) (c.operate-2.ensures.others c.if-operate-2.false)) (c.operate-3.ensures.others c.if-operate-3.false)) (c.operate-4.ensures.others c.if-operate-4.false))
+      c.requires,
+)
 
 pub returns : goal.returns
 returns g c =

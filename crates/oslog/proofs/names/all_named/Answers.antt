@@ -3,4 +3,4 @@ use Rattle.oslog.proofs.Named.{few}
 use Rattle.oslog.proofs.names.all_named.Goals as goal
 
 pub push_core-requires : goal.push_core-requires
-push_core-requires c = few c.args.plan.now c.requires.limits c.requires.expressible c.loop-core.core-index c.core-item.result (search rules) (search rules)
+push_core-requires c = few c.args.plan.now c.requires c.loop-core.core-index c.core-item.result (search rules) (search rules)

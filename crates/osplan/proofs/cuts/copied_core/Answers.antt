@@ -10,7 +10,7 @@ if-weaker (Err e) P Q N imply m = tt
 pub returns : goal.returns
 returns c = if-weaker c.clone.result _ _ _
     (λ copy parts.
-    let alarms = parts.1.1.1.1.1.1.1.0 (λ alarm alarm-copy same. search rules) in
-    let tables = parts.1.1.1.1.1.1.1.1 (λ table table-copy same. let points = same.1.1.1.1.0 (λ point point-copy same-too. search rules) in search rules) in
+    let alarms = parts.1.1.1.1.1.1.1.1.0 (λ alarm alarm-copy same. search rules) in
+    let tables = parts.1.1.1.1.1.1.1.1.1 (λ table table-copy same. let points = same.1.1.1.1.0 (λ point point-copy same-too. search rules) in search rules) in
     search rules)
     c.clone.ensures.cases

@@ -1,6 +1,9 @@
-use Rattle.std.proofs.Common.{◌∙◌, lit≤}
+use Rattle.std.proofs.Common.{◌≡◌, true, length, refl, ◌∙◌, rules, lit≤}
+use Rattle.osbase.specs.declared.references.Runner.{Runner}
 use Rattle.osbase.specs.declared.statuses.ServiceId.TheVariants.{GetEvent}
-use Rattle.osbase.specs.Objects.{task_object}
+use Rattle.osbase.specs.Objects.{task_object, task_place}
+use Rattle.osbase.proofs.Places.{some-there}
+use Rattle.osjobs.specs.Priorities.{is_own_runner}
 use Rattle.osstate.proofs.Effecting.{as_effect, unprinted}
 use Rattle.osact.specs.Checks.{is_ok_status}
 use Rattle.osact.specs.Named.{own_of}
@@ -11,6 +14,13 @@ use Rattle.osact.proofs.Serving.{served, unserved}
 use Rattle.ostaskcall.specs.Events.{reading}
 use Rattle.ostaskcall.proofs.events.get_event.Goals.{in-Some, in-None}
 use Rattle.ostaskcall.proofs.events.get_event.Goals as goal
+
+pub read_events-answer-requires : goal.read_events-answer-requires
+read_events-answer-requires g c =
+    let core = c.args.state.now.view.own in
+    let own : is_own_runner core (Runner.Task c.in-Some.task) ≡ true =
+    some-there core.id (length core.tasks) core.tasks (task_place c.in-Some.task) refl c.in-Some.ensures.own in
+    search (rules, own)
 
 pub returns : goal.returns
 returns g c =

@@ -1,4 +1,4 @@
-use Rattle.std.proofs.Common.{◌≡◌, List, IsTrue, map, sym, ap, subst, ◌∙◌}
+use Rattle.std.proofs.Common.{List, IsTrue, map, sym, ap, subst, ◌∙◌}
 use Rattle.osbase.specs.declared.references.CoreId.{CoreId}
 use Rattle.osplan.specs.declared.plans.Plan.{Plan}
 use Rattle.osplan.specs.Limits.{is_within_limits}

@@ -2,7 +2,6 @@ use Rattle.std.proofs.Common.{◌≡◌, List, map, sym, ap, subst, ◌∙◌}
 use Rattle.std.specs.List.{AllByRecursion}
 use Rattle.osbase.specs.declared.references.CoreId.{CoreId}
 use Rattle.osbase.specs.declared.turns.CoreStimuli.{CoreStimuli}
-use Rattle.osbase.specs.declared.turns.Report.{Report}
 use Rattle.osplan.specs.Stimuli.{AreKnown}
 use Rattle.osseat.specs.declared.histories.Plan.{Plan as SeatPlan}
 use Rattle.osseat.specs.Seats.{AllAt, IsOneHistory, cores_of}

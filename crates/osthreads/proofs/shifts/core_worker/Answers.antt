@@ -1,4 +1,4 @@
-use Rattle.std.proofs.Common.{◌≡◌, ◌<◌, ℕ, Bor, List, [], length, refl, ap, sym, subst, ◌∙◌, arith}
+use Rattle.std.proofs.Common.{Bor, length, refl, ap, sym, ◌∙◌, arith}
 use Rattle.osthreads.specs.declared.run.Run.{Run}
 use Rattle.osstate.specs.State.{KernelState}
 use Rattle.osturn.specs.Seats.{is_ended_phase}

@@ -1,12 +1,10 @@
-use Rattle.std.proofs.Common.{◌≡◌, ◌+◌, ◌≤◌, ◌++◌, ◌∷◌, [], List, sym, subst, arith}
-use Rattle.std.specs.List.{AllByRecursion}
+use Rattle.std.proofs.Common.{◌≡◌, ◌++◌, ◌∷◌, [], List, sym, subst}
 use Rattle.osbase.specs.declared.references.CoreId.{CoreId}
 use Rattle.osseat.specs.Seats.{Held, cores_of}
 use Rattle.osboard.specs.declared.calls.BoardCall.{BoardCall}
 use Rattle.osboard.specs.declared.calls.BoardReply.{BoardReply}
 use Rattle.osthreads.specs.declared.ending.Ending.{Ending}
 use Rattle.osthreads.specs.declared.run.Run.{Run}
-use Rattle.osthreads.specs.Runs.{IsOneCore}
 use Rattle.osthreads.specs.Threads.{AreEnded, IsEnded}
 use Rattle.osthreads.proofs.Gathering.{cores_of-push, ended-push}
 use Rattle.osthreads.proofs.threads.+run_each.Goals as goal

@@ -1,4 +1,4 @@
-use Rattle.std.proofs.Common.{subst, ◌∷◌, []}
+use Rattle.std.proofs.Common.{subst}
 use Rattle.osthreads.specs.Threads.{AreReady, IsReady}
 use Rattle.osthreads.proofs.Gathering.{all-front}
 use Rattle.osthreads.proofs.threads.last_seat.Goals as goal

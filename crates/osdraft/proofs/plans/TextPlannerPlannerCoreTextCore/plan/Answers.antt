@@ -1,17 +1,43 @@
-use Rattle.std.proofs.Common.{refl}
+use Rattle.std.proofs.Common.{inl, inr, ◌≡◌, ◌⊎◌, ◌&&◌, ◌∙◌, false, refl, ap}
+use Rattle.std.specs.List.{list_all}
+use Rattle.std.proofs.lemmas.Bool.{and_from, and_right}
 use Rattle.std.proofs.lemmas.Result.{err_from_is_err_and}
+use Rattle.oscheck.specs.Check.{is_core_short, is_script_short}
+use Rattle.oscheck.specs.Words.{IsrText}
+use Rattle.oscheck.proofs.Counting.{core_shorts}
+use Rattle.osplan.specs.declared.faults.ConfFault.TheVariants.{Limit, NoMemory}
 use Rattle.osdraft.proofs.plans.TextPlannerPlannerCoreTextCore.plan.Goals as goal
 
 pub returns-in_err-tasks : goal.returns-in_err-tasks
-returns-in_err-tasks c = let p = err_from_is_err_and c.from_residual.result c.from_residual.ensures.1 in rw (p.1, p.2) (rw c.as_slice.ensures at c.in_err-tasks.ensures)
+returns-in_err-tasks c =
+    let p = err_from_is_err_and c.from_residual.result c.from_residual.ensures.1 in
+    let core = c.args.core.now in
+    let fault = c.in_err-tasks.field-0.0 in
+    rw (p.1, p.2)
+    (elim (rw c.as_slice.ensures at c.in_err-tasks.ensures) as (λ _. (fault ≡ NoMemory) ⊎ ((fault ≡ Limit) × (is_core_short core ≡ false))) [
+      | inl wanting ↦ inl wanting
+      | inr long ↦ inr (long.0, core_shorts core ∙ ap (λ b. b && list_all (λ (isr : IsrText). is_script_short isr.script) core.isrs) long.1)
+    ])
+
+pub returns-in_err-isrs : goal.returns-in_err-isrs
+returns-in_err-isrs c =
+    let p = err_from_is_err_and c.from_residual-in_err-isrs.result c.from_residual-in_err-isrs.ensures.1 in
+    let core = c.args.core.now in
+    let fault = c.in_err-isrs.field-0.0 in
+    rw (p.1, p.2)
+    (elim (rw c.as_slice-2.ensures at c.in_err-isrs.ensures) as (λ _. (fault ≡ NoMemory) ⊎ ((fault ≡ Limit) × (is_core_short core ≡ false))) [
+      | inl wanting ↦ inl wanting
+      | inr long ↦ inr (long.0, core_shorts core ∙ and_right _ _ long.1)
+    ])
 
 pub returns : goal.returns
 returns c =
     let tasks = c.in_ok-tasks.ensures in
+    let isrs = c.in_ok-isrs.ensures in
     let alarms = c.in_ok-alarms.ensures in
     let tables = c.in_ok-tables.ensures in (
-      rw c.as_slice.ensures at tasks.0,
-      rw (c.from_vec.ensures, c.in_ok-ids_of.ensures, tasks.1, c.in_ok-resources.ensures.1, c.in_ok-counters.ensures.1, alarms.1, tables.1, c.new.ensures, c.number_id-id.ensures)
-          (rw (c.as_slice.ensures, c.as_slice-2.ensures, c.as_slice-3.ensures, c.as_slice-4.ensures, c.as_slice-5.ensures, c.as_slice-6.ensures) refl),
-      rw (c.and-2.ensures, c.and.ensures, tasks.2, alarms.2, tables.2, c.as_slice.ensures, c.as_slice-4.ensures, c.as_slice-5.ensures, c.number_id-id.ensures) refl,
+      core_shorts c.args.core.now ∙ and_from _ _ (rw c.as_slice.ensures at tasks.0) (rw c.as_slice-2.ensures at isrs.0),
+      rw (c.from_vec.ensures, c.in_ok-ids_of.ensures, tasks.1, isrs.1, c.in_ok-resources.ensures.1, c.in_ok-counters.ensures.1, alarms.1, tables.1, c.number_id-id.ensures)
+          (rw (c.as_slice.ensures, c.as_slice-2.ensures, c.as_slice-3.ensures, c.as_slice-4.ensures, c.as_slice-5.ensures, c.as_slice-6.ensures, c.as_slice-7.ensures) refl),
+      rw (c.and-3.ensures, c.and-2.ensures, c.and.ensures, tasks.2, isrs.2, alarms.2, tables.2, c.as_slice.ensures, c.as_slice-2.ensures, c.as_slice-5.ensures, c.as_slice-6.ensures, c.number_id-id.ensures) refl,
     )

@@ -24,7 +24,7 @@ invariant_of-self c = rw c.rewind_at.ensures (kept _ _ c.slot.result _ c.self.in
 
 pub returns : goal.returns
 returns c =
-    let back = λ (row : Row). record row { frame = rewound row.frame } in
+    let back = λ (row : Row). record row { frame = rewound row.frame; depth = 0; used = 0 } in
     let free : (length (held_in c.args.runner c.loop-self.self) == 0) ≡ true = search rules in
     c.rewind_at.ensures
     ∙ (ap (λ (place : ℕ). with_row_at place back c.self.inside.rows.items) c.slot.ensures

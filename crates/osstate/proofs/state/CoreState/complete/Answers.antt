@@ -1,12 +1,13 @@
 use Rattle.std.proofs.Common.{rules, refl, subst}
+use Rattle.osbase.specs.History.{Noted, Done}
 use Rattle.osstate.specs.Sound.{IsSound}
 use Rattle.osstate.proofs.Effecting.{noting}
-use Rattle.osstate.proofs.Sounds.{border-closed, goes-on, jobs-later}
+use Rattle.osstate.proofs.Sounds.{border-closed, goes-on, jobs-kept}
 use Rattle.osstate.proofs.state.CoreState.complete.Goals as goal
 
 pub invariant_of-self : goal.invariant_of-self
 invariant_of-self g c =
-    rw (c.complete.ensures, c.closed_by-self-inside.ensures) (goes-on _ _ c.self.invariant (jobs-later c.self.invariant.jobs) (border-closed c.args.runner c.self.invariant.border) c.self.invariant.times)
+    rw (c.complete.ensures, c.closed_by-self-inside.ensures) (goes-on _ _ c.self.invariant (jobs-kept _ (Noted (Done c.args.runner c.args.status c.args.value)) 0 refl refl c.self.invariant.jobs) (border-closed c.args.runner c.self.invariant.border) c.self.invariant.times)
 
 pub returns-clause-remarks : goal.returns-clause-remarks
-returns-clause-remarks g c = noting (subst (IsSound g.row.P g.row.J) c.self.view_is c.self.invariant) c.requires.own refl (search rules)
+returns-clause-remarks g c = noting (subst (IsSound g.row.P g.row.J) c.self.view_is c.self.invariant) c.requires.own refl refl (search rules)

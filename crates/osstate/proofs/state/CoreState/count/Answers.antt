@@ -1,4 +1,4 @@
-use Rattle.std.proofs.Common.{◌≡◌, true, rules, refl, ap, sym, subst, ◌∙◌}
+use Rattle.std.proofs.Common.{rules, refl, ap, sym, subst, ◌∙◌}
 use Rattle.osbase.specs.History.{Noted, Counted}
 use Rattle.osclock.specs.Clocks.{AreClocks}
 use Rattle.osclock.proofs.Asked.{kept}
@@ -19,4 +19,4 @@ invariant_of-self g c =
 
 pub returns-clause-remarks : goal.returns-clause-remarks
 returns-clause-remarks g c =
-    noting (subst (IsSound g.row.P g.row.J) c.self.view_is c.self.invariant) refl refl (search rules)
+    noting (subst (IsSound g.row.P g.row.J) c.self.view_is c.self.invariant) refl refl refl (search rules)

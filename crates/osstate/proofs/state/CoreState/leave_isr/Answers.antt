@@ -1,12 +1,11 @@
-use Rattle.std.proofs.Common.{rules, subst, arith}
-use Rattle.osbase.specs.declared.references.Runner.TheVariants as Runner
+use Rattle.std.proofs.Common.{rules, subst}
 use Rattle.osstate.specs.Sound.{IsSound}
 use Rattle.osstate.proofs.Effecting.{printing}
-use Rattle.osstate.proofs.Sounds.{border-closed, goes-on, jobs-later}
+use Rattle.osstate.proofs.Sounds.{isr_left}
 use Rattle.osstate.proofs.state.CoreState.leave_isr.Goals as goal
 
 pub invariant_of-self : goal.invariant_of-self
-invariant_of-self g c = rw (c.end_isr.ensures, c.closed_by-self-inside.ensures, c.record.ensures.progress) (goes-on _ _ c.self.invariant (jobs-later c.self.invariant.jobs) (border-closed (Runner.Isr c.args.isr) c.self.invariant.border) c.self.invariant.times)
+invariant_of-self g c = rw (c.end_isr.ensures, c.closed_by-self-inside.ensures, c.record.ensures.progress) (isr_left g.row.P g.row.J c.args.isr _ c.self.invariant)
 
 pub returns-clause-effects : goal.returns-clause-effects
 returns-clause-effects g c = printing (subst (IsSound g.row.P g.row.J) c.self.view_is c.self.invariant) c.requires.own (search rules) c.record.ensures.marks

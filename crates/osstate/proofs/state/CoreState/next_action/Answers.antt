@@ -1,6 +1,5 @@
-use Rattle.std.proofs.Common.{rules, ◌≡◌, true, ap, subst, ◌∙◌}
+use Rattle.std.proofs.Common.{rules, ◌≡◌, true, subst}
 use Rattle.std.specs.List.{list_all}
-use Rattle.oscript.specs.Frames.{action_at}
 use Rattle.osrunner.specs.Rows.{frame_in}
 use Rattle.osstate.specs.Queries.{next_action_in}
 use Rattle.osstate.specs.Readings.{script_of}

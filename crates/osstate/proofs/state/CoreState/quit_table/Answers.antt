@@ -1,4 +1,4 @@
-use Rattle.std.proofs.Common.{◌≡◌, true, rules, refl, ap, sym, subst, ◌∙◌}
+use Rattle.std.proofs.Common.{rules, refl, ap, sym, subst, ◌∙◌}
 use Rattle.osbase.specs.History.{Noted, TableQuit}
 use Rattle.ostable.specs.Tables.{AreTables}
 use Rattle.ostable.specs.Waiting.{all_wait_by_counter}
@@ -17,4 +17,4 @@ invariant_of-self g c =
 
 pub returns-clause-remarks : goal.returns-clause-remarks
 returns-clause-remarks g c =
-    noting (subst (IsSound g.row.P g.row.J) c.self.view_is c.self.invariant) refl refl (search rules)
+    noting (subst (IsSound g.row.P g.row.J) c.self.view_is c.self.invariant) refl refl refl (search rules)

@@ -1,4 +1,4 @@
-use Rattle.std.proofs.Common.{subst, rules, arith}
+use Rattle.std.proofs.Common.{subst, rules}
 use Rattle.osstate.specs.Sound.{IsSound}
 use Rattle.osstate.proofs.Effecting.{printing}
 use Rattle.osstate.proofs.Sounds.{released}

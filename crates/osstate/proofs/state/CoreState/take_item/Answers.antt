@@ -1,4 +1,4 @@
-use Rattle.std.proofs.Common.{ap, refl, ◌≡◌, ◌||◌, true, rules, sym, subst}
+use Rattle.std.proofs.Common.{ap, refl, ◌≡◌, ◌||◌, true, sym, subst}
 use Rattle.osbase.specs.History.{Took, phase_on}
 use Rattle.osbase.specs.Phases.{is_before_live, is_past_first_gate}
 use Rattle.osstate.specs.Sound.{IsSound, is_first_gate}
@@ -19,4 +19,4 @@ returns-clause-state g c =
     rw (c.take_item.ensures, c.take_item-2.ensures, c.open_by-self-inside.ensures, c.post_by.ensures, c.receive_by.ensures) (ap (state_after (Took c.args.item.now)) c.self.view_is)
 
 pub returns-clause-notes : goal.returns-clause-notes
-returns-clause-notes g c = notes (returns-clause-state g c) (own_entry (Took c.args.item.now) (subst (IsSound g.row.P g.row.J) c.self.view_is c.self.invariant) refl c.requires.sender)
+returns-clause-notes g c = notes (returns-clause-state g c) (own_entry (Took c.args.item.now) (subst (IsSound g.row.P g.row.J) c.self.view_is c.self.invariant) refl c.requires.sender refl)

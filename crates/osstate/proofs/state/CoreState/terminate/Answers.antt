@@ -1,4 +1,4 @@
-use Rattle.std.proofs.Common.{◌≡◌, true, rules, arith, sym, subst}
+use Rattle.std.proofs.Common.{◌≡◌, true, rules, sym, subst}
 use Rattle.osbase.specs.declared.references.Runner.TheVariants as Runner
 use Rattle.osjobs.specs.Priorities.{is_own_runner}
 use Rattle.osstate.specs.Sound.{IsSound}

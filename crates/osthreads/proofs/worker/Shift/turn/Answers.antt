@@ -1,4 +1,4 @@
-use Rattle.std.proofs.Common.{◌≡◌, ◌+◌, ◌≤◌, ◌<◌, ℕ, length, subst, arith}
+use Rattle.std.proofs.Common.{◌≤◌, ◌<◌, ℕ, length, subst, arith}
 use Rattle.std.proofs.lemmas.Bool.Decides.{nat_tests}
 use Rattle.osthreads.specs.Working.{Turns}
 use Rattle.osthreads.proofs.Shifting.{a-look, no-look}

@@ -1,0 +1,56 @@
+//! The ISRs whose oldest job was started, the last one first.
+
+ghost use Rattle.std.specs.Prelude.{◌≡◌, ◌<◌, ◌∷◌, length, remove, IfSome, IfNone};
+ghost use Rattle.osbase.specs.Interrupts.{isr_count, without_isr};
+
+use crate::slots::IsrSlot;
+use arrayvec::ArrayVec;
+use osbase::{ISRS, IsrRef};
+
+/// The oldest job of the ISR is started.
+pub(crate) fn enter(isrs: &mut ArrayVec<IsrSlot, ISRS>, isr: IsrRef)
+    requires room { length (without_isr isr isrs.old.items) < ISRS }
+    ensures { isrs.new.items ≡ isr ∷ without_isr isr isrs.old.items }
+{
+    leave(isrs, isr);
+    isrs.insert(0, IsrSlot { isr });
+}
+
+/// The job of the ISR, if it was started, has ended.
+pub(crate) fn leave(isrs: &mut ArrayVec<IsrSlot, ISRS>, isr: IsrRef)
+    ensures { isrs.new.items ≡ without_isr isr isrs.old.items }
+{
+    if let Some(place) = place_of(isrs.as_slice(), isr) {
+        isrs.remove(place);
+    }
+}
+
+/// How often the ISR is among these.
+pub(crate) fn count(isrs: &[IsrSlot], isr: IsrRef) -> usize
+    ensures { result ≡ isr_count isr isrs.now }
+{
+    let mut count = 0;
+    let mut place = isrs.len();
+    while place > 0 {
+        place -= 1;
+        let slot = &isrs[place];
+        if slot.isr == isr {
+            count += 1;
+        }
+    }
+    count
+}
+
+// The first place of the ISR.
+fn place_of(isrs: &[IsrSlot], isr: IsrRef) -> Option<usize>
+    ensures found { IfSome result (λ place. remove isrs.now place ≡ without_isr isr isrs.now) }
+    ensures within { IfSome result (λ place. place < length isrs.now) }
+    ensures none { IfNone result (without_isr isr isrs.now ≡ isrs.now) }
+{
+    for (place, slot) in isrs.iter().enumerate() {
+        if slot.isr == isr {
+            return Some(place);
+        }
+    }
+    None
+}

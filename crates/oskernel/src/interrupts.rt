@@ -1,0 +1,29 @@
+//! Interrupts.
+
+ghost use Rattle.std.specs.Prelude.{IsTrue};
+ghost use Rattle.osjobs.specs.Priorities.{is_own_runner};
+ghost use Rattle.osstate.specs.Does.{Effects, HasRoom};
+ghost use Rattle.osbase.specs.declared.references.Runner.{Runner as RunnerValue};
+ghost use Rattle.osact.specs.Acts.{does};
+ghost use Rattle.oskernel.specs.Step.{raises};
+
+use osbase::{IsrRef, Mark};
+use osstate::CoreState;
+
+/// An interrupt: a job of one of the core's ISRs is pending from here on. It is lost if one is pending already (AUTOSAR SWS OS 4.x,
+/// section 7.6).
+pub(crate) fn raise<const P: usize, const J: usize, const OUT: usize>(
+    state: &mut CoreState<'_, P, J, OUT>,
+    isr: IsrRef,
+    marks: &mut Vec<Mark>,
+)
+    requires own { IsTrue (is_own_runner state.old.view.own (RunnerValue.Isr isr)) }
+    requires room { HasRoom 1 1 state.old marks.old }
+    ensures { Effects 1 1 (does (raises isr)) state.old state.new marks.old marks.new }
+{
+    if state.is_pending(isr) {
+        state.print(Mark::InterruptLost(isr), marks);
+    } else {
+        state.accept(isr, marks);
+    }
+}

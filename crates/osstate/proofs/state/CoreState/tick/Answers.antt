@@ -1,0 +1,21 @@
+use Rattle.std.proofs.Common.{[], refl, rules, ap, subst, arith}
+use Rattle.osbase.specs.Sets.{slot_of}
+use Rattle.osbase.specs.History.{Printed}
+use Rattle.osbase.specs.declared.marks.Mark.TheVariants as Mark
+use Rattle.osstate.specs.Sound.{IsSound}
+use Rattle.osstate.specs.State.{KernelState}
+use Rattle.osstate.proofs.Effecting.{printing}
+use Rattle.osstate.proofs.Room.{own_charged}
+use Rattle.osstate.proofs.Sounds.{same-jobs}
+use Rattle.osstate.proofs.state.CoreState.tick.Goals as goal
+
+pub tick-requires : goal.tick-requires
+tick-requires g c = (search rules, λ r. omega (arith, c.self.invariant.jobs.used (slot_of r), c.requires.count, ap (λ (s : KernelState). s.progress.entries) c.self.view_is))
+
+pub invariant_of-self : goal.invariant_of-self
+invariant_of-self g c = rw (c.tick.ensures [], c.record.ensures.progress) (same-jobs [] (Printed Mark.Tick) refl refl c.self.invariant)
+
+pub returns-clause-effects : goal.returns-clause-effects
+returns-clause-effects g c =
+    let sound = subst (IsSound g.row.P g.row.J) c.self.view_is c.self.invariant in
+    printing sound (own_charged c.args.self.now.view.own c.args.self.now.tasks sound.jobs.within sound.jobs.interrupts) (search rules) c.record.ensures.marks

@@ -1,0 +1,165 @@
+//! The counters and the alarms of a core, as its state has them.
+
+ghost use Rattle.std.specs.Prelude.{◌≡◌, ◌∷◌, ◌<◌, ◌≤◌, ◌^◌, IsTrue, length, option_copied, option_map, Some, suc};
+ghost use Rattle.std.specs.List.{list_all};
+ghost use Rattle.osbase.specs.declared.references.AlarmRef.{AlarmRef as AlarmRefValue};
+ghost use Rattle.osbase.specs.History.{Noted, AlarmCancelled, AlarmSet, Counted};
+ghost use Rattle.osbase.specs.Objects.{alarm_object, counter_object};
+ghost use Rattle.osplan.specs.Clocked.{are_clocks_within};
+ghost use Rattle.osplan.specs.Objects.{is_own_object, may_act};
+ghost use Rattle.osplan.specs.declared.plans.Alarm.{Alarm as AlarmValue};
+ghost use Rattle.osplan.specs.View.{own_alarm};
+ghost use Rattle.osclock.specs.Clocks.{alarm_in, attached_to, counter_in, counts_to_by, counts_to_in, due_by, due_in, is_in_use_by, is_used, left_by, left_in, max_for, value_by};
+ghost use Rattle.osstate.specs.Does.{Reads, Remarks};
+ghost use Rattle.osstate.specs.Readings.{alarm_named, counter_named};
+ghost use Rattle.osstate.specs.Steps.{state_after};
+
+use super::CoreState;
+use osbase::{AlarmRef, CounterRef, RemoteCall};
+use osclock::AlarmList;
+use osplan::{Alarm, Counter, own};
+
+impl<'a, const P: usize, const J: usize, const OUT: usize> CoreState<'a, P, J, OUT> {
+    /// One of the core's counters goes on by one, and with it each alarm and each schedule table of it (OSEK/VDX OS 2.2.3,
+    /// section 9.1 and 9.2; AUTOSAR SWS OS 4.x, section 7.3).
+    pub fn count(&mut self, counter: CounterRef)
+        requires own { IsTrue (is_own_object self.old.view.own (counter_object counter)) }
+        requires count { self.old.progress.entries < 2 ^ 63 }
+        ensures state { self.new ≡ state_after (Noted (Counted counter)) self.old }
+        ensures remarks { Remarks 1 (λ v h. Noted (Counted counter) ∷ h) self.old self.new }
+    {
+        self.clocks.count(self.core, counter);
+        self.tables.count(self.core, counter);
+        self.progress.entries += 1;
+    }
+
+    /// One of the core's alarms is due after so many counts of its counter, at most a full turn, and again after each
+    /// cycle (OSEK/VDX OS 2.2.3, section 13.6.3.3 and 13.6.3.4).
+    pub fn set_alarm(&mut self, alarm: AlarmRef, first: u32, cycle: u32)
+        requires own { IsTrue (is_own_object self.old.view.own (alarm_object alarm)) }
+        requires later { 0 < first }
+        requires turn { first ≤ suc (max_for self.old.view.own alarm) }
+        requires cycle { cycle ≤ max_for self.old.view.own alarm }
+        requires count { self.old.progress.entries < 2 ^ 63 }
+        ensures state { self.new ≡ state_after (Noted (AlarmSet alarm first cycle)) self.old }
+        ensures remarks { Remarks 1 (λ v h. Noted (AlarmSet alarm first cycle) ∷ h) self.old self.new }
+    {
+        self.clocks.set_alarm(self.core, alarm, first, cycle);
+        self.progress.entries += 1;
+    }
+
+    /// One of the core's alarms is not in use any longer (OSEK/VDX OS 2.2.3, section 13.6.3.5).
+    pub fn cancel_alarm(&mut self, alarm: AlarmRef)
+        requires own { IsTrue (is_own_object self.old.view.own (alarm_object alarm)) }
+        requires count { self.old.progress.entries < 2 ^ 63 }
+        ensures state { self.new ≡ state_after (Noted (AlarmCancelled alarm)) self.old }
+        ensures remarks { Remarks 1 (λ v h. Noted (AlarmCancelled alarm) ∷ h) self.old self.new }
+    {
+        self.clocks.cancel_alarm(self.core, alarm);
+        self.progress.entries += 1;
+    }
+
+    /// A counter of the core that a script names; none for the invalid identifier, and for one of another core.
+    pub fn counter(&self, target: Option<CounterRef>) -> Option<&'a Counter>
+        ensures value { option_copied result ≡ counter_named self.now.view.own target }
+        ensures reads { Reads (λ v h. counter_named v.own target) self.now (option_copied result) }
+        ensures within { IsTrue (are_clocks_within self.now.view.own) }
+    {
+        let core = self.core;
+        own::counter_of(core, target?)
+    }
+
+    /// An alarm of the core that a script names; none for the invalid identifier, and for one of another core.
+    pub fn alarm(&self, target: Option<AlarmRef>) -> Option<&'a Alarm>
+        ensures value { option_copied result ≡ alarm_named self.now.view.own target }
+        ensures reads { Reads (λ v h. alarm_named v.own target) self.now (option_copied result) }
+    {
+        let core = self.core;
+        own::alarm_of(core, target?)
+    }
+
+    /// The core's counters, in index order.
+    pub fn counters(&self) -> &'a [Counter]
+        ensures value { result.now ≡ self.now.view.own.counters }
+        ensures few { length result.now ≤ 8 }
+        ensures within { IsTrue (are_clocks_within self.now.view.own) }
+    {
+        let core = self.core;
+        core.counters.as_slice()
+    }
+
+    /// The core's alarms, in index order.
+    pub fn alarms(&self) -> &'a [Alarm]
+        ensures value { result.now ≡ self.now.view.own.alarms }
+        ensures few { length result.now ≤ 32 }
+        ensures within { IsTrue (are_clocks_within self.now.view.own) }
+    {
+        let core = self.core;
+        core.alarms.as_slice()
+    }
+
+    /// The value of one of the core's counters (OSEK/VDX OS 2.2.3, section 9.1).
+    pub fn counter_value(&self, counter: CounterRef) -> u32
+        requires own { IsTrue (is_own_object self.now.view.own (counter_object counter)) }
+        ensures value { result ≡ (counter_in counter self.now.clocks).value }
+        ensures reads { Reads (λ v h. value_by v.own counter h) self.now result }
+    {
+        self.clocks.value(counter)
+    }
+
+    /// Whether one of the core's alarms is in use (OSEK/VDX OS 2.2.3, section 9.2).
+    pub fn is_alarm_in_use(&self, alarm: AlarmRef) -> bool
+        requires own { IsTrue (is_own_object self.now.view.own (alarm_object alarm)) }
+        ensures value { result ≡ is_used (alarm_in alarm self.now.clocks) }
+        ensures reads { Reads (λ v h. is_in_use_by v.own alarm h) self.now result }
+    {
+        self.clocks.is_in_use(alarm)
+    }
+
+    /// How many counts are left until one of the core's alarms is due; none for one that is not in use
+    /// (OSEK/VDX OS 2.2.3, section 13.6.3.2).
+    pub fn counts_left(&self, alarm: AlarmRef) -> Option<u32>
+        requires own { IsTrue (is_own_object self.now.view.own (alarm_object alarm)) }
+        ensures value { result ≡ left_in self.now.view.own alarm self.now.clocks }
+        ensures reads { Reads (λ v h. left_by v.own alarm h) self.now result }
+    {
+        self.clocks.left(self.core, alarm)
+    }
+
+    /// After how many counts the counter of one of the core's alarms has this value; the value that it has is a full turn
+    /// away (OSEK/VDX OS 2.2.3, section 13.6.3.4).
+    pub fn counts_to(&self, alarm: AlarmRef, start: u32) -> u32
+        requires own { IsTrue (is_own_object self.now.view.own (alarm_object alarm)) }
+        requires turn { start ≤ max_for self.now.view.own alarm }
+        ensures value { result ≡ counts_to_in self.now.view.own alarm start self.now.clocks }
+        ensures reads { Reads (λ v h. counts_to_by v.own alarm start h) self.now result }
+        ensures later { 0 < result }
+        ensures within { result ≤ suc (max_for self.now.view.own alarm) }
+    {
+        self.clocks.counts_to(self.core, alarm, start)
+    }
+
+    /// What one of the core's alarms does when it is due (AUTOSAR SWS OS 4.x, OsAlarmAction).
+    pub fn alarm_action(&self, alarm: AlarmRef) -> RemoteCall
+        requires own { IsTrue (is_own_object self.now.view.own (alarm_object alarm)) }
+        ensures value { option_map (λ (x : AlarmValue). x.action) (own_alarm self.now.view.own alarm) ≡ Some result }
+        ensures known { IsTrue (may_act self.now.view.own result) }
+    {
+        match own::alarm_of(self.core, alarm) {
+            Some(own) => own.action,
+            None => unreachable!(),
+        }
+    }
+
+    /// The alarms of one of the core's counters that are due at its next count, in index order (OSEK/VDX OS 2.2.3,
+    /// section 9.2).
+    pub fn due_next(&self, counter: CounterRef) -> AlarmList
+        requires own { IsTrue (is_own_object self.now.view.own (counter_object counter)) }
+        ensures value { result.items ≡ due_in self.now.view.own counter self.now.clocks }
+        ensures reads { Reads (λ v h. due_by v.own counter h) self.now result.items }
+        ensures own { IsTrue (list_all (λ (a : AlarmRefValue). is_own_object self.now.view.own (alarm_object a)) result.items) }
+        ensures few { length result.items ≤ length (attached_to self.now.view.own counter) }
+    {
+        self.clocks.due_next(self.core, counter)
+    }
+}
