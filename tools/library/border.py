@@ -17,7 +17,7 @@ NOTHING = "nothing"
 
 @dataclass(frozen=True)
 class Crossing:
-    """What one task, alarm or table does with an object of another core; an operation may stand in several places."""
+    """What a task, an ISR, an alarm or a table does with an object of another core; it may do so in several places."""
 
     source: int
     target: int
@@ -88,7 +88,7 @@ def _way(whole: Model, reference: Reference) -> Tuple[str, str]:
         return NOTHING, "nothing crosses; E_OS_CORE, as for each counter of another core"
     if reference.home not in whole.started:
         return NOTHING, "nothing crosses; E_OS_CORE, since core %d is off" % reference.home
-    return (REQUEST if reference.actor.kind == model.TASK else ACTION), ""
+    return (REQUEST if reference.actor.kind in model.SCRIPTED else ACTION), ""
 
 
 # ---------------------------------------------------------------------------------------------------------------------

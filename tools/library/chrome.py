@@ -1,4 +1,4 @@
-"""A run as Chrome's trace events in JSON, which Perfetto shows: a process for each core, a thread for each task.
+"""A run as Chrome's trace events in JSON, which Perfetto shows: cores as processes, tasks and ISRs as threads.
 
 A turn lasts one microsecond. Envelopes stand in it where their lines stand in the item, so that flows have an order.
 """
@@ -8,15 +8,15 @@ from typing import Any, Dict, Iterable, List, Optional, Tuple
 
 from library.items import Deed, Item
 from library.jobs import RUNNING, Envelope, Jobs
-from library.states import held_by_task, stretches_by_task, task_rows
+from library.states import held_by_task, rows_of, stretches_by_name
 from library.timeline import Timeline
 
 Event = Dict[str, Any]
 
-# The threads of a core that are no tasks.
+# The threads of a core that are no tasks and no ISRs.
 ENVELOPES = 1
 MARKS = 2
-FIRST_TASK = 3
+FIRST_ROW = 3
 
 
 def text(jobs: Jobs, source: str) -> str:
@@ -33,16 +33,16 @@ def _events(jobs: Jobs) -> List[Event]:
     """All events."""
     threads = _threads(jobs.timeline)
     events = list(_names(jobs.timeline, threads))
-    events += _tasks(jobs, threads)
-    events += _marks(jobs.timeline)
+    events += _states(jobs, threads)
+    events += _marks(jobs)
     for number, envelope in enumerate(jobs.envelopes):
         events += _envelope(2 * number, envelope)
     return events
 
 
 def _threads(timeline: Timeline) -> Dict[str, Tuple[int, int]]:
-    """The process and the thread of each task."""
-    return {row.name: (row.core, FIRST_TASK + place) for place, row in enumerate(task_rows(timeline))}
+    """The process and the thread of each task and ISR."""
+    return {row.name: (row.core, FIRST_ROW + place) for place, row in enumerate(rows_of(timeline))}
 
 
 def _names(timeline: Timeline, threads: Dict[str, Tuple[int, int]]) -> Iterable[Event]:
@@ -52,9 +52,9 @@ def _names(timeline: Timeline, threads: Dict[str, Tuple[int, int]]) -> Iterable[
         yield _meta("process_sort_index", core, 0, {"sort_index": core})
         yield _meta("thread_name", core, ENVELOPES, {"name": "envelopes"})
         yield _meta("thread_name", core, MARKS, {"name": "ticks and errors"})
-    for row in task_rows(timeline):
+    for row in rows_of(timeline):
         core, thread = threads[row.name]
-        yield _meta("thread_name", core, thread, {"name": "%s (prio %d)" % (row.name, row.prio)})
+        yield _meta("thread_name", core, thread, {"name": "%s (%s)" % (row.name, row.rank)})
         yield _meta("thread_sort_index", core, thread, {"sort_index": thread})
 
 
@@ -63,12 +63,12 @@ def _meta(name: str, core: int, thread: int, values: Event) -> Event:
     return {"ph": "M", "name": name, "pid": core, "tid": thread, "args": values}
 
 
-def _tasks(jobs: Jobs, threads: Dict[str, Tuple[int, int]]) -> Iterable[Event]:
-    """The states of tasks, and what they hold. A running task is shown by its name, as each name has a colour."""
-    for task, stretches in stretches_by_task(jobs).items():
-        core, thread = threads[task]
+def _states(jobs: Jobs, threads: Dict[str, Tuple[int, int]]) -> Iterable[Event]:
+    """The states of tasks and ISRs, and what they hold. One that runs is shown by its name, as each has a colour."""
+    for owner, stretches in stretches_by_name(jobs).items():
+        core, thread = threads[owner]
         for each in stretches:
-            name = task if each.state == RUNNING else each.state
+            name = owner if each.state == RUNNING else each.state
             yield _slice(name, each.state, core, thread, each.begin, each.end - each.begin, {"job": each.job.number})
     for task, holds in held_by_task(jobs).items():
         core, _ = threads[task]
@@ -85,17 +85,19 @@ def _slice(name: str, category: str, core: int, thread: int, begin: float, lengt
     return {"ph": "X", "name": name, "cat": category, **where, "args": values}
 
 
-def _marks(timeline: Timeline) -> Iterable[Event]:
-    """The ticks, and the calls of ErrorHook."""
-    for item in timeline.items:
-        names = (["tick %d" % item.tick] if item.is_tick else []) + item.errors
-        for name in names:
-            yield {"ph": "i", "s": "t", "name": name, "pid": item.core, "tid": MARKS, "ts": item.turn}
+def _marks(jobs: Jobs) -> Iterable[Event]:
+    """The ticks, the calls of ErrorHook and of the hooks of protection, and lost interrupts."""
+    shown = [(item, "tick %d" % item.tick) for item in jobs.timeline.items if item.is_tick]
+    shown += [(mark.item, mark.text) for mark in jobs.marks]
+    # A sort keeps the tick before what comes of it.
+    for item, name in sorted(shown, key=lambda pair: pair[0].turn):
+        yield {"ph": "i", "s": "t", "name": name, "pid": item.core, "tid": MARKS, "ts": item.turn}
 
 
 def _time(item: Item, index: int) -> Tuple[float, float]:
     """When a line of an item begins, and how long it lasts."""
-    begin, end = (round(item.turn + place / len(item.lines), 3) for place in (index, index + 1))
+    lines = max(len(item.lines), 1)
+    begin, end = (round(item.turn + place / lines, 3) for place in (index, index + 1))
     return begin, round(end - begin, 3)
 
 
@@ -117,8 +119,9 @@ def _envelope(number: int, envelope: Envelope) -> Iterable[Event]:
 
 
 def _line_of(item: Item, deed: Deed, word: str) -> Tuple[float, float]:
-    """When the line of an envelope begins, and how long it lasts."""
-    return _time(item, next(n for n in range(deed.first, deed.behind) if item.lines[n].startswith(word + " ")))
+    """When the line of an envelope begins, and how long it lasts. A core that is down prints none."""
+    shown = (n for n in range(deed.first, deed.behind) if item.lines[n].startswith(word + " "))
+    return _time(item, next(shown, deed.first))
 
 
 def _short(name: str, core: int, time: Tuple[float, float], values: Optional[Event] = None) -> Event:

@@ -9,6 +9,8 @@ from typing import Any, Dict, List, Optional
 from library.formats import CONFIGURATION, MODE, NAMED_LISTS, OBJECTS, ListOf, Object
 from library.places import Json, JsonList, JsonNumber, JsonObject, JsonText
 
+LISTS = {kind: name for name, kind in NAMED_LISTS.items()}
+
 
 @dataclass(eq=False)
 class Part:
@@ -74,6 +76,11 @@ class Core(Part):
         """Its number."""
         return self["id"]
 
+    @property
+    def scripted(self) -> List[Named]:
+        """Its objects with scripts: its tasks, and then its ISRs."""
+        return self.named["tasks"] + self.named["isrs"]
+
 
 @dataclass(eq=False)
 class Draft(Part):
@@ -93,7 +100,7 @@ class Draft(Part):
 
     def objects(self, kind: str) -> List[Named]:
         """All objects of a kind, of all cores."""
-        return [each for core in self.cores for each in core.named[kind + "s"]]
+        return [each for core in self.cores for each in core.named[LISTS[kind]]]
 
     def names(self, kind: str) -> List[str]:
         """The names of all objects of a kind."""

@@ -6,7 +6,7 @@ grammar within one text.
 
 import json
 import re
-from dataclasses import dataclass, field
+from dataclasses import dataclass, field, replace
 from typing import Dict, Iterator, List, NamedTuple, Optional, Sequence, Tuple
 
 from library import formats, shorthand
@@ -191,7 +191,7 @@ class _Expander:
             self.refused.append(refused)
             return
         labels = [label.name for label in shorthand.labels_in(parts)]
-        around = Surroundings(around.events, around.task, around.own_events, labels)
+        around = replace(around, labels=labels)
         placed = list(shorthand.operations_in(parts))
         self.parts[value.pointer] = [each.operation.offset for each in placed]
         self.replace(value, ";".join(self.operation(each, around) for each in placed))
@@ -228,6 +228,9 @@ class _Expander:
         for task, names in zip(tasks, own_events):
             if "script" in task.members:
                 self.script(task.members["script"].value, Surroundings(events, _name(task), names))
+        for isr in (isr for core in cores for isr in _elements(core, "isrs")):
+            if "script" in isr.members:
+                self.script(isr.members["script"].value, Surroundings(events))
         for core in cores:
             owners = list(_elements(core, "alarms"))
             actions = [owner.members["action"].value for owner in owners if "action" in owner.members]
@@ -308,8 +311,8 @@ _STIMULI = _Words(
     "words of this core",
     formats.MOST_STIMULI,
     "op",
-    re.compile("|".join(formats.STIMULUS_WORDS)),
-    "stimuli are `op` and `tick`",
+    re.compile("|".join(formats.STIMULUS_WORDS + (formats.INTERRUPT + formats.NAME.pattern,))),
+    "stimuli are `op`, `tick` and `irq=I`",
 )
 _TURNS = _Words(
     "turns",

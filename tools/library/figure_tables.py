@@ -3,10 +3,12 @@
 from typing import Any, Iterable, List, Optional, Sequence, Tuple
 
 from library.columns import columns
-from library.figures import Figures, units_of
+from library.figures import Figures, tasks_and_isrs, units_of
 
-_CORES = ("core", "standing", "stimuli", "ticks", "op", "idle", "load", "lost", "refused", "errors")
+_CORES = ("core", "standing", "stimuli", "ticks", "irq", "op", "idle", "load", "lost", "refused")
+_CORES += ("errors", "protection", "down")
 _TASKS = ("core", "task", "prio", "activations", "lost", "ended", "live", "preempted", "op", "load")
+_ISRS = ("core", "isr", "level", "interrupts", "lost", "ended", "live", "op", "load")
 
 
 def tables(figures: Figures) -> str:
@@ -16,10 +18,13 @@ def tables(figures: Figures) -> str:
         ("Run", _run(figures)),
         ("Cores", _plain(_CORES, figures["cores"], 2)),
         ("Tasks", _plain(_TASKS, figures["tasks"], 2)),
+        ("ISRs", _plain(_ISRS, figures["isrs"], 2)),
         ("Waiting: least, mean, greatest", _times(figures, "waiting", units)),
         ("Response: least, mean, greatest", _times(figures, "response", units)),
         ("Refused", _refused(figures)),
         ("Preemptions", _plain(("core", "task", "by", "times"), figures["preemptions"], 3)),
+        ("Interruptions", _plain(("core", "who", "by", "times"), figures["interruptions"], 3)),
+        ("Budgets", _budgets(figures)),
         ("Resources held: least, mean, greatest", _resources(figures, units)),
         ("Chains: least, mean, greatest", _chains(figures, units)),
         ("Crossings", _plain(("from", "to", "operation", "sent", "served"), figures["crossings"], 3)),
@@ -61,13 +66,22 @@ def spread(times: Optional[Figures]) -> str:
 
 
 def _times(figures: Figures, name: str, units: Tuple[str, ...]) -> List[str]:
-    """The times of each task, in each unit."""
+    """The times of each task and each ISR, in each unit."""
     rows = []
-    for task in figures["tasks"]:
-        first = task[name][units[0]]
-        cells = [spread(task[name][unit]) for unit in units]
-        rows.append([str(task["core"]), task["task"], str(first["count"]), *cells, str(first["open"])])
-    return _table(("core", "task", "parts", *units, "open"), rows, 2)
+    for owner, each in tasks_and_isrs(figures):
+        first = each[name][units[0]]
+        cells = [spread(each[name][unit]) for unit in units]
+        rows.append([str(each["core"]), owner, str(first["count"]), *cells, str(first["open"])])
+    return _table(("core", "who", "parts", *units, "open"), rows, 2)
+
+
+def _budgets(figures: Figures) -> List[str]:
+    """What was used of each budget at most, and how often it was reached."""
+    rows = []
+    for owner, each in tasks_and_isrs(figures):
+        if each["budget"]:
+            rows.append([str(each["core"]), owner, *(str(each[name]) for name in ("budget", "used", "reached"))])
+    return _table(("core", "who", "budget", "used", "reached"), rows, 2)
 
 
 def _refused(figures: Figures) -> List[str]:

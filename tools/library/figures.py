@@ -1,11 +1,12 @@
 """What a run amounts to in numbers: a plain value, which is printed as JSON, as tables, and held to requirements."""
 
 from collections import Counter
-from typing import Any, Callable, Dict, List, Optional, Sequence, Tuple
+from typing import Any, Callable, Dict, Iterator, List, Optional, Sequence, Tuple
 
+from library.drafts import Core, Named
 from library.items import START, Deed, Item
-from library.jobs import TERMINATE, Jobs, Part
-from library.model import TABLE, TASK, model_of
+from library.jobs import LOST, PROTECTION, SHUTDOWN, TERMINATE, Job, Jobs, Mark, Part, Preemption
+from library.model import TABLE, model_of
 from library.timeline import mailbox_levels
 
 Figures = Dict[str, Any]
@@ -28,6 +29,13 @@ def units_of(figures: Figures) -> Tuple[str, ...]:
     return TICKS, STIMULI, TURNS if figures["run"][ROUNDS] is None else ROUNDS
 
 
+def tasks_and_isrs(figures: Figures) -> Iterator[Tuple[str, Figures]]:
+    """The tasks and then the ISRs, each with its name."""
+    for kind in ("task", "isr"):
+        for each in figures[kind + "s"]:
+            yield each[kind], each
+
+
 def figures_of(jobs: Jobs) -> Figures:
     """All figures of a run."""
     run, items = jobs.timeline.run, jobs.timeline.items
@@ -42,9 +50,12 @@ def figures_of(jobs: Jobs) -> Figures:
     }
     refusals = _refusals(jobs)
     found["cores"] = _cores(jobs, refusals)
-    found["tasks"] = _tasks(jobs, refusals, units_of(found))
+    with_jobs = _Owners(jobs, refusals, units_of(found))
+    found["tasks"] = _tasks(with_jobs)
+    found["isrs"] = _isrs(with_jobs)
     found["refused"] = refusals
-    found["preemptions"] = _preemptions(jobs)
+    found["preemptions"] = _preemptions(jobs.preemptions, "task")
+    found["interruptions"] = _preemptions(jobs.interruptions, "who")
     found["resources"] = _resources(jobs, units_of(found))
     found["chains"] = _chains(jobs, units_of(found))
     found["crossings"] = _crossings(jobs)
@@ -69,7 +80,7 @@ def _refusals(jobs: Jobs) -> List[Figures]:
     counts: Dict[tuple, int] = Counter()
     for refusal in jobs.refusals:
         deed = refusal.actor
-        caller = deed.name if deed.kind == TASK else None
+        caller = deed.name if deed.is_of_job else None
         counts[refusal.core, caller, who(deed), deed.operation, refusal.status, deed.activates] += 1
     names = ("core", "caller", "who", "operation", "status", "lost", "times")
     return [dict(zip(names, key + (times,))) for key, times in counts.items()]
@@ -79,24 +90,40 @@ def _cores(jobs: Jobs, refusals: List[Figures]) -> List[Figures]:
     """What each core took."""
     model = model_of(jobs.timeline.run.draft)
     found = []
+    marks = _marks(jobs, lambda mark: mark.core)
     for core, items in jobs.timeline.by_core.items():
         stimuli, ticks = (items[-1].stimulus, items[-1].tick) if items else (0, 0)
-        operations = sum(item.task is not None for item in items)
+        total = _op(jobs, core)
+        operations = sum(item.runner is not None for item in items)
+        lost = sum(each["times"] for each in refusals if each["core"] == core and each["lost"])
         found.append(
             {
                 "core": core,
                 "standing": model.standing(core),
                 "stimuli": stimuli,
                 "ticks": ticks,
-                "op": stimuli - ticks,
-                "idle": stimuli - ticks - operations,
-                "load": percent(operations, stimuli - ticks),
-                "lost": sum(each["times"] for each in refusals if each["core"] == core and each["lost"]),
+                "irq": stimuli - ticks - total,
+                "op": total,
+                "idle": total - operations,
+                "load": percent(operations, total),
+                "lost": lost + marks[core, LOST],
                 "refused": sum(each["times"] for each in refusals if each["core"] == core),
                 "errors": sum(len(item.errors) for item in items),
+                "protection": marks[core, PROTECTION],
+                "down": marks[core, SHUTDOWN],
             }
         )
     return found
+
+
+def _op(jobs: Jobs, core: int) -> int:
+    """How many `op` a core took."""
+    return sum(item.is_op for item in jobs.timeline.by_core[core])
+
+
+def _marks(jobs: Jobs, owner: Callable[[Mark], Any]) -> Dict[tuple, int]:
+    """How many marks of each kind each owner has."""
+    return Counter((owner(mark), mark.kind) for mark in jobs.marks)
 
 
 def percent(part: int, whole: int) -> float:
@@ -104,52 +131,95 @@ def percent(part: int, whole: int) -> float:
     return 100 * part / whole if whole else 0.0
 
 
-def _tasks(jobs: Jobs, refusals: List[Figures], units: Sequence[str]) -> List[Figures]:
+def _tasks(owners: "_Owners") -> List[Figures]:
     """What became of each task."""
-    by_task: Dict[str, List[Any]] = {}
-    for job in jobs.jobs:
-        by_task.setdefault(job.task, []).append(job)
-    operations = Counter(item.task for item in jobs.timeline.items)
-    preempted = Counter(each.job.task for each in jobs.preemptions)
-    found = []
-    for core in sorted(jobs.timeline.run.draft.cores, key=lambda core: core.id):
-        items = jobs.timeline.by_core[core.id]
-        total = items[-1].stimulus - items[-1].tick if items else 0
-        for task in core.named["tasks"]:
-            own = by_task.get(task.name, [])
-            ended = sum(job.changes[-1].event == TERMINATE for job in own)
-            parts = [part for job in own for part in job.parts]
-            found.append(
-                {
-                    "task": task.name,
-                    "core": core.id,
-                    "prio": task["prio"],
-                    "activations": len(own),
-                    "lost": sum(each["times"] for each in refusals if each["lost"] == task.name),
-                    "ended": ended,
-                    "live": len(own) - ended,
-                    "preempted": preempted[task.name],
-                    "refused": sum(each["times"] for each in refusals if each["caller"] == task.name),
-                    "op": operations[task.name],
-                    "load": percent(operations[task.name], total),
-                    "waiting": _times(jobs, parts, units, lambda part: part.start),
-                    "response": _times(jobs, parts, units, lambda part: part.finish),
-                }
-            )
-    return found
+    preempted = Counter(each.job.name for each in owners.whole.preemptions)
+    return [
+        {
+            "task": task.name,
+            "core": core.id,
+            "prio": task["prio"],
+            "activations": len(owners.jobs(task.name)),
+            "lost": sum(each["times"] for each in owners.refusals if each["lost"] == task.name),
+            "preempted": preempted[task.name],
+            **owners.figures(core, task),
+        }
+        for core, task in owners.configured("tasks")
+    ]
 
 
-def _preemptions(jobs: Jobs) -> List[Figures]:
-    """Who preempts whom, by core and in the order of the first time."""
-    counts = Counter((each.job.core, each.job.task, each.by) for each in jobs.preemptions)
-    names = ("core", "task", "by", "times")
+def _isrs(owners: "_Owners") -> List[Figures]:
+    """What became of each ISR."""
+    return [
+        {
+            "isr": isr.name,
+            "core": core.id,
+            "level": isr["level"],
+            "interrupts": len(owners.jobs(isr.name)),
+            "lost": owners.marks[isr.name, LOST],
+            **owners.figures(core, isr),
+        }
+        for core, isr in owners.configured("isrs")
+    ]
+
+
+class _Owners:
+    """The tasks and the ISRs with their jobs, and the figures that both have."""
+
+    def __init__(self, jobs: Jobs, refusals: List[Figures], units: Sequence[str]):
+        self.whole = jobs
+        self.refusals = refusals
+        self.units = units
+        self.by_name: Dict[str, List[Job]] = {}
+        for job in jobs.jobs:
+            self.by_name.setdefault(job.name, []).append(job)
+        self.operations = Counter(item.runner.name for item in jobs.timeline.items if item.runner is not None)
+        self.op = {core: _op(jobs, core) for core in jobs.timeline.run.cores}
+        self.interrupted = Counter(each.job.name for each in jobs.interruptions)
+        self.marks = _marks(jobs, lambda mark: mark.name)
+
+    def configured(self, kind: str) -> Iterator[Tuple[Core, Named]]:
+        """The tasks or the ISRs, by the name of their list, with their cores, by ascending core."""
+        for core in sorted(self.whole.timeline.run.draft.cores, key=lambda core: core.id):
+            for each in core.named[kind]:
+                yield core, each
+
+    def jobs(self, name: str) -> List[Job]:
+        """All jobs of one."""
+        return self.by_name.get(name, [])
+
+    def figures(self, core: Core, owner: Named) -> Figures:
+        """What became of one, as a task and an ISR have it."""
+        own = self.jobs(owner.name)
+        ended = sum(job.changes[-1].event == TERMINATE for job in own)
+        parts = [part for job in own for part in job.parts]
+        return {
+            "ended": ended,
+            "live": len(own) - ended,
+            "interrupted": self.interrupted[owner.name],
+            "refused": sum(each["times"] for each in self.refusals if each["caller"] == owner.name),
+            "op": self.operations[owner.name],
+            "load": percent(self.operations[owner.name], self.op[core.id]),
+            "budget": owner["budget"],
+            "used": max((part.used for part in parts), default=0),
+            "reached": self.marks[owner.name, PROTECTION],
+            "waiting": _times(self.whole, parts, self.units, lambda part: part.start),
+            "response": _times(self.whole, parts, self.units, lambda part: part.finish),
+        }
+
+
+def _preemptions(found: Sequence[Preemption], name: str) -> List[Figures]:
+    """Who preempts or interrupts whom, by core and in the order of the first time; what the one before is called."""
+    counts = Counter((each.job.core, each.job.name, each.by) for each in found)
+    names = ("core", name, "by", "times")
     return [dict(zip(names, key + (times,))) for key, times in sorted(counts.items(), key=lambda each: each[0][0])]
 
 
 def _crossings(jobs: Jobs) -> List[Figures]:
     """What went from core to core: how often it was sent, and how often it was served."""
     sent = Counter((each.sender, each.receiver, each.deed.operation) for each in jobs.envelopes)
-    served = Counter((each.sender, each.receiver, each.deed.operation) for each in jobs.envelopes if each.served)
+    taken = [each for each in jobs.envelopes if each.served and not each.is_dropped]
+    served = Counter((each.sender, each.receiver, each.deed.operation) for each in taken)
     names = ("from", "to", "operation", "sent", "served")
     keys = sorted(sent, key=lambda key: key[:2])
     return [dict(zip(names, key + (sent[key], served[key]))) for key in keys]
@@ -195,7 +265,7 @@ def _resources(jobs: Jobs, units: Sequence[str]) -> List[Figures]:
     spans: Dict[Tuple[int, str, str], List[Tuple[Item, Optional[Item]]]] = {}
     for job in jobs.jobs:
         for hold in job.holds:
-            spans.setdefault((job.core, hold.resource, job.task), []).append((hold.taken, hold.given))
+            spans.setdefault((job.core, hold.resource, job.name), []).append((hold.taken, hold.given))
     names = ("core", "resource", "task", "times", "held")
     keys = sorted(spans, key=lambda key: key[:2])
     return [dict(zip(names, key + (len(spans[key]), _spans(jobs, spans[key], units)))) for key in keys]
@@ -226,8 +296,8 @@ def _last(jobs: Jobs, core: int, unit: str) -> int:
 
 
 def _chains(jobs: Jobs, units: Sequence[str]) -> List[Figures]:
-    """The ways from a first cause to a last part that have two tasks, or go to another core."""
-    cores, tasks = _homes(jobs)
+    """The ways from a first cause to a last part that have two tasks or ISRs, or go to another core."""
+    cores, scripted = _homes(jobs)
     ends: Dict[Tuple[str, ...], List[Part]] = {}
     for part in sorted(jobs.parts, key=lambda part: part.item.turn):
         if part.is_last:
@@ -238,7 +308,7 @@ def _chains(jobs: Jobs, units: Sequence[str]) -> List[Figures]:
     under_way = Counter(each.cause.way + (each.target,) for each in jobs.envelopes if each.target and not each.served)
     found = []
     for way in dict.fromkeys([*ends, *broken, *under_way]):
-        if len(tasks & set(way)) > 1 or len({cores[name] for name in way}) > 1:
+        if len(scripted & set(way)) > 1 or len({cores[name] for name in way}) > 1:
             is_at_home = cores[way[0]] == cores[way[-1]]
             lost = {status or "nobody waited": count for status, count in broken.get(way, {}).items()}
             found.append(_chain(way, ends.get(way, []), lost, under_way[way], units, is_at_home))
@@ -246,14 +316,14 @@ def _chains(jobs: Jobs, units: Sequence[str]) -> List[Figures]:
 
 
 def _homes(jobs: Jobs) -> Tuple[Dict[str, int], set]:
-    """The core of each task, alarm and table, and the names of the tasks."""
+    """The core of each task, ISR, alarm and table, and the names of the tasks and the ISRs."""
     cores = {}
-    tasks = set()
+    scripted = set()
     for core in jobs.timeline.run.draft.cores:
-        for kind in ("tasks", "alarms", "tables"):
+        for kind in ("tasks", "isrs", "alarms", "tables"):
             cores.update({each.name: core.id for each in core.named[kind]})
-        tasks.update(task.name for task in core.named["tasks"])
-    return cores, tasks
+        scripted.update(each.name for each in core.scripted)
+    return cores, scripted
 
 
 def _chain(

@@ -77,16 +77,19 @@ MODE = "M"
 NO_OBJECT = "?"  # in place of an object's name: an identifier that names nothing
 VARIABLES = tuple("v%d" % number for number in range(8))
 STIMULUS_WORDS = ("op", "tick")
+INTERRUPT = "irq="  # and behind it the name of an ISR of the core
 
 LEAST_NUMBER = -(2**63)
 GREATEST_NUMBER = 2**64 - 1
 GREATEST_SIGNED = 2**63 - 1
 GREATEST_WORD = 4294967295  # masks, and the numbers of alarms and tables
 GREATEST_COUNT = 1000000000  # a counter's `max`, a table's `duration`
+GREATEST_BUDGET = 1000000000  # in ticks
 
 MOST_LEVELS = 127  # of a JSON text
 MOST_BYTES = 2**30  # of a file
 MOST_OPERATIONS = 256  # of a script
+MOST_SUSPENDED = 255  # how often a job has interrupts suspended at most
 MOST_ACTIVATIONS = 64  # of the tasks of a core together
 MOST_ACTIONS_ABROAD = 56  # what a core may do on other cores at once
 MOST_STIMULI = 100000  # of a core
@@ -163,8 +166,17 @@ class ModeName:
 
 
 @dataclass(frozen=True)
+class OneOf:
+    """One of several words."""
+
+    words: Tuple[str, ...]
+
+
+@dataclass(frozen=True)
 class Script:
-    """What a job does: operations divided by `;`."""
+    """What a job does: operations divided by `;`, each of which may be any but some."""
+
+    without: Tuple[str, ...] = ()
 
 
 @dataclass(frozen=True)
@@ -189,7 +201,7 @@ class ListOf:
     greatest: Optional[int] = None
 
 
-Value = Union[Number, Flag, NewName, CounterName, ModeName, Script, Action, ObjectOf, ListOf]
+Value = Union[Number, Flag, NewName, CounterName, ModeName, OneOf, Script, Action, ObjectOf, ListOf]
 MODES = ListOf(ModeName())
 
 
@@ -238,12 +250,20 @@ CONFIGURATION = Object(
         Member("cores", ListOf(ObjectOf("core"), 1, 8)),
     ),
 )
+# The operations that an ISR's script has not, and those that answer an ISR E_OS_CALLEVEL.
+NOT_IN_ISRS = ("GetResource", "ReleaseResource")
+FOR_TASKS = ("TerminateTask", "ChainTask", "Schedule", "ClearEvent", "WaitEvent")
+PROTECTIONS = OneOf(
+    ("PRO_IGNORE", "PRO_TERMINATETASKISR", "PRO_TERMINATEAPPL", "PRO_TERMINATEAPPL_RESTART", "PRO_SHUTDOWN")
+)
 CORE = Object(
     "core",
     (
         Member("id", Number(0, 7)),
         Member("start", ListOf(Number(0, 255)), ()),
+        Member("protection", PROTECTIONS, "PRO_SHUTDOWN"),
         Member("tasks", ListOf(ObjectOf("task"), 0, 32), ()),
+        Member("isrs", ListOf(ObjectOf("ISR"), 0, 16), ()),
         Member("resources", ListOf(ObjectOf("resource"), 0, 16), ()),
         Member("counters", ListOf(ObjectOf("counter"), 0, 8), ()),
         Member("alarms", ListOf(ObjectOf("alarm"), 0, 32), ()),
@@ -259,7 +279,17 @@ TASK = Object(
         Member("activations", Number(1, 64), 1),
         Member("extended", Flag(), False),
         Member("preemptable", Flag(), True),
+        Member("budget", Number(0, GREATEST_BUDGET), 0),
         Member("script", Script()),
+    ),
+)
+ISR = Object(
+    "ISR",
+    (
+        Member("name", NewName()),
+        Member("level", Number(1, 16)),
+        Member("budget", Number(0, GREATEST_BUDGET), 0),
+        Member("script", Script(NOT_IN_ISRS)),
     ),
 )
 RESOURCE = Object("resource", (Member("name", NewName()), Member("ceiling", Number(0, 31))))
@@ -316,11 +346,12 @@ TABLE_AUTO = Object(
 )
 OBJECTS = {
     each.name: each
-    for each in (CONFIGURATION, CORE, TASK, RESOURCE, COUNTER, ALARM, ALARM_AUTO, TABLE, POINT, TABLE_AUTO)
+    for each in (CONFIGURATION, CORE, TASK, ISR, RESOURCE, COUNTER, ALARM, ALARM_AUTO, TABLE, POINT, TABLE_AUTO)
 }
 # The lists of a core whose objects have names, with what each holds.
 NAMED_LISTS = {
     "tasks": "task",
+    "isrs": "ISR",
     "resources": "resource",
     "counters": "counter",
     "alarms": "alarm",
@@ -361,7 +392,7 @@ class Operation:
     @property
     def is_service(self) -> bool:
         """Whether it is a service, whose status a line `stat` prints."""
-        return self.name[0].isupper()
+        return self.name[0].isupper() and not self.name.endswith("AllInterrupts")
 
     @property
     def form(self) -> str:
@@ -417,6 +448,8 @@ OPERATIONS = {
         Operation("NextScheduleTable", (_OWN_TABLE, _NEXT_TABLE)),
         Operation("StopScheduleTable", (_OWN_TABLE,)),
         Operation("GetScheduleTableStatus", (_OWN_TABLE, _VARIABLE)),
+        Operation("SuspendAllInterrupts"),
+        Operation("ResumeAllInterrupts"),
     )
 }
 # What an alarm or an expiry point can do.

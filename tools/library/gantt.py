@@ -1,16 +1,16 @@
-"""A picture of a span of a run, as SVG: a row for each task, by cores and priorities, over the turns of the schedule.
+"""A picture of a span of a run, as SVG: a row for each ISR and each task, by cores, over the turns of the schedule.
 
 Ticks of different cores are not one moment. So the axis has the rounds, which all cores share, and each core has a row
 with its own ticks.
 """
 
 from dataclasses import dataclass
-from typing import Dict, Iterable, NamedTuple, Optional, Tuple
+from typing import Dict, Iterable, List, NamedTuple, Optional, Tuple
 from xml.sax.saxutils import escape
 
-from library.jobs import READY, RUNNING, WAITING, Envelope, Jobs
+from library.jobs import INTERRUPTED, READY, RUNNING, WAITING, Envelope, Jobs
 from library.program import Failed
-from library.states import held_by_task, stretches_by_task, task_rows
+from library.states import held_by_task, rows_of, stretches_by_name
 from library.timeline import Timeline
 from library.turns import default_round
 
@@ -20,7 +20,7 @@ MARGIN, NAME, LETTER = 8, 80, 8  # the left edge, what the priority takes behind
 SPACE = 12  # between the words on the left and what is drawn
 LONGEST = 24  # of a name's letters that are shown
 BAR = 12  # of a running job; the other states are lower
-_HEIGHTS = {RUNNING: BAR, READY: 6, WAITING: 2}
+_HEIGHTS = {RUNNING: BAR, INTERRUPTED: BAR, READY: 6, WAITING: 2}
 NEAREST = 18  # between two numbers on the axis
 
 # The colours are those of Okabe and Ito, which also colour-blind people tell apart; on dark ground they are lighter.
@@ -36,6 +36,7 @@ _STYLE = """
   .faint { fill: var(--faint); font-size: 10px; } .core { font-weight: 600; }
   .middle { text-anchor: middle; } .end { text-anchor: end; }
   .running { fill: var(--running); } .ready { fill: var(--ready); } .waiting { fill: var(--waiting); }
+  .interrupted { fill: var(--running); opacity: 0.4; }
   .held { fill: var(--held); } .tick { stroke: var(--faint); stroke-width: 1; }
   .error { stroke: var(--error); stroke-width: 2; fill: none; }
   .edge { stroke: var(--ground); stroke-width: 5; fill: none; }
@@ -57,7 +58,7 @@ class Layout:
     span: Span
     width: int
     left: int
-    rows: Dict[str, int]  # the upper edge of each task
+    rows: Dict[str, int]  # the upper edge of each task and ISR
     heads: Dict[int, int]  # that of each core
     height: int
 
@@ -107,16 +108,16 @@ def picture(jobs: Jobs, span: Span, width: int, title: str) -> str:
     parts += _ticks(jobs.timeline, layout)
     parts += _bars(jobs, layout)
     parts += _flows(jobs, layout)
-    parts += _errors(jobs.timeline, layout)
+    parts += _crosses(jobs, layout)
     return "\n".join(parts + ["</svg>"]) + "\n"
 
 
 def _layout(jobs: Jobs, span: Span, width: int) -> Layout:
-    """The rows, from above: each core with its ticks, and below it its tasks."""
+    """The rows, from above: each core with its ticks, and below it its ISRs and its tasks."""
     rows: Dict[str, int] = {}
     heads: Dict[int, int] = {}
     y = TOP
-    for row in task_rows(jobs.timeline):
+    for row in rows_of(jobs.timeline):
         if row.core not in heads:
             y += GAP if heads else 0
             heads[row.core] = y
@@ -151,30 +152,29 @@ def _line(kind: str, begin: Tuple[float, float], end: Tuple[float, float]) -> st
 def _legend(x: float) -> Iterable[str]:
     """What the colours mean."""
     y = 18
-    for kind in (RUNNING, READY, WAITING, "held"):
+    for kind, width in ((RUNNING, 84), (INTERRUPTED, 104), (READY, 72), (WAITING, 84), ("held", 140)):
         height = _HEIGHTS.get(kind, 3)
         yield '<rect class="%s" x="%.1f" y="%.1f" width="22" height="%d"/>' % (kind, x, y - height / 2, height)
         yield _label("", x + 28, y + 4, "holds a resource" if kind == "held" else kind)
-        x += 84
-    x += 56
+        x += width
     yield _line("flow", (x, y), (x + 18, y))
     yield _head(x + 22, y, 0)
     yield _label("", x + 28, y + 4, "to another core")
     x += 132
     yield _cross(x + 6, y)
-    yield _label("", x + 18, y + 4, "ErrorHook")
+    yield _label("", x + 18, y + 4, "error")
 
 
 def _bands(timeline: Timeline, layout: Layout) -> Iterable[str]:
-    """The names of cores and tasks, and the ground of each core's ticks."""
+    """The names of cores, ISRs and tasks, and the ground of each core's ticks."""
     for core, y in layout.heads.items():
         yield '<rect class="band" x="0" y="%d" width="%d" height="%d"/>' % (y, layout.width, HEAD)
         yield _label("core", MARGIN, y + 15, "core %d" % core)
         yield _label("faint end", layout.left - SPACE, y + 15, "tick")
-    for row in task_rows(timeline):
+    for row in rows_of(timeline):
         y = layout.rows[row.name]
         yield _label("", MARGIN, y + 14, _shown(row.name))
-        yield _label("faint end", layout.left - SPACE, y + 14, "prio %d" % row.prio)
+        yield _label("faint end", layout.left - SPACE, y + 14, row.rank)
         yield _line("line", (layout.left, y + ROW), (layout.width - RIGHT, y + ROW))
 
 
@@ -218,13 +218,13 @@ def _ticks(timeline: Timeline, layout: Layout) -> Iterable[str]:
 
 
 def _bars(jobs: Jobs, layout: Layout) -> Iterable[str]:
-    """The states of the tasks, and below them the resources that they hold."""
-    for task, stretches in stretches_by_task(jobs).items():
+    """The states of the ISRs and the tasks, and below them the resources that they hold."""
+    for name, stretches in stretches_by_name(jobs).items():
         for each in stretches:
             if layout.shows(each.begin, each.end):
                 height = _HEIGHTS[each.state]
-                title = "%s, job %d: %s, turns %d to %d" % (task, each.job.number, each.state, each.begin, each.end)
-                yield _bar(layout, each.state, task, each.begin, each.end, 8 - height / 2, height, title)
+                title = "%s, job %d: %s, turns %d to %d" % (name, each.job.number, each.state, each.begin, each.end)
+                yield _bar(layout, each.state, name, each.begin, each.end, 8 - height / 2, height, title)
     for task, holds in held_by_task(jobs).items():
         for hold in holds:
             if layout.shows(hold.begin, hold.end):
@@ -232,14 +232,14 @@ def _bars(jobs: Jobs, layout: Layout) -> Iterable[str]:
                 yield _bar(layout, "held", task, hold.begin, hold.end, 15, 3, title)
 
 
-def _bar(layout: Layout, kind: str, task: str, begin: int, end: int, down: float, height: int, title: str) -> str:
-    """A bar in the row of a task."""
+def _bar(layout: Layout, kind: str, name: str, begin: int, end: int, down: float, height: int, title: str) -> str:
+    """A bar in the row of a task or an ISR."""
     left, right = layout.x(begin), layout.x(end)
-    return _box(kind, left, layout.rows[task] + down, right - left, height, title)
+    return _box(kind, left, layout.rows[name] + down, right - left, height, title)
 
 
 def _flows(jobs: Jobs, layout: Layout) -> Iterable[str]:
-    """What goes to other cores: from the task that calls, or the ticks of the core whose alarm or table acts."""
+    """What goes to other cores: from the task or ISR that calls, or the ticks of the core whose alarm or table acts."""
     for each in jobs.envelopes:
         if each.served is not None and layout.span.begin <= each.sent.turn and each.served.turn < layout.span.end:
             yield _flow(each, layout)
@@ -267,18 +267,19 @@ def _head(x: float, y: float, down: int) -> str:
     return '<path class="head" d="M%.1f %.1f l-3 %d h6 z"/>' % (x, y + 3 * down, -6 * down)
 
 
-def _errors(timeline: Timeline, layout: Layout) -> Iterable[str]:
-    """Where ErrorHook was called: in the row of the task whose operation it was, or among the ticks."""
-    for core, head in layout.heads.items():
-        for item in timeline.by_core[core]:
-            if item.errors and layout.shows(item.turn, item.turn + 1):
-                doers = [deed.name for deed in item.deeds if deed.is_refused]
-                y = layout.rows.get(doers[0], head + 4) if doers else head + 4
-                yield _cross(layout.x(item.turn), y + 8, ", ".join(item.errors))
+def _crosses(jobs: Jobs, layout: Layout) -> Iterable[str]:
+    """Where something is marked: in the row of the task or ISR whose it is, or among the ticks."""
+    texts: Dict[Tuple[int, int], List[str]] = {}
+    for mark in jobs.marks:
+        if layout.shows(mark.item.turn, mark.item.turn + 1) and mark.core in layout.heads:
+            y = layout.rows.get(mark.name, layout.heads[mark.core] + 4)
+            texts.setdefault((y, mark.item.turn), []).append(mark.text)
+    for (y, turn), found in sorted(texts.items()):
+        yield _cross(layout.x(turn), y + 8, ", ".join(found))
 
 
 def _cross(x: float, y: float, title: str = "") -> str:
     """The mark of an error, with an edge in the colour of the ground, so that it is seen on a bar."""
     shape = "M%.1f %.1f l8 8 m0 -8 l-8 8" % (x - 4, y - 4)
     marked = '<path class="edge" d="%s"/><path class="error" d="%s"><title>%s</title></path>'
-    return marked % (shape, shape, escape(title or "ErrorHook"))
+    return marked % (shape, shape, escape(title or "error"))

@@ -11,6 +11,7 @@ TITLES = {
     "configuration": "a configuration",
     "core": "a core",
     "task": "a task",
+    "ISR": "an ISR",
     "resource": "a resource",
     "counter": "a counter",
     "alarm": "an alarm",
@@ -41,6 +42,7 @@ _EVENTS_OF_TASK = Hint('events have no names here: write `"extended": true`, and
 _EVENTS_OF_CORE = Hint('events have no names here: a task with `"extended": true` has 32')
 _SCHEDULE = _is("preemptable", ": `true` for FULL, `false` for NON")
 _RESOURCES = Hint("it is not written here: each task of the core may take each of its resources")
+_CATEGORY = Hint("it is not written here: each ISR is of category 2")
 _STANDARD = Hint("it is not written here: each resource is STANDARD")
 _ONE_COUNT = Hint("it is not written here: each `tick` is one count")
 _SOFTWARE = _is("software", ": `true`, or `false` for one that each `tick` increments")
@@ -69,6 +71,16 @@ STANDARD_NAMES: Dict[str, Dict[str, Hint]] = {
         "ostaskeventref": _EVENTS_OF_TASK,
         "resource": _RESOURCES,
         "resources": _RESOURCES,
+        "executionbudget": _is("budget", ", in ticks"),
+        "ostaskexecutionbudget": _is("budget", ", in ticks"),
+    },
+    "ISR": {
+        "priority": _is("level"),
+        "prio": _is("level"),
+        "category": _CATEGORY,
+        "osisrcategory": _CATEGORY,
+        "executionbudget": _is("budget", ", in ticks"),
+        "osisrexecutionbudget": _is("budget", ", in ticks"),
     },
     "resource": {
         "ceilingpriority": _is("ceiling"),
@@ -140,6 +152,10 @@ STANDARD_NAMES: Dict[str, Dict[str, Hint]] = {
     "core": {
         "coreid": _is("id"),
         "number": _is("id"),
+        "isr": _is("isrs", ", a list"),
+        "osisr": _is("isrs", ", a list"),
+        "interrupts": _is("isrs"),
+        "protectionhook": _is("protection"),
         "scheduletables": _is("tables"),
         "event": _EVENTS_OF_CORE,
         "events": _EVENTS_OF_CORE,
@@ -147,10 +163,6 @@ STANDARD_NAMES: Dict[str, Dict[str, Hint]] = {
     },
 }
 NOT_YET = {
-    "isr": "interrupts",
-    "isrs": "interrupts",
-    "interrupt": "interrupts",
-    "interrupts": "interrupts",
     "spinlock": "spinlocks",
     "spinlocks": "spinlocks",
     "osspinlock": "spinlocks",

@@ -4,10 +4,11 @@ import re
 from typing import Callable, Dict, List, Optional, Tuple
 
 from library.drafts import Draft
-from library.findings import Report, listed, nearest
+from library.findings import Report, did_you_mean, listed, nearest
 from library.formats import (
     BAD_SCHEDULE,
     BAD_STIMULUS,
+    INTERRUPT,
     LIMIT,
     MOST_STIMULI,
     MOST_TURNS,
@@ -37,7 +38,20 @@ def judge_stimuli(report: Report, draft: Draft) -> None:
             report.fault(BAD_STIMULUS, member.value, text)
             continue
         _judge_count(report, member.value, MOST_STIMULI, "stimuli: a core has")
-        _judge_words(report, member.value, BAD_STIMULUS, lambda word: word in STIMULUS_WORDS, _no_stimulus)
+        isrs = _isrs(draft, name)
+        known = set(STIMULUS_WORDS) | {INTERRUPT + isr for isr in isrs}
+        _judge_words(
+            report,
+            member.value,
+            BAD_STIMULUS,
+            lambda word, known=known: word in known,
+            lambda word, number, isrs=isrs: _no_stimulus(draft, isrs, word, number),
+        )
+
+
+def _isrs(draft: Draft, number: str) -> List[str]:
+    """The names of the ISRs of a core, if it is configured."""
+    return [isr.name for core in draft.cores if str(core.id) == number for isr in core.named["isrs"]]
 
 
 def _no_stimuli(root: Json) -> Optional[str]:
@@ -138,15 +152,21 @@ def _blank_in(word: str, number: int) -> Optional[Tuple[str, int]]:
     return None
 
 
-def _no_stimulus(word: str, number: int) -> Tuple[str, int]:
-    """What to say of a word that is no stimulus, and where in it."""
+def _no_stimulus(draft: Draft, isrs: List[str], word: str, number: int) -> Tuple[str, int]:
+    """What to say of a word that is no stimulus of a core with these ISRs, and where in it."""
     blank = _blank_in(word, number)
     if blank is not None:
         return blank
+    if word.startswith(INTERRUPT):
+        name = word[len(INTERRUPT) :]
+        other = draft.find("ISR", name)
+        if other is not None:
+            return "`%s` is an ISR of core %d" % (name, other.core.id), len(INTERRUPT)
+        return "no ISR of this core is called %s%s" % (shown(name), did_you_mean(name, isrs)), len(INTERRUPT)
     if re.search(r"[*0-9]", word):
-        return "a stimulus is `op` or `tick`: mcos repeats none, and tools/expand writes it out", 0
+        return "a stimulus is `op`, `tick` or `irq=I`: mcos repeats none, and tools/expand writes it out", 0
     near = nearest(word, STIMULUS_WORDS)
-    return "a stimulus is `op` or `tick`" + ("; did you mean `%s`?" % near if near else ""), 0
+    return "a stimulus is `op`, `tick` or `irq=I`" + ("; did you mean `%s`?" % near if near else ""), 0
 
 
 def judge_schedule(report: Report, draft: Draft) -> None:

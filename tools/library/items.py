@@ -2,31 +2,42 @@
 
 A log says what a core took, a block what it printed; neither says which line came with which item. An item prints a
 fixed kind of lines (docs/FORMATS.md), and only for an `op` one has to know the operation. So the running job's script
-is followed: its place by the jumps, its variables by the lines `var` and `stat`.
+is followed: its place by the jumps, its variables by the lines `var` and `stat`. From `enter` to `leave` that is the
+script of an ISR, whatever task is in the running state.
 """
 
 from dataclasses import dataclass, field
-from typing import Dict, List, Optional, Tuple
+from typing import Dict, List, NamedTuple, Optional, Tuple
 
 from library.drafts import Draft
-from library.formats import MODE, operations_of
-from library.model import ALARM, TABLE, TASK
+from library.formats import INTERRUPT, MODE, MOST_SUSPENDED, OPERATIONS, operations_of
+from library.model import ALARM, ISR, SCRIPTED, TABLE, TASK
 from library.program import Failed
 from library.runs import Run
 
 CORE = "core"  # of a deed: another core's envelope is served
 START = "start"  # of a deed: the start of another core
 OK = "E_OK"
+DROPPED = "dropped"  # in place of the status of an action that came to a core that is down
 END_OF_SCRIPT = "end of script"
 
 _ERROR = "hook Error "
 _EXPIRIES = ("alarm", "point", "stop", "begin")
 _SILENT = ("on", "entered", "readied", "post", "drained", "passend", "last")
+# What a core that is down makes of the envelopes that it serves. It prints nothing.
+_OF_DOWN = {"req": "E_OS_CORE", "act": DROPPED}
+
+
+class Runner(NamedTuple):
+    """Whose job runs: a task or an ISR."""
+
+    kind: str
+    name: str
 
 
 @dataclass(frozen=True)
 class Deed:
-    """An operation that is done in an item, and who does it: a task's job, an alarm, a table, or an envelope of a core.
+    """An operation that is done in an item, and who does it: a job, an alarm, a table, or an envelope of a core.
 
     `place` is the number of the operation, or the offset of the point. `status` is None if an envelope was sent and the
     answer is not known yet. `first` and `behind` bound the lines of the item that show it.
@@ -47,8 +58,13 @@ class Deed:
         return self.operation.split(" ")[0]
 
     @property
+    def is_of_job(self) -> bool:
+        """Whether a job does it, of a task or of an ISR."""
+        return self.kind in SCRIPTED
+
+    @property
     def is_refused(self) -> bool:
-        """Whether it was answered otherwise than E_OK."""
+        """Whether it was answered otherwise than E_OK, or dropped."""
         return self.status not in (None, OK)
 
     @property
@@ -63,7 +79,7 @@ class Item:
     """An item of a core: where in the run it is, and what it printed.
 
     `number` counts the items of the core from 1. `stimulus` and `tick` say how many stimuli and ticks the core has
-    taken so far, this one with them. If the item is an `op` of a job, there are its task and the number of its
+    taken so far, this one with them. If the item is an `op` of a job, there are whose job it is and the number of the
     operation.
     """
 
@@ -74,7 +90,7 @@ class Item:
     tick: int
     lines: List[str] = field(default_factory=list)
     deeds: List[Deed] = field(default_factory=list)
-    task: Optional[str] = None
+    runner: Optional[Runner] = None
     place: Optional[int] = None
     turn: int = 0
     round: Optional[int] = None
@@ -88,6 +104,11 @@ class Item:
     def is_tick(self) -> bool:
         """Whether it is a `tick`."""
         return self.text == "stim tick"
+
+    @property
+    def is_op(self) -> bool:
+        """Whether it is an `op`."""
+        return self.text == "stim op"
 
     @property
     def errors(self) -> List[str]:
@@ -112,8 +133,11 @@ class _Layer:
         self.left = run.blocks.get(core, ())
         self.at = 0
         self.item = Item(core, 0, "", 0, 0)
-        self.running: Optional[str] = None
-        self.request: Optional[Tuple[str, int, str]] = None  # whose reply is awaited
+        self.task: Optional[str] = None  # in the running state
+        self.isrs: List[str] = []  # those that have started, the last one interrupts the others
+        self.suspended = 0  # how often the running job has suspended interrupts
+        self.is_down = False
+        self.request: Optional[Tuple[Runner, int, str]] = None  # whose reply is awaited
         self.scripts = _scripts(run.draft, core)
         self.actions = _actions(run.draft, core)
         self.autostarts = sum(MODE in task["auto"] for task in run.draft.core(core).named["tasks"])
@@ -156,10 +180,14 @@ class _Layer:
 
     # Lines ----------------------------------------------------------------------------------------------------------
 
+    def _line(self, ahead: int = 0) -> str:
+        """The next line, or one behind it; empty if there is none."""
+        at = self.at + ahead
+        return self.left[at] if at < len(self.left) else ""
+
     def _next(self, ahead: int = 0) -> str:
         """The first word of the next line, or of one behind it."""
-        at = self.at + ahead
-        return self.left[at].split(" ", 1)[0] if at < len(self.left) else ""
+        return self._line(ahead).split(" ", 1)[0]
 
     def _take(self, *wanted: str) -> List[str]:
         """Takes the next line, which has to begin with one of some words."""
@@ -169,19 +197,40 @@ class _Layer:
         self.at += 1
         self.item.lines.append(line)
         words = line.split(" ")
+        self._follow(words)
+        return words
+
+    def _follow(self, words: List[str]) -> None:
+        """Follows a line: which job runs, where it stands, its variables."""
         if words[0] == "pre":
-            self.running = words[1]
+            self.task = words[1]
         elif words[0] == "post":
-            self.running = None
-        elif words[0] == "end":
+            self.task = None
+        elif words[0] == "enter":
+            self.isrs.append(words[1])
+        elif words[0] in ("end", "leave"):
+            if words[0] == "leave":
+                self.isrs.pop()
+            else:
+                # A job that has reached its budget ends without `post`.
+                self.task = None
             self.places.pop(words[1], None)
+            self.suspended = 0
         elif words[0] == "var":
             self.variables[words[1], words[2]] = int(words[3])
-        return words
+        elif words[:2] == ["hook", "Shutdown"]:
+            self.is_down = True
+
+    @property
+    def runner(self) -> Optional[Runner]:
+        """Whose job runs."""
+        if self.isrs:
+            return Runner(ISR, self.isrs[-1])
+        return Runner(TASK, self.task) if self.task is not None else None
 
     def _misfit(self, text: str) -> None:
         """The block is not of this log."""
-        line = "`%s`" % self.left[self.at] if self.at < len(self.left) else "the end of the block"
+        line = "`%s`" % self._line() if self._line() else "the end of the block"
         where = "core %d, item %d `%s`" % (self.core, self.item.number, self.item.text)
         raise Failed("%s: %s %s" % (where, line, text))
 
@@ -189,7 +238,7 @@ class _Layer:
         self, kind: str, name: str, place: Optional[int], operation: str, status: Optional[str], first: int
     ) -> None:
         """Notes what was done in the lines from one on."""
-        is_reply = self.item.text.startswith("in ") and kind == TASK
+        is_reply = self.item.text.startswith("in ") and kind in SCRIPTED
         behind = len(self.item.lines)
         self.item.deeds.append(Deed(kind, name, place, operation, status, first, behind, is_reply))
 
@@ -199,11 +248,16 @@ class _Layer:
             self._take("hook")
 
     def _dispatch(self) -> None:
-        """Takes the lines of a dispatch, if there is one. A `post` before `end` or `wait` is of the next item."""
+        """Takes the lines of a dispatch, if there is one. A `post` before `end` or `wait` is of the next item.
+
+        While the running job has interrupts suspended, there is none: the lines are of a ResumeAllInterrupts.
+        """
+        if self.suspended:
+            return
         if self._next() == "post" and self._next(1) == "pre":
             self._take("post")
-        if self._next() == "pre":
-            self._take("pre")
+        if self._next() in ("pre", "enter"):
+            self._take("pre", "enter")
 
     # Stimuli --------------------------------------------------------------------------------------------------------
 
@@ -211,12 +265,23 @@ class _Layer:
         """Takes the lines of a stimulus."""
         self.item.stimulus += 1
         if word == "tick":
-            self.item.tick += 1
-            self._take("tick")
+            self._tick()
+        elif word.startswith(INTERRUPT):
+            self._take("irq", "lost")
+            self._dispatch()
+        elif self.runner is not None:
+            self._operation(self.runner)
+
+    def _tick(self) -> None:
+        """Takes the lines of a `tick`. If the running job reaches its budget, it ends, or the core shuts down."""
+        self.item.tick += 1
+        self._take("tick")
+        if self._line().startswith("hook Protection "):
+            self._take("hook")
+            self._take("end", "leave", "hook")
+        if not self.is_down:
             self._expiries()
             self._dispatch()
-        elif self.running is not None:
-            self._operation(self.running)
 
     def _expiries(self) -> None:
         """Takes the lines of the alarms and the points that expire, with what they do."""
@@ -236,69 +301,83 @@ class _Layer:
         status = {"out": None, "hook": words[-1]}.get(words[0], OK)
         self._did(kind, name, place, action, status, first)
 
-    def _operation(self, task: str) -> None:
+    def _operation(self, runner: Runner) -> None:
         """Takes the lines of the running job's next operation."""
-        script, place = self.scripts[task], self.places.get(task, 0)
-        self.item.task, self.item.place = task, place
+        script, place = self.scripts[runner.name], self.places.get(runner.name, 0)
+        self.item.runner, self.item.place = runner, place
         if place == len(script):
-            status = self._take("hook")[-1]
-            self._did(TASK, task, place, END_OF_SCRIPT, status, 0)
-            self._leave()
+            self._end_of_script(runner, place)
             return
         operation = script[place]
         words = operation.split(" ")
-        self.places[task] = self._place_after(task, place, words)
+        self.places[runner.name] = self._place_after(runner.name, place, words)
         if words[0] in ("set", "add", "addv", "status"):
             self._take("var")
-        elif words[0][0].isupper():
-            self._service(task, place, operation)
+        elif words[0] == "SuspendAllInterrupts":
+            self.suspended = min(self.suspended + 1, MOST_SUSPENDED)
+        elif words[0] == "ResumeAllInterrupts":
+            self.suspended = max(self.suspended - 1, 0)
+            self._dispatch()
+        elif OPERATIONS[words[0]].is_service:
+            self._service(runner, place, operation)
 
-    def _place_after(self, task: str, place: int, words: List[str]) -> int:
+    def _place_after(self, name: str, place: int, words: List[str]) -> int:
         """The place of the operation behind one."""
         if words[0] == "jump":
             return int(words[1])
-        if words[0] == "jz" and self.variables.get((task, words[1]), 0) == 0:
+        if words[0] == "jz" and self.variables.get((name, words[1]), 0) == 0:
             return int(words[2])
         return place + 1
 
+    def _end_of_script(self, runner: Runner, place: int) -> None:
+        """Takes the lines of a job that ends past its last operation. An ISR ends so; of a task it is an error."""
+        if runner.kind == TASK or self.suspended:
+            status = self._take("hook")[-1]
+            self._did(*runner, place, END_OF_SCRIPT, status, 0)
+        if runner.kind == TASK:
+            self._leave()
+        else:
+            self._take("leave")
+            self._dispatch()
+
     # Services -------------------------------------------------------------------------------------------------------
 
-    def _service(self, task: str, place: int, operation: str) -> None:
+    def _service(self, runner: Runner, place: int, operation: str) -> None:
         """Takes the lines of a service that a job calls."""
         if operation.startswith("IncrementCounter "):
             self._expiries()
         elif self._next() == "out":
             self._take("out")
-            self._did(TASK, task, place, operation, None, 0)
-            self.request = (task, place, operation)
+            self._did(*runner, place, operation, None, 0)
+            self.request = (runner, place, operation)
             return
         first = len(self.item.lines)
         if self._next() == "post":
-            self._leave(task, place, operation)
+            self._leave(runner, place, operation)
             return
         while self._next() in ("act", "ev", "free", "clr"):
             self._take(self._next())
-        self._status(task, place, operation, first)
+        self._status(runner, place, operation, first)
 
-    def _status(self, task: str, place: int, operation: str, first: int) -> None:
+    def _status(self, runner: Runner, place: int, operation: str, first: int) -> None:
         """Takes the line `stat`, and what follows it."""
         words = self._take("stat")
         status = words[3]
         if len(words) > 4:
-            self.variables[task, operation.split(" ")[-1]] = int(words[4])
+            self.variables[runner.name, operation.split(" ")[-1]] = int(words[4])
         self._error(status)
-        self._did(TASK, task, place, operation, status, first)
+        self._did(*runner, place, operation, status, first)
         self._dispatch()
 
-    def _leave(self, task: str = "", place: Optional[int] = None, operation: str = "") -> None:
-        """Takes the lines of a job that ends or waits; with what it does, if that is a service."""
+    def _leave(self, runner: Optional[Runner] = None, place: Optional[int] = None, operation: str = "") -> None:
+        """Takes the lines of a task's job that ends or waits; with what it does, if that is a service."""
         first = len(self.item.lines)
         self._take("post")
         self._take("end", "wait")
         if operation.startswith("ChainTask ") and self.request is None and self._next() == "act":
             self._take("act")
-        if operation:
-            self._did(TASK, task, place, operation, OK, first)
+        if runner is not None:
+            self._did(*runner, place, operation, OK, first)
         self._dispatch()
 
     # Envelopes ------------------------------------------------------------------------------------------------------
@@ -307,6 +386,9 @@ class _Layer:
         """Takes the lines of an envelope that the core serves, or of a reply."""
         if words[3] == "rep":
             self._reply()
+            return
+        if self.is_down:
+            self._did(CORE, words[1], None, " ".join(words[4:]), _OF_DOWN[words[3]], 0)
             return
         while self._next() in ("act", "ev", "free"):
             self._take(self._next())
@@ -320,17 +402,17 @@ class _Layer:
         """Takes the lines of the reply to the request of the running job."""
         if self.request is None:
             self._misfit("stands where no reply is awaited")
-        task, place, operation = self.request
+        runner, place, operation = self.request
         if self._next() == "post":
-            self._leave(task, place, operation)
+            self._leave(runner, place, operation)
         else:
-            self._status(task, place, operation, 0)
+            self._status(runner, place, operation, 0)
         self.request = None
 
 
 def _scripts(draft: Draft, core: int) -> Dict[str, List[str]]:
-    """The operations of each task of a core."""
-    return {task.name: operations_of(task["script"]) for task in draft.core(core).named["tasks"]}
+    """The operations of each task and each ISR of a core."""
+    return {scripted.name: operations_of(scripted["script"]) for scripted in draft.core(core).scripted}
 
 
 def _actions(draft: Draft, core: int) -> Dict[Tuple[str, ...], List[str]]:

@@ -4,6 +4,9 @@ A *part* of a job goes from its activation, or from its release from waiting, to
 of a task that never waits has one part. What activates or releases is the part's cause: the part of another job, an
 alarm, or a table; of an autostart there is none. A cause on another core is found by the order of envelopes: the first
 `in` of a core has the first `out` of the other one, and so on.
+
+An interrupt activates a job of its ISR, and has no cause. For the job that it interrupts no hook is called; it is
+interrupted from `enter` to `leave`.
 """
 
 from collections import deque
@@ -11,8 +14,8 @@ from dataclasses import dataclass, field
 from typing import Deque, Dict, List, NamedTuple, Optional, Tuple
 
 from library.formats import NO_OBJECT
-from library.items import CORE, OK, START, Deed, Item
-from library.model import TASK
+from library.items import CORE, DROPPED, OK, START, Deed, Item
+from library.model import ISR, TASK
 from library.timeline import Timeline
 
 # The events of a job.
@@ -23,11 +26,28 @@ RESUME = "resume"
 WAIT = "wait"
 RELEASE = "release"
 TERMINATE = "terminate"
-# Its states between them.
+INTERRUPT = "interrupt"  # by an ISR that starts
+CONTINUE = "continue"  # when that one has left
+# Its states between them. A pending job of an ISR is ready.
 READY = "ready"
 RUNNING = "running"
 WAITING = "waiting"
-STATES = {ACTIVATE: READY, BEGIN: RUNNING, PREEMPT: READY, RESUME: RUNNING, WAIT: WAITING, RELEASE: READY}
+INTERRUPTED = "interrupted"
+STATES = {
+    ACTIVATE: READY,
+    BEGIN: RUNNING,
+    PREEMPT: READY,
+    RESUME: RUNNING,
+    WAIT: WAITING,
+    RELEASE: READY,
+    INTERRUPT: INTERRUPTED,
+    CONTINUE: RUNNING,
+}
+# What is marked where it happens.
+ERROR = "error"
+PROTECTION = "protection"
+SHUTDOWN = "shutdown"
+LOST = "lost"
 
 
 class Change(NamedTuple):
@@ -64,19 +84,24 @@ class Cause:
 
 @dataclass(eq=False)
 class Part(Cause):
-    """A part of a job; `start` is the item in which the job first runs, `finish` that of its end or waiting."""
+    """A part of a job; `start` is the item in which the job first runs, `finish` that of its end or waiting.
+
+    `used` is how many ticks were taken while it ran: what its execution budget counts.
+    """
 
     number: int = 0  # of the job
     start: Optional[Item] = None
     finish: Optional[Item] = None
+    used: int = 0
 
 
 @dataclass(eq=False)
 class Job:
-    """A job with its events; `number` counts the jobs of its task from 0."""
+    """A job with its events: whose it is, a task's or an ISR's; `number` counts the jobs of that one from 0."""
 
     core: int
-    task: str
+    kind: str
+    name: str
     number: int
     changes: List[Change] = field(default_factory=list)
     parts: List[Part] = field(default_factory=list)
@@ -115,13 +140,33 @@ class Envelope:
         """The task that it is to set going."""
         return target_of(self.deed.operation)
 
+    @property
+    def is_dropped(self) -> bool:
+        """Whether it came to a core that was down, and was dropped."""
+        return self.answer is not None and self.answer.status == DROPPED
+
 
 class Preemption(NamedTuple):
-    """A job that another one preempts."""
+    """A job that another one preempts or interrupts."""
 
     job: Job
     by: str
     item: Item
+
+
+class Mark(NamedTuple):
+    """What is marked where it happens: a call of ErrorHook, ProtectionHook or ShutdownHook, or a lost interrupt.
+
+    `name` is who was refused something, whose job reached its budget, or which ISR lost it; of ShutdownHook it is empty.
+    `before` says how many jobs the one of this name had before.
+    """
+
+    kind: str
+    core: int
+    name: str
+    text: str
+    item: Item
+    before: int
 
 
 class Refusal(NamedTuple):
@@ -154,6 +199,8 @@ class Jobs:
     changes: List[Change] = field(default_factory=list)
     envelopes: List[Envelope] = field(default_factory=list)
     preemptions: List[Preemption] = field(default_factory=list)
+    interruptions: List[Preemption] = field(default_factory=list)
+    marks: List[Mark] = field(default_factory=list)
     refusals: List[Refusal] = field(default_factory=list)
     loose: List[Loose] = field(default_factory=list)
 
@@ -183,12 +230,17 @@ class _Walk:
     def __init__(self, timeline: Timeline):
         self.found = Jobs(timeline)
         self.live: Dict[str, Deque[Job]] = {}
+        # Of each core the jobs in the running state. Each is interrupted by the one behind it, so the last one runs.
+        self.running: Dict[int, List[Job]] = {core: [] for core in timeline.run.cores}
         self.numbers: Dict[str, int] = {}
         self.mail: Dict[Tuple[int, int], Deque[Envelope]] = {}
         self.requests: Dict[int, Envelope] = {}  # of each core the one whose reply is awaited
 
     def item(self, item: Item) -> None:
         """Follows the lines of one item."""
+        running = self.running[item.core]
+        if item.is_tick and running:
+            running[-1].parts[-1].used += 1
         # Who does something is asked before the lines, among which its job may end.
         causes = [self._cause(item, deed) for deed in item.deeds]
         for index in range(len(item.lines)):
@@ -198,17 +250,17 @@ class _Walk:
 
     def _cause(self, item: Item, deed: Deed) -> Optional[Cause]:
         """Who does an operation; of an envelope who sent it."""
-        if deed.kind == TASK:
+        if deed.is_of_job:
             return self._current(deed.name)
         if deed.kind == CORE:
             return self.mail[int(deed.name), item.core][0].cause
         if deed.kind == START:
             return None
-        return Cause(deed.name, deed.kind, item, self._current(item.task) if item.task else None)
+        return Cause(deed.name, deed.kind, item, self._current(item.runner.name) if item.runner else None)
 
-    def _current(self, task: str) -> Part:
-        """The part of the job that runs of a task's jobs: the oldest one."""
-        return self.live[task][0].parts[-1]
+    def _current(self, name: str) -> Part:
+        """The part of the job that runs of the jobs of a task or an ISR: the oldest one."""
+        return self.live[name][0].parts[-1]
 
     # Lines ----------------------------------------------------------------------------------------------------------
 
@@ -216,17 +268,23 @@ class _Walk:
         """Follows a line."""
         words = item.lines[index].split(" ")
         if words[0] == "act":
-            self._activate(item, words[1], _at(item, index, causes))
+            self._activate(item, TASK, words[1], _at(item, index, causes))
+        elif words[0] == "irq":
+            self._activate(item, ISR, words[1], None)
+        elif words[0] == "lost":
+            self._mark(LOST, item, words[1], item.lines[index])
+        elif words[0] == "hook":
+            self._hook(item, index, words)
         elif words[0] == "free":
             job = self.live[words[1]][0]
             self._change(job, RELEASE, item)
             job.parts.append(Part(words[1], TASK, item, _at(item, index, causes), number=job.number))
-        elif words[0] == "pre":
+        elif words[0] in ("pre", "enter"):
             self._run(item, self.live[words[1]][0])
         elif words[0] == "post":
             self._leave(item, index, self.live[words[1]][0])
-        elif words[0] == "end":
-            self._finish(item, self.live[words[1]].popleft(), TERMINATE)
+        elif words[0] in ("end", "leave"):
+            self._end(item, self.live[words[1]].popleft())
         elif words[0] == "wait":
             self._finish(item, self.live[words[1]][0], WAIT)
 
@@ -235,27 +293,42 @@ class _Walk:
         job.changes.append(Change(event, item, job))
         self.found.changes.append(job.changes[-1])
 
-    def _activate(self, item: Item, task: str, cause: Optional[Cause]) -> None:
+    def _activate(self, item: Item, kind: str, name: str, cause: Optional[Cause]) -> None:
         """A new job."""
-        number = self.numbers.get(task, 0)
-        self.numbers[task] = number + 1
-        job = Job(item.core, task, number, [], [Part(task, TASK, item, cause, number=number)])
+        number = self.numbers.get(name, 0)
+        self.numbers[name] = number + 1
+        job = Job(item.core, kind, name, number, [], [Part(name, kind, item, cause, number=number)])
         self._change(job, ACTIVATE, item)
-        self.live.setdefault(task, deque()).append(job)
+        self.live.setdefault(name, deque()).append(job)
         self.found.jobs.append(job)
 
     def _run(self, item: Item, job: Job) -> None:
-        """A job runs."""
+        """A job runs; one of an ISR interrupts the job that runs."""
+        running = self.running[job.core]
+        if running:
+            self._change(running[-1], INTERRUPT, item)
+            self.found.interruptions.append(Preemption(running[-1], job.name, item))
+        running.append(job)
         self._change(job, RESUME if job.has_run else BEGIN, item)
         if job.parts[-1].start is None:
             job.parts[-1].start = item
 
     def _leave(self, item: Item, index: int, job: Job) -> None:
         """A job leaves the running state; if it neither ends nor waits, another one preempts it."""
+        self.running[job.core].pop()
         behind = item.lines[index + 1].split(" ")
         if behind[0] == "pre":
             self._change(job, PREEMPT, item)
             self.found.preemptions.append(Preemption(job, behind[1], item))
+
+    def _end(self, item: Item, job: Job) -> None:
+        """A job ends. One of an ISR, or one that has reached its budget, runs until then."""
+        self._finish(item, job, TERMINATE)
+        running = self.running[job.core]
+        if running and running[-1] is job:
+            running.pop()
+            if running:
+                self._change(running[-1], CONTINUE, item)
 
     def _finish(self, item: Item, job: Job, event: str) -> None:
         """A job ends or waits; one that ends gives back what it holds."""
@@ -264,6 +337,20 @@ class _Walk:
         if event == TERMINATE:
             for hold in job.holds:
                 hold.given = hold.given or item
+
+    def _hook(self, item: Item, index: int, words: List[str]) -> None:
+        """A hook is called."""
+        if words[1] == "Error":
+            deed = item.deed_at(index)
+            self._mark(ERROR, item, deed.name if deed is not None else "", words[2])
+        elif words[1] == "Protection":
+            self._mark(PROTECTION, item, self.running[item.core][-1].name, " ".join(words[1:]))
+        elif words[1] == "Shutdown":
+            self._mark(SHUTDOWN, item, "", " ".join(words[1:]))
+
+    def _mark(self, kind: str, item: Item, name: str, text: str) -> None:
+        """Marks what happens in an item."""
+        self.found.marks.append(Mark(kind, item.core, name, text, item, self.numbers.get(name, 0)))
 
     # Operations -----------------------------------------------------------------------------------------------------
 
@@ -278,7 +365,7 @@ class _Walk:
             self._send(item, deed, cause)
         elif deed.is_refused and not deed.is_reply:
             self._refuse(item, deed, item.core, deed.status, cause)
-        elif deed.kind == TASK and not deed.is_reply:
+        elif deed.is_of_job and not deed.is_reply:
             self._resource(item, deed)
         if deed.status == OK and not deed.is_reply:
             self._note_event(item, deed, deed.operation, cause)
@@ -290,7 +377,7 @@ class _Walk:
         envelope = Envelope(deed, item.core, receiver, cause, item)
         self.mail.setdefault((item.core, receiver), deque()).append(envelope)
         self.found.envelopes.append(envelope)
-        if deed.kind == TASK:
+        if deed.is_of_job:
             self.requests[item.core] = envelope
         if envelope.target is not None and envelope.target not in cause.way:
             cause.is_last = False

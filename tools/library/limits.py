@@ -27,8 +27,8 @@ def judge_limits(report: Report, draft: Draft) -> None:
     _judge_members(report, draft)
     for core in draft.cores:
         _judge_activations(report, core)
-        for task in core.named["tasks"]:
-            _judge_script(report, task)
+        for scripted in core.scripted:
+            _judge_script(report, scripted)
         for counter in core.named["counters"]:
             _judge_counter(report, counter)
         for alarm in core.named["alarms"]:
@@ -104,12 +104,12 @@ def _judge_activations(report: Report, core: Core) -> None:
         report.fault(LIMIT, core.spot("tasks"), text % (core.id, total, MOST_ACTIVATIONS))
 
 
-def _judge_script(report: Report, task: Named) -> None:
+def _judge_script(report: Report, scripted: Named) -> None:
     """Judges how many operations a script has, and points at the first one too many."""
-    operations = operations_of(task["script"])
+    operations = operations_of(scripted["script"])
     if len(operations) > MOST_OPERATIONS:
         index = sum(len(operation) + 1 for operation in operations[:MOST_OPERATIONS])
-        node = task.spot("script")
+        node = scripted.spot("script")
         text = "the script has %d operations: at most %d are allowed" % (len(operations), MOST_OPERATIONS)
         report.fault(LIMIT, node, text, report.document.character_offsets(node)[index])
 

@@ -8,8 +8,10 @@ from library import formats
 from library.drafts import Core, Draft
 
 TASK = "task"
+ISR = "ISR"
 ALARM = "alarm"
 TABLE = "table"
+SCRIPTED = (TASK, ISR)  # what has a script, so it calls services, and waits for replies
 
 OFF = "off"
 SEPARATE = "separate"
@@ -18,7 +20,7 @@ BOUND = "bound"
 
 @dataclass(frozen=True)
 class Actor:
-    """What does an operation: a task at an operation of its script, an alarm, or a table at the offset of a point."""
+    """What does an operation: a task or an ISR, with its number, an alarm, or a table, with the offset of a point."""
 
     kind: str
     name: str
@@ -98,10 +100,10 @@ def _references(draft: Draft, core: Core) -> Iterator[Reference]:
 
 
 def _operations(core: Core) -> Iterator[Tuple[Actor, str]]:
-    """All operations of a core's tasks, and all actions of its alarms and tables."""
-    for task in core.named["tasks"]:
-        for number, text in enumerate(formats.operations_of(task["script"])):
-            yield Actor(TASK, task.name, number), text
+    """All operations of a core's tasks and ISRs, and all actions of its alarms and tables."""
+    for scripted in core.scripted:
+        for number, text in enumerate(formats.operations_of(scripted["script"])):
+            yield Actor(scripted.kind.name, scripted.name, number), text
     for alarm in core.named["alarms"]:
         yield Actor(ALARM, alarm.name), alarm["action"]
     for table in core.named["tables"]:

@@ -17,7 +17,9 @@ def judge_names(report: Report, draft: Draft) -> None:
         for task in core.named["tasks"]:
             if task.spot("auto") is not task.node:
                 _judge_modes(report, task.spot("auto"))
-            judge.script(task.spot("script"))
+            judge.script(task)
+        for isr in core.named["isrs"]:
+            judge.script(isr)
         for alarm in core.named["alarms"]:
             _judge_owner(report, draft, core, alarm)
             judge.action(alarm.spot("action"))

@@ -1,7 +1,7 @@
 """Notes: what is lawful, and probably meant otherwise."""
 
 from dataclasses import dataclass
-from typing import Dict, Iterable, Iterator, List, Optional, Set
+from typing import Dict, Iterable, Iterator, List, Optional, Set, Tuple
 
 from library.drafts import Core, Draft, Named
 from library.findings import Report, listed
@@ -9,7 +9,11 @@ from library.formats import (
     BAD_MASK,
     BAD_SCRIPT,
     DUPLICATE_NAME,
+    FOR_TASKS,
+    INTERRUPT,
+    ISR,
     LIMIT,
+    MOST_SUSPENDED,
     NAMED_LISTS,
     NO_OBJECT,
     UNKNOWN_NAME,
@@ -40,12 +44,16 @@ def note_configuration(report: Report, draft: Draft) -> None:
 
 @dataclass(frozen=True)
 class _Use:
-    """An operation in form: of a script, whose task it has, or an action without one."""
+    """An operation in form: of a script, whose task or ISR it has, or an action without one.
+
+    `refusal` says why it is refused before its own checks, if it always is.
+    """
 
     node: JsonText
     step: Step
     core: Core
-    task: Optional[Named] = None
+    scripted: Optional[Named] = None
+    refusal: str = ""
 
     @property
     def name(self) -> str:
@@ -65,6 +73,8 @@ class _Notes:
         self.report = report
         self.draft = draft
         self.uses = list(_uses(draft))
+        # Those that may come to their own checks, whose objects and numbers then decide.
+        self.checked = [use for use in self.uses if not use.refusal]
 
     def all(self) -> None:
         """Makes all notes."""
@@ -88,7 +98,7 @@ class _Notes:
     def _note(self, use: _Use, word: int, text: str) -> None:
         """A note on a word of an operation."""
         at = use.step.words[word].at
-        title = "operation %d " % use.step.number if use.task is not None else ""
+        title = "operation %d " % use.step.number if use.scripted is not None else ""
         text = "%s%s: %s" % (title, shown(use.step.text), text)
         self.report.note(use.node, text, self.report.document.character_offsets(use.node)[at])
 
@@ -107,20 +117,23 @@ class _Notes:
                     self.report.note(element, "core %d starts itself: that is answered E_OS_STATE" % core.id)
 
     def _ends(self) -> None:
-        """Scripts to whose end a job can come."""
-        for task in self.draft.objects("task"):
-            steps = steps_of(task["script"])
-            if all(step.is_in_form for step in steps) and len(steps) in _reached(steps):
-                text = "a job can come to the end of the script without TerminateTask or ChainTask: E_OS_MISSINGEND"
-                self.report.note(task.spot("script"), text)
+        """Scripts to whose end a job of a task can come, or no job of an ISR, or one with interrupts suspended."""
+        for scripted in self.draft.objects("task") + self.draft.objects("ISR"):
+            steps = steps_of(scripted["script"])
+            if all(step.is_in_form for step in steps):
+                text = _end_note(scripted, _reached(scripted, steps).get(len(steps), set()))
+                if text:
+                    self.report.note(scripted.spot("script"), text)
 
     def _ceilings(self) -> None:
         """Resources whose ceiling is too low for a task that takes them."""
         users: Dict[Named, Dict[str, int]] = {}
-        for use in self.uses:
+        for use in self.checked:
             resource = self.draft.find_alone("resource", use.words[0]) if use.name == "GetResource" else None
-            if resource is not None and resource.core is use.core and use.task["prio"] > resource["ceiling"]:
-                users.setdefault(resource, {})[use.task.name] = use.task["prio"]
+            if resource is None or resource.core is not use.core or use.scripted.kind is ISR:
+                continue
+            if use.scripted["prio"] > resource["ceiling"]:
+                users.setdefault(resource, {})[use.scripted.name] = use.scripted["prio"]
         for resource, prios in users.items():
             tasks = _first_ones("`%s` (%d)" % pair for pair in prios.items())
             text = "`ceiling` is %d, below the `prio` of %s: GetResource `%s` is answered E_OS_ACCESS there"
@@ -129,7 +142,7 @@ class _Notes:
     def _events(self) -> None:
         """Tasks that have no events, and are used as if they had."""
         uses: Dict[Named, List[_Use]] = {}
-        for use in self.uses:
+        for use in self.checked:
             task = self._event_task(use)
             if task is not None and not task["extended"]:
                 uses.setdefault(task, []).append(use)
@@ -146,7 +159,7 @@ class _Notes:
     def _event_task(self, use: _Use) -> Optional[Named]:
         """The task whose events an operation means, if it means any."""
         if use.name in ("WaitEvent", "ClearEvent"):
-            return use.task
+            return use.scripted
         if use.name in ("SetEvent", "GetEvent"):
             return self.draft.find_alone("task", use.words[0])
         return None
@@ -158,10 +171,11 @@ class _Notes:
             if use.name == "SetEvent":
                 task = self._event_task(use)
                 masks[task] = masks.get(task, 0) | value_of(use.words[1])
-        for use in self.uses:
-            if use.name == "WaitEvent" and use.task["extended"]:
-                if not masks.get(use.task, 0) & value_of(use.words[0]):
-                    self._note(use, 1, "nothing sets such an event of `%s`, so the job waits for ever" % use.task.name)
+        for use in self.checked:
+            if use.name == "WaitEvent" and use.scripted["extended"]:
+                if not masks.get(use.scripted, 0) & value_of(use.words[0]):
+                    text = "nothing sets such an event of `%s`, so the job waits for ever"
+                    self._note(use, 1, text % use.scripted.name)
 
     def _refused(self) -> None:
         """Operations that are refused whatever happens, as the configuration is."""
@@ -173,11 +187,13 @@ class _Notes:
             "StartScheduleTableAbs": self._table_number,
         }
         for use in self.uses:
-            if use.name in judges and NO_OBJECT not in use.words:
+            if use.refusal:
+                self._note(use, 0, use.refusal)
+            elif use.name in judges and NO_OBJECT not in use.words:
                 judges[use.name](use)
 
     def _increment(self, use: _Use) -> None:
-        """Whether a task increments a counter that it may not increment."""
+        """Whether a script increments a counter that it may not increment."""
         counter = self.draft.find_alone("counter", use.words[0])
         if counter is None:
             return
@@ -264,10 +280,13 @@ def _has_autostart(each: Named) -> bool:
 def _uses(draft: Draft) -> Iterator[_Use]:
     """All operations and actions in form."""
     for core in draft.cores:
-        for task in core.named["tasks"]:
-            for step in steps_of(task["script"]):
+        for scripted in core.scripted:
+            steps = steps_of(scripted["script"])
+            reached = _reached(scripted, steps)
+            for step in steps:
                 if step.is_in_form:
-                    yield _Use(task.spot("script"), step, core, task)
+                    refusal = _refusal(scripted, step, reached.get(step.number, set()))
+                    yield _Use(scripted.spot("script"), step, core, scripted, refusal)
         nodes = [alarm.spot("action") for alarm in core.named["alarms"]]
         for table in core.named["tables"]:
             for point in table.parts("points"):
@@ -277,23 +296,57 @@ def _uses(draft: Draft) -> Iterator[_Use]:
                 yield _Use(node, Step(0, node.text, 0), core)
 
 
-def _reached(steps: List[Step]) -> Set[int]:
-    """The places of a script that a job may come to if each service answers E_OK and variables are not looked at."""
-    reached, left = set(), [0]
+def _reached(scripted: Named, steps: List[Step]) -> Dict[int, Set[int]]:
+    """The places of a script that a job may come to, each with how often it may have interrupts suspended there.
+
+    Services answer E_OK if an ISR may call them and interrupts are not suspended. Variables are not looked at. What is
+    not in form is passed.
+    """
+    reached: Dict[int, Set[int]] = {}
+    left = [(0, 0)]
     while left:
-        place = left.pop()
-        if place in reached or place > len(steps):
+        place, suspended = left.pop()
+        if place > len(steps) or suspended in reached.setdefault(place, set()):
             continue
-        reached.add(place)
-        if place == len(steps):
-            continue
-        step = steps[place]
-        name = step.operation.name
-        if name in ("jump", "jz"):
-            left.append(value_of(step.arguments[-1]))
-        if name not in ("jump", "TerminateTask", "ChainTask"):
-            left.append(place + 1)
+        reached[place].add(suspended)
+        if place < len(steps):
+            left += _behind(scripted, steps[place], suspended)
     return reached
+
+
+def _behind(scripted: Named, step: Step, suspended: int) -> Iterator[Tuple[int, int]]:
+    """Where a job may be behind an operation, and how often it then has interrupts suspended."""
+    name = step.operation.name if step.is_in_form else ""
+    if name in ("jump", "jz"):
+        yield value_of(step.arguments[-1]), suspended
+    if name in ("TerminateTask", "ChainTask") and not _refusal(scripted, step, {suspended}):
+        return
+    if name != "jump":
+        change = {"SuspendAllInterrupts": 1, "ResumeAllInterrupts": -1}.get(name, 0)
+        yield step.number + 1, min(max(suspended + change, 0), MOST_SUSPENDED)
+
+
+def _refusal(scripted: Named, step: Step, suspended: Set[int]) -> str:
+    """Why an operation is refused before its own checks, if it always is: by how often interrupts may be suspended."""
+    if not step.operation.is_service:
+        return ""
+    if suspended and 0 not in suspended:
+        return "interrupts are suspended here: E_OS_DISABLEDINT"
+    if scripted.kind is ISR and step.operation.name in FOR_TASKS:
+        return "an ISR may not call it: E_OS_CALLEVEL"
+    return ""
+
+
+def _end_note(scripted: Named, suspended: Set[int]) -> str:
+    """What to note of the end of a script, by how often a job may have interrupts suspended there."""
+    if scripted.kind is not ISR:
+        text = "a job can come to the end of the script without TerminateTask or ChainTask: E_OS_MISSINGEND"
+        return text if suspended else ""
+    if not suspended:
+        return "no job comes to the end of the script, so none of this ISR ends"
+    if suspended != {0}:
+        return "a job can come to the end of the script with interrupts suspended: E_OS_DISABLEDINT"
+    return ""
 
 
 def note_stimuli(report: Report, draft: Draft) -> None:
@@ -313,12 +366,20 @@ def note_stimuli(report: Report, draft: Draft) -> None:
 def _note_core(report: Report, core: Core, node: Json, words: Set[str]) -> None:
     """Notes on the stimuli of a started core."""
     has_ticked = any(not counter["software"] for counter in core.named["counters"])
-    if not words and (core.named["tasks"] or has_ticked):
+    if not words and (core.scripted or has_ticked):
         report.note(node, "core %d has no stimuli: none of its jobs does an operation" % core.id)
-    elif words and "op" not in words and core.named["tasks"]:
+    if not words:
+        return
+    if "op" not in words and core.scripted:
         report.note(node, "the stimuli of core %d have no `op`: none of its jobs does an operation" % core.id)
-    elif words and "tick" not in words and has_ticked:
+    elif "tick" not in words and has_ticked:
         counters = [each for each in core.named["counters"] if not each["software"]]
         names = listed("`%s`" % each.name for each in counters)
         stand = "stands" if len(counters) == 1 else "stand"
         report.note(node, "the stimuli of core %d have no `tick`: %s %s still" % (core.id, names, stand))
+    elif "tick" not in words and any(scripted["budget"] for scripted in core.scripted):
+        report.note(node, "the stimuli of core %d have no `tick`: no job uses its `budget`" % core.id)
+    for isr in core.named["isrs"]:
+        if INTERRUPT + isr.name not in words:
+            text = "the stimuli of core %d have no `%s%s`: no job of this ISR is made"
+            report.note(node, text % (core.id, INTERRUPT, isr.name))

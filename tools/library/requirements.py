@@ -5,7 +5,7 @@ import re
 from dataclasses import dataclass
 from typing import Any, Callable, Dict, List, Optional, Tuple
 
-from library.figures import Figures, units_of
+from library.figures import Figures, tasks_and_isrs, units_of
 from library.findings import did_you_mean, listed
 
 _TEXT = re.compile(
@@ -21,10 +21,11 @@ _SIGNS: Dict[str, Callable[[Any, Any], bool]] = {
     ">=": operator.ge,
 }
 ALL = "all cores"
-_ALL_FIGURES = ("lost", "refused", "errors")
-_CORE_FIGURES = ("stimuli", "ticks", "op", "idle", "load", "lost", "refused", "errors")
-_TASK_COUNTS = ("activations", "lost", "ended", "live", "preempted", "refused", "op", "load")
-_TASK_TIMES = ("waiting", "response")
+_ALL_FIGURES = ("lost", "refused", "errors", "protection", "down")
+_CORE_FIGURES = ("stimuli", "ticks", "irq", "op", "idle", "load") + _ALL_FIGURES
+_COUNTS = ("lost", "ended", "live", "interrupted", "refused", "used", "reached", "op", "load")
+_COUNTS_BY_KIND = {"task": ("activations", "preempted") + _COUNTS, "isr": ("interrupts",) + _COUNTS}
+_TIMES = ("waiting", "response")
 _CHAIN_COUNTS = ("complete", "open", "broken")
 _MAILBOX_FIGURES = ("envelopes", "fullest")
 
@@ -80,7 +81,7 @@ def _judge(figures: Figures, wanted: _Wanted) -> Verdict:
         found = re.fullmatch(pattern, wanted.subject)
         if found is not None:
             return judged(figures, wanted, found.groups())
-    return _task(figures, wanted)
+    return _owner(figures, wanted)
 
 
 def _one_of(wanted: _Wanted, names: Tuple[str, ...]) -> str:
@@ -117,16 +118,17 @@ def _mailbox(figures: Figures, wanted: _Wanted, words: Tuple[str, ...]) -> Verdi
     return _count(wanted, pairs.get((sender, receiver), 0))
 
 
-def _task(figures: Figures, wanted: _Wanted) -> Verdict:
-    """Judges a figure of a task."""
-    names = [each["task"] for each in figures["tasks"]]
-    if wanted.subject not in names:
-        text = "%r: no task is called `%s`%s"
-        raise WrongRequirement(text % (wanted.text, wanted.subject, did_you_mean(wanted.subject, names)))
-    task = figures["tasks"][names.index(wanted.subject)]
-    if wanted.figure in _TASK_TIMES:
-        return _times(wanted, task[wanted.figure], units_of(figures))
-    return _count(wanted, task[_one_of(wanted, _TASK_COUNTS + _TASK_TIMES)])
+def _owner(figures: Figures, wanted: _Wanted) -> Verdict:
+    """Judges a figure of a task or an ISR."""
+    found = dict(tasks_and_isrs(figures))
+    if wanted.subject not in found:
+        text = "%r: no task and no ISR is called `%s`%s"
+        raise WrongRequirement(text % (wanted.text, wanted.subject, did_you_mean(wanted.subject, found)))
+    each = found[wanted.subject]
+    if wanted.figure in _TIMES:
+        return _times(wanted, each[wanted.figure], units_of(figures))
+    counts = _COUNTS_BY_KIND["task" if "task" in each else "isr"]
+    return _count(wanted, each[_one_of(wanted, counts + _TIMES)])
 
 
 def _chain(figures: Figures, wanted: _Wanted, words: Tuple[str, ...]) -> Verdict:

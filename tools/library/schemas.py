@@ -10,6 +10,7 @@ import json
 from typing import Any, Dict, Iterable, List, Tuple
 
 from library import formats
+from library.findings import listed
 
 DRAFT = "http://json-schema.org/draft-07/schema#"
 
@@ -69,10 +70,10 @@ ARGUMENTS = {
 }
 
 
-def operations_pattern() -> str:
-    """One operation of a script. Those with the same arguments stand together."""
+def operations_pattern(without: Iterable[str] = ()) -> str:
+    """One operation of a script, but for some. Those with the same arguments stand together."""
     by_arguments: Dict[Tuple[str, ...], List[str]] = {}
-    for operation in formats.OPERATIONS.values():
+    for operation in (each for each in formats.OPERATIONS.values() if each.name not in without):
         kinds = tuple(ARGUMENTS.get(argument.kind, OBJECT) for argument in operation.arguments)
         by_arguments.setdefault(kinds, []).append(operation.name)
     return any_of(" ".join((any_of(names),) + kinds) for kinds, names in by_arguments.items())
@@ -139,6 +140,8 @@ def _value(value: formats.Value) -> Schema:
         return {"type": "integer", "minimum": value.least, "maximum": value.greatest}
     if isinstance(value, formats.Flag):
         return {"type": "boolean"}
+    if isinstance(value, formats.OneOf):
+        return {"enum": list(value.words)}
     if isinstance(value, formats.ListOf):
         schema: Schema = {"type": "array", "items": _value(value.element)}
         schema.update({"minItems": value.least} if value.least else {})
@@ -146,6 +149,8 @@ def _value(value: formats.Value) -> Schema:
         return schema
     if isinstance(value, formats.ObjectOf):
         return _reference(value.name)
+    if isinstance(value, formats.Script):
+        return _reference("isrScript" if value.without else "script")
     return _reference(_TEXTS[type(value)])
 
 
@@ -153,7 +158,6 @@ _TEXTS = {
     formats.NewName: "name",
     formats.CounterName: "name",
     formats.ModeName: "mode",
-    formats.Script: "script",
     formats.Action: "action",
 }
 
@@ -163,15 +167,22 @@ def _text(pattern: str, message: str) -> Schema:
     return {"type": "string", "pattern": pattern, "patternErrorMessage": message}
 
 
+def _script(message: str, without: Iterable[str]) -> Schema:
+    """The schema of scripts without some operations."""
+    return _text(divided(operations_pattern(without), ";", formats.MOST_OPERATIONS), message)
+
+
 def _texts() -> Dict[str, Schema]:
     """The schemas of names, modes, scripts and actions."""
     name = "A name is 1 to 128 letters, digits and underscores, begins with a letter, and is not `%s`." % formats.MODE
-    script = 'At most %d operations, divided by `;` without spaces around it, each as in docs/FORMATS.md, "Scripts".'
+    script = 'At most %d operations, divided by `;` without spaces around it, each as in docs/FORMATS.md, "Scripts"%s.'
+    but = ", but for %s" % listed("`%s`" % each for each in formats.NOT_IN_ISRS)
     forms = "`ActivateTask T` or `SetEvent T m`, where T is a task of any core, and m a mask."
     return {
         "name": _text("^(?!%s%s)%s%s" % (formats.MODE, _END, NAME, _END), name),
         "mode": {"const": formats.MODE},
-        "script": _text(divided(operations_pattern(), ";", formats.MOST_OPERATIONS), script % formats.MOST_OPERATIONS),
+        "script": _script(script % (formats.MOST_OPERATIONS, ""), ()),
+        "isrScript": _script(script % (formats.MOST_OPERATIONS, but), formats.NOT_IN_ISRS),
         "action": _text(action_pattern(), forms),
     }
 
@@ -245,11 +256,12 @@ def configuration_schema(document: str) -> Schema:
 
 def stimuli_schema() -> Schema:
     """The schema of stimuli."""
-    message = "At most %d words %s, divided by one space." % (
+    words = formats.STIMULUS_WORDS + (formats.INTERRUPT + "I",)
+    message = "At most %d words %s, divided by one space, where I is an ISR of the core." % (
         formats.MOST_STIMULI,
-        " and ".join("`%s`" % word for word in formats.STIMULUS_WORDS),
+        listed("`%s`" % word for word in words),
     )
-    text = _text(divided(any_of(formats.STIMULUS_WORDS), " ", formats.MOST_STIMULI), message)
+    text = _text(divided(any_of(formats.STIMULUS_WORDS + (formats.INTERRUPT + NAME,)), " ", formats.MOST_STIMULI), message)
     return {
         "$schema": DRAFT,
         "title": "Stimuli of mcos",
@@ -261,7 +273,8 @@ def stimuli_schema() -> Schema:
             + _END: dict(
                 {
                     "description": "The stimuli of one core: `op`, the next operation of the running job, "
-                    "or `tick`, one count of each of its counters, but for those with `software`."
+                    "`tick`, one count of each of its counters, but for those with `software`, or `irq=I`, an interrupt "
+                    "of its ISR I."
                 },
                 **text
             )

@@ -3,7 +3,7 @@
 import re
 from typing import Optional, Tuple
 
-from library.drafts import Core, Draft
+from library.drafts import Core, Draft, Named
 from library.findings import Report, counted, did_you_mean
 from library.formats import (
     ACTION_OPERATIONS,
@@ -35,12 +35,16 @@ class Judge:
         self.draft = draft
         self.core = core
 
-    def script(self, node: JsonText) -> None:
-        """Judges a script. Operations behind the greatest number of them are at fault as such."""
+    def script(self, scripted: Named) -> None:
+        """Judges the script of a task or an ISR. Operations behind the greatest number are at fault as such."""
+        node, without = scripted.spot("script"), scripted.kind.member("script").value.without
         steps = steps_of(node.text)
         for step in steps[:MOST_OPERATIONS]:
             title = "operation %d %s: " % (step.number, shown(step.text)) if step.text else ""
-            _Operation(self, node, step, title).judge(len(steps))
+            operation = _Operation(self, node, step, title)
+            operation.judge(len(steps))
+            if step.is_in_form and step.operation.name in without:
+                operation.fault(BAD_SCRIPT, "the script of an ISR takes and gives back no resource", step.at)
 
     def action(self, node: JsonText) -> None:
         """Judges an action of an alarm or a point."""
@@ -173,7 +177,7 @@ def unknown_name(draft: Draft, kind: str, name: str, wanted_by: str) -> str:
 
 def a(word: str) -> str:
     """A word with its article."""
-    return ("an " if word[0] in "aeiou" else "a ") + word
+    return ("an " if word[0] in "aeiouI" else "a ") + word
 
 
 _NOT_THERE = {
@@ -184,14 +188,12 @@ _NOT_THERE = {
     "GetSpinlock": "not there yet (spinlocks)",
     "ReleaseSpinlock": "not there yet (spinlocks)",
     "TryToGetSpinlock": "not there yet (spinlocks)",
-    "DisableAllInterrupts": "not there yet (interrupts)",
-    "EnableAllInterrupts": "not there yet (interrupts)",
-    "SuspendAllInterrupts": "not there yet (interrupts)",
-    "ResumeAllInterrupts": "not there yet (interrupts)",
-    "SuspendOSInterrupts": "not there yet (interrupts)",
-    "ResumeOSInterrupts": "not there yet (interrupts)",
-    "DisableInterruptSource": "not there yet (interrupts)",
-    "EnableInterruptSource": "not there yet (interrupts)",
+    "DisableAllInterrupts": "not planned: there is `SuspendAllInterrupts`",
+    "EnableAllInterrupts": "not planned: there is `ResumeAllInterrupts`",
+    "SuspendOSInterrupts": "not planned: there is `SuspendAllInterrupts`",
+    "ResumeOSInterrupts": "not planned: there is `ResumeAllInterrupts`",
+    "DisableInterruptSource": "not planned",
+    "EnableInterruptSource": "not planned",
     "ShutdownOS": "not there yet (shutdown)",
     "ShutdownAllCores": "not there yet (shutdown)",
     "StartCore": "not an operation of scripts: the `start` of the core lists the cores",

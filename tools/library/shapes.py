@@ -2,7 +2,7 @@
 
 from typing import Optional
 
-from library.findings import Report, listed
+from library.findings import Report, did_you_mean, listed
 from library.formats import (
     CONFIGURATION,
     MODES,
@@ -17,6 +17,7 @@ from library.formats import (
     Number,
     Object,
     ObjectOf,
+    OneOf,
     Script,
     Value,
     is_decimal,
@@ -99,6 +100,9 @@ def _judge_value(report: Report, node: Json, value: Value, title: str, kind: Obj
             _judge_value(report, element, value.element, "an element of " + title, kind)
     elif isinstance(value, _NAMES):
         _judge_name(report, node)
+    elif isinstance(value, OneOf) and node.text not in value.words:
+        text = "%s is one of %s, not %s" % (title, _words(value), shown(node.text))
+        report.fault(SHAPE, node, text + did_you_mean(node.text, value.words))
 
 
 def _judge_name(report: Report, node: JsonText) -> None:
@@ -140,7 +144,14 @@ def _wanted(value: Value, kind: Object) -> str:
         return "an object with %s%s" % (members, ", or `null`" if value.or_null else "")
     if isinstance(value, ListOf):
         return _wanted_list(value, kind)
+    if isinstance(value, OneOf):
+        return "one of %s" % _words(value)
     return _WANTED[type(value)]
+
+
+def _words(value: OneOf) -> str:
+    """The words of which one is wanted."""
+    return listed('`"%s"`' % word for word in value.words)
 
 
 def _wanted_number(value: Number) -> str:

@@ -406,7 +406,7 @@ class Surroundings:
 
     # The events of each task by its name, in the order of their bits; None for a task without the member `events`.
     events: Mapping[str, Optional[List[str]]]
-    task: str = ""  # whose script it is
+    task: Optional[str] = None  # whose script it is; of an ISR none
     own_events: Optional[List[str]] = None  # of that task
     labels: Sequence[str] = ()  # all of the script
     is_action: bool = False
@@ -476,6 +476,9 @@ def _events_for(argument: Argument, operation: Operation, around: Surroundings) 
         raise Refused(
             operation.offset, "an action is `ActivateTask` or `SetEvent`, not `%s`" % operation.arguments[0].text
         )
+    elif task is None:
+        text = "`%s` is no mask, and an ISR has no events" % argument.text
+        raise Refused(argument.offset, text)
     if events is None:
         text = "`%s` is no mask, and the task `%s` has no member `events` with names" % (argument.text, task)
         raise Refused(argument.offset, text)

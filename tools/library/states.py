@@ -1,16 +1,16 @@
-"""In which state each task is, from turn to turn; what the exports and the picture show.
+"""In which state each task and each ISR is, from turn to turn; what the exports and the picture show.
 
-A task is in the state of its oldest live job, since jobs of one task run one after another.
+One is in the state of its oldest live job, since jobs of one task or ISR run one after another.
 """
 
-from typing import Dict, Iterable, List, NamedTuple
+from typing import Dict, List, NamedTuple
 
 from library.jobs import STATES, Job, Jobs
 from library.timeline import Timeline
 
 
 class Stretch(NamedTuple):
-    """A state of a task's oldest job from a turn to another one."""
+    """A state of the oldest job of a task or an ISR from a turn to another one."""
 
     job: Job
     state: str
@@ -32,49 +32,64 @@ def end_of(timeline: Timeline) -> int:
     return timeline.turns + 1
 
 
-def stretches_by_task(jobs: Jobs) -> Dict[str, List[Stretch]]:
-    """The states of each task that has a job, in their order. A state that is over in the same turn is left out."""
-    found: Dict[str, List[Stretch]] = {}
-    last = end_of(jobs.timeline)
-    for job in jobs.jobs:
-        earlier = found.setdefault(job.task, [])
-        free = earlier[-1].end if earlier else 0
-        earlier += _stretches(job, free, last)
+def _last_turns(timeline: Timeline) -> Dict[int, int]:
+    """The turn up to which a job of each core is shown that does not end; a core that is down runs none."""
+    found = {core: end_of(timeline) for core in timeline.run.cores}
+    found.update({core: item.turn for core, item in timeline.down.items()})
     return found
 
 
-def _stretches(job: Job, free: int, last: int) -> Iterable[Stretch]:
-    """The states of a job, behind the turn in which the task's jobs before it have ended."""
+def stretches_by_name(jobs: Jobs) -> Dict[str, List[Stretch]]:
+    """The states of each task and ISR that has a job, in their order.
+
+    A state that is over in the same turn is left out, as the running one between two ISRs.
+    """
+    found: Dict[str, List[Stretch]] = {}
+    last = _last_turns(jobs.timeline)
+    for job in jobs.jobs:
+        earlier = found.setdefault(job.name, [])
+        free = earlier[-1].end if earlier else 0
+        earlier += _stretches(job, free, last[job.core])
+    return found
+
+
+def _stretches(job: Job, free: int, last: int) -> List[Stretch]:
+    """The states of a job, behind the turn in which the jobs before it have ended."""
+    found: List[Stretch] = []
     ends = [change.item.turn for change in job.changes[1:]] + [last]
     for change, end in zip(job.changes, ends):
         begin = max(change.item.turn, free)
         if change.event in STATES and begin < end:
-            yield Stretch(job, STATES[change.event], begin, end)
+            if found and found[-1].state == STATES[change.event]:
+                begin = found.pop().begin
+            found.append(Stretch(job, STATES[change.event], begin, end))
+    return found
 
 
 def held_by_task(jobs: Jobs) -> Dict[str, List[Held]]:
     """The resources that each task's jobs hold."""
     found: Dict[str, List[Held]] = {}
-    last = end_of(jobs.timeline)
+    last = _last_turns(jobs.timeline)
     for job in jobs.jobs:
         for hold in job.holds:
-            end = hold.given.turn if hold.given is not None else last
-            found.setdefault(job.task, []).append(Held(job, hold.resource, hold.taken.turn, end))
+            end = hold.given.turn if hold.given is not None else last[job.core]
+            found.setdefault(job.name, []).append(Held(job, hold.resource, hold.taken.turn, end))
     return found
 
 
-class TaskRow(NamedTuple):
-    """A task, as rows show it."""
+class Row(NamedTuple):
+    """A task or an ISR, as rows show it."""
 
     core: int
     name: str
-    prio: int
+    rank: str  # its priority or its level
 
 
-def task_rows(timeline: Timeline) -> List[TaskRow]:
-    """All tasks by core and by descending priority; of one priority in the order of the configuration."""
+def rows_of(timeline: Timeline) -> List[Row]:
+    """By core the ISRs by descending level, and the tasks by descending priority; equal ones as they are configured."""
     rows = []
     for core in sorted(timeline.run.draft.cores, key=lambda core: core.id):
-        tasks = sorted(core.named["tasks"], key=lambda task: -task["prio"])
-        rows += [TaskRow(core.id, task.name, task["prio"]) for task in tasks]
+        for kind, rank in (("isrs", "level"), ("tasks", "prio")):
+            ranked = sorted(core.named[kind], key=lambda each, rank=rank: -each[rank])
+            rows += [Row(core.id, each.name, "%s %d" % (rank, each[rank])) for each in ranked]
     return rows

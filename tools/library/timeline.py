@@ -9,6 +9,8 @@ from library.items import Item
 from library.runs import Run
 from library.turns import placed_items
 
+_SHUTDOWN = "hook Shutdown "
+
 
 @dataclass(frozen=True)
 class Timeline:
@@ -24,6 +26,11 @@ class Timeline:
         for item in self.items:
             found[item.core].append(item)
         return found
+
+    @cached_property
+    def down(self) -> Dict[int, Item]:
+        """Of each core that is down the item in which it shut down."""
+        return {item.core: item for item in self.items if any(line.startswith(_SHUTDOWN) for line in item.lines)}
 
     @property
     def turns(self) -> int:
@@ -53,8 +60,8 @@ def records(items: Iterable[Item]) -> Iterable[Dict[str, Any]]:
     for item in items:
         where = {"turn": item.turn, "round": item.round, "core": item.core, "item": item.number}
         where.update({"stimulus": item.stimulus, "tick": item.tick, "by": item.text})
-        if item.task is not None:
-            where.update({"task": item.task, "operation": item.place})
+        if item.runner is not None:
+            where.update({item.runner.kind.lower(): item.runner.name, "operation": item.place})
         for line in item.lines:
             yield {**where, "line": line}
 

@@ -1,4 +1,4 @@
-"""A run as a value change dump (VCD, IEEE 1364): the states of tasks, the resources, the ticks, the mailboxes.
+"""A run as a value change dump (VCD, IEEE 1364): the states of tasks and ISRs, resources, ticks, hooks, mailboxes.
 
 A time is the number of a turn. Of several changes in one turn a variable shows the last one.
 """
@@ -6,12 +6,13 @@ A time is the number of a turn. Of several changes in one turn a variable shows 
 from dataclasses import dataclass
 from typing import Dict, Iterator, List, Tuple
 
-from library.jobs import READY, RUNNING, WAITING, Jobs
-from library.states import end_of, held_by_task, stretches_by_task, task_rows
+from library.jobs import ERROR, INTERRUPTED, LOST, PROTECTION, READY, RUNNING, SHUTDOWN, WAITING, Jobs
+from library.states import end_of, held_by_task, rows_of, stretches_by_name
 from library.timeline import Timeline, mailbox_levels
 
 SUSPENDED = "suspended"
-CODES = {SUSPENDED: 0, READY: 1, WAITING: 2, RUNNING: 3}
+CODES = {SUSPENDED: 0, READY: 1, WAITING: 2, RUNNING: 3, INTERRUPTED: 4}
+_CODE_BITS = 3
 _FIRST_CODE, _CODES = 33, 94  # the characters of which the short names of variables consist
 
 Values = List[Tuple[int, int]]  # a turn, and the value from then on
@@ -50,7 +51,7 @@ def text(jobs: Jobs, source: str) -> str:
 def _legend(timeline: Timeline) -> str:
     """What times and values mean."""
     codes = ", ".join("%d %s" % (code, state) for state, code in CODES.items())
-    return "a time is the number of a turn of the %s schedule; a task is %s" % (timeline.run.schedule, codes)
+    return "a time is the number of a turn of the %s schedule; a task or an ISR is %s" % (timeline.run.schedule, codes)
 
 
 def short_name(number: int) -> str:
@@ -109,10 +110,10 @@ def variables_of(jobs: Jobs) -> List[Variable]:
     for core in timeline.run.cores:
         scope = "core_%d" % core
         found.append(Variable(scope, "tick", "integer", 32, _ticks(timeline, core)))
-        found.append(Variable(scope, "error", "event", 1, _errors(timeline, core)))
-        for row in task_rows(timeline):
+        found += _events(jobs, core, scope)
+        for row in rows_of(timeline):
             if row.core == core:
-                found.append(Variable(scope, row.name, "reg", 2, states.get(row.name, [(0, 0)])))
+                found.append(Variable(scope, row.name, "reg", _CODE_BITS, states.get(row.name, [(0, 0)])))
         found += [Variable(scope, name, "wire", 1, resources.get(name, [(0, 0)])) for name in _named(timeline, core)]
     return found + _mailboxes(timeline)
 
@@ -123,14 +124,14 @@ def _named(timeline: Timeline, core: int) -> List[str]:
 
 
 def _states(jobs: Jobs) -> Dict[str, Values]:
-    """The states of tasks."""
+    """The states of tasks and ISRs."""
     found = {}
-    for task, stretches in stretches_by_task(jobs).items():
+    for name, stretches in stretches_by_name(jobs).items():
         values = [(0, CODES[SUSPENDED])]
         for each in stretches:
             # What begins in the turn of an end stands behind it.
             values += [(each.begin, CODES[each.state]), (each.end, CODES[SUSPENDED])]
-        found[task] = _in_order(values, end_of(jobs.timeline))
+        found[name] = _in_order(values, end_of(jobs.timeline))
     return found
 
 
@@ -153,9 +154,12 @@ def _ticks(timeline: Timeline, core: int) -> Values:
     return [(0, 0)] + [(item.turn, item.tick) for item in timeline.by_core[core] if item.is_tick]
 
 
-def _errors(timeline: Timeline, core: int) -> Values:
-    """The turns in which ErrorHook was called."""
-    return [(item.turn, 1) for item in timeline.by_core[core] if item.errors]
+def _events(jobs: Jobs, core: int, scope: str) -> Iterator[Variable]:
+    """The turns in which ErrorHook was called; those of the other marks, if there are any."""
+    for kind in (ERROR, PROTECTION, SHUTDOWN, LOST):
+        turns = dict.fromkeys(mark.item.turn for mark in jobs.marks if (mark.core, mark.kind) == (core, kind))
+        if turns or kind == ERROR:
+            yield Variable(scope, kind, "event", 1, [(turn, 1) for turn in turns])
 
 
 def _mailboxes(timeline: Timeline) -> List[Variable]:

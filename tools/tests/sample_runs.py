@@ -6,6 +6,7 @@ import io
 import json
 import os
 import sys
+import tempfile
 import unittest
 
 TESTS = os.path.dirname(os.path.abspath(__file__))
@@ -19,6 +20,27 @@ from library import runs, timeline  # noqa: E402
 PROGRAM = os.path.abspath(os.environ.get("MCOS", os.path.join(ROOT, "crates", "mcos", "out", "mcos")))
 EXAMPLES = os.path.join(ROOT, "examples")
 ENGINE = [os.path.join(EXAMPLES, "engine", name) for name in ("config.json", "stimuli.json")]
+
+# A run with interrupts, budgets and a core that is down. J interrupts I, one interrupt of I is lost, a job of I reaches
+# its budget while the next one is pending, and X is preempted when that one ends. Core 1 shuts down, so it drops what the
+# alarm A does, and answers X E_OS_CORE.
+INTERRUPTS = """{"cores": [
+  {"id": 0, "start": [1], "protection": "PRO_TERMINATETASKISR",
+   "counters": [{"name": "C", "max": 9}],
+   "alarms": [
+     {"name": "A", "counter": "C", "action": "ActivateTask B", "auto": {"modes": ["M"], "start": 3, "cycle": 0}}],
+   "tasks": [
+     {"name": "X", "prio": 1, "auto": ["M"], "budget": 9,
+      "script": "SuspendAllInterrupts;ResumeAllInterrupts;ActivateTask B;TerminateTask"},
+     {"name": "H", "prio": 2, "script": "TerminateTask"}],
+   "isrs": [
+     {"name": "I", "level": 1, "budget": 2, "script": "ActivateTask H"},
+     {"name": "J", "level": 2, "script": "ActivateTask B"}]},
+  {"id": 1, "tasks": [{"name": "B", "prio": 1, "auto": ["M"], "activations": 2, "budget": 2, "script": "jump 0"}]}]}"""
+INTERRUPTS_STIMULI = {
+    "0": "op irq=I op tick irq=J irq=I irq=I op op tick op op op tick op op",
+    "1": "op op op op op op op op op tick tick op",
+}
 
 needs_program = unittest.skipUnless(os.path.isfile(PROGRAM), "there is no program %s" % PROGRAM)
 
@@ -70,6 +92,23 @@ def sources():
             if words[0] == "run" and "--items" not in words and not lines[-2].startswith("fault "):
                 paths = [os.path.join(EXAMPLES, name, word) for word in words[1:] if not word.startswith("--")]
                 yield runs.Source(PROGRAM, *paths)
+
+
+@contextlib.contextmanager
+def written(configuration, stimuli):
+    """A run of the program whose configuration is a text and whose stimuli are a value, while the files are there."""
+    with tempfile.TemporaryDirectory() as folder:
+        paths = [os.path.join(folder, name) for name in ("config.json", "stimuli.json")]
+        for path, text in zip(paths, (configuration, json.dumps(stimuli))):
+            with open(path, "w", encoding="utf-8") as file:
+                file.write(text)
+        yield runs.Source(PROGRAM, *paths)
+
+
+def interrupts():
+    """The timeline of the run with interrupts."""
+    with written(INTERRUPTS, INTERRUPTS_STIMULI) as source:
+        return timeline_of(source)
 
 
 def timeline_of(source):

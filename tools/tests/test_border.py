@@ -158,6 +158,11 @@ def table(action):
     return {"name": "S", "counter": "C", "duration": 5, "points": [{"offset": 2, "actions": [action]}]}
 
 
+def isr(script):
+    """The ISRs of a core with one of this script."""
+    return [{"name": "I", "level": 1, "script": script}]
+
+
 START = core(0, start=[1, 2])
 # One reason each: the cores, and the words for them with their reasons.
 REASONS = [
@@ -183,6 +188,14 @@ REASONS = [
     (
         [START, core(1, "IncrementCounter D"), core(2, counters=[counter("D")])],
         {1: ("bound", ["it refers to core 2: counter D"]), 2: ("bound", ["core 1 refers to it: counter D"])},
+    ),
+    (
+        [START, core(1, isrs=isr("ActivateTask X2")), core(2, "work")],
+        {1: ("bound", ["it refers to core 2: task X2"]), 2: ("bound", ["core 1 refers to it: task X2"])},
+    ),
+    (
+        [START, core(1, "work", isrs=isr("ActivateTask X1;SuspendAllInterrupts")), core(2)],
+        {1: ("separate", []), 2: ("separate", [])},
     ),
     (
         [
@@ -240,6 +253,7 @@ REASONS = [
 REACHES = [
     ([core(0, start=[1]), core(1)], {0: {}, 1: {}}),
     ([START, core(1, "ActivateTask X2"), core(2, "work")], {0: {}, 1: {2: 1}, 2: {1: 2}}),
+    ([START, core(1, isrs=isr("ActivateTask X2")), core(2, "work")], {0: {}, 1: {2: 1}, 2: {1: 2}}),
     (
         [START, core(1, counters=[counter("C")], alarms=[alarm("A", "ActivateTask X2")]), core(2, "work")],
         {0: {}, 1: {2: 1}, 2: {}},
@@ -311,6 +325,10 @@ class Reports(unittest.TestCase):
             "What a change of a core's work can reach\n  core 0: no other core\n"
         )
         self.assertEqual(border.report(model_of_cores([core(0, "work")])), expected)
+
+    def test_an_isr(self):
+        report = border.report(model_of_cores([core(0, start=[1], isrs=isr("ActivateTask X1")), core(1, "work")]))
+        self.assertIn("    ActivateTask X1  ISR I, operation 0  request; core 0 waits for the reply\n", report)
 
     def test_quoting(self):
         self.assertEqual(border.quoted(['a "b" \\', "c"]), r'"a \"b\" \\\nc"')

@@ -129,13 +129,15 @@ STIMULI = [
     ("2*(tick 3*op)", "tick op op op tick op op op"),
     ("2*(2*(tick op) op) tick", "tick op tick op op tick op tick op op tick"),
     ("100000*op", " ".join(["op"] * 100000)),
+    ("2*irq=I 2*(irq=Rx_1 op)", "irq=I irq=I irq=Rx_1 op irq=Rx_1 op"),
     (["2*op", "tick"], "op op tick"),
     ([], ""),
 ]
 WRONG_STIMULI = [
-    ("tik op", 0, "stimuli are `op` and `tick`, not `tik`; did you mean `tick`?"),
-    ("2*(tick 3*opp)", 10, "stimuli are `op` and `tick`, not `opp`; did you mean `op`?"),
-    ("op;op", 0, "stimuli are `op` and `tick`, not `op;op`"),
+    ("tik op", 0, "stimuli are `op`, `tick` and `irq=I`, not `tik`; did you mean `tick`?"),
+    ("2*(tick 3*opp)", 10, "stimuli are `op`, `tick` and `irq=I`, not `opp`; did you mean `op`?"),
+    ("op irq=1", 3, "stimuli are `op`, `tick` and `irq=I`, not `irq=1`"),
+    ("op;op", 0, "stimuli are `op`, `tick` and `irq=I`, not `op;op`"),
     ("op*3", 0, "a count stands before `*`, as in `3*op`, not `op`"),
     ("op (tick)", 3, "a count stands before `(`, as in `3*(op)`"),
     ("3*(tick", 2, "this `(` has no `)`"),
@@ -217,6 +219,15 @@ class Cases(unittest.TestCase):
         ]
         actions = value_of(source)["cores"][1]["tables"][0]["points"][0]["actions"]
         self.assertEqual(actions, ["SetEvent Own 4", "ActivateTask Far"])
+
+    def test_scripts_of_isrs(self):
+        source = configuration("")
+        isr = {"name": "I", "level": 1, "script": ["2*(w: SetEvent Own Rx|Tick;jz v0 w)", "work"]}
+        source["cores"][1]["isrs"] = [isr]
+        expanded = "SetEvent Own 5;jz v0 0;SetEvent Own 5;jz v0 2;work"
+        self.assertEqual(value_of(source)["cores"][1]["isrs"][0]["script"], expanded)
+        isr["script"] = "WaitEvent Rx"
+        self.refused(source, "WaitEvent Rx", 10, "`Rx` is no mask, and an ISR has no events")
 
     def test_stimuli(self):
         for text, expected in STIMULI:
@@ -413,7 +424,7 @@ class Whole(unittest.TestCase):
 
     def test_refused(self):
         self.write("a.json", '{"0": "op",\n "1": "tik"}')
-        message = "a.json:2:8: stimuli are `op` and `tick`, not `tik`; did you mean `tick`?\n"
+        message = "a.json:2:8: stimuli are `op`, `tick` and `irq=I`, not `tik`; did you mean `tick`?\n"
         self.assertEqual(self.run_expand("a.json", "--map", "a.map"), (1, "", message))
         self.assertFalse(os.path.exists(os.path.join(self.folder, "a.map")))
 

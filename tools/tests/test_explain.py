@@ -192,13 +192,144 @@ CASES = (
         ),
     ),
     Case(
-        "interrupts are not there yet",
+        "an ISR takes no resource",
         '"id": 1,',
-        '"id": 1, "isrs": [],',
-        '"isrs"',
+        '"id": 1, "isrs": [{"name": "I", "level": 1, "script": "work;GetResource ?"}],',
+        "GetResource ?",
         (
-            "config.json:16:13: fault 2 Shape: /cores/1/isrs: "
-            "a core has no member `isrs`: not there yet (interrupts)",
+            "config.json:16:64: fault 10 BadScript: /cores/1/isrs/0/script: "
+            "operation 1 `GetResource ?`: the script of an ISR takes and gives back no resource",
+        ),
+    ),
+    Case(
+        "a resource of an ISR's core",
+        '"start": [1, 2],',
+        '"start": [1, 2], "isrs": [{"name": "I", "level": 1, "script": "GetResource Map"}],',
+        "GetResource Map",
+        (
+            "config.json:2:76: fault 10 BadScript: /cores/0/isrs/0/script: "
+            "operation 0 `GetResource Map`: the script of an ISR takes and gives back no resource",
+        ),
+    ),
+    Case(
+        "a member that only tasks have",
+        '"id": 1,',
+        '"id": 1, "isrs": [{"name": "I", "prio": 1, "script": ""}],',
+        '"prio"',
+        ("config.json:16:36: fault 2 Shape: /cores/1/isrs/0/prio: an ISR has no member `prio`: it is `level` here",),
+    ),
+    Case(
+        "a level too great",
+        '"id": 1,',
+        '"id": 1, "isrs": [{"name": "I", "level": 17, "script": ""}],',
+        "17",
+        ("config.json:16:45: fault 3 Limit: /cores/1/isrs/0/level: `level` is 17: 1 to 16 are allowed",),
+    ),
+    Case(
+        "an ISR with the name of a task",
+        '"id": 1,',
+        '"id": 1, "isrs": [{"name": "T1ms", "level": 1, "script": ""}],',
+        '"T1ms"',
+        (
+            "config.json:16:31: fault 4 DuplicateName: /cores/1/isrs/0/name: "
+            "`T1ms` is already the name of the task of core 0 in line 14",
+        ),
+    ),
+    Case(
+        "an ISR in place of a task",
+        '"id": 1,',
+        '"id": 1, "isrs": [{"name": "I", "level": 1, "script": "ActivateTask I"}],',
+        'I"}',
+        (
+            "config.json:16:72: fault 5 UnknownName: /cores/1/isrs/0/script: "
+            "operation 0 `ActivateTask I`: `I` is an ISR, and `ActivateTask` wants a task",
+        ),
+    ),
+    Case(
+        "an event of another core's task",
+        '"id": 1,',
+        '"id": 1, "isrs": [{"name": "I", "level": 1, "script": "GetEvent T1ms v0"}],',
+        "T1ms v0",
+        (
+            "config.json:16:68: fault 6 WrongCore: /cores/1/isrs/0/script: "
+            "operation 0 `GetEvent T1ms v0`: `T1ms` is a task of core 0: `GetEvent` takes one of its own core, 1",
+            "config.json:14:15: note: /cores/0/tasks/0/name: "
+            "the task `T1ms` is not `extended`, so it has no events: E_OS_ACCESS for `GetEvent T1ms v0` in line 16",
+        ),
+    ),
+    Case(
+        "a mask of an ISR without an event",
+        '"id": 1,',
+        '"id": 1, "isrs": [{"name": "I", "level": 1, "script": "SetEvent Com 0"}],',
+        '0"}',
+        (
+            "config.json:16:72: fault 8 BadMask: /cores/1/isrs/0/script: "
+            "operation 0 `SetEvent Com 0`: the mask `0` is not 1 to 4294967295",
+        ),
+    ),
+    Case(
+        "a pair that is not planned",
+        "add v0 1;",
+        "DisableAllInterrupts;",
+        "DisableAllInterrupts",
+        (
+            "config.json:22:62: fault 10 BadScript: /cores/2/tasks/0/script: operation 0 `DisableAllInterrupts`: "
+            "`DisableAllInterrupts` is not planned: there is `SuspendAllInterrupts`",
+        ),
+    ),
+    Case(
+        "what an ISR may not call",
+        '"id": 1,',
+        '"id": 1, "isrs": [{"name": "I", "level": 1, "script": "SetEvent Com 1;WaitEvent 1;TerminateTask"}],',
+        "WaitEvent 1",
+        (
+            "config.json:16:74: note: /cores/1/isrs/0/script: "
+            "operation 1 `WaitEvent 1`: an ISR may not call it: E_OS_CALLEVEL",
+            "config.json:16:86: note: /cores/1/isrs/0/script: "
+            "operation 2 `TerminateTask`: an ISR may not call it: E_OS_CALLEVEL",
+        ),
+    ),
+    Case(
+        "an ISR that never ends",
+        '"id": 1,',
+        '"id": 1, "isrs": [{"name": "I", "level": 1, "script": "jz v0 0;jump 0"}],',
+        '"jz',
+        (
+            "config.json:16:58: note: /cores/1/isrs/0/script: "
+            "no job comes to the end of the script, so none of this ISR ends",
+        ),
+    ),
+    Case(
+        "interrupts suspended behind the end",
+        '"id": 1,',
+        '"id": 1, "isrs": [{"name": "I", "level": 1, "script": "jz v0 2;SuspendAllInterrupts"}],',
+        '"jz',
+        (
+            "config.json:16:58: note: /cores/1/isrs/0/script: "
+            "a job can come to the end of the script with interrupts suspended: E_OS_DISABLEDINT",
+        ),
+    ),
+    Case(
+        "a job that does not end with interrupts suspended",
+        "add v0 1;TerminateTask",
+        "SuspendAllInterrupts;TerminateTask",
+        '"Sus',
+        (
+            "config.json:22:61: note: /cores/2/tasks/0/script: "
+            "a job can come to the end of the script without TerminateTask or ChainTask: E_OS_MISSINGEND",
+            "config.json:22:83: note: /cores/2/tasks/0/script: "
+            "operation 1 `TerminateTask`: interrupts are suspended here: E_OS_DISABLEDINT",
+        ),
+    ),
+    Case(
+        "an answer that there is not",
+        '"id": 1,',
+        '"id": 1, "protection": "PRO_TERMINATETASK",',
+        '"PRO_TERMINATETASK"',
+        (
+            "config.json:16:27: fault 2 Shape: /cores/1/protection: `protection` is one of "
+            '`"PRO_IGNORE"`, `"PRO_TERMINATETASKISR"`, `"PRO_TERMINATEAPPL"`, `"PRO_TERMINATEAPPL_RESTART"` and '
+            '`"PRO_SHUTDOWN"`, not `PRO_TERMINATETASK`; did you mean `PRO_TERMINATETASKISR`?',
         ),
     ),
     Case(
@@ -598,7 +729,7 @@ STIMULI = (
         '{"0": "op tik tik", "1": "op", "2": "op"}',
         (
             "1:11: fault 12 BadStimulus: /0: "
-            "word 2 `tik`: a stimulus is `op` or `tick`; did you mean `tick`? (and 1 more of it)",
+            "word 2 `tik`: a stimulus is `op`, `tick` or `irq=I`; did you mean `tick`? (and 1 more of it)",
         ),
     ),
     Input(
@@ -606,7 +737,7 @@ STIMULI = (
         '{"0": "op*3"}',
         (
             "1:8: fault 12 BadStimulus: /0: "
-            "word 1 `op*3`: a stimulus is `op` or `tick`: mcos repeats none, and tools/expand writes it out",
+            "word 1 `op*3`: a stimulus is `op`, `tick` or `irq=I`: mcos repeats none, and tools/expand writes it out",
         ),
     ),
     Input(
@@ -660,6 +791,34 @@ STIMULI = (
             '1:1: note: "": core 2 has no stimuli: none of its jobs does an operation',
             "1:7: note: /0: the stimuli of core 0 have no `tick`: `Ms` stands still",
             "1:18: note: /1: core 1 has no stimuli: none of its jobs does an operation",
+        ),
+    ),
+)
+# Stimuli for a configuration with ISRs: the last core has a budget, and no counter.
+ISRS = """\
+{"cores": [
+  {"id": 0, "start": [1], "isrs": [{"name": "Rx", "level": 1, "script": ""}, {"name": "Tx", "level": 2, "script": ""}]},
+  {"id": 1, "isrs": [{"name": "Far", "level": 1, "budget": 1, "script": ""}]}]}
+"""
+INTERRUPTS = (
+    Input("right ones", '{"0": "irq=Rx op irq=Tx", "1": "irq=Far tick op"}', ()),
+    Input(
+        "ISRs that there are not, or not on this core",
+        '{"0": "op irq=RX irq=Far irq= irq", "1": "op"}',
+        (
+            "1:15: fault 12 BadStimulus: /0: word 2 `irq=RX`: no ISR of this core is called `RX`; did you mean `Rx`?",
+            "1:22: fault 12 BadStimulus: /0: word 3 `irq=Far`: `Far` is an ISR of core 1",
+            "1:30: fault 12 BadStimulus: /0: word 4 `irq=`: no ISR of this core is called ``",
+            "1:31: fault 12 BadStimulus: /0: word 5 `irq`: a stimulus is `op`, `tick` or `irq=I`",
+        ),
+    ),
+    Input(
+        "no interrupt of an ISR, and no tick for a budget",
+        '{"0": "irq=Tx", "1": "irq=Far op"}',
+        (
+            "1:7: note: /0: the stimuli of core 0 have no `op`: none of its jobs does an operation",
+            "1:7: note: /0: the stimuli of core 0 have no `irq=Rx`: no job of this ISR is made",
+            "1:22: note: /1: the stimuli of core 1 have no `tick`: no job uses its `budget`",
         ),
     ),
 )
@@ -760,11 +919,12 @@ class Inputs(unittest.TestCase):
     """The usual mistakes in stimuli and schedules."""
 
     def test_stimuli(self):
-        draft = judge_configuration(BASE.encode()).draft
-        for each in STIMULI:
-            with self.subTest(each.title):
-                judgement = judge_stimuli(each.text.encode(), draft)
-                self.assertEqual(["stim:" + line for line in each.lines], lines_of(judgement, "stim"))
+        for configuration, inputs in ((BASE, STIMULI), (ISRS, INTERRUPTS)):
+            draft = judge_configuration(configuration.encode()).draft
+            for each in inputs:
+                with self.subTest(each.title):
+                    judgement = judge_stimuli(each.text.encode(), draft)
+                    self.assertEqual(["stim:" + line for line in each.lines], lines_of(judgement, "stim"))
 
     def test_schedules(self):
         draft = judge_configuration(BASE.encode()).draft
@@ -928,8 +1088,8 @@ def session(folder):
             yield line.split(" ")[2:], following if following.startswith("fault ") else None
 
 
-# A configuration for one script, and scripts with the line that the program prints when their first operation is done.
-# Those with another status than E_OK are noted, with this status.
+# A configuration for the script of a task and that of an ISR, and scripts with a line that the program prints. What has
+# another status than E_OK there is noted, with this status.
 FRAME = """\
 {"cores": [
   {"id": 0, "start": [1],
@@ -940,14 +1100,16 @@ FRAME = """\
    "tasks": [
      {"name": "A", "prio": 2, "auto": ["M"], "script": "%s"},
      {"name": "B", "prio": 1, "auto": ["M"], "script": "TerminateTask"},
-     {"name": "E", "prio": 1, "extended": true, "auto": ["M"], "script": "TerminateTask"}]},
+     {"name": "E", "prio": 1, "extended": true, "auto": ["M"], "script": "TerminateTask"}],
+   "isrs": [{"name": "I", "level": 1, "script": "%s"}]},
   {"id": 1, "counters": [{"name": "D", "max": 9, "software": true}]}]}
 """
+NO_EVENTS = "stat A ClearEvent E_OS_ACCESS"
 STATUSES = (
     ("GetResource Low;TerminateTask", "stat A GetResource E_OS_ACCESS"),
     ("GetResource High;ReleaseResource High;TerminateTask", "stat A GetResource E_OK"),
     ("WaitEvent 1;TerminateTask", "stat A WaitEvent E_OS_ACCESS"),
-    ("ClearEvent 1;TerminateTask", "stat A ClearEvent E_OS_ACCESS"),
+    ("ClearEvent 1;TerminateTask", NO_EVENTS),
     ("SetEvent B 1;TerminateTask", "stat A SetEvent E_OS_ACCESS"),
     ("SetEvent E 1;TerminateTask", "stat A SetEvent E_OK"),
     ("GetEvent B v0;TerminateTask", "stat A GetEvent E_OS_ACCESS"),
@@ -972,16 +1134,41 @@ STATUSES = (
     ("StartScheduleTableAbs S 10;TerminateTask", "stat A StartScheduleTableAbs E_OS_VALUE"),
     ("", "hook Error E_OS_MISSINGEND"),
     ("jump 2;TerminateTask", "hook Error E_OS_MISSINGEND"),
+    ("SuspendAllInterrupts;WaitEvent 1;ResumeAllInterrupts;TerminateTask", "stat A WaitEvent E_OS_DISABLEDINT"),
+    ("SuspendAllInterrupts;GetResource Low;ResumeAllInterrupts;TerminateTask", "stat A GetResource E_OS_DISABLEDINT"),
+    ("SuspendAllInterrupts;SetRelAlarm L 0 0;ResumeAllInterrupts;TerminateTask", "stat A SetRelAlarm E_OS_DISABLEDINT"),
+    ("ResumeAllInterrupts;SuspendAllInterrupts;ResumeAllInterrupts;ClearEvent 1;TerminateTask", NO_EVENTS),
+    ("jz v0 2;SuspendAllInterrupts;SetEvent E 1;ResumeAllInterrupts;TerminateTask", "stat A SetEvent E_OK"),
 )
+ISR_STATUSES = (
+    ("ActivateTask B", "stat I ActivateTask E_OK"),
+    ("SetEvent B 1", "stat I SetEvent E_OS_ACCESS"),
+    ("IncrementCounter C", "stat I IncrementCounter E_OS_ID"),
+    ("TerminateTask", "stat I TerminateTask E_OS_CALLEVEL"),
+    ("ChainTask ?", "stat I ChainTask E_OS_CALLEVEL"),
+    ("Schedule", "stat I Schedule E_OS_CALLEVEL"),
+    ("ClearEvent 1", "stat I ClearEvent E_OS_CALLEVEL"),
+    ("WaitEvent 1", "stat I WaitEvent E_OS_CALLEVEL"),
+    ("SuspendAllInterrupts;WaitEvent 1;ResumeAllInterrupts", "stat I WaitEvent E_OS_DISABLEDINT"),
+    ("SuspendAllInterrupts", "hook Error E_OS_DISABLEDINT"),
+)
+
+
+def frames():
+    """Each configuration with the line that is expected."""
+    for script, line in STATUSES:
+        yield FRAME % (script, ""), line
+    for script, line in ISR_STATUSES:
+        yield FRAME % ("work;TerminateTask", script), line
 
 
 class Statuses(unittest.TestCase):
     """A note that names a status names the right one; of what answers E_OK none does."""
 
     def test_each_script(self):
-        for script, line in STATUSES:
-            with self.subTest(script=script):
-                judgement = judge_configuration((FRAME % script).encode())
+        for configuration, line in frames():
+            with self.subTest(line=line):
+                judgement = judge_configuration(configuration.encode())
                 self.assertEqual(0, judgement.least)
                 words = [word for finding in judgement.findings for word in finding.text.split()]
                 named = [word for word in words if word.startswith("E_OS_")]
@@ -1005,11 +1192,12 @@ class Program(unittest.TestCase):
                 with self.subTest(case.title):
                     save(config, case.text)
                     self.assert_same([config], "check", config)
-            save(config, BASE)
-            for each in STIMULI:
-                with self.subTest(each.title):
-                    save(stimuli, each.text)
-                    self.assert_same([config, stimuli], "run", config, stimuli)
+            for text, inputs in ((ISRS, INTERRUPTS), (BASE, STIMULI)):
+                save(config, text)
+                for each in inputs:
+                    with self.subTest(each.title):
+                        save(stimuli, each.text)
+                        self.assert_same([config, stimuli], "run", config, stimuli)
             save(stimuli, STIMULI[0].text)
             for each in SCHEDULES:
                 with self.subTest(each.title):
@@ -1019,10 +1207,10 @@ class Program(unittest.TestCase):
     def test_each_status(self):
         with tempfile.TemporaryDirectory() as folder:
             config, stimuli = os.path.join(folder, "config"), os.path.join(folder, "stimuli")
-            save(stimuli, '{"0": "op op op op op op op op op op"}')
-            for script, line in STATUSES:
-                with self.subTest(script=script):
-                    save(config, FRAME % script)
+            save(stimuli, '{"0": "op op op op op op op op op op irq=I op op op op"}')
+            for configuration, line in frames():
+                with self.subTest(line=line):
+                    save(config, configuration)
                     status, out, _ = run(MCOS, "run", config, stimuli)
                     self.assertEqual(0, status)
                     self.assertIn(line, out.splitlines())

@@ -24,8 +24,8 @@ MAIN = runpy.run_path(os.path.join(TOOLS, "export"))["main"]
 # The columns of a row: time, source, source instance, type, target, target instance, event, and perhaps a note.
 BTF_ROW = re.compile(r"(\d+),([A-Za-z]\w*),(\d+),([A-Z]+),([A-Za-z]\w*),(\d+),([a-z]+)(?:,.*)?")
 BTF_SCALES = ("ps", "ns", "us", "ms", "s")
-# Of a task: the states between which an event leads, and what its source is.
-BTF_TASK = {
+# Of a task or an ISR: the states between which an event leads, and what its source is.
+BTF_EVENTS = {
     "activate": ("none", "active", "stimulus"),
     "start": ("active", "running", "core"),
     "preempt": ("running", "ready", "core"),
@@ -57,6 +57,7 @@ class BtfReader:
         self.header = {}
         self.events = []
         self.states = {}
+        self.running = {}
         self.triggered = set()
         self.time = 0
         for line in text.splitlines():
@@ -85,21 +86,27 @@ class BtfReader:
             assert source == "SIM" or self.states.get((source, number)) is not None, line
             self.triggered.add((target, instance))
         else:
-            assert kind == "T", line
-            self.read_task(line, source, number, target, instance, event)
+            assert kind == "T" or kind == "I" and event not in ("wait", "release"), line
+            self.read_job(line, source, number, target, instance, event)
         self.events.append((self.time, event, target))
 
-    def read_task(self, line, source, number, task, instance, event):
+    def read_job(self, line, source, number, owner, instance, event):
         if event == "mtalimitexceeded":
             assert (source, number) in self.triggered, line
             return
-        before, after, from_whom = BTF_TASK[event]
-        assert self.states.get((task, instance), "none") == before, line
+        before, after, from_whom = BTF_EVENTS[event]
+        assert self.states.get((owner, instance), "none") == before, line
         if from_whom == "stimulus":
             assert (source, number) in self.triggered, line
         else:
             assert re.fullmatch(r"Core_\d", source), line
-        self.states[task, instance] = after
+            # One job runs on a core.
+            running = self.running.setdefault(source, set())
+            running.discard((owner, instance))
+            if after == "running":
+                assert not running, line
+                running.add((owner, instance))
+        self.states[owner, instance] = after
 
 
 # ---------------------------------------------------------------------------------------------------------------------
@@ -231,6 +238,51 @@ class First(unittest.TestCase):
         self.assertTrue(all(re.fullmatch("[!-~]{1,2}", name) for name in names))
 
 
+@needs_program
+class Interrupts(unittest.TestCase):
+    """The run with interrupts: who runs, and what is marked."""
+
+    @classmethod
+    def setUpClass(cls):
+        cls.jobs = jobs.jobs_of(sample_runs.interrupts())
+
+    def test_btf(self):
+        read = BtfReader(btf.text(self.jobs, "x"))
+        found = [event for _, event, target in read.events if target == "I"]
+        first, second = ["activate", "start", "preempt", "activate"], ["resume", "terminate", "start", "terminate"]
+        self.assertEqual(found, first + ["mtalimitexceeded"] + second)
+        # The jobs of the core that is down do not end.
+        self.assertEqual((read.states["B", "0"], read.states["B", "1"]), ("running", "active"))
+
+    def test_vcd(self):
+        found = read_vcd(vcd.text(self.jobs, "x"))
+        for name, values in (
+            ("core_0.I", [0, 1, 3, 4, 3, 0]),
+            ("core_0.J", [0, 3, 0]),
+            ("core_0.X", [0, 3, 4, 1, 3, 0]),
+            ("core_1.B", [0, 3, 0]),
+            ("core_0.lost", [1]),
+            ("core_0.protection", [1]),
+            ("core_1.protection", [1]),
+            ("core_1.shutdown", [1]),
+        ):
+            with self.subTest(name=name):
+                self.assertEqual([value for _, value in without_repeats(found["mcos." + name])], values)
+        self.assertNotIn("mcos.core_0.shutdown", found)
+
+    def test_chrome(self):
+        phases = read_chrome(chrome.text(self.jobs, "x"))
+        threads = {each["args"]["name"]: each["tid"] for each in phases["M"] if each["name"] == "thread_name"}
+        self.assertEqual([name for name in threads if "(" in name][:3], ["J (level 2)", "I (level 1)", "H (prio 2)"])
+        states = [each["name"] for each in phases["X"] if (each["pid"], each["tid"]) == (0, threads["I (level 1)"])]
+        self.assertEqual(states, ["ready", "I", "interrupted", "I", "I"])
+        marks = [each["name"] for each in phases["i"] if not each["name"].startswith("tick ")]
+        protected, shut = "Protection E_OS_PROTECTION_TIME", "Shutdown E_OS_PROTECTION_TIME"
+        self.assertEqual(marks, ["lost I", protected, protected, shut, "E_OS_CORE"])
+        # What comes to the core that is down is served without a line, and one of it has a reply.
+        self.assertEqual([each["name"] for each in phases["f"]].count("reply"), 2)
+
+
 class Readers(unittest.TestCase):
     """The readers refuse what is wrong."""
 
@@ -283,19 +335,29 @@ class Examples(unittest.TestCase):
         for found, all_jobs in self.runs():
             events = [event for _, event, _ in BtfReader(btf.text(all_jobs, "x")).events]
             lines = [line.split(" ")[0] for item in found.items for line in item.lines]
-            for event, word in (("activate", "act"), ("terminate", "end"), ("wait", "wait"), ("release", "free")):
-                self.assertEqual(events.count(event), lines.count(word))
-            self.assertEqual(events.count("start") + events.count("resume"), lines.count("pre"))
+            for event, *words in (
+                ("activate", "act", "irq"),
+                ("terminate", "end", "leave"),
+                ("wait", "wait"),
+                ("release", "free"),
+            ):
+                self.assertEqual(events.count(event), sum(lines.count(word) for word in words))
+            # When an ISR leaves, what it interrupted resumes.
+            still = sum(job.changes[-1].event == jobs.INTERRUPT for job in all_jobs.jobs)
+            resumed = len(all_jobs.interruptions) - still
+            begun = lines.count("pre") + lines.count("enter")
+            self.assertEqual(events.count("start") + events.count("resume"), begun + resumed)
 
     def test_chrome(self):
         for found, all_jobs in self.runs():
             phases = read_chrome(chrome.text(all_jobs, "x"))
-            lines = [line.split(" ")[0] for item in found.items for line in item.lines]
-            self.assertEqual(sum(each["name"] != "reply" for each in phases.get("f", [])), lines.count("in"))
+            lines = [line for item in found.items for line in item.lines]
+            served = sum(item.words[0] == "in" and item.words[3] != "rep" for item in found.items)
+            self.assertEqual(sum(each["name"] != "reply" for each in phases.get("f", [])), served)
             marks = [each["name"] for each in phases.get("i", [])]
             self.assertEqual(sum(name.startswith("tick ") for name in marks), lines.count("tick"))
-            errors = [error for item in found.items for error in item.errors]
-            self.assertEqual([name for name in marks if not name.startswith("tick ")], errors)
+            wanted = [re.sub("^hook (Error )?", "", line) for line in lines if re.match("hook [EPS][^t]|lost ", line)]
+            self.assertEqual([name for name in marks if not name.startswith("tick ")], wanted)
 
     def test_vcd(self):
         for found, all_jobs in self.runs():

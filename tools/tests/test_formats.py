@@ -46,6 +46,7 @@ SPECIAL_VALUES = {
 # The numbers that stand in sentences.
 SENTENCES = (
     (formats.MOST_OPERATIONS, "a string of at most {} operations, divided by `;`"),
+    (formats.MOST_SUSPENDED, "once more if they are suspended, at most {} times"),
     (formats.MOST_ACTIVATIONS, "whose `activations` sum to at most {}"),
     (formats.MOST_ACTIONS_ABROAD, "The sum is at most {}."),
     (formats.MOST_STIMULI, "A core has at most {}."),
@@ -61,6 +62,8 @@ def phrase(value):
         return "{:,} to {:,}".format(value.least, value.greatest)
     if isinstance(value, formats.Flag):
         return "`true` or `false`"
+    if isinstance(value, formats.OneOf):
+        return "`%s` or `%s`" % ("`, `".join(value.words[:-1]), value.words[-1])
     if isinstance(value, formats.ObjectOf):
         return "`null`, or an object"
     if value == formats.MODES:
@@ -87,6 +90,7 @@ class Members(unittest.TestCase):
 
     def test_the_same_defaults(self):
         words = {"`[]`": (), "`null`": None, "`true`": True, "`false`": False, "none": formats.REQUIRED}
+        words["`PRO_SHUTDOWN`"] = "PRO_SHUTDOWN"
         for owner, name, _, default in member_rows():
             with self.subTest(owner=owner, member=name):
                 known = formats.OBJECTS[owner].member(name).default
@@ -154,6 +158,21 @@ class Operations(unittest.TestCase):
         own = {name for name, argument in known.items() if argument.own_core}
         self.assertEqual(written | {name for name, argument in known.items() if argument.kind == "table"}, own)
 
+    def test_what_an_isr_may_not_call(self):
+        found, title = [], ""
+        for line in TEXT.splitlines():
+            title = line if line.startswith("### ") else title
+            if line.startswith("|") and line.count("the caller is an ISR | E_OS_CALLEVEL"):
+                # A table without a column for operations is of those in its title.
+                named = re.findall(r"`([A-Z]\w+)", line) or re.findall(r"[A-Z]\w+", title)
+                found += named
+        self.assertEqual(sorted(found), sorted(formats.FOR_TASKS))
+
+    def test_what_the_script_of_an_isr_has_not(self):
+        row = next(text for owner, name, text, _ in member_rows() if (owner, name) == ("ISR", "script"))
+        self.assertEqual(re.findall(r"`(\w+)`", row), list(formats.NOT_IN_ISRS))
+        self.assertEqual(formats.ISR.member("script").value.without, formats.NOT_IN_ISRS)
+
     def test_what_an_action_is(self):
         self.assertIn("`ActivateTask T` or `SetEvent T m`, where `T` is a task of any core", TEXT)
         known = [formats.OPERATIONS[name].form for name in formats.ACTION_OPERATIONS]
@@ -186,6 +205,8 @@ NO_MEMBERS = {
     "OsErrorHook",
     "OsPreTaskHook",
     "OsPostTaskHook",
+    "OsProtectionHook",
+    "OsShutdownHook",
 }
 
 

@@ -64,7 +64,7 @@ class First(unittest.TestCase):
 
     def test_texts(self):
         found = texts(self.picture(1, 57))
-        for text in ("core 0", "core 1", "A", "B", "prio 1", "round", "running", "ErrorHook"):
+        for text in ("core 0", "core 1", "A", "B", "prio 1", "round", "running", "error"):
             self.assertIn(text, found)
 
     def test_rounds_of_the_axis(self):
@@ -116,6 +116,24 @@ class Commands(unittest.TestCase):
         ):
             with self.subTest(text=text), self.assertRaisesRegex(program.Failed, error):
                 MAIN(words + text.split(" "))
+
+
+@needs_program
+class Interrupts(unittest.TestCase):
+    def test_rows_and_marks(self):
+        found = jobs.jobs_of(sample_runs.interrupts())
+        text = gantt.picture(found, gantt.span_of_ticks(found.timeline, 0, None, None), 1200, "interrupts")
+        self.assertEqual([each for each in texts(text) if each in "IJXHB"], ["J", "I", "H", "X", "B"])
+        self.assertIn("level 2", texts(text))
+        shapes = drawn(text)
+        interrupted = [title.split(",")[0] for title, _ in shapes["interrupted"]]
+        self.assertEqual(interrupted, ["X", "I"])
+        # B runs until its core shuts down.
+        down = found.timeline.down[1].turn
+        self.assertIn("B, job 0: running, turns 24 to %d" % down, [title for title, _ in shapes["running"]])
+        marks = sorted(title for title, _ in shapes["error"] if title != "error")
+        protected = "Protection E_OS_PROTECTION_TIME"
+        self.assertEqual(marks, ["E_OS_CORE", protected, protected, "Shutdown E_OS_PROTECTION_TIME", "lost I"])
 
 
 @needs_program

@@ -96,6 +96,10 @@ STIMULI = {
     "": True,
     "op": True,
     "op tick op": True,
+    "irq=I1 op irq=a_": True,
+    "irq=": False,
+    "irq=1": False,
+    "irq=I 1": False,
     " ".join(["tick"] * formats.MOST_STIMULI): True,
     " ".join(["op"] * (formats.MOST_STIMULI + 1)): False,
     "op ": False,
@@ -123,7 +127,9 @@ CONFIGURATION = {
         {
             "id": 0,
             "start": [1, 255],
+            "protection": "PRO_TERMINATETASKISR",
             "tasks": [{"name": "A", "prio": 31, "auto": ["M"], "activations": 1, "extended": True, "script": "work"}],
+            "isrs": [{"name": "I", "level": 16, "budget": 10**9, "script": "SuspendAllInterrupts;ActivateTask A"}],
             "resources": [{"name": "R", "ceiling": 31}],
             "counters": [{"name": "C", "max": 10**9, "min": 1, "software": False}],
             "alarms": [
@@ -160,7 +166,11 @@ WRONG = [
     (CORE + ("id",), REMOVED),
     (CORE + ("start",), [256]),
     (CORE + ("start",), 1),
-    (CORE + ("isrs",), []),
+    (CORE + ("isrs",), [{"name": "I", "level": 17, "script": ""}]),
+    (CORE + ("isrs", 0, "script"), "work;GetResource R"),
+    (CORE + ("isrs", 0, "script"), "ReleaseResource ?"),
+    (CORE + ("isrs", 0, "script"), "work;"),
+    (CORE + ("protection",), "PRO_NONE"),
     (TASK + ("priority",), 1),
     (TASK + ("prio",), REMOVED),
     (TASK + ("prio",), 32),
@@ -195,6 +205,8 @@ RIGHT = [
     (CORE + ("counters", 0, "min"), 10**9),
     (TASK + ("extended",), False),
     (TASK + ("script",), "ActivateTask Unknown"),
+    (TASK + ("script",), "GetResource R"),
+    (CORE + ("isrs", 0, "script"), "TerminateTask"),
 ]
 
 

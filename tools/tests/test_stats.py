@@ -42,14 +42,14 @@ WRONG = [
     ("A", "is no requirement"),
     ("A lost", "is no requirement"),
     ("A lost=-1", "is no requirement"),
-    ("AA lost=0", "no task is called `AA`; did you mean `A`"),
-    ("A lots=0", "`A` has the figures activations, lost"),
+    ("AA lost=0", "no task and no ISR is called `AA`; did you mean `A`"),
+    ("A lots=0", "`A` has the figures activations, preempted, lost"),
     ("A lost=0 ticks", "a unit stands only behind a time"),
     ("A response<=1 tick", "the unit is ticks, stimuli and rounds"),
     ("A response!=1", "a time has <, <=, =, >= or >"),
     ("core 2 load<1", "no core 2 is configured"),
     ("core 0 waiting<1", "`core 0` has the figures"),
-    ("all cores load<1", "`all cores` has the figures lost, refused and errors"),
+    ("all cores load<1", "`all cores` has the figures lost, refused, errors, protection and down"),
     ("mailbox 0 to 0 fullest<1", "there is no mailbox from core 0 to core 0"),
     ("chain A > B fullest<1", "has the figures complete, open, broken and length"),
     ("chain A > B length<9 ticks", "the unit is rounds"),
@@ -217,6 +217,70 @@ class Requirements(unittest.TestCase):
 
 
 @needs_program
+class Interrupts(unittest.TestCase):
+    """The run with interrupts, counted by hand."""
+
+    @classmethod
+    def setUpClass(cls):
+        cls.found = figures.figures_of(jobs.jobs_of(sample_runs.interrupts()))
+
+    def test_cores(self):
+        names = ("stimuli", "ticks", "irq", "op", "idle", "lost", "refused", "errors", "protection", "down")
+        # Lost are an interrupt of I, and what A and X wanted of B.
+        self.assertEqual([self.found["cores"][0][name] for name in names], [16, 3, 4, 9, 0, 3, 2, 1, 1, 0])
+        self.assertEqual([self.found["cores"][1][name] for name in names], [11, 2, 0, 9, 0, 0, 0, 0, 1, 1])
+
+    def test_isrs(self):
+        names = ("isr", "level", "interrupts", "lost", "ended", "live", "interrupted", "op")
+        names += ("budget", "used", "reached")
+        rows = [[row[name] for name in names] for row in self.found["isrs"]]
+        self.assertEqual(rows, [["I", 1, 2, 1, 2, 0, 1, 2, 2, 2, 1], ["J", 2, 1, 0, 1, 0, 0, 2, 0, 0, 0]])
+        # The second job of I is pending while the first one is interrupted, and until it has reached its budget.
+        isr = self.found["isrs"][0]
+        self.assertEqual((isr["waiting"]["stimuli"]["least"], isr["waiting"]["stimuli"]["greatest"]), (1, 4))
+        self.assertEqual((isr["response"]["ticks"]["least"], isr["response"]["ticks"]["greatest"]), (1, 2))
+
+    def test_tasks(self):
+        rows = [[row[name] for name in ("task", "interrupted", "used", "reached")] for row in self.found["tasks"]]
+        # Ticks while an ISR runs are not charged to X.
+        self.assertEqual(rows, [["X", 2, 1, 0], ["H", 0, 0, 0], ["B", 0, 2, 1]])
+
+    def test_who_interrupts_whom(self):
+        found = [(row["who"], row["by"], row["times"]) for row in self.found["interruptions"]]
+        self.assertEqual(found, [("X", "I", 2), ("I", "J", 1)])
+        self.assertEqual([(row["task"], row["by"]) for row in self.found["preemptions"]], [("X", "H")])
+
+    def test_what_comes_to_a_core_that_is_down(self):
+        found = [(row["who"], row["status"]) for row in self.found["refused"]]
+        self.assertEqual(found, [("alarm A", "dropped"), ("task X, operation 2", "E_OS_CORE")])
+        lost = {chain["chain"]: chain["lost"] for chain in self.found["chains"]}
+        self.assertEqual(lost, {"J > B": {}, "I > H": {}, "A > B": {"dropped": 1}, "X > B": {"E_OS_CORE": 1}})
+        self.assertEqual([(row["sent"], row["served"]) for row in self.found["crossings"]], [(3, 2)])
+
+    def test_tables(self):
+        text = figure_tables.tables(self.found)
+        self.assertIn("ISRs\n  core  isr  level  interrupts  lost  ended  live  op    load\n  0     I        1 ", text)
+        budgets = "  core  who  budget  used  reached\n  0     X         9     1        0\n  1     B         2     2"
+        self.assertIn("Budgets\n" + budgets, text)
+
+    def test_requirements(self):
+        for text, is_met in (
+            ("I lost=0", False),
+            ("I interrupts=2", True),
+            ("J response<=0 ticks", True),
+            ("X used<=1", True),
+            ("B reached=0", False),
+            ("all cores down=0", False),
+            ("core 0 irq=4", True),
+        ):
+            with self.subTest(text=text):
+                self.assertEqual(requirements.judge(self.found, text).is_met, is_met)
+        for text in ("I preempted=0", "X interrupts=0"):
+            with self.subTest(text=text), self.assertRaisesRegex(requirements.WrongRequirement, "has the figures"):
+                requirements.judge(self.found, text)
+
+
+@needs_program
 class Commands(unittest.TestCase):
     def run_stats(self, *words):
         """What the script does on examples/engine."""
@@ -243,7 +307,7 @@ class Commands(unittest.TestCase):
     def test_wrong_usage(self):
         status, output, messages = self.run_stats("--require", "T1 lost=0")
         self.assertEqual((status, output), (2, ""))
-        self.assertIn("no task is called `T1`; did you mean `T1ms`?", messages)
+        self.assertIn("no task and no ISR is called `T1`; did you mean `T1ms`?", messages)
 
 
 @needs_program
@@ -302,13 +366,13 @@ class AsTheTrace(unittest.TestCase):
                 found = sample_runs.timeline_of(source)
                 self.hold(found.run, figures.figures_of(jobs.jobs_of(found)))
 
+    def test_interrupts(self):
+        found = sample_runs.interrupts()
+        self.hold(found.run, figures.figures_of(jobs.jobs_of(found)))
+
     def test_the_small_run(self):
-        with tempfile.TemporaryDirectory() as folder:
-            paths = [os.path.join(folder, name) for name in ("config.json", "stimuli.json")]
-            for path, text in zip(paths, (CONFIGURATION, json.dumps({"0": STIMULI}))):
-                with open(path, "w", encoding="utf-8") as file:
-                    file.write(text)
-            run = runs.read_run(runs.Source(PROGRAM, *paths))
+        with sample_runs.written(CONFIGURATION, {"0": STIMULI}) as source:
+            run = runs.read_run(source)
         self.assertEqual((list(run.blocks[0]), list(run.logs[0])), (BLOCK, LOG))
 
     def hold(self, run, found):
@@ -319,12 +383,18 @@ class AsTheTrace(unittest.TestCase):
             self.assertEqual(core["errors"], len(re.findall("^hook Error ", block, re.MULTILINE)))
             self.assertEqual(core["ticks"], log.count("stim tick"))
             self.assertEqual(core["op"], log.count("stim op"))
-            tasks = [task for task in found["tasks"] if task["core"] == core["core"]]
-            self.assertEqual(sum(task["op"] for task in tasks) + core["idle"], core["op"])
+            self.assertEqual(core["irq"], sum(item.startswith("stim irq=") for item in log))
+            self.assertEqual(core["protection"], len(re.findall("^hook Protection ", block, re.MULTILINE)))
+            self.assertEqual(core["down"], len(re.findall("^hook Shutdown ", block, re.MULTILINE)))
+            tasks, isrs = ([row for row in found[kind] if row["core"] == core["core"]] for kind in ("tasks", "isrs"))
+            self.assertEqual(sum(row["op"] for row in tasks + isrs) + core["idle"], core["op"])
+            self.assertEqual(sum(row["reached"] for row in tasks + isrs), core["protection"])
             sent = sum(row["envelopes"] for row in found["mailboxes"] if row["from"] == core["core"])
             self.assertEqual(sent, sum(item.startswith("post ") for item in log))
             for task in tasks:
                 self.hold_task(block, task)
+            for isr in isrs:
+                self.hold_isr(block, isr)
         outs = [line for block in run.blocks.values() for line in block if line.startswith("out ")]
         self.assertEqual(sum(row["sent"] for row in found["crossings"]), len(outs))
 
@@ -338,6 +408,14 @@ class AsTheTrace(unittest.TestCase):
         times = task["response"]["ticks"]
         self.assertEqual(times["count"] + times["open"], parts)
         self.assertEqual(times["count"], len(re.findall("^(?:end|wait) %s(?: |$)" % name, block, re.MULTILINE)))
+
+    def hold_isr(self, block, isr):
+        """Holds the figures of an ISR to the lines of its core."""
+        for figure, word in (("interrupts", "irq"), ("lost", "lost"), ("ended", "leave")):
+            self.assertEqual(isr[figure], len(re.findall("^%s %s$" % (word, isr["isr"]), block, re.MULTILINE)))
+        started = len(re.findall("^enter %s$" % isr["isr"], block, re.MULTILINE))
+        self.assertEqual(isr["waiting"]["ticks"]["count"], started)
+        self.assertEqual(isr["response"]["ticks"]["count"], isr["ended"])
 
     def test_lost_activations(self):
         # In examples/engine one activation is lost; with two activations of Ack none is.

@@ -34,6 +34,7 @@ FIRST = [
 ]
 
 START = ["entered", "pass1 M", "readied", "pass2 0"]
+PROTECTED = "hook Protection E_OS_PROTECTION_TIME"
 # Scripts of a task X, each with the stimuli that its core takes, and the lines that each of them prints.
 SCRIPTS = [
     ("work;jump 3;set v0 1;TerminateTask", 3, [[], [], ["post X", "end X"]]),
@@ -75,6 +76,86 @@ SCRIPTS = [
     ),
     ("WaitEvent 1;work", 2, [["stat X WaitEvent E_OS_ACCESS", "hook Error E_OS_ACCESS"], []]),
 ]
+# The scripts of the task X and of the ISR I, the budget of both, and the core's `protection`; then its stimuli, and what
+# each of them prints. J has a greater level than I, Y a greater priority than X; the first `tick` activates Y.
+INTERRUPTS = [
+    (
+        ("work;TerminateTask", "ActivateTask Y", 0, ""),
+        [
+            ("irq=I", ["irq I", "enter I"]),
+            ("op", ["act Y", "stat I ActivateTask E_OK"]),
+            ("op", ["leave I", "post X", "pre Y"]),
+            ("op", ["post Y", "end Y", "pre X"]),
+            ("op", []),
+            ("op", ["post X", "end X"]),
+            ("irq=I", ["irq I", "enter I"]),
+        ],
+    ),
+    (
+        ("work", "add v0 1;work", 0, ""),
+        [
+            ("irq=I", ["irq I", "enter I"]),
+            ("op", ["var I v0 1"]),
+            ("irq=J", ["irq J", "enter J"]),
+            ("irq=I", ["irq I"]),
+            ("irq=I", ["lost I"]),
+            ("op", []),
+            ("op", ["leave J"]),
+            ("op", []),
+            ("op", ["leave I", "enter I"]),
+            ("op", ["var I v0 2"]),
+        ],
+    ),
+    (
+        ("SuspendAllInterrupts;SuspendAllInterrupts;TerminateTask;ResumeAllInterrupts;ResumeAllInterrupts", "", 0, ""),
+        [
+            ("op", []),
+            ("op", []),
+            ("irq=I", ["irq I"]),
+            ("tick", ["tick", "alarm B", "act Y"]),
+            ("op", ["stat X TerminateTask E_OS_DISABLEDINT", "hook Error E_OS_DISABLEDINT"]),
+            ("op", []),
+            ("op", ["enter I"]),
+            ("op", ["leave I", "post X", "pre Y"]),
+        ],
+    ),
+    (
+        ("SuspendAllInterrupts;work;ResumeAllInterrupts", "", 0, ""),
+        [
+            ("op", []),
+            ("tick", ["tick", "alarm B", "act Y"]),
+            ("op", []),
+            ("op", ["post X", "pre Y"]),
+        ],
+    ),
+    (
+        ("SuspendAllInterrupts", "TerminateTask;SuspendAllInterrupts", 0, ""),
+        [
+            ("op", []),
+            ("irq=I", ["irq I"]),
+            ("op", ["hook Error E_OS_MISSINGEND", "post X", "end X", "enter I"]),
+            ("op", ["stat I TerminateTask E_OS_CALLEVEL", "hook Error E_OS_CALLEVEL"]),
+            ("op", []),
+            ("irq=J", ["irq J"]),
+            ("op", ["hook Error E_OS_DISABLEDINT", "leave I", "enter J"]),
+        ],
+    ),
+    (
+        ("work;jump 0", "SuspendAllInterrupts;work", 1, "PRO_TERMINATETASKISR"),
+        [
+            ("op", []),
+            ("irq=I", ["irq I", "enter I"]),
+            ("op", []),
+            ("tick", ["tick", PROTECTED, "leave I", "alarm B", "act Y", "post X", "pre Y"]),
+            ("op", ["post Y", "end Y", "pre X"]),
+            ("tick", ["tick", PROTECTED, "end X"]),
+        ],
+    ),
+    (
+        ("work", "", 1, "PRO_IGNORE"),
+        [("op", []), ("tick", ["tick", PROTECTED, "hook Shutdown E_OS_PROTECTION_TIME"])],
+    ),
+]
 CONFIGURATION = {
     "resources": [{"name": "R", "ceiling": 1}],
     "counters": [{"name": "C", "max": 9, "software": True}],
@@ -93,6 +174,17 @@ def run_of_script(script, count, lines):
     return runs.run_of(text, {0: block}, {0: START + ["stim op"] * count})
 
 
+def run_with_interrupts(script, isr_script, budget, protection):
+    """A configuration of one core, as INTERRUPTS has it."""
+    tasks = [{"name": "X", "prio": 1, "auto": ["M"], "budget": budget, "script": script}]
+    tasks.append({"name": "Y", "prio": 2, "script": "TerminateTask"})
+    isrs = [{"name": "I", "level": 1, "budget": budget, "script": isr_script}]
+    isrs.append({"name": "J", "level": 2, "script": "work"})
+    alarm = {"name": "B", "counter": "D", "action": "ActivateTask Y", "auto": {"modes": ["M"], "start": 1, "cycle": 0}}
+    core = {"id": 0, "tasks": tasks, "isrs": isrs, "counters": [{"name": "D", "max": 9}], "alarms": [alarm]}
+    return json.dumps({"cores": [dict(core, protection=protection) if protection else core]})
+
+
 class Items(unittest.TestCase):
     def test_lines_of_an_op(self):
         for script, count, lines in SCRIPTS:
@@ -100,6 +192,14 @@ class Items(unittest.TestCase):
                 run = run_of_script(script, count, [line for each in lines for line in each])
                 found = items.items_of(run, 0)[len(START) :]
                 self.assertEqual([item.lines for item in found], lines)
+
+    def test_lines_with_interrupts(self):
+        for given, stimuli in INTERRUPTS:
+            with self.subTest(given=given):
+                lines = ["hook Startup", "act X", "pre X"] + [line for _, each in stimuli for line in each]
+                log = START + ["stim " + word for word, _ in stimuli]
+                found = items.items_of(runs.run_of(run_with_interrupts(*given), {0: lines}, {0: log}), 0)
+                self.assertEqual([item.lines for item in found[len(START) :]], [each for _, each in stimuli])
 
     def test_the_actions_of_a_point(self):
         deeds = items.items_of(sample_runs.point_run(), 0)[-1].deeds
@@ -111,7 +211,7 @@ class Items(unittest.TestCase):
     def test_numbers(self):
         found = items.items_of(first_run(), 0)
         self.assertEqual([item.number for item in found], list(range(1, 13)))
-        self.assertEqual([item.place for item in found if item.task == "A"], [0, 1])
+        self.assertEqual([item.place for item in found if item.runner == ("task", "A")], [0, 1])
 
     def test_a_block_of_another_run(self):
         for lines, text in (
@@ -162,6 +262,12 @@ class Records(unittest.TestCase):
         found = [timeline.text_of(record) for record in timeline.records(first_timeline().items)]
         lines = documents.example("in the order of the turns. Of `examples/first`:").splitlines()
         self.assertEqual([line for line in found if line in lines], lines)
+
+    @needs_program
+    def test_whose_an_op_is(self):
+        found = [timeline.text_of(each) for each in timeline.records(sample_runs.interrupts().by_core[0])]
+        self.assertIn('"by":"stim op","isr":"J","operation":1,"line":"leave J"}', " ".join(found))
+        self.assertIn('"by":"stim op","task":"H","operation":0,"line":"post H"}', " ".join(found))
 
     def test_a_line(self):
         record = next(each for each in timeline.records(first_timeline().items) if each["line"] == "post A")
@@ -221,6 +327,29 @@ class AsTheProgram(unittest.TestCase):
         for source in sample_runs.sources():
             with self.subTest(source=source):
                 self.assertEqual(checking.check(sample_runs.timeline_of(source), source, 6).differences, ())
+
+    def test_interrupts(self):
+        for given, stimuli in INTERRUPTS:
+            words = " ".join(word for word, _ in stimuli)
+            with self.subTest(given=given), sample_runs.written(run_with_interrupts(*given), {"0": words}) as source:
+                found = sample_runs.timeline_of(source)
+                taken = [item.lines for item in found.items if item.text.startswith("stim ")]
+                self.assertEqual(taken, [lines for _, lines in stimuli])
+
+    def test_a_core_that_is_down(self):
+        with sample_runs.written(sample_runs.INTERRUPTS, sample_runs.INTERRUPTS_STIMULI) as source:
+            found = sample_runs.timeline_of(source)
+            self.assertEqual(checking.check(found, source, 1000).differences, ())
+        served = [item for item in found.by_core[1] if item.text.startswith("in ")]
+        self.assertEqual(
+            [(item.text, item.lines, item.deeds[0].status) for item in served],
+            [
+                ("in 0 0 req ActivateTask B", ["act B", "in 0 ActivateTask B E_OK"], "E_OK"),
+                ("in 0 1 act ActivateTask B", [], "dropped"),
+                ("in 0 2 req ActivateTask B", [], "E_OS_CORE"),
+            ],
+        )
+        self.assertEqual({core: item.tick for core, item in found.down.items()}, {1: 2})
 
     def test_full_mailboxes(self):
         # At each tick of core 0 four actions go to core 1, into a mailbox for one envelope. In each round of this
