@@ -1,5 +1,5 @@
 -- Interrupts: the live jobs of ISRs, which of them have begun, which job runs, and how often a job has suspended interrupts.
-use Rattle.std.specs.Prelude.{ℕ, suc, ◌-◌, nat_lt, Bool, if◌then◌else◌, Option, Some, None, option_map, List, [], ◌∷◌, ◌++◌, length}
+use Rattle.std.specs.Prelude.{ℕ, suc, ◌-◌, nat_lt, Bool, if◌then◌else◌, Option, None, option_map, List, [], ◌∷◌, ◌++◌, length}
 use Rattle.std.specs.Option.{option_or}
 use Rattle.osbase.specs.declared.references.IsrRef.{IsrRef}
 use Rattle.osbase.specs.declared.references.Runner.{Runner}
