@@ -16,7 +16,6 @@ use Rattle.oscript.specs.Calls.{is_action}
 use Rattle.oscript.specs.Rows.{halts_all, objects_of}
 use Rattle.osplan.specs.declared.plans.Plan.{Plan}
 use Rattle.osplan.specs.declared.plans.Core.{Core}
-use Rattle.osplan.specs.declared.plans.Task.{Task}
 use Rattle.osbase.specs.declared.items.CoreMode.{CoreMode}
 use Rattle.osbase.specs.declared.items.CoreMode.TheVariants.{Named, DontCare}
 use Rattle.osplan.specs.declared.plans.Alarm.{Alarm}
@@ -24,7 +23,7 @@ use Rattle.osplan.specs.declared.plans.Table.{Table}
 use Rattle.osbase.specs.declared.messages.RemoteCall.{RemoteCall}
 use Rattle.osplan.specs.View.{core_of}
 use Rattle.osplan.specs.Objects.{alarm_modes, core_scripts, object_count, table_actions, table_modes}
-use Rattle.osplan.specs.Limits.{CoreSizes, StartSizes, TableSizes, core_sizes, sizes_of, is_action_known, is_alarm_known, is_alarm_near, is_core_timed, is_core_within, is_table_known, is_table_near, is_within, is_object, is_op_known, is_mode, is_core_mode, is_script_known, is_task_known, is_core_known, is_core_near, is_within_limits}
+use Rattle.osplan.specs.Limits.{CoreSizes, StartSizes, TableSizes, core_sizes, sizes_of, is_action_known, is_alarm_known, is_alarm_near, is_core_timed, is_core_within, is_table_known, is_table_near, is_within, is_object, is_op_known, is_mode, is_core_mode, is_script_known, is_core_known, is_core_near, is_within_limits}
 use Rattle.osplan.specs.Expressible.{is_core_expressible, is_expressible, are_distinct, object_names}
 use Rattle.osplan.specs.Separate.{agree, alone_of, halts_somewhere, has_operation, is_agreed_mode, is_named_elsewhere, is_off, is_on, is_separate, is_separate_core, is_started, names_other}
 use Rattle.osplan.proofs.Distinct.{distinct-kept, distinct-front, distinct-back}
