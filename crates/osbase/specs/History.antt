@@ -32,6 +32,7 @@ use Rattle.osbase.specs.declared.histories.TaskEvents.{TaskEvents}
 use Rattle.osbase.specs.declared.histories.Sent.{Sent}
 use Rattle.osbase.specs.declared.histories.Phase.{Phase}
 use Rattle.osbase.specs.declared.histories.Course.{Course}
+use Rattle.osbase.specs.Phases.{halted_from}
 
 -- What happens without a printed line. [own]
 pub data Note : Type 0 where
@@ -341,9 +342,11 @@ first_phase is_master = if is_master then Phase.Boot else Phase.Off
 abbrev pub phase_of : Bool → History → Phase
 phase_of is_master h = phase_from (first_phase is_master) h
 
--- Whether the core goes on: once it went down, it is down. [AUTOSAR SWS OS 4.x, section 7.1 and SWS_Os_00107]
+-- Whether the core goes on: once it went down, it is down; a halt of all cores halts it, unless it is down.
+-- [AUTOSAR SWS OS 4.x, section 7.1, SWS_Os_00107 and SWS_Os_00714]
 abbrev pub course_after : Entry → Course → Course
 course_after (Noted WentDown) course = Course.Down
+course_after (Took (Item.Halt core status)) course = halted_from course
 course_after e course = course
 
 abbrev pub course_of : History → Course
