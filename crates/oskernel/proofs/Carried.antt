@@ -130,7 +130,7 @@ module _ (l : Leave) (allowed : NamesAllow l.view l.may) where
       by r n (Awaited.Reply id core) = assumption (ends-ok l r n, returns-ok l r id status value n)
       by r n awaits = assumption
 
-  -- The running job is the core's own to end.
+  -- The answer to a time fault names no object but the task or ISR whose job it ends, and none if the core goes down.
   answers-ok : (protection : Protection) (r : Runner) (status : Status) → IsNamed l r → Allowed (answers_fault protection r status)
   answers-ok Protection.TerminateTaskIsr (Runner.Task t) status n = (n, tt)
   answers-ok Protection.TerminateTaskIsr (Runner.Isr i) status n = (n, tt)
