@@ -40,12 +40,12 @@ module _ (l : Leave) where
   pub called-ok : (r : Runner) (op : Op) (id : ServiceId) (target : Option RemoteCall) → IsNamed l r → call_of_op op ≡ Some (id, target) → IsAllowed l.view l.may op → AreAllowed l (calls r id target)
   called-ok r op id None n is allowed = assumption
   called-ok r op id (Some call) n is allowed =
-      let within = called-passes (λ (o : Object). is_within l.view l.may o.place.core) op id call is allowed in
+      let within = called-passes (λ (o : Object). is_within l.view l.may o.place.core) op id call is allowed.objects in
       assumption (crosses-ok r id call (λ s. serves r id (service_of call s)) n within (λ s. serves-ok l r id (service_of call s) n (service-ok call (l.named (core_of_call call) within) s)))
 
   pub chain_acts-ok : (r : Runner) (op : Op) → IsNamed l r → IsAllowed l.view l.may op → IfSome (chain_acts r op) (AreAllowed l)
   chain_acts-ok r (Op.ChainTask (Some t)) n allowed =
-      let within = (and_parts (is_within l.view l.may t.core) true allowed).0 in
+      let within = (and_parts (is_within l.view l.may t.core) true allowed.objects).0 in
       let chained : AreAllowed l (chains_to r t) = crosses-ok r ServiceId.ChainTask (RemoteCall.ActivateTask t) (λ s. chains_here r t) n within (λ s q seen. assumption (ends-ok l r n, l.named t.core within)) in
       assumption
   chain_acts-ok r op n allowed = assumption

@@ -13,7 +13,7 @@ use Rattle.osbase.specs.History.{same_core}
 use Rattle.osbase.proofs.Same.{same_core-true, same_core-refl}
 use Rattle.oscript.specs.declared.Op.{Op}
 use Rattle.oscript.specs.Calls.{is_action}
-use Rattle.oscript.specs.Rows.{objects_of}
+use Rattle.oscript.specs.Rows.{halts_all, objects_of}
 use Rattle.osplan.specs.declared.plans.Plan.{Plan}
 use Rattle.osplan.specs.declared.plans.Core.{Core}
 use Rattle.osbase.specs.declared.items.CoreMode.{CoreMode}
@@ -25,10 +25,10 @@ use Rattle.osplan.specs.View.{core_of}
 use Rattle.osplan.specs.Objects.{alarm_modes, core_scripts, is_common, object_count, table_actions, table_modes}
 use Rattle.osplan.specs.Limits.{CoreSizes, StartSizes, TableSizes, core_sizes, sizes_of, is_action_known, is_alarm_known, is_alarm_near, is_core_timed, is_core_within, is_table_known, is_table_near, is_within, is_object, is_op_known, is_mode, is_core_mode, is_script_known, is_core_known, is_core_near, is_within_limits}
 use Rattle.osplan.specs.Expressible.{all_common_names, is_core_expressible, is_expressible, are_distinct, object_names}
-use Rattle.osplan.specs.Separate.{agree, alone_of, has_operation, is_agreed_mode, is_named_elsewhere, is_off, is_on, is_separate, is_separate_core, is_started, names_other}
+use Rattle.osplan.specs.Separate.{agree, alone_of, halts_somewhere, has_operation, is_agreed_mode, is_named_elsewhere, is_off, is_on, is_separate, is_separate_core, is_started, names_other}
 use Rattle.osplan.proofs.Distinct.{distinct-kept, distinct-front, distinct-back}
 use Rattle.osplan.proofs.Alarming.{known-parts, own-sizes, own-tables, own-timed}
-use Rattle.osplan.proofs.Tests.{all-both, all-not, all-weaker, find-holds, find-passes}
+use Rattle.osplan.proofs.Tests.{all-both, all-not, all-weaker, find-fails, find-holds, find-passes}
 use Rattle.osplan.proofs.Within.{LimitParts, NearParts, TextParts, limit-parts, near-parts, text-parts}
 use Rattle.osplan.proofs.Separating.{SeparateParts, any-acting, separate-parts}
 
@@ -187,10 +187,14 @@ module _ (plan : Plan) (id : CoreId) (core : Core) (found : core_of plan id ≡ 
   unnamed-alone : not (is_named_elsewhere (alone_of plan id core) core.id) ≡ true
   unnamed-alone = rw self refl
 
+  unhalted-alone : SeparateParts plan core → halts_somewhere (alone_of plan id core) ≡ false
+  unhalted-alone parts = or_from _ _ (find-fails (λ (c : Core). same_core c.id id) (has_operation halts_all) plan.cores core parts.unhalted found) refl
+
   separate-alone : SeparateParts plan core → is_separate (alone_of plan id core) id ≡ true
   separate-alone parts =
-      rw mine (and_from _ _ (and_from _ _ (and_from _ _ (and_from _ _ (and_from _ _ started-alone parts.names) agreed-alone)
-      (ap (λ (cores : List CoreId). nat_eq (length cores) 0) parts.no_start)) (not_from_false _ (or_from _ _ parts.inward parts.acting))) unnamed-alone)
+      let objects = and_from _ _ (and_from _ _ (and_from _ _ (and_from _ _ (and_from _ _ started-alone parts.names) agreed-alone)
+      (ap (λ (cores : List CoreId). nat_eq (length cores) 0) parts.no_start)) (not_from_false _ (or_from _ _ parts.inward parts.acting))) unnamed-alone in
+      rw mine (and_from _ _ (and_from _ _ objects (not_from_false _ parts.unshared)) (not_from_false _ (unhalted-alone parts)))
 
 -- ---- the whole
 

@@ -13,6 +13,7 @@ pub mod plans;
 mod protection;
 pub mod separate;
 mod sides;
+mod sought;
 
 pub use cuts::cut;
 pub use faults::ConfFault;
