@@ -170,6 +170,8 @@ module _ (l : Leave) (allowed : NamesAllow l.view l.may) where
   )
   effect-ok (Item.Received from number (Message.Reply status)) m = λ s seen. closes-ok s seen status None
   effect-ok (Item.Received from number (Message.Value status n)) m = λ s seen. closes-ok s seen status (Some n)
+  effect-ok (Item.Last None) m = tt
+  effect-ok (Item.Last (Some asked)) m = λ s seen. (λ down. tt, λ up. (refl, tt))
   effect-ok item m = assumption
 
   -- ---- dispatch, and the whole step

@@ -378,7 +378,7 @@ impl<'a, const P: usize, const J: usize, const OUT: usize> CoreState<'a, P, J, O
         self.progress.phase
     }
 
-    /// Whether the core goes on, or went down.
+    /// Whether the core goes on, went down, or was halted.
     pub fn course(&self) -> Course
         ensures { result ≡ self.now.progress.course }
     {
