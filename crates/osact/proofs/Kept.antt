@@ -21,7 +21,7 @@ use Rattle.ostable.specs.Waiting.{are_own}
 use Rattle.osstate.specs.Readings.{knows_started}
 use Rattle.osact.specs.Acts.{Act, Acts, Prints, Notes, Sends, nothing, one_then, both, when, if_started, look, look_around, act, does, for_each}
 use Rattle.osact.specs.Checks.{Check, first_failing, is_ok_status}
-use Rattle.osact.specs.Returning.{answers, asks, reports, returns}
+use Rattle.osact.specs.Returning.{answers, asks, reports, reports_of, returns}
 use Rattle.osact.specs.Seen.{AllCores, Seen, all_cores, is_own, seen_of}
 use Rattle.osact.specs.Service.{Service, answer_of, effect_of, serves, serves_if, serves_own}
 use Rattle.osact.proofs.Partners.{Partner, partner_of}
@@ -148,9 +148,12 @@ module _ (l : Leave) where
   pub reports-ok : (s : Status) → AreAllowed (reports s)
   reports-ok s = (λ e. tt, λ e. (refl, tt))
 
+  reports_of-ok : (service : ServiceId) (s : Status) → AreAllowed (reports_of service s)
+  reports_of-ok service s = (λ e. tt, λ e. reports-ok s)
+
   pub returns-ok : (r : Runner) (service : ServiceId) (s : Status) (value : Option ℤ) → IsNamed r → AreAllowed (returns r service s value)
-  returns-ok r service s None n = ((n, tt), (reports-ok s, (refl, tt)))
-  returns-ok r service s (Some x) n = ((n, tt), (reports-ok s, (refl, tt)))
+  returns-ok r service s None n = ((n, tt), (reports_of-ok service s, (refl, tt)))
+  returns-ok r service s (Some x) n = ((n, tt), (reports_of-ok service s, (refl, tt)))
 
   pub replies-ok : (core : CoreId) (s : Status) (value : Option ℤ) → l.answered core ≡ true → is_allowed l (Sends core (reply s value)) ≡ true
   replies-ok core s None answered = answered

@@ -5,9 +5,7 @@ ghost use Rattle.std.specs.Prelude.{◌≡◌, List, [], ◌∷◌, filter_map, 
 ghost use Rattle.oscript.specs.Rows.{alarm_argument, asks_shared, core_at, form_of_op, form_view, halts_all, has_masks, int_at, items, mask_at, names_own_only, number_at, object_in, objects_of, op_of, place_at, plain_row, ref_argument, ref_at, row_of, row_view, service_row, status_argument, status_at, uses_resource, variable_at};
 
 use crate::Op;
-use osbase::{
-    AlarmRef, CoreId, Object, ObjectKind, Place, Reference, ServiceId, Status, Variable,
-};
+use osbase::{AlarmRef, CoreId, Object, ObjectKind, Place, Reference, ServiceId, Status, Variable};
 
 /// What an argument of an operation has to be.
 #[derive(Clone, Copy, Debug, PartialEq, Eq)]

@@ -33,8 +33,8 @@ use crate::scripts::{budget_of, script_of};
 use crate::slots::SentSlot;
 use arrayvec::ArrayVec;
 use osbase::{
-    Agreement, CORES, CoreId, CoreMode, Course, Envelope, HeldResource, IsrRef, Item, Job, Mark,
-    Message, Object, OpenCall, Phase, RESOURCES, ResourceRef, Runner, Sent, Status, Stimulus,
+    Agreement, CORES, CoreId, CoreMode, CoreSet, Course, Envelope, HeldResource, IsrRef, Item, Job,
+    Mark, Message, Object, OpenCall, Phase, RESOURCES, ResourceRef, Runner, Sent, Status, Stimulus,
     TaskEvents, TaskRef,
 };
 use osclock::Clocks;
@@ -459,6 +459,13 @@ impl<'a, const P: usize, const J: usize, const OUT: usize> CoreState<'a, P, J, O
         ensures number { IsTrue result → id.number < CORES }
     {
         self.progress.started.contains(id)
+    }
+
+    /// The cores that were started, as far as this core learned at the second gate.
+    pub fn started_cores(&self) -> CoreSet
+        ensures { result ≡ self.now.progress.started }
+    {
+        self.progress.started
     }
 
     /// Whether the object is one of this core's.
