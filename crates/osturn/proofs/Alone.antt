@@ -110,7 +110,7 @@ module _ (plan : Plan) (stimuli : List CoreStimuli) (lists : List (CoreId × Lis
   no_start = ap (λ (o : Option Core). (unwrap_or o (no_core id)).start) found ∙ parts.no_start
 
   allowed : NamesAllow v nobody
-  allowed = own-allow plan core id found same (rw (parts.inward, parts.acting) refl)
+  allowed = own-allow plan core id found same parts
 
   own_self : is_own v v.own.id ≡ true
   own_self = ap (λ (o : Option Core). same_core (unwrap_or o (no_core id)).id id) found ∙ own_id
@@ -152,13 +152,13 @@ module _ (plan : Plan) (stimuli : List CoreStimuli) (lists : List (CoreId × Lis
     replies : (from : CoreId) → same_core from id ≡ false → list_all is_reply (received from (history_by plan id (items_of lists id))) ≡ true
     replies from other =
         begins-all_pass is_reply _ _ (fits.streams from id)
-        (posts-replies id (view_of plan from) (other-allow plan id from unnamed other) (items_of lists from) [] (fits.cores from).alone refl refl)
+        (posts-replies id (view_of plan from) (other-allow plan id from unnamed parts.unhalted other) (items_of lists from) [] (fits.cores from).alone refl refl)
 
     no_mail : list_all (λ (i : Item). not (is_mail i)) (items_of lists id) ≡ true
     no_mail = takes-no-mail v allowed (items_of lists id) [] (fits.cores id).alone (record { closed = refl; empty = refl }) replies
 
     no_conflict : AreAgreed (items_of lists id) × AreQuiet (items_of lists id)
-    no_conflict = never-conflict plan m agreed silent configured calls fits.board (items_of lists) (λ d. (fits.cores d).alone) fits.answers id
+    no_conflict = never-conflict plan m agreed parts.unhalted configured calls fits.board (items_of lists) (λ d. (fits.cores d).alone) fits.answers id
 
     abbrev listed : List Stimulus
     listed = stimuli_of stimuli id
