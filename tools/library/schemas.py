@@ -67,6 +67,8 @@ ARGUMENTS = {
     "place": any_of(["0", up_to(formats.MOST_OPERATIONS)]),
     "number": NUMBER,
     "signed": any_of(["0", up_to(formats.GREATEST_SIGNED), "-" + up_to(formats.GREATEST_SIGNED + 1)]),
+    "core": any_of(["0", up_to(formats.GREATEST_CORE_NUMBER), r"\?"]),
+    "status": any_of(["0", up_to(formats.GREATEST_STATUS)]),
 }
 
 
