@@ -144,11 +144,34 @@ class Operations(unittest.TestCase):
         self.assertIn("The `n` of `jump` and `jz` counts the operations from 0.", TEXT)
         self.assertIn("The `n`, `s` and `c` of alarms and tables are 0 to %d." % formats.GREATEST_WORD, TEXT)
         self.assertIn("a decimal number of 1 to %d, whose bits are events" % formats.GREATEST_WORD, TEXT)
+        self.assertIn("the OS runs already; `k` is 0 to %d" % formats.GREATEST_CORE_NUMBER, TEXT)
+        status = "The `n` of the two shutdowns is the number of a [status](#what-run-prints), 0 to %d."
+        self.assertIn(status % formats.GREATEST_STATUS, TEXT)
         self.assertEqual(formats.GREATEST_SIGNED, 2**63 - 1)
         for operation in formats.OPERATIONS.values():
             for argument in operation.arguments:
                 if argument.word == "n":
                     self.assertEqual(KINDS_OF_N.get(operation.name, "number"), argument.kind, operation.form)
+
+    def test_the_operations_without_a_status(self):
+        sentence = TEXT[TEXT.index("- **The last status**") :].split(" have no status, and leave it")[0]
+        written = set(re.findall(r"`([A-Z]\w+)`", sentence)) | {"ShutdownOS", "ShutdownAllCores"}
+        self.assertIn("and the two shutdowns", sentence)
+        self.assertEqual(written, set(formats.WITHOUT_STATUS))
+        ignored = re.search(r"(`\w+`, `\w+` and `\w+`) are ignored: no effect", TEXT)[1]
+        self.assertEqual(tuple(re.findall(r"`(\w+)`", ignored)), formats.IGNORED_IF_SUSPENDED)
+
+    def test_what_binds_a_core(self):
+        row = next(line for line in TEXT.splitlines() if line.startswith("| `core K separate`"))
+        asks = re.search(r"no script of it has `(\w+)` or `(\w+)`", row).groups()
+        self.assertEqual(asks, formats.ASKS_SHARED)
+        self.assertIn("no script of any core, also of one that is off, has `%s`" % formats.HALTS_ALL, row)
+        self.assertIn("after the `stat` of a %s" % formats.WITHOUT_ERROR_HOOK, TEXT.lower().replace("startcore", "StartCore"))
+
+    def test_the_numbers_of_statuses(self):
+        start = TEXT.index("| Status | Number | When |")
+        rows = re.findall(r"(?m)^\| (E_\w+) \| (\d+) \|", TEXT[start:])
+        self.assertEqual([int(number) for _, number in rows], list(range(formats.GREATEST_STATUS + 1)))
 
     def test_the_operations_on_own_objects_alone(self):
         text = dict(rows_behind("Faults"))["6 WrongCore"]
@@ -180,6 +203,7 @@ class Operations(unittest.TestCase):
 
 
 KINDS_OF_N = {"set": "signed", "add": "signed", "jump": "place", "jz": "place"}
+KINDS_OF_N.update(ShutdownOS="status", ShutdownAllCores="status")
 KINDS_OF_WORDS = {
     "T": ("task",),
     "R": ("resource",),
@@ -190,7 +214,8 @@ KINDS_OF_WORDS = {
     "x": ("variable",),
     "y": ("variable",),
     "m": ("mask",),
-    "n": ("signed", "place", "number"),
+    "n": ("signed", "place", "number", "status"),
+    "k": ("core",),
     "s": ("number",),
     "c": ("number",),
 }
