@@ -120,6 +120,11 @@ def reasons(whole: Model, core: int) -> List[str]:
     if core not in whole.started:
         return ["no start list leads to it from core %d, the master" % whole.master]
     found = []
+    if whole.modes[core] is None:
+        found.append("it names no mode")
+    if len(whole.named_modes) > 1:
+        names = ("`%s` (%s)" % (mode, _listed_cores(cores)) for mode, cores in whole.named_modes.items())
+        found.append("the started cores name different modes: %s" % listed(names))
     if whole.starts[core]:
         found.append("its `start` is not empty: %s" % listed(str(number) for number in whole.starts[core]))
     for other in whole.ids:
@@ -132,6 +137,11 @@ def reasons(whole: Model, core: int) -> List[str]:
             state = "" if other in whole.started else ", which is off,"
             found.append("core %d%s refers to it: %s" % (other, state, objects))
     return found + _binding_reasons(whole, core)
+
+
+def _listed_cores(cores: List[int]) -> str:
+    """Cores by their numbers."""
+    return "core%s %s" % ("s" if len(cores) > 1 else "", listed(str(core) for core in cores))
 
 
 def _binding_reasons(whole: Model, core: int) -> List[str]:

@@ -73,7 +73,9 @@ FAULTS = (
 # Words, numbers and names
 # ---------------------------------------------------------------------------------------------------------------------
 
-MODE = "M"
+MODE = "M"  # the one mode of a configuration without `modes`
+NAMES_NO_MODE = "DONOTCARE"
+NO_MODES = (NAMES_NO_MODE, "conflict", "none")  # what no mode may be called
 NO_OBJECT = "?"  # in place of an object's name: an identifier that names nothing
 VARIABLES = tuple("v%d" % number for number in range(8))
 STIMULUS_WORDS = ("op", "tick")
@@ -163,8 +165,18 @@ class CounterName:
 
 
 @dataclass(frozen=True)
+class NewModeName:
+    """The name of a mode of the configuration."""
+
+
+@dataclass(frozen=True)
 class ModeName:
     """The name of a mode."""
+
+
+@dataclass(frozen=True)
+class CoreMode:
+    """The name of a mode, or the word by which a core names none."""
 
 
 @dataclass(frozen=True)
@@ -203,7 +215,9 @@ class ListOf:
     greatest: Optional[int] = None
 
 
-Value = Union[Number, Flag, NewName, CounterName, ModeName, OneOf, Script, Action, ObjectOf, ListOf]
+Value = Union[
+    Number, Flag, NewName, CounterName, NewModeName, ModeName, CoreMode, OneOf, Script, Action, ObjectOf, ListOf
+]
 MODES = ListOf(ModeName())
 
 
@@ -215,6 +229,16 @@ class Required:
 
 
 REQUIRED = Required()
+
+
+class FirstMode:
+    """The default of a core's mode: the first one of the configuration."""
+
+    def __repr__(self) -> str:
+        return "FIRST_MODE"
+
+
+FIRST_MODE = FirstMode()
 
 
 @dataclass(frozen=True)
@@ -249,6 +273,7 @@ CONFIGURATION = Object(
         Member("version", Number(1, 1), 1),
         Member("cap", Number(1, 16), 16),
         Member("master", Number(0, 7, alone=False), 0),
+        Member("modes", ListOf(NewModeName(), 1, 8), (MODE,)),
         Member("cores", ListOf(ObjectOf("core"), 1, 8)),
     ),
 )
@@ -262,6 +287,7 @@ CORE = Object(
     "core",
     (
         Member("id", Number(0, 7)),
+        Member("mode", CoreMode(), FIRST_MODE),
         Member("start", ListOf(Number(0, 255)), ()),
         Member("protection", PROTECTIONS, "PRO_SHUTDOWN"),
         Member("tasks", ListOf(ObjectOf("task"), 0, 32), ()),

@@ -14,7 +14,6 @@ from library.formats import (
     HALTS_ALL,
     IGNORED_IF_SUSPENDED,
     INTERRUPT,
-    MODE,
     MOST_SUSPENDED,
     OPERATIONS,
     WITHOUT_ERROR_HOOK,
@@ -152,7 +151,8 @@ class _Layer:
         self.request: Optional[Tuple[Runner, int, str]] = None  # whose reply is awaited
         self.scripts = _scripts(run.draft, core)
         self.actions = _actions(run.draft, core)
-        self.autostarts = sum(MODE in task["auto"] for task in run.draft.core(core).named["tasks"])
+        self.autos = [task["auto"] for task in run.draft.core(core).named["tasks"]]
+        self.mode = ""  # which the cores agreed on
         self.places: Dict[str, int] = {}
         self.variables: Dict[Tuple[str, str], int] = {}
 
@@ -178,6 +178,7 @@ class _Layer:
             self._begin(words)
         elif words[0] == "pass1":
             self._take("conflict" if words[1] == "conflict" else "hook")
+            self.mode = words[1]
         elif words[0] == "halt":
             self.item.asked = self.has_asked
             self._take("halt")
@@ -186,7 +187,7 @@ class _Layer:
             if len(words) > 1 and not self.is_down:
                 self._take("hook")
         elif words[0] == "pass2":
-            for _ in range(self.autostarts):
+            for _ in range(sum(self.mode in auto for auto in self.autos)):
                 self._take("act")
             self._dispatch()
         elif words[0] not in _SILENT:

@@ -68,7 +68,7 @@ class Model:
     """The cores by ascending number, their start lists, the started ones, and all references in their order.
 
     Of the operations that bind without an object there are those that ask for what all cores share, and those that shut
-    all cores down.
+    all cores down. Of each core there is the mode that it names, if it names one.
     """
 
     master: int
@@ -78,6 +78,7 @@ class Model:
     references: Tuple[Reference, ...]
     asking: Tuple[Binding, ...]
     halting: Tuple[Binding, ...]
+    modes: Dict[int, Optional[str]]
 
     @cached_property
     def outward(self) -> Tuple[Reference, ...]:
@@ -98,7 +99,18 @@ class Model:
             return OFF
         is_joined = any(core in pair for pair in self.between)
         asks = any(binding.core == core for binding in self.asking)
-        return BOUND if self.starts[core] or is_joined or asks or self.halting else SEPARATE
+        agrees = self.modes[core] is not None and len(self.named_modes) == 1
+        return BOUND if self.starts[core] or is_joined or asks or self.halting or not agrees else SEPARATE
+
+    @cached_property
+    def named_modes(self) -> Dict[str, List[int]]:
+        """The modes that started cores name, with these cores."""
+        found: Dict[str, List[int]] = {}
+        for core in self.ids:
+            mode = self.modes[core]
+            if core in self.started and mode is not None:
+                found.setdefault(mode, []).append(core)
+        return found
 
 
 def model_of(draft: Draft) -> Model:
@@ -109,7 +121,8 @@ def model_of(draft: Draft) -> Model:
     bindings = [Binding(core.id, *each) for core in cores for each in _operations(core)]
     asking = tuple(each for each in bindings if each.service in formats.ASKS_SHARED)
     halting = tuple(each for each in bindings if each.service == formats.HALTS_ALL)
-    return Model(draft["master"], tuple(starts), starts, frozenset(draft.started()), references, asking, halting)
+    modes = {core.id: draft.mode_of(core) for core in cores}
+    return Model(draft["master"], tuple(starts), starts, frozenset(draft.started()), references, asking, halting, modes)
 
 
 def _references(draft: Draft, core: Core) -> Iterator[Reference]:

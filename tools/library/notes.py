@@ -110,12 +110,25 @@ class _Notes:
             if core.id not in started and self.draft["master"] in self.draft.ids:
                 text = "core %d is off: no `start` leads to it from the master, core %d"
                 self.report.note(core.spot("id"), text % (core.id, self.draft["master"]))
+            self._other_mode(core, started)
             for element in core.elements("start"):
                 if element.number not in self.draft.ids:
                     text = "no core %d is configured: its start is answered E_OS_ID"
                     self.report.note(element, text % element.number)
                 elif element.number == core.id:
                     self.report.note(element, "core %d starts itself: that is answered E_OS_STATE" % core.id)
+
+    def _other_mode(self, core: Core, started: Set[int]) -> None:
+        """A started core that names another mode than one before it."""
+        if core.id not in started or self._has(UNKNOWN_NAME):
+            return
+        mode = self.draft.mode_of(core)
+        for other in self.draft.cores[: self.draft.cores.index(core)]:
+            before = self.draft.mode_of(other)
+            if other.id in started and None not in (mode, before) and before != mode:
+                text = "core %d names the mode `%s`, and core %d `%s`: the start ends in a conflict"
+                self.report.note(core.spot("mode"), text % (core.id, mode, other.id, before))
+                return
 
     def _ends(self) -> None:
         """Scripts to whose end a job of a task can come, or no job of an ISR, or one with interrupts suspended."""

@@ -205,6 +205,10 @@ REASONS = [
         },
     ),
     (
+        [START, dict(core(1), mode="DONOTCARE"), core(2)],
+        {1: ("bound", ["it names no mode"]), 2: ("separate", [])},
+    ),
+    (
         [START, core(1, isrs=isr("ShutdownAllCores 0")), core(2, "work")],
         {1: ("bound", ["it has `ShutdownAllCores`: ISR I"]), 2: ("bound", ["core 1 has `ShutdownAllCores`: ISR I"])},
     ),
@@ -347,6 +351,18 @@ class Reports(unittest.TestCase):
     def test_an_isr(self):
         report = border.report(model_of_cores([core(0, start=[1], isrs=isr("ActivateTask X1")), core(1, "work")]))
         self.assertIn("    ActivateTask X1  ISR I, operation 0  request; core 0 waits for the reply\n", report)
+
+    def test_modes(self):
+        modes = {0: "M", 1: "N", 2: "DONOTCARE", 3: "N"}
+        cores = [dict(core(number, start=[1, 2] if number == 0 else []), mode=mode) for number, mode in modes.items()]
+        whole = model_of(json.dumps({"modes": ["M", "N"], "cores": cores}))
+        differ = "the started cores name different modes: `M` (core 0) and `N` (core 1)"
+        self.assertEqual([whole.standing(number) for number in modes], ["bound", "bound", "bound", "off"])
+        self.assertEqual(border.reasons(whole, 1), [differ])
+        self.assertEqual(border.reasons(whole, 2), ["it names no mode", differ])
+        # A core that is never started binds nobody by its mode.
+        cores[1]["mode"] = "M"
+        self.assertEqual(model_of(json.dumps({"modes": ["M", "N"], "cores": cores})).standing(1), "separate")
 
     def test_a_shutdown_of_all_cores(self):
         cores = [core(0, start=[1]), core(1, "work;ShutdownAllCores 8"), core(2, "ShutdownAllCores 0")]

@@ -136,7 +136,7 @@ CASES = (
         '"M"',
         (
             "config.json:18:60: fault 2 Shape: /cores/1/tasks/0/auto: "
-            '`auto` is a list of modes, `["M"]` or `[]`, not `"M"`',
+            '`auto` is a list of modes, as `["M"]`, or `[]`, not `"M"`',
         ),
     ),
     Case(
@@ -146,7 +146,7 @@ CASES = (
         '{"modes"',
         (
             "config.json:18:60: fault 2 Shape: /cores/1/tasks/0/auto: "
-            '`auto` is a list of modes, `["M"]` or `[]`, not an object',
+            '`auto` is a list of modes, as `["M"]`, or `[]`, not an object',
         ),
     ),
     Case(
@@ -522,7 +522,7 @@ CASES = (
         '"M"',
         (
             "config.json:5:15: fault 4 DuplicateName: /cores/0/alarms/0/name: "
-            "`M` is the name of the mode",
+            "`M` is the name of a mode",
         ),
     ),
     Case(
@@ -644,7 +644,7 @@ CASES = (
         '"Diag"',
         (
             "config.json:6:26: fault 5 UnknownName: /cores/0/alarms/0/auto/modes/0: "
-            "there is one mode, `M`, and none is called `Diag`",
+            "no mode is called `Diag`: there is one, `M`",
         ),
     ),
     Case(

@@ -74,6 +74,7 @@ def phrase(value):
         return "at most %d" % value.greatest if value.least == 0 else "%d to %d" % (value.least, value.greatest)
     return {
         formats.NewName: "a name",
+        formats.CoreMode: "one of `modes`; or `%s`" % formats.NAMES_NO_MODE,
         formats.CounterName: "the name of its counter, one of its own core",
         formats.Script: "a script",
         formats.Action: "`ActivateTask T` or `SetEvent T m`",
@@ -91,6 +92,7 @@ class Members(unittest.TestCase):
     def test_the_same_defaults(self):
         words = {"`[]`": (), "`null`": None, "`true`": True, "`false`": False, "none": formats.REQUIRED}
         words["`PRO_SHUTDOWN`"] = "PRO_SHUTDOWN"
+        words.update({'`["M"]`': (formats.MODE,), "the first of `modes`": formats.FIRST_MODE})
         for owner, name, _, default in member_rows():
             with self.subTest(owner=owner, member=name):
                 known = formats.OBJECTS[owner].member(name).default
@@ -282,7 +284,9 @@ class Words(unittest.TestCase):
 
     def test_names(self):
         self.assertIn("A name is 1 to 128 ASCII letters, digits and underscores, and begins with a letter.", TEXT)
-        self.assertIn("There is one application mode, `%s`" % formats.MODE, TEXT)
+        self.assertIn("Without `modes` there is one mode, `%s`," % formats.MODE, TEXT)
+        self.assertIn("none is `%s`, `%s` or `%s`" % formats.NO_MODES, TEXT)
+        self.assertIn("A core with `%s` names none" % formats.NAMES_NO_MODE, TEXT)
         self.assertIn("`%s` is an identifier that refers to nothing" % formats.NO_OBJECT, TEXT)
         for name in ("A", "a1_", "x" * 128):
             self.assertTrue(formats.is_name(name), name)

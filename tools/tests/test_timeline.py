@@ -315,6 +315,15 @@ class Shutdowns(unittest.TestCase):
         run = runs.run_of(text, {0: ["conflict"]}, {0: ["entered", "pass1 conflict"]})
         self.assertEqual([item.lines for item in items.items_of(run, 0)], [[], ["conflict"]])
 
+    def test_what_autostarts_in_a_mode(self):
+        tasks = [{"name": "A", "prio": 1, "auto": ["M", "N"], "script": ""}, {"name": "B", "prio": 2, "auto": ["M"], "script": ""}]
+        text = json.dumps({"modes": ["M", "N"], "cores": [{"id": 0, "mode": "DONOTCARE", "tasks": tasks}]})
+        for mode, lines in (("N", ["act A", "pre A"]), ("M", ["act A", "act B", "pre B"]), ("none", [])):
+            with self.subTest(mode=mode):
+                log = ["entered", "pass1 " + mode, "readied", "pass2 0"]
+                run = runs.run_of(text, {0: ["hook Startup"] + lines}, {0: log})
+                self.assertEqual(items.items_of(run, 0)[-1].lines, lines)
+
 
 class Turns(unittest.TestCase):
     def test_a_round(self):
