@@ -68,6 +68,7 @@ fn show_admitted<const P: usize, const J: usize, const OUT: usize>(
 {}
 
 // What follows from an item that was taken.
+#[inline(always)]
 fn follow<const P: usize, const J: usize, const OUT: usize>(
     state: &mut CoreState<'_, P, J, OUT>,
     item: &Item,
