@@ -255,6 +255,7 @@ impl<const P: usize, const J: usize> Jobs<P, J> {
 
     /// The running job: that of the ISR that was entered last, or else the oldest live job of the task in the running state
     /// (OSEK/VDX OS 2.2.3, section 4.2 and 6).
+    #[inline(always)]
     pub fn running(&self) -> Option<Job>
         ensures { result ≡ running_among self.now }
     {

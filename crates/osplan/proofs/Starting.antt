@@ -1,5 +1,5 @@
 -- The flags of the code are those of the started cores.
-use Rattle.std.proofs.Common.{◌≡◌, ◌≢◌, ℕ, zero, suc, ◌+◌, ◌<◌, Bool, true, false, ◌&&◌, ◌||◌, nat_eq, nat_lt, List, [], ◌∷◌, length, map, filter, get_or, set, replicate, Option, Some, None, is_some, slice_get, IsTrue, inl, inr, refl, sym, ap, ◌∙◌, get_or-set_same, get_or-set_other, below_more, add-one, arith}
+use Rattle.std.proofs.Common.{◌≡◌, ◌≢◌, ℕ, zero, suc, ◌+◌, ◌<◌, Bool, true, false, ◌&&◌, ◌||◌, nat_eq, nat_lt, List, [], ◌∷◌, length, map, filter, get_or, set, replicate, is_some, slice_get, IsTrue, inl, inr, refl, sym, ap, ◌∙◌, get_or-set_same, get_or-set_other, below_more, add-one, arith}
 use Rattle.std.specs.List.{list_all, list_any}
 use Rattle.std.specs.Option.{option_map_or}
 use Rattle.std.proofs.lemmas.Bool.{and_parts, and_from, and_right, or_right, or_cases, ltb-true, lt-ltb, eqb-true, eq-eqb, ne_eqb, cases_eq}
@@ -8,7 +8,6 @@ use Rattle.std.proofs.lemmas.Map.Views.{any-filter_same}
 use Rattle.osbase.specs.declared.references.CoreId.{CoreId}
 use Rattle.osbase.specs.declared.items.CoreSet.{CoreSet}
 use Rattle.osbase.specs.History.{same_core}
-use Rattle.osbase.specs.declared.objects.TheConstants.{NOBODY}
 use Rattle.osbase.specs.Sets.{has_core}
 use Rattle.osbase.proofs.Same.{same_core-true, same_core-refl}
 use Rattle.osplan.specs.declared.plans.Plan.{Plan}
@@ -99,14 +98,6 @@ configured-low plan id limits found =
 pub master-low : (plan : Plan) → IsTrue (is_within_limits plan) → plan.master.number < 16
 master-low plan limits =
     configured-low plan plan.master limits (limit-parts plan limits).master
-
--- so nobody's number is no configured core's
-pub nobody : (plan : Plan) → IsTrue (is_within_limits plan) → core_of plan NOBODY ≡ None
-nobody plan limits = by (core_of plan NOBODY) refl
-  where
-    by : (o : Option Core) → core_of plan NOBODY ≡ o → o ≡ None
-    by None e = refl
-    by (Some core) e = absurd (omega (arith, configured-low plan NOBODY limits (ap is_some e)))
 
 pub within-zero : (plan : Plan) (cores : CoreSet) → ((id : CoreId) → id.number < 16 → has_core cores id ≡ same_core id plan.master) → AreWithin plan 0 cores
 within-zero plan cores flags id lt = kept (λ i. same_core i plan.master) (configured_ids plan) id ∙ ap (λ b. b && is_among (configured_ids plan) id) (sym (flags id lt))

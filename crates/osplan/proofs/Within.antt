@@ -18,7 +18,7 @@ use Rattle.osplan.specs.declared.plans.Table.{Table}
 use Rattle.osplan.specs.declared.plans.Task.{Task}
 use Rattle.osplan.specs.Objects.{core_scripts, names_in, object_count, posted_at_once, table_actions}
 use Rattle.osplan.specs.View.{core_of, counter_in}
-use Rattle.osplan.specs.Limits.{CoreSizes, TaskSizes, count_in, most_of, is_between, is_budget, is_core_numbered, is_isr_within, are_isrs_within, isr_sizes, jobs_of, task_sizes, counter_sizes, core_sizes, sizes_of, is_task_within, is_counter_within, are_counters_within, are_alarms_within, alarm_sizes, is_alarm_within, are_tables_within, is_table_within, table_sizes, is_alarm_near, is_core_timed, is_table_near, stays_on, is_core_within, is_within, is_ceiling, ceiling_of, is_core_known, is_core_near, numbers_of, are_numbers_distinct, is_within_limits}
+use Rattle.osplan.specs.Limits.{CoreSizes, Sizes, TaskSizes, count_in, most_of, is_between, is_budget, is_core_numbered, is_isr_within, are_isrs_within, isr_sizes, jobs_of, task_sizes, counter_sizes, core_sizes, sizes_of, is_task_within, is_counter_within, are_counters_within, are_alarms_within, alarm_sizes, is_alarm_within, are_tables_within, is_table_within, table_sizes, is_alarm_near, is_core_timed, is_table_near, stays_on, is_core_within, is_within, is_ceiling, ceiling_of, is_core_known, is_core_near, numbers_of, are_numbers_distinct, is_within_limits}
 use Rattle.osplan.specs.Expressible.{is_free_of_resources, is_isr_expressible, is_mode_expressible, is_script_expressible, is_action_expressible, are_distinct, declared_names, is_task_expressible, is_resource_expressible, is_counter_expressible, is_alarm_expressible, is_table_expressible, is_core_expressible, is_expressible}
 use Rattle.osplan.proofs.Tests.{all-weaker, find-passes}
 
@@ -132,6 +132,9 @@ few-of s h kind = grind arith
 
 pub between : (low high n : ℕ) → is_between low high (Some n) ≡ true → (low ≤ n) × (n ≤ high)
 between low high n h = let parts = and_parts (nat_le low n) (nat_le n high) h in (leb-true low n parts.0, leb-true n high parts.1)
+
+pub few-modes : (s : Sizes) → is_within s ≡ true → s.modes ≤ 8
+few-modes s h = (between 1 8 s.modes (grind arith)).1
 
 task-fits : (task : Task) → is_task_within (task_sizes task) ≡ true → (nat_lt task.priority 32 ≡ true) × (nat_le 1 task.activations ≡ true)
 task-fits task h =

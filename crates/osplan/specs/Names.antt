@@ -19,7 +19,7 @@ use Rattle.osplan.specs.Objects.{common_names, names_in}
 use Rattle.osplan.specs.View.{core_of}
 
 abbrev pub name_of_mode : Plan → ModeId → List ℕ
-name_of_mode plan mode = option_map_or (λ (name : List ℕ). name) (slice_get plan.modes mode.index) []
+name_of_mode plan mode = unwrap_or (slice_get plan.modes mode.index) []
 
 -- ---- objects
 

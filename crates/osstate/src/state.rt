@@ -113,7 +113,7 @@ impl<'a, const P: usize, const J: usize, const OUT: usize> CoreState<'a, P, J, O
     {
         self.progress.take_item(item);
         self.jobs.take_item(item);
-        self.border.open_call = border::open_by(item, self.border.open_call);
+        border::close_by(&mut self.border.open_call, item);
         border::post_by(&mut self.border.outbox, item);
         border::receive_by(&mut self.border.received, item);
     }
@@ -531,6 +531,7 @@ impl<'a, const P: usize, const J: usize, const OUT: usize> CoreState<'a, P, J, O
 
     /// The running job: that of the ISR that was entered last, or else the oldest live job of the task in the running state
     /// (OSEK/VDX OS 2.2.3, section 4.2 and 6).
+    #[inline(always)]
     pub fn running_job(&self) -> Option<Job>
         ensures value { result ≡ running_in self.now }
         ensures own { IfSome result (λ job. IsTrue (is_own_runner self.now.view.own job.runner)) }
