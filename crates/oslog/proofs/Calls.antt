@@ -13,6 +13,7 @@ use Rattle.osbase.specs.declared.messages.RemoteCall.{RemoteCall}
 use Rattle.osbase.specs.declared.objects.Object.{Object as ObjectOf}
 use Rattle.osbase.specs.declared.objects.ObjectKind.{ObjectKind}
 use Rattle.osbase.specs.declared.objects.Place.{Place}
+use Rattle.osbase.specs.declared.references.CoreId.{CoreId}
 use Rattle.osbase.proofs.Same.{same_kind-true}
 use Rattle.oscript.specs.declared.Op.{Op}
 use Rattle.oscript.specs.declared.rows.Arg.{Arg}
@@ -26,7 +27,7 @@ use Rattle.oscript.proofs.Acting.{call-back as table-back, call-objects}
 use Rattle.osforms.specs.Call.{call_words, form_words}
 use Rattle.osforms.specs.Form.{arg_of, arg_text, args_of, form_of_verb, form_of_words, verb_of, words_of}
 use Rattle.osforms.specs.Operation.{named, op_text, resolve_arg, resolve_args, resolved}
-use Rattle.osforms.specs.Word.{is_decimal, mask_of, number_in, target_of, variable_of, int_of}
+use Rattle.osforms.specs.Word.{core_numbered, core_of, is_decimal, mask_of, number_in, target_of, variable_of, int_of}
 use Rattle.osforms.proofs.Fitting.{args-fit, formed-args}
 use Rattle.osforms.proofs.Joining.{has_none}
 use Rattle.osforms.proofs.KindTexts.{cond-some, either, is_kind, mapped}
