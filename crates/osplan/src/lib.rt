@@ -6,18 +6,21 @@
 
 mod cuts;
 pub mod faults;
+mod modes;
 mod names;
 pub mod own;
 pub mod plans;
 mod protection;
 pub mod separate;
 mod sides;
+mod sought;
 
 pub use cuts::cut;
 pub use faults::ConfFault;
+pub use modes::{DONT_CARE, is_reserved};
 pub use plans::{
-    Alarm, AlarmStart, Config, Core, Counter, ExpiryPoint, Isr, KINDS, Plan, Resource, Table,
-    TableStart, Task,
+    Alarm, AlarmStart, COMMON, Config, Core, Counter, ExpiryPoint, Isr, KINDS, Plan, Resource,
+    Table, TableStart, Task,
 };
 pub use protection::Protection;
 pub use separate::{Standing, is_separate, standing_of};

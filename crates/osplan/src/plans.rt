@@ -205,6 +205,9 @@ pub const KINDS: [ObjectKind; 6] = [
     ObjectKind::Table,
 ];
 
+/// The kinds of the objects that all cores have in common.
+pub const COMMON: [ObjectKind; 1] = [ObjectKind::Mode];
+
 fn is_script_near(id: CoreId, script: &Script) -> bool
     ensures { result ≡ list_all (stays_on id) script.now }
 {
@@ -286,6 +289,7 @@ impl Core {
         ensures { result ≡ object_count kind self.now }
     {
         match kind {
+            ObjectKind::Mode => 0,
             ObjectKind::Task => self.tasks.len(),
             ObjectKind::Isr => self.isrs.len(),
             ObjectKind::Resource => self.resources.len(),
@@ -301,6 +305,7 @@ impl Core {
         ensures { option_copied result ≡ slice_get (names_in kind self.now) index }
     {
         match kind {
+            ObjectKind::Mode => None,
             ObjectKind::Task => match self.tasks.as_slice().get(index) {
                 Some(task) => Some(task.name.as_str()),
                 None => None,
