@@ -40,6 +40,7 @@ progress_after e p = record {
 abbrev pub moved_by : Item → Progress → Progress
 moved_by item p = record p {
   phase = phase_after (Took item) p.phase;
+  course = course_after (Took item) p.course;
   began = began_after (Took item) p.began;
   agreement = agreement_after (Took item) p.agreement;
   started = started_after (Took item) p.started;
