@@ -144,11 +144,15 @@ receives from (Message.Action call) = look (λ s. when (is_going s.course) (serv
 receives from (Message.Reply status) = look (λ s. closes s.awaits status None)
 receives from (Message.Value status n) = look (λ s. closes s.awaits status (Some n))
 
--- The end. If a shutdown of all cores was asked for, ShutdownHook is called with the status of who asked first; a core that is down has
--- called it already. [AUTOSAR SWS OS 4.x, SWS_Os_00588; that a core which went down by itself calls it once: own]
-abbrev pub shuts_down : Option (CoreId × Status) → Acts
-shuts_down None = nothing
-shuts_down (Some asked) = look (λ s. when (is_down s.course) nothing (prints (Mark.ShutdownHook asked.1)))
+-- ShutdownHook is called at the end, but not by a core that is down: it has called it already.
+-- [AUTOSAR SWS OS 4.x, SWS_Os_00588; that a core which went down by itself calls it once: own]
+abbrev pub calls_shutdown_hook : Status → Acts
+calls_shutdown_hook status = look (λ s. when (is_down s.course) nothing (prints (Mark.ShutdownHook status)))
+
+-- The end of a core: who asked first for a shutdown of all cores, and with which status, if one was asked for. [own]
+abbrev pub ends : Option (CoreId × Status) → Acts
+ends None = nothing
+ends (Some asked) = calls_shutdown_hook asked.1
 
 -- What follows from an item at once, in the history with it. Those of spinlocks cannot be taken yet.
 -- [OSEK/VDX OS 2.2.3, section 11.3; AUTOSAR SWS OS 4.x, SWS_Os_00608 to SWS_Os_00610; items are this project's own]
@@ -159,7 +163,7 @@ effect (Item.Pass2 cores) = look (λ s. starts s.agreement s.core)
 effect (Item.Stim stimulus) = stimulates stimulus
 effect (Item.Received from number message) = receives from message
 effect (Item.Halt core status) = prints (Mark.Halted core status)
-effect (Item.Last shutdown) = shuts_down shutdown
+effect (Item.Last shutdown) = ends shutdown
 effect item = nothing
 
 -- PostTaskHook of the current task, if there is one, and PreTaskHook of the runner's.

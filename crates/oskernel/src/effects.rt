@@ -14,7 +14,7 @@ ghost use Rattle.osact.specs.Acts.{does, look, prints};
 ghost use Rattle.oscall.specs.Border.{is_served};
 ghost use Rattle.oskernel.specs.Admission.{admits};
 ghost use Rattle.oskernel.specs.Bounded.{step_entries};
-ghost use Rattle.oskernel.specs.Step.{closes, effect, gate_mark, goes_on, receives, shuts_down, stimulates};
+ghost use Rattle.oskernel.specs.Step.{calls_shutdown_hook, closes, effect, ends, gate_mark, goes_on, receives, stimulates};
 ghost use Rattle.oskernel.specs.Taking.{TakesItem, is_acting, is_answered, is_filling, is_going_on, is_known, is_request, is_second_gate};
 
 use crate::interrupts::raise;
@@ -104,7 +104,7 @@ fn follow<const P: usize, const J: usize, const OUT: usize>(
         Item::On | Item::Entered | Item::Readied => {}
         Item::Posted(_) | Item::Drained | Item::PassEnd => {}
         Item::Halt { core, status } => print_halt(state, *core, *status, marks),
-        Item::Last(shutdown) => shut_down(state, *shutdown, marks),
+        Item::Last(shutdown) => end(state, *shutdown, marks),
         // These cannot be taken yet.
         Item::Granted(_) | Item::Freed(_) => {}
         Item::Tried {
@@ -114,7 +114,7 @@ fn follow<const P: usize, const J: usize, const OUT: usize>(
     }
 }
 
-// All cores are halted: this one asked first, with this status.
+// All cores are halted, as this one asked first with this status.
 fn print_halt<const P: usize, const J: usize, const OUT: usize>(
     state: &mut CoreState<'_, P, J, OUT>,
     core: CoreId,
@@ -128,19 +128,31 @@ fn print_halt<const P: usize, const J: usize, const OUT: usize>(
     state.print(mark, marks);
 }
 
-// The end: ShutdownHook is called where a shutdown of all cores was asked for; a core that is down has called it.
-fn shut_down<const P: usize, const J: usize, const OUT: usize>(
+// The end of a core: who asked first for a shutdown of all cores, if one was asked for.
+fn end<const P: usize, const J: usize, const OUT: usize>(
     state: &mut CoreState<'_, P, J, OUT>,
     shutdown: Option<(CoreId, Status)>,
     marks: &mut Vec<Mark>,
 )
     requires { HasRoom 1 1 state.old marks.old }
-    ensures { Effects 1 1 (does (shuts_down shutdown)) state.old state.new marks.old marks.new }
+    ensures { Effects 1 1 (does (ends shutdown)) state.old state.new marks.old marks.new }
 {
     if let Some((_, status)) = shutdown {
-        if !state.course().is_down() {
-            state.print(Mark::ShutdownHook(status), marks);
-        }
+        call_shutdown_hook(state, status, marks);
+    }
+}
+
+// ShutdownHook is called, but not by a core that is down: it has called it already.
+fn call_shutdown_hook<const P: usize, const J: usize, const OUT: usize>(
+    state: &mut CoreState<'_, P, J, OUT>,
+    status: Status,
+    marks: &mut Vec<Mark>,
+)
+    requires { HasRoom 1 1 state.old marks.old }
+    ensures { Effects 1 1 (does (calls_shutdown_hook status)) state.old state.new marks.old marks.new }
+{
+    if !state.course().is_down() {
+        state.print(Mark::ShutdownHook(status), marks);
     }
 }
 

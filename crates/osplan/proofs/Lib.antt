@@ -12,4 +12,4 @@ pub mod Cutting
 pub mod EveryKind
 pub mod Least
 pub mod Counters
-pub mod Nobody
+pub mod ModeObjects

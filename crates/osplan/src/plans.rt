@@ -1,8 +1,8 @@
 //! The parts of a configuration, and the configuration that keeps its limits.
 
-ghost use Rattle.std.specs.Prelude.{◌≡◌, ◌↔◌, IsTrue, Option, option_copied, slice_get};
+ghost use Rattle.std.specs.Prelude.{◌≡◌, ◌↔◌, IsTrue, length, Option, option_copied, slice_get};
 ghost use Rattle.std.specs.List.{list_all};
-ghost use Rattle.osplan.specs.Objects.{core_scripts, is_own_object, names_in, object_count};
+ghost use Rattle.osplan.specs.Objects.{common_names, core_scripts, is_own_object, names_in, object_count};
 ghost use Rattle.osplan.specs.Stimuli.{knows_stimulus};
 ghost use Rattle.osplan.specs.View.{core_of};
 ghost use Rattle.osplan.specs.Limits.{is_alarm_near, is_core_near, is_table_near, is_within_limits, stays_on};
@@ -285,7 +285,8 @@ impl Core {
         }
     }
 
-    fn count(&self, kind: ObjectKind) -> usize
+    /// How many objects of a kind the core has.
+    pub fn count(&self, kind: ObjectKind) -> usize
         ensures { result ≡ object_count kind self.now }
     {
         match kind {
@@ -343,5 +344,15 @@ impl Plan {
             .as_slice()
             .iter()
             .find(|core| core.id.number == id.number)
+    }
+
+    /// How many objects of a kind all cores have in common.
+    pub fn common_count(&self, kind: ObjectKind) -> usize
+        ensures { result ≡ length (common_names kind self.now) }
+    {
+        match kind {
+            ObjectKind::Mode => self.modes.len(),
+            _ => 0,
+        }
     }
 }
