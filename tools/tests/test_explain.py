@@ -1183,8 +1183,8 @@ STATUSES = (
     ("StartCore 2;TerminateTask", "stat A StartCore E_OS_ID"),
     ("StartCore 1;TerminateTask", "stat A StartCore E_OS_ACCESS"),
     ("SuspendAllInterrupts;StartCore 1;ResumeAllInterrupts;TerminateTask", "stat A StartCore E_OS_DISABLEDINT"),
-    ("ActivateTask B;ShutdownOS 3", "stat A ActivateTask E_OK"),
-    ("ActivateTask B;ShutdownAllCores 3", "stat A ActivateTask E_OK"),
+    ("SetEvent E 1;ShutdownOS 3", "stat A SetEvent E_OK"),
+    ("SetEvent E 1;ShutdownAllCores 3", "stat A SetEvent E_OK"),
 )
 ISR_STATUSES = (
     ("ActivateTask B", "stat I ActivateTask E_OK"),

@@ -1,5 +1,5 @@
 -- Modes that conflict, and shutdowns of one core and of all.
-use Rattle.std.specs.Prelude.{List, [], ◌∷◌, ◌++◌, Some, None, ℕ, codes}
+use Rattle.std.specs.Prelude.{ℕ, Some, List, [], ◌∷◌, ◌++◌, codes}
 use Rattle.osbase.specs.declared.items.Agreement.TheVariants as Agreement
 use Rattle.osbase.specs.declared.items.CoreMode.TheVariants.{Named}
 use Rattle.osbase.specs.declared.items.Item.{Item}
