@@ -1,6 +1,7 @@
 //! The services of whole cores: one that is started while it runs, how many are started, and that one or all shut down.
 
 ghost use Rattle.std.specs.Prelude.{◌≡◌, ◌≤◌, ◌+◌, ◌^◌, IsTrue};
+ghost use Rattle.osbase.specs.declared.limits.TheConstants.{CORES};
 ghost use Rattle.osjobs.specs.Priorities.{is_own_runner};
 ghost use Rattle.osstate.specs.Does.{Effects, HasRoom, Reads, Remarks, service_entries, service_marks};
 ghost use Rattle.osact.specs.Terms.{MayAct, Offered};
@@ -57,9 +58,9 @@ fn start_core<const P: usize, const J: usize, const OUT: usize>(
     refuse(state, runner, ServiceId::StartCore, status, marks);
 }
 
-fn core_count(cores: &CoreSet) -> usize
-    ensures value { result ≡ core_count cores.now }
-    ensures few { result ≤ 8 }
+fn core_count(cores: CoreSet) -> usize
+    ensures value { result ≡ core_count cores }
+    ensures few { result ≤ CORES }
 {
     cores.members.iter().filter(|is_member| **is_member).count()
 }
@@ -74,7 +75,7 @@ fn count_cores<const P: usize, const J: usize, const OUT: usize>(
     requires { MayAct service_entries service_marks state.old runner marks.old }
     ensures { Effects service_entries service_marks (does (counts_cores runner variable)) state.old state.new marks.old marks.new }
 {
-    let count = core_count(&state.started_cores());
+    let count = core_count(state.started_cores());
     set(state, runner, variable, count as i64, marks);
 }
 
