@@ -8,6 +8,8 @@ mod kernel;
 mod limits;
 mod logs;
 mod program;
+mod shutdown;
+mod starts;
 mod tables;
 mod threads;
 
@@ -44,7 +46,7 @@ const BESIDE: &str =
     r#"{"cores":[{"id":0,"start":[1,2],"tasks":[{"name":"A","prio":1,"auto":["M"],"script":"ActivateTask B;TerminateTask"}]},{"id":1,"tasks":[{"name":"B","prio":1,"script":"TerminateTask"}]},{"id":2,"tasks":[{"name":"V","prio":1,"auto":["M"],"script":"TerminateTask"}]}]}"#;
 
 const ALONE: &str =
-    "{\"cap\":16,\"cores\":[{\"alarms\":[],\"counters\":[],\"id\":2,\"isrs\":[],\"protection\":\"PRO_SHUTDOWN\",\"resources\":[],\"start\":[],\"tables\":[],\"tasks\":[{\"activations\":1,\"auto\":[\"M\"],\"budget\":0,\"extended\":false,\"name\":\"V\",\"preemptable\":true,\"prio\":1,\"script\":\"TerminateTask\"}]}],\"master\":2,\"version\":1}\n";
+    "{\"cap\":16,\"cores\":[{\"alarms\":[],\"counters\":[],\"id\":2,\"isrs\":[],\"mode\":\"M\",\"protection\":\"PRO_SHUTDOWN\",\"resources\":[],\"start\":[],\"tables\":[],\"tasks\":[{\"activations\":1,\"auto\":[\"M\"],\"budget\":0,\"extended\":false,\"name\":\"V\",\"preemptable\":true,\"prio\":1,\"script\":\"TerminateTask\"}]}],\"master\":2,\"modes\":[\"M\"],\"version\":1}\n";
 
 const ALONE_TRACE: &str = "core 2\nhook Startup\nact V\npre V\npost V\nend V\nended\n";
 

@@ -11,7 +11,6 @@ use Rattle.osbase.specs.declared.references.Runner.{Runner}
 use Rattle.osbase.specs.declared.messages.RemoteCall.{RemoteCall}
 use Rattle.osbase.specs.declared.messages.Message.{Message}
 use Rattle.osbase.specs.declared.marks.Mark.{Mark}
-use Rattle.osbase.specs.declared.histories.Awaited.{Awaited}
 use Rattle.osbase.specs.declared.histories.OpenCall.{OpenCall}
 use Rattle.osbase.specs.Answers.{reply}
 use Rattle.osbase.specs.History.{Entry, History, Took, Printed, Noted, Opened, Queued, same_core}
@@ -20,41 +19,37 @@ use Rattle.osplan.specs.declared.plans.Core.{Core}
 use Rattle.osplan.specs.View.{Around, View}
 use Rattle.ostable.specs.Waiting.{are_own}
 use Rattle.osstate.specs.Readings.{knows_started}
-use Rattle.osact.specs.Acts.{Act, Acts, Prints, Notes, Sends, nothing, one_then, both, when, if_started, look, act, does, for_each}
+use Rattle.osact.specs.Acts.{Act, Acts, Prints, Notes, Sends, nothing, one_then, both, when, if_started, look, look_around, act, does, for_each}
 use Rattle.osact.specs.Checks.{Check, first_failing, is_ok_status}
-use Rattle.osact.specs.Returning.{answers, asks, reports, returns}
-use Rattle.osact.specs.Seen.{Seen, is_own, seen_of}
+use Rattle.osact.specs.Returning.{answers, asks, reports, reports_of, returns}
+use Rattle.osact.specs.Seen.{AllCores, Seen, all_cores, is_own, seen_of}
 use Rattle.osact.specs.Service.{Service, answer_of, effect_of, serves, serves_if, serves_own}
+use Rattle.osact.proofs.Partners.{Partner, partner_of}
 
--- Which cores one asks, or answers: every one, and none.
-abbrev pub anybody : CoreId → Bool
-anybody core = true
+-- Whom one asks, or answers: everybody, and nobody.
+abbrev pub anybody : {A : Type 0} → A → Bool
+anybody x = true
 
-abbrev pub nobody : CoreId → Bool
-nobody core = false
+abbrev pub nobody : {A : Type 0} → A → Bool
+nobody x = false
 
 -- What a core sees that differs only in what is around it.
 abbrev pub seen_as : View → Around → View
 seen_as v around = record v { around = around }
 
 -- The core is the own one, or one that may be asked.
-abbrev pub is_within : View → (CoreId → Bool) → CoreId → Bool
-is_within v may core = same_core core v.core || may core
+abbrev pub is_within : View → (Partner → Bool) → CoreId → Bool
+is_within v may core = same_core core v.core || may (Partner.Core core)
 
--- A call awaits only the reply of a core that may be asked.
-abbrev pub may_await : (CoreId → Bool) → Awaited → Bool
-may_await may (Awaited.Reply service core) = may core
-may_await may awaited = false
+-- A call awaits only the answer of one that may be asked.
+abbrev pub may_open : (Partner → Bool) → OpenCall → Bool
+may_open may call = may (partner_of call.awaits)
 
-pub none-awaited : (awaited : Awaited) → may_await nobody awaited ≡ true → ⊥
-none-awaited (Awaited.Reply service core) e = cc
-none-awaited awaited e = cc
-
--- What a core may do: which cores it may ask and which it answers, and the cores of whose objects its marks are; among these are its own
+-- What a core may do: whom it may ask and which cores it answers, and the cores of whose objects its marks are; among these are its own
 -- and those that it may ask.
 pub record Leave : Type 0 where
   pub view : View
-  pub may : CoreId → Bool
+  pub may : Partner → Bool
   pub answered : CoreId → Bool
   pub names : CoreId → Bool
   pub named : (core : CoreId) → is_within view may core ≡ true → names core ≡ true
@@ -63,12 +58,12 @@ pub record Leave : Type 0 where
 -- An act names only objects of such cores, asks only those that may be asked, and answers only those that may be answered.
 abbrev pub is_allowed : Leave → Act → Bool
 is_allowed l (Prints m) = names_only l.names m
-is_allowed l (Notes (Opened call)) = may_await l.may call.awaits
+is_allowed l (Notes (Opened call)) = may_open l.may call
 is_allowed l (Notes (Queued core envelope)) = false
 is_allowed l (Notes n) = true
 is_allowed l (Sends core (Message.Reply status)) = l.answered core
 is_allowed l (Sends core (Message.Value status n)) = l.answered core
-is_allowed l (Sends core message) = l.may core
+is_allowed l (Sends core message) = l.may (Partner.Core core)
 
 -- A note of the core itself, or a mark that names only objects of cores that pass: neither an item nor what goes to
 -- another core.
@@ -88,18 +83,19 @@ pub record IsSeen (l : Leave) (s : Seen) : Type 0 where
   pub awaits : option_map_or (λ (call : OpenCall). l.names (core_of_runner call.runner)) s.awaits true ≡ true
 
 -- Each kind of entry that acts may add keeps it: one of the core itself, an envelope to a core that may be asked, a reply to
--- one that may be answered, and a call that is open there.
+-- one that may be answered, and a call whose answer may be asked for.
 pub record KeepsEntries (l : Leave) (R : History → History → Type 0) : Type 0 where
   pub local : (e : Entry) (h k : History) → is_local l.names e ≡ true → R h k → R (e ∷ h) (e ∷ k)
-  pub asked : (core : CoreId) (message : Message) (h k : History) → l.may core ≡ true → R h k → R (act (Sends core message) h) (act (Sends core message) k)
+  pub asked : (core : CoreId) (message : Message) (h k : History) → l.may (Partner.Core core) ≡ true → R h k → R (act (Sends core message) h) (act (Sends core message) k)
   pub replied : (core : CoreId) (s : Status) (value : Option ℤ) (h k : History) → l.answered core ≡ true → R h k → R (act (Sends core (reply s value)) h) (act (Sends core (reply s value)) k)
-  pub opened : (call : OpenCall) (h k : History) → may_await l.may call.awaits ≡ true → R h k → R (Noted (Opened call) ∷ h) (Noted (Opened call) ∷ k)
+  pub opened : (call : OpenCall) (h k : History) → may_open l.may call ≡ true → R h k → R (Noted (Opened call) ∷ h) (Noted (Opened call) ∷ k)
 
--- A relation of histories that they keep, and where it holds the core reads the same. The second history is that of a core
--- with this around it.
+-- A relation of histories that they keep, and where it holds the core reads the same, of all cores too if it may. The second history
+-- is that of a core with this around it.
 pub record IsKept (l : Leave) (around : Around) (R : History → History → Type 0) : Type 0 where
   pub holds : KeepsEntries l R
   pub started : (core : CoreId) (h k : History) → is_within l.view l.may core ≡ true → R h k → knows_started h core ≡ knows_started k core
+  pub shared : l.may Partner.Shared ≡ true → (h k : History) → R h k → all_cores l.view h ≡ all_cores (seen_as l.view around) k
   pub reads : (h k : History) → R h k → seen_of l.view h ≡ seen_of (seen_as l.view around) k
   pub seen : (h k : History) → R h k → IsSeen l (seen_of l.view h)
 
@@ -112,6 +108,7 @@ module _ (l : Leave) where
   AreAllowed (when b x y) = (b ≡ true → AreAllowed x) × (b ≡ false → AreAllowed y)
   AreAllowed (if_started core x y) = (is_within l.view l.may core ≡ true) × (AreAllowed x × AreAllowed y)
   AreAllowed (look f) = (s : Seen) → IsSeen l s → AreAllowed (f s)
+  AreAllowed (look_around f) = (l.may Partner.Shared ≡ true) × ((all : AllCores) → AreAllowed (f all))
 
   -- ---- the law
 
@@ -139,6 +136,8 @@ module _ (l : Leave) where
         (either (knows_started h core) (does x l.view h) (does y l.view h) (does x (seen_as l.view around) k) (does y (seen_as l.view around) k) (λ e. kept-by x ok.1.0 h k p) (λ e. kept-by y ok.1.1 h k p))
     kept-by (look f) ok h k p =
         subst (λ (s : Seen). R (does (f (seen_of l.view h)) l.view h) (does (f s) (seen_as l.view around) k)) (kept.reads h k p) (kept-by (f (seen_of l.view h)) (ok (seen_of l.view h) (kept.seen h k p)) h k p)
+    kept-by (look_around f) ok h k p =
+        subst (λ (all : AllCores). R (does (f (all_cores l.view h)) l.view h) (does (f all) (seen_as l.view around) k)) (kept.shared ok.0 h k p) (kept-by (f (all_cores l.view h)) (ok.1 (all_cores l.view h)) h k p)
 
   -- ---- the parts of a service
 
@@ -149,9 +148,12 @@ module _ (l : Leave) where
   pub reports-ok : (s : Status) → AreAllowed (reports s)
   reports-ok s = (λ e. tt, λ e. (refl, tt))
 
+  reports_of-ok : (service : ServiceId) (s : Status) → AreAllowed (reports_of service s)
+  reports_of-ok service s = (λ e. tt, λ e. reports-ok s)
+
   pub returns-ok : (r : Runner) (service : ServiceId) (s : Status) (value : Option ℤ) → IsNamed r → AreAllowed (returns r service s value)
-  returns-ok r service s None n = ((n, tt), (reports-ok s, (refl, tt)))
-  returns-ok r service s (Some x) n = ((n, tt), (reports-ok s, (refl, tt)))
+  returns-ok r service s None n = ((n, tt), (reports_of-ok service s, (refl, tt)))
+  returns-ok r service s (Some x) n = ((n, tt), (reports_of-ok service s, (refl, tt)))
 
   pub replies-ok : (core : CoreId) (s : Status) (value : Option ℤ) → l.answered core ≡ true → is_allowed l (Sends core (reply s value)) ≡ true
   replies-ok core s None answered = answered
@@ -160,11 +162,11 @@ module _ (l : Leave) where
   pub answers-ok : (r : Runner) (service : ServiceId) (checks : List Check) (effect : Acts) → IsNamed r → (is_ok_status (first_failing checks) ≡ true → AreAllowed effect) → AreAllowed (answers r service checks effect)
   answers-ok r service checks effect n ok = (ok, λ e. returns-ok r service (first_failing checks) None n)
 
-  pub asks-ok : (r : Runner) (service : ServiceId) (core : CoreId) (call : RemoteCall) → names_only l.names (Mark.CallQueued core call) ≡ true → l.may core ≡ true → AreAllowed (asks r service core call)
+  pub asks-ok : (r : Runner) (service : ServiceId) (core : CoreId) (call : RemoteCall) → names_only l.names (Mark.CallQueued core call) ≡ true → l.may (Partner.Core core) ≡ true → AreAllowed (asks r service core call)
   asks-ok r service core call n m = (n, (m, (m, tt)))
 
   -- What is not the core's own may be asked.
-  pub elsewhere : (s : Seen) → IsSeen l s → (core : CoreId) → is_own s core ≡ false → is_within l.view l.may core ≡ true → l.may core ≡ true
+  pub elsewhere : (s : Seen) → IsSeen l s → (core : CoreId) → is_own s core ≡ false → is_within l.view l.may core ≡ true → l.may (Partner.Core core) ≡ true
   elsewhere s seen core other within = rw (← seen.id, other) at within
 
   -- What follows from what is found, if anything is.

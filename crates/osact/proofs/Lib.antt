@@ -2,6 +2,7 @@ pub mod Remarking
 pub mod Answering
 pub mod Serving
 pub mod Offering
+pub mod Partners
 pub mod Kept
 pub mod SeenSame
 pub mod Carrying

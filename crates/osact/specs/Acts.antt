@@ -9,7 +9,7 @@ use Rattle.osbase.specs.declared.marks.Mark.{Mark}
 use Rattle.osbase.specs.History.{History, Note, Printed, Noted, Queued, queued_count, envelope_with}
 use Rattle.osplan.specs.View.{View}
 use Rattle.osstate.specs.Readings.{knows_started}
-use Rattle.osact.specs.Seen.{Seen, seen_of}
+use Rattle.osact.specs.Seen.{AllCores, Seen, all_cores, seen_of}
 
 -- One act: a line is printed, something happens without a line, or an envelope joins the outbox, with the next number
 -- for its core. [own]
@@ -24,7 +24,7 @@ act (Notes n) h = Noted n ∷ h
 act (Sends core message) h = Noted (Queued core (envelope_with (queued_count core h) message)) ∷ h
 
 -- Acts: none, one and then others, some and then others, of two the first where a test holds, of two the first where a
--- core was started, and those that follow from what is read now. [own]
+-- core was started, and those that follow from what is read now of the core itself, or of all cores. [own]
 pub data Acts : Type 0 where
   nothing : Acts
   one_then : Act → Acts → Acts
@@ -32,6 +32,7 @@ pub data Acts : Type 0 where
   when : Bool → Acts → Acts → Acts
   if_started : CoreId → Acts → Acts → Acts
   look : (Seen → Acts) → Acts
+  look_around : (AllCores → Acts) → Acts
 
 -- The history after them.
 abbrev pub does : Acts → View → History → History
@@ -41,6 +42,7 @@ does (both x y) v h = does y v (does x v h)
 does (when b x y) v h = if b then does x v h else does y v h
 does (if_started core x y) v h = if knows_started h core then does x v h else does y v h
 does (look f) v h = does (f (seen_of v h)) v h
+does (look_around f) v h = does (f (all_cores v h)) v h
 
 -- A line alone, and a note alone.
 abbrev pub prints : Mark → Acts

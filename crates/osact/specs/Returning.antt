@@ -1,9 +1,10 @@
 -- How services return to their callers, and ask other cores.
 --
 -- The lines of a call are: effects, the status, the error hook, and then dispatch.
-use Rattle.std.specs.Prelude.{Option, None, ℤ, List}
+use Rattle.std.specs.Prelude.{Bool, true, false, Option, None, ℤ, List}
 use Rattle.osbase.specs.declared.statuses.Status.{Status}
 use Rattle.osbase.specs.declared.statuses.ServiceId.{ServiceId}
+use Rattle.osbase.specs.declared.statuses.ServiceId.TheVariants as Service
 use Rattle.osbase.specs.declared.references.CoreId.{CoreId}
 use Rattle.osbase.specs.declared.references.Runner.{Runner}
 use Rattle.osbase.specs.declared.messages.RemoteCall.{RemoteCall}
@@ -19,11 +20,20 @@ use Rattle.osact.specs.Checks.{Check, first_failing, is_ok_status}
 abbrev pub reports : Status → Acts
 reports status = when (is_ok_status status) nothing (prints (Mark.ErrorHook status))
 
+-- No error of StartCore calls ErrorHook. [AUTOSAR SWS OS 4.x, SWS_Os_00681]
+abbrev pub calls_no_hook : ServiceId → Bool
+calls_no_hook Service.StartCore = true
+calls_no_hook service = false
+
+-- A status of a service calls ErrorHook, unless its errors call none.
+abbrev pub reports_of : ServiceId → Status → Acts
+reports_of service status = when (calls_no_hook service) nothing (reports status)
+
 -- A service returns to the runner's job: its status is printed, then ErrorHook is called, and the job stands
 -- at its next operation. [OSEK/VDX OS 2.2.3, section 11.2]
 abbrev pub returns : Runner → ServiceId → Status → Option ℤ → Acts
 returns r service status value =
-    both (prints (returned r service status value)) (both (reports status) (notes (Done r status value)))
+    both (prints (returned r service status value)) (both (reports_of service status) (notes (Done r status value)))
 
 -- A service whose checks are these: it has its effect, or returns the status of the first check that fails and has no
 -- other effect. [OSEK/VDX OS 2.2.3, section 11.2]

@@ -11,8 +11,9 @@ use Rattle.osbase.specs.declared.histories.Course.{Course}
 use Rattle.osbase.specs.declared.histories.Job.{Job}
 use Rattle.osbase.specs.declared.histories.OpenCall.{OpenCall}
 use Rattle.osbase.specs.declared.items.Agreement.{Agreement}
+use Rattle.osbase.specs.declared.items.CoreSet.{CoreSet}
 use Rattle.osbase.specs.Counting.{TableState}
-use Rattle.osbase.specs.History.{History, agreement_of, course_of, job_count, live_jobs, open_call, same_core}
+use Rattle.osbase.specs.History.{History, agreement_of, course_of, job_count, live_jobs, open_call, same_core, started_cores}
 use Rattle.oscript.specs.Runners.{Row}
 use Rattle.osplan.specs.declared.plans.Core.{Core}
 use Rattle.osplan.specs.View.{View}
@@ -29,7 +30,8 @@ pub record Seen : Type 0 where
   -- the core's number and its own part of the configuration
   pub id : CoreId
   pub core : Core
-  -- how many jobs of a runner are live, and its row: what its oldest job holds, its events, and where that job stands
+  -- how many jobs of a runner are live, and its row: what its oldest job holds, its events, where that job stands, how often it has
+  -- suspended interrupts, and how many ticks of its budget it has used
   pub jobs : Runner → ℕ
   pub row : Runner → Row
   -- whether a job holds the resource of this index
@@ -76,6 +78,14 @@ seen_of v h = record {
   running = option_map (λ (j : Job). j.runner) (running v h);
   awaits = open_call h;
 }
+
+-- What a core may read of all cores: which are configured, and which were started. No separate core reads it. [own]
+pub record AllCores : Type 0 where
+  pub configured : List CoreId
+  pub started : CoreSet
+
+abbrev pub all_cores : View → History → AllCores
+all_cores v h = record { configured = v.around.cores; started = started_cores h }
 
 -- The object is one of this core's.
 abbrev pub is_own : Seen → CoreId → Bool

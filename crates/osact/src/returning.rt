@@ -9,7 +9,7 @@ ghost use Rattle.osstate.specs.Does.{Effects, HasRoom};
 ghost use Rattle.osact.specs.Terms.{MayAct};
 ghost use Rattle.osact.specs.Acts.{does};
 ghost use Rattle.osact.specs.Checks.{is_ok_status};
-ghost use Rattle.osact.specs.Returning.{asks, reports, returns};
+ghost use Rattle.osact.specs.Returning.{asks, calls_no_hook, reports, reports_of, returns};
 
 use osbase::{Awaited, CoreId, Mark, Message, OpenCall, RemoteCall, Runner, ServiceId, Status};
 use osstate::CoreState;
@@ -52,6 +52,28 @@ pub fn report<const P: usize, const J: usize, const OUT: usize>(
     }
 }
 
+// No error of StartCore calls ErrorHook (AUTOSAR SWS OS 4.x, SWS_Os_00681).
+fn calls_no_hook(service: ServiceId) -> bool
+    ensures { result ≡ calls_no_hook service }
+{
+    matches!(service, ServiceId::StartCore)
+}
+
+// A status of a service calls ErrorHook, unless its errors call none.
+fn report_of<const P: usize, const J: usize, const OUT: usize>(
+    state: &mut CoreState<'_, P, J, OUT>,
+    service: ServiceId,
+    status: Status,
+    marks: &mut Vec<Mark>,
+)
+    requires { HasRoom 1 1 state.old marks.old }
+    ensures { Effects 1 1 (does (reports_of service status)) state.old state.new marks.old marks.new }
+{
+    if !calls_no_hook(service) {
+        report(state, status, marks);
+    }
+}
+
 // The line of a service that returned.
 fn mark_of(runner: Runner, service: ServiceId, answer: Answer) -> Mark
     ensures mark { result ≡ returned runner service answer.status answer.value }
@@ -84,7 +106,7 @@ pub fn finish<const P: usize, const J: usize, const OUT: usize>(
     ensures { Effects 3 2 (does (returns runner service answer.status answer.value)) state.old state.new marks.old marks.new }
 {
     state.print(mark_of(runner, service, answer), marks);
-    report(state, answer.status, marks);
+    report_of(state, service, answer.status, marks);
     state.complete(runner, answer.status, answer.value);
 }
 

@@ -2,3 +2,4 @@ pub mod Same
 pub mod Phasing
 pub mod Tables
 pub mod Places
+pub mod StatusNumbers

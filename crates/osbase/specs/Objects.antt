@@ -1,5 +1,6 @@
 -- Objects of every kind, and which of them a call across cores names.
 use Rattle.std.specs.Prelude.{ℕ, ◌==◌, ◌&&◌, Bool, true, false}
+use Rattle.osbase.specs.declared.references.ModeId.{ModeId}
 use Rattle.osbase.specs.declared.references.TaskRef.{TaskRef}
 use Rattle.osbase.specs.declared.references.IsrRef.{IsrRef}
 use Rattle.osbase.specs.declared.references.ResourceRef.{ResourceRef}
@@ -7,8 +8,9 @@ use Rattle.osbase.specs.declared.references.CounterRef.{CounterRef}
 use Rattle.osbase.specs.declared.references.AlarmRef.{AlarmRef}
 use Rattle.osbase.specs.declared.references.TableRef.{TableRef}
 use Rattle.osbase.specs.declared.objects.ObjectKind.{ObjectKind}
-use Rattle.osbase.specs.declared.objects.ObjectKind.TheVariants.{Task, Isr, Resource, Counter, Alarm, Table}
+use Rattle.osbase.specs.declared.objects.ObjectKind.TheVariants.{Mode, Task, Isr, Resource, Counter, Alarm, Table}
 use Rattle.osbase.specs.declared.objects.Place.{Place}
+use Rattle.osbase.specs.declared.objects.TheConstants.{NOBODY}
 use Rattle.osbase.specs.declared.objects.Object.{Object}
 use Rattle.osbase.specs.declared.messages.RemoteCall.{RemoteCall}
 use Rattle.osbase.specs.declared.messages.RemoteCall.TheVariants.{ActivateTask, SetEvent, SetRelAlarm, SetAbsAlarm, CancelAlarm, GetAlarm}
@@ -17,6 +19,7 @@ use Rattle.osbase.specs.History.{same_core}
 
 -- Equality of kinds.
 abbrev pub same_kind : ObjectKind → ObjectKind → Bool
+same_kind Mode Mode = true
 same_kind Task Task = true
 same_kind Isr Isr = true
 same_kind Resource Resource = true
@@ -37,6 +40,12 @@ abbrev pub object_at : ObjectKind → Place → Object
 object_at kind place = record { kind = kind; place = place }
 
 -- Where a reference's object stands, and the reference of a place. [own]
+abbrev pub mode_place : ModeId → Place
+mode_place m = place_on NOBODY m.index
+
+abbrev pub mode_of : Place → ModeId
+mode_of p = record { index = p.index }
+
 abbrev pub task_place : TaskRef → Place
 task_place t = place_on t.core t.index
 
@@ -72,6 +81,9 @@ table_place s = place_on s.core s.index
 
 abbrev pub table_of : Place → TableRef
 table_of p = record { core = p.core; index = p.index }
+
+abbrev pub mode_object : ModeId → Object
+mode_object m = object_at Mode (mode_place m)
 
 abbrev pub task_object : TaskRef → Object
 task_object t = object_at Task (task_place t)

@@ -1,5 +1,5 @@
 -- The printed words and numbers of statuses and services.
-use Rattle.std.specs.Prelude.{ℕ, List, codes}
+use Rattle.std.specs.Prelude.{ℕ, Option, List, [], ◌∷◌, codes, slice_get}
 use Rattle.osbase.specs.declared.statuses.Status.{Status}
 use Rattle.osbase.specs.declared.statuses.Status.TheVariants.{EOk, EOsAccess, EOsCallevel, EOsId, EOsLimit, EOsNofunc, EOsResource, EOsState, EOsValue, EOsMissingend, EOsDisabledint, EOsProtectionTime, EOsCore, EOsSpinlock, EOsInterferenceDeadlock, EOsNestingDeadlock}
 use Rattle.osbase.specs.declared.statuses.ServiceId.{ServiceId}
@@ -23,6 +23,14 @@ status_number EOsCore = 12
 status_number EOsSpinlock = 13
 status_number EOsInterferenceDeadlock = 14
 status_number EOsNestingDeadlock = 15
+
+-- The statuses in the order of their numbers.
+abbrev pub statuses : List Status
+statuses = EOk ∷ EOsAccess ∷ EOsCallevel ∷ EOsId ∷ EOsLimit ∷ EOsNofunc ∷ EOsResource ∷ EOsState ∷ EOsValue ∷ EOsMissingend ∷ EOsDisabledint ∷ EOsProtectionTime ∷ EOsCore ∷ EOsSpinlock ∷ EOsInterferenceDeadlock ∷ EOsNestingDeadlock ∷ []
+
+-- The status of a number, if one has it.
+abbrev pub status_numbered : ℕ → Option Status
+status_numbered number = slice_get statuses number
 
 -- The word of a status, as the standards spell it.
 abbrev pub status_name : Status → List ℕ

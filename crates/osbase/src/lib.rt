@@ -26,7 +26,7 @@ pub use lists::{List, Name};
 pub use marks::Mark;
 pub use messages::{Envelope, Message, RemoteCall};
 pub use names::is_name;
-pub use objects::{Object, ObjectKind, Place, Reference};
+pub use objects::{NOBODY, Object, ObjectKind, Place, Reference};
 pub use references::{
     AlarmRef, CoreId, CounterRef, IsrRef, ModeId, ResourceRef, Runner, SpinlockId, TableRef,
     TaskRef, Variable,

@@ -1,16 +1,20 @@
 //! Objects of every kind, as the operations of scripts and the calls across cores name them.
 
 ghost use Rattle.std.specs.Prelude.{◌≡◌};
-ghost use Rattle.osbase.specs.Objects.{alarm_of, alarm_place, counter_of, counter_place, isr_of, isr_place, object_at, resource_of, resource_place, same_kind, table_of, table_place, task_of, task_place};
+ghost use Rattle.osbase.specs.Objects.{alarm_of, alarm_place, counter_of, counter_place, isr_of, isr_place, mode_of, mode_place, object_at, resource_of, resource_place, same_kind, table_of, table_place, task_of, task_place};
 ghost use Rattle.osbase.specs.declared.objects.ObjectKind.{ObjectKind as KindValue};
 ghost use Rattle.osbase.specs.declared.objects.ObjectKind.TheVariants as kinds;
 ghost use Rattle.osbase.specs.declared.objects.Place.{Place as PlaceValue};
 
-use crate::references::{AlarmRef, CoreId, CounterRef, IsrRef, ResourceRef, TableRef, TaskRef};
+use crate::references::{
+    AlarmRef, CoreId, CounterRef, IsrRef, ModeId, ResourceRef, TableRef, TaskRef,
+};
 
-/// The kinds of objects that a core has. Operations and calls name all of them but ISRs.
+/// The kinds of objects: those that a core has, of which operations and calls name all but ISRs, and those that all
+/// cores have in common, the application modes.
 #[derive(Clone, Copy, Debug, PartialEq, Eq)]
 pub enum ObjectKind {
+    Mode,
     Task,
     Isr,
     Resource,
@@ -28,7 +32,10 @@ impl ObjectKind {
     }
 }
 
-/// Where an object stands: its core, and its place among that core's objects of its kind.
+/// The number under which objects stand that all cores have in common. No configured core has it.
+pub const NOBODY: CoreId = CoreId { number: 255 };
+
+/// Where an object stands: its core, or `NOBODY`, and its place among the objects of its kind there.
 #[derive(Clone, Copy, Debug, PartialEq, Eq)]
 pub struct Place {
     pub core: CoreId,
@@ -42,7 +49,7 @@ pub struct Object {
     pub place: Place,
 }
 
-/// A reference to an object of one kind on a core (OSEK/VDX OS 2.2.3, section 13, the types of objects).
+/// A reference to an object of one kind (OSEK/VDX OS 2.2.3, section 13, the types of objects).
 pub trait Reference: Copy {
     /// The kind of its object.
     const KIND: ObjectKind;
@@ -68,6 +75,29 @@ pub trait Reference: Copy {
         Object {
             kind: Self::KIND,
             place: self.place(),
+        }
+    }
+}
+
+impl Reference for ModeId {
+    const KIND: ObjectKind = ObjectKind::Mode;
+
+    ghost KIND = { kinds.Mode };
+
+    ghost place_of = { mode_place };
+
+    ghost ref_of = { mode_of };
+
+    fn at(place: Place) -> Self {
+        let Place { index, .. } = place;
+        ModeId { index }
+    }
+
+    fn place(self) -> Place {
+        let ModeId { index } = self;
+        Place {
+            core: NOBODY,
+            index,
         }
     }
 }

@@ -1,7 +1,7 @@
 //! Statuses and services, with the words that a trace prints for them.
 
 ghost use Rattle.std.specs.Prelude.{◌≡◌};
-ghost use Rattle.osbase.specs.Words.{status_number, status_name, service_name};
+ghost use Rattle.osbase.specs.Words.{service_name, status_name, status_number, status_numbered};
 
 /// What a service answers (OSEK/VDX OS 2.2.3, StatusType; AUTOSAR SWS OS 4.x, StatusType).
 /// The numbers 0 to 8 are OSEK's; the others are this project's own.
@@ -31,6 +31,32 @@ impl Status {
         ensures { result ≡ status_number self }
     {
         self as u8
+    }
+
+    /// The status of this number, if one has it: 0 to 15.
+    pub fn numbered(number: u64) -> Option<Status>
+        ensures { result ≡ status_numbered number }
+    {
+        let status = match number {
+            0 => Status::EOk,
+            1 => Status::EOsAccess,
+            2 => Status::EOsCallevel,
+            3 => Status::EOsId,
+            4 => Status::EOsLimit,
+            5 => Status::EOsNofunc,
+            6 => Status::EOsResource,
+            7 => Status::EOsState,
+            8 => Status::EOsValue,
+            9 => Status::EOsMissingend,
+            10 => Status::EOsDisabledint,
+            11 => Status::EOsProtectionTime,
+            12 => Status::EOsCore,
+            13 => Status::EOsSpinlock,
+            14 => Status::EOsInterferenceDeadlock,
+            15 => Status::EOsNestingDeadlock,
+            _ => return None,
+        };
+        Some(status)
     }
 
     /// The word that a trace prints.

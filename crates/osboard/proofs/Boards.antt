@@ -10,7 +10,8 @@ use prog.Atomic.{either}
 use Rattle.osbase.specs.declared.references.CoreId.{CoreId}
 use Rattle.osbase.specs.declared.statuses.Status.{Status}
 use Rattle.osbase.specs.declared.statuses.Status.TheVariants.{EOk, EOsAccess, EOsCallevel, EOsId, EOsLimit, EOsNofunc, EOsResource, EOsState, EOsValue, EOsMissingend, EOsDisabledint, EOsProtectionTime, EOsCore, EOsSpinlock, EOsInterferenceDeadlock, EOsNestingDeadlock}
-use Rattle.osbase.specs.Words.{status_number}
+use Rattle.osbase.specs.Words.{status_number, status_numbered}
+use Rattle.osbase.proofs.StatusNumbers.{status_back}
 use Rattle.osbase.specs.declared.items.CoreMode.{CoreMode}
 use Rattle.osbase.specs.declared.items.CoreMode.TheVariants.{Named, DontCare}
 use Rattle.osseat.specs.declared.histories.Entry.{Entry}
@@ -25,7 +26,7 @@ use Rattle.osboard.specs.declared.calls.BoardCall.TheVariants.{Start, Enter, Mak
 use Rattle.osboard.specs.declared.calls.BoardReply.{BoardReply}
 use Rattle.osboard.specs.declared.calls.BoardReply.TheVariants.{Started, Shown, Decided, Halting}
 use Rattle.osboard.specs.Boards.{IsLook, IsMode, ask_halt_call, first_board, with_mode, view_after, halt_after, first_asked, board_after, board_reply, one_board, start_answer}
-use Rattle.osboard.specs.Words.{flags_in, view_in, mode_bits, status_numbered, halt_word, asked_by, halt_in, Stands, answer}
+use Rattle.osboard.specs.Words.{flags_in, view_in, mode_bits, halt_word, asked_by, halt_in, Stands, answer}
 use Rattle.osboard.proofs.Flags.{flags_stay, flag_comes}
 
 -- a step on the phase word that does what the call does to the sets
@@ -161,24 +162,6 @@ pub look_halt_steps : (core : CoreId) → IsStep one_board Stands answer core Lo
 look_halt_steps core = halt_steps core LookHalt (λ n. n) (λ n told. refl) (λ n told. told) (λ view. refl) (λ board n is. ap Halting (sym is))
 
 -- who asks is read back from the halt word
-status_back : (status : Status) → status_numbered (status_number status) ≡ Some status
-status_back EOk = refl
-status_back EOsAccess = refl
-status_back EOsCallevel = refl
-status_back EOsId = refl
-status_back EOsLimit = refl
-status_back EOsNofunc = refl
-status_back EOsResource = refl
-status_back EOsState = refl
-status_back EOsValue = refl
-status_back EOsMissingend = refl
-status_back EOsDisabledint = refl
-status_back EOsProtectionTime = refl
-status_back EOsCore = refl
-status_back EOsSpinlock = refl
-status_back EOsInterferenceDeadlock = refl
-status_back EOsNestingDeadlock = refl
-
 status_low : (status : Status) → status_number status < 256
 status_low EOk = omega arith
 status_low EOsAccess = omega arith

@@ -1,14 +1,13 @@
 -- The two words of the board. [own]
-use Rattle.std.specs.Prelude.{◌≡◌, ◌==◌, ◌&&◌, ℕ, ◌+◌, ◌-◌, ◌*◌, ◌/◌, ◌%◌, ◌^◌, nat_lt, Bool, true, false, if◌then◌else◌, Option, Some, None, List, [], ◌∷◌, length, map, slice_get, slice_index}
+use Rattle.std.specs.Prelude.{◌≡◌, ◌==◌, ◌&&◌, ℕ, ◌+◌, ◌-◌, ◌*◌, ◌/◌, ◌%◌, ◌^◌, nat_lt, Bool, true, false, if◌then◌else◌, Option, Some, None, List, [], ◌∷◌, length, map, slice_index}
 use Rattle.std.specs.List.{range_with_len}
 use Rattle.std.specs.Int.{bit_at}
 use Rattle.std.specs.Option.{is_some}
 use Rattle.osbase.specs.declared.statuses.Status.{Status}
-use Rattle.osbase.specs.declared.statuses.Status.TheVariants.{EOk, EOsAccess, EOsCallevel, EOsId, EOsLimit, EOsNofunc, EOsResource, EOsState, EOsValue, EOsMissingend, EOsDisabledint, EOsProtectionTime, EOsCore, EOsSpinlock, EOsInterferenceDeadlock, EOsNestingDeadlock}
 use Rattle.osbase.specs.declared.references.CoreId.{CoreId}
 use Rattle.osbase.specs.declared.items.CoreSet.{CoreSet}
 use Rattle.osbase.specs.declared.limits.TheConstants.{CORES, MODES}
-use Rattle.osbase.specs.Words.{status_number}
+use Rattle.osbase.specs.Words.{status_number, status_numbered}
 use Rattle.osbase.specs.declared.items.CoreMode.{CoreMode}
 use Rattle.osbase.specs.declared.items.CoreMode.TheVariants.{Named, DontCare}
 use Rattle.osboard.specs.declared.calls.TheConstants.{BOARD_CORES}
@@ -43,13 +42,6 @@ view_in word = record {
 abbrev pub mode_bits : CoreMode → ℕ
 mode_bits (Named mode) = 2 ^ (32 + mode.index)
 mode_bits DontCare = 0
-
-abbrev pub statuses : List Status
-statuses = EOk ∷ EOsAccess ∷ EOsCallevel ∷ EOsId ∷ EOsLimit ∷ EOsNofunc ∷ EOsResource ∷ EOsState ∷ EOsValue ∷ EOsMissingend ∷ EOsDisabledint ∷ EOsProtectionTime ∷ EOsCore ∷ EOsSpinlock ∷ EOsInterferenceDeadlock ∷ EOsNestingDeadlock ∷ []
-
--- The status of a number.
-abbrev pub status_numbered : ℕ → Option Status
-status_numbered number = slice_get statuses number
 
 -- The halt word: 0, or one more than 256 times the number of the core that asked, and the status' number.
 abbrev pub halt_word : CoreId → Status → ℕ

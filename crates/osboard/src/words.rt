@@ -4,7 +4,7 @@ ghost use Rattle.std.specs.Prelude.{◌≡◌, ◌<◌, ◌≤◌, ◌+◌, ◌^
 ghost use Rattle.osbase.specs.declared.limits.TheConstants.{MODES};
 ghost use Rattle.osboard.specs.declared.calls.TheConstants.{BOARD_CORES};
 ghost use Rattle.osboard.specs.Boards.{IsMode};
-ghost use Rattle.osboard.specs.Words.{cores_in, flags_in, halt_in, halt_word, has_bit, mode_bits, status_numbered, view_in};
+ghost use Rattle.osboard.specs.Words.{cores_in, flags_in, halt_in, halt_word, has_bit, mode_bits, view_in};
 
 use crate::calls::{BOARD_CORES, BoardView, ModeSet};
 use osbase::{CoreId, CoreMode, CoreSet, Status};
@@ -101,33 +101,7 @@ pub fn halt_in(word: u64) -> Option<(CoreId, Status)>
     ensures { result ≡ halt_in word }
 {
     let code = word.checked_sub(1)?;
-    let status = status_numbered(code % 256)?;
+    let status = Status::numbered(code % 256)?;
     let number = u8::try_from(code / 256).ok()?;
     Some((CoreId { number }, status))
-}
-
-// The status of a number.
-fn status_numbered(number: u64) -> Option<Status>
-    ensures { result ≡ status_numbered number }
-{
-    let status = match number {
-        0 => Status::EOk,
-        1 => Status::EOsAccess,
-        2 => Status::EOsCallevel,
-        3 => Status::EOsId,
-        4 => Status::EOsLimit,
-        5 => Status::EOsNofunc,
-        6 => Status::EOsResource,
-        7 => Status::EOsState,
-        8 => Status::EOsValue,
-        9 => Status::EOsMissingend,
-        10 => Status::EOsDisabledint,
-        11 => Status::EOsProtectionTime,
-        12 => Status::EOsCore,
-        13 => Status::EOsSpinlock,
-        14 => Status::EOsInterferenceDeadlock,
-        15 => Status::EOsNestingDeadlock,
-        _ => return None,
-    };
-    Some(status)
 }

@@ -5,6 +5,7 @@ mod given;
 mod hostile;
 mod isrs;
 mod limits;
+mod modes;
 mod names;
 mod numbers;
 mod operations;
@@ -202,6 +203,12 @@ fn texts_that_are_no_configurations(rt: HostRuntime) -> Result<(), Fail> {
 fn texts_at_limits(rt: HostRuntime) -> Result<(), Fail> {
     let tables: &[Table] = &[(Reader::Configuration, "@", limits::TEXTS)];
     play_all(&rt, rt.alloc(), tables, 136)
+}
+
+#[test]
+fn texts_with_modes(rt: HostRuntime) -> Result<(), Fail> {
+    let tables: &[Table] = &[(Reader::Configuration, "@", modes::TEXTS)];
+    play_all(&rt, rt.alloc(), tables, 143)
 }
 
 #[test]

@@ -1,13 +1,15 @@
 -- The grammar of operations: a row for each. An operation as its verb and its arguments, and the objects that it names.
-use Rattle.std.specs.Prelude.{ℕ, ◌&&◌, nat_le, ℤ, pos, negsuc, Bool, true, false, if◌then◌else◌, Option, Some, None, List, [], ◌∷◌, codes, option_map, filter_map, slice_get}
+use Rattle.std.specs.Prelude.{ℕ, ◌&&◌, nat_le, ℤ, pos, negsuc, Bool, true, false, if◌then◌else◌, Option, Some, None, List, [], ◌∷◌, codes, option_map, filter_map, slice_get, unwrap_or}
 use Rattle.std.specs.List.{list_all}
+use Rattle.std.specs.Option.{option_map_or}
 use Rattle.osbase.specs.Objects.{alarm_of, alarm_place, counter_of, counter_place, resource_of, resource_place, same_kind, table_of, table_place, task_of, task_place}
-use Rattle.osbase.specs.Words.{service_name}
+use Rattle.osbase.specs.Words.{service_name, status_number, status_numbered}
 use Rattle.osbase.specs.declared.objects.Object.{Object as Named}
 use Rattle.osbase.specs.declared.objects.ObjectKind.{ObjectKind}
 use Rattle.osbase.specs.declared.objects.ObjectKind.TheVariants.{Task, Resource, Counter, Alarm, Table}
 use Rattle.osbase.specs.declared.objects.Place.{Place}
 use Rattle.osbase.specs.declared.references.AlarmRef.{AlarmRef}
+use Rattle.osbase.specs.declared.references.CoreId.{CoreId}
 use Rattle.osbase.specs.declared.references.CounterRef.{CounterRef}
 use Rattle.osbase.specs.declared.references.ResourceRef.{ResourceRef}
 use Rattle.osbase.specs.declared.references.TableRef.{TableRef}
@@ -15,15 +17,17 @@ use Rattle.osbase.specs.declared.references.TaskRef.{TaskRef}
 use Rattle.osbase.specs.declared.references.Variable.{Variable as VariableRef}
 use Rattle.osbase.specs.declared.statuses.ServiceId.TheVariants as Service
 use Rattle.osbase.specs.declared.statuses.ServiceId.{ServiceId}
+use Rattle.osbase.specs.declared.statuses.Status.{Status}
+use Rattle.osbase.specs.declared.statuses.Status.TheVariants.{EOk}
 use Rattle.oscript.specs.declared.Op.{Op}
-use Rattle.oscript.specs.declared.rows.Arg.TheVariants.{Object, Mask, Number, Int, Variable}
+use Rattle.oscript.specs.declared.rows.Arg.TheVariants.{Core, Object, Mask, Number, Int, Variable}
 use Rattle.oscript.specs.declared.rows.Arg.{Arg}
 use Rattle.oscript.specs.declared.rows.Args.TheVariants.{Zero, One, Two, Three}
 use Rattle.oscript.specs.declared.rows.Args.{Args}
 use Rattle.oscript.specs.declared.rows.Form.{Form}
 use Rattle.oscript.specs.declared.rows.Kind.{Kind}
 use Rattle.oscript.specs.declared.rows.Row.{Row}
-use Rattle.oscript.specs.declared.rows.TheConstants.{ALARM, COUNTER, POSITION, RESOURCE, TABLE, TASK, TICKS}
+use Rattle.oscript.specs.declared.rows.TheConstants.{ALARM, COUNTER, POSITION, RESOURCE, STATUS, TABLE, TASK, TICKS}
 use Rattle.oscript.specs.declared.rows.Verb.{Verb}
 
 -- The arguments, from the left.
@@ -76,6 +80,10 @@ row_of Verb.StopScheduleTable = service_row Service.StopScheduleTable (One TABLE
 row_of Verb.GetScheduleTableStatus = service_row Service.GetScheduleTableStatus (Two TABLE Kind.Variable)
 row_of Verb.SuspendAllInterrupts = plain_row (codes "SuspendAllInterrupts") Zero
 row_of Verb.ResumeAllInterrupts = plain_row (codes "ResumeAllInterrupts") Zero
+row_of Verb.StartCore = service_row Service.StartCore (One Kind.Core)
+row_of Verb.GetNumberOfActivatedCores = plain_row (codes "GetNumberOfActivatedCores") (One Kind.Variable)
+row_of Verb.ShutdownOs = plain_row (codes "ShutdownOS") (One STATUS)
+row_of Verb.ShutdownAllCores = plain_row (codes "ShutdownAllCores") (One STATUS)
 
 abbrev pub word_of : Verb → List ℕ
 word_of verb = (row_of verb).0
@@ -142,6 +150,17 @@ number_in arg = 0
 abbrev pub number_at : List (Arg Place) → ℕ → ℕ
 number_at args i = number_in (slice_get args i)
 
+-- The status of the number at this place: E_OK where no status has it.
+abbrev pub status_at : List (Arg Place) → ℕ → Status
+status_at args i = unwrap_or (status_numbered (number_at args i)) EOk
+
+abbrev pub core_in : Option (Arg Place) → Option CoreId
+core_in (Some (Core target)) = target
+core_in arg = None
+
+abbrev pub core_at : List (Arg Place) → ℕ → Option CoreId
+core_at args i = core_in (slice_get args i)
+
 abbrev pub variable_in : Option (Arg Place) → VariableRef
 variable_in (Some (Variable x)) = record { index = x }
 variable_in arg = record { index = 0 }
@@ -182,6 +201,10 @@ op_by Verb.StopScheduleTable args = Op.StopScheduleTable (table_at args 0)
 op_by Verb.GetScheduleTableStatus args = Op.GetScheduleTableStatus (table_at args 0) (variable_at args 1)
 op_by Verb.SuspendAllInterrupts args = Op.SuspendAllInterrupts
 op_by Verb.ResumeAllInterrupts args = Op.ResumeAllInterrupts
+op_by Verb.StartCore args = Op.StartCore (core_at args 0)
+op_by Verb.GetNumberOfActivatedCores args = Op.GetNumberOfActivatedCores (variable_at args 0)
+op_by Verb.ShutdownOs args = Op.ShutdownOs (status_at args 0)
+op_by Verb.ShutdownAllCores args = Op.ShutdownAllCores (status_at args 0)
 
 -- The operation of a form. [own]
 abbrev pub op_of : Verb × List (Arg Place) → Op
@@ -205,6 +228,10 @@ alarm_argument target = ref_argument Alarm alarm_place target
 
 abbrev pub table_argument : Option TableRef → Arg Place
 table_argument target = ref_argument Table table_place target
+
+-- A status is written as its number.
+abbrev pub status_argument : Status → Arg Place
+status_argument status = Number (status_number status)
 
 -- The form of an operation. [own]
 abbrev pub form_of_op : Op → Verb × List (Arg Place)
@@ -238,6 +265,10 @@ form_of_op (Op.StopScheduleTable target) = (Verb.StopScheduleTable, table_argume
 form_of_op (Op.GetScheduleTableStatus target x) = (Verb.GetScheduleTableStatus, table_argument target ∷ Variable x.index ∷ [])
 form_of_op Op.SuspendAllInterrupts = (Verb.SuspendAllInterrupts, [])
 form_of_op Op.ResumeAllInterrupts = (Verb.ResumeAllInterrupts, [])
+form_of_op (Op.StartCore target) = (Verb.StartCore, Core target ∷ [])
+form_of_op (Op.GetNumberOfActivatedCores x) = (Verb.GetNumberOfActivatedCores, Variable x.index ∷ [])
+form_of_op (Op.ShutdownOs status) = (Verb.ShutdownOs, status_argument status ∷ [])
+form_of_op (Op.ShutdownAllCores status) = (Verb.ShutdownAllCores, status_argument status ∷ [])
 
 -- ---- arguments of their kinds
 
@@ -253,6 +284,7 @@ is_of Kind.Mask (Mask mask) = nat_le mask 4294967295
 is_of (Kind.Number low high) (Number n) = nat_le low n && nat_le n high
 is_of Kind.Int (Int n) = is_int n
 is_of Kind.Variable (Variable x) = nat_le x 7
+is_of Kind.Core (Core target) = option_map_or (λ (core : CoreId). nat_le core.number 255) target true
 is_of kind arg = false
 
 abbrev pub are_of : List Kind → List (Arg Place) → Bool
@@ -274,6 +306,7 @@ object_in (Mask mask) = None
 object_in (Number n) = None
 object_in (Int z) = None
 object_in (Variable x) = None
+object_in (Core target) = None
 
 abbrev pub objects_in : List (Arg Place) → List Named
 objects_in args = filter_map object_in args
@@ -310,3 +343,15 @@ names_own_only (Op.NextScheduleTable from to) = true
 names_own_only (Op.StopScheduleTable target) = true
 names_own_only (Op.GetScheduleTableStatus target x) = true
 names_own_only op = false
+
+-- The operation asks how many cores are started, or calls StartCore: what it does hangs on what all cores share.
+-- [AUTOSAR SWS OS 4.x, SWS_Os_00672 and SWS_Os_00676]
+abbrev pub asks_shared : Op → Bool
+asks_shared (Op.StartCore target) = true
+asks_shared (Op.GetNumberOfActivatedCores x) = true
+asks_shared op = false
+
+-- The operation takes all cores down. [AUTOSAR SWS OS 4.x, SWS_Os_00713]
+abbrev pub halts_all : Op → Bool
+halts_all (Op.ShutdownAllCores status) = true
+halts_all op = false

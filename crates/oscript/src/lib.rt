@@ -9,7 +9,7 @@ ghost use Rattle.oscript.specs.Frames.{action_at, completed, new_frame, op_has_s
 
 pub use calls::{action_of_op, call_of_op, is_action, is_activation, op_of_call};
 use osbase::{
-    AlarmRef, CounterRef, List, ResourceRef, ServiceId, Status, TableRef, TaskRef, Variable,
+    AlarmRef, CoreId, CounterRef, List, ResourceRef, ServiceId, Status, TableRef, TaskRef, Variable,
 };
 pub use rows::{Arg, Args, Form, Kind, Row, VERBS, Verb, form_of_op, op_of, row_of, verb_of};
 
@@ -75,10 +75,20 @@ pub enum Op {
     StopScheduleTable(Option<TableRef>),
     /// GetScheduleTableStatus: the variable gets the number of the status (AUTOSAR SWS OS 4.x, SWS_Os_00227).
     GetScheduleTableStatus(Option<TableRef>, Variable),
-    /// SuspendAllInterrupts (OSEK/VDX OS 2.2.3, section 13.3.2.3).
+    /// SuspendAllInterrupts (OSEK/VDX OS 2.2.3, section 13.3.2.4).
     SuspendAllInterrupts,
-    /// ResumeAllInterrupts (OSEK/VDX OS 2.2.3, section 13.3.2.4).
+    /// ResumeAllInterrupts (OSEK/VDX OS 2.2.3, section 13.3.2.3).
     ResumeAllInterrupts,
+    /// StartCore of the core of this number, which a script calls too late: StartOS was called (AUTOSAR SWS OS 4.x,
+    /// SWS_Os_00676 and SWS_Os_00681).
+    StartCore(Option<CoreId>),
+    /// GetNumberOfActivatedCores: the variable gets the number of started cores (AUTOSAR SWS OS 4.x, SWS_Os_00672).
+    GetNumberOfActivatedCores(Variable),
+    /// ShutdownOS with this status, which takes the caller's core down (OSEK/VDX OS 2.2.3, section 13.7.2.3; AUTOSAR
+    /// SWS OS 4.x, ShutdownOS).
+    ShutdownOs(Status),
+    /// ShutdownAllCores with this status (AUTOSAR SWS OS 4.x, SWS_Os_00713).
+    ShutdownAllCores(Status),
 }
 
 impl Op {
@@ -109,6 +119,7 @@ impl Op {
             Op::GetCounterValue(_, variable) => Some(variable),
             Op::GetAlarm(_, variable) => Some(variable),
             Op::GetScheduleTableStatus(_, variable) => Some(variable),
+            Op::GetNumberOfActivatedCores(variable) => Some(variable),
             _ => None,
         }
     }

@@ -2,10 +2,10 @@
 //! that it names.
 
 ghost use Rattle.std.specs.Prelude.{◌≡◌, List, [], ◌∷◌, filter_map, option_map, slice_get};
-ghost use Rattle.oscript.specs.Rows.{alarm_argument, form_of_op, form_view, has_masks, int_at, items, mask_at, names_own_only, number_at, object_in, objects_of, op_of, place_at, plain_row, ref_argument, ref_at, row_of, row_view, service_row, uses_resource, variable_at};
+ghost use Rattle.oscript.specs.Rows.{alarm_argument, asks_shared, core_at, form_of_op, form_view, halts_all, has_masks, int_at, items, mask_at, names_own_only, number_at, object_in, objects_of, op_of, place_at, plain_row, ref_argument, ref_at, row_of, row_view, service_row, status_argument, status_at, uses_resource, variable_at};
 
 use crate::Op;
-use osbase::{AlarmRef, Object, ObjectKind, Place, Reference, ServiceId, Variable};
+use osbase::{AlarmRef, CoreId, Object, ObjectKind, Place, Reference, ServiceId, Status, Variable};
 
 /// What an argument of an operation has to be.
 #[derive(Clone, Copy, Debug, PartialEq, Eq)]
@@ -20,6 +20,8 @@ pub enum Kind {
     Int,
     /// A variable, `v0` to `v7`.
     Variable,
+    /// The number of a core, 0 to 255, configured or not, or `?`.
+    Core,
 }
 
 /// The arguments of an operation, or their kinds.
@@ -64,6 +66,10 @@ pub enum Verb {
     GetScheduleTableStatus,
     SuspendAllInterrupts,
     ResumeAllInterrupts,
+    StartCore,
+    GetNumberOfActivatedCores,
+    ShutdownOs,
+    ShutdownAllCores,
 }
 
 /// One row of the grammar: an operation's word, the kinds of its arguments, and the service that it
@@ -76,7 +82,7 @@ pub struct Row {
 }
 
 /// Every operation. A word is looked for from the front, so what scripts have most stands first.
-pub const VERBS: [Verb; 30] = [
+pub const VERBS: [Verb; 34] = [
     Verb::ActivateTask,
     Verb::TerminateTask,
     Verb::Work,
@@ -107,6 +113,10 @@ pub const VERBS: [Verb; 30] = [
     Verb::GetScheduleTableStatus,
     Verb::SuspendAllInterrupts,
     Verb::ResumeAllInterrupts,
+    Verb::StartCore,
+    Verb::GetNumberOfActivatedCores,
+    Verb::ShutdownOs,
+    Verb::ShutdownAllCores,
 ];
 
 /// A task's name, or `?`.
@@ -129,6 +139,9 @@ pub const TICKS: Kind = Kind::Number(0, 4294967295);
 
 /// A place in a script: that of an operation, or past the last of the most that there may be.
 pub const POSITION: Kind = Kind::Number(0, 256);
+
+/// The number of a status (`Status::numbered`).
+pub const STATUS: Kind = Kind::Number(0, 15);
 
 #[inline(always)]
 fn plain_row(word: &'static str, kinds: Args<Kind>) -> Row
@@ -201,10 +214,16 @@ pub fn row_of(verb: Verb) -> Row
         ),
         Verb::SuspendAllInterrupts => plain_row("SuspendAllInterrupts", Args::Zero),
         Verb::ResumeAllInterrupts => plain_row("ResumeAllInterrupts", Args::Zero),
+        Verb::StartCore => service_row(ServiceId::StartCore, Args::One(Kind::Core)),
+        Verb::GetNumberOfActivatedCores => {
+            plain_row("GetNumberOfActivatedCores", Args::One(Kind::Variable))
+        }
+        Verb::ShutdownOs => plain_row("ShutdownOS", Args::One(STATUS)),
+        Verb::ShutdownAllCores => plain_row("ShutdownAllCores", Args::One(STATUS)),
     }
 }
 
-/// An argument of an operation. In place of an object, `None` is the invalid identifier, `?`.
+/// An argument of an operation. In place of an object or a core, `None` is the invalid identifier, `?`.
 #[derive(Clone, Copy, Debug, PartialEq, Eq)]
 pub enum Arg<R> {
     Object(ObjectKind, Option<R>),
@@ -213,6 +232,7 @@ pub enum Arg<R> {
     Number(u32),
     Int(i64),
     Variable(u8),
+    Core(Option<CoreId>),
 }
 
 /// An operation as its verb and its arguments, whose objects are known as `R` says: by their names, or
@@ -296,6 +316,28 @@ fn number_at(args: Args<Arg<Place>>, i: usize) -> u32
     }
 }
 
+// The status of the number at this place: E_OK where no status has it.
+#[inline(always)]
+fn status_at(args: Args<Arg<Place>>, i: usize) -> Status
+    ensures { result ≡ status_at (items args) i }
+{
+    match Status::numbered(u64::from(number_at(args, i))) {
+        Some(status) => status,
+        None => Status::EOk,
+    }
+}
+
+// The core at this place.
+#[inline(always)]
+fn core_at(args: Args<Arg<Place>>, i: usize) -> Option<CoreId>
+    ensures { result ≡ core_at (items args) i }
+{
+    match args.get(i) {
+        Some(Arg::Core(target)) => target,
+        _ => None,
+    }
+}
+
 // The variable at this place.
 #[inline(always)]
 fn variable_at(args: Args<Arg<Place>>, i: usize) -> Variable
@@ -355,6 +397,10 @@ pub fn op_of(form: Form<Place>) -> Op
         }
         Verb::SuspendAllInterrupts => Op::SuspendAllInterrupts,
         Verb::ResumeAllInterrupts => Op::ResumeAllInterrupts,
+        Verb::StartCore => Op::StartCore(core_at(args, 0)),
+        Verb::GetNumberOfActivatedCores => Op::GetNumberOfActivatedCores(variable_at(args, 0)),
+        Verb::ShutdownOs => Op::ShutdownOs(status_at(args, 0)),
+        Verb::ShutdownAllCores => Op::ShutdownAllCores(status_at(args, 0)),
     }
 }
 
@@ -415,7 +461,17 @@ pub fn verb_of(op: Op) -> Verb
         Op::GetScheduleTableStatus(_, _) => Verb::GetScheduleTableStatus,
         Op::SuspendAllInterrupts => Verb::SuspendAllInterrupts,
         Op::ResumeAllInterrupts => Verb::ResumeAllInterrupts,
+        Op::StartCore(_) => Verb::StartCore,
+        Op::GetNumberOfActivatedCores(_) => Verb::GetNumberOfActivatedCores,
+        Op::ShutdownOs(_) => Verb::ShutdownOs,
+        Op::ShutdownAllCores(_) => Verb::ShutdownAllCores,
     }
+}
+
+fn status_argument(status: Status) -> Arg<Place>
+    ensures { result ≡ status_argument status }
+{
+    Arg::Number(u32::from(status.number()))
 }
 
 fn one(arg: Arg<Place>) -> Args<Arg<Place>>
@@ -461,6 +517,9 @@ fn args_of(op: Op) -> Args<Arg<Place>>
         Op::NextScheduleTable(from, to) => two(argument(from), argument(to)),
         Op::StopScheduleTable(target) => one(argument(target)),
         Op::GetScheduleTableStatus(target, x) => two(argument(target), variable_argument(x)),
+        Op::StartCore(target) => one(Arg::Core(target)),
+        Op::GetNumberOfActivatedCores(x) => one(variable_argument(x)),
+        Op::ShutdownOs(status) | Op::ShutdownAllCores(status) => one(status_argument(status)),
     }
 }
 
@@ -484,6 +543,7 @@ fn object_in(arg: Arg<Place>) -> Option<Object>
         Arg::Number(_) => None,
         Arg::Int(_) => None,
         Arg::Variable(_) => None,
+        Arg::Core(_) => None,
     }
 }
 
@@ -528,6 +588,21 @@ impl Op {
             Op::ReleaseResource(_) => true,
             _ => false,
         }
+    }
+
+    /// Whether the operation asks how many cores are started, or calls StartCore: what it does hangs on what all cores
+    /// share (AUTOSAR SWS OS 4.x, SWS_Os_00672 and SWS_Os_00676).
+    pub fn asks_shared(self) -> bool
+        ensures { result ≡ asks_shared self }
+    {
+        matches!(self, Op::StartCore(_) | Op::GetNumberOfActivatedCores(_))
+    }
+
+    /// Whether the operation takes all cores down (AUTOSAR SWS OS 4.x, SWS_Os_00713).
+    pub fn halts_all(self) -> bool
+        ensures { result ≡ halts_all self }
+    {
+        matches!(self, Op::ShutdownAllCores(_))
     }
 
     /// Whether the operation may name no object of another core.

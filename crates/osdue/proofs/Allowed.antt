@@ -24,6 +24,7 @@ use Rattle.ostable.specs.declared.tables.DueTable.{DueTable}
 use Rattle.ostable.specs.Waiting.{are_own}
 use Rattle.osact.specs.Acts.{Acts}
 use Rattle.osact.proofs.Kept.{AreAllowed, IsNamed, Leave, each-ok, elsewhere, for_each-ok, found-ok, is_within}
+use Rattle.osact.proofs.Partners.{Partner}
 use Rattle.oscall.specs.Border.{core_of_call}
 use Rattle.oscall.proofs.Allowed.{service-ok}
 use Rattle.osdue.specs.Advancing.{counts}
@@ -33,11 +34,11 @@ use Rattle.osdue.specs.Passing.{acts_each, begins_period, does_point, due_point,
 use Rattle.osdue.proofs.Actions.{alarm-passes, first-there, if-found, point-passes}
 
 -- The core of what an action is for is the own core, or one that may be asked.
-abbrev pub acts_within : View → (CoreId → Bool) → RemoteCall → Bool
+abbrev pub acts_within : View → (Partner → Bool) → RemoteCall → Bool
 acts_within v may action = is_within v may (core_of_call action)
 
 -- So it is of each action of the core's alarms and tables.
-abbrev pub ActionsAllow : View → (CoreId → Bool) → Type 0
+abbrev pub ActionsAllow : View → (Partner → Bool) → Type 0
 ActionsAllow v may = list_all (acts_within v may) (core_actions v.own) ≡ true
 
 module _ (l : Leave) (actions : ActionsAllow l.view l.may) where

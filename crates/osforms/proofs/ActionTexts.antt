@@ -9,7 +9,7 @@ use Rattle.osbase.specs.declared.objects.Place.{Place}
 use Rattle.osbase.specs.Objects.{place_on}
 use Rattle.oscript.specs.declared.Op.{Op}
 use Rattle.oscript.specs.declared.rows.Arg.{Arg}
-use Rattle.oscript.specs.declared.rows.Arg.TheVariants.{Object, Mask, Number, Int, Variable}
+use Rattle.oscript.specs.declared.rows.Arg.TheVariants.{Core, Object, Mask, Number, Int, Variable}
 use Rattle.oscript.specs.declared.rows.Kind.{Kind}
 use Rattle.oscript.specs.declared.rows.Verb.{Verb}
 use Rattle.oscript.specs.Rows.{form_of_op, kinds_of, op_of}
@@ -50,6 +50,7 @@ module _ (place : ObjectKind → List ℕ → Option Place) where
   arg-named (Number n) arg e = let is : Number n ≡ arg = cc in rw (← is) refl
   arg-named (Int z) arg e = let is : Int z ≡ arg = cc in rw (← is) refl
   arg-named (Variable x) arg e = let is : Variable x ≡ arg = cc in rw (← is) refl
+  arg-named (Core target) arg e = let is : Core target ≡ arg = cc in rw (← is) refl
 
   args-named : (shown : List (Arg (List ℕ))) (args : List (Arg Place)) → resolve_args place shown ≡ Some args → list_all is_named args ≡ list_all is_named shown
   args-named [] args e = let is : [] ≡ args = cc in rw (← is) refl

@@ -10,7 +10,7 @@ use Rattle.oscript.specs.declared.Op.TheVariants.{Work}
 use Rattle.oscript.specs.declared.rows.Arg.{Arg}
 use Rattle.oscript.specs.declared.rows.Arg.TheVariants.{Mask, Number}
 use Rattle.oscript.specs.declared.rows.Kind.{Kind}
-use Rattle.oscript.specs.declared.rows.TheConstants.{POSITION, TICKS}
+use Rattle.oscript.specs.declared.rows.TheConstants.{POSITION, STATUS, TICKS}
 use Rattle.oscript.specs.declared.rows.Verb.{Verb}
 use Rattle.oscript.specs.Rows as rows
 use Rattle.oscript.specs.Rows.{kinds_of, names_own_only, objects_of, op_of}
@@ -48,6 +48,7 @@ module _ (place : ObjectKind → List ℕ → Option Place) where
       (Mask (unwrap_or (number_in 1 4294967295 w) 0), rw decimal refl)
   arg-read Kind.Int w a e = (a, e)
   arg-read Kind.Variable w a e = (a, e)
+  arg-read Kind.Core w a e = (a, e)
 
   args-read : (ks : List Kind) (ws : List (List ℕ)) (args : List (Arg Place)) → args_meant place ks ws ≡ Some args → (read : List (Arg Place)) × (args_meant place (map unranged ks) ws ≡ Some read)
   args-read [] [] args e = ([], refl)
@@ -91,6 +92,12 @@ module _ (place : ObjectKind → List ℕ → Option Place) where
   verb-read Verb.SetAbsAlarm words args e = by-first Verb.SetAbsAlarm (λ first rest read. record { own = refl; objects = refl; masks = refl }) Alarm (TICKS ∷ TICKS ∷ []) words args e
   verb-read Verb.StartScheduleTableRel words args e = by-first Verb.StartScheduleTableRel (λ first rest read. record { own = refl; objects = refl; masks = refl }) Table (TICKS ∷ []) words args e
   verb-read Verb.StartScheduleTableAbs words args e = by-first Verb.StartScheduleTableAbs (λ first rest read. record { own = refl; objects = refl; masks = refl }) Table (TICKS ∷ []) words args e
+  verb-read Verb.ShutdownOs words args e =
+      let r = args-read (STATUS ∷ []) words args e in
+      (r.0, r.1, record { own = refl; objects = refl; masks = refl })
+  verb-read Verb.ShutdownAllCores words args e =
+      let r = args-read (STATUS ∷ []) words args e in
+      (r.0, r.1, record { own = refl; objects = refl; masks = refl })
   verb-read verb words args e = (args, e, same _)
 
   verb-alike : (words : List (List ℕ)) (verb : Verb) (op : Op) → verb_meant place words verb ≡ Some op → (other : Op) × (verb_named place words verb ≡ Some other) × AreAlike op other

@@ -1,18 +1,21 @@
 -- What is read as an argument of a kind is one of the kind.
-use Rattle.std.proofs.Common.{inl, inr, ◌≡◌, ℕ, ◌-◌, ◌==◌, ◌&&◌, ◌≤◌, ℤ, pos, negsuc, nat_le, true, Option, Some, None, option_map, unwrap_or, List, [], ◌∷◌, refl, sym, subst, arith}
+use Rattle.std.proofs.Common.{inl, inr, ◌≡◌, ℕ, ◌-◌, ◌==◌, ◌&&◌, ◌≤◌, ℤ, pos, negsuc, nat_le, true, Option, Some, None, option_map, unwrap_or, List, [], ◌∷◌, codes, refl, sym, subst, arith}
+use Rattle.std.specs.Option.{option_map_or}
+use Rattle.std.specs.Str.{bytes_eq}
 use Rattle.std.specs.Str.Parse.{digits_value}
 use Rattle.std.proofs.lemmas.Bool.{and_parts, and_from, le-leb, leb-true}
 use Rattle.osbase.specs.declared.objects.ObjectKind.{ObjectKind}
 use Rattle.osbase.specs.declared.objects.Place.{Place}
+use Rattle.osbase.specs.declared.references.CoreId.{CoreId}
 use Rattle.osbase.proofs.Same.{same_kind-self}
 use Rattle.oscript.specs.declared.rows.Kind.{Kind}
 use Rattle.oscript.specs.declared.rows.Verb.{Verb}
 use Rattle.oscript.specs.declared.rows.Arg.{Arg}
-use Rattle.oscript.specs.declared.rows.Arg.TheVariants.{Object, Mask, Number, Int, Variable}
+use Rattle.oscript.specs.declared.rows.Arg.TheVariants.{Core, Object, Mask, Number, Int, Variable}
 use Rattle.oscript.specs.Rows.{are_of, is_int, is_of, kinds_of}
 use Rattle.osforms.specs.Form.{arg_of, args_of, form_of_verb, form_of_words, verb_of}
 use Rattle.osforms.specs.Operation.{resolve_arg, resolve_args}
-use Rattle.osforms.specs.Word.{bounded, int_of, is_decimal, mask_of, number_in, target_of, variable_of}
+use Rattle.osforms.specs.Word.{bounded, core_numbered, core_of, int_of, is_decimal, mask_of, number_in, target_of, variable_of}
 use Rattle.osforms.proofs.KindTexts.{cond-some, either, mapped}
 use Rattle.osforms.proofs.RoundTrip.{both, chained}
 
@@ -60,6 +63,15 @@ variable-within (v ∷ d ∷ []) x e =
     rw (← same) (le-leb (d - 48) 7 (omega arith))
 variable-within (v ∷ d ∷ f ∷ fs) x e = cc
 
+core-within : (word : List ℕ) (target : Option CoreId) → core_of word ≡ Some target → option_map_or (λ (core : CoreId). nat_le core.number 255) target true ≡ true
+core-within word target e =
+    elim (either (bytes_eq word (codes "?")) (Some None) (option_map (λ n. Some (core_numbered n)) (number_in 0 255 word)) target e) as (λ _. option_map_or (λ (core : CoreId). nat_le core.number 255) target true ≡ true) [
+      | inl p ↦ let none : None ≡ target = cc in rw (← none) refl
+      | inr p ↦
+          let m = mapped (λ n. Some (core_numbered n)) (number_in 0 255 word) target p.1 in
+          rw (← m.2) (and_parts (nat_le 0 m.0) _ (number-between 0 255 word m.0 m.1)).1
+    ]
+
 -- ---- arguments
 
 module _ (place : ObjectKind → List ℕ → Option Place) where
@@ -91,6 +103,11 @@ module _ (place : ObjectKind → List ℕ → Option Place) where
       let found : resolve_arg place (Variable m.0) ≡ Some b = subst (λ (q : Arg (List ℕ)). resolve_arg place q ≡ Some b) (sym m.2) r in
       let is : Variable m.0 ≡ b = cc in
       rw (← is) (variable-within w m.0 m.1)
+  arg-fit Kind.Core w a b e r =
+      let m = mapped Core (core_of w) a e in
+      let found : resolve_arg place (Core m.0) ≡ Some b = subst (λ (q : Arg (List ℕ)). resolve_arg place q ≡ Some b) (sym m.2) r in
+      let is : Core m.0 ≡ b = cc in
+      rw (← is) (core-within w m.0 m.1)
 
   pub args-fit : (ks : List Kind) (ws : List (List ℕ)) (shown : List (Arg (List ℕ))) (args : List (Arg Place)) → args_of ks ws ≡ Some shown → resolve_args place shown ≡ Some args → are_of ks args ≡ true
   args-fit [] [] shown args e r =

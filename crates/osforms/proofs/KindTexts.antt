@@ -12,10 +12,11 @@ use Rattle.std.proofs.lemmas.Grind.{common_steps}
 use Rattle.oscript.specs.declared.rows.Kind.{Kind}
 use Rattle.osbase.specs.declared.objects.ObjectKind.{ObjectKind}
 use Rattle.oscript.specs.declared.rows.Arg.{Arg}
-use Rattle.oscript.specs.declared.rows.Arg.TheVariants.{Object, Mask, Number, Int, Variable}
+use Rattle.oscript.specs.declared.rows.Arg.TheVariants.{Core, Object, Mask, Number, Int, Variable}
 use Rattle.osbase.specs.Names.{is_name, is_name_part}
 use Rattle.oscript.specs.Rows.{is_int}
-use Rattle.osforms.specs.Word.{is_unpadded, is_decimal, mask_of, number_in, int_of, variable_of, target_of}
+use Rattle.osbase.specs.declared.references.CoreId.{CoreId}
+use Rattle.osforms.specs.Word.{core_numbered, core_of, is_unpadded, is_decimal, mask_of, number_in, int_of, variable_of, target_of}
 use Rattle.osforms.specs.Form.{arg_of, arg_text}
 use Rattle.osforms.proofs.Numerals.{own, int_of-plain, decimal-digits}
 use Rattle.osforms.proofs.Joining.{has_none, not-byte, all-none}
@@ -102,6 +103,15 @@ target-none byte word t apart e =
       | inr p ↦ all-none is_name_part byte word apart.part (name-parts word (cond-some (is_name word) (Some (Some word)) t p.1).0)
     ]
 
+-- ---- cores
+
+core-none : (byte : ℕ) (word : List ℕ) (target : Option CoreId) → IsApart byte → core_of word ≡ Some target → has_none byte word ≡ true
+core-none byte word target apart e =
+    elim (either (bytes_eq word (codes "?")) (Some None) (option_map (λ n. Some (core_numbered n)) (number_in 0 255 word)) target e) as (λ _. has_none byte word ≡ true) [
+      | inl p ↦ ap (has_none byte) ((bytes_eq-Decides word (codes "?")).0 p.0) ∙ and_from _ _ (not_from_false _ apart.invalid) refl
+      | inr p ↦ let m = mapped (λ n. Some (core_numbered n)) (number_in 0 255 word) target p.1 in number-none byte 0 255 word m.0 apart m.1
+    ]
+
 -- ---- any kind
 
 -- the limits of a kind fit
@@ -111,6 +121,7 @@ is_kind Kind.Mask = true
 is_kind (Kind.Number low high) = nat_le high 4294967295
 is_kind Kind.Int = true
 is_kind Kind.Variable = true
+is_kind Kind.Core = true
 
 -- what is read as an argument has no byte that no argument has
 pub arg_of-none : (byte : ℕ) (k : Kind) (word : List ℕ) (a : Arg (List ℕ)) → IsApart byte → arg_of k word ≡ Some a → has_none byte word ≡ true
@@ -119,6 +130,7 @@ arg_of-none byte Kind.Mask word a apart e = let m = mapped Mask (mask_of word) a
 arg_of-none byte (Kind.Number low high) word a apart e = let m = mapped Number (number_in low high word) a e in number-none byte low high word m.0 apart m.1
 arg_of-none byte Kind.Int word a apart e = let m = mapped Int (int_of word) a e in int-none byte word m.0 apart m.1
 arg_of-none byte Kind.Variable word a apart e = let m = mapped Variable (variable_of word) a e in variable-none byte word m.0 apart m.1
+arg_of-none byte Kind.Core word a apart e = let m = mapped Core (core_of word) a e in core-none byte word m.0 apart m.1
 
 -- ---- which arguments read back
 
@@ -174,6 +186,19 @@ variable-digit x most =
 
 pub variable-back : (x : ℕ) → x ≤ 7 → ReadsBack Kind.Variable (Variable x)
 variable-back x most = ap (λ ds. option_map Variable (variable_of (118 ∷ ds))) (decimal_digit x (omega arith)) ∙ ap (option_map Variable) (variable-digit x most)
+
+-- a number's word is not `?`
+decimal-known : (word : List ℕ) → list_all is_ascii_digit word ≡ true → bytes_eq word (codes "?") ≡ false
+decimal-known word digits =
+    elim (cases_Bool (bytes_eq word (codes "?"))) as (λ _. bytes_eq word (codes "?") ≡ false) [
+      | inl same ↦ absurd (true≢false (sym digits ∙ ap (list_all is_ascii_digit) ((bytes_eq-Decides word (codes "?")).0 same)))
+      | inr other ↦ other
+    ]
+
+pub core-back : (core : CoreId) → core.number ≤ 255 → ReadsBack Kind.Core (Core (Some core))
+core-back core most =
+    let known = decimal-known (decimal core.number) (digits_decimal own core.number (omega arith)) in
+    rw known (ap (λ o. option_map Core (option_map (λ n. Some (core_numbered n)) o)) (number-back 0 255 core.number (omega arith) most (omega arith)))
 
 minus-no-digit : (digits ys : List ℕ) → list_all is_ascii_digit digits ≡ true → digits ≡ 45 ∷ ys → ⊥
 minus-no-digit digits ys all is = let f : list_all is_ascii_digit (45 ∷ ys) ≡ true = ap (list_all is_ascii_digit) (sym is) ∙ all in cc

@@ -86,6 +86,7 @@ module _ (place : ObjectKind → List ℕ → Option Place) where
       (Mask (unwrap_or (number_in 1 4294967295 w) 0), rw decimal refl, ap (λ (b : Arg (List ℕ)). is_some (resolve_arg place b)) m.2)
   arg-loose Kind.Int w a e = (a, e, refl)
   arg-loose Kind.Variable w a e = (a, e, refl)
+  arg-loose Kind.Core w a e = (a, e, refl)
 
   args-loose : (ks : List Kind) (ws : List (List ℕ)) (shown : List (Arg (List ℕ))) → args_of ks ws ≡ Some shown
       → (loose : List (Arg (List ℕ))) × (args_of (map unranged ks) ws ≡ Some loose) × (is_some (resolve_args place loose) ≡ is_some (resolve_args place shown))

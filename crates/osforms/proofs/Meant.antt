@@ -11,8 +11,8 @@ use Rattle.oscript.specs.declared.rows.TheConstants.{VERBS}
 use Rattle.oscript.specs.declared.rows.Kind.{Kind}
 use Rattle.oscript.specs.declared.rows.Verb.{Verb}
 use Rattle.oscript.specs.declared.rows.Arg.{Arg}
-use Rattle.oscript.specs.declared.rows.Arg.TheVariants.{Object, Mask, Number, Int, Variable}
-use Rattle.osforms.specs.Word.{mask_of, number_in, int_of, variable_of}
+use Rattle.oscript.specs.declared.rows.Arg.TheVariants.{Core, Object, Mask, Number, Int, Variable}
+use Rattle.osforms.specs.Word.{core_of, mask_of, number_in, int_of, variable_of}
 use Rattle.osforms.specs.Form.{is_first, words_behind, words_of, arg_of, args_of, and_then_rest, verb_of, form_of_verb, form_of_words}
 use Rattle.osforms.specs.Operation.{resolve_arg, resolve_args, resolved, arg_meant, args_meant, place_of_any, last_of, verb_meant, op_meant, is_formed}
 use Rattle.osforms.proofs.LastWord.{last-word, lone-rest, rest-none}
@@ -119,6 +119,7 @@ any-arg Kind.Mask w = kept Mask (λ mask. refl) (mask_of w)
 any-arg (Kind.Number low high) w = kept Number (λ n. refl) (number_in low high w)
 any-arg Kind.Int w = kept Int (λ z. refl) (int_of w)
 any-arg Kind.Variable w = kept Variable (λ x. refl) (variable_of w)
+any-arg Kind.Core w = kept Core (λ target. refl) (core_of w)
 
 pub any-two : {A B : Type 0} (o : Option A) (p : Option B) (r : Option (List A)) (q : Option (List B)) → is_some o ≡ is_some p → is_some r ≡ is_some q → is_some (and_then_rest o r) ≡ is_some (and_then_rest p q)
 any-two None None r q e f = refl

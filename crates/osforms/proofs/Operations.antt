@@ -10,7 +10,7 @@ use Rattle.osbase.specs.Names.{is_name}
 use Rattle.oscript.specs.declared.Op.{Op}
 use Rattle.oscript.specs.declared.rows.Kind.{Kind}
 use Rattle.oscript.specs.declared.rows.Arg.{Arg}
-use Rattle.oscript.specs.declared.rows.Arg.TheVariants.{Object, Mask, Number, Int, Variable}
+use Rattle.oscript.specs.declared.rows.Arg.TheVariants.{Core, Object, Mask, Number, Int, Variable}
 use Rattle.oscript.specs.declared.rows.Verb.{Verb}
 use Rattle.oscript.specs.Rows as rows
 use Rattle.oscript.specs.Rows.{are_of, form_of_op, has_event, is_in_form, is_of, kinds_of, objects_in, objects_of, op_of}
@@ -19,7 +19,7 @@ use Rattle.osforms.specs.Form.{form_of, words_of}
 use Rattle.osforms.specs.Operation.{resolve_arg, resolve_args, resolved, named, op_meant, place_of_any, has_masks, is_formed, is_known, op_text}
 use Rattle.osforms.proofs.Alike.{named-alike}
 use Rattle.osforms.proofs.Joining.{has_none}
-use Rattle.osforms.proofs.KindTexts.{mapped, is_kind, ReadsBack, invalid-back, name-back, mask-back, number-back, int-back, variable-back, IsApart}
+use Rattle.osforms.proofs.KindTexts.{mapped, is_kind, ReadsBack, invalid-back, name-back, mask-back, number-back, int-back, variable-back, core-back, IsApart}
 use Rattle.osforms.proofs.Known.{form-known}
 use Rattle.osforms.proofs.Meant.{any_meant}
 use Rattle.osforms.proofs.Rows.{is-row, is-op}
@@ -67,6 +67,7 @@ module _ (place : ObjectKind → List ℕ → Option Place) (p : Named → Bool)
   arg-passes (Number n) arg args e all = let is : Number n ≡ arg = cc in rw (← is) all
   arg-passes (Int z) arg args e all = let is : Int z ≡ arg = cc in rw (← is) all
   arg-passes (Variable x) arg args e all = let is : Variable x ≡ arg = cc in rw (← is) all
+  arg-passes (Core target) arg args e all = let is : Core target ≡ arg = cc in rw (← is) all
 
   args-pass : (shown : List (Arg (List ℕ))) (args : List (Arg Place)) → resolve_args place shown ≡ Some args → list_all p (objects_in args) ≡ true
   args-pass [] args e = let is : [] ≡ args = cc in rw (← is) refl
@@ -98,6 +99,7 @@ module _ (place : ObjectKind → List ℕ → Option Place) where
   arg-event (Number n) arg e = let is : Number n ≡ arg = cc in rw (← is) refl
   arg-event (Int z) arg e = let is : Int z ≡ arg = cc in rw (← is) refl
   arg-event (Variable x) arg e = let is : Variable x ≡ arg = cc in rw (← is) refl
+  arg-event (Core target) arg e = let is : Core target ≡ arg = cc in rw (← is) refl
 
   args-events : (shown : List (Arg (List ℕ))) (args : List (Arg Place)) → resolve_args place shown ≡ Some args → list_all has_event args ≡ list_all has_event shown
   args-events [] args e = let is : [] ≡ args = cc in rw (← is) refl
@@ -142,6 +144,8 @@ module _ (place : ObjectKind → List ℕ → Option Place) (name : ObjectKind �
       ap (option_map Number) (number-back low high n (leb-true low n parts.0) short (omega arith))
   arg-back Kind.Int (Int z) args fits is some all = int-back z is
   arg-back Kind.Variable (Variable x) args fits is some all = variable-back x (leb-true x 7 is)
+  arg-back Kind.Core (Core None) args fits is some all = refl
+  arg-back Kind.Core (Core (Some core)) args fits is some all = core-back core (leb-true core.number 255 is)
   arg-back k a args fits is some all = absurd (false≢true is)
 
   args-back : (ks : List Kind) (args : List (Arg Place)) → list_all is_kind ks ≡ true → are_of ks args ≡ true → list_all has_event args ≡ true → list_all p (objects_in args) ≡ true → AreArgs ks (map (named name) args)
@@ -160,6 +164,7 @@ module _ (place : ObjectKind → List ℕ → Option Place) (name : ObjectKind �
   arg-resolved (Number n) args all = refl
   arg-resolved (Int z) args all = refl
   arg-resolved (Variable x) args all = refl
+  arg-resolved (Core target) args all = refl
 
   args-resolved : (args : List (Arg Place)) → list_all p (objects_in args) ≡ true → resolve_args place (map (named name) args) ≡ Some args
   args-resolved [] all = refl

@@ -1,14 +1,18 @@
 -- What is proved of every operation, one case for each, found by the check itself. So a new operation needs no line here; and all else
 -- is proved of the rows at once.
 use native.Mathlib.Omega.{arith}
-use Rattle.std.proofs.Common.{◌≡◌, ℕ, ◌==◌, ◌&&◌, not, Bool, true, Some, List, length, refl}
+use Rattle.std.proofs.Common.{◌≡◌, ℕ, ◌<◌, ◌≤◌, ◌==◌, ◌&&◌, nat_le, not, Bool, true, false, Some, List, [], ◌∷◌, length, refl, ap}
 use Rattle.std.specs.List.{list_all}
+use Rattle.std.proofs.lemmas.Bool.{and_parts, false≢true, leb-true}
 use Rattle.osbase.specs.declared.objects.Place.{Place}
 use Rattle.osbase.specs.Names.{is_name_part}
+use Rattle.osbase.proofs.StatusNumbers.{number_back}
 use Rattle.oscript.specs.declared.Op.{Op}
 use Rattle.oscript.specs.declared.rows.Verb.{Verb}
 use Rattle.oscript.specs.declared.rows.Arg.{Arg}
-use Rattle.oscript.specs.Rows.{are_of, form_of_op, kinds_of, op_of, word_of}
+use Rattle.oscript.specs.declared.rows.Arg.TheVariants.{Number}
+use Rattle.oscript.specs.declared.rows.TheConstants.{STATUS}
+use Rattle.oscript.specs.Rows.{are_of, form_of_op, is_of, kinds_of, op_of, status_argument, status_at, word_of}
 use Rattle.osforms.specs.Form.{verb_of}
 use Rattle.osforms.proofs.KindTexts.{is_kind}
 
@@ -22,9 +26,20 @@ abbrev pub IsRow : Verb → Type 0
 IsRow v = (verb_of (word_of v) ≡ Some v) × (is_plain (word_of v) ≡ true) × (list_all is_kind (kinds_of v) ≡ true)
     × ((args : List (Arg Place)) → (form_of_op (op_of (v, args))).0 ≡ v) × ((args : List (Arg Place)) → are_of (kinds_of v) args ≡ true → (form_of_op (op_of (v, args))).1 ≡ args)
 
+-- A status is read back from its number.
+status-number : (n : ℕ) → nat_le n 15 ≡ true → n < 16
+status-number n fit = let most : n ≤ 15 = leb-true n 15 fit in omega arith
+
+status-kept : (args : List (Arg Place)) → are_of (STATUS ∷ []) args ≡ true → status_argument (status_at args 0) ∷ [] ≡ args
+status-kept (Number n ∷ []) fit = ap (λ (m : ℕ). Number m ∷ []) (number_back n (status-number n (and_parts (nat_le 0 n) _ (and_parts (nat_le 0 n && nat_le n 15) true fit).0).1))
+status-kept (arg ∷ more ∷ args) fit = absurd (false≢true (and_parts (is_of STATUS arg) false fit).1)
+status-kept args fit = cc
+
 -- The first clause is only there to make a case of each verb.
 form-kept : (v : Verb) (args : List (Arg Place)) → are_of (kinds_of v) args ≡ true → (form_of_op (op_of (v, args))).1 ≡ args
 form-kept Verb.Work args fit = grind arith
+form-kept Verb.ShutdownOs args fit = status-kept args fit
+form-kept Verb.ShutdownAllCores args fit = status-kept args fit
 form-kept v args fit = grind arith
 
 pub is-row : (v : Verb) → IsRow v

@@ -9,9 +9,9 @@ use Rattle.oscript.specs.declared.rows.Verb.{Verb}
 use Rattle.oscript.specs.declared.rows.Kind.{Kind}
 use Rattle.oscript.specs.declared.rows.TheConstants.{VERBS}
 use Rattle.oscript.specs.declared.rows.Arg.{Arg}
-use Rattle.oscript.specs.declared.rows.Arg.TheVariants.{Object, Mask, Number, Int, Variable}
+use Rattle.oscript.specs.declared.rows.Arg.TheVariants.{Core, Object, Mask, Number, Int, Variable}
 use Rattle.oscript.specs.Rows.{word_of, kinds_of}
-use Rattle.osforms.specs.Word.{mask_of, number_in, int_of, variable_of, target_of}
+use Rattle.osforms.specs.Word.{core_of, mask_of, number_in, int_of, variable_of, target_of}
 
 -- ---- reading
 
@@ -30,6 +30,7 @@ arg_of Kind.Mask word = option_map Mask (mask_of word)
 arg_of (Kind.Number low high) word = option_map Number (number_in low high word)
 arg_of Kind.Int word = option_map Int (int_of word)
 arg_of Kind.Variable word = option_map Variable (variable_of word)
+arg_of Kind.Core word = option_map Core (core_of word)
 
 abbrev pub and_then_rest : {A : Type 0} → Option A → Option (List A) → Option (List A)
 and_then_rest None rest = None
@@ -84,6 +85,8 @@ arg_text (Mask mask) = decimal mask
 arg_text (Number n) = decimal n
 arg_text (Int z) = signed_decimal z
 arg_text (Variable x) = 118 ∷ decimal x
+arg_text (Core None) = codes "?"
+arg_text (Core (Some core)) = decimal core.number
 
 -- The words of a form, divided by one space.
 abbrev pub form_text : Verb × List (Arg (List ℕ)) → List ℕ

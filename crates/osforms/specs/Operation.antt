@@ -9,7 +9,7 @@ use Rattle.oscript.specs.declared.Op.{Op}
 use Rattle.oscript.specs.declared.rows.Verb.{Verb}
 use Rattle.oscript.specs.declared.rows.Arg.{Arg}
 use Rattle.oscript.specs.declared.rows.Kind.{Kind}
-use Rattle.oscript.specs.declared.rows.Arg.TheVariants.{Object, Mask, Number, Int, Variable}
+use Rattle.oscript.specs.declared.rows.Arg.TheVariants.{Core, Object, Mask, Number, Int, Variable}
 use Rattle.oscript.specs.Rows as rows
 use Rattle.oscript.specs.Rows.{op_of, form_of_op, kinds_of}
 use Rattle.osforms.specs.Form.{and_then_rest, arg_of, args_of, form_of, form_text, arg_text, rest_words, verb_of, words_of}
@@ -23,6 +23,7 @@ resolve_arg place (Mask mask) = Some (Mask mask)
 resolve_arg place (Number n) = Some (Number n)
 resolve_arg place (Int z) = Some (Int z)
 resolve_arg place (Variable x) = Some (Variable x)
+resolve_arg place (Core target) = Some (Core target)
 
 abbrev pub resolve_args : (ObjectKind → List ℕ → Option Place) → List (Arg (List ℕ)) → Option (List (Arg Place))
 resolve_args place [] = Some []
@@ -119,6 +120,7 @@ named name (Mask mask) = Mask mask
 named name (Number n) = Number n
 named name (Int z) = Int z
 named name (Variable x) = Variable x
+named name (Core target) = Core target
 
 abbrev pub named_form : (ObjectKind → Place → List ℕ) → Verb × List (Arg Place) → Verb × List (Arg (List ℕ))
 named_form name form = (form.0, map (named name) form.1)

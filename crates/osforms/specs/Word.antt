@@ -5,6 +5,7 @@ use Rattle.std.specs.List.{list_all}
 use Rattle.std.specs.Str.{bytes_eq}
 use Rattle.std.specs.Str.Parse.{digits_value}
 use Rattle.osbase.specs.Names.{is_name}
+use Rattle.osbase.specs.declared.references.CoreId.{CoreId}
 
 -- A decimal number without leading zeros.
 abbrev pub is_unpadded : List ℕ → Bool
@@ -41,3 +42,10 @@ variable_of (v ∷ d ∷ e ∷ es) = None
 -- An object's place in an operation holds a name, or `?` for the invalid identifier.
 abbrev pub target_of : List ℕ → Option (Option (List ℕ))
 target_of word = if bytes_eq word (codes "?") then Some None else (if is_name word then Some (Some word) else None)
+
+-- A core's place in an operation holds its number, 0 to 255, or `?` for the invalid identifier.
+abbrev pub core_numbered : ℕ → CoreId
+core_numbered n = record { number = n }
+
+abbrev pub core_of : List ℕ → Option (Option CoreId)
+core_of word = if bytes_eq word (codes "?") then Some None else option_map (λ n. Some (core_numbered n)) (number_in 0 255 word)

@@ -3,7 +3,9 @@
 ghost use Rattle.std.specs.Prelude.{◌≡◌, ◌≤◌, ◌-◌, negsuc, IfSome};
 ghost use Rattle.std.specs.Char.{is_ascii_digit};
 ghost use Rattle.std.specs.List.{list_all};
-ghost use Rattle.osforms.specs.Word.{is_unpadded, is_decimal, mask_of, number_in, int_of, variable_of};
+ghost use Rattle.osforms.specs.Word.{core_of, is_unpadded, is_decimal, mask_of, number_in, int_of, variable_of};
+
+use osbase::CoreId;
 
 fn is_unpadded(word: &[u8]) -> bool
     ensures { result ≡ is_unpadded word.now }
@@ -94,5 +96,18 @@ pub fn variable_of(word: &str) -> Option<u8>
             }
         }
         _ => None,
+    }
+}
+
+/// The core of a number of 0 to 255, configured or not; none for `?`.
+pub fn core_of(word: &str) -> Option<Option<CoreId>>
+    ensures { result ≡ core_of word.now }
+{
+    if word == "?" {
+        return Some(None);
+    }
+    match number_in(0, 255, word) {
+        Some(n) => Some(Some(CoreId { number: n as u8 })),
+        None => None,
     }
 }

@@ -7,7 +7,7 @@ ghost use Rattle.oscript.specs.Rows.{items, ref_at, word_of};
 ghost use Rattle.osforms.specs.Form.{first_read, rest_words, verb_and_words, words_behind, words_of};
 ghost use Rattle.osforms.specs.Operation.{arg_meant, args_after, args_meant, has_masks, is_known, last_of, op_meant, op_named, three_of, two_of, unranged, verb_meant, verb_named};
 
-use crate::numbers::{int_of, mask_of, number_in, variable_of};
+use crate::numbers::{core_of, int_of, mask_of, number_in, variable_of};
 use crate::places::{AnyName, Places};
 use crate::words::cut;
 use osbase::{ObjectKind, Place, Reference};
@@ -37,6 +37,7 @@ fn arg_meant<P: Places>(places: &P, kind: Kind, word: &str) -> Option<Arg<Place>
         }
         Kind::Int => Some(Arg::Int(int_of(word)?)),
         Kind::Variable => Some(Arg::Variable(variable_of(word)?)),
+        Kind::Core => Some(Arg::Core(core_of(word)?)),
     }
 }
 

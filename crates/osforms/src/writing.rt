@@ -41,6 +41,8 @@ fn push_arg<N: Names>(
             text.push_str("v")?;
             text.push_str(x.to_string(alloc)?.as_str())?;
         }
+        Arg::Core(None) => text.push_str("?")?,
+        Arg::Core(Some(core)) => text.push_str(core.number.to_string(alloc)?.as_str())?,
     }
     Ok(())
 }

@@ -17,7 +17,7 @@ use Rattle.osbase.specs.History.{History, Took, current_task, same_job}
 use Rattle.osbase.specs.Marks.{core_of_runner}
 use Rattle.oscript.specs.declared.Op.{Op}
 use Rattle.oscript.specs.declared.Action.TheVariants.{Perform, End}
-use Rattle.oscript.specs.Rows.{objects_of}
+use Rattle.oscript.specs.Rows.{asks_shared, halts_all, objects_of}
 use Rattle.osplan.specs.declared.protection.Protection.{Protection}
 use Rattle.osplan.specs.Objects.{core_actions}
 use Rattle.osplan.specs.View.{Around, View}
@@ -29,6 +29,7 @@ use Rattle.osact.specs.Acts.{Acts, does}
 use Rattle.osact.specs.Seen.{Seen, seen_of}
 use Rattle.osact.specs.Service.{answer_of}
 use Rattle.osact.proofs.Kept.{AreAllowed, IsKept, IsNamed, IsSeen, Leave, anybody, each-ok, found-ok, is_within, kept-by, replies-ok, reports-ok, returns-ok, seen_as}
+use Rattle.osact.proofs.Partners.{Partner}
 use Rattle.ostaskcall.proofs.Allowed.{ends-ok, ends_unasked-ok}
 use Rattle.oscall.specs.Border.{core_of_call, service_of}
 use Rattle.oscall.proofs.Allowed.{served-ok, service-ok}
@@ -46,19 +47,29 @@ is_replied replies names (Item.Received from number (Message.Action call)) = nam
 is_replied replies names (Item.Stim (Stimulus.Irq isr)) = names isr.core
 is_replied replies names item = true
 
--- Each operation of the core's scripts names the own core, or one that may be asked, if it names one; and each alarm and each
--- schedule table acts on one of these.
-pub record NamesAllow (v : View) (may : CoreId → Bool) : Type 0 where
+-- Each operation of the core's scripts names the own core, or one that may be asked, if it names one, and asks for what all cores share,
+-- or for their shutdown, only if it may; and each alarm and each schedule table acts on one of these cores.
+pub record NamesAllow (v : View) (may : Partner → Bool) : Type 0 where
   pub scripts : (r : Runner) (n : ℕ) (op : Op) → slice_get (script_of v.own r) n ≡ Some op → IsAllowed v may op
   pub actions : ActionsAllow v may
 
--- Where every core may be asked and answered, nothing is demanded.
-pub allow-anybody : (v : View) → NamesAllow v anybody
-allow-anybody v = record { scripts = λ r n op e. each (objects_of op) _; actions = each (core_actions v.own) _ }
+-- Where every core may be asked, nothing is demanded of the objects that are named.
+pub allow-cores : (v : View) (may : Partner → Bool) → ((core : CoreId) → may (Partner.Core core) ≡ true)
+    → ((r : Runner) (n : ℕ) (op : Op) → slice_get (script_of v.own r) n ≡ Some op → asks_shared op ≡ true → may Partner.Shared ≡ true)
+    → ((r : Runner) (n : ℕ) (op : Op) → slice_get (script_of v.own r) n ≡ Some op → halts_all op ≡ true → may Partner.Halt ≡ true)
+    → NamesAllow v may
+allow-cores v may each_core shared halt = record {
+  scripts = λ r n op e. record { objects = each (objects_of op) _; shared = shared r n op e; halt = halt r n op e };
+  actions = each (core_actions v.own) _;
+}
   where
-    each : {A : Type 0} (xs : List A) (core_of : A → CoreId) → list_all (λ (x : A). is_within v anybody (core_of x)) xs ≡ true
+    each : {A : Type 0} (xs : List A) (core_of : A → CoreId) → list_all (λ (x : A). is_within v may (core_of x)) xs ≡ true
     each [] core_of = refl
-    each (x ∷ xs) core_of = and_from _ _ (or_right _ true refl) (each xs core_of)
+    each (x ∷ xs) core_of = and_from _ _ (or_right _ _ (each_core (core_of x))) (each xs core_of)
+
+-- Where all may be asked and answered, nothing is demanded.
+pub allow-anybody : (v : View) → NamesAllow v anybody
+allow-anybody v = allow-cores v anybody (λ core. refl) (λ r n op e asks. refl) (λ r n op e halts. refl)
 
 pub replied-anybody : (item : Item) → is_replied anybody anybody item ≡ true
 replied-anybody item = grind arith
@@ -83,10 +94,10 @@ pub record NamesActing (l : Leave) (h : History) : Type 0 where
   pub next : passes (next_of l.view h) (λ r. l.names (core_of_runner r)) ≡ true
 
 -- Where marks may name whatever there is, so it is.
-abbrev pub leave_all : View → (CoreId → Bool) → (CoreId → Bool) → Leave
+abbrev pub leave_all : View → (Partner → Bool) → (CoreId → Bool) → Leave
 leave_all v may answered = record { view = v; may = may; answered = answered; names = anybody; named = λ core within. refl; own_named = refl }
 
-pub acting-anybody : (v : View) (may answered : CoreId → Bool) (h : History) → NamesActing (leave_all v may answered) h
+pub acting-anybody : (v : View) (may : Partner → Bool) (answered : CoreId → Bool) (h : History) → NamesActing (leave_all v may answered) h
 acting-anybody v may answered h = record { seen = record { id = refl; core = refl; due_tables = λ c. dues-own v.own c h; running = always _; awaits = always _ }; current = always _; next = always _ }
   where
     always : {A : Type 0} (o : Option A) → passes o (λ x. true) ≡ true
@@ -119,7 +130,7 @@ module _ (l : Leave) (allowed : NamesAllow l.view l.may) where
       by r n (Awaited.Reply id core) = assumption (ends-ok l r n, returns-ok l r id status value n)
       by r n awaits = assumption
 
-  -- The running job is the core's own to end.
+  -- The answer to a time fault names no object but the task or ISR whose job it ends, and none if the core goes down.
   answers-ok : (protection : Protection) (r : Runner) (status : Status) → IsNamed l r → Allowed (answers_fault protection r status)
   answers-ok Protection.TerminateTaskIsr (Runner.Task t) status n = (n, tt)
   answers-ok Protection.TerminateTaskIsr (Runner.Isr i) status n = (n, tt)
@@ -159,6 +170,8 @@ module _ (l : Leave) (allowed : NamesAllow l.view l.may) where
   )
   effect-ok (Item.Received from number (Message.Reply status)) m = λ s seen. closes-ok s seen status None
   effect-ok (Item.Received from number (Message.Value status n)) m = λ s seen. closes-ok s seen status (Some n)
+  effect-ok (Item.Last None) m = tt
+  effect-ok (Item.Last (Some asked)) m = λ s seen. (λ down. tt, λ up. (refl, tt))
   effect-ok item m = assumption
 
   -- ---- dispatch, and the whole step

@@ -12,18 +12,19 @@ use Rattle.osbase.specs.History.{Entry, History, Note, current_task, Took, Print
 use Rattle.osplan.specs.View.{View}
 use Rattle.osstate.specs.Readings.{knows_started}
 use Rattle.osact.specs.Acts.{Sends, act}
-use Rattle.osact.specs.Seen.{seen_of}
-use Rattle.osact.proofs.Kept.{IsKept, IsSeen, Leave, anybody, is_local, may_await, nobody, none-awaited}
+use Rattle.osact.specs.Seen.{all_cores, seen_of}
+use Rattle.osact.proofs.Kept.{IsKept, IsSeen, Leave, anybody, is_local, may_open, nobody}
+use Rattle.osact.proofs.Partners.{Partner}
 use Rattle.oskernel.specs.Step.{after}
 use Rattle.oskernel.proofs.Carried.{NamesActing, NamesAllow, acting-anybody, after-carried, allow-anybody, is_replied, leave_all, next_of, replied-anybody}
 
 -- Each kind of entry that follows from an item keeps it: one of the core itself, an envelope to a core that may be
--- asked, a reply to one that may be answered, and a call that is open there.
-pub record Holds (may replies names : CoreId → Bool) (P : History → Type 0) : Type 0 where
+-- asked, a reply to one that may be answered, and a call whose answer may be asked for.
+pub record Holds (may : Partner → Bool) (replies names : CoreId → Bool) (P : History → Type 0) : Type 0 where
   pub local : (e : Entry) (h : History) → is_local names e ≡ true → P h → P (e ∷ h)
-  pub asked : (core : CoreId) (message : Message) (h : History) → may core ≡ true → P h → P (act (Sends core message) h)
+  pub asked : (core : CoreId) (message : Message) (h : History) → may (Partner.Core core) ≡ true → P h → P (act (Sends core message) h)
   pub replied : (core : CoreId) (s : Status) (value : Option ℤ) (h : History) → replies core ≡ true → P h → P (act (Sends core (reply s value)) h)
-  pub opened : (call : OpenCall) (h : History) → may_await may call.awaits ≡ true → P h → P (Noted (Opened call) ∷ h)
+  pub opened : (call : OpenCall) (h : History) → may_open may call ≡ true → P h → P (Noted (Opened call) ∷ h)
 
 -- Where nobody is asked or answered, only entries of the core itself follow.
 pub holds-local : (names : CoreId → Bool) (P : History → Type 0) → ((e : Entry) (h : History) → is_local names e ≡ true → P h → P (e ∷ h)) → Holds nobody nobody names P
@@ -31,7 +32,7 @@ holds-local names P local = record {
   local = local;
   asked = λ core message h m p. absurd (false≢true m);
   replied = λ core s value h m p. absurd (false≢true m);
-  opened = λ call h m p. absurd (none-awaited call.awaits m);
+  opened = λ call h m p. absurd (false≢true m);
 }
 
 -- Where marks may name objects of the own core, of those that may be asked, and who acts, it holds after an item.
@@ -53,6 +54,7 @@ module _ (l : Leave) (P : History → Type 0) (holds : Holds l.may l.answered l.
       opened = λ call h k m p. both (λ n. Noted (Opened call) ∷ n) h k p (holds.opened call k m);
     };
     started = λ core h k m p. ap (λ (n : History). knows_started n core) p.same;
+    shared = λ m h k p. ap (all_cores l.view) p.same;
     reads = λ h k p. ap (seen_of l.view) p.same;
     seen = λ h k p. subst (λ (n : History). IsSeen l (seen_of l.view n)) (sym p.same) (acting k p.has).seen;
   }
@@ -62,7 +64,7 @@ module _ (l : Leave) (P : History → Type 0) (holds : Holds l.may l.answered l.
       (after-carried l allowed l.view.around Same kept (λ h k p. (ap current_task p.same, ap (next_of l.view) p.same)) (λ h k p. rw p.same (acting k p.has)) h h item item m refl (record { same = refl; has = p })).has
 
 -- So it does where marks may name whatever there is.
-pub holds-after : (v : View) (may replies : CoreId → Bool) (P : History → Type 0) → Holds may replies anybody P → NamesAllow v may → (h : History) (item : Item) → is_replied replies anybody item ≡ true → P (Took item ∷ h) → P (after v h item)
+pub holds-after : (v : View) (may : Partner → Bool) (replies : CoreId → Bool) (P : History → Type 0) → Holds may replies anybody P → NamesAllow v may → (h : History) (item : Item) → is_replied replies anybody item ≡ true → P (Took item ∷ h) → P (after v h item)
 holds-after v may replies P holds allowed = holds-named (leave_all v may replies) P holds allowed (λ h p. acting-anybody v may replies h)
 
 -- What every mark and every note keeps, whichever services there are.

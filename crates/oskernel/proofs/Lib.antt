@@ -13,5 +13,6 @@ pub mod Idling
 pub mod Calm
 pub mod Own
 pub mod Scripts
+pub mod Opened
 pub mod Among
 pub mod Stepping

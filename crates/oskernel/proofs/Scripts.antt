@@ -1,8 +1,8 @@
 -- What the scripts, alarms and schedule tables of a separate core name, and those of the others.
-use Rattle.std.proofs.Common.{List, ◌≡◌, ℕ, Bool, true, false, not, ◌&&◌, cond, Option, Some, None, [], refl, ap, subst, ◌∙◌, unwrap_or}
+use Rattle.std.proofs.Common.{List, ◌≡◌, ℕ, Bool, true, false, not, ◌&&◌, cond, Option, Some, None, [], refl, ap, subst, sym, ◌∙◌, unwrap_or}
 use Rattle.std.specs.List.{list_all, list_any, slice_get}
 use Rattle.std.specs.Option.{option_map_or}
-use Rattle.std.proofs.lemmas.Bool.{not-false, not-true, not_from_false, or_left, or_parts, or_right}
+use Rattle.std.proofs.lemmas.Bool.{not-false, not-true, not_from_false, or_from, or_left, or_parts, or_right, true≢false}
 use Rattle.osbase.specs.declared.messages.RemoteCall.{RemoteCall}
 use Rattle.osbase.specs.declared.references.CoreId.{CoreId}
 use Rattle.osbase.specs.declared.references.Runner.{Runner}
@@ -11,23 +11,33 @@ use Rattle.osbase.specs.Objects.{object_of_call}
 use Rattle.osbase.proofs.Same.{same_core-true}
 use Rattle.osbase.specs.declared.objects.Object.{Object}
 use Rattle.oscript.specs.declared.Op.{Op}
-use Rattle.oscript.specs.Rows.{objects_of}
+use Rattle.oscript.specs.Rows.{asks_shared, halts_all, objects_of}
 use Rattle.osplan.specs.declared.plans.Plan.{Plan}
 use Rattle.osplan.specs.declared.plans.Core.{Core}
 use Rattle.osplan.specs.declared.plans.Isr.{Isr}
 use Rattle.osplan.specs.declared.plans.Task.{Task}
 use Rattle.osplan.specs.Objects.{core_actions}
-use Rattle.osplan.specs.Separate.{acts_on, has_operation, is_named_elsewhere, is_off, is_on, names_object, op_names}
+use Rattle.osplan.specs.Separate.{acts_on, halts_somewhere, has_operation, is_named_elsewhere, is_off, is_on, names_object, op_names}
 use Rattle.osplan.specs.View.{View, core_of, no_core, view_of}
 use Rattle.osplan.proofs.Scripts.{no-operation}
+use Rattle.osplan.proofs.Separating.{SeparateParts}
 use Rattle.osplan.proofs.Tests.{all-not, all-weaker, fails-at, find-fails, find-holds}
 use Rattle.osstate.specs.Readings.{script_of}
 use Rattle.osact.proofs.Kept.{is_within, nobody}
-use Rattle.oskernel.proofs.Carried.{NamesAllow}
+use Rattle.osact.proofs.Partners.{Partner}
+use Rattle.oskernel.proofs.Carried.{NamesAllow, allow-cores}
 
--- Every core but this one.
-abbrev pub all_but : CoreId → CoreId → Bool
-all_but id core = not (same_core core id)
+-- Every core but this one, and what all cores share; but not that all shut down.
+abbrev pub all_but : CoreId → Partner → Bool
+all_but id (Partner.Core core) = not (same_core core id)
+all_but id Partner.Shared = true
+all_but id Partner.Halt = false
+
+-- Whatever there is, but not that all cores shut down.
+abbrev pub but_halt : Partner → Bool
+but_halt (Partner.Core core) = true
+but_halt Partner.Shared = true
+but_halt Partner.Halt = false
 
 -- Where no script of the core has an operation that passes a test, none that a runner comes to does.
 script-fails : (own : Core) (test : Op → Bool) → has_operation test own ≡ false → (r : Runner) (n : ℕ) (op : Op) → slice_get (script_of own r) n ≡ Some op → test op ≡ false
@@ -50,33 +60,62 @@ script-fails own test none r n op e = by r e
     by (Runner.Task t) g = of_task t.index (same_core t.core own.id) (slice_get own.tasks t.index) refl g
     by (Runner.Isr i) g = of_isr i.index (same_core i.core own.id) (slice_get own.isrs i.index) refl g
 
+-- So none has it that a runner comes to, whatever would follow from it.
+script-none : (own : Core) (test : Op → Bool) → has_operation test own ≡ false → {A : Type 0} (r : Runner) (n : ℕ) (op : Op) → slice_get (script_of own r) n ≡ Some op → test op ≡ true → A
+script-none own test none r n op e passes = absurd (true≢false (sym passes ∙ script-fails own test none r n op e))
+
 -- Objects none of which passes one test all pass another, which each does that fails the first.
 none-all : (p q : Object → Bool) → ((object : Object) → p object ≡ false → q object ≡ true) → (objects : List Object) → list_any p objects ≡ false → list_all q objects ≡ true
 none-all p q then objects none = all-weaker (λ object. not (p object)) q (λ object fails. then object (not-true (p object) fails)) objects (all-not p objects none)
 
 -- A core that names no object that passes one test, by a script, an alarm or a schedule table: all that it names pass another, which each does that
--- fails the first.
-names-allow : (v : View) (may : CoreId → Bool) (test : Object → Bool) → names_object test v.own ≡ false → ((object : Object) → test object ≡ false → is_within v may object.place.core ≡ true) → NamesAllow v may
-names-allow v may test none then =
+-- fails the first. It takes no other core down, and asks for what all share only if it may.
+names-allow : (v : View) (may : Partner → Bool) (test : Object → Bool) → names_object test v.own ≡ false → ((object : Object) → test object ≡ false → is_within v may object.place.core ≡ true)
+    → ((r : Runner) (n : ℕ) (op : Op) → slice_get (script_of v.own r) n ≡ Some op → asks_shared op ≡ true → may Partner.Shared ≡ true) → has_operation halts_all v.own ≡ false → NamesAllow v may
+names-allow v may test none then shared unhalted =
     let parts = or_parts (has_operation (op_names test) v.own) (acts_on test v.own) none in
     record {
-      scripts = λ r n op e. none-all test (λ (object : Object). is_within v may object.place.core) then (objects_of op) (script-fails v.own (op_names test) parts.0 r n op e);
+      scripts = λ r n op e. record {
+        objects = none-all test (λ (object : Object). is_within v may object.place.core) then (objects_of op) (script-fails v.own (op_names test) parts.0 r n op e);
+        shared = shared r n op e;
+        halt = script-none v.own halts_all unhalted r n op e;
+      };
       actions = all-weaker (λ (action : RemoteCall). not (test (object_of_call action))) _ (λ action fails. then (object_of_call action) (not-true (test (object_of_call action)) fails)) (core_actions v.own)
           (all-not (λ (action : RemoteCall). test (object_of_call action)) (core_actions v.own) parts.1);
     }
 
--- A separate core's scripts and alarms name none but its own objects.
-pub own-allow : (plan : Plan) (core : Core) (id : CoreId) → core_of plan id ≡ Some core → core.id ≡ id → names_object (is_off core.id) core ≡ false → NamesAllow (view_of plan id) nobody
-own-allow plan core id found same inward =
-    names-allow (view_of plan id) nobody (is_off id)
-    (ap (λ (o : Option Core). names_object (is_off id) (unwrap_or o (no_core id))) found ∙ subst (λ (other : CoreId). names_object (is_off other) core ≡ false) same inward)
-    (λ object own. or_left _ false (not-false (is_on id object) own))
+-- A core of a configuration in which no script takes all cores down has no such script.
+unhalted-own : (plan : Plan) (id : CoreId) → halts_somewhere plan ≡ false → has_operation halts_all (view_of plan id).own ≡ false
+unhalted-own plan id unhalted = by (core_of plan id) refl
+  where
+    by : (o : Option Core) → core_of plan id ≡ o → has_operation halts_all (unwrap_or o (no_core id)) ≡ false
+    by None found = refl
+    by (Some core) found = find-fails (λ (x : Core). same_core x.id id) (has_operation halts_all) plan.cores core unhalted found
 
--- Every other core's scripts and alarms name none of the objects of a core that is not named elsewhere.
-pub other-allow : (plan : Plan) (id other : CoreId) → is_named_elsewhere plan id ≡ false → same_core other id ≡ false → NamesAllow (view_of plan other) (all_but id)
-other-allow plan id other unnamed differs =
+-- Such a core may ask for anything else.
+pub halt-allow : (plan : Plan) (id : CoreId) → halts_somewhere plan ≡ false → NamesAllow (view_of plan id) but_halt
+halt-allow plan id unhalted =
+    allow-cores (view_of plan id) but_halt (λ core. refl) (λ r n op e asks. refl) (script-none (view_of plan id).own halts_all (unhalted-own plan id unhalted))
+
+-- A separate core's scripts and alarms name none but its own objects, and ask for nothing that all cores share.
+pub own-allow : (plan : Plan) (core : Core) (id : CoreId) → core_of plan id ≡ Some core → core.id ≡ id → SeparateParts plan core → NamesAllow (view_of plan id) nobody
+own-allow plan core id found same parts =
+    names-allow (view_of plan id) nobody (is_off id)
+    (own (names_object (is_off id)) (subst (λ (other : CoreId). names_object (is_off other) core ≡ false) same (or_from _ _ parts.inward parts.acting)))
+    (λ object at_home. or_left _ false (not-false (is_on id object) at_home))
+    (script-none (view_of plan id).own asks_shared (own (has_operation asks_shared) parts.unshared))
+    (unhalted-own plan id parts.unhalted)
+  where
+    own : (test : Core → Bool) → test core ≡ false → test (view_of plan id).own ≡ false
+    own test none = ap (λ (o : Option Core). test (unwrap_or o (no_core id))) found ∙ none
+
+-- Every other core's scripts and alarms name none of the objects of a core that is not named elsewhere, where none takes all cores down.
+pub other-allow : (plan : Plan) (id other : CoreId) → is_named_elsewhere plan id ≡ false → halts_somewhere plan ≡ false → same_core other id ≡ false → NamesAllow (view_of plan other) (all_but id)
+other-allow plan id other unnamed unhalted differs =
     names-allow (view_of plan other) (all_but id) (is_on id) (by (core_of plan other) refl)
     (λ object apart. or_right _ _ (not_from_false (is_on id object) apart))
+    (λ r n op e asks. refl)
+    (unhalted-own plan other unhalted)
   where
     by : (o : Option Core) → core_of plan other ≡ o → names_object (is_on id) (unwrap_or o (no_core other)) ≡ false
     by None found = refl

@@ -14,7 +14,7 @@ use Rattle.osbase.proofs.Same.{same_core-true}
 use Rattle.osplan.specs.View.{Around, View}
 use Rattle.osstate.specs.Readings.{best_job, knows_started, running}
 use Rattle.osact.specs.Seen.{seen_of}
-use Rattle.osact.proofs.Kept.{IsKept, anybody, is_local, is_within, nobody, none-awaited, seen_as}
+use Rattle.osact.proofs.Kept.{IsKept, anybody, is_local, is_within, nobody, seen_as}
 use Rattle.osact.proofs.SeenSame.{ReadsSame, seen-same}
 use Rattle.oskernel.specs.Step.{after, effect}
 use Rattle.oskernel.proofs.Among.{agreement-same, among, base_of, best-later, count-same, counts-same, course-same, current-same, delay, later, open-same, pending-same, phase-same, rows-same, running-later, settings-same, stamp-later, tables-same}
@@ -87,9 +87,10 @@ module _ (v : View) (ids : List CoreId) (s : CoreSet) where
       local = local;
       asked = λ core message h k m p. absurd (false≢true m);
       replied = λ core status value h k m p. absurd (false≢true m);
-      opened = λ call h k m p. absurd (none-awaited call.awaits m);
+      opened = λ call h k m p. absurd (false≢true m);
     };
     started = own_started;
+    shared = λ m h k p. absurd (false≢true m);
     reads = λ h k p. ap (seen_of v) p.same ∙ seen-same v (here k) k (reads-here k) (around_master ids);
     seen = λ h k p. (acting-anybody v nobody nobody h).seen;
   }

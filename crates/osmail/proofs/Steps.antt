@@ -1,14 +1,9 @@
 -- What an end sent and took, with one step more; and a mailbox with one envelope more.
 use Rattle.std.proofs.Common.{◌≡◌, ◌+◌, ℕ, Bool, true, false, Some, List, [], ◌∷◌, ◌++◌, length, refl, sym, ap, ◌∙◌, append-nil, arith}
 use Rattle.std.specs.Prelude.{if◌then◌else◌}
-use Rattle.std.specs.List.{slice_get}
-use Rattle.std.proofs.lemmas.Option.{same_Some}
 use Rattle.osbase.specs.declared.references.CoreId.{CoreId}
 use Rattle.osbase.specs.declared.messages.Envelope.{Envelope}
-use Rattle.osbase.specs.declared.statuses.Status.{Status}
-use Rattle.osbase.specs.declared.statuses.Status.TheVariants.{EOk, EOsAccess, EOsCallevel, EOsId, EOsLimit, EOsNofunc, EOsResource, EOsState, EOsValue, EOsMissingend, EOsDisabledint, EOsProtectionTime, EOsCore, EOsSpinlock, EOsInterferenceDeadlock, EOsNestingDeadlock}
 use Rattle.osbase.specs.History.{same_core}
-use Rattle.osbase.specs.Words.{status_number}
 use Rattle.osmail.specs.declared.ends.MailStep.{MailStep}
 use Rattle.osmail.specs.declared.ends.MailStep.TheVariants.{Sent, Taken}
 use Rattle.osmail.specs.Ends.{AreUnchanged, HasOneMore, sent_to, taken_from}
@@ -51,28 +46,3 @@ sent_after_taken xs new from e is d = ap (λ steps. sent_to steps d) is ∙ (sen
 pub numbered-push : (n : ℕ) (es : List Envelope) (e : Envelope) → AreNumbered n es → e.number ≡ n + length es → AreNumbered n (es ++ e ∷ [])
 numbered-push n [] e h is = (omega (arith, is), tt)
 numbered-push n (x ∷ es) e h is = (h.0, numbered-push (n + 1) es e h.1 (omega (arith, is)))
-
--- Statuses of one number are one status.
-abbrev statuses : List Status
-statuses = EOk ∷ EOsAccess ∷ EOsCallevel ∷ EOsId ∷ EOsLimit ∷ EOsNofunc ∷ EOsResource ∷ EOsState ∷ EOsValue ∷ EOsMissingend ∷ EOsDisabledint ∷ EOsProtectionTime ∷ EOsCore ∷ EOsSpinlock ∷ EOsInterferenceDeadlock ∷ EOsNestingDeadlock ∷ []
-
-back : (s : Status) → slice_get statuses (status_number s) ≡ Some s
-back EOk = refl
-back EOsAccess = refl
-back EOsCallevel = refl
-back EOsId = refl
-back EOsLimit = refl
-back EOsNofunc = refl
-back EOsResource = refl
-back EOsState = refl
-back EOsValue = refl
-back EOsMissingend = refl
-back EOsDisabledint = refl
-back EOsProtectionTime = refl
-back EOsCore = refl
-back EOsSpinlock = refl
-back EOsInterferenceDeadlock = refl
-back EOsNestingDeadlock = refl
-
-pub status_same : (s t : Status) → status_number s ≡ status_number t → s ≡ t
-status_same s t e = same_Some s t (sym (back s) ∙ ap (slice_get statuses) e ∙ back t)

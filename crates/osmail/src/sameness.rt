@@ -42,7 +42,7 @@ fn is_same_message(left: Message, right: Message) -> bool
     }
 }
 
-#[tactic(auto, using(crate::proofs::Steps::status_same))]
+#[tactic(auto, using(osbase::proofs::StatusNumbers::status_same))]
 fn is_same_status(left: Status, right: Status) -> bool
     ensures { IsTrue result ↔ left ≡ right }
 {

@@ -17,7 +17,7 @@ use Rattle.osplan.specs.declared.plans.Table.{Table}
 use Rattle.osbase.specs.declared.messages.RemoteCall.{RemoteCall}
 use Rattle.osplan.specs.Clocked.{is_alarm_attached, is_table_attached}
 use Rattle.osplan.specs.Limits.{alarm_sizes, is_action_known, is_alarm_known, is_alarm_near, is_core_known, is_core_timed, is_mode, is_object, is_table_known, is_table_near, is_table_timed, is_script_known, is_task_known, table_sizes}
-use Rattle.osplan.specs.Objects.{alarm_modes, core_actions, core_scripts, has_index, may_act, may_name, table_actions, table_modes}
+use Rattle.osplan.specs.Objects.{alarm_modes, core_actions, core_scripts, has_index, is_common, may_act, may_name, table_actions, table_modes}
 use Rattle.osplan.specs.View.{core_of, counter_in, own_counter}
 use Rattle.osplan.proofs.Tests.{all-append, all-both, all-flat, all-weaker, map-where}
 
@@ -26,7 +26,7 @@ module _ (plan : Plan) (core : Core) (found : core_of plan core.id ≡ Some core
   own-index : (object : Object) → is_object plan object ≡ true → same_core object.place.core core.id ≡ true → has_index core object ≡ true
   own-index object there here =
       let of_core : core_of plan object.place.core ≡ Some core = ap (core_of plan) (same_core-true object.place.core core.id here) ∙ found in
-      subst (λ (o : Option Core). option_map_or (λ (c : Core). has_index c object) o false ≡ true) of_core there
+      subst (λ (o : Option Core). option_map_or (λ (c : Core). has_index c object) o (is_common plan object) ≡ true) of_core there
 
   -- An object of the configuration is one that the core may name.
   pub known-named : (object : Object) → is_object plan object ≡ true → may_name core object ≡ true

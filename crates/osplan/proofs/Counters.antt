@@ -1,5 +1,5 @@
 -- A core's own counters, by place.
-use Rattle.std.proofs.Common.{◌≡◌, ℕ, ◌<◌, true, false, List, length}
+use Rattle.std.proofs.Common.{◌≡◌, ℕ, ◌<◌, true, false, length}
 use Rattle.std.specs.List.{slice_get}
 use Rattle.osbase.specs.declared.references.CounterRef.{CounterRef}
 use Rattle.osbase.specs.Counting.{same_counter}

@@ -13,23 +13,22 @@ use Rattle.osbase.specs.History.{same_core}
 use Rattle.osbase.proofs.Same.{same_core-true, same_core-refl}
 use Rattle.oscript.specs.declared.Op.{Op}
 use Rattle.oscript.specs.Calls.{is_action}
-use Rattle.oscript.specs.Rows.{objects_of}
+use Rattle.oscript.specs.Rows.{halts_all, objects_of}
 use Rattle.osplan.specs.declared.plans.Plan.{Plan}
 use Rattle.osplan.specs.declared.plans.Core.{Core}
-use Rattle.osplan.specs.declared.plans.Task.{Task}
 use Rattle.osbase.specs.declared.items.CoreMode.{CoreMode}
 use Rattle.osbase.specs.declared.items.CoreMode.TheVariants.{Named, DontCare}
 use Rattle.osplan.specs.declared.plans.Alarm.{Alarm}
 use Rattle.osplan.specs.declared.plans.Table.{Table}
 use Rattle.osbase.specs.declared.messages.RemoteCall.{RemoteCall}
 use Rattle.osplan.specs.View.{core_of}
-use Rattle.osplan.specs.Objects.{alarm_modes, core_scripts, object_count, table_actions, table_modes}
-use Rattle.osplan.specs.Limits.{CoreSizes, StartSizes, TableSizes, core_sizes, sizes_of, is_action_known, is_alarm_known, is_alarm_near, is_core_timed, is_core_within, is_table_known, is_table_near, is_within, is_object, is_op_known, is_mode, is_core_mode, is_script_known, is_task_known, is_core_known, is_core_near, is_within_limits}
-use Rattle.osplan.specs.Expressible.{is_core_expressible, is_expressible, are_distinct, object_names}
-use Rattle.osplan.specs.Separate.{agree, alone_of, has_operation, is_agreed_mode, is_named_elsewhere, is_off, is_on, is_separate, is_separate_core, is_started, names_other}
+use Rattle.osplan.specs.Objects.{alarm_modes, core_scripts, is_common, object_count, table_actions, table_modes}
+use Rattle.osplan.specs.Limits.{CoreSizes, StartSizes, TableSizes, core_sizes, sizes_of, is_action_known, is_alarm_known, is_alarm_near, is_core_timed, is_core_within, is_table_known, is_table_near, is_within, is_object, is_op_known, is_mode, is_core_mode, is_script_known, is_core_known, is_core_near, is_within_limits}
+use Rattle.osplan.specs.Expressible.{all_common_names, is_core_expressible, is_expressible, are_distinct, object_names}
+use Rattle.osplan.specs.Separate.{agree, alone_of, halts_somewhere, has_operation, is_agreed_mode, is_named_elsewhere, is_off, is_on, is_separate, is_separate_core, is_started, names_other}
 use Rattle.osplan.proofs.Distinct.{distinct-kept, distinct-front, distinct-back}
 use Rattle.osplan.proofs.Alarming.{known-parts, own-sizes, own-tables, own-timed}
-use Rattle.osplan.proofs.Tests.{all-both, all-not, all-weaker, find-holds, find-passes}
+use Rattle.osplan.proofs.Tests.{all-both, all-not, all-weaker, find-fails, find-holds, find-passes}
 use Rattle.osplan.proofs.Within.{LimitParts, NearParts, TextParts, limit-parts, near-parts, text-parts}
 use Rattle.osplan.proofs.Separating.{SeparateParts, any-acting, separate-parts}
 
@@ -61,7 +60,7 @@ module _ (plan : Plan) (id : CoreId) (core : Core) (found : core_of plan id ≡ 
       let parts = and_parts (is_object plan object) (not (not (is_on core.id object))) h in
       let own : object.place.core ≡ core.id = same_core-true object.place.core core.id (not-false _ (not-true _ parts.1)) in
       let here : core_of plan object.place.core ≡ Some core = ap (core_of plan) (own ∙ same) ∙ found in
-      let index : nat_lt object.place.index (object_count object.kind core) ≡ true = sym (ap (λ (o : Option Core). option_map_or (λ (c : Core). nat_lt object.place.index (object_count object.kind c)) o false) here) ∙ parts.0 in
+      let index : nat_lt object.place.index (object_count object.kind core) ≡ true = sym (ap (λ (o : Option Core). option_map_or (λ (c : Core). nat_lt object.place.index (object_count object.kind c)) o (is_common plan object)) here) ∙ parts.0 in
       let at_home : same_core core.id object.place.core ≡ true = ap (same_core core.id) own ∙ same_core-refl core.id in
       rw at_home index
 
@@ -173,7 +172,7 @@ module _ (plan : Plan) (id : CoreId) (core : Core) (found : core_of plan id ≡ 
   expressible-alone said mine distinct =
       let none : (p : List ℕ → Bool) → list_any p (flat_map object_names plan.cores) ≡ false → list_any p (object_names core ++ []) ≡ false =
       λ p h. ap (list_any p) (append-nil (object_names core)) ∙ not-true _ (find-passes (λ (c : Core). same_core c.id id) (λ (c : Core). not (list_any p (object_names c))) plan.cores core (none-in-each p plan.cores h) found) in
-      and_from _ _ (and_from _ _ said.modes (and_from _ _ mine refl)) (distinct-kept plan.modes _ _ none (ap are_distinct (append-nil (object_names core)) ∙ distinct) said.names)
+      and_from _ _ (and_from _ _ said.modes (and_from _ _ mine refl)) (distinct-kept (all_common_names plan) _ _ none (ap are_distinct (append-nil (object_names core)) ∙ distinct) said.names)
 
   -- ---- the core alone is separate again
   self : same_core core.id core.id ≡ true
@@ -188,10 +187,14 @@ module _ (plan : Plan) (id : CoreId) (core : Core) (found : core_of plan id ≡ 
   unnamed-alone : not (is_named_elsewhere (alone_of plan id core) core.id) ≡ true
   unnamed-alone = rw self refl
 
+  unhalted-alone : SeparateParts plan core → halts_somewhere (alone_of plan id core) ≡ false
+  unhalted-alone parts = or_from _ _ (find-fails (λ (c : Core). same_core c.id id) (has_operation halts_all) plan.cores core parts.unhalted found) refl
+
   separate-alone : SeparateParts plan core → is_separate (alone_of plan id core) id ≡ true
   separate-alone parts =
-      rw mine (and_from _ _ (and_from _ _ (and_from _ _ (and_from _ _ (and_from _ _ started-alone parts.names) agreed-alone)
-      (ap (λ (cores : List CoreId). nat_eq (length cores) 0) parts.no_start)) (not_from_false _ (or_from _ _ parts.inward parts.acting))) unnamed-alone)
+      let objects = and_from _ _ (and_from _ _ (and_from _ _ (and_from _ _ (and_from _ _ started-alone parts.names) agreed-alone)
+      (ap (λ (cores : List CoreId). nat_eq (length cores) 0) parts.no_start)) (not_from_false _ (or_from _ _ parts.inward parts.acting))) unnamed-alone in
+      rw mine (and_from _ _ (and_from _ _ objects (not_from_false _ parts.unshared)) (not_from_false _ (unhalted-alone parts)))
 
 -- ---- the whole
 
@@ -212,6 +215,6 @@ whole-alone plan id core limits expressible found separate =
     let same = same_core-true core.id id (find-holds (λ (c : Core). same_core c.id id) plan.cores core found) in
     record {
       limits = plan-alone plan id core found same inside within (pick (is_core_known plan) inside.known) (pick is_core_near inside.near) (pick (is_core_timed plan) inside.timed) parts;
-      expressible = expressible-alone plan id core found same said mine (pick (λ (c : Core). are_distinct (object_names c)) (each-distinct plan.cores (distinct-back plan.modes (flat_map object_names plan.cores) said.names)));
+      expressible = expressible-alone plan id core found same said mine (pick (λ (c : Core). are_distinct (object_names c)) (each-distinct plan.cores (distinct-back (all_common_names plan) (flat_map object_names plan.cores) said.names)));
       separate = separate-alone plan id core found same parts;
     }

@@ -12,3 +12,4 @@ pub mod Cutting
 pub mod EveryKind
 pub mod Least
 pub mod Counters
+pub mod ModeObjects

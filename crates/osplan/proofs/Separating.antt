@@ -4,6 +4,7 @@ use Rattle.std.specs.List.{list_any}
 use Rattle.std.proofs.lemmas.List.Folds.{list_any-append}
 use Rattle.std.proofs.lemmas.Bool.{and_parts, not-true, or_parts}
 use Rattle.osbase.specs.declared.objects.Object.{Object}
+use Rattle.oscript.specs.Rows.{asks_shared}
 use Rattle.osplan.specs.declared.plans.Alarm.{Alarm}
 use Rattle.osplan.specs.declared.plans.ExpiryPoint.{ExpiryPoint}
 use Rattle.osplan.specs.declared.plans.Plan.{Plan}
@@ -12,11 +13,11 @@ use Rattle.osplan.specs.declared.plans.Table.{Table}
 use Rattle.osbase.specs.declared.messages.RemoteCall.{RemoteCall}
 use Rattle.osbase.specs.Objects.{object_of_call}
 use Rattle.osplan.specs.Objects.{table_actions}
-use Rattle.osplan.specs.Separate.{acts_on, has_operation, is_agreed_mode, is_named_elsewhere, is_off, is_separate_core, is_started, names_mode, names_object, names_other}
+use Rattle.osplan.specs.Separate.{acts_on, halts_somewhere, has_operation, is_agreed_mode, is_named_elsewhere, is_off, is_separate_core, is_started, names_mode, names_object, names_other}
 use Rattle.osplan.proofs.Tests.{any-by, any-flat, any-mapped, none-from}
 
 -- The core names a mode, which no started core contradicts; it starts no core; its scripts, its alarms and its tables name no
--- other core's objects, and no other core names its own.
+-- other core's objects, and no other core names its own; its scripts ask for nothing that all cores share, and none takes all down.
 pub record SeparateParts (plan : Plan) (core : Core) : Type 0 where
   pub names : names_mode core.mode ≡ true
   pub agreed : is_agreed_mode plan core.mode ≡ true
@@ -24,10 +25,14 @@ pub record SeparateParts (plan : Plan) (core : Core) : Type 0 where
   pub inward : has_operation (names_other core.id) core ≡ false
   pub acting : acts_on (is_off core.id) core ≡ false
   pub unnamed : is_named_elsewhere plan core.id ≡ false
+  pub unshared : has_operation asks_shared core ≡ false
+  pub unhalted : halts_somewhere plan ≡ false
 
 pub separate-parts : (plan : Plan) (core : Core) → is_separate_core plan core ≡ true → SeparateParts plan core
 separate-parts plan core separate =
-    let last = and_parts _ (not (is_named_elsewhere plan core.id)) separate in
+    let halted = and_parts _ (not (halts_somewhere plan)) separate in
+    let shared = and_parts _ (not (has_operation asks_shared core)) halted.0 in
+    let last = and_parts _ (not (is_named_elsewhere plan core.id)) shared.0 in
     let objects = and_parts _ (not (names_object (is_off core.id) core)) last.0 in
     let named = or_parts (has_operation (names_other core.id) core) (acts_on (is_off core.id) core) (not-true _ objects.1) in
     let start = and_parts _ (nat_eq (length core.start) 0) objects.0 in
@@ -39,6 +44,8 @@ separate-parts plan core separate =
       inward = named.0;
       acting = named.1;
       unnamed = not-true _ last.1;
+      unshared = not-true _ shared.1;
+      unhalted = not-true _ halted.1;
     }
 
 -- What its alarms act on, and what its tables, table by table and point by point.

@@ -1,5 +1,5 @@
 -- What the tests of a configuration say, by name, and what a kernel needs of a core.
-use Rattle.std.proofs.Common.{◌≡◌, ℕ, ◌+◌, ◌≤◌, Bool, true, nat_le, nat_lt, List, length, map, Some, is_some, IsTrue, sym, ◌∙◌, arith, sum_by}
+use Rattle.std.proofs.Common.{◌≡◌, ℕ, ◌+◌, ◌≤◌, Bool, true, nat_le, nat_lt, List, length, map, Some, is_some, IsTrue, refl, sym, ◌∙◌, arith, sum_by}
 use Rattle.std.specs.List.{list_all}
 use Rattle.std.proofs.lemmas.Bool.{and_parts, leb-true, le-leb, lt-ltb}
 use Rattle.std.proofs.lemmas.List.{length-map}
@@ -12,15 +12,14 @@ use Rattle.osplan.specs.declared.plans.Plan.{Plan}
 use Rattle.osplan.specs.declared.plans.Alarm.{Alarm}
 use Rattle.osplan.specs.declared.plans.Core.{Core}
 use Rattle.osplan.specs.declared.plans.Counter.{Counter}
-use Rattle.oscript.specs.declared.Op.{Op}
 use Rattle.osplan.specs.declared.plans.Isr.{Isr}
 use Rattle.osplan.specs.declared.plans.Resource.{Resource}
 use Rattle.osplan.specs.declared.plans.Table.{Table}
 use Rattle.osplan.specs.declared.plans.Task.{Task}
-use Rattle.osplan.specs.Objects.{alarm_modes, core_scripts, names_in, object_count, posted_at_once, table_actions, table_modes}
+use Rattle.osplan.specs.Objects.{core_scripts, names_in, object_count, posted_at_once, table_actions}
 use Rattle.osplan.specs.View.{core_of, counter_in}
-use Rattle.osplan.specs.Limits.{CoreSizes, TaskSizes, count_in, most_of, is_between, is_budget, is_core_numbered, is_isr_within, are_isrs_within, isr_sizes, jobs_of, task_sizes, counter_sizes, core_sizes, sizes_of, is_task_within, is_counter_within, are_counters_within, are_alarms_within, alarm_sizes, is_alarm_within, are_tables_within, is_table_within, table_sizes, is_alarm_near, is_core_timed, is_table_near, stays_on, is_core_within, is_within, is_ceiling, ceiling_of, is_core_known, is_core_near, numbers_of, are_numbers_distinct, is_within_limits}
-use Rattle.osplan.specs.Expressible.{are_mode_name, is_free_of_resources, is_in_only_mode, is_isr_expressible, is_only_mode, is_script_expressible, is_action_expressible, are_distinct, declared_names, is_task_expressible, is_resource_expressible, is_counter_expressible, is_alarm_expressible, is_table_expressible, is_core_expressible, is_expressible}
+use Rattle.osplan.specs.Limits.{CoreSizes, Sizes, TaskSizes, count_in, most_of, is_between, is_budget, is_core_numbered, is_isr_within, are_isrs_within, isr_sizes, jobs_of, task_sizes, counter_sizes, core_sizes, sizes_of, is_task_within, is_counter_within, are_counters_within, are_alarms_within, alarm_sizes, is_alarm_within, are_tables_within, is_table_within, table_sizes, is_alarm_near, is_core_timed, is_table_near, stays_on, is_core_within, is_within, is_ceiling, ceiling_of, is_core_known, is_core_near, numbers_of, are_numbers_distinct, is_within_limits}
+use Rattle.osplan.specs.Expressible.{is_free_of_resources, is_isr_expressible, is_mode_expressible, is_script_expressible, is_action_expressible, are_distinct, declared_names, is_task_expressible, is_resource_expressible, is_counter_expressible, is_alarm_expressible, is_table_expressible, is_core_expressible, is_expressible}
 use Rattle.osplan.proofs.Tests.{all-weaker, find-passes}
 
 -- ---- the parts of both tests
@@ -53,19 +52,18 @@ limit-parts plan h =
     }
 
 pub record TextParts (plan : Plan) : Type 0 where
-  pub modes : are_mode_name plan.modes ≡ true
+  pub modes : list_all is_mode_expressible plan.modes ≡ true
   pub cores : list_all is_core_expressible plan.cores ≡ true
   pub names : are_distinct (declared_names plan) ≡ true
 
 pub text-parts : (plan : Plan) → IsTrue (is_expressible plan) → TextParts plan
 text-parts plan h =
     let names = and_parts _ (are_distinct (declared_names plan)) h in
-    let cores = and_parts (are_mode_name plan.modes) (list_all is_core_expressible plan.cores) names.0 in
+    let cores = and_parts (list_all is_mode_expressible plan.modes) (list_all is_core_expressible plan.cores) names.0 in
     record { modes = cores.0; cores = cores.1; names = names.1 }
 
 -- Of a core that a text can say.
 pub record CoreTextParts (core : Core) : Type 0 where
-  pub mode : is_in_only_mode core.mode ≡ true
   pub tasks : list_all is_task_expressible core.tasks ≡ true
   pub isrs : list_all is_isr_expressible core.isrs ≡ true
   pub resources : list_all is_resource_expressible core.resources ≡ true
@@ -79,11 +77,9 @@ core-text-parts core h =
     let alarms = and_parts _ (list_all is_alarm_expressible core.alarms) tables.0 in
     let counters = and_parts _ (list_all is_counter_expressible core.counters) alarms.0 in
     let resources = and_parts _ (list_all is_resource_expressible core.resources) counters.0 in
-    let isrs = and_parts _ (list_all is_isr_expressible core.isrs) resources.0 in
-    let tasks = and_parts (is_in_only_mode core.mode) (list_all is_task_expressible core.tasks) isrs.0 in
+    let isrs = and_parts (list_all is_task_expressible core.tasks) (list_all is_isr_expressible core.isrs) resources.0 in
     record {
-      mode = tasks.0;
-      tasks = tasks.1;
+      tasks = isrs.0;
       isrs = isrs.1;
       resources = resources.1;
       counters = counters.1;
@@ -97,14 +93,15 @@ formed name p each xs all = list_all-map is_name name xs ∙ all-weaker p (λ x.
 
 -- of whichever kind it is.
 pub names-formed : (core : Core) → CoreTextParts core → (kind : ObjectKind) → list_all is_name (names_in kind core) ≡ true
-names-formed core said ObjectKind.Task = formed (λ (task : Task). task.name) is_task_expressible (λ task h. (and_parts (is_name task.name) _ (and_parts _ (is_script_expressible task.script) h).0).0) core.tasks said.tasks
+names-formed core said ObjectKind.Mode = refl
+names-formed core said ObjectKind.Task = formed (λ (task : Task). task.name) is_task_expressible (λ task h. (and_parts (is_name task.name) (is_script_expressible task.script) h).0) core.tasks said.tasks
 names-formed core said ObjectKind.Isr = formed (λ (isr : Isr). isr.name) is_isr_expressible (λ isr h. (and_parts (is_name isr.name) _ (and_parts _ (is_free_of_resources isr.script) h).0).0) core.isrs said.isrs
 names-formed core said ObjectKind.Resource = formed (λ (resource : Resource). resource.name) is_resource_expressible (λ resource h. h) core.resources said.resources
 names-formed core said ObjectKind.Counter = formed (λ (counter : Counter). counter.name) is_counter_expressible (λ counter h. h) core.counters said.counters
 names-formed core said ObjectKind.Alarm =
-    formed (λ (alarm : Alarm). alarm.name) is_alarm_expressible (λ alarm h. (and_parts (is_name alarm.name) (is_action_expressible alarm.action) (and_parts _ (list_all is_only_mode (alarm_modes alarm)) h).0).0) core.alarms said.alarms
+    formed (λ (alarm : Alarm). alarm.name) is_alarm_expressible (λ alarm h. (and_parts (is_name alarm.name) (is_action_expressible alarm.action) h).0) core.alarms said.alarms
 names-formed core said ObjectKind.Table =
-    formed (λ (table : Table). table.name) is_table_expressible (λ table h. (and_parts (is_name table.name) (list_all is_action_expressible (table_actions table)) (and_parts _ (list_all is_only_mode (table_modes table)) h).0).0) core.tables said.tables
+    formed (λ (table : Table). table.name) is_table_expressible (λ table h. (and_parts (is_name table.name) (list_all is_action_expressible (table_actions table)) h).0) core.tables said.tables
 
 -- ---- what a kernel needs
 
@@ -135,6 +132,9 @@ few-of s h kind = grind arith
 
 pub between : (low high n : ℕ) → is_between low high (Some n) ≡ true → (low ≤ n) × (n ≤ high)
 between low high n h = let parts = and_parts (nat_le low n) (nat_le n high) h in (leb-true low n parts.0, leb-true n high parts.1)
+
+pub few-modes : (s : Sizes) → is_within s ≡ true → s.modes ≤ 8
+few-modes s h = (between 1 8 s.modes (grind arith)).1
 
 task-fits : (task : Task) → is_task_within (task_sizes task) ≡ true → (nat_lt task.priority 32 ≡ true) × (nat_le 1 task.activations ≡ true)
 task-fits task h =

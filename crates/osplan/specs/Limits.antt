@@ -28,7 +28,7 @@ use Rattle.osplan.specs.declared.plans.TableStart.{TableStart}
 use Rattle.osplan.specs.declared.plans.Task.{Task}
 use Rattle.osbase.specs.declared.items.CoreMode.{CoreMode}
 use Rattle.osbase.specs.declared.items.CoreMode.TheVariants.{Named, DontCare}
-use Rattle.osplan.specs.Objects.{alarm_modes, core_scripts, has_index, posted_at_once, table_actions, table_modes}
+use Rattle.osplan.specs.Objects.{alarm_modes, core_scripts, has_index, is_common, posted_at_once, table_actions, table_modes}
 use Rattle.osplan.specs.Separate.{is_on, names_other}
 use Rattle.osplan.specs.View.{core_of, counter_in}
 
@@ -87,6 +87,7 @@ pub record Sizes : Type 0 where
 
 -- How many objects of a kind the sizes of a core are of.
 abbrev pub count_in : ObjectKind → CoreSizes → ℕ
+count_in ObjectKind.Mode s = 0
 count_in ObjectKind.Task s = length s.tasks
 count_in ObjectKind.Isr s = length s.isrs
 count_in ObjectKind.Resource s = length s.resources
@@ -94,12 +95,13 @@ count_in ObjectKind.Counter s = length s.counters
 count_in ObjectKind.Alarm s = length s.alarms
 count_in ObjectKind.Table s = length s.tables
 
--- ---- how many there may be at most, of each kind on a core, and of cores [own]
+-- ---- how many there may be at most, of each kind on a core or that all have in common, and of cores [own]
 
 abbrev pub most_cores : ℕ
 most_cores = CONFIGURED_CORES
 
 abbrev pub most_of : ObjectKind → ℕ
+most_of ObjectKind.Mode = MODES
 most_of ObjectKind.Task = TASKS
 most_of ObjectKind.Isr = ISRS
 most_of ObjectKind.Resource = RESOURCES
@@ -227,7 +229,7 @@ is_core_within s = is_core_numbered s && list_all is_short s.scripts
 -- The whole: 1 to 8 application modes, mailboxes of 1 to 16 envelopes, 1 to 8 cores, each of which passes the test. [own]
 abbrev pub is_by : (CoreSizes → Bool) → Sizes → Bool
 is_by test s =
-    is_between 1 MODES (Some s.modes) && is_between 1 MAILBOX s.cap && is_between 1 most_cores (Some (length s.cores)) && list_all test s.cores
+    is_between 1 (most_of ObjectKind.Mode) (Some s.modes) && is_between 1 MAILBOX s.cap && is_between 1 most_cores (Some (length s.cores)) && list_all test s.cores
 
 abbrev pub is_within : Sizes → Bool
 is_within s = is_by is_core_within s
@@ -357,9 +359,9 @@ sizes_of plan = record { modes = length plan.modes; cap = Some plan.cap; cores =
 
 -- ---- its references
 
--- The object is one of the configuration.
+-- The object is one of the configuration: of one of its cores, or one that all of them have in common.
 abbrev pub is_object : Plan → Object → Bool
-is_object plan object = option_map_or (λ (c : Core). has_index c object) (core_of plan object.place.core) false
+is_object plan object = option_map_or (λ (c : Core). has_index c object) (core_of plan object.place.core) (is_common plan object)
 
 -- What an operation names is there; the invalid identifier names nothing.
 abbrev pub is_op_known : Plan → Op → Bool

@@ -1,8 +1,9 @@
 -- The names of modes and objects, by their places. What the configuration lacks has the empty name. [own]
-use Rattle.std.specs.Prelude.{ℕ, List, [], slice_get, unwrap_or}
+use Rattle.std.specs.Prelude.{ℕ, if◌then◌else◌, List, [], slice_get, unwrap_or}
 use Rattle.std.specs.Option.{option_map_or}
 use Rattle.osbase.specs.declared.objects.ObjectKind.{ObjectKind}
 use Rattle.osbase.specs.declared.objects.Place.{Place}
+use Rattle.osbase.specs.declared.objects.TheConstants.{NOBODY}
 use Rattle.osbase.specs.declared.references.AlarmRef.{AlarmRef}
 use Rattle.osbase.specs.declared.references.IsrRef.{IsrRef}
 use Rattle.osbase.specs.declared.references.ModeId.{ModeId}
@@ -10,14 +11,15 @@ use Rattle.osbase.specs.declared.references.ResourceRef.{ResourceRef}
 use Rattle.osbase.specs.declared.references.Runner.{Runner}
 use Rattle.osbase.specs.declared.references.TableRef.{TableRef}
 use Rattle.osbase.specs.declared.references.TaskRef.{TaskRef}
+use Rattle.osbase.specs.History.{same_core}
 use Rattle.osbase.specs.Objects.{alarm_place, isr_place, resource_place, table_place, task_place}
 use Rattle.osplan.specs.declared.plans.Core.{Core}
 use Rattle.osplan.specs.declared.plans.Plan.{Plan}
-use Rattle.osplan.specs.Objects.{names_in}
+use Rattle.osplan.specs.Objects.{common_names, names_in}
 use Rattle.osplan.specs.View.{core_of}
 
 abbrev pub name_of_mode : Plan → ModeId → List ℕ
-name_of_mode plan mode = option_map_or (λ (name : List ℕ). name) (slice_get plan.modes mode.index) []
+name_of_mode plan mode = unwrap_or (slice_get plan.modes mode.index) []
 
 -- ---- objects
 
@@ -25,8 +27,12 @@ name_of_mode plan mode = option_map_or (λ (name : List ℕ). name) (slice_get p
 abbrev pub name_in : ObjectKind → Core → ℕ → List ℕ
 name_in kind core index = unwrap_or (slice_get (names_in kind core) index) []
 
+-- Of one that all cores have in common.
+abbrev pub common_name : Plan → ObjectKind → Place → List ℕ
+common_name plan kind place = if same_core place.core NOBODY then unwrap_or (slice_get (common_names kind plan) place.index) [] else []
+
 abbrev pub name_of : Plan → ObjectKind → Place → List ℕ
-name_of plan kind place = option_map_or (λ (core : Core). name_in kind core place.index) (core_of plan place.core) []
+name_of plan kind place = option_map_or (λ (core : Core). name_in kind core place.index) (core_of plan place.core) (common_name plan kind place)
 
 abbrev pub task_name : Plan → TaskRef → List ℕ
 task_name plan task = name_of plan ObjectKind.Task (task_place task)

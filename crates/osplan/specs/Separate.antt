@@ -8,7 +8,7 @@ use Rattle.osbase.specs.declared.objects.Object.{Object}
 use Rattle.osbase.specs.History.{same_core}
 use Rattle.osbase.specs.Objects.{object_of_call}
 use Rattle.oscript.specs.declared.Op.{Op}
-use Rattle.oscript.specs.Rows.{objects_of}
+use Rattle.oscript.specs.Rows.{asks_shared, halts_all, objects_of}
 use Rattle.osplan.specs.declared.plans.Plan.{Plan}
 use Rattle.osplan.specs.declared.plans.Core.{Core}
 use Rattle.osbase.specs.declared.items.CoreMode.{CoreMode}
@@ -16,6 +16,8 @@ use Rattle.osbase.specs.declared.items.CoreMode.TheVariants.{Named, DontCare}
 use Rattle.osplan.specs.declared.separate.Standing.{Standing}
 use Rattle.osplan.specs.declared.sides.Side.{Side}
 use Rattle.osplan.specs.declared.sides.Side.TheVariants.{On, Off}
+use Rattle.osplan.specs.declared.operations.OpTest.{OpTest}
+use Rattle.osplan.specs.declared.operations.OpTest.TheVariants.{Names, AsksShared, HaltsAll}
 use Rattle.osplan.specs.Objects.{core_actions, core_scripts}
 use Rattle.osplan.specs.View.{core_of}
 
@@ -91,6 +93,12 @@ names_own id op = op_names (is_on id) op
 abbrev pub names_other : CoreId → Op → Bool
 names_other id op = op_names (is_off id) op
 
+-- The operation names an object on this side, asks for what all cores share, or takes all cores down.
+abbrev pub passes_test : OpTest → Op → Bool
+passes_test (Names side) = op_names (is_at side)
+passes_test AsksShared = asks_shared
+passes_test HaltsAll = halts_all
+
 -- A script of the core has such an operation.
 abbrev pub has_operation : (Op → Bool) → Core → Bool
 has_operation test core = list_any (list_any test) (core_scripts core)
@@ -107,11 +115,15 @@ names_object test core = has_operation (op_names test) core || acts_on test core
 abbrev pub is_named_elsewhere : Plan → CoreId → Bool
 is_named_elsewhere plan id = list_any (λ (other : Core). not (same_core other.id id) && names_object (is_on id) other) plan.cores
 
+-- A script of some core, started or not, takes all cores down.
+abbrev pub halts_somewhere : Plan → Bool
+halts_somewhere plan = list_any (has_operation halts_all) plan.cores
+
 -- ---- separate cores, and the configuration of one alone
 
 -- The core is started; it names a mode; no started core names another mode; it starts no core; no script,
--- alarm or table of it names an object of another core; and none of another core, also of one that is never started,
--- names an object of it. [own]
+-- alarm or table of it names an object of another core; none of another core, also of one that is never started,
+-- names an object of it; no script of it asks for what all cores share; and no script of any core takes all cores down. [own]
 abbrev pub is_separate_core : Plan → Core → Bool
 is_separate_core plan core =
     is_started plan core.id
@@ -120,6 +132,8 @@ is_separate_core plan core =
     && (length core.start == 0)
     && not (names_object (is_off core.id) core)
     && not (is_named_elsewhere plan core.id)
+    && not (has_operation asks_shared core)
+    && not (halts_somewhere plan)
 
 -- The configured core of this number is separate: no other core has a say in what it prints. [own]
 abbrev pub is_separate : Plan → CoreId → Bool

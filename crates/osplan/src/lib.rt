@@ -6,7 +6,9 @@
 
 mod cuts;
 pub mod faults;
+mod modes;
 mod names;
+mod operations;
 pub mod own;
 pub mod plans;
 mod protection;
@@ -15,9 +17,10 @@ mod sides;
 
 pub use cuts::cut;
 pub use faults::ConfFault;
+pub use modes::{DONT_CARE, is_reserved};
 pub use plans::{
-    Alarm, AlarmStart, Config, Core, Counter, ExpiryPoint, Isr, KINDS, Plan, Resource, Table,
-    TableStart, Task,
+    Alarm, AlarmStart, COMMON, Config, Core, Counter, ExpiryPoint, Isr, KINDS, Plan, Resource,
+    Table, TableStart, Task,
 };
 pub use protection::Protection;
 pub use separate::{Standing, is_separate, standing_of};

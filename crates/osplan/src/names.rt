@@ -1,11 +1,12 @@
 //! The names of modes and objects, by their places.
 
 ghost use Rattle.std.specs.Prelude.{◌≡◌};
-ghost use Rattle.osplan.specs.Names.{alarm_name, isr_name, name_of_mode, name_in, name_of, resource_name, runner_name, table_name, task_name};
+ghost use Rattle.osplan.specs.Names.{alarm_name, common_name, isr_name, name_of_mode, name_in, name_of, resource_name, runner_name, table_name, task_name};
 
 use crate::plans::{Core, Plan};
 use osbase::{
-    AlarmRef, IsrRef, ModeId, ObjectKind, Place, Reference, ResourceRef, Runner, TableRef, TaskRef,
+    AlarmRef, IsrRef, ModeId, NOBODY, ObjectKind, Place, Reference, ResourceRef, Runner, TableRef,
+    TaskRef,
 };
 
 impl Core {
@@ -34,7 +35,19 @@ impl Plan {
     {
         match self.core(place.core) {
             Some(core) => core.name_in(kind, place.index),
-            None => "",
+            None => self.common_name(kind, place),
+        }
+    }
+
+    fn common_name(&self, kind: ObjectKind, place: Place) -> &str
+        ensures { result.now ≡ common_name self.now kind place }
+    {
+        if place.core.number != NOBODY.number {
+            return "";
+        }
+        match kind {
+            ObjectKind::Mode => self.name_of_mode(ModeId::at(place)),
+            _ => "",
         }
     }
 

@@ -1,8 +1,8 @@
 //! The parts of a configuration, and the configuration that keeps its limits.
 
-ghost use Rattle.std.specs.Prelude.{◌≡◌, ◌↔◌, IsTrue, Option, option_copied, slice_get};
+ghost use Rattle.std.specs.Prelude.{◌≡◌, ◌↔◌, IsTrue, length, Option, option_copied, slice_get};
 ghost use Rattle.std.specs.List.{list_all};
-ghost use Rattle.osplan.specs.Objects.{core_scripts, is_own_object, names_in, object_count};
+ghost use Rattle.osplan.specs.Objects.{common_names, core_scripts, is_own_object, names_in, object_count};
 ghost use Rattle.osplan.specs.Stimuli.{knows_stimulus};
 ghost use Rattle.osplan.specs.View.{core_of};
 ghost use Rattle.osplan.specs.Limits.{is_alarm_near, is_core_near, is_table_near, is_within_limits, stays_on};
@@ -205,6 +205,9 @@ pub const KINDS: [ObjectKind; 6] = [
     ObjectKind::Table,
 ];
 
+/// The kinds of the objects that all cores have in common.
+pub const COMMON: [ObjectKind; 1] = [ObjectKind::Mode];
+
 fn is_script_near(id: CoreId, script: &Script) -> bool
     ensures { result ≡ list_all (stays_on id) script.now }
 {
@@ -282,10 +285,12 @@ impl Core {
         }
     }
 
-    fn count(&self, kind: ObjectKind) -> usize
+    /// How many objects of a kind the core has.
+    pub fn count(&self, kind: ObjectKind) -> usize
         ensures { result ≡ object_count kind self.now }
     {
         match kind {
+            ObjectKind::Mode => 0,
             ObjectKind::Task => self.tasks.len(),
             ObjectKind::Isr => self.isrs.len(),
             ObjectKind::Resource => self.resources.len(),
@@ -301,6 +306,7 @@ impl Core {
         ensures { option_copied result ≡ slice_get (names_in kind self.now) index }
     {
         match kind {
+            ObjectKind::Mode => None,
             ObjectKind::Task => match self.tasks.as_slice().get(index) {
                 Some(task) => Some(task.name.as_str()),
                 None => None,
@@ -338,5 +344,15 @@ impl Plan {
             .as_slice()
             .iter()
             .find(|core| core.id.number == id.number)
+    }
+
+    /// How many objects of a kind all cores have in common.
+    pub fn common_count(&self, kind: ObjectKind) -> usize
+        ensures { result ≡ length (common_names kind self.now) }
+    {
+        match kind {
+            ObjectKind::Mode => self.modes.len(),
+            _ => 0,
+        }
     }
 }

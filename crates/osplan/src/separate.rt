@@ -6,8 +6,9 @@ ghost use Rattle.osbase.specs.Sets.{has_core};
 ghost use Rattle.osbase.specs.declared.limits.TheConstants.{CORES};
 ghost use Rattle.osplan.specs.Limits.{is_within_limits};
 ghost use Rattle.osplan.specs.Flags.{is_named_by_one_of, is_next, AreStarted};
-ghost use Rattle.osplan.specs.Separate.{agree, is_among, is_named_elsewhere, is_agreed_mode, is_separate, is_separate_core, is_started, names_mode, standing_of};
+ghost use Rattle.osplan.specs.Separate.{agree, halts_somewhere, is_among, is_named_elsewhere, is_agreed_mode, is_separate, is_separate_core, is_started, names_mode, standing_of};
 
+use crate::operations::{OpTest, has_operation};
 use crate::plans::{Config, Core, Plan};
 use crate::sides::Side;
 use osbase::{CORE_NUMBERS, CORES, CoreId, CoreMode, CoreSet};
@@ -104,6 +105,15 @@ fn is_named_elsewhere(plan: &Plan, id: CoreId) -> bool
         && Side::On(id).is_named_by(other))
 }
 
+fn halts_somewhere(plan: &Plan) -> bool
+    ensures { result ≡ halts_somewhere plan.now }
+{
+    plan.cores
+        .as_slice()
+        .iter()
+        .any(|core| has_operation(core, OpTest::HaltsAll))
+}
+
 // Tasks, ISRs, alarms and tables name objects.
 pub(crate) fn is_separate_core(plan: &Plan, core: &Core) -> bool
     requires { IsTrue (is_within_limits plan.now) }
@@ -116,12 +126,15 @@ pub(crate) fn is_separate_core(plan: &Plan, core: &Core) -> bool
         && core.start.len() == 0
         && !Side::Off(core.id).is_named_by(core)
         && !is_named_elsewhere(plan, core.id)
+        && !has_operation(core, OpTest::AsksShared)
+        && !halts_somewhere(plan)
 }
 
 /// Whether the core of this number is separate: it is started, by start lists that lead to it from the
-/// master; it names a mode other than DONOTCARE, and no started core names another; it starts no core;
-/// and no script, alarm or table of it names an object of another core, nor any of another core, started or not,
-/// an object of it. A core that is not configured is not separate. Takes no memory.
+/// master; it names a mode other than DONOTCARE, and no started core names another; it starts no core, also by no
+/// script, and counts none; no script, alarm or table of it names an object of another core, nor any of another core,
+/// started or not, an object of it; and no script of any core, started or not, holds ShutdownAllCores. A core that is
+/// not configured is not separate. Takes no memory.
 pub fn is_separate(config: &Config, core: CoreId) -> bool
     ensures { result ≡ is_separate config.now core }
 {

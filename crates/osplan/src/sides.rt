@@ -7,11 +7,10 @@ ghost use Rattle.osbase.specs.Objects.{object_of_call};
 ghost use Rattle.osplan.specs.Limits.{stays_on};
 ghost use Rattle.osplan.specs.declared.plans.Alarm.{Alarm as AlarmValue};
 ghost use Rattle.osplan.specs.declared.plans.ExpiryPoint.{ExpiryPoint as PointValue};
-ghost use Rattle.osplan.specs.declared.plans.Isr.{Isr as IsrValue};
 ghost use Rattle.osplan.specs.declared.plans.Table.{Table as TableValue};
-ghost use Rattle.osplan.specs.declared.plans.Task.{Task as TaskValue};
-ghost use Rattle.osplan.specs.Separate.{acts_on, is_at, is_on, has_operation, names_object, op_names};
+ghost use Rattle.osplan.specs.Separate.{acts_on, is_at, is_on, names_object, op_names};
 
+use crate::operations::{OpTest, has_operation};
 use crate::plans::{Core, Table};
 use osbase::{CoreId, Object, Reference, RemoteCall};
 use oscript::Op;
@@ -55,42 +54,11 @@ impl Side {
         objects.iter().any(|object| self.has_present(*object))
     }
 
-    fn is_named_by_op(self, op: Op) -> bool
+    /// Whether the operation names such an object.
+    pub fn is_named_by_op(self, op: Op) -> bool
         ensures { result ≡ op_names (is_at self) op }
     {
         self.has_any(&op.objects())
-    }
-
-    fn is_named_by_script(self, script: &[Op]) -> bool
-        ensures { result ≡ list_any (op_names (is_at self)) script.now }
-    {
-        script.iter().any(|op| self.is_named_by_op(*op))
-    }
-
-    fn is_named_by_task(self, core: &Core) -> bool
-        ensures { result ≡ list_any (λ (task : TaskValue). list_any (op_names (is_at self)) task.script) core.now.tasks }
-    {
-        core.tasks
-            .as_slice()
-            .iter()
-            .any(|task| self.is_named_by_script(task.script.as_slice()))
-    }
-
-    fn is_named_by_isr(self, core: &Core) -> bool
-        ensures { result ≡ list_any (λ (isr : IsrValue). list_any (op_names (is_at self)) isr.script) core.now.isrs }
-    {
-        core.isrs
-            .as_slice()
-            .iter()
-            .any(|isr| self.is_named_by_script(isr.script.as_slice()))
-    }
-
-    // Whether a script of the core names such an object.
-    #[tactic(auto, using(crate::proofs::Scripts::any_script))]
-    fn is_named_by_scripts(self, core: &Core) -> bool
-        ensures { result ≡ has_operation (op_names (is_at self)) core.now }
-    {
-        self.is_named_by_task(core) || self.is_named_by_isr(core)
     }
 
     fn is_called_by(self, actions: &[RemoteCall]) -> bool
@@ -139,7 +107,7 @@ impl Side {
     pub fn is_named_by(self, core: &Core) -> bool
         ensures { result ≡ names_object (is_at self) core.now }
     {
-        self.is_named_by_scripts(core) || self.is_acted_on(core)
+        has_operation(core, OpTest::Names(self)) || self.is_acted_on(core)
     }
 }
 

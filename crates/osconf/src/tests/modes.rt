@@ -1,0 +1,111 @@
+//! Application modes: their names, the mode of a core, and what names a mode.
+
+use super::configured;
+use osbase::{CoreId, CoreMode, ModeId};
+use std::test::Fail;
+
+pub(super) const TEXTS: &str = r#"
+// The modes of a configuration: 1 to 8 names in form, of which none stands twice and none for something else.
+text {"modes":@,"cores":[{"id":0}]}
+fine ["M"]|["B"]|["A","B","C","D","E","F","G","H"]|["donotcare","Conflict","NONE","DONOTCARE_"]
+Shape null|"M"|{}|1|true|[1]|[null]|[["M"]]|["M",2]|["9"]|[""]|["?"]|["A B"]|["M","_M"]|["\u00c4"]
+Limit []|["A","B","C","D","E","F","G","H","I"]|["A","A","A","A","A","A","A","A","none"]
+DuplicateName ["M","M"]|["A","B","A"]|["none"]|["conflict"]|["DONOTCARE"]|["M","DONOTCARE"]|["none","none"]|["\u006eone"]
+
+// A name has 1 to 128 characters.
+text {"modes":["@"],"cores":[{"id":0}]}
+each [] n
+fine 1|128
+Shape 129
+
+text {"modes":[@],"cores":[{"id":0}]}
+each [,] "N@"
+fine 1|8
+Limit 0|9|1000
+
+// Without any there is one, M, which nothing else is called then.
+text {"cores":[{"id":0,"mode":"@"}]}
+fine M|\u004d
+UnknownName N|m|MM|none|conflict
+
+text {"modes":["A","B"],"cores":[{"id":0,"tasks":[{"name":"@","prio":1,"script":""}]}]}
+text {"modes":["A","B"],"cores":[{"id":0},{"id":1,"resources":[{"name":"@","ceiling":1}]}]}
+fine M|a|BB|none|conflict|DONOTCARE
+DuplicateName A|B|\u0041
+
+// The mode of a core is one of these, or any.
+text {"modes":["A","B"],"cores":[{"id":0,"mode":@,"tasks":[{"name":"T","prio":1,"script":""}]}]}
+fine "A"|"B"|"DONOTCARE"|"\u0041"
+Shape ""|null|1|true|[]|["A"]|{}|"9"|"A B"|"?"|"_A"
+UnknownName "X"|"M"|"T"|"a"|"none"|"conflict"|"donotcare"
+
+// Any is no mode of a list, and none but the configuration's is.
+text {"modes":["A","B"],"cores":[{"id":0,"tasks":[{"name":"T","prio":1,"auto":[@],"script":""}]}]}
+text {"modes":["A","B"],"cores":[{"id":0,"tasks":[{"name":"T","prio":1,"script":""}],"counters":[{"name":"K","max":9}],"alarms":[{"name":"W","counter":"K","action":"ActivateTask T","auto":{"modes":[@],"start":1,"cycle":0}}]}]}
+text {"modes":["A","B"],"cores":[{"id":0,"tasks":[{"name":"T","prio":1,"script":""}],"counters":[{"name":"K","max":9}],"tables":[{"name":"P","counter":"K","duration":9,"points":[{"offset":0,"actions":["ActivateTask T"]}],"auto":{"modes":[@],"offset":1}}]}]}
+fine |"A"|"B"|"B","A"|"B","B"
+UnknownName "DONOTCARE"|"M"|"T"|"A","X"|"none"
+Shape ""|null|"A","?"|"B",1|"9"
+
+// An operation names no mode.
+text {"modes":["A","B"],"cores":[{"id":0,"tasks":[{"name":"T","prio":1,"script":"ActivateTask @"}]}]}
+UnknownName A|B
+text {"modes":["A","B"],"cores":[{"id":0,"tasks":[{"name":"T","prio":1,"script":""}],"alarms":[{"name":"W","counter":"@","action":"ActivateTask T"}]}]}
+UnknownName A|B
+
+// A counter or a task whose name a mode has too is not looked at.
+text {"modes":["A","K"],"cores":[{"id":0,"tasks":[{"name":"T","prio":1,"script":""}],"counters":[{"name":"K","max":9}],"alarms":[{"name":"W","counter":"K","action":"ActivateTask T","auto":{"modes":[],"start":@,"cycle":0}}]}]}
+DuplicateName 1|10
+
+// Of two faults the smaller is told.
+text @
+Shape {"modes":[],"cores":[{"id":0,"mode":null}]}
+Limit {"modes":[],"cores":[{"id":0},{"id":0}]}|{"modes":[],"cores":[{"id":0,"mode":"M"}]}|{"modes":["none"],"cap":0,"cores":[{"id":0}]}
+DuplicateName {"modes":["none"],"cores":[{"id":0,"mode":"X"}]}|{"modes":["A","A"],"master":1,"cores":[{"id":0}]}
+UnknownName {"modes":["A"],"cores":[{"id":0,"mode":"X","tasks":[{"name":"T","prio":1,"script":"walk"}]}]}
+"#;
+
+// The text, its modes, and of each core its mode and the modes in which its first task is started.
+const READ: &[(&str, &[&str], &[(CoreMode, &[u8])])] = &[
+    (
+        r#"{"cores":[{"id":0,"tasks":[{"name":"A","prio":1,"auto":["M"],"script":""}]},{"id":1,"mode":"DONOTCARE","tasks":[{"name":"B","prio":1,"script":""}]}]}"#,
+        &["M"],
+        &[
+            (CoreMode::Named(ModeId { index: 0 }), &[0]),
+            (CoreMode::DontCare, &[]),
+        ],
+    ),
+    (
+        r#"{"modes":["P","Q","R"],"cores":[{"id":0,"mode":"R","tasks":[{"name":"A","prio":1,"auto":["R","P","R"],"script":""}]},{"id":1,"tasks":[{"name":"B","prio":1,"auto":["Q"],"script":""}]},{"id":2,"mode":"DONOTCARE","tasks":[{"name":"DONOTCARE","prio":1,"script":""}]}]}"#,
+        &["P", "Q", "R"],
+        &[
+            (CoreMode::Named(ModeId { index: 2 }), &[2, 0, 2]),
+            (CoreMode::Named(ModeId { index: 0 }), &[1]),
+            (CoreMode::DontCare, &[]),
+        ],
+    ),
+];
+
+#[test]
+fn modes_are_read(rt: HostRuntime) -> Result<(), Fail> {
+    for (text, modes, cores) in READ {
+        let config = configured(rt.alloc(), "@", text)?;
+        let plan = config.plan();
+        assert_eq!(rt; plan.modes.len(), modes.len(), "{text}");
+        for (mode, name) in plan.modes.as_slice().iter().zip(*modes) {
+            assert!(rt; mode.as_str() == *name, "{text}");
+        }
+        let mut number = 0u8;
+        for (mode, auto) in *cores {
+            let core = plan.core(CoreId { number }).ok_or("a core")?;
+            assert_eq!(rt; core.mode, *mode, "{text}");
+            let task = core.tasks.as_slice().first().ok_or("a task")?;
+            assert_eq!(rt; task.auto.len(), auto.len(), "{text}");
+            for (mode, index) in task.auto.as_slice().iter().zip(*auto) {
+                assert_eq!(rt; mode.index, *index, "{text}");
+            }
+            number = number.wrapping_add(1);
+        }
+    }
+    Ok(())
+}
