@@ -59,7 +59,7 @@ fn start_core<const P: usize, const J: usize, const OUT: usize>(
 
 fn core_count(cores: &CoreSet) -> usize
     ensures value { result ≡ core_count cores.now }
-    ensures few { result ≤ 8 }
+    ensures few { result ≤ 16 }
 {
     cores.members.iter().filter(|is_member| **is_member).count()
 }

@@ -1,5 +1,5 @@
-use Rattle.std.proofs.Common.{SFits, w64, ℕ, pos, ap, sym, ◌∙◌, rules, lit≤}
-use Rattle.std.proofs.lemmas.Int.{to_z-of_z}
+use Rattle.std.proofs.Common.{ℕ, ℤ, ◌<◌, ◌^◌, w64, pos, ap, sym, ◌∙◌, lit≤, arith}
+use Rattle.std.proofs.lemmas.Int.{to_z_pos}
 use Rattle.osbase.specs.declared.items.CoreSet.{CoreSet}
 use Rattle.osstate.specs.State.{KernelState}
 use Rattle.osstate.proofs.Effecting.{as_effect}
@@ -11,7 +11,8 @@ use Rattle.oscall.proofs.shutdown.count_cores.Goals as goal
 
 pub returns : goal.returns
 returns g c =
+    let small : c.core_count-count.result < 2 ^ 63 = omega (arith, c.core_count-count.ensures.few) in
     as_effect (λ v h stands.
     ap (λ (cores : CoreSet). does (sets c.args.runner c.args.variable (pos (core_count cores))) v h) (sym (read (λ (s : KernelState). s.progress.started) c.started_cores.ensures stands))
-    ∙ ap (λ (n : ℕ). does (sets c.args.runner c.args.variable (pos n)) v h) (sym c.core_count-count.ensures.value))
-    (lit≤ tt) (lit≤ tt) (simp to_z-of_z at c.set.ensures)
+    ∙ ap (λ (z : ℤ). does (sets c.args.runner c.args.variable z) v h) (ap pos (sym c.core_count-count.ensures.value) ∙ sym (to_z_pos w64 c.core_count-count.result small)))
+    (lit≤ tt) (lit≤ tt) c.set.ensures
