@@ -168,6 +168,7 @@ fn first_gate_mark(agreement: Agreement) -> Mark
 }
 
 // A stimulus: one operation of the running job or its end, a tick, or an interrupt.
+#[inline(always)]
 fn go_on<const P: usize, const J: usize, const OUT: usize>(
     state: &mut CoreState<'_, P, J, OUT>,
     stimulus: Stimulus,
