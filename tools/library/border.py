@@ -2,16 +2,18 @@
 
 from collections import deque
 from dataclasses import dataclass
-from typing import Dict, Iterable, List, NamedTuple, Tuple
+from typing import Dict, Iterable, Iterator, List, NamedTuple, Tuple
 
 from library import model
 from library.columns import columns
 from library.findings import listed
-from library.model import Model, Reference
+from library.formats import HALTS_ALL
+from library.model import Actor, Binding, Model, Reference
 
 # How a reference crosses.
 REQUEST = "request"
 ACTION = "action"
+HALT = "halt"  # of an operation that shuts all cores down
 NOTHING = "nothing"
 
 
@@ -42,6 +44,8 @@ class Crossing:
         """How it crosses, and what comes back."""
         if self.way == REQUEST:
             return "request; core %d waits for the reply" % self.source
+        if self.way == HALT:
+            return "halt; unless core %d has drained or is down" % self.target
         return "action; no reply" if self.way == ACTION else self.why
 
 
@@ -68,16 +72,31 @@ def crossings(whole: Model) -> List[Crossing]:
     """All crossings by ascending pairs of cores, in each in the order of the configuration."""
     places: Dict[Tuple[int, int, str, str, str], List[int]] = {}
     ways: Dict[Tuple[int, int, str, str, str], Tuple[str, str]] = {}
-    for reference in whole.outward:
-        actor = reference.actor
-        key = (reference.core, reference.home, reference.text, actor.kind, actor.name)
+    for source, target, actor, text, way in _all_ways(whole):
+        key = (source, target, text, actor.kind, actor.name)
         # An action may stand twice at one point.
         found = places.setdefault(key, [])
         if actor.place is not None and actor.place not in found:
             found.append(actor.place)
-        ways[key] = _way(whole, reference)
+        ways[key] = way
     each = [Crossing(*key, tuple(places[key]), *ways[key]) for key in places]
     return sorted(each, key=lambda crossing: (crossing.source, crossing.target))
+
+
+def _all_ways(whole: Model) -> Iterator[Tuple[int, int, Actor, str, Tuple[str, str]]]:
+    """From which core to which other one, who does what, and how that crosses; if nothing crosses, why."""
+    for reference in whole.outward:
+        yield reference.core, reference.home, reference.actor, reference.text, _way(whole, reference)
+    for binding in whole.halting:
+        for other in sorted(whole.started - {binding.core}):
+            yield binding.core, other, binding.actor, binding.text, _halt_way(whole, binding)
+
+
+def _halt_way(whole: Model, binding: Binding) -> Tuple[str, str]:
+    """How a shutdown of all cores crosses the border."""
+    if binding.core not in whole.started:
+        return NOTHING, "never done; core %d is off" % binding.core
+    return HALT, ""
 
 
 def _way(whole: Model, reference: Reference) -> Tuple[str, str]:
@@ -101,6 +120,11 @@ def reasons(whole: Model, core: int) -> List[str]:
     if core not in whole.started:
         return ["no start list leads to it from core %d, the master" % whole.master]
     found = []
+    if whole.modes[core] is None:
+        found.append("it names no mode")
+    if len(whole.named_modes) > 1:
+        names = ("`%s` (%s)" % (mode, _listed_cores(cores)) for mode, cores in whole.named_modes.items())
+        found.append("the started cores name different modes: %s" % listed(names))
     if whole.starts[core]:
         found.append("its `start` is not empty: %s" % listed(str(number) for number in whole.starts[core]))
     for other in whole.ids:
@@ -112,6 +136,26 @@ def reasons(whole: Model, core: int) -> List[str]:
         if objects:
             state = "" if other in whole.started else ", which is off,"
             found.append("core %d%s refers to it: %s" % (other, state, objects))
+    return found + _binding_reasons(whole, core)
+
+
+def _listed_cores(cores: List[int]) -> str:
+    """Cores by their numbers."""
+    return "core%s %s" % ("s" if len(cores) > 1 else "", listed(str(core) for core in cores))
+
+
+def _binding_reasons(whole: Model, core: int) -> List[str]:
+    """The operations without an object that bind a core: its own, and those that shut all cores down."""
+    actors: Dict[Tuple[int, str], Dict[str, None]] = {}
+    for binding in whole.asking + whole.halting:
+        if binding.core == core or binding.service == HALTS_ALL:
+            actor = "%s %s" % (binding.actor.kind, binding.actor.name)
+            actors.setdefault((binding.core, binding.service), {})[actor] = None
+    found = []
+    for (other, service), names in actors.items():
+        who = "it" if other == core else "core %d" % other
+        state = "" if other in whole.started else ", which is off,"
+        found.append("%s%s has `%s`: %s" % (who, state, service, listed(names)))
     return found
 
 
@@ -126,7 +170,7 @@ def _objects(references: Iterable[Reference]) -> str:
 
 
 class Step(NamedTuple):
-    """Why a change of one core can change what another one does: it serves what crosses, or waits for the reply."""
+    """Why a change of one core can change what another one does: it serves what crosses, waits for the reply, or is halted."""
 
     source: int
     target: int
@@ -135,7 +179,10 @@ class Step(NamedTuple):
     @property
     def text(self) -> str:
         """The reason."""
-        verb = "serves" if self.crossing.target == self.target else "waits for the reply to"
+        if self.crossing.way == HALT:
+            verb = "is halted by"
+        else:
+            verb = "serves" if self.crossing.target == self.target else "waits for the reply to"
         return "%s %s (%s)" % (verb, self.crossing.text, self.crossing.who)
 
 
@@ -247,7 +294,12 @@ def _reach_lines(whole: Model, found: List[Crossing]) -> List[str]:
 # ---------------------------------------------------------------------------------------------------------------------
 
 _CORE_STYLES = {model.SEPARATE: "filled", model.BOUND: "solid", model.OFF: "dashed"}
-_EDGE_STYLES = {REQUEST: "dir=both, arrowtail=odot", ACTION: "style=solid", NOTHING: "style=dotted, color=gray50"}
+_EDGE_STYLES = {
+    REQUEST: "dir=both, arrowtail=odot",
+    ACTION: "style=solid",
+    HALT: "style=bold",
+    NOTHING: "style=dotted, color=gray50",
+}
 
 
 def quoted(lines: Iterable[str], end: str = r"\n") -> str:

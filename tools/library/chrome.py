@@ -119,7 +119,7 @@ def _envelope(number: int, envelope: Envelope) -> Iterable[Event]:
 
 
 def _line_of(item: Item, deed: Deed, word: str) -> Tuple[float, float]:
-    """When the line of an envelope begins, and how long it lasts. A core that is down prints none."""
+    """When the line of an envelope begins, and how long it lasts. A core that was shut down prints none."""
     shown = (n for n in range(deed.first, deed.behind) if item.lines[n].startswith(word + " "))
     return _time(item, next(shown, deed.first))
 

@@ -6,7 +6,7 @@ Each object keeps where it stands, so that reports can say it.
 from dataclasses import dataclass, field
 from typing import Any, Dict, List, Optional
 
-from library.formats import CONFIGURATION, MODE, NAMED_LISTS, OBJECTS, ListOf, Object
+from library.formats import CONFIGURATION, FIRST_MODE, NAMED_LISTS, NAMES_NO_MODE, OBJECTS, ListOf, Object
 from library.places import Json, JsonList, JsonNumber, JsonObject, JsonText
 
 LISTS = {kind: name for name, kind in NAMED_LISTS.items()}
@@ -94,6 +94,17 @@ class Draft(Part):
         """The numbers of its cores."""
         return [core.id for core in self.cores]
 
+    @property
+    def modes(self) -> List[str]:
+        """The names of its modes."""
+        return list(self["modes"])
+
+    def mode_of(self, core: Core) -> Optional[str]:
+        """The mode that a core names, if it names one."""
+        if core["mode"] is FIRST_MODE:
+            return next(iter(self.modes), None)
+        return None if core["mode"] == NAMES_NO_MODE else core["mode"]
+
     def core(self, number: int) -> Core:
         """The core of a number, which is configured."""
         return next(core for core in self.cores if core.id == number)
@@ -115,7 +126,7 @@ class Draft(Part):
     def find_alone(self, kind: str, name: str) -> Optional[Named]:
         """The object of a kind and a name, if no other object and no mode has the name."""
         named = self.by_name.get(name, [])
-        if name == MODE or len(named) != 1 or named[0].kind.name != kind:
+        if name in self.modes or len(named) != 1 or named[0].kind.name != kind:
             return None
         return named[0]
 

@@ -73,7 +73,9 @@ FAULTS = (
 # Words, numbers and names
 # ---------------------------------------------------------------------------------------------------------------------
 
-MODE = "M"
+MODE = "M"  # the one mode of a configuration without `modes`
+NAMES_NO_MODE = "DONOTCARE"
+NO_MODES = (NAMES_NO_MODE, "conflict", "none")  # what no mode may be called
 NO_OBJECT = "?"  # in place of an object's name: an identifier that names nothing
 VARIABLES = tuple("v%d" % number for number in range(8))
 STIMULUS_WORDS = ("op", "tick")
@@ -85,6 +87,8 @@ GREATEST_SIGNED = 2**63 - 1
 GREATEST_WORD = 4294967295  # masks, and the numbers of alarms and tables
 GREATEST_COUNT = 1000000000  # a counter's `max`, a table's `duration`
 GREATEST_BUDGET = 1000000000  # in ticks
+GREATEST_CORE_NUMBER = 255  # of a `StartCore`
+GREATEST_STATUS = 15  # of a shutdown
 
 MOST_LEVELS = 127  # of a JSON text
 MOST_BYTES = 2**30  # of a file
@@ -161,8 +165,18 @@ class CounterName:
 
 
 @dataclass(frozen=True)
+class NewModeName:
+    """The name of a mode of the configuration."""
+
+
+@dataclass(frozen=True)
 class ModeName:
     """The name of a mode."""
+
+
+@dataclass(frozen=True)
+class CoreMode:
+    """The name of a mode, or the word by which a core names none."""
 
 
 @dataclass(frozen=True)
@@ -201,7 +215,9 @@ class ListOf:
     greatest: Optional[int] = None
 
 
-Value = Union[Number, Flag, NewName, CounterName, ModeName, OneOf, Script, Action, ObjectOf, ListOf]
+Value = Union[
+    Number, Flag, NewName, CounterName, NewModeName, ModeName, CoreMode, OneOf, Script, Action, ObjectOf, ListOf
+]
 MODES = ListOf(ModeName())
 
 
@@ -213,6 +229,16 @@ class Required:
 
 
 REQUIRED = Required()
+
+
+class FirstMode:
+    """The default of a core's mode: the first one of the configuration."""
+
+    def __repr__(self) -> str:
+        return "FIRST_MODE"
+
+
+FIRST_MODE = FirstMode()
 
 
 @dataclass(frozen=True)
@@ -247,6 +273,7 @@ CONFIGURATION = Object(
         Member("version", Number(1, 1), 1),
         Member("cap", Number(1, 16), 16),
         Member("master", Number(0, 7, alone=False), 0),
+        Member("modes", ListOf(NewModeName(), 1, 8), (MODE,)),
         Member("cores", ListOf(ObjectOf("core"), 1, 8)),
     ),
 )
@@ -260,6 +287,7 @@ CORE = Object(
     "core",
     (
         Member("id", Number(0, 7)),
+        Member("mode", CoreMode(), FIRST_MODE),
         Member("start", ListOf(Number(0, 255)), ()),
         Member("protection", PROTECTIONS, "PRO_SHUTDOWN"),
         Member("tasks", ListOf(ObjectOf("task"), 0, 32), ()),
@@ -368,8 +396,9 @@ class Argument:
     """A word behind the name of an operation.
 
     `word` is how docs/FORMATS.md writes it. `kind` is one of these: `task`, `resource`, `counter`, `alarm`, `table` (a
-    name, or `?`), `variable`, `mask`, `place` (0 to the number of the script's operations), `signed` (a number of 64
-    bits), `number` (0 to 4294967295). If `own_core`, an object of another core is fault 6.
+    name, or `?`), `core` (0 to 255, or `?`), `variable`, `mask`, `place` (0 to the number of the script's operations),
+    `signed` (a number of 64 bits), `number` (0 to 4294967295), `status` (the number of one). If `own_core`, an object
+    of another core is fault 6.
     """
 
     word: str
@@ -380,6 +409,21 @@ class Argument:
     def is_object(self) -> bool:
         """Whether the word is an object's name."""
         return self.kind in NAMED_LISTS.values()
+
+    @property
+    def may_be_nobody(self) -> bool:
+        """Whether `?` may stand in its place."""
+        return self.is_object or self.kind == "core"
+
+
+# The operations of the standards without a status. Those that are ignored where interrupts are suspended come last.
+IGNORED_IF_SUSPENDED = ("GetNumberOfActivatedCores", "ShutdownOS", "ShutdownAllCores")
+WITHOUT_STATUS = ("SuspendAllInterrupts", "ResumeAllInterrupts") + IGNORED_IF_SUSPENDED
+# What makes a core bound that has it in a script, and what makes all cores bound.
+ASKS_SHARED = ("StartCore", "GetNumberOfActivatedCores")
+HALTS_ALL = "ShutdownAllCores"
+# The service whose statuses call no ErrorHook.
+WITHOUT_ERROR_HOOK = "StartCore"
 
 
 @dataclass(frozen=True)
@@ -392,7 +436,7 @@ class Operation:
     @property
     def is_service(self) -> bool:
         """Whether it is a service, whose status a line `stat` prints."""
-        return self.name[0].isupper() and not self.name.endswith("AllInterrupts")
+        return self.name[0].isupper() and self.name not in WITHOUT_STATUS
 
     @property
     def form(self) -> str:
@@ -416,6 +460,8 @@ _MASK = Argument("m", "mask")
 _COUNTS = Argument("n", "number")
 _VALUE = Argument("s", "number")
 _CYCLE = Argument("c", "number")
+_CORE = Argument("k", "core")
+_STATUS = Argument("n", "status")
 
 OPERATIONS = {
     each.name: each
@@ -450,6 +496,10 @@ OPERATIONS = {
         Operation("GetScheduleTableStatus", (_OWN_TABLE, _VARIABLE)),
         Operation("SuspendAllInterrupts"),
         Operation("ResumeAllInterrupts"),
+        Operation("StartCore", (_CORE,)),
+        Operation("GetNumberOfActivatedCores", (_VARIABLE,)),
+        Operation("ShutdownOS", (_STATUS,)),
+        Operation("ShutdownAllCores", (_STATUS,)),
     )
 }
 # What an alarm or an expiry point can do.

@@ -55,6 +55,12 @@ _SET_IN_ACTION = Hint('it stands in the `action` here: `"SetEvent T m"`', "actio
 
 # By object: a name of OIL or AUTOSAR, in small letters and without `_`, and what it is here.
 STANDARD_NAMES: Dict[str, Dict[str, Hint]] = {
+    "configuration": {
+        "appmode": _is("modes", ", a list of names"),
+        "appmodes": _is("modes"),
+        "osappmode": _is("modes", ", a list of names"),
+        "osappmodes": _is("modes"),
+    },
     "task": {
         "priority": _is("prio"),
         "ostaskpriority": _is("prio"),
@@ -150,6 +156,7 @@ STANDARD_NAMES: Dict[str, Dict[str, Hint]] = {
         "mode": _is("modes"),
     },
     "core": {
+        "appmode": _is("mode"),
         "coreid": _is("id"),
         "number": _is("id"),
         "isr": _is("isrs", ", a list"),
@@ -166,11 +173,6 @@ NOT_YET = {
     "spinlock": "spinlocks",
     "spinlocks": "spinlocks",
     "osspinlock": "spinlocks",
-    "modes": "several modes",
-    "appmodes": "several modes",
-    "osappmode": "several modes",
-    "osappmodes": "several modes",
-    "shutdown": "shutdown",
 }
 _NOT_PLANNED = {
     "application": "OS-Applications",

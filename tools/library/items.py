@@ -10,7 +10,15 @@ from dataclasses import dataclass, field
 from typing import Dict, List, NamedTuple, Optional, Tuple
 
 from library.drafts import Draft
-from library.formats import INTERRUPT, MODE, MOST_SUSPENDED, OPERATIONS, operations_of
+from library.formats import (
+    HALTS_ALL,
+    IGNORED_IF_SUSPENDED,
+    INTERRUPT,
+    MOST_SUSPENDED,
+    OPERATIONS,
+    WITHOUT_ERROR_HOOK,
+    operations_of,
+)
 from library.model import ALARM, ISR, SCRIPTED, TABLE, TASK
 from library.program import Failed
 from library.runs import Run
@@ -18,13 +26,13 @@ from library.runs import Run
 CORE = "core"  # of a deed: another core's envelope is served
 START = "start"  # of a deed: the start of another core
 OK = "E_OK"
-DROPPED = "dropped"  # in place of the status of an action that came to a core that is down
+DROPPED = "dropped"  # in place of the status of an action that came to a core that was shut down
 END_OF_SCRIPT = "end of script"
 
 _ERROR = "hook Error "
 _EXPIRIES = ("alarm", "point", "stop", "begin")
-_SILENT = ("on", "entered", "readied", "post", "drained", "passend", "last")
-# What a core that is down makes of the envelopes that it serves. It prints nothing.
+_SILENT = ("on", "entered", "readied", "post", "drained", "passend")
+# What a core that was shut down makes of the envelopes that it serves. It prints nothing.
 _OF_DOWN = {"req": "E_OS_CORE", "act": DROPPED}
 
 
@@ -80,7 +88,7 @@ class Item:
 
     `number` counts the items of the core from 1. `stimulus` and `tick` say how many stimuli and ticks the core has
     taken so far, this one with them. If the item is an `op` of a job, there are whose job it is and the number of the
-    operation.
+    operation. A `halt` for which a job of this core asked is `asked`.
     """
 
     core: int
@@ -92,6 +100,7 @@ class Item:
     deeds: List[Deed] = field(default_factory=list)
     runner: Optional[Runner] = None
     place: Optional[int] = None
+    asked: bool = False
     turn: int = 0
     round: Optional[int] = None
 
@@ -137,10 +146,13 @@ class _Layer:
         self.isrs: List[str] = []  # those that have started, the last one interrupts the others
         self.suspended = 0  # how often the running job has suspended interrupts
         self.is_down = False
+        self.is_halted = False
+        self.has_asked = False  # for the shutdown of all cores
         self.request: Optional[Tuple[Runner, int, str]] = None  # whose reply is awaited
         self.scripts = _scripts(run.draft, core)
         self.actions = _actions(run.draft, core)
-        self.autostarts = sum(MODE in task["auto"] for task in run.draft.core(core).named["tasks"])
+        self.autos = [task["auto"] for task in run.draft.core(core).named["tasks"]]
+        self.mode = ""  # which the cores agreed on
         self.places: Dict[str, int] = {}
         self.variables: Dict[Tuple[str, str], int] = {}
 
@@ -165,9 +177,17 @@ class _Layer:
         elif words[0] == "began":
             self._begin(words)
         elif words[0] == "pass1":
-            self._take("hook")
+            self._take("conflict" if words[1] == "conflict" else "hook")
+            self.mode = words[1]
+        elif words[0] == "halt":
+            self.item.asked = self.has_asked
+            self._take("halt")
+            self.is_halted = True
+        elif words[0] == "last":
+            if len(words) > 1 and not self.is_down:
+                self._take("hook")
         elif words[0] == "pass2":
-            for _ in range(self.autostarts):
+            for _ in range(sum(self.mode in auto for auto in self.autos)):
                 self._take("act")
             self._dispatch()
         elif words[0] not in _SILENT:
@@ -311,8 +331,14 @@ class _Layer:
         operation = script[place]
         words = operation.split(" ")
         self.places[runner.name] = self._place_after(runner.name, place, words)
-        if words[0] in ("set", "add", "addv", "status"):
+        if words[0] in IGNORED_IF_SUSPENDED and self.suspended:
+            return
+        if words[0] in ("set", "add", "addv", "status", "GetNumberOfActivatedCores"):
             self._take("var")
+        elif words[0] == "ShutdownOS":
+            self._take("hook")
+        elif words[0] == HALTS_ALL:
+            self.has_asked = True
         elif words[0] == "SuspendAllInterrupts":
             self.suspended = min(self.suspended + 1, MOST_SUSPENDED)
         elif words[0] == "ResumeAllInterrupts":
@@ -365,7 +391,8 @@ class _Layer:
         status = words[3]
         if len(words) > 4:
             self.variables[runner.name, operation.split(" ")[-1]] = int(words[4])
-        self._error(status)
+        if words[2] != WITHOUT_ERROR_HOOK:
+            self._error(status)
         self._did(*runner, place, operation, status, first)
         self._dispatch()
 
@@ -387,7 +414,7 @@ class _Layer:
         if words[3] == "rep":
             self._reply()
             return
-        if self.is_down:
+        if self.is_down or self.is_halted:
             self._did(CORE, words[1], None, " ".join(words[4:]), _OF_DOWN[words[3]], 0)
             return
         while self._next() in ("act", "ev", "free"):

@@ -142,7 +142,7 @@ class Envelope:
 
     @property
     def is_dropped(self) -> bool:
-        """Whether it came to a core that was down, and was dropped."""
+        """Whether it came to a core that was shut down, and was dropped."""
         return self.answer is not None and self.answer.status == DROPPED
 
 

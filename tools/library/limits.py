@@ -13,6 +13,7 @@ from library.formats import (
     MOST_OPERATIONS,
     OBJECTS,
     ListOf,
+    NewModeName,
     Number,
     ObjectOf,
     operations_of,
@@ -88,6 +89,8 @@ def _judge_length(report: Report, part: Part, name: str, value: ListOf) -> None:
 
 def _thing(value: ListOf) -> str:
     """What an element of a list is."""
+    if isinstance(value.element, NewModeName):
+        return "mode"
     return value.element.name if isinstance(value.element, ObjectOf) else "action"
 
 

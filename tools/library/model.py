@@ -50,14 +50,35 @@ class Reference:
 
 
 @dataclass(frozen=True)
+class Binding:
+    """An operation that binds a core without an object: on which core it is done, and by whom."""
+
+    core: int
+    actor: Actor
+    text: str
+
+    @property
+    def service(self) -> str:
+        """The operation's own word."""
+        return self.text.split(" ")[0]
+
+
+@dataclass(frozen=True)
 class Model:
-    """The cores by ascending number, their start lists, the started ones, and all references in their order."""
+    """The cores by ascending number, their start lists, the started ones, and all references in their order.
+
+    Of the operations that bind without an object there are those that ask for what all cores share, and those that shut
+    all cores down. Of each core there is the mode that it names, if it names one.
+    """
 
     master: int
     ids: Tuple[int, ...]
     starts: Dict[int, Tuple[int, ...]]
     started: FrozenSet[int]
     references: Tuple[Reference, ...]
+    asking: Tuple[Binding, ...]
+    halting: Tuple[Binding, ...]
+    modes: Dict[int, Optional[str]]
 
     @cached_property
     def outward(self) -> Tuple[Reference, ...]:
@@ -77,7 +98,19 @@ class Model:
         if core not in self.started:
             return OFF
         is_joined = any(core in pair for pair in self.between)
-        return BOUND if self.starts[core] or is_joined else SEPARATE
+        asks = any(binding.core == core for binding in self.asking)
+        agrees = self.modes[core] is not None and len(self.named_modes) == 1
+        return BOUND if self.starts[core] or is_joined or asks or self.halting or not agrees else SEPARATE
+
+    @cached_property
+    def named_modes(self) -> Dict[str, List[int]]:
+        """The modes that started cores name, with these cores."""
+        found: Dict[str, List[int]] = {}
+        for core in self.ids:
+            mode = self.modes[core]
+            if core in self.started and mode is not None:
+                found.setdefault(mode, []).append(core)
+        return found
 
 
 def model_of(draft: Draft) -> Model:
@@ -85,7 +118,11 @@ def model_of(draft: Draft) -> Model:
     cores = sorted(draft.cores, key=lambda core: core.id)
     starts = {core.id: tuple(core["start"]) for core in cores}
     references = tuple(reference for core in cores for reference in _references(draft, core))
-    return Model(draft["master"], tuple(starts), starts, frozenset(draft.started()), references)
+    bindings = [Binding(core.id, *each) for core in cores for each in _operations(core)]
+    asking = tuple(each for each in bindings if each.service in formats.ASKS_SHARED)
+    halting = tuple(each for each in bindings if each.service == formats.HALTS_ALL)
+    modes = {core.id: draft.mode_of(core) for core in cores}
+    return Model(draft["master"], tuple(starts), starts, frozenset(draft.started()), references, asking, halting, modes)
 
 
 def _references(draft: Draft, core: Core) -> Iterator[Reference]:

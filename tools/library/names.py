@@ -1,22 +1,25 @@
 """Faults 4, 5 and 6 of members: names that stand twice, and names of nothing or of another core's objects."""
 
 from library.drafts import Core, Draft, Named
-from library.findings import Report, listed
-from library.formats import DUPLICATE_NAME, MODE, UNKNOWN_NAME, WRONG_CORE, is_name
-from library.places import JsonList
+from library.findings import Report, did_you_mean, listed
+from library.formats import DUPLICATE_NAME, NAMES_NO_MODE, NO_MODES, UNKNOWN_NAME, WRONG_CORE, is_name
+from library.places import JsonList, JsonText
 from library.scripts import Judge, unknown_name
 
 
 def judge_names(report: Report, draft: Draft) -> None:
     """Judges all names of a configuration; those in scripts and actions too."""
     _judge_ids(report, draft)
+    _judge_new_modes(report, draft)
     _judge_twice(report, draft)
     _judge_master(report, draft)
     for core in draft.cores:
         judge = Judge(report, draft, core)
+        if core.spot("mode") is not core.node and core["mode"] != NAMES_NO_MODE:
+            _judge_mode(report, draft, core.spot("mode"))
         for task in core.named["tasks"]:
             if task.spot("auto") is not task.node:
-                _judge_modes(report, task.spot("auto"))
+                _judge_modes(report, draft, task.spot("auto"))
             judge.script(task)
         for isr in core.named["isrs"]:
             judge.script(isr)
@@ -41,11 +44,11 @@ def _judge_ids(report: Report, draft: Draft) -> None:
 
 
 def _judge_twice(report: Report, draft: Draft) -> None:
-    """Judges whether two objects have one name, or one has that of the mode."""
+    """Judges whether two objects have one name, or one has that of a mode."""
     for name, objects in draft.by_name.items():
-        if name == MODE:
+        if name in draft.modes:
             for each in objects:
-                report.fault(DUPLICATE_NAME, each.spot("name"), "`%s` is the name of the mode" % MODE)
+                report.fault(DUPLICATE_NAME, each.spot("name"), "`%s` is the name of a mode" % name)
             continue
         first = objects[0]
         for each in objects[1:]:
@@ -68,12 +71,31 @@ def _judge_master(report: Report, draft: Draft) -> None:
     report.fault(UNKNOWN_NAME, draft.spot("master"), text)
 
 
-def _judge_modes(report: Report, modes: JsonList) -> None:
+def _judge_new_modes(report: Report, draft: Draft) -> None:
+    """Judges the names of the modes."""
+    first = {}
+    for mode in draft.elements("modes"):
+        earlier = first.setdefault(mode.text, mode)
+        if mode.text in NO_MODES:
+            words = listed("`%s`" % word for word in NO_MODES)
+            report.fault(DUPLICATE_NAME, mode, "no mode is called `%s`: %s have a meaning of their own" % (mode.text, words))
+        elif earlier is not mode:
+            report.fault(DUPLICATE_NAME, mode, "the mode `%s` stands twice" % mode.text)
+
+
+def _judge_modes(report: Report, draft: Draft, modes: JsonList) -> None:
     """Judges a list of modes."""
     for mode in modes.elements:
-        if is_name(mode.text) and mode.text != MODE:
-            text = "there is one mode, `%s`, and none is called `%s`" % (MODE, mode.text)
-            report.fault(UNKNOWN_NAME, mode, text)
+        _judge_mode(report, draft, mode)
+
+
+def _judge_mode(report: Report, draft: Draft, mode: JsonText) -> None:
+    """Judges the name of a mode."""
+    known = draft.modes
+    if is_name(mode.text) and mode.text not in known:
+        others = "there is one, `%s`" % known[0] if len(known) == 1 else "there are %s" % listed("`%s`" % each for each in known)
+        text = "no mode is called `%s`: %s%s" % (mode.text, others, did_you_mean(mode.text, known))
+        report.fault(UNKNOWN_NAME, mode, text)
 
 
 def _judge_owner(report: Report, draft: Draft, core: Core, owner: Named) -> None:
@@ -87,4 +109,4 @@ def _judge_owner(report: Report, draft: Draft, core: Core, owner: Named) -> None
         title = "an alarm" if owner.kind.name == "alarm" else "a table"
         report.fault(WRONG_CORE, owner.spot("counter"), text % (name, found.core.id, title, core.id))
     if owner.auto is not None:
-        _judge_modes(report, owner.auto.spot("modes"))
+        _judge_modes(report, draft, owner.auto.spot("modes"))

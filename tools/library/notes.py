@@ -10,6 +10,7 @@ from library.formats import (
     BAD_SCRIPT,
     DUPLICATE_NAME,
     FOR_TASKS,
+    IGNORED_IF_SUSPENDED,
     INTERRUPT,
     ISR,
     LIMIT,
@@ -109,6 +110,7 @@ class _Notes:
             if core.id not in started and self.draft["master"] in self.draft.ids:
                 text = "core %d is off: no `start` leads to it from the master, core %d"
                 self.report.note(core.spot("id"), text % (core.id, self.draft["master"]))
+            self._other_mode(core, started)
             for element in core.elements("start"):
                 if element.number not in self.draft.ids:
                     text = "no core %d is configured: its start is answered E_OS_ID"
@@ -116,12 +118,26 @@ class _Notes:
                 elif element.number == core.id:
                     self.report.note(element, "core %d starts itself: that is answered E_OS_STATE" % core.id)
 
+    def _other_mode(self, core: Core, started: Set[int]) -> None:
+        """A started core that names another mode than one before it."""
+        if core.id not in started or self._has(UNKNOWN_NAME):
+            return
+        mode = self.draft.mode_of(core)
+        for other in self.draft.cores[: self.draft.cores.index(core)]:
+            before = self.draft.mode_of(other)
+            if other.id in started and None not in (mode, before) and before != mode:
+                text = "core %d names the mode `%s`, and core %d `%s`: the start ends in a conflict"
+                self.report.note(core.spot("mode"), text % (core.id, mode, other.id, before))
+                return
+
     def _ends(self) -> None:
         """Scripts to whose end a job of a task can come, or no job of an ISR, or one with interrupts suspended."""
         for scripted in self.draft.objects("task") + self.draft.objects("ISR"):
             steps = steps_of(scripted["script"])
             if all(step.is_in_form for step in steps):
-                text = _end_note(scripted, _reached(scripted, steps).get(len(steps), set()))
+                reached = _reached(scripted, steps)
+                shuts_down = any(0 in reached.get(step.number, ()) for step in steps if step.operation.name in _SHUTDOWNS)
+                text = _end_note(scripted, reached.get(len(steps), set()), shuts_down)
                 if text:
                     self.report.note(scripted.spot("script"), text)
 
@@ -185,12 +201,22 @@ class _Notes:
             "SetAbsAlarm": self._alarm_numbers,
             "StartScheduleTableRel": self._table_number,
             "StartScheduleTableAbs": self._table_number,
+            "StartCore": self._start,
         }
         for use in self.uses:
             if use.refusal:
                 self._note(use, 0, use.refusal)
-            elif use.name in judges and NO_OBJECT not in use.words:
+            elif use.name in judges and (use.name == "StartCore" or NO_OBJECT not in use.words):
                 judges[use.name](use)
+
+    def _start(self, use: _Use) -> None:
+        """A StartCore in a script, which starts nothing."""
+        word = use.words[0]
+        if word == NO_OBJECT or value_of(word) not in self.draft.ids:
+            what = "`?` is no core" if word == NO_OBJECT else "no core %s is configured" % word
+            self._note(use, 1, "%s: E_OS_ID" % what)
+        else:
+            self._note(use, 0, "the OS runs, and the cores in `start` were started before it: E_OS_ACCESS")
 
     def _increment(self, use: _Use) -> None:
         """Whether a script increments a counter that it may not increment."""
@@ -242,6 +268,8 @@ class _Notes:
                         self.report.note(each.spot("name"), text % each.name)
 
 
+# What ends the work of a core.
+_SHUTDOWNS = ("ShutdownOS", "ShutdownAllCores")
 # Which operations activate a task, set an alarm, start a table or increment a counter, and the place of its name.
 _STARTING = {
     "ActivateTask": (("task", 0),),
@@ -299,8 +327,8 @@ def _uses(draft: Draft) -> Iterator[_Use]:
 def _reached(scripted: Named, steps: List[Step]) -> Dict[int, Set[int]]:
     """The places of a script that a job may come to, each with how often it may have interrupts suspended there.
 
-    Services answer E_OK if an ISR may call them and interrupts are not suspended. Variables are not looked at. What is
-    not in form is passed.
+    Services answer E_OK if an ISR may call them and interrupts are not suspended. Behind a shutdown comes nothing.
+    Variables are not looked at. What is not in form is passed.
     """
     reached: Dict[int, Set[int]] = {}
     left = [(0, 0)]
@@ -319,7 +347,7 @@ def _behind(scripted: Named, step: Step, suspended: int) -> Iterator[Tuple[int, 
     name = step.operation.name if step.is_in_form else ""
     if name in ("jump", "jz"):
         yield value_of(step.arguments[-1]), suspended
-    if name in ("TerminateTask", "ChainTask") and not _refusal(scripted, step, {suspended}):
+    if name in ("TerminateTask", "ChainTask") + _SHUTDOWNS and not _refusal(scripted, step, {suspended}):
         return
     if name != "jump":
         change = {"SuspendAllInterrupts": 1, "ResumeAllInterrupts": -1}.get(name, 0)
@@ -327,24 +355,29 @@ def _behind(scripted: Named, step: Step, suspended: int) -> Iterator[Tuple[int, 
 
 
 def _refusal(scripted: Named, step: Step, suspended: Set[int]) -> str:
-    """Why an operation is refused before its own checks, if it always is: by how often interrupts may be suspended."""
+    """Why an operation is refused before its own checks, or ignored, if it always is.
+
+    That is said by how often interrupts may be suspended.
+    """
+    is_suspended = bool(suspended) and 0 not in suspended
     if not step.operation.is_service:
-        return ""
-    if suspended and 0 not in suspended:
+        is_ignored = is_suspended and step.operation.name in IGNORED_IF_SUSPENDED
+        return "interrupts are suspended here: it is ignored" if is_ignored else ""
+    if is_suspended:
         return "interrupts are suspended here: E_OS_DISABLEDINT"
     if scripted.kind is ISR and step.operation.name in FOR_TASKS:
         return "an ISR may not call it: E_OS_CALLEVEL"
     return ""
 
 
-def _end_note(scripted: Named, suspended: Set[int]) -> str:
+def _end_note(scripted: Named, suspended: Set[int], shuts_down: bool) -> str:
     """What to note of the end of a script, by how often a job may have interrupts suspended there."""
     if scripted.kind is not ISR:
         text = "a job can come to the end of the script without TerminateTask or ChainTask: E_OS_MISSINGEND"
         return text if suspended else ""
-    if not suspended:
+    if not suspended and not shuts_down:
         return "no job comes to the end of the script, so none of this ISR ends"
-    if suspended != {0}:
+    if suspended - {0}:
         return "a job can come to the end of the script with interrupts suspended: E_OS_DISABLEDINT"
     return ""
 

@@ -67,6 +67,8 @@ ARGUMENTS = {
     "place": any_of(["0", up_to(formats.MOST_OPERATIONS)]),
     "number": NUMBER,
     "signed": any_of(["0", up_to(formats.GREATEST_SIGNED), "-" + up_to(formats.GREATEST_SIGNED + 1)]),
+    "core": any_of(["0", up_to(formats.GREATEST_CORE_NUMBER), r"\?"]),
+    "status": any_of(["0", up_to(formats.GREATEST_STATUS)]),
 }
 
 
@@ -157,7 +159,9 @@ def _value(value: formats.Value) -> Schema:
 _TEXTS = {
     formats.NewName: "name",
     formats.CounterName: "name",
+    formats.NewModeName: "mode",
     formats.ModeName: "mode",
+    formats.CoreMode: "coreMode",
     formats.Action: "action",
 }
 
@@ -167,6 +171,17 @@ def _text(pattern: str, message: str) -> Schema:
     return {"type": "string", "pattern": pattern, "patternErrorMessage": message}
 
 
+def _name_but(words: Iterable[str]) -> str:
+    """The pattern of a name that is none of some words."""
+    return "^(?!%s%s)%s%s" % (any_of(words), _END, NAME, _END)
+
+
+def _listed_words(words: Iterable[str]) -> str:
+    """Words of which none is meant."""
+    *others, last = ("`%s`" % word for word in words)
+    return "%s or %s" % (", ".join(others), last)
+
+
 def _script(message: str, without: Iterable[str]) -> Schema:
     """The schema of scripts without some operations."""
     return _text(divided(operations_pattern(without), ";", formats.MOST_OPERATIONS), message)
@@ -174,13 +189,15 @@ def _script(message: str, without: Iterable[str]) -> Schema:
 
 def _texts() -> Dict[str, Schema]:
     """The schemas of names, modes, scripts and actions."""
-    name = "A name is 1 to 128 letters, digits and underscores, begins with a letter, and is not `%s`." % formats.MODE
+    name = "A name is 1 to 128 letters, digits and underscores, and begins with a letter%s."
+    core_modes = formats.NO_MODES[1:]
     script = 'At most %d operations, divided by `;` without spaces around it, each as in docs/FORMATS.md, "Scripts"%s.'
     but = ", but for %s" % listed("`%s`" % each for each in formats.NOT_IN_ISRS)
     forms = "`ActivateTask T` or `SetEvent T m`, where T is a task of any core, and m a mask."
     return {
-        "name": _text("^(?!%s%s)%s%s" % (formats.MODE, _END, NAME, _END), name),
-        "mode": {"const": formats.MODE},
+        "name": _text("^%s%s" % (NAME, _END), name % ""),
+        "mode": _text(_name_but(formats.NO_MODES), name % (". No mode is called %s" % _listed_words(formats.NO_MODES))),
+        "coreMode": _text(_name_but(core_modes), "One of `modes`, or `%s`." % formats.NAMES_NO_MODE),
         "script": _script(script % (formats.MOST_OPERATIONS, ""), ()),
         "isrScript": _script(script % (formats.MOST_OPERATIONS, but), formats.NOT_IN_ISRS),
         "action": _text(action_pattern(), forms),
@@ -195,7 +212,8 @@ def _plain(default: Any) -> Any:
 def _member(member: formats.Member, description: str) -> Schema:
     """The schema of a member."""
     schema: Schema = {"description": sentence(description)}
-    if not member.is_required:
+    # Which mode is the first one cannot be seen in a core.
+    if not member.is_required and member.default is not formats.FIRST_MODE:
         schema["default"] = _plain(member.default)
     value = _value(member.value)
     # In draft-07 nothing beside `$ref` counts.

@@ -9,7 +9,9 @@ from library.formats import (
     ACTION_OPERATIONS,
     BAD_MASK,
     BAD_SCRIPT,
+    GREATEST_CORE_NUMBER,
     GREATEST_SIGNED,
+    GREATEST_STATUS,
     GREATEST_WORD,
     MOST_OPERATIONS,
     NO_OBJECT,
@@ -92,6 +94,12 @@ class _Operation:
             elif argument.kind == "place" and value_of(word.text) > count:
                 text = "there is no place %s: the script has %s, so places are 0 to %d"
                 self.fault(BAD_SCRIPT, text % (shown(word.text), counted(count, "operation"), count), word.at)
+            elif argument.kind == "core" and word.text != NO_OBJECT and value_of(word.text) > GREATEST_CORE_NUMBER:
+                text = "%s is no number of a core: that is 0 to %d"
+                self.fault(BAD_SCRIPT, text % (shown(word.text), GREATEST_CORE_NUMBER), word.at)
+            elif argument.kind == "status" and value_of(word.text) > GREATEST_STATUS:
+                text = "%s is no number of a status: that is 0 to %d"
+                self.fault(BAD_SCRIPT, text % (shown(word.text), GREATEST_STATUS), word.at)
 
     def _judge_name(self, argument: Argument, word: Word) -> None:
         """Judges the name of an object."""
@@ -194,9 +202,6 @@ _NOT_THERE = {
     "ResumeOSInterrupts": "not planned: there is `ResumeAllInterrupts`",
     "DisableInterruptSource": "not planned",
     "EnableInterruptSource": "not planned",
-    "ShutdownOS": "not there yet (shutdown)",
-    "ShutdownAllCores": "not there yet (shutdown)",
-    "StartCore": "not an operation of scripts: the `start` of the core lists the cores",
     "StartOS": "not an operation of scripts: each started core makes it by itself",
 }
 
@@ -231,6 +236,10 @@ def wrong_form(argument: Argument, word: str) -> str:
         return "%s is no mask: events have no names, so write a number, as 1, 2 or 4" % shown(word)
     if argument.kind == "place" and is_name(word):
         return "%s is no place: write the number of an operation, counted from 0" % shown(word)
+    if argument.kind == "core" and is_name(word):
+        return "%s is no core: write its number, or `?`" % shown(word)
+    if argument.kind == "status" and is_name(word):
+        return "%s is no number of a status: write 0 to %d, as docs/FORMATS.md counts them" % (shown(word), GREATEST_STATUS)
     if argument.kind == "signed" and is_signed_decimal(word):
         return "%s is not %d to %d" % (shown(word), -GREATEST_SIGNED - 1, GREATEST_SIGNED)
     return "%s is no decimal number" % shown(word)

@@ -9,10 +9,12 @@ from library.formats import (
     OBJECTS,
     SHAPE,
     Action,
+    CoreMode,
     CounterName,
     Flag,
     ListOf,
     ModeName,
+    NewModeName,
     NewName,
     Number,
     Object,
@@ -27,7 +29,7 @@ from library.hints import TITLES, meant_member, unknown_member
 from library.not_json import shown
 from library.places import Json, JsonList, JsonNumber, JsonObject, JsonText, JsonWord
 
-_NAMES = (NewName, CounterName, ModeName)
+_NAMES = (NewName, CounterName, NewModeName, ModeName, CoreMode)
 
 
 def judge_shape(report: Report) -> None:
@@ -166,7 +168,9 @@ _WANTED = {
     Script: 'a script, as `"work;TerminateTask"`',
     Action: 'an action, as `"ActivateTask T"`',
     CounterName: "the name of a counter of this core",
-    ModeName: "the name of the mode, `M`",
+    NewModeName: 'the name of a mode, as `"M"`',
+    ModeName: 'the name of a mode, as `"M"`',
+    CoreMode: 'the name of a mode, or `"DONOTCARE"`',
     NewName: 'a name, as `"Control"`',
 }
 
@@ -174,7 +178,9 @@ _WANTED = {
 def _wanted_list(value: ListOf, kind: Object) -> str:
     """What a list in an object of a kind is to be."""
     if value == MODES:
-        return 'a list of modes, `["M"]` or `[]`'
+        return 'a list of modes, as `["M"]`, or `[]`'
+    if isinstance(value.element, NewModeName):
+        return 'a list of names, as `["M", "Diagnosis"]`'
     if isinstance(value.element, ObjectOf):
         return "a list of objects, one for each %s" % value.element.name
     if isinstance(value.element, Action):

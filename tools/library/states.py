@@ -33,7 +33,7 @@ def end_of(timeline: Timeline) -> int:
 
 
 def _last_turns(timeline: Timeline) -> Dict[int, int]:
-    """The turn up to which a job of each core is shown that does not end; a core that is down runs none."""
+    """The turn up to which a job of each core is shown that does not end; a core that was shut down runs none."""
     found = {core: end_of(timeline) for core in timeline.run.cores}
     found.update({core: item.turn for core, item in timeline.down.items()})
     return found

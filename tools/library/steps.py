@@ -73,8 +73,10 @@ def steps_of(script: str) -> List[Step]:
 
 def has_form(argument: Argument, word: str) -> bool:
     """Whether a word has the form that an argument wants. The range of a decimal number is asked later."""
+    if argument.may_be_nobody and word == NO_OBJECT:
+        return True
     if argument.is_object:
-        return word == NO_OBJECT or is_name(word)
+        return is_name(word)
     if argument.kind == "variable":
         return word in VARIABLES
     if argument.kind == "signed":

@@ -9,7 +9,7 @@ from library.items import Item
 from library.runs import Run
 from library.turns import placed_items
 
-_SHUTDOWN = "hook Shutdown "
+_SHUTDOWN = ("hook Shutdown ", "halt ")
 
 
 @dataclass(frozen=True)
@@ -29,8 +29,12 @@ class Timeline:
 
     @cached_property
     def down(self) -> Dict[int, Item]:
-        """Of each core that is down the item in which it shut down."""
-        return {item.core: item for item in self.items if any(line.startswith(_SHUTDOWN) for line in item.lines)}
+        """Of each core that was shut down the item from which on it runs no job."""
+        found: Dict[int, Item] = {}
+        for item in self.items:
+            if any(line.startswith(_SHUTDOWN) for line in item.lines):
+                found.setdefault(item.core, item)
+        return found
 
     @property
     def turns(self) -> int:

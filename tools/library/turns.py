@@ -19,7 +19,7 @@ LOOK = "l"
 _KINDS = {
     **dict.fromkeys(("in",), SERVE),
     **dict.fromkeys(("began", "entered", "readied", "stim", "post", "drained"), OWN),
-    **dict.fromkeys(("on", "pass1", "pass2", "passend", "last"), LOOK),
+    **dict.fromkeys(("on", "pass1", "pass2", "halt", "passend", "last"), LOOK),
 }
 # The item of a core that reaches a barrier, by the one that passes it.
 _BARRIERS = {"pass1": "entered", "pass2": "readied", "passend": "drained"}
@@ -106,6 +106,7 @@ class _Play:
         self.mail: Dict[tuple, int] = Counter()
         self.started = {run.draft["master"]}
         self.reached: Dict[str, Set[int]] = {word: set() for word in _BARRIERS.values()}
+        self.is_halted = False  # a core has asked for the shutdown of all
 
     def taken(self, turn: Turn) -> Optional[Item]:
         """The item that a turn results in, if it results in one."""
@@ -113,7 +114,9 @@ class _Play:
         if not left:
             return None
         words = left[0].words
-        if _KINDS[words[0]] != turn.kind or not self._can(turn, words):
+        # A core that asked for the shutdown of all cores is halted by its own turn.
+        kind = OWN if left[0].asked else _KINDS[words[0]]
+        if kind != turn.kind or not self._can(turn, words):
             return None
         self._take(turn.core, words)
         return left.popleft()
@@ -127,6 +130,8 @@ class _Play:
             return self.mail[turn.core, int(words[1])] < self.cap
         if word == "on":
             return turn.core in self.started
+        if word == "halt":
+            return self.is_halted or turn.kind == OWN
         return word not in _BARRIERS or self.started <= self.reached[_BARRIERS[word]]
 
     def _take(self, core: int, words: List[str]) -> None:
@@ -138,6 +143,8 @@ class _Play:
             self.mail[core, int(words[1])] += 1
         elif word == "began" and words[2] == OK:
             self.started.add(int(words[1]))
+        elif word == "halt":
+            self.is_halted = True
         elif word in self.reached:
             self.reached[word].add(core)
 

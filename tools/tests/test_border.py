@@ -198,6 +198,25 @@ REASONS = [
         {1: ("separate", []), 2: ("separate", [])},
     ),
     (
+        [START, core(1, "work;StartCore ?", "StartCore 2;GetNumberOfActivatedCores v0"), core(2, "ShutdownOS 0")],
+        {
+            1: ("bound", ["it has `StartCore`: task X1 and task U1", "it has `GetNumberOfActivatedCores`: task U1"]),
+            2: ("separate", []),
+        },
+    ),
+    (
+        [START, dict(core(1), mode="DONOTCARE"), core(2)],
+        {1: ("bound", ["it names no mode"]), 2: ("separate", [])},
+    ),
+    (
+        [START, core(1, isrs=isr("ShutdownAllCores 0")), core(2, "work")],
+        {1: ("bound", ["it has `ShutdownAllCores`: ISR I"]), 2: ("bound", ["core 1 has `ShutdownAllCores`: ISR I"])},
+    ),
+    (
+        [core(0, "work"), core(1, "ShutdownAllCores 15")],
+        {0: ("bound", ["core 1, which is off, has `ShutdownAllCores`: task X1"])},
+    ),
+    (
         [
             START,
             core(1, "SetRelAlarm A 1 0;SetAbsAlarm B 1 0", "CancelAlarm A;GetAlarm B v0"),
@@ -272,6 +291,9 @@ REACHES = [
     ),
     ([START, core(1, "IncrementCounter D"), core(2, counters=[counter("D")])], {0: {}, 1: {}, 2: {}}),
     ([START, core(1, "ActivateTask X3"), core(2), core(3, "ActivateTask X1")], {1: {}, 2: {}, 3: {}}),
+    ([START, core(1, "ShutdownAllCores 0"), core(2)], {0: {}, 1: {0: 1, 2: 1}, 2: {}}),
+    ([core(0), core(1, "ShutdownAllCores 0")], {0: {}, 1: {}}),
+    ([START, core(1, "StartCore 2;GetNumberOfActivatedCores v0"), core(2)], {0: {}, 1: {}, 2: {}}),
 ]
 
 # An alarm of core 0 acts on core 1, a task of core 1 calls core 2, and core 3 is separate.
@@ -329,6 +351,26 @@ class Reports(unittest.TestCase):
     def test_an_isr(self):
         report = border.report(model_of_cores([core(0, start=[1], isrs=isr("ActivateTask X1")), core(1, "work")]))
         self.assertIn("    ActivateTask X1  ISR I, operation 0  request; core 0 waits for the reply\n", report)
+
+    def test_modes(self):
+        modes = {0: "M", 1: "N", 2: "DONOTCARE", 3: "N"}
+        cores = [dict(core(number, start=[1, 2] if number == 0 else []), mode=mode) for number, mode in modes.items()]
+        whole = model_of(json.dumps({"modes": ["M", "N"], "cores": cores}))
+        differ = "the started cores name different modes: `M` (core 0) and `N` (core 1)"
+        self.assertEqual([whole.standing(number) for number in modes], ["bound", "bound", "bound", "off"])
+        self.assertEqual(border.reasons(whole, 1), [differ])
+        self.assertEqual(border.reasons(whole, 2), ["it names no mode", differ])
+        # A core that is never started binds nobody by its mode.
+        cores[1]["mode"] = "M"
+        self.assertEqual(model_of(json.dumps({"modes": ["M", "N"], "cores": cores})).standing(1), "separate")
+
+    def test_a_shutdown_of_all_cores(self):
+        cores = [core(0, start=[1]), core(1, "work;ShutdownAllCores 8"), core(2, "ShutdownAllCores 0")]
+        report = border.report(model_of_cores(cores))
+        halt = "ShutdownAllCores 8  task X1, operation 1  halt; unless core 0 has drained or is down\n"
+        self.assertIn("  core 1 to core 0\n    " + halt, report)
+        self.assertIn("ShutdownAllCores 0  task X2, operation 0  never done; core 2 is off\n", report)
+        self.assertIn("  core 1\n    core 0: it is halted by ShutdownAllCores 8 (task X1, operation 1)\n", report)
 
     def test_quoting(self):
         self.assertEqual(border.quoted(['a "b" \\', "c"]), r'"a \"b\" \\\nc"')

@@ -136,7 +136,7 @@ CASES = (
         '"M"',
         (
             "config.json:18:60: fault 2 Shape: /cores/1/tasks/0/auto: "
-            '`auto` is a list of modes, `["M"]` or `[]`, not `"M"`',
+            '`auto` is a list of modes, as `["M"]`, or `[]`, not `"M"`',
         ),
     ),
     Case(
@@ -146,7 +146,7 @@ CASES = (
         '{"modes"',
         (
             "config.json:18:60: fault 2 Shape: /cores/1/tasks/0/auto: "
-            '`auto` is a list of modes, `["M"]` or `[]`, not an object',
+            '`auto` is a list of modes, as `["M"]`, or `[]`, not an object',
         ),
     ),
     Case(
@@ -275,6 +275,46 @@ CASES = (
         (
             "config.json:22:62: fault 10 BadScript: /cores/2/tasks/0/script: operation 0 `DisableAllInterrupts`: "
             "`DisableAllInterrupts` is not planned: there is `SuspendAllInterrupts`",
+        ),
+    ),
+    Case(
+        "a core above the greatest",
+        "add v0 1;",
+        "StartCore 256;",
+        "256",
+        (
+            "config.json:22:72: fault 10 BadScript: /cores/2/tasks/0/script: operation 0 `StartCore 256`: "
+            "`256` is no number of a core: that is 0 to 255",
+        ),
+    ),
+    Case(
+        "a status above the greatest",
+        "add v0 1;",
+        "ShutdownOS 16;",
+        "16;",
+        (
+            "config.json:22:73: fault 10 BadScript: /cores/2/tasks/0/script: operation 0 `ShutdownOS 16`: "
+            "`16` is no number of a status: that is 0 to 15",
+        ),
+    ),
+    Case(
+        "a status by its name",
+        "add v0 1;",
+        "ShutdownAllCores E_OK;",
+        "E_OK",
+        (
+            "config.json:22:79: fault 10 BadScript: /cores/2/tasks/0/script: operation 0 `ShutdownAllCores E_OK`: "
+            "`E_OK` is no number of a status: write 0 to 15, as docs/FORMATS.md counts them",
+        ),
+    ),
+    Case(
+        "what is ignored",
+        "add v0 1;TerminateTask",
+        "SuspendAllInterrupts;ShutdownOS 0;ResumeAllInterrupts;TerminateTask",
+        "ShutdownOS",
+        (
+            "config.json:22:83: note: /cores/2/tasks/0/script: "
+            "operation 1 `ShutdownOS 0`: interrupts are suspended here: it is ignored",
         ),
     ),
     Case(
@@ -482,7 +522,7 @@ CASES = (
         '"M"',
         (
             "config.json:5:15: fault 4 DuplicateName: /cores/0/alarms/0/name: "
-            "`M` is the name of the mode",
+            "`M` is the name of a mode",
         ),
     ),
     Case(
@@ -604,7 +644,7 @@ CASES = (
         '"Diag"',
         (
             "config.json:6:26: fault 5 UnknownName: /cores/0/alarms/0/auto/modes/0: "
-            "there is one mode, `M`, and none is called `Diag`",
+            "no mode is called `Diag`: there is one, `M`",
         ),
     ),
     Case(
@@ -1139,6 +1179,12 @@ STATUSES = (
     ("SuspendAllInterrupts;SetRelAlarm L 0 0;ResumeAllInterrupts;TerminateTask", "stat A SetRelAlarm E_OS_DISABLEDINT"),
     ("ResumeAllInterrupts;SuspendAllInterrupts;ResumeAllInterrupts;ClearEvent 1;TerminateTask", NO_EVENTS),
     ("jz v0 2;SuspendAllInterrupts;SetEvent E 1;ResumeAllInterrupts;TerminateTask", "stat A SetEvent E_OK"),
+    ("StartCore ?;TerminateTask", "stat A StartCore E_OS_ID"),
+    ("StartCore 2;TerminateTask", "stat A StartCore E_OS_ID"),
+    ("StartCore 1;TerminateTask", "stat A StartCore E_OS_ACCESS"),
+    ("SuspendAllInterrupts;StartCore 1;ResumeAllInterrupts;TerminateTask", "stat A StartCore E_OS_DISABLEDINT"),
+    ("SetEvent E 1;ShutdownOS 3", "stat A SetEvent E_OK"),
+    ("SetEvent E 1;ShutdownAllCores 3", "stat A SetEvent E_OK"),
 )
 ISR_STATUSES = (
     ("ActivateTask B", "stat I ActivateTask E_OK"),
@@ -1151,6 +1197,8 @@ ISR_STATUSES = (
     ("WaitEvent 1", "stat I WaitEvent E_OS_CALLEVEL"),
     ("SuspendAllInterrupts;WaitEvent 1;ResumeAllInterrupts", "stat I WaitEvent E_OS_DISABLEDINT"),
     ("SuspendAllInterrupts", "hook Error E_OS_DISABLEDINT"),
+    ("StartCore 0", "stat I StartCore E_OS_ACCESS"),
+    ("ActivateTask B;ShutdownOS 3", "stat I ActivateTask E_OK"),
 )
 
 

@@ -74,6 +74,7 @@ def phrase(value):
         return "at most %d" % value.greatest if value.least == 0 else "%d to %d" % (value.least, value.greatest)
     return {
         formats.NewName: "a name",
+        formats.CoreMode: "one of `modes`; or `%s`" % formats.NAMES_NO_MODE,
         formats.CounterName: "the name of its counter, one of its own core",
         formats.Script: "a script",
         formats.Action: "`ActivateTask T` or `SetEvent T m`",
@@ -91,6 +92,7 @@ class Members(unittest.TestCase):
     def test_the_same_defaults(self):
         words = {"`[]`": (), "`null`": None, "`true`": True, "`false`": False, "none": formats.REQUIRED}
         words["`PRO_SHUTDOWN`"] = "PRO_SHUTDOWN"
+        words.update({'`["M"]`': (formats.MODE,), "the first of `modes`": formats.FIRST_MODE})
         for owner, name, _, default in member_rows():
             with self.subTest(owner=owner, member=name):
                 known = formats.OBJECTS[owner].member(name).default
@@ -144,11 +146,34 @@ class Operations(unittest.TestCase):
         self.assertIn("The `n` of `jump` and `jz` counts the operations from 0.", TEXT)
         self.assertIn("The `n`, `s` and `c` of alarms and tables are 0 to %d." % formats.GREATEST_WORD, TEXT)
         self.assertIn("a decimal number of 1 to %d, whose bits are events" % formats.GREATEST_WORD, TEXT)
+        self.assertIn("the OS runs already; `k` is 0 to %d" % formats.GREATEST_CORE_NUMBER, TEXT)
+        status = "The `n` of the two shutdowns is the number of a [status](#what-run-prints), 0 to %d."
+        self.assertIn(status % formats.GREATEST_STATUS, TEXT)
         self.assertEqual(formats.GREATEST_SIGNED, 2**63 - 1)
         for operation in formats.OPERATIONS.values():
             for argument in operation.arguments:
                 if argument.word == "n":
                     self.assertEqual(KINDS_OF_N.get(operation.name, "number"), argument.kind, operation.form)
+
+    def test_the_operations_without_a_status(self):
+        sentence = TEXT[TEXT.index("- **The last status**") :].split(" have no status, and leave it")[0]
+        written = set(re.findall(r"`([A-Z]\w+)`", sentence)) | {"ShutdownOS", "ShutdownAllCores"}
+        self.assertIn("and the two shutdowns", sentence)
+        self.assertEqual(written, set(formats.WITHOUT_STATUS))
+        ignored = re.search(r"(`\w+`, `\w+` and `\w+`) are ignored: no effect", TEXT)[1]
+        self.assertEqual(tuple(re.findall(r"`(\w+)`", ignored)), formats.IGNORED_IF_SUSPENDED)
+
+    def test_what_binds_a_core(self):
+        row = next(line for line in TEXT.splitlines() if line.startswith("| `core K separate`"))
+        asks = re.search(r"no script of it has `(\w+)` or `(\w+)`", row).groups()
+        self.assertEqual(asks, formats.ASKS_SHARED)
+        self.assertIn("no script of any core, also of one that is off, has `%s`" % formats.HALTS_ALL, row)
+        self.assertIn("after the `stat` of a %s" % formats.WITHOUT_ERROR_HOOK, TEXT.lower().replace("startcore", "StartCore"))
+
+    def test_the_numbers_of_statuses(self):
+        start = TEXT.index("| Status | Number | When |")
+        rows = re.findall(r"(?m)^\| (E_\w+) \| (\d+) \|", TEXT[start:])
+        self.assertEqual([int(number) for _, number in rows], list(range(formats.GREATEST_STATUS + 1)))
 
     def test_the_operations_on_own_objects_alone(self):
         text = dict(rows_behind("Faults"))["6 WrongCore"]
@@ -180,6 +205,7 @@ class Operations(unittest.TestCase):
 
 
 KINDS_OF_N = {"set": "signed", "add": "signed", "jump": "place", "jz": "place"}
+KINDS_OF_N.update(ShutdownOS="status", ShutdownAllCores="status")
 KINDS_OF_WORDS = {
     "T": ("task",),
     "R": ("resource",),
@@ -190,7 +216,8 @@ KINDS_OF_WORDS = {
     "x": ("variable",),
     "y": ("variable",),
     "m": ("mask",),
-    "n": ("signed", "place", "number"),
+    "n": ("signed", "place", "number", "status"),
+    "k": ("core",),
     "s": ("number",),
     "c": ("number",),
 }
@@ -257,7 +284,9 @@ class Words(unittest.TestCase):
 
     def test_names(self):
         self.assertIn("A name is 1 to 128 ASCII letters, digits and underscores, and begins with a letter.", TEXT)
-        self.assertIn("There is one application mode, `%s`" % formats.MODE, TEXT)
+        self.assertIn("Without `modes` there is one mode, `%s`," % formats.MODE, TEXT)
+        self.assertIn("none is `%s`, `%s` or `%s`" % formats.NO_MODES, TEXT)
+        self.assertIn("A core with `%s` names none" % formats.NAMES_NO_MODE, TEXT)
         self.assertIn("`%s` is an identifier that refers to nothing" % formats.NO_OBJECT, TEXT)
         for name in ("A", "a1_", "x" * 128):
             self.assertTrue(formats.is_name(name), name)

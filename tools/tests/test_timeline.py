@@ -76,6 +76,27 @@ SCRIPTS = [
     ),
     ("WaitEvent 1;work", 2, [["stat X WaitEvent E_OS_ACCESS", "hook Error E_OS_ACCESS"], []]),
 ]
+# The same of starts and shutdowns.
+SCRIPTS += [
+    (
+        "StartCore ?;StartCore 0;GetNumberOfActivatedCores v0;jz v0 0;status v1",
+        5,
+        [
+            ["stat X StartCore E_OS_ID"],
+            ["stat X StartCore E_OS_ACCESS"],
+            ["var X v0 1"],
+            [],
+            ["var X v1 1"],
+        ],
+    ),
+    (
+        "SuspendAllInterrupts;GetNumberOfActivatedCores v0;ShutdownOS 0;ShutdownAllCores 0;StartCore 0;jz v0 5",
+        6,
+        [[], [], [], [], ["stat X StartCore E_OS_DISABLEDINT"], []],
+    ),
+    ("work;ShutdownOS 5", 2, [[], ["hook Shutdown E_OS_NOFUNC"]]),
+    ("work;ShutdownAllCores 5", 2, [[], []]),
+]
 # The scripts of the task X and of the ISR I, the budget of both, and the core's `protection`; then its stimuli, and what
 # each of them prints. J has a greater level than I, Y a greater priority than X; the first `tick` activates Y.
 INTERRUPTS = [
@@ -222,6 +243,86 @@ class Items(unittest.TestCase):
                 items.items_of(run_of_script("work;work", 2, lines), 0)
         with self.assertRaisesRegex(program.Failed, "core 0, item 5 `stim op`: the end of the block is not what"):
             items.items_of(run_of_script("set v0 1", 1, []), 0)
+
+
+# Two cores of which the second one shuts all down: what they print, and their logs. Core 0 has an envelope on its way.
+HALTED = {
+    0: "start 1 E_OK|hook Startup|act A|pre A|out 1 ActivateTask B|stat A ActivateTask E_OS_CORE|hook Error E_OS_CORE"
+    "|halt 1 E_OS_ID|hook Shutdown E_OS_ID",
+    1: "hook Startup|act X|pre X|halt 1 E_OS_ID|hook Shutdown E_OS_ID",
+}
+HALTED_LOGS = {
+    0: "began 1 E_OK|entered|pass1 M|readied|pass2 0 1|stim op|stim op|post 1|in 1 0 rep E_OS_CORE|stim op|halt 1 E_OS_ID"
+    "|drained|passend|last 1 E_OS_ID",
+    1: "on|entered|pass1 M|readied|pass2 0 1|stim op|halt 1 E_OS_ID|in 0 0 req ActivateTask B|post 0|drained|passend"
+    "|last 1 E_OS_ID",
+}
+HALTED_TEXT = {
+    "cores": [
+        {
+            "id": 0,
+            "start": [1],
+            "tasks": [{"name": "A", "prio": 1, "auto": ["M"], "script": "work;ActivateTask B;work"}],
+        },
+        {
+            "id": 1,
+            "tasks": [
+                {"name": "X", "prio": 1, "auto": ["M"], "script": "ShutdownAllCores 3"},
+                {"name": "B", "prio": 1, "script": ""},
+            ],
+        },
+    ]
+}
+
+
+def halted_run(turns_of_run=None):
+    """The run of HALTED."""
+    texts = ({core: lines.split("|") for core, lines in each.items()} for each in (HALTED, HALTED_LOGS))
+    run = runs.run_of(json.dumps(HALTED_TEXT), *texts)
+    return runs.Run(run.draft, run.blocks, run.logs, True, turns_of_run)
+
+
+class Shutdowns(unittest.TestCase):
+    def test_who_asked(self):
+        for core, asked in ((0, False), (1, True)):
+            item = next(each for each in items.items_of(halted_run(), core) if each.words[0] == "halt")
+            self.assertEqual((item.asked, item.lines), (asked, ["halt 1 E_OS_ID"]))
+
+    def test_what_comes_to_a_halted_core(self):
+        found = next(each for each in items.items_of(halted_run(), 1) if each.words[0] == "in")
+        self.assertEqual([(deed.operation, deed.status) for deed in found.deeds], [("ActivateTask B", "E_OS_CORE")])
+        self.assertEqual(found.lines, [])
+
+    def test_the_turns_of_the_default_schedule(self):
+        placed = turns.placed_items(halted_run())
+        halts = [(item.core, item.round, str(item.turn % 6)) for item in placed if item.words[0] == "halt"]
+        # Core 1 by its own turn, core 0 by a look behind the reply.
+        self.assertEqual(halts, [(1, 6, "5"), (0, 8, "3")])
+
+    def test_listed_turns(self):
+        words = "0o 1l 1o 0o 0l 1l 0o 1o 0l 1l 0o 0o 0o 1o 0l 1l 1o 1s0 0l 1o 0l 0s1 0o 0l 1o 0o 0l 1l 0l 1l"
+        words = words.split(" ")
+        placed = turns.placed_items(halted_run(words))
+        halts = [(item.core, item.turn) for item in placed if item.words[0] == "halt"]
+        self.assertEqual(halts, [(1, 17), (0, 24)])
+
+    def test_from_when_on_a_core_runs_no_job(self):
+        down = timeline.timeline_of(halted_run()).down
+        self.assertEqual({core: item.text for core, item in down.items()}, {0: "halt 1 E_OS_ID", 1: "halt 1 E_OS_ID"})
+
+    def test_a_conflict_of_modes(self):
+        text = json.dumps({"cores": [{"id": 0}]})
+        run = runs.run_of(text, {0: ["conflict"]}, {0: ["entered", "pass1 conflict"]})
+        self.assertEqual([item.lines for item in items.items_of(run, 0)], [[], ["conflict"]])
+
+    def test_what_autostarts_in_a_mode(self):
+        tasks = [{"name": "A", "prio": 1, "auto": ["M", "N"], "script": ""}, {"name": "B", "prio": 2, "auto": ["M"], "script": ""}]
+        text = json.dumps({"modes": ["M", "N"], "cores": [{"id": 0, "mode": "DONOTCARE", "tasks": tasks}]})
+        for mode, lines in (("N", ["act A", "pre A"]), ("M", ["act A", "act B", "pre B"]), ("none", [])):
+            with self.subTest(mode=mode):
+                log = ["entered", "pass1 " + mode, "readied", "pass2 0"]
+                run = runs.run_of(text, {0: ["hook Startup"] + lines}, {0: log})
+                self.assertEqual(items.items_of(run, 0)[-1].lines, lines)
 
 
 class Turns(unittest.TestCase):

@@ -8,6 +8,8 @@ mod kernel;
 mod limits;
 mod logs;
 mod program;
+mod shutdown;
+mod starts;
 mod tables;
 mod threads;
 

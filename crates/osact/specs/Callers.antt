@@ -19,7 +19,7 @@ by_task r = (is_isr r, EOsCallevel)
 abbrev pub by_extended : Seen → Runner → Check
 by_extended s r = (not (is_extended s.core r), EOsAccess)
 
--- The runner's oldest live job has suspended interrupts. [OSEK/VDX OS 2.2.3, section 13.3.2.3]
+-- The runner's oldest live job has suspended interrupts. [OSEK/VDX OS 2.2.3, section 13.3.2.4]
 abbrev pub has_suspended : Seen → Runner → Bool
 has_suspended s r = nat_lt 0 (s.row r).depth
 

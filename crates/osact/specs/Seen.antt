@@ -30,7 +30,8 @@ pub record Seen : Type 0 where
   -- the core's number and its own part of the configuration
   pub id : CoreId
   pub core : Core
-  -- how many jobs of a runner are live, and its row: what its oldest job holds, its events, and where that job stands
+  -- how many jobs of a runner are live, and its row: what its oldest job holds, its events, where that job stands, how often it has
+  -- suspended interrupts, and how many ticks of its budget it has used
   pub jobs : Runner → ℕ
   pub row : Runner → Row
   -- whether a job holds the resource of this index

@@ -32,6 +32,7 @@ use Rattle.osbase.specs.declared.histories.TaskEvents.{TaskEvents}
 use Rattle.osbase.specs.declared.histories.Sent.{Sent}
 use Rattle.osbase.specs.declared.histories.Phase.{Phase}
 use Rattle.osbase.specs.declared.histories.Course.{Course}
+use Rattle.osbase.specs.Phases.{halted_from}
 
 -- What happens without a printed line. [own]
 pub data Note : Type 0 where
@@ -111,10 +112,7 @@ abbrev pub item_count : History → ℕ
 item_count [] = 0
 item_count (e ∷ h) = items_after e (item_count h)
 
--- Live jobs, the smallest stamp first. An activation begins a job, whose stamp is its place in the
--- history; a release from waiting gives the oldest live job of its task, of which an extended task has one, a new stamp, so that it
--- comes behind the others of its priority; an end ends the oldest live job of its task. [OSEK/VDX OS 2.2.3, section 4.3 and 4.5; the code has
--- the same list, and no history to count places in.]
+-- Of live jobs, the smallest stamp first: all but the oldest of this task or ISR, and that one.
 abbrev pub without_oldest : Runner → List Job → List Job
 without_oldest r [] = []
 without_oldest r (j ∷ js) = if same_runner j.runner r then js else j ∷ without_oldest r js
@@ -123,6 +121,10 @@ abbrev pub oldest : Runner → List Job → Option Job
 oldest r [] = None
 oldest r (j ∷ js) = if same_runner j.runner r then Some j else oldest r js
 
+-- The live jobs of tasks, the smallest stamp first; `isr_jobs` has those of ISRs. An activation begins a job, whose stamp is its place
+-- in the history; a release from waiting gives the oldest live job of its task, of which an extended task has one, a new stamp, so that
+-- it comes behind the others of its priority; an end ends the oldest live job of its task. [OSEK/VDX OS 2.2.3, section 4.3 and 4.5; the
+-- code has the same list, and no history to count places in.]
 abbrev pub stamped_anew : Runner → ℕ → List Job → List Job
 stamped_anew r stamp jobs = option_map_or (λ (j : Job). without_oldest r jobs ++ record j { stamp = stamp } ∷ []) (oldest r jobs) jobs
 
@@ -136,7 +138,7 @@ abbrev pub live_jobs : History → List Job
 live_jobs [] = []
 live_jobs (e ∷ h) = jobs_after e (length h) (live_jobs h)
 
--- How many live jobs a runner has.
+-- How many of these jobs a task or an ISR has.
 abbrev pub job_count : Runner → List Job → ℕ
 job_count r [] = 0
 job_count r (j ∷ js) = if same_runner j.runner r then suc (job_count r js) else job_count r js
@@ -341,9 +343,11 @@ first_phase is_master = if is_master then Phase.Boot else Phase.Off
 abbrev pub phase_of : Bool → History → Phase
 phase_of is_master h = phase_from (first_phase is_master) h
 
--- Whether the core goes on: once it went down, it is down. [AUTOSAR SWS OS 4.x, section 7.1 and SWS_Os_00107]
+-- Whether the core goes on: once it went down, it is down; a halt of all cores halts it, unless it is down.
+-- [AUTOSAR SWS OS 4.x, section 7.1, SWS_Os_00107 and SWS_Os_00714]
 abbrev pub course_after : Entry → Course → Course
 course_after (Noted WentDown) course = Course.Down
+course_after (Took (Item.Halt core status)) course = halted_from course
 course_after e course = course
 
 abbrev pub course_of : History → Course

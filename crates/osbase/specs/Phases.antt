@@ -1,7 +1,7 @@
 -- Where a core stands, from being off to its end: the phases in their order; and whether it goes on.
 use Rattle.std.specs.Prelude.{ℕ, ◌==◌, ◌&&◌, nat_lt, Bool, true, false}
 use Rattle.osbase.specs.declared.histories.Course.{Course}
-use Rattle.osbase.specs.declared.histories.Course.TheVariants.{Going, Down}
+use Rattle.osbase.specs.declared.histories.Course.TheVariants.{Going, Down, Halted}
 use Rattle.osbase.specs.declared.histories.Phase.{Phase}
 use Rattle.osbase.specs.declared.histories.Phase.TheVariants.{Off, Boot, FirstGate, BetweenGates, SecondGate, Live, Drained, Closing, Ended}
 
@@ -33,11 +33,19 @@ is_past_first_gate p = nat_lt (place_of FirstGate) (place_of p) && nat_lt (place
 abbrev pub is_scheduling : Phase → Bool
 is_scheduling p = nat_lt (place_of SecondGate) (place_of p) && nat_lt (place_of p) (place_of Ended)
 
--- The core schedules and serves, as far as its phase lets it; or it is down, and does neither. [own]
+-- The core schedules and serves, as far as its phase lets it; or it is down or halted, and does neither. [own]
 abbrev pub is_going : Course → Bool
 is_going Going = true
 is_going Down = false
+is_going Halted = false
 
 abbrev pub is_down : Course → Bool
 is_down Going = false
 is_down Down = true
+is_down Halted = false
+
+-- A halt of all cores: a core that is down stays so. [AUTOSAR SWS OS 4.x, SWS_Os_00714]
+abbrev pub halted_from : Course → Course
+halted_from Going = Halted
+halted_from Down = Down
+halted_from Halted = Halted

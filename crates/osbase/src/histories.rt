@@ -1,7 +1,7 @@
 //! What the definitions over a history share with the kernel that keeps their readings.
 
 ghost use Rattle.std.specs.Prelude.{◌≡◌};
-ghost use Rattle.osbase.specs.Phases.{is_down, is_going, is_scheduling, stands_in};
+ghost use Rattle.osbase.specs.Phases.{halted_from, is_down, is_going, is_scheduling, stands_in};
 
 use crate::messages::Envelope;
 use crate::references::{CoreId, Runner, SpinlockId};
@@ -39,12 +39,13 @@ impl Phase {
     }
 }
 
-/// Whether a core goes on, or went down: then it schedules nothing any more and serves no other core, whatever its phase
-/// is (AUTOSAR SWS OS 4.x, ShutdownOS).
+/// Whether a core goes on, or went down by itself, or was halted with all others: a core that does not go on schedules
+/// nothing any more and serves no other core, whatever its phase is (AUTOSAR SWS OS 4.x, ShutdownOS and ShutdownAllCores).
 #[derive(Clone, Copy, Debug, PartialEq, Eq)]
 pub enum Course {
     Going,
     Down,
+    Halted,
 }
 
 impl Course {
@@ -60,6 +61,16 @@ impl Course {
         ensures { result ≡ is_down self }
     {
         matches!(self, Course::Down)
+    }
+
+    /// The course after a halt of all cores: a core that is down stays so (AUTOSAR SWS OS 4.x, SWS_Os_00714).
+    pub fn halted(self) -> Course
+        ensures { result ≡ halted_from self }
+    {
+        match self {
+            Course::Down => Course::Down,
+            Course::Going | Course::Halted => Course::Halted,
+        }
     }
 }
 

@@ -99,7 +99,7 @@ pub enum Item {
         core: CoreId,
         status: Status,
     },
-    /// The core has no stimulus left.
+    /// The core takes no further stimulus: none is left, or it is down.
     Drained,
     /// Every started core has drained.
     PassEnd,

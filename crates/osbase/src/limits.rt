@@ -42,7 +42,7 @@ pub const TABLES: usize = 8;
 /// The most jobs of all a core's tasks at once.
 pub const JOBS: u64 = 64;
 
-/// The most jobs of all a core's ISRs at once: of each one that was started, and one that is pending.
+/// The most jobs of all a core's ISRs at once: of each one that was entered, and one that is pending.
 pub const INTERRUPTS: usize = 2 * ISRS;
 
 /// The greatest level of an ISR; the least is 1.

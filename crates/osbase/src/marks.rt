@@ -51,7 +51,7 @@ pub enum Mark {
     InterruptAccepted(IsrRef),
     /// `lost I`: an interrupt is lost.
     InterruptLost(IsrRef),
-    /// `enter I`: the ISR begins.
+    /// `enter I`: the ISR is entered, its oldest job runs.
     IsrEntered(IsrRef),
     /// `leave I`: the ISR has ended.
     IsrLeft(IsrRef),

@@ -14,6 +14,7 @@ use Rattle.osbase.specs.declared.items.CoreMode.TheVariants.{Named, DontCare}
 use Rattle.osseat.specs.declared.histories.Entry.{Entry}
 use Rattle.osseat.specs.Histories.{Object, entry}
 use Rattle.osbase.specs.declared.limits.TheConstants.{MODES}
+use Rattle.osboard.specs.declared.calls.TheConstants.{BOARD_CORES}
 use Rattle.osboard.specs.declared.calls.ModeSet.{ModeSet}
 use Rattle.osboard.specs.declared.calls.BoardView.{BoardView}
 use Rattle.osboard.specs.declared.calls.BoardState.{BoardState}
@@ -37,6 +38,12 @@ with_mode DontCare modes = modes
 abbrev pub IsMode : CoreMode → Type 0
 IsMode (Named m) = m.index < MODES
 IsMode DontCare = Unit {0}
+
+-- The board has a place for the core or the mode that the call names.
+abbrev pub HasPlace : BoardCall → Type 0
+HasPlace (Start k) = k.number < BOARD_CORES
+HasPlace (Enter mode) = IsMode mode
+HasPlace call = Unit {0}
 
 -- At first the master alone is started. [AUTOSAR SWS OS 4.x, StartCore: a core starts others before StartOS]
 abbrev pub first_view : CoreId → BoardView

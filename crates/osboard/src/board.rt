@@ -1,10 +1,11 @@
 //! The board's words, shared by the threads of the cores.
 
 ghost use Rattle.std.specs.Prelude.{◌≡◌, ◌<◌, All, map, IfOk};
+ghost use Rattle.osseat.specs.Histories.{entry};
 ghost use Rattle.osseat.specs.Seats.{AllApart, AllAt, Extends, IsOneHistory, cores_of, fresh};
-ghost use Rattle.osboard.specs.Boards.{IsMode, ask_halt_call, drain_call, enter_call, look_call, look_halt_call, one_board, ready_call, start_call};
+ghost use Rattle.osboard.specs.Boards.{HasPlace, IsMode, ask_halt_call, drain_call, enter_call, look_call, look_halt_call, one_board, ready_call, start_call};
 
-use crate::calls::{BOARD_CORES, BoardCall, BoardView, BoardWords};
+use crate::calls::{BOARD_CORES, BoardCall, BoardReply, BoardView, BoardWords};
 use crate::words::{DRAINED, ENTERED, READY, STARTED, bit, halt_in, halt_word, mode_bits, view_in};
 use osbase::{CoreId, CoreMode, List, Status};
 use osseat::{CoreSeat, Plan, SharedWords};
@@ -139,6 +140,33 @@ impl Board {
         ensures { Extends one_board seat.old (look_halt_call seat.old.core result) seat.new }
     {
         halt_in(self.words.load::<Brand>(seat, HALT, BoardCall::LookHalt))
+    }
+
+    /// Any of the seven calls, with its reply.
+    pub fn call(&self, seat: &mut BoardSeat, call: BoardCall) -> BoardReply
+        requires place { seat.old.place ≡ self.now }
+        requires core { seat.old.core.number < BOARD_CORES }
+        requires call { HasPlace call }
+        ensures { Extends one_board seat.old (entry seat.old.core call result) seat.new }
+    {
+        match call {
+            BoardCall::Start(core) => BoardReply::Started(self.start(seat, core)),
+            BoardCall::Enter(mode) => {
+                self.enter(seat, mode);
+                BoardReply::Acknowledged
+            }
+            BoardCall::MakeReady => {
+                self.ready(seat);
+                BoardReply::Acknowledged
+            }
+            BoardCall::Drain => {
+                self.drain(seat);
+                BoardReply::Acknowledged
+            }
+            BoardCall::Look => BoardReply::Shown(self.look(seat)),
+            BoardCall::AskHalt(status) => BoardReply::Decided(self.ask_halt(seat, status)),
+            BoardCall::LookHalt => BoardReply::Halting(self.look_halt(seat)),
+        }
     }
 
     /// All seats together show one history, which is legal and has their calls and no others.

@@ -35,7 +35,8 @@ impl Used {
         self.ticks += 1;
     }
 
-    /// The job has ended or waits: its next tick is the first again (AUTOSAR SWS OS 4.x, SWS_Os_00473).
+    /// The job has ended or waits: its next tick is the first again (AUTOSAR SWS OS 4.x, SWS_Os_00473 for a task,
+    /// SWS_Os_00474 for an ISR, which ends and never waits).
     pub fn reset(&mut self)
         ensures { self.new ≡ 0 }
     {

@@ -1,6 +1,6 @@
 -- Which acts a service that may cross does: it names only objects of cores that marks may name, and asks only cores that may be
 -- asked. The check makes the cases of a table itself: the first clause is only there to begin them.
-use Rattle.std.proofs.Common.{◌≡◌, ℤ, true, Option, Some, None, IfSome}
+use Rattle.std.proofs.Common.{◌≡◌, ℤ, true, Option, Some, None, IfSome, refl}
 use Rattle.std.proofs.lemmas.Bool.{and_parts}
 use Rattle.osbase.specs.declared.statuses.Status.{Status}
 use Rattle.osbase.specs.declared.statuses.ServiceId.{ServiceId}
@@ -12,14 +12,16 @@ use Rattle.osbase.specs.Answers.{served}
 use Rattle.oscript.specs.declared.Op.{Op}
 use Rattle.oscript.specs.Calls.{call_of_op}
 use Rattle.osact.specs.Acts.{Acts, Prints, look, when}
+use Rattle.osact.specs.Checks.{first_failing}
 use Rattle.osact.specs.Returning.{asks}
 use Rattle.osact.specs.Seen.{Seen, is_own}
 use Rattle.osact.specs.Service.{serves}
 use Rattle.osact.proofs.Called.{IsAllowed, called-passes}
-use Rattle.osact.proofs.Kept.{AreAllowed, IsNamed, Leave, elsewhere, is_allowed, is_within, serves-ok}
+use Rattle.osact.proofs.Kept.{AreAllowed, IsNamed, Leave, elsewhere, is_allowed, is_within, returns-ok, serves-ok}
 use Rattle.ostaskcall.proofs.Allowed.{ends-ok}
 use Rattle.oscall.specs.Border.{calls, core_of_call, service_of}
 use Rattle.oscall.specs.Chaining.{chain_acts, chains_here, chains_to}
+use Rattle.oscall.specs.Shutdown.{core_acts, starting_checks}
 use Rattle.oscall.specs.Variables.{script_acts}
 
 module _ (l : Leave) where
@@ -49,6 +51,14 @@ module _ (l : Leave) where
       let chained : AreAllowed l (chains_to r t) = crosses-ok r ServiceId.ChainTask (RemoteCall.ActivateTask t) (λ s. chains_here r t) n within (λ s q seen. assumption (ends-ok l r n, l.named t.core within)) in
       assumption
   chain_acts-ok r op n allowed = assumption
+
+  -- Whoever starts or counts cores asks for what they share, and whoever shuts all down asks them all.
+  pub core_acts-ok : (r : Runner) (op : Op) → IsNamed l r → IsAllowed l.view l.may op → IfSome (core_acts r op) (AreAllowed l)
+  core_acts-ok r (Op.StartCore target) n allowed = (allowed.shared refl, λ all. returns-ok l r ServiceId.StartCore (first_failing (starting_checks all target)) None n)
+  core_acts-ok r (Op.GetNumberOfActivatedCores x) n allowed = (allowed.shared refl, λ all. (n, (refl, tt)))
+  core_acts-ok r (Op.ShutdownOs status) n allowed = (refl, (refl, tt))
+  core_acts-ok r (Op.ShutdownAllCores status) n allowed = (allowed.halt refl, tt)
+  core_acts-ok r op n allowed = tt
 
   pub script_acts-ok : (r : Runner) (op : Op) → IsNamed l r → IfSome (script_acts r op) (AreAllowed l)
   script_acts-ok r Op.Work n = assumption

@@ -1,3 +1,4 @@
 pub mod Border
 pub mod Chaining
 pub mod Variables
+pub mod Shutdown

@@ -11,8 +11,8 @@ use osbase::{Mark, Runner, Status, Variable};
 use oscript::Op;
 use osstate::CoreState;
 
-// A variable of the running job of one of the core's tasks becomes this number, which is printed.
-fn set<const P: usize, const J: usize, const OUT: usize>(
+/// A variable of the running job of one of the core's tasks becomes this number, which is printed.
+pub(crate) fn set<const P: usize, const J: usize, const OUT: usize>(
     state: &mut CoreState<'_, P, J, OUT>,
     runner: Runner,
     variable: Variable,

@@ -1,5 +1,5 @@
 -- The tests of a configuration's text, a row for each fault past its shape that a text can have so far. Each is defined apart from
--- the others, over the text as it stands, but that no operation with an unknown name is asked for another core's objects. [own]
+-- the others, over the text as it stands; `tests_of` says which of them pass over a name that is unknown or stands twice. [own]
 use Rattle.std.specs.Prelude.{ℕ, ◌&&◌, ◌||◌, not, true, Bool, Option, None, is_some, option_map, List, [], ◌∷◌, ◌++◌, length, map}
 use Rattle.std.specs.List.{list_all}
 use Rattle.std.specs.Option.{option_map_or}
@@ -221,7 +221,7 @@ is_script objects script = list_all is_operation (operations_of script) && is_ju
 abbrev pub is_task_script : List Declaration → TaskText → Bool
 is_task_script objects task = is_script objects task.script
 
--- And of an ISR's script none takes or gives back a resource.
+-- And of an ISR's script none takes or gives back a resource; one of an unknown name passes.
 abbrev pub is_isr_script : List Declaration → List ℕ → Bool
 is_isr_script objects script = is_script objects script && is_free_of_resources (map (op_of objects) (operations_of script))
 
@@ -247,7 +247,9 @@ are_operations t = list_all (is_core_script (declarations t)) t.cores
 
 -- ---- the table, in ascending order of faults
 
--- The tests of a configuration's text. Each holds if the text has not that fault, whatever other faults it has; that of another core's
--- objects passes an operation with an unknown name, which has a smaller fault. [own]
+-- The tests of a configuration's text. Each holds if the text has not that fault, whatever other faults it has, but for these two
+-- exceptions. An operation with an unknown name, which has a smaller fault, passes that of another core's objects and, in an ISR's script,
+-- that of resources. A limit or a time by the numbers of a counter, and what an action posts, is judged only if one object alone has
+-- the name, which has a fault of its own otherwise. [own]
 abbrev pub tests_of : ConfigText → Tests
 tests_of t = (Limit, is_text_within t) ∷ (DuplicateName, is_each_once t) ∷ (UnknownName, are_known t) ∷ (WrongCore, are_near t) ∷ (BadMask, are_masks t) ∷ (BadTable, are_timed t) ∷ (BadScript, are_operations t) ∷ []

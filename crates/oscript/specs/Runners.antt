@@ -46,7 +46,8 @@ runner_of running (Printed Mark.Tick) = running
 runner_of running e = None
 
 -- The row of a runner whose job has ended: the job gives back all that it held and resumes interrupts, and the next one begins at
--- the first operation, with its whole budget. [AUTOSAR SWS OS 4.x, SWS_Os_00070, for the resources]
+-- the first operation, with its whole budget. [AUTOSAR SWS OS 4.x, SWS_Os_00070, for the resources; SWS_Os_00473 and, of an ISR,
+-- SWS_Os_00474, for the budget]
 abbrev pub ended : Row → Row
 ended row = record row { held = []; frame = rewound row.frame; depth = 0; used = 0 }
 

@@ -75,9 +75,9 @@ pub enum Op {
     StopScheduleTable(Option<TableRef>),
     /// GetScheduleTableStatus: the variable gets the number of the status (AUTOSAR SWS OS 4.x, SWS_Os_00227).
     GetScheduleTableStatus(Option<TableRef>, Variable),
-    /// SuspendAllInterrupts (OSEK/VDX OS 2.2.3, section 13.3.2.3).
+    /// SuspendAllInterrupts (OSEK/VDX OS 2.2.3, section 13.3.2.4).
     SuspendAllInterrupts,
-    /// ResumeAllInterrupts (OSEK/VDX OS 2.2.3, section 13.3.2.4).
+    /// ResumeAllInterrupts (OSEK/VDX OS 2.2.3, section 13.3.2.3).
     ResumeAllInterrupts,
     /// StartCore of the core of this number, which a script calls too late: StartOS was called (AUTOSAR SWS OS 4.x,
     /// SWS_Os_00676 and SWS_Os_00681).

@@ -15,7 +15,7 @@ use Rattle.osplan.specs.declared.plans.Core.{Core}
 use Rattle.osrunner.specs.Rows.{depth_in, rows_by}
 use Rattle.osjobs.specs.Priorities.{is_able_in, level_by, priority_by, raised_of}
 
--- The live jobs of ISRs in the order of their stamps, and the ISRs whose oldest job was started, the last one first.
+-- The live jobs of ISRs in the order of their stamps, and the ISRs whose oldest job was entered, the last one first.
 pub record IsrState : Type 0 where
   pub live : List Job
   pub entered : List IsrRef
@@ -45,7 +45,7 @@ Ascending (j ∷ js) = Each (λ (k : Job). j.stamp < k.stamp) js × Ascending js
 abbrev pub current_among : JobState → Option Job
 current_among s = oldest_of s.current s.jobs
 
--- The running job: that of the ISR that was started last, or else the current one. [OSEK/VDX OS 2.2.3, section 4.2 and 6]
+-- The running job: that of the ISR that was entered last, or else the current one. [OSEK/VDX OS 2.2.3, section 4.2 and 6]
 abbrev pub running_among : JobState → Option Job
 running_among s = option_or (oldest_entered s.isrs.entered s.isrs.live) (current_among s)
 
@@ -70,7 +70,7 @@ jobs_by script e stamp s = record {
 abbrev pub first_jobs : JobState
 first_jobs = record { jobs = []; current = None; giving_way = None; rows = replicate RUNNERS first_row; isrs = record { live = []; entered = [] } }
 
--- A mark that begins and ends no job, by which no task enters or leaves the running state and no ISR is started, and that changes no
+-- A mark that begins and ends no job, by which no task enters or leaves the running state and no ISR is entered, and that changes no
 -- row.
 abbrev pub is_plain : Mark → Bool
 is_plain (Mark.Activated t) = false
@@ -98,7 +98,7 @@ is_current (Some t) r = same_runner r (Runner.Task t)
 abbrev pub raised_among : Core → JobState → Option Job
 raised_among core s = raised_of core s.giving_way (current_among s)
 
--- The job has suspended interrupts. [OSEK/VDX OS 2.2.3, section 13.3.2.3]
+-- The job has suspended interrupts. [OSEK/VDX OS 2.2.3, section 13.3.2.4]
 abbrev pub is_locked_in : List Row → Option Job → Bool
 is_locked_in rows job = option_map_or (λ (j : Job). nat_lt 0 (depth_in j.runner rows)) job false
 
@@ -107,7 +107,7 @@ abbrev pub best_task_among : Core → JobState → Option Job
 best_task_among core s = first_greatest (priority_by core s.jobs s.rows (raised_among core s)) (filter (is_able_in s.jobs s.rows) s.jobs)
 
 -- The job to run: the running one, if it has suspended interrupts; else of the jobs of ISRs of greatest level the oldest; else the best
--- one of a task. [OSEK/VDX OS 2.2.3, section 4.4, 4.5, 6 and 13.3.2.3; AUTOSAR SWS OS 4.x, section 7.6]
+-- one of a task. [OSEK/VDX OS 2.2.3, section 4.4, 4.5, 6 and 13.3.2.4; AUTOSAR SWS OS 4.x, section 7.6]
 abbrev pub best_among : Core → JobState → Option Job
 best_among core s =
     if is_locked_in s.rows (running_among s) then running_among s

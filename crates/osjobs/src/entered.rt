@@ -1,4 +1,4 @@
-//! The ISRs whose oldest job was started, the last one first.
+//! The ISRs whose oldest job was entered, the last one first.
 
 ghost use Rattle.std.specs.Prelude.{◌≡◌, ◌<◌, ◌∷◌, length, remove, IfSome, IfNone};
 ghost use Rattle.osbase.specs.Interrupts.{isr_count, without_isr};
@@ -7,7 +7,7 @@ use crate::slots::IsrSlot;
 use arrayvec::ArrayVec;
 use osbase::{ISRS, IsrRef};
 
-/// The oldest job of the ISR is started.
+/// The oldest job of the ISR is entered.
 pub(crate) fn enter(isrs: &mut ArrayVec<IsrSlot, ISRS>, isr: IsrRef)
     requires room { length (without_isr isr isrs.old.items) < ISRS }
     ensures { isrs.new.items ≡ isr ∷ without_isr isr isrs.old.items }
@@ -16,7 +16,7 @@ pub(crate) fn enter(isrs: &mut ArrayVec<IsrSlot, ISRS>, isr: IsrRef)
     isrs.insert(0, IsrSlot { isr });
 }
 
-/// The job of the ISR, if it was started, has ended.
+/// The job of the ISR, if it was entered, has ended.
 pub(crate) fn leave(isrs: &mut ArrayVec<IsrSlot, ISRS>, isr: IsrRef)
     ensures { isrs.new.items ≡ without_isr isr isrs.old.items }
 {

@@ -38,7 +38,7 @@ pub struct Jobs<const P: usize, const J: usize> {
     // Those of ISRs, in the order of their stamps, and how many each ISR has.
     isr_jobs: ArrayVec<JobSlot, INTERRUPTS>,
     isr_counts: Counts,
-    // The ISRs whose oldest job was started, the last one first.
+    // The ISRs whose oldest job was entered, the last one first.
     entered: ArrayVec<IsrSlot, ISRS>,
     // The task in the running state.
     current: Option<TaskRef>,
@@ -118,7 +118,7 @@ impl<const P: usize, const J: usize> Jobs<P, J> {
         );
     }
 
-    /// The oldest job of an ISR is started: it runs, whatever ran before.
+    /// The oldest job of an ISR is entered: it runs, whatever ran before.
     pub fn enter_isr(&mut self, isr: IsrRef)
         requires room { length (without_isr isr self.old.isrs.entered) < ISRS }
         ensures { self.new ≡ jobs_by [] (Printed (Mark.IsrEntered isr)) 0 self.old }
@@ -136,14 +136,14 @@ impl<const P: usize, const J: usize> Jobs<P, J> {
         self.rows.end(Runner::Isr(isr));
     }
 
-    /// The oldest job of a runner suspends interrupts once more (OSEK/VDX OS 2.2.3, section 13.3.2.3).
+    /// The oldest job of a runner suspends interrupts once more (OSEK/VDX OS 2.2.3, section 13.3.2.4).
     pub fn lock_interrupts(&mut self, runner: Runner)
         ensures { self.new ≡ jobs_by [] (Noted (Locked runner)) 0 self.old }
     {
         self.rows.lock_interrupts(runner);
     }
 
-    /// The oldest job of a runner resumes interrupts once (OSEK/VDX OS 2.2.3, section 13.3.2.4).
+    /// The oldest job of a runner resumes interrupts once (OSEK/VDX OS 2.2.3, section 13.3.2.3).
     pub fn unlock_interrupts(&mut self, runner: Runner)
         ensures { self.new ≡ jobs_by [] (Noted (Unlocked runner)) 0 self.old }
     {
@@ -213,7 +213,7 @@ impl<const P: usize, const J: usize> Jobs<P, J> {
         self.rows.put_events(runner, with_awaited(events, None));
     }
 
-    /// A mark that begins and ends no job is printed, by which no task enters or leaves the running state, no ISR is started
+    /// A mark that begins and ends no job is printed, by which no task enters or leaves the running state, no ISR is entered
     /// and no row changes.
     pub fn print(&mut self, mark: &Mark)
         requires { IsTrue (is_plain mark.now) }
@@ -253,8 +253,9 @@ impl<const P: usize, const J: usize> Jobs<P, J> {
         self.current
     }
 
-    /// The running job: that of the ISR that was started last, or else the oldest live job of the task in the running state
+    /// The running job: that of the ISR that was entered last, or else the oldest live job of the task in the running state
     /// (OSEK/VDX OS 2.2.3, section 4.2 and 6).
+    #[inline(always)]
     pub fn running(&self) -> Option<Job>
         ensures { result ≡ running_among self.now }
     {
@@ -264,7 +265,7 @@ impl<const P: usize, const J: usize> Jobs<P, J> {
         }
     }
 
-    // The job of the ISR that was started last.
+    // The job of the ISR that was entered last.
     fn entered_job(&self) -> Option<Job>
         ensures { result ≡ oldest_entered self.now.isrs.entered self.now.isrs.live }
     {
@@ -291,7 +292,7 @@ impl<const P: usize, const J: usize> Jobs<P, J> {
         live::count(self.jobs.as_slice(), &self.counts, runner)
     }
 
-    /// Whether a job of this ISR is pending: more of its jobs are live than were started (AUTOSAR SWS OS 4.x, section 7.6).
+    /// Whether a job of this ISR is pending: more of its jobs are live than were entered (AUTOSAR SWS OS 4.x, section 7.6).
     pub fn is_pending(&self, isr: IsrRef) -> bool
         ensures { result ≡ is_pending_among isr self.now.isrs.entered self.now.isrs.live }
     {
@@ -302,7 +303,7 @@ impl<const P: usize, const J: usize> Jobs<P, J> {
 
     /// The job to run: the running one, if it has suspended interrupts; else of the jobs of ISRs of greatest level the
     /// oldest; else of the able jobs of tasks of greatest current priority the oldest (OSEK/VDX OS 2.2.3, section 4.4, 4.5, 6
-    /// and 13.3.2.3). The caller knows which job is running, and nobody looks for it twice.
+    /// and 13.3.2.4). The caller knows which job is running, and nobody looks for it twice.
     pub fn dispatch(&mut self, core: &Core, running: Option<Job>) -> Option<Job>
         requires running { running ≡ running_among self.old }
         requires runner { IfSome running (λ j. IsTrue (is_own_runner core.now j.runner)) }
@@ -342,7 +343,7 @@ impl<const P: usize, const J: usize> Jobs<P, J> {
         priorities::first_greatest(core, &self.rows, raised, self.jobs.as_slice())
     }
 
-    /// Whether the oldest job of a runner has suspended interrupts (OSEK/VDX OS 2.2.3, section 13.3.2.3).
+    /// Whether the oldest job of a runner has suspended interrupts (OSEK/VDX OS 2.2.3, section 13.3.2.4).
     pub fn is_locked(&self, runner: Runner) -> bool
         ensures { result ≡ nat_lt 0 (depth_in runner self.now.rows) }
     {

@@ -34,7 +34,7 @@ impl Default for JobSlot {
     }
 }
 
-/// A place of the list of ISRs that were started.
+/// A place of the list of ISRs that were entered.
 #[derive(Clone, Copy)]
 pub(crate) struct IsrSlot {
     pub(crate) isr: IsrRef,

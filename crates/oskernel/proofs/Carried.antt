@@ -130,7 +130,7 @@ module _ (l : Leave) (allowed : NamesAllow l.view l.may) where
       by r n (Awaited.Reply id core) = assumption (ends-ok l r n, returns-ok l r id status value n)
       by r n awaits = assumption
 
-  -- The running job is the core's own to end.
+  -- The answer to a time fault names no object but the task or ISR whose job it ends, and none if the core goes down.
   answers-ok : (protection : Protection) (r : Runner) (status : Status) → IsNamed l r → Allowed (answers_fault protection r status)
   answers-ok Protection.TerminateTaskIsr (Runner.Task t) status n = (n, tt)
   answers-ok Protection.TerminateTaskIsr (Runner.Isr i) status n = (n, tt)
@@ -170,6 +170,8 @@ module _ (l : Leave) (allowed : NamesAllow l.view l.may) where
   )
   effect-ok (Item.Received from number (Message.Reply status)) m = λ s seen. closes-ok s seen status None
   effect-ok (Item.Received from number (Message.Value status n)) m = λ s seen. closes-ok s seen status (Some n)
+  effect-ok (Item.Last None) m = tt
+  effect-ok (Item.Last (Some asked)) m = λ s seen. (λ down. tt, λ up. (refl, tt))
   effect-ok item m = assumption
 
   -- ---- dispatch, and the whole step

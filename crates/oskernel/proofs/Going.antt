@@ -1,9 +1,8 @@
--- What a core does if it is going, and what it does if it is down.
+-- What a core does by a test of its course: whether it is going, or whether it is down.
 use Rattle.std.proofs.Common.{◌≡◌, ℕ, Bool, true, false, cond, sym, ap, ◌∙◌, arith, Vec, Global}
 use Rattle.osbase.specs.declared.histories.Course.{Course}
 use Rattle.osbase.specs.declared.marks.Mark.{Mark}
 use Rattle.osbase.specs.History.{History, course_of}
-use Rattle.osbase.specs.Phases.{is_going}
 use Rattle.osplan.specs.View.{View}
 use Rattle.osstate.specs.Does.{Effects}
 use Rattle.osstate.specs.State.{KernelState, Stands}
@@ -11,15 +10,17 @@ use Rattle.osstate.proofs.Effecting.{as_effect}
 use Rattle.osstate.proofs.ReadLemmas.{read}
 use Rattle.osact.specs.Acts.{Acts, does, look, when}
 
-test-read : {s : KernelState} {course : Course} {test : Bool} → course ≡ s.progress.course → test ≡ is_going course → (v : View) (h : History) → Stands v h s → test ≡ is_going (course_of h)
-test-read course-is test-is v h stands = read (λ (t : KernelState). is_going t.progress.course) (test-is ∙ ap is_going course-is) stands
+module _ (asked : Course → Bool) where
+  test-read : {s : KernelState} {course : Course} {test : Bool} → course ≡ s.progress.course → test ≡ asked course → (v : View) (h : History) → Stands v h s → test ≡ asked (course_of h)
+  test-read course-is test-is v h stands = read (λ (t : KernelState). asked t.progress.course) (test-is ∙ ap asked course-is) stands
 
-pub goes-on : {s s' : KernelState} {x x' : Vec Mark Global} {n m : ℕ} {course : Course} {test : Bool} → course ≡ s.progress.course → test ≡ is_going course → (acts others : Acts) → test ≡ true
-    → Effects n m (does acts) s s' x x' → Effects n m (does (look (λ seen. when (is_going seen.course) acts others))) s s' x x'
-goes-on course-is test-is acts others going e =
-    as_effect (λ v h stands. ap (λ (b : Bool). cond b (does acts v h) (does others v h)) (sym (test-read course-is test-is v h stands) ∙ going)) (omega arith) (omega arith) e
+  -- It does the first where the test holds, and else the second.
+  pub course-holds : {s s' : KernelState} {x x' : Vec Mark Global} {n m : ℕ} {course : Course} {test : Bool} → course ≡ s.progress.course → test ≡ asked course → (acts others : Acts) → test ≡ true
+      → Effects n m (does acts) s s' x x' → Effects n m (does (look (λ seen. when (asked seen.course) acts others))) s s' x x'
+  course-holds course-is test-is acts others holds e =
+      as_effect (λ v h stands. ap (λ (b : Bool). cond b (does acts v h) (does others v h)) (sym (test-read course-is test-is v h stands) ∙ holds)) (omega arith) (omega arith) e
 
-pub is-down : {s s' : KernelState} {x x' : Vec Mark Global} {n m : ℕ} {course : Course} {test : Bool} → course ≡ s.progress.course → test ≡ is_going course → (acts others : Acts) → test ≡ false
-    → Effects n m (does others) s s' x x' → Effects n m (does (look (λ seen. when (is_going seen.course) acts others))) s s' x x'
-is-down course-is test-is acts others down e =
-    as_effect (λ v h stands. ap (λ (b : Bool). cond b (does acts v h) (does others v h)) (sym (test-read course-is test-is v h stands) ∙ down)) (omega arith) (omega arith) e
+  pub course-fails : {s s' : KernelState} {x x' : Vec Mark Global} {n m : ℕ} {course : Course} {test : Bool} → course ≡ s.progress.course → test ≡ asked course → (acts others : Acts) → test ≡ false
+      → Effects n m (does others) s s' x x' → Effects n m (does (look (λ seen. when (asked seen.course) acts others))) s s' x x'
+  course-fails course-is test-is acts others fails e =
+      as_effect (λ v h stands. ap (λ (b : Bool). cond b (does acts v h) (does others v h)) (sym (test-read course-is test-is v h stands) ∙ fails)) (omega arith) (omega arith) e

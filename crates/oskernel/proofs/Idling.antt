@@ -289,7 +289,7 @@ greatest-oldest p r (x ∷ js) j e is least = by (first_greatest p js) e (λ f. 
         choose true lt g = passed (same_runner x.runner r) refl lt g
         choose false lt g = first g
 
--- an ISR is started
+-- an ISR is entered
 isr-runs : (v : View) (h : History) (j : Job) (x : IsrRef) → first_greatest (level_by v.own) (isr_jobs h) ≡ Some j → j.runner ≡ Runner.Isr x → BestRuns v (enters (Runner.Isr x) h)
 isr-runs v h j x best own = best-is v (enters (Runner.Isr x) h) same
   where

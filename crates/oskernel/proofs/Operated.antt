@@ -11,12 +11,12 @@ use Rattle.osact.proofs.Kept.{AreAllowed, IsNamed, Leave, first-ok, returns-ok}
 use Rattle.ostaskcall.proofs.Allowed.{task_acts-ok}
 use Rattle.osalarmcall.proofs.Allowed.{counter_acts-ok}
 use Rattle.ostablecall.proofs.Allowed.{table_acts-ok}
-use Rattle.oscall.proofs.Allowed.{called-ok, chain_acts-ok, script_acts-ok}
+use Rattle.oscall.proofs.Allowed.{called-ok, chain_acts-ok, core_acts-ok, script_acts-ok}
 use Rattle.osdue.proofs.Allowed.{ActionsAllow, increment_acts-ok}
 use Rattle.oskernel.specs.Operations.{operates, operates_by, operates_unless, refused_now}
 
 pub operates-ok : (l : Leave) → ActionsAllow l.view l.may → (op : Op) (r : Runner) → IsNamed l r → IsAllowed l.view l.may op → AreAllowed l (operates r op)
-operates-ok l actions op r n allowed = λ s seen. unless (refused_now s r op)
+operates-ok l actions op r n allowed = λ s seen. (λ ignored. (refl, tt), λ performed. unless (refused_now s r op))
   where
     by : (o : Option (ServiceId × Option RemoteCall)) → call_of_op op ≡ o → AreAllowed l (operates_by r op o)
     by None is =
@@ -25,7 +25,8 @@ operates-ok l actions op r n allowed = λ s seen. unless (refused_now s r op)
         (first-ok l _ _ (chain_acts-ok l r op n allowed)
         (first-ok l _ _ (counter_acts-ok l r op n)
         (first-ok l _ _ (increment_acts-ok l actions r op n)
-        (first-ok l _ _ (table_acts-ok l r op n) tt)))))
+        (first-ok l _ _ (table_acts-ok l r op n)
+        (first-ok l _ _ (core_acts-ok l r op n allowed) tt))))))
     by (Some c) is = called-ok l r op c.0 c.1 n is allowed
 
     unless : (o : Option ServiceId) → AreAllowed l (operates_unless r o (operates_by r op (call_of_op op)))

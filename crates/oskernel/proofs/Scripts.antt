@@ -1,5 +1,5 @@
 -- What the scripts, alarms and schedule tables of a separate core name, and those of the others.
-use Rattle.std.proofs.Common.{List, ◌≡◌, ℕ, Bool, true, false, not, ◌&&◌, cond, Option, Some, None, [], refl, ap, subst, ◌∙◌, unwrap_or}
+use Rattle.std.proofs.Common.{List, ◌≡◌, ℕ, Bool, true, false, not, ◌&&◌, cond, Option, Some, None, [], refl, ap, subst, sym, ◌∙◌, unwrap_or}
 use Rattle.std.specs.List.{list_all, list_any, slice_get}
 use Rattle.std.specs.Option.{option_map_or}
 use Rattle.std.proofs.lemmas.Bool.{not-false, not-true, not_from_false, or_from, or_left, or_parts, or_right, true≢false}

@@ -27,7 +27,7 @@ use Rattle.osstate.specs.State.{KernelState}
 use Rattle.osact.specs.Checks.{is_ok_status}
 use Rattle.oscript.specs.Calls.{is_action}
 use Rattle.oscall.specs.Border.{is_served}
-use Rattle.oskernel.specs.Free.{is_settled, may_go_on}
+use Rattle.oskernel.specs.Free.{is_settled, may_go_on, may_look_halt}
 
 -- `StartCore` answers E_OS_ID exactly for a core that is not configured, and else E_OK, or E_OS_STATE for one
 -- that was started already. [AUTOSAR SWS OS 4.x, StartCore; E_OS_STATE before StartOS]
@@ -93,6 +93,18 @@ is_next_from places s from number message =
     has_core s.progress.started from && not (is_own s.view from) && (number == slice_index s.border.received from.number)
     && is_awaited places s from message
 
+-- The open call asks for a shutdown of all cores. [AUTOSAR SWS OS 4.x, ShutdownAllCores]
+abbrev pub asks_halt : Awaited → Bool
+asks_halt (Awaited.Halt status) = true
+asks_halt awaited = false
+
+abbrev pub has_asked_halt : KernelState → Bool
+has_asked_halt s = option_map_or (λ (call : OpenCall). asks_halt call.awaits) s.border.open_call false
+
+-- A core is halted where it asked for the shutdown of all cores itself, or may look for one. [own]
+abbrev pub may_halt : KernelState → Bool
+may_halt s = has_asked_halt s || may_look_halt s
+
 -- An item may be taken: one line for each kind. `places` is how many envelopes the outbox may hold. [own]
 abbrev pub admits : ℕ → KernelState → Item → Bool
 admits places s Item.On = stands_in Phase.Off s.progress.phase
@@ -108,10 +120,10 @@ admits places s (Item.Received from number message) = is_scheduling s.progress.p
 admits places s (Item.Granted spinlock) = false
 admits places s (Item.Tried spinlock taken) = false
 admits places s (Item.Freed spinlock) = false
-admits places s (Item.Halt core status) = false
+admits places s (Item.Halt core status) = stands_in Phase.Live s.progress.phase && may_halt s
 admits places s Item.Drained = stands_in Phase.Live s.progress.phase && is_settled s
 admits places s Item.PassEnd = stands_in Phase.Drained s.progress.phase
-admits places s (Item.Last shutdown) = stands_in Phase.Closing s.progress.phase && is_none shutdown
+admits places s (Item.Last shutdown) = stands_in Phase.Closing s.progress.phase
 
 -- An item may be taken while fewer than 2 ^ 48 were. [own]
 abbrev pub takes_in : ℕ → KernelState → Item → Bool

@@ -1,5 +1,5 @@
 -- What holds of every kernel.
-use Rattle.std.specs.Prelude.{ℕ, ◌+◌, ◌*◌, ◌≤◌}
+use Rattle.std.specs.Prelude.{ℕ, ◌*◌, ◌≤◌}
 use Rattle.osstate.specs.State.{KernelState}
 use Rattle.osplan.specs.Objects.{outbox_needed}
 

@@ -4,12 +4,12 @@ use Rattle.osbase.specs.declared.statuses.Status.{Status}
 use Rattle.osbase.specs.declared.statuses.Status.TheVariants.{EOsProtectionTime}
 use Rattle.osbase.specs.declared.references.Runner.{Runner}
 use Rattle.osbase.specs.declared.marks.Mark.TheVariants as Mark
-use Rattle.osbase.specs.History.{WentDown}
 use Rattle.osplan.specs.declared.protection.Protection.{Protection}
 use Rattle.osstate.specs.Readings.{budget_of}
 use Rattle.osbudget.specs.Budget.{is_reached}
-use Rattle.osact.specs.Acts.{Acts, Prints, nothing, notes, one_then, prints}
+use Rattle.osact.specs.Acts.{Acts, Prints, nothing, one_then, prints}
 use Rattle.osact.specs.Seen.{Seen}
+use Rattle.oscall.specs.Shutdown.{goes_down}
 
 -- The status of the budget that the runner's oldest job has reached. [AUTOSAR SWS OS 4.x, SWS_Os_00064, SWS_Os_00210]
 abbrev pub fault_of : Seen → Runner → Option Status
@@ -20,10 +20,6 @@ fault_of s r = if is_reached (budget_of s.core r) (s.row r).used then Some EOsPr
 abbrev pub ends_by_force : Runner → Acts
 ends_by_force (Runner.Task t) = prints (Mark.Terminated t)
 ends_by_force (Runner.Isr i) = prints (Mark.IsrLeft i)
-
--- ShutdownHook is called at once, and the core goes down. [OSEK/VDX OS 2.2.3, section 11.4; AUTOSAR SWS OS 4.x, section 7.9.6]
-abbrev pub goes_down : Status → Acts
-goes_down status = one_then (Prints (Mark.ShutdownHook status)) (notes WentDown)
 
 -- The core's answer: the job ends, or the core goes down. [AUTOSAR SWS OS 4.x, SWS_Os_00553, SWS_Os_00556; that each other answer is
 -- a shutdown: SWS_Os_00307 and, since there are no OS-Applications, this project's own]

@@ -1,5 +1,8 @@
 -- Whether a core may go on by itself.
 use Rattle.std.specs.Prelude.{◌&&◌, Bool, true, false, is_none, List, [], ◌∷◌}
+use Rattle.std.specs.Option.{option_map_or}
+use Rattle.osbase.specs.declared.histories.Awaited.{Awaited}
+use Rattle.osbase.specs.declared.histories.OpenCall.{OpenCall}
 use Rattle.osbase.specs.declared.histories.Sent.{Sent}
 use Rattle.osbase.specs.Phases.{is_going, is_scheduling}
 use Rattle.osstate.specs.State.{KernelState}
@@ -16,7 +19,7 @@ is_empty (s ∷ ss) = false
 abbrev pub is_settled : KernelState → Bool
 is_settled s = is_free s && is_empty s.border.outbox
 
--- The core is active: it did not go down, and no call is open. [own]
+-- The core is active: it is neither down nor halted, and no call is open. [own]
 abbrev pub is_active : KernelState → Bool
 is_active s = is_free s && is_going s.progress.course
 
@@ -24,6 +27,16 @@ is_active s = is_free s && is_going s.progress.course
 abbrev pub may_go_on : KernelState → Bool
 may_go_on s = is_active s && is_empty s.border.outbox
 
--- An active core that schedules dispatches. [OSEK/VDX OS 2.2.3, section 4.6; that a core waits for a reply is this project's own]
+-- An active core that schedules dispatches. [OSEK/VDX OS 2.2.3, section 4.6; that a core waits while a call is open is this project's own]
 abbrev pub may_dispatch : KernelState → Bool
 may_dispatch s = is_scheduling s.progress.phase && is_active s
+
+-- What waits for a spinlock. [AUTOSAR SWS OS 4.x, GetSpinlock]
+abbrev pub is_get : Awaited → Bool
+is_get (Awaited.Get l) = true
+is_get awaited = false
+
+-- A core that goes on may look for a shutdown of all cores, unless a call is open that does not wait for a spinlock.
+-- [AUTOSAR SWS OS 4.x, ShutdownAllCores; that a core looks for it, and that a call which awaits a reply is closed first: own]
+abbrev pub may_look_halt : KernelState → Bool
+may_look_halt s = is_going s.progress.course && option_map_or (λ (call : OpenCall). is_get call.awaits) s.border.open_call true

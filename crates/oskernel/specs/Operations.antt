@@ -1,6 +1,6 @@
 -- What an operation of a job does: the call that it is, or what the table says that has a row for it; but while the job has suspended
--- interrupts, nearly all services are refused.
-use Rattle.std.specs.Prelude.{Bool, true, false, if◌then◌else◌, Option, Some, None, unwrap_or}
+-- interrupts, nearly all services are refused or ignored.
+use Rattle.std.specs.Prelude.{◌&&◌, Bool, true, false, if◌then◌else◌, Option, Some, None, unwrap_or}
 use Rattle.osbase.specs.declared.statuses.Status.TheVariants.{EOsDisabledint}
 use Rattle.osbase.specs.declared.statuses.ServiceId.{ServiceId}
 use Rattle.osbase.specs.declared.statuses.ServiceId.TheVariants as Service
@@ -9,7 +9,7 @@ use Rattle.osbase.specs.declared.references.Runner.{Runner}
 use Rattle.oscript.specs.declared.Op.{Op}
 use Rattle.oscript.specs.Calls.{call_of_op}
 use Rattle.oscript.specs.Frames.{service_of_op}
-use Rattle.osact.specs.Acts.{Acts, look, nothing}
+use Rattle.osact.specs.Acts.{Acts, look, nothing, when}
 use Rattle.osact.specs.Callers.{has_suspended}
 use Rattle.osact.specs.Returning.{returns}
 use Rattle.osact.specs.Seen.{Seen}
@@ -18,7 +18,8 @@ use Rattle.osalarmcall.specs.Counters.{counter_acts}
 use Rattle.ostablecall.specs.Tables.{table_acts}
 use Rattle.oscall.specs.Border.{calls}
 use Rattle.oscall.specs.Chaining.{chain_acts}
-use Rattle.oscall.specs.Variables.{script_acts}
+use Rattle.oscall.specs.Shutdown.{core_acts, is_ignored}
+use Rattle.oscall.specs.Variables.{is_done, script_acts}
 use Rattle.osdue.specs.Incrementing.{increment_acts}
 
 -- An operation of the core alone, by the table of its family; what calls for an object of any core is in none of these.
@@ -30,7 +31,8 @@ acts_alone r op =
     (unwrap_or (chain_acts r op)
     (unwrap_or (counter_acts r op)
     (unwrap_or (increment_acts r op)
-    (unwrap_or (table_acts r op) nothing)))))
+    (unwrap_or (table_acts r op)
+    (unwrap_or (core_acts r op) nothing))))))
 
 -- An operation that calls for an object of any core is that call. [own]
 abbrev pub operates_by : Runner → Op → Option (ServiceId × Option RemoteCall) → Acts
@@ -59,5 +61,10 @@ abbrev pub operates_unless : Runner → Option ServiceId → Acts → Acts
 operates_unless r None acts = acts
 operates_unless r (Some service) acts = returns r service EOsDisabledint None
 
+-- An operation that is ignored now.
+abbrev pub is_ignored_now : Seen → Runner → Op → Bool
+is_ignored_now s r op = is_ignored op && has_suspended s r
+
+-- One that is ignored has no effect but to be done. [AUTOSAR SWS OS 4.x, SWS_Os_00093]
 abbrev pub operates : Runner → Op → Acts
-operates r op = look (λ s. operates_unless r (refused_now s r op) (operates_by r op (call_of_op op)))
+operates r op = look (λ s. when (is_ignored_now s r op) (is_done r) (operates_unless r (refused_now s r op) (operates_by r op (call_of_op op))))

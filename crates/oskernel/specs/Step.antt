@@ -18,7 +18,7 @@ use Rattle.osbase.specs.declared.histories.Job.{Job}
 use Rattle.osbase.specs.declared.histories.OpenCall.{OpenCall}
 use Rattle.osbase.specs.declared.histories.Awaited.{Awaited}
 use Rattle.osbase.specs.History.{History, Printed, TableStarted, Took, same_job, current_task}
-use Rattle.osbase.specs.Phases.{is_going}
+use Rattle.osbase.specs.Phases.{is_down, is_going}
 use Rattle.oscript.specs.declared.Action.{Action}
 use Rattle.oscript.specs.declared.Action.TheVariants.{Perform, End}
 use Rattle.oscript.specs.Frames.{action_at}
@@ -136,21 +136,34 @@ resumes_with r awaited status value = nothing
 abbrev pub closes : Option OpenCall → Status → Option ℤ → Acts
 closes awaits status value = option_map_or (λ (call : OpenCall). resumes_with call.runner call.awaits status value) awaits nothing
 
--- A message of another core. A core that is down answers each request E_OS_CORE and drops actions, without a line for either. [own]
+-- A message of another core. A core that is down or halted answers each request E_OS_CORE and drops actions, without a line for either.
+-- [own]
 abbrev pub receives : CoreId → Message → Acts
 receives from (Message.Request call) = look (λ s. when (is_going s.course) (serves_request from call) (one_then (Sends from (Message.Reply EOsCore)) nothing))
 receives from (Message.Action call) = look (λ s. when (is_going s.course) (serves_action from call) nothing)
 receives from (Message.Reply status) = look (λ s. closes s.awaits status None)
 receives from (Message.Value status n) = look (λ s. closes s.awaits status (Some n))
 
--- What follows from an item at once, in the history with it. Those of spinlocks, and a halt, cannot be
--- taken yet. [OSEK/VDX OS 2.2.3, section 11.3; AUTOSAR SWS OS 4.x, SWS_Os_00608 to SWS_Os_00610; items are this project's own]
+-- ShutdownHook is called at the end, but not by a core that is down: it has called it already.
+-- [AUTOSAR SWS OS 4.x, SWS_Os_00588; that a core which went down by itself calls it once: own]
+abbrev pub calls_shutdown_hook : Status → Acts
+calls_shutdown_hook status = look (λ s. when (is_down s.course) nothing (prints (Mark.ShutdownHook status)))
+
+-- The end of a core: who asked first for a shutdown of all cores, and with which status, if one was asked for. [own]
+abbrev pub ends : Option (CoreId × Status) → Acts
+ends None = nothing
+ends (Some asked) = calls_shutdown_hook asked.1
+
+-- What follows from an item at once, in the history with it. Those of spinlocks cannot be taken yet.
+-- [OSEK/VDX OS 2.2.3, section 11.3; AUTOSAR SWS OS 4.x, SWS_Os_00608 to SWS_Os_00610; items are this project's own]
 abbrev pub effect : Item → Acts
 effect (Item.Began core status) = prints (Mark.StartCoreReturned core status)
 effect (Item.Pass1 agreement) = prints (gate_mark agreement)
 effect (Item.Pass2 cores) = look (λ s. starts s.agreement s.core)
 effect (Item.Stim stimulus) = stimulates stimulus
 effect (Item.Received from number message) = receives from message
+effect (Item.Halt core status) = prints (Mark.Halted core status)
+effect (Item.Last shutdown) = ends shutdown
 effect item = nothing
 
 -- PostTaskHook of the current task, if there is one, and PreTaskHook of the runner's.

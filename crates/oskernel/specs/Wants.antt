@@ -2,6 +2,8 @@
 use Rattle.std.specs.Prelude.{if◌then◌else◌, Option, Some, None, List, [], ◌∷◌}
 use Rattle.osbase.specs.declared.references.CoreId.{CoreId}
 use Rattle.osbase.specs.declared.messages.Envelope.{Envelope}
+use Rattle.osbase.specs.declared.histories.Awaited.{Awaited}
+use Rattle.osbase.specs.declared.histories.OpenCall.{OpenCall}
 use Rattle.osbase.specs.declared.histories.Sent.{Sent}
 use Rattle.osbase.specs.declared.histories.Course.{Course}
 use Rattle.osbase.specs.declared.histories.Phase.{Phase}
@@ -9,9 +11,9 @@ use Rattle.osbase.specs.History.{History}
 use Rattle.osplan.specs.View.{View}
 use Rattle.osstate.specs.Readings.{next_start}
 use Rattle.osstate.specs.State.{KernelState, state_of}
-use Rattle.oskernel.specs.Free.{is_active, is_free}
+use Rattle.oskernel.specs.Free.{may_look_halt}
 use Rattle.oskernel.specs.declared.wants.Want.{Want}
-use Rattle.oskernel.specs.declared.wants.Want.TheVariants.{Start, Enter, Ready, Post, GoOn, Drain, Nothing}
+use Rattle.oskernel.specs.declared.wants.Want.TheVariants.{Start, Enter, Ready, Post, AskHalt, GoOn, Drain, Nothing}
 use Rattle.oskernel.specs.declared.wants.Watch.{Watch}
 
 abbrev pub start_or_enter : Option CoreId → Want
@@ -23,18 +25,27 @@ abbrev pub post_or : Want → List Sent → Want
 post_or want [] = want
 post_or want (s ∷ ss) = Post s.to
 
--- A core that waits for a reply does not go on, and one that is down drains, whatever stimuli are left.
+-- ShutdownAllCores asks the other cores, and what waits for a reply only waits.
+-- [AUTOSAR SWS OS 4.x, ShutdownAllCores; that a turn of its own asks is this project's own]
+abbrev pub want_for : Awaited → Want
+want_for (Awaited.Halt status) = AskHalt status
+want_for awaited = Nothing
+
+-- An open call goes before what the core would do without it.
+abbrev pub want_call : Option OpenCall → Want → Want
+want_call None want = want
+want_call (Some call) want = want_for call.awaits
+
+-- A core that is down or halted drains, whatever stimuli are left.
 abbrev pub go_on_by : Course → Want
 go_on_by Course.Going = GoOn
 go_on_by Course.Down = Drain
-
-abbrev pub go_on_if_free : KernelState → Want
-go_on_if_free s = if is_free s then go_on_by s.progress.course else Nothing
+go_on_by Course.Halted = Drain
 
 abbrev pub want_from : Phase → KernelState → Want
 want_from Phase.Boot s = start_or_enter (next_start s.view s.progress.began)
 want_from Phase.BetweenGates s = Ready
-want_from Phase.Live s = post_or (go_on_if_free s) s.border.outbox
+want_from Phase.Live s = post_or (want_call s.border.open_call (go_on_by s.progress.course)) s.border.outbox
 want_from Phase.Drained s = post_or Nothing s.border.outbox
 want_from Phase.Closing s = post_or Nothing s.border.outbox
 want_from Phase.Off s = Nothing
@@ -42,7 +53,7 @@ want_from Phase.FirstGate s = Nothing
 want_from Phase.SecondGate s = Nothing
 want_from Phase.Ended s = Nothing
 
--- What the core's own turn would do. If a call is open, a live core does nothing but post. [own]
+-- What the core's own turn would do. [own]
 abbrev pub want_in : KernelState → Want
 want_in s = want_from s.progress.phase s
 
@@ -50,16 +61,16 @@ want_in s = want_from s.progress.phase s
 abbrev pub want_of : View → History → Want
 want_of v h = want_in (state_of v h)
 
--- A live core watches for a shutdown of all cores, unless a call is open or it is down itself. [own]
-abbrev pub watch_if_active : KernelState → Watch
-watch_if_active s = if is_active s then Watch.Halt else Watch.Nothing
+-- A live core that may look for a shutdown of all cores watches for it. [own]
+abbrev pub watch_halt : KernelState → Watch
+watch_halt s = if may_look_halt s then Watch.Halt else Watch.Nothing
 
 -- What its look at the board waits for: to be started, a gate, a shutdown of all cores, the end, or nothing.
 abbrev pub watch_from : Phase → KernelState → Watch
 watch_from Phase.Off s = Watch.On
 watch_from Phase.FirstGate s = Watch.FirstGate
 watch_from Phase.SecondGate s = Watch.SecondGate
-watch_from Phase.Live s = watch_if_active s
+watch_from Phase.Live s = watch_halt s
 watch_from Phase.Drained s = Watch.PassEnd
 watch_from Phase.Closing s = Watch.Last
 watch_from Phase.Boot s = Watch.Nothing

@@ -7,9 +7,9 @@ ghost use Rattle.osbase.specs.Sets.{core_ids, has_core};
 ghost use Rattle.osplan.specs.View.{is_configured};
 ghost use Rattle.osstate.specs.Readings.{next_start};
 ghost use Rattle.oscall.specs.Border.{is_served};
-ghost use Rattle.oskernel.specs.Admission.{admits, answers_value, are_started_cores, is_agreement, is_awaited, is_for, is_front_for, is_next_from, is_reply_to, is_start_answer, is_started_now_or_before, is_unknown_core};
+ghost use Rattle.oskernel.specs.Admission.{admits, answers_value, are_started_cores, is_agreement, is_awaited, is_for, is_front_for, is_next_from, is_reply_to, is_start_answer, is_started_now_or_before, is_unknown_core, asks_halt, has_asked_halt, may_halt};
 
-use crate::free::{is_settled, may_go_on};
+use crate::free::{is_settled, may_go_on, may_look_halt};
 use osact::is_ok;
 use osbase::{
     Agreement, Awaited, CORE_NUMBERS, CoreId, CoreMode, CoreSet, Item, Message, ModeId, OpenCall,
@@ -51,10 +51,10 @@ pub(crate) fn is_admitted<const P: usize, const J: usize, const OUT: usize>(
             taken: _,
         } => false,
         Item::Freed(_) => false,
-        Item::Halt { core: _, status: _ } => false,
+        Item::Halt { core: _, status: _ } => phase.stands_in(Phase::Live) & may_halt(state),
         Item::Drained => phase.stands_in(Phase::Live) & is_settled(state),
         Item::PassEnd => phase.stands_in(Phase::Drained),
-        Item::Last(shutdown) => phase.stands_in(Phase::Closing) & shutdown.is_none(),
+        Item::Last(_) => phase.stands_in(Phase::Closing),
     }
 }
 
@@ -241,4 +241,31 @@ fn gives_value(service: ServiceId) -> bool
     ensures { result ≡ answers_value service }
 {
     matches!(service, ServiceId::GetAlarm)
+}
+
+// A core is halted where it asked for the shutdown of all cores itself, or may look for one.
+fn may_halt<const P: usize, const J: usize, const OUT: usize>(
+    state: &CoreState<'_, P, J, OUT>,
+) -> bool
+    ensures { result ≡ may_halt state.now }
+{
+    has_asked_halt(state) | may_look_halt(state)
+}
+
+// The open call asks for a shutdown of all cores.
+fn has_asked_halt<const P: usize, const J: usize, const OUT: usize>(
+    state: &CoreState<'_, P, J, OUT>,
+) -> bool
+    ensures { result ≡ has_asked_halt state.now }
+{
+    match state.awaited_call() {
+        Some(call) => asks_halt(call.awaits),
+        None => false,
+    }
+}
+
+fn asks_halt(awaits: Awaited) -> bool
+    ensures { result ≡ asks_halt awaits }
+{
+    matches!(awaits, Awaited::Halt(_))
 }

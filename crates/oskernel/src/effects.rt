@@ -10,11 +10,11 @@ ghost use Rattle.osjobs.specs.Jobs.{is_plain};
 ghost use Rattle.osstate.specs.Does.{Adds, Does, Effects, HasRoom, item_entries, item_marks, service_entries, service_marks};
 ghost use Rattle.osstate.specs.Sound.{is_first_gate, is_posted, is_sender_known};
 ghost use Rattle.osact.specs.Terms.{MayBegin, MayPost, MayServe};
-ghost use Rattle.osact.specs.Acts.{does, look};
+ghost use Rattle.osact.specs.Acts.{does, look, prints};
 ghost use Rattle.oscall.specs.Border.{is_served};
 ghost use Rattle.oskernel.specs.Admission.{admits};
 ghost use Rattle.oskernel.specs.Bounded.{step_entries};
-ghost use Rattle.oskernel.specs.Step.{closes, effect, gate_mark, goes_on, receives, stimulates};
+ghost use Rattle.oskernel.specs.Step.{calls_shutdown_hook, closes, effect, ends, gate_mark, goes_on, receives, stimulates};
 ghost use Rattle.oskernel.specs.Taking.{TakesItem, is_acting, is_answered, is_filling, is_going_on, is_known, is_request, is_second_gate};
 
 use crate::interrupts::raise;
@@ -68,6 +68,7 @@ fn show_admitted<const P: usize, const J: usize, const OUT: usize>(
 {}
 
 // What follows from an item that was taken.
+#[inline(always)]
 fn follow<const P: usize, const J: usize, const OUT: usize>(
     state: &mut CoreState<'_, P, J, OUT>,
     item: &Item,
@@ -101,14 +102,57 @@ fn follow<const P: usize, const J: usize, const OUT: usize>(
             message,
         } => receive(state, *from, message, marks),
         Item::On | Item::Entered | Item::Readied => {}
-        Item::Posted(_) | Item::Drained | Item::PassEnd | Item::Last(_) => {}
+        Item::Posted(_) | Item::Drained | Item::PassEnd => {}
+        Item::Halt { core, status } => print_halt(state, *core, *status, marks),
+        Item::Last(shutdown) => end(state, *shutdown, marks),
         // These cannot be taken yet.
         Item::Granted(_) | Item::Freed(_) => {}
         Item::Tried {
             spinlock: _,
             taken: _,
         } => {}
-        Item::Halt { core: _, status: _ } => {}
+    }
+}
+
+// All cores are halted, as this one asked first with this status.
+fn print_halt<const P: usize, const J: usize, const OUT: usize>(
+    state: &mut CoreState<'_, P, J, OUT>,
+    core: CoreId,
+    status: Status,
+    marks: &mut Vec<Mark>,
+)
+    requires { HasRoom 1 1 state.old marks.old }
+    ensures { Effects 1 1 (does (prints (Mark.Halted core status))) state.old state.new marks.old marks.new }
+{
+    let mark = Mark::Halted { core, status };
+    state.print(mark, marks);
+}
+
+// The end of a core: who asked first for a shutdown of all cores, if one was asked for.
+fn end<const P: usize, const J: usize, const OUT: usize>(
+    state: &mut CoreState<'_, P, J, OUT>,
+    shutdown: Option<(CoreId, Status)>,
+    marks: &mut Vec<Mark>,
+)
+    requires { HasRoom 1 1 state.old marks.old }
+    ensures { Effects 1 1 (does (ends shutdown)) state.old state.new marks.old marks.new }
+{
+    if let Some((_, status)) = shutdown {
+        call_shutdown_hook(state, status, marks);
+    }
+}
+
+// ShutdownHook is called, but not by a core that is down: it has called it already.
+fn call_shutdown_hook<const P: usize, const J: usize, const OUT: usize>(
+    state: &mut CoreState<'_, P, J, OUT>,
+    status: Status,
+    marks: &mut Vec<Mark>,
+)
+    requires { HasRoom 1 1 state.old marks.old }
+    ensures { Effects 1 1 (does (calls_shutdown_hook status)) state.old state.new marks.old marks.new }
+{
+    if !state.course().is_down() {
+        state.print(Mark::ShutdownHook(status), marks);
     }
 }
 
@@ -187,7 +231,7 @@ fn receive<const P: usize, const J: usize, const OUT: usize>(
     }
 }
 
-// A core that is down answers E_OS_CORE.
+// A core that is down or halted answers E_OS_CORE.
 fn serve_request<const P: usize, const J: usize, const OUT: usize>(
     state: &mut CoreState<'_, P, J, OUT>,
     from: CoreId,
@@ -206,7 +250,7 @@ fn serve_request<const P: usize, const J: usize, const OUT: usize>(
     }
 }
 
-// A core that is down drops the action.
+// A core that is down or halted drops the action.
 fn serve_action<const P: usize, const J: usize, const OUT: usize>(
     state: &mut CoreState<'_, P, J, OUT>,
     from: CoreId,

@@ -5,9 +5,10 @@ ghost use Rattle.osjobs.specs.Priorities.{is_own_runner};
 ghost use Rattle.osstate.specs.Does.{Effects, HasRoom, Reads};
 ghost use Rattle.osact.specs.Acts.{does, look};
 ghost use Rattle.osact.specs.Seen.{seen_of};
-ghost use Rattle.oskernel.specs.Faults.{answers_fault, ends_by_force, faults_with, fault_of, goes_down, protects};
+ghost use Rattle.oskernel.specs.Faults.{answers_fault, ends_by_force, faults_with, fault_of, protects};
 
 use osbase::{Mark, Runner, Status};
+use oscall::shutdown::go_down;
 use osplan::Protection;
 use osstate::CoreState;
 
@@ -90,18 +91,4 @@ fn end_by_force<const P: usize, const J: usize, const OUT: usize>(
         Runner::Task(task) => state.terminate(task, marks),
         Runner::Isr(isr) => state.leave_isr(isr, marks),
     }
-}
-
-// ShutdownHook is called at once, and the core goes down.
-fn go_down<const P: usize, const J: usize, const OUT: usize>(
-    state: &mut CoreState<'_, P, J, OUT>,
-    status: Status,
-    marks: &mut Vec<Mark>,
-)
-    requires { HasRoom 2 1 state.old marks.old }
-    ensures effects { Effects 2 1 (does (goes_down status)) state.old state.new marks.old marks.new }
-    ensures outbox { state.new.border.outbox ≡ state.old.border.outbox }
-{
-    state.print(Mark::ShutdownHook(status), marks);
-    state.go_down();
 }

@@ -1,8 +1,9 @@
 //! Whether a core may go on by itself.
 
 ghost use Rattle.std.specs.Prelude.{◌≡◌};
-ghost use Rattle.oskernel.specs.Free.{is_active, is_free, is_settled, may_dispatch, may_go_on};
+ghost use Rattle.oskernel.specs.Free.{is_active, is_free, is_get, is_settled, may_dispatch, may_go_on, may_look_halt};
 
+use osbase::Awaited;
 use osstate::CoreState;
 
 /// No call is open.
@@ -23,7 +24,7 @@ pub(crate) fn is_settled<const P: usize, const J: usize, const OUT: usize>(
     is_free(state) & state.is_outbox_empty()
 }
 
-/// The core is active: it did not go down, and no call is open.
+/// The core is active: it is neither down nor halted, and no call is open.
 pub(crate) fn is_active<const P: usize, const J: usize, const OUT: usize>(
     state: &CoreState<'_, P, J, OUT>,
 ) -> bool
@@ -48,4 +49,26 @@ pub(crate) fn may_dispatch<const P: usize, const J: usize, const OUT: usize>(
     ensures { result ≡ may_dispatch state.now }
 {
     state.phase().is_scheduling() & is_active(state)
+}
+
+// What waits for a spinlock.
+fn is_get(awaits: Awaited) -> bool
+    ensures { result ≡ is_get awaits }
+{
+    matches!(awaits, Awaited::Get(_))
+}
+
+/// A core that goes on may look for a shutdown of all cores, unless a call is open that does not wait for a spinlock.
+pub(crate) fn may_look_halt<const P: usize, const J: usize, const OUT: usize>(
+    state: &CoreState<'_, P, J, OUT>,
+) -> bool
+    ensures { result ≡ may_look_halt state.now }
+{
+    if !state.course().is_going() {
+        return false;
+    }
+    match state.awaited_call() {
+        Some(call) => is_get(call.awaits),
+        None => true,
+    }
 }

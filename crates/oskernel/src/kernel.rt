@@ -12,14 +12,14 @@ ghost use Rattle.osstate.specs.Does.{Adds, Does, Reads};
 ghost use Rattle.oskernel.specs.declared.kernel.TheConstants.{STEP_MARKS};
 ghost use Rattle.osplan.specs.Objects.{outbox_needed};
 ghost use Rattle.oskernel.specs.Step.{after, serves, takes};
-ghost use Rattle.oskernel.specs.Wants.{front_of, go_on_if_free, post_or as front_or, want_in, want_of, watch_if_active, watch_in, watch_of};
+ghost use Rattle.oskernel.specs.Wants.{front_of, go_on_by as go_on_want, post_or as front_or, want_call as call_or_want, want_in, want_of, watch_halt, watch_in, watch_of};
 ghost use Rattle.oskernel.specs.Admission.{serves_in, takes_in};
 
 use crate::admission::is_admitted;
-use crate::free::{is_active, is_free};
-use crate::wants::{Want, Watch, start_or_enter};
+use crate::free::may_look_halt;
+use crate::wants::{Want, Watch, go_on_by, start_or_enter, want_call};
 use crate::{dispatching, effects};
-use osbase::{CoreId, Course, Envelope, Item, Mark, Phase};
+use osbase::{CoreId, Envelope, Item, Mark, Phase};
 use osplan::Config;
 use osstate::CoreState;
 use std::marker::Model;
@@ -80,7 +80,7 @@ impl<'a, const P: usize, const J: usize, const OUT: usize> Kernel<'a, P, J, OUT>
         match self.state.phase() {
             Phase::Boot => start_or_enter(self.state.next_start()),
             Phase::BetweenGates => Want::Ready,
-            Phase::Live => self.post_or(self.go_on()),
+            Phase::Live => self.post_or(self.live_want()),
             Phase::Drained => self.post_or(Want::Nothing),
             Phase::Closing => self.post_or(Want::Nothing),
             Phase::Off => Want::Nothing,
@@ -90,17 +90,11 @@ impl<'a, const P: usize, const J: usize, const OUT: usize> Kernel<'a, P, J, OUT>
         }
     }
 
-    // A core that waits for a reply does not go on, and one that is down drains.
-    fn go_on(&self) -> Want
-        ensures { result ≡ go_on_if_free self.now }
+    // An open call goes before what the core would do without it.
+    fn live_want(&self) -> Want
+        ensures { result ≡ call_or_want self.now.border.open_call (go_on_want self.now.progress.course) }
     {
-        if !is_free(&self.state) {
-            return Want::Nothing;
-        }
-        match self.state.course() {
-            Course::Going => Want::GoOn,
-            Course::Down => Want::Drain,
-        }
+        want_call(self.state.awaited_call(), go_on_by(self.state.course()))
     }
 
     // The front of the outbox goes before anything else.
@@ -131,11 +125,11 @@ impl<'a, const P: usize, const J: usize, const OUT: usize> Kernel<'a, P, J, OUT>
         }
     }
 
-    // A live core watches for a shutdown of all cores, unless a call is open or it is down itself.
+    // A live core that may look for a shutdown of all cores watches for it.
     fn watch_halt(&self) -> Watch
-        ensures { result ≡ watch_if_active self.now }
+        ensures { result ≡ watch_halt self.now }
     {
-        if is_active(&self.state) {
+        if may_look_halt(&self.state) {
             Watch::Halt
         } else {
             Watch::Nothing

@@ -7,16 +7,17 @@ ghost use Rattle.osact.specs.Terms.{MayOperate};
 ghost use Rattle.oscript.specs.Calls.{call_of_op};
 ghost use Rattle.osact.specs.Acts.{does};
 ghost use Rattle.osact.specs.Seen.{seen_of};
-ghost use Rattle.oskernel.specs.Operations.{acts_alone, acts_suspended, operates, operates_by, refused_now, refused_of};
+ghost use Rattle.oskernel.specs.Operations.{acts_alone, acts_suspended, is_ignored_now, operates, operates_by, refused_now, refused_of};
 
 use osact::{Step, refuse};
 use osbase::{Mark, ServiceId, Status};
-use oscall::{call, chaining, variables};
+use oscall::{call, chaining, shutdown, variables};
 use oscript::call_of_op;
 use osstate::CoreState;
 
 /// One operation of the running job of one of the core's tasks or ISRs. While the job has suspended interrupts, nearly all
-/// services answer E_OS_DISABLEDINT and have no effect (AUTOSAR SWS OS 4.x, SWS_Os_00093).
+/// services have no effect: those that answer a status answer E_OS_DISABLEDINT, others are ignored (AUTOSAR SWS OS 4.x,
+/// SWS_Os_00093).
 pub(crate) fn operate<const P: usize, const J: usize, const OUT: usize>(
     state: &mut CoreState<'_, P, J, OUT>,
     step: Step,
@@ -25,10 +26,23 @@ pub(crate) fn operate<const P: usize, const J: usize, const OUT: usize>(
     requires { MayOperate (1 + posted_at_once state.old.view.own) OUT state.old step.runner step.op marks.old }
     ensures { Effects service_entries service_marks (does (operates step.runner step.op)) state.old state.new marks.old marks.new }
 {
+    if is_ignored_now(state, step) {
+        return state.complete(step.runner, Status::EOk, None);
+    }
     match refused_now(state, step) {
         Some(service) => refuse(state, step.runner, service, Status::EOsDisabledint, marks),
         None => perform(state, step, marks),
     }
+}
+
+// The operation is ignored now.
+fn is_ignored_now<const P: usize, const J: usize, const OUT: usize>(
+    state: &CoreState<'_, P, J, OUT>,
+    step: Step,
+) -> bool
+    ensures { Reads (λ v h. is_ignored_now (seen_of v h) step.runner step.op) state.now result }
+{
+    shutdown::is_ignored(step.op) && state.is_locked(step.runner)
 }
 
 // The service of the operation, if it is refused now.
@@ -103,5 +117,8 @@ fn act_alone<const P: usize, const J: usize, const OUT: usize>(
     if osdue::operate(state, step, marks) {
         return;
     }
-    ostablecall::operate(state, step, marks);
+    if ostablecall::operate(state, step, marks) {
+        return;
+    }
+    shutdown::operate(state, step, marks);
 }

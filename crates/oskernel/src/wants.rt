@@ -1,9 +1,9 @@
 //! What a core's own turn would do, and what its look at the board waits for.
 
 ghost use Rattle.std.specs.Prelude.{◌≡◌};
-ghost use Rattle.oskernel.specs.Wants.{start_or_enter as next_or_enter};
+ghost use Rattle.oskernel.specs.Wants.{go_on_by, start_or_enter as next_or_enter, want_call, want_for};
 
-use osbase::CoreId;
+use osbase::{Awaited, CoreId, Course, OpenCall, Status};
 
 /// What `Own` would do with a core.
 #[derive(Clone, Copy, Debug, PartialEq, Eq)]
@@ -16,9 +16,11 @@ pub enum Want {
     Ready,
     /// Sends the front of its outbox to this core.
     Post(CoreId),
+    /// Asks, with this status, for the shutdown of all cores (AUTOSAR SWS OS 4.x, ShutdownAllCores).
+    AskHalt(Status),
     /// Takes its next stimulus, or drains if there is none.
     GoOn,
-    /// Drains, whatever stimuli are left: it is down.
+    /// Drains, whatever stimuli are left: it is down, or was halted.
     Drain,
     /// Nothing.
     Nothing,
@@ -49,5 +51,35 @@ pub(crate) fn start_or_enter(next: Option<CoreId>) -> Want
     match next {
         Some(core) => Want::Start(core),
         None => Want::Enter,
+    }
+}
+
+/// An open call goes before what the core would do without it.
+pub(crate) fn want_call(open_call: Option<OpenCall>, want: Want) -> Want
+    ensures { result ≡ want_call open_call want }
+{
+    match open_call {
+        Some(call) => want_for(call.awaits),
+        None => want,
+    }
+}
+
+// ShutdownAllCores asks the other cores, and what waits for a reply only waits.
+fn want_for(awaits: Awaited) -> Want
+    ensures { result ≡ want_for awaits }
+{
+    match awaits {
+        Awaited::Halt(status) => Want::AskHalt(status),
+        _ => Want::Nothing,
+    }
+}
+
+/// A core that is down or halted drains, whatever stimuli are left.
+pub(crate) fn go_on_by(course: Course) -> Want
+    ensures { result ≡ go_on_by course }
+{
+    match course {
+        Course::Going => Want::GoOn,
+        Course::Down | Course::Halted => Want::Drain,
     }
 }

@@ -13,10 +13,11 @@ use Rattle.osbase.specs.declared.messages.RemoteCall.{RemoteCall}
 use Rattle.osbase.specs.declared.objects.Object.{Object as ObjectOf}
 use Rattle.osbase.specs.declared.objects.ObjectKind.{ObjectKind}
 use Rattle.osbase.specs.declared.objects.Place.{Place}
+use Rattle.osbase.specs.declared.references.CoreId.{CoreId}
 use Rattle.osbase.proofs.Same.{same_kind-true}
 use Rattle.oscript.specs.declared.Op.{Op}
 use Rattle.oscript.specs.declared.rows.Arg.{Arg}
-use Rattle.oscript.specs.declared.rows.Arg.TheVariants.{Object, Mask, Number, Int, Variable}
+use Rattle.oscript.specs.declared.rows.Arg.TheVariants.{Core, Object, Mask, Number, Int, Variable}
 use Rattle.oscript.specs.declared.rows.Kind.{Kind}
 use Rattle.oscript.specs.declared.rows.TheConstants.{VERBS}
 use Rattle.oscript.specs.declared.rows.Verb.{Verb}
@@ -26,7 +27,7 @@ use Rattle.oscript.proofs.Acting.{call-back as table-back, call-objects}
 use Rattle.osforms.specs.Call.{call_words, form_words}
 use Rattle.osforms.specs.Form.{arg_of, arg_text, args_of, form_of_verb, form_of_words, verb_of, words_of}
 use Rattle.osforms.specs.Operation.{named, op_text, resolve_arg, resolve_args, resolved}
-use Rattle.osforms.specs.Word.{is_decimal, mask_of, number_in, target_of, variable_of, int_of}
+use Rattle.osforms.specs.Word.{core_numbered, core_of, is_decimal, mask_of, number_in, target_of, variable_of, int_of}
 use Rattle.osforms.proofs.Fitting.{args-fit, formed-args}
 use Rattle.osforms.proofs.Joining.{has_none}
 use Rattle.osforms.proofs.KindTexts.{cond-some, either, is_kind, mapped}
@@ -79,6 +80,17 @@ variable-word (v ∷ d ∷ []) x e =
     ap (λ (ds : List ℕ). 118 ∷ ds) (decimal_digit x (omega (arith, is, most)) ∙ ap (λ (b : ℕ). b ∷ []) digit) ∙ ap (λ (b : ℕ). b ∷ d ∷ []) (sym letter)
 variable-word (v ∷ d ∷ f ∷ fs) x e = cc
 
+core-word : (w : List ℕ) (target : Option CoreId) → core_of w ≡ Some target → arg_text (Core target) ≡ w
+core-word w target e =
+    elim (either (bytes_eq w (codes "?")) (Some None) (option_map (λ n. Some (core_numbered n)) (number_in 0 255 w)) target e) as (λ _. arg_text (Core target) ≡ w) [
+      | inl p ↦
+          let none : None ≡ target = cc in
+          ap (λ (o : Option CoreId). arg_text (Core o)) (sym none) ∙ sym ((bytes_eq-Decides w (codes "?")).0 p.0)
+      | inr p ↦
+          let m = mapped (λ n. Some (core_numbered n)) (number_in 0 255 w) target p.1 in
+          ap (λ (o : Option CoreId). arg_text (Core o)) (sym m.2) ∙ number-word 0 255 w m.0 (omega arith) m.1
+    ]
+
 module _ (plan : Plan) (limits : IsTrue (is_within_limits plan)) (expressible : IsTrue (is_expressible plan)) where
   target-word : (k : ObjectKind) (w : List ℕ) (t : Option (List ℕ)) (b : Arg Place) → target_of w ≡ Some t → resolve_arg (place_named plan) (Object k t) ≡ Some b → arg_text (named (name_of plan) b) ≡ w
   target-word k w t b e r =
@@ -121,6 +133,11 @@ module _ (plan : Plan) (limits : IsTrue (is_within_limits plan)) (expressible : 
       let found : resolve_arg (place_named plan) (Variable m.0) ≡ Some b = subst (λ (a : Arg (List ℕ)). resolve_arg (place_named plan) a ≡ Some b) (sym m.2) r in
       let is : Variable m.0 ≡ b = cc in
       ap (λ (b : Arg Place). arg_text (named (name_of plan) b)) (sym is) ∙ variable-word w m.0 m.1
+  arg-word Kind.Core w a b fits e r some =
+      let m = mapped Core (core_of w) a e in
+      let found : resolve_arg (place_named plan) (Core m.0) ≡ Some b = subst (λ (a : Arg (List ℕ)). resolve_arg (place_named plan) a ≡ Some b) (sym m.2) r in
+      let is : Core m.0 ≡ b = cc in
+      ap (λ (b : Arg Place). arg_text (named (name_of plan) b)) (sym is) ∙ core-word w m.0 m.1
 
   args-words : (ks : List Kind) (ws : List (List ℕ)) (shown : List (Arg (List ℕ))) (args : List (Arg Place)) → list_all is_kind ks ≡ true → args_of ks ws ≡ Some shown → resolve_args (place_named plan) shown ≡ Some args → list_all has_event args ≡ true
       → map (λ (a : Arg Place). arg_text (named (name_of plan) a)) args ≡ ws
@@ -150,6 +167,7 @@ module _ (plan : Plan) (limits : IsTrue (is_within_limits plan)) (expressible : 
   arg-there (Number n) arg args e all = let is : Number n ≡ arg = cc in rw (← is) all
   arg-there (Int z) arg args e all = let is : Int z ≡ arg = cc in rw (← is) all
   arg-there (Variable x) arg args e all = let is : Variable x ≡ arg = cc in rw (← is) all
+  arg-there (Core target) arg args e all = let is : Core target ≡ arg = cc in rw (← is) all
 
   args-there : (shown : List (Arg (List ℕ))) (args : List (Arg Place)) → resolve_args (place_named plan) shown ≡ Some args → list_all (is_object plan) (objects_in args) ≡ true
   args-there [] args e = let is : [] ≡ args = cc in rw (← is) refl

@@ -77,7 +77,7 @@ Stands [] n = ⊥
 Stands (x ∷ xs) n = (x ≡ n) ⊎ Stands xs n
 
 module _ (name : Object → List ℕ) where
-  abbrev has : List ℕ → Named → Bool
+  abbrev has : List ℕ → Object → Bool
   has w n = bytes_eq (name n) w
 
   stands-any : (xs : List Object) (n : Object) → Stands xs n → list_any (has (name n)) xs ≡ true

@@ -1,5 +1,5 @@
 -- What the limits say of the tables of a core, by name: their numbers, their points, and what their counter admits.
-use Rattle.std.proofs.Common.{◌≡◌, ℕ, is_some, ◌-◌, ◌≤◌, ◌<◌, Bool, true, false, not, ◌&&◌, ◌||◌, cond, nat_eq, nat_le, nat_lt, List, [], ◌∷◌, length, map, Option, Some, None, option_map, inl, inr, refl, sym, ap, subst, ◌∙◌, arith}
+use Rattle.std.proofs.Common.{◌≡◌, ℕ, is_some, ◌-◌, ◌≤◌, Bool, true, false, not, ◌&&◌, ◌||◌, cond, nat_eq, nat_le, nat_lt, List, [], ◌∷◌, length, map, Option, Some, None, option_map, inl, inr, refl, sym, ap, subst, ◌∙◌, arith}
 use Rattle.std.specs.List.{list_all, slice_get}
 use Rattle.std.specs.Option.{option_map_or}
 use Rattle.std.proofs.lemmas.Bool.{and_parts, and_from, false≢true, leb-true, eqb-true, le-leb, ltb-true, or_cases}
@@ -158,9 +158,3 @@ own-counter-there core c within own = by (slice_get core.counters c.index) refl
         let max = between 1 1000000000 counter.max both.0 in
         let min = between 1 counter.max counter.min both.1 in
         record { counter = counter; found = ap (λ (b : Bool). cond b (slice_get core.counters c.index) None) parts.0 ∙ there; some = min.0; least = min.1; most = max.1 }
-
--- A table that repeats has its last point before the end of its period.
-pub last-before-end : (core : Core) (table : Table) (own : OwnCounter core table.counter) → is_table_timed (own_table_sizes core table) ≡ true → table.repeating ≡ true → last_offset (map point_sizes table.points) < table.duration
-last-before-end core table own timed repeats =
-    let delay = (delay-parts core table own.counter own.found timed).again repeats in
-    omega (arith, delay, own.some)

@@ -16,8 +16,8 @@ use Rattle.osbase.specs.declared.items.CoreMode.TheVariants.{Named, DontCare}
 use Rattle.osplan.specs.declared.separate.Standing.{Standing}
 use Rattle.osplan.specs.declared.sides.Side.{Side}
 use Rattle.osplan.specs.declared.sides.Side.TheVariants.{On, Off}
-use Rattle.osplan.specs.declared.sought.Sought.{Sought}
-use Rattle.osplan.specs.declared.sought.Sought.TheVariants.{Names, AsksShared, HaltsAll}
+use Rattle.osplan.specs.declared.operations.OpTest.{OpTest}
+use Rattle.osplan.specs.declared.operations.OpTest.TheVariants.{Names, AsksShared, HaltsAll}
 use Rattle.osplan.specs.Objects.{core_actions, core_scripts}
 use Rattle.osplan.specs.View.{core_of}
 
@@ -93,11 +93,11 @@ names_own id op = op_names (is_on id) op
 abbrev pub names_other : CoreId → Op → Bool
 names_other id op = op_names (is_off id) op
 
--- The operation does what is looked for.
-abbrev pub is_sought : Sought → Op → Bool
-is_sought (Names side) = op_names (is_at side)
-is_sought AsksShared = asks_shared
-is_sought HaltsAll = halts_all
+-- The operation names an object on this side, asks for what all cores share, or takes all cores down.
+abbrev pub passes_test : OpTest → Op → Bool
+passes_test (Names side) = op_names (is_at side)
+passes_test AsksShared = asks_shared
+passes_test HaltsAll = halts_all
 
 -- A script of the core has such an operation.
 abbrev pub has_operation : (Op → Bool) → Core → Bool

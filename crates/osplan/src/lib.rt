@@ -8,12 +8,12 @@ mod cuts;
 pub mod faults;
 mod modes;
 mod names;
+mod operations;
 pub mod own;
 pub mod plans;
 mod protection;
 pub mod separate;
 mod sides;
-mod sought;
 
 pub use cuts::cut;
 pub use faults::ConfFault;

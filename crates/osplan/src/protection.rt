@@ -7,7 +7,7 @@ ghost use Rattle.osplan.specs.Protection.{protection_named, protection_word};
 /// `TerminateTaskIsr` shuts the core down.
 #[derive(Clone, Copy, Debug, PartialEq, Eq)]
 pub enum Protection {
-    /// PRO_IGNORE, which a time fault does not allow (SWS_Os_00306).
+    /// PRO_IGNORE, which a time fault does not allow (SWS_Os_00307).
     Ignore,
     /// PRO_TERMINATETASKISR: the job ends, and the core goes on.
     TerminateTaskIsr,

@@ -8,9 +8,9 @@ ghost use Rattle.osplan.specs.Limits.{is_within_limits};
 ghost use Rattle.osplan.specs.Flags.{is_named_by_one_of, is_next, AreStarted};
 ghost use Rattle.osplan.specs.Separate.{agree, halts_somewhere, is_among, is_named_elsewhere, is_agreed_mode, is_separate, is_separate_core, is_started, names_mode, standing_of};
 
+use crate::operations::{OpTest, has_operation};
 use crate::plans::{Config, Core, Plan};
 use crate::sides::Side;
-use crate::sought::Sought;
 use osbase::{CORE_NUMBERS, CORES, CoreId, CoreMode, CoreSet};
 
 fn is_among(ids: &[CoreId], id: CoreId) -> bool
@@ -111,7 +111,7 @@ fn halts_somewhere(plan: &Plan) -> bool
     plan.cores
         .as_slice()
         .iter()
-        .any(|core| Sought::HaltsAll.is_in_scripts(core))
+        .any(|core| has_operation(core, OpTest::HaltsAll))
 }
 
 // Tasks, ISRs, alarms and tables name objects.
@@ -126,7 +126,7 @@ pub(crate) fn is_separate_core(plan: &Plan, core: &Core) -> bool
         && core.start.len() == 0
         && !Side::Off(core.id).is_named_by(core)
         && !is_named_elsewhere(plan, core.id)
-        && !Sought::AsksShared.is_in_scripts(core)
+        && !has_operation(core, OpTest::AsksShared)
         && !halts_somewhere(plan)
 }
 

@@ -10,8 +10,8 @@ ghost use Rattle.osplan.specs.declared.plans.ExpiryPoint.{ExpiryPoint as PointVa
 ghost use Rattle.osplan.specs.declared.plans.Table.{Table as TableValue};
 ghost use Rattle.osplan.specs.Separate.{acts_on, is_at, is_on, names_object, op_names};
 
+use crate::operations::{OpTest, has_operation};
 use crate::plans::{Core, Table};
-use crate::sought::Sought;
 use osbase::{CoreId, Object, Reference, RemoteCall};
 use oscript::Op;
 
@@ -107,7 +107,7 @@ impl Side {
     pub fn is_named_by(self, core: &Core) -> bool
         ensures { result ≡ names_object (is_at self) core.now }
     {
-        Sought::Names(self).is_in_scripts(core) || self.is_acted_on(core)
+        has_operation(core, OpTest::Names(self)) || self.is_acted_on(core)
     }
 }
 

@@ -27,7 +27,7 @@ impl Locks {
         Locks { depth: 0 }
     }
 
-    /// The job suspends interrupts once more; after 255 times nothing changes (OSEK/VDX OS 2.2.3, section 13.3.2.3; the
+    /// The job suspends interrupts once more; after 255 times nothing changes (OSEK/VDX OS 2.2.3, section 13.3.2.4; the
     /// most: own).
     pub fn lock_interrupts(&mut self)
         ensures { self.new ≡ deeper self.old }
@@ -38,7 +38,7 @@ impl Locks {
     }
 
     /// The job resumes interrupts once; if it has not suspended them, nothing changes (OSEK/VDX OS 2.2.3, section
-    /// 13.3.2.4).
+    /// 13.3.2.3).
     pub fn unlock_interrupts(&mut self)
         ensures { self.new ≡ shallower self.old }
     {

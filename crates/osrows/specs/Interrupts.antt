@@ -55,7 +55,7 @@ ignored =
 
 -- A suspends interrupts. Of two interrupts of I one is pending and the other one lost, and a service of A is refused. Once A resumes
 -- interrupts, I begins and activates H, which preempts A when I has ended.
--- [OSEK/VDX OS 2.2.3, section 13.3.2.3; AUTOSAR SWS OS 4.x, SWS_Os_00093]
+-- [OSEK/VDX OS 2.2.3, section 13.3.2.4; AUTOSAR SWS OS 4.x, SWS_Os_00093]
 abbrev pub locked : Example
 locked =
     let a = task_at 0 0 in

@@ -5,5 +5,6 @@ pub mod Clocks
 pub mod Interrupts
 pub mod Laws
 pub mod Resources
+pub mod Shutdowns
 pub mod Tasks
 pub mod Logs

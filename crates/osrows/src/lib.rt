@@ -7,4 +7,5 @@ pub mod interrupts;
 pub mod laws;
 pub mod logs;
 pub mod resources;
+pub mod shutdowns;
 pub mod tasks;

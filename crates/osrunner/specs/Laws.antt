@@ -67,6 +67,6 @@ earlier_ticks_of r [] = 0
 earlier_ticks_of r (e ∷ h) = if ends_or_waits r e then ticks_of r h else earlier_ticks_of r h
 
 -- A job has used the ticks at which it was the running one since it began or last waited, and no other, whatever its script.
--- [AUTOSAR SWS OS 4.x, SWS_Os_00028 and SWS_Os_00473; in ticks: own]
+-- [AUTOSAR SWS OS 4.x, SWS_Os_00028, SWS_Os_00473 and, of an ISR, SWS_Os_00474; in ticks: own]
 pub record UsesTicksSince (r : Runner) (h : History) : Type 0 where
   pub used : (script : List Op) → earlier_ticks_of r h + (row_of script r h).used ≡ ticks_of r h

@@ -12,7 +12,7 @@ pub fn events_are_as_last_said()
 {}
 
 /// A job has used those ticks of its budget at which it was the running one, since it began or last waited, whatever happened
-/// (AUTOSAR SWS OS 4.x, SWS_Os_00028 and SWS_Os_00473).
+/// (AUTOSAR SWS OS 4.x, SWS_Os_00028, SWS_Os_00473 and, of an ISR, SWS_Os_00474).
 pub fn budgets_are_the_ticks_since()
     ensures { (r : Runner) → (h : History) → UsesTicksSince r h }
 {}

@@ -118,7 +118,8 @@ impl Rows {
     }
 
     /// The runner's oldest job has ended: it gives back all that it holds and resumes interrupts, and the next one begins
-    /// at the first operation, with its whole budget (AUTOSAR SWS OS 4.x, SWS_Os_00070, for the resources).
+    /// at the first operation, with its whole budget (AUTOSAR SWS OS 4.x, SWS_Os_00070, for the resources; SWS_Os_00473 and, of
+    /// an ISR, SWS_Os_00474, for the budget).
     pub fn end(&mut self, runner: Runner)
         ensures { self.new ≡ with_row runner ended self.old }
     {
@@ -136,14 +137,14 @@ impl Rows {
         wait_at(&mut self.rows, runner.slot(), mask);
     }
 
-    /// The runner's oldest job suspends interrupts once more (OSEK/VDX OS 2.2.3, section 13.3.2.3).
+    /// The runner's oldest job suspends interrupts once more (OSEK/VDX OS 2.2.3, section 13.3.2.4).
     pub fn lock_interrupts(&mut self, runner: Runner)
         ensures { self.new ≡ with_row runner (λ row. record row { depth = deeper row.depth }) self.old }
     {
         lock_at(&mut self.rows, runner.slot());
     }
 
-    /// The runner's oldest job resumes interrupts once (OSEK/VDX OS 2.2.3, section 13.3.2.4).
+    /// The runner's oldest job resumes interrupts once (OSEK/VDX OS 2.2.3, section 13.3.2.3).
     pub fn unlock_interrupts(&mut self, runner: Runner)
         ensures { self.new ≡ with_row runner (λ row. record row { depth = shallower row.depth }) self.old }
     {
@@ -172,7 +173,7 @@ impl Rows {
         complete_at(&mut self.rows, runner.slot(), script, status, value);
     }
 
-    /// Whether the runner's oldest job has suspended interrupts (OSEK/VDX OS 2.2.3, section 13.3.2.3).
+    /// Whether the runner's oldest job has suspended interrupts (OSEK/VDX OS 2.2.3, section 13.3.2.4).
     #[inline(always)]
     pub fn is_locked(&self, runner: Runner) -> bool
         ensures { result ≡ nat_lt 0 (depth_in runner self.now) }

@@ -221,7 +221,7 @@ interrupt_place core i js few within below =
 pub all_isrs_own : (core : Core) (js : List Job) → ((r : Runner) → job_count r js ≤ interrupt_limit core r) → All (λ (j : Job). is_own_runner core j.runner ≡ true) js
 all_isrs_own core js within = all_by core (interrupt_limit core) (own_from_interrupt core) js within
 
--- ---- ISRs that were started
+-- ---- ISRs that were entered
 
 pub isr_count-without : (k i : IsrRef) (xs : List IsrRef) → isr_count k (without_isr i xs) ≤ isr_count k xs
 isr_count-without k i [] = omega arith

@@ -101,7 +101,7 @@ pub goes-on : {priorities room : ℕ} {s : KernelState} (tasks : JobState) (bord
     → IsSound priorities room (record s { progress = record s.progress { entries = s.progress.entries + 1 }; tasks = tasks; border = border; clocks = clocks; tables = timetables })
 goes-on tasks border sound jobs crossing times = record { tasks = sound.tasks; objects = sound.objects; jobs = jobs; progress = under-way sound.progress; border = crossing; times = times }
 
--- an entry that begins and ends no job, and by which no ISR is started
+-- an entry that begins and ends no job, and by which no ISR is entered
 pub jobs-kept : {core : Core} {phase : Phase} {entries : ℕ} {s : JobState} (script : List Op) (e : Entry) (stamp : ℕ) → jobs_after e stamp s.jobs ≡ s.jobs → isrs_by e stamp s.isrs ≡ s.isrs → HasJobs core phase entries s
     → HasJobs core phase (entries + 1) (jobs_by script e stamp s)
 jobs-kept {core} {entries = entries} {s = s} script e stamp same none sound = jobs-on script e stamp sound

@@ -84,7 +84,7 @@ depth_at v r h = (row_at v r h).depth
 abbrev pub used_at : View → Runner → History → ℕ
 used_at v r h = (row_at v r h).used
 
--- The runner's oldest live job has suspended interrupts. [OSEK/VDX OS 2.2.3, section 13.3.2.3]
+-- The runner's oldest live job has suspended interrupts. [OSEK/VDX OS 2.2.3, section 13.3.2.4]
 abbrev pub is_locked : View → Runner → History → Bool
 is_locked v r h = nat_lt 0 (depth_at v r h)
 
@@ -120,7 +120,7 @@ current_priority v h j = priority_by v.own (live_jobs h) (rows_of v.own h) (rais
 abbrev pub is_able : View → History → Job → Bool
 is_able v h j = is_able_in (live_jobs h) (rows_of v.own h) j
 
--- The running job: that of the ISR that was started last, or else the current one. [OSEK/VDX OS 2.2.3, section 4.2 and 6]
+-- The running job: that of the ISR that was entered last, or else the current one. [OSEK/VDX OS 2.2.3, section 4.2 and 6]
 abbrev pub running : View → History → Option Job
 running v h = running_job h
 
@@ -130,7 +130,7 @@ abbrev pub best_task : View → History → Option Job
 best_task v h = first_greatest (current_priority v h) (filter (is_able v h) (live_jobs h))
 
 -- The job to run: the running one, if it has suspended interrupts; else of the jobs of ISRs of greatest level the one of smallest stamp;
--- else the best one of a task. [OSEK/VDX OS 2.2.3, section 4.4, 4.5, 6 and 13.3.2.3; AUTOSAR SWS OS 4.x, section 7.6]
+-- else the best one of a task. [OSEK/VDX OS 2.2.3, section 4.4, 4.5, 6 and 13.3.2.4; AUTOSAR SWS OS 4.x, section 7.6]
 abbrev pub best_job : View → History → Option Job
 best_job v h =
     if is_locked_in (rows_of v.own h) (running v h) then running v h

@@ -100,7 +100,7 @@ pub record HasObjects (priorities : ℕ) (core : Core) : Type 0 where
 
 -- No task has more live jobs than it may have, and none before the core schedules. Each began or was released at an entry that the
 -- history has, so the stamp of the next entry is greater than theirs. No ISR has more live jobs than it may have, and at most one of
--- them was started. No job has used more ticks than the history has entries.
+-- them was entered. No job has used more ticks than the history has entries.
 pub record HasJobs (core : Core) (phase : Phase) (entries : ℕ) (s : JobState) : Type 0 where
   pub within : (r : Runner) → job_count r s.jobs ≤ activation_limit core r
   pub stamps : Each (λ (j : Job). j.stamp < entries) s.jobs

@@ -4,6 +4,7 @@ use Rattle.osbase.specs.declared.references.CoreId.{CoreId}
 use Rattle.osbase.specs.declared.references.Runner.{Runner}
 use Rattle.osbase.specs.declared.messages.Message.{Message}
 use Rattle.osbase.specs.declared.messages.Envelope.{Envelope}
+use Rattle.osbase.specs.declared.items.Item.{Item}
 use Rattle.osbase.specs.declared.items.Item.TheVariants as Item
 use Rattle.osbase.specs.declared.limits.TheConstants.{CORES}
 use Rattle.osbase.specs.History.{Entry, Took, Noted, Queued, first_phase, phase_after, began_after, agreement_after, course_after, started_after, items_after, open_after, outbox_after, no_cores, envelope_with}
@@ -33,6 +34,16 @@ progress_after e p = record {
   started = started_after e p.started;
   items = items_after e p.items;
   entries = p.entries + 1;
+}
+
+-- Where a core stands once it took this item, but for what is counted.
+abbrev pub moved_by : Item → Progress → Progress
+moved_by item p = record p {
+  phase = phase_after (Took item) p.phase;
+  course = course_after (Took item) p.course;
+  began = began_after (Took item) p.began;
+  agreement = agreement_after (Took item) p.agreement;
+  started = started_after (Took item) p.started;
 }
 
 -- Where the master begins, and another core.

@@ -31,13 +31,12 @@ pub(crate) fn closed_by(runner: Runner, open_call: Option<OpenCall>) -> Option<O
     }
 }
 
-/// The call that is still open once an item is taken: none once all cores are halted.
-pub(crate) fn open_by(item: &Item, open_call: Option<OpenCall>) -> Option<OpenCall>
-    ensures { result ≡ open_after (Took item.now) open_call }
+/// No call is open once all cores are halted.
+pub(crate) fn close_by(open_call: &mut Option<OpenCall>, item: &Item)
+    ensures { open_call.new ≡ open_after (Took item.now) open_call.old }
 {
-    match item {
-        Item::Halt { core: _, status: _ } => None,
-        _ => open_call,
+    if let Item::Halt { core: _, status: _ } = item {
+        *open_call = None;
     }
 }
 

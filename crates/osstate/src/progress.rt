@@ -1,9 +1,9 @@
 //! Where a core stands: the part of its state that speaks of no task and of no other core.
 
 ghost use Rattle.std.specs.Prelude.{◌≡◌, ◌<◌, ◌^◌, vec_capacity, vec_len};
-ghost use Rattle.osbase.specs.History.{Took, Printed, Noted, WentDown, agreement_after, began_after, phase_after, phase_past_first_gate, started_after};
+ghost use Rattle.osbase.specs.History.{Took, Printed, Noted, WentDown, agreement_after, began_after, course_after, phase_after, phase_past_first_gate, started_after};
 ghost use Rattle.osstate.specs.Does.{Joins};
-ghost use Rattle.osstate.specs.Steps.{first_progress, progress_after};
+ghost use Rattle.osstate.specs.Steps.{first_progress, moved_by, progress_after};
 
 use osbase::{Agreement, CORES, CoreSet, Course, Item, Mark, Phase};
 
@@ -49,12 +49,31 @@ impl Progress {
         requires entries { self.old.entries < 2 ^ 63 }
         ensures { self.new ≡ progress_after (Took item.now) self.old }
     {
+        // What a live core takes most leaves it where it stands.
+        match item {
+            Item::Stim(_) => {}
+            Item::Posted(_) => {}
+            Item::Received {
+                from: _,
+                number: _,
+                message: _,
+            } => {}
+            _ => self.move_by(item),
+        }
+        self.items += 1;
+        self.entries += 1;
+    }
+
+    // Where the core stands once it took this item; nothing is counted.
+    fn move_by(&mut self, item: &Item)
+        requires { self.old.began < 2 ^ 63 }
+        ensures { self.new ≡ moved_by item.now self.old }
+    {
         self.phase = phase_by(self.phase, item);
+        self.course = course_by(self.course, item);
         self.began = began_by(self.began, item);
         self.agreement = agreement_by(self.agreement, item);
         self.started = started_by(self.started, item);
-        self.items += 1;
-        self.entries += 1;
     }
 
     /// The core goes down (AUTOSAR SWS OS 4.x, ShutdownOS).
@@ -104,6 +123,15 @@ fn past_first_gate(agreement: Agreement) -> Phase
         Agreement::Mode(_) => Phase::BetweenGates,
         Agreement::NoMode => Phase::BetweenGates,
     }
+}
+
+fn course_by(course: Course, item: &Item) -> Course
+    ensures { result ≡ course_after (Took item.now) course }
+{
+    if let Item::Halt { core: _, status: _ } = item {
+        return course.halted();
+    }
+    course
 }
 
 fn began_by(began: usize, item: &Item) -> usize

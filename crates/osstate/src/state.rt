@@ -113,7 +113,7 @@ impl<'a, const P: usize, const J: usize, const OUT: usize> CoreState<'a, P, J, O
     {
         self.progress.take_item(item);
         self.jobs.take_item(item);
-        self.border.open_call = border::open_by(item, self.border.open_call);
+        border::close_by(&mut self.border.open_call, item);
         border::post_by(&mut self.border.outbox, item);
         border::receive_by(&mut self.border.received, item);
     }
@@ -156,7 +156,7 @@ impl<'a, const P: usize, const J: usize, const OUT: usize> CoreState<'a, P, J, O
         self.progress.record(Mark::InterruptAccepted(isr), marks);
     }
 
-    /// The oldest job of one of the core's ISRs is started: it runs, whatever ran before, and the task in the running state
+    /// The oldest job of one of the core's ISRs is entered: it runs, whatever ran before, and the task in the running state
     /// stays in it.
     pub fn enter_isr(&mut self, isr: IsrRef, marks: &mut Vec<Mark>)
         requires own { IsTrue (is_own_runner self.old.view.own (Runner.Isr isr)) }
@@ -192,7 +192,7 @@ impl<'a, const P: usize, const J: usize, const OUT: usize> CoreState<'a, P, J, O
     }
 
     /// The oldest job of one of the core's tasks or ISRs suspends interrupts once more (OSEK/VDX OS 2.2.3, section
-    /// 13.3.2.3).
+    /// 13.3.2.4).
     pub fn lock_interrupts(&mut self, runner: Runner)
         requires own { IsTrue (is_own_runner self.old.view.own runner) }
         requires count { self.old.progress.entries < 2 ^ 63 }
@@ -203,7 +203,7 @@ impl<'a, const P: usize, const J: usize, const OUT: usize> CoreState<'a, P, J, O
         self.progress.entries += 1;
     }
 
-    /// The oldest job of one of the core's tasks or ISRs resumes interrupts once (OSEK/VDX OS 2.2.3, section 13.3.2.4).
+    /// The oldest job of one of the core's tasks or ISRs resumes interrupts once (OSEK/VDX OS 2.2.3, section 13.3.2.3).
     pub fn unlock_interrupts(&mut self, runner: Runner)
         requires own { IsTrue (is_own_runner self.old.view.own runner) }
         requires count { self.old.progress.entries < 2 ^ 63 }
@@ -291,7 +291,7 @@ impl<'a, const P: usize, const J: usize, const OUT: usize> CoreState<'a, P, J, O
         self.progress.record(Mark::Released(task), marks);
     }
 
-    /// A mark that begins and ends no job, by which no task enters or leaves the running state, no ISR is started and no row
+    /// A mark that begins and ends no job, by which no task enters or leaves the running state, no ISR is entered and no row
     /// changes.
     pub fn print(&mut self, mark: Mark, marks: &mut Vec<Mark>)
         requires plain { IsTrue (is_plain mark) }
@@ -378,7 +378,7 @@ impl<'a, const P: usize, const J: usize, const OUT: usize> CoreState<'a, P, J, O
         self.progress.phase
     }
 
-    /// Whether the core goes on, or went down.
+    /// Whether the core goes on, went down, or was halted.
     pub fn course(&self) -> Course
         ensures { result ≡ self.now.progress.course }
     {
@@ -529,8 +529,9 @@ impl<'a, const P: usize, const J: usize, const OUT: usize> CoreState<'a, P, J, O
         self.config.plan().modes.len()
     }
 
-    /// The running job: that of the ISR that was started last, or else the oldest live job of the task in the running state
+    /// The running job: that of the ISR that was entered last, or else the oldest live job of the task in the running state
     /// (OSEK/VDX OS 2.2.3, section 4.2 and 6).
+    #[inline(always)]
     pub fn running_job(&self) -> Option<Job>
         ensures value { result ≡ running_in self.now }
         ensures own { IfSome result (λ job. IsTrue (is_own_runner self.now.view.own job.runner)) }
@@ -540,7 +541,7 @@ impl<'a, const P: usize, const J: usize, const OUT: usize> CoreState<'a, P, J, O
 
     /// The job to run, where this one is running: that one, if it has suspended interrupts; else of the jobs of ISRs of
     /// greatest level the oldest; else of the able jobs of tasks of greatest current priority the oldest (OSEK/VDX OS 2.2.3,
-    /// section 4.4, 4.5, 6 and 13.3.2.3).
+    /// section 4.4, 4.5, 6 and 13.3.2.4).
     pub fn best_job(&mut self, running: Option<Job>) -> Option<Job>
         requires { running ≡ running_in self.old }
         ensures value { result ≡ best_in self.old }
@@ -592,7 +593,7 @@ impl<'a, const P: usize, const J: usize, const OUT: usize> CoreState<'a, P, J, O
     }
 
     /// Whether the oldest job of one of the core's tasks or ISRs has suspended interrupts (OSEK/VDX OS 2.2.3, section
-    /// 13.3.2.3).
+    /// 13.3.2.4).
     pub fn is_locked(&self, runner: Runner) -> bool
         ensures value { result ≡ nat_lt 0 (depth_in runner self.now.tasks.rows) }
         ensures reads { Reads (λ v h. is_locked v runner h) self.now result }

@@ -8,11 +8,11 @@ use Rattle.osact.specs.Acts.{Acts, Notes, nothing, one_then, look, notes, prints
 use Rattle.osact.specs.Callers.{has_suspended}
 
 -- SuspendAllInterrupts: while a job has them suspended it runs, whatever is activated or pending. Calls nest.
--- [OSEK/VDX OS 2.2.3, section 13.3.2.3; that calls nest: section 13.3.2.5, SuspendOSInterrupts]
+-- [OSEK/VDX OS 2.2.3, section 13.3.2.4; that calls nest: section 13.3.2.3, ResumeAllInterrupts]
 abbrev pub suspends_interrupts : Runner → Acts
 suspends_interrupts r = one_then (Notes (Locked r)) (notes (Done r EOk None))
 
--- ResumeAllInterrupts, which ends the newest of these. [OSEK/VDX OS 2.2.3, section 13.3.2.4]
+-- ResumeAllInterrupts, which ends the newest of these. [OSEK/VDX OS 2.2.3, section 13.3.2.3]
 abbrev pub resumes_interrupts : Runner → Acts
 resumes_interrupts r = one_then (Notes (Unlocked r)) (notes (Done r EOk None))
 

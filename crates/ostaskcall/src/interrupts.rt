@@ -9,7 +9,7 @@ ghost use Rattle.ostaskcall.specs.Interrupts.{reports_suspended, resumes_interru
 use osbase::{Mark, Runner, Status};
 use osstate::CoreState;
 
-/// A running job of one of the core's tasks or ISRs suspends interrupts once more (OSEK/VDX OS 2.2.3, section 13.3.2.3).
+/// A running job of one of the core's tasks or ISRs suspends interrupts once more (OSEK/VDX OS 2.2.3, section 13.3.2.4).
 pub(crate) fn suspend_interrupts<const P: usize, const J: usize, const OUT: usize>(
     state: &mut CoreState<'_, P, J, OUT>,
     runner: Runner,
@@ -22,7 +22,7 @@ pub(crate) fn suspend_interrupts<const P: usize, const J: usize, const OUT: usiz
     state.complete(runner, Status::EOk, None);
 }
 
-/// It resumes them once (OSEK/VDX OS 2.2.3, section 13.3.2.4).
+/// It resumes them once (OSEK/VDX OS 2.2.3, section 13.3.2.3).
 pub(crate) fn resume_interrupts<const P: usize, const J: usize, const OUT: usize>(
     state: &mut CoreState<'_, P, J, OUT>,
     runner: Runner,

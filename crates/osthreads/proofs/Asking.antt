@@ -33,14 +33,14 @@ use Rattle.osboard.specs.declared.calls.BoardCall.{BoardCall}
 use Rattle.osboard.specs.declared.calls.BoardCall.TheVariants.{Start, Enter, MakeReady, Drain, Look, AskHalt, LookHalt}
 use Rattle.osboard.specs.declared.calls.BoardReply.{BoardReply}
 use Rattle.osboard.specs.declared.calls.BoardReply.TheVariants.{Started, Acknowledged, Shown, Decided, Halting}
-use Rattle.osboard.specs.Boards.{BoardEntry, IsMode, board_after, board_reply, first_board, one_board, start_answer}
+use Rattle.osboard.specs.Boards.{BoardEntry, HasPlace, IsMode, board_after, board_reply, first_asked, first_board, one_board, start_answer}
 use Rattle.osturn.specs.declared.asks.Ask.{Ask}
 use Rattle.osturn.specs.declared.asks.Ask.TheVariants.{OfBoard, OfSpins, Oldest, StartUnknown, TakeStimulus}
 use Rattle.osturn.specs.declared.asks.Answer.{Answer}
 use Rattle.osturn.specs.declared.asks.Answer.TheVariants.{Replied, Unasked}
 use Rattle.osturn.specs.Asking.{asked_by, look_asked, named_by, no_calls, own_asked, starting, told_by}
 use Rattle.osturn.proofs.Leading.{halted-item, is-item, passing-item}
-use Rattle.osthreads.specs.Calling.{ChangesBoard, HasPlace, LoadsBoard, item_of_call}
+use Rattle.osthreads.specs.Calling.{ChangesBoard, LoadsBoard, item_of_call}
 use Rattle.osthreads.specs.declared.turns.Turned.{Turned}
 use Rattle.osthreads.specs.declared.turns.Turned.TheVariants.{Took, Nothing, Refused}
 use Rattle.osthreads.specs.Working.{IsFruitless, IsStuck, MayAnswer, UnlessTook, WaitsForRoom}
@@ -62,7 +62,7 @@ pub record ResultsIn (id : CoreId) (watch : Watch) (call : BoardCall) (t : Board
   pub item : Item
   pub names : named_by id watch (OfBoard call) (Replied (board_reply id call t)) ≡ Some item
   pub no_mail : is_mail item ≡ false
-  pub same : (s : KernelState) → takes_in 64 s item ≡ takes_in 64 s (item_of_call call)
+  pub same : (s : KernelState) → takes_in 64 s item ≡ takes_in 64 s (item_of_call id call)
 
 pub result-of : (id : CoreId) (watch : Watch) (call : BoardCall) (t : BoardState) → ChangesBoard call → ResultsIn id watch call t
 result-of id watch (Start k) t changes = record {
@@ -76,6 +76,12 @@ result-of id watch (Start k) t changes = record {
     by s true = refl
     by s false = refl
 result-of id watch (Enter mode) t changes = record { item = Item.Entered; names = refl; no_mail = refl; same = λ s. refl }
+result-of id watch (AskHalt status) t changes = record {
+  item = Item.Halt (first_asked t.halt (id, status)).0 (first_asked t.halt (id, status)).1;
+  names = refl;
+  no_mail = refl;
+  same = λ s. refl;
+}
 result-of id watch MakeReady t changes = record { item = Item.Readied; names = refl; no_mail = refl; same = λ s. refl }
 result-of id watch Drain t changes = record { item = Item.Drained; names = refl; no_mail = refl; same = λ s. refl }
 result-of id watch call t changes = absurd changes
@@ -85,7 +91,7 @@ pub refused-item : (id : CoreId) (k : KernelState) (ask : Ask) (answer : Answer)
 refused-item id k ask answer i names not_this item is = subst (λ (j : Item). takes_in outbox_size k j ≡ false) (same_Some i item (sym names ∙ is)) not_this
 
 -- Whatever the board answers to a call that changes it, the core takes no item then, if it does not take the one that was expected.
-pub call-fruitless : (id : CoreId) (k : KernelState) (call : BoardCall) → ChangesBoard call → takes_in outbox_size k (item_of_call call) ≡ false → (answer : Answer) → MayAnswer id (OfBoard call) answer → IsFruitless id k (OfBoard call) answer
+pub call-fruitless : (id : CoreId) (k : KernelState) (call : BoardCall) → ChangesBoard call → takes_in outbox_size k (item_of_call id call) ≡ false → (answer : Answer) → MayAnswer id (OfBoard call) answer → IsFruitless id k (OfBoard call) answer
 call-fruitless id k call changes not_this answer may =
     let results = result-of id (watch_in k) call may.0 changes in
     subst (IsFruitless id k (OfBoard call)) (sym may.1)
@@ -208,6 +214,7 @@ module _ (plan : Plan) (limits : IsTrue (is_within_limits plan)) where
   own-asks id next Want.Enter = (tt, mode-of id (core_of plan id) refl)
   own-asks id next Want.Ready = (tt, tt)
   own-asks id next (Want.Post to) = tt
+  own-asks id next (Want.AskHalt status) = (tt, tt)
   own-asks id (Some s) Want.GoOn = tt
   own-asks id None Want.GoOn = (tt, tt)
   own-asks id next Want.Drain = (tt, tt)

@@ -25,7 +25,7 @@ use Rattle.osseat.proofs.Thins.{logged}
 use Rattle.osboard.specs.declared.calls.BoardCall.{BoardCall}
 use Rattle.osboard.specs.declared.calls.BoardCall.TheVariants.{Start, Enter, MakeReady, Drain, Look, AskHalt, LookHalt}
 use Rattle.osboard.specs.declared.calls.BoardReply.{BoardReply}
-use Rattle.osboard.specs.declared.calls.BoardReply.TheVariants.{Started, Acknowledged, Shown, Halting}
+use Rattle.osboard.specs.declared.calls.BoardReply.TheVariants.{Started, Acknowledged, Shown, Decided, Halting}
 use Rattle.osboard.specs.Boards.{BoardEntry, IsLook}
 use Rattle.osmail.specs.Ends.{AreUnchanged, HasOneMore, Streams}
 use Rattle.osturn.specs.declared.asks.Ask.{Ask}
@@ -54,23 +54,26 @@ front-drop (suc n) [] = refl
 front-drop (suc n) (x ∷ xs) = front-drop n xs
 
 -- An item that a turn names is in turn, where the turn asks for what comes next.
-module _ (v : View) (listed : List Stimulus) (course : Course) (past : List Item) where
+module _ (v : View) (listed : List Stimulus) (s : KernelState) (past : List Item) where
+  abbrev course : Course
+  course = s.progress.course
+
   is : (j i : Item) → Some j ≡ Some i → IsInTurn listed course past j → IsInTurn listed course past i
   is j i e next = is-item (IsInTurn listed course past) j i next e
 
-  follows : (watch : Watch) (ask : Ask) (answer : Answer) (i : Item) → IsOwnAsk v course (slice_get listed (length (stimuli_in past))) (Some ask) → named_by v.core watch ask answer ≡ Some i → IsInTurn listed course past i
+  follows : (watch : Watch) (ask : Ask) (answer : Answer) (i : Item) → IsOwnAsk v s (slice_get listed (length (stimuli_in past))) (Some ask) → named_by v.core watch ask answer ≡ Some i → IsInTurn listed course past i
   follows watch (OfBoard Look) (Replied (Shown view)) i own e = passing-item (IsInTurn listed course past) tt (λ agreement. tt) (λ cores. tt) tt v.core view watch i e
   follows watch (OfBoard (Start k)) (Replied (Started status)) i own e = is (Item.Began k status) i e tt
   follows watch (OfBoard (Enter mode)) (Replied Acknowledged) i own e = is Item.Entered i e tt
   follows watch (OfBoard MakeReady) (Replied Acknowledged) i own e = is Item.Readied i e tt
   follows watch (OfBoard Drain) (Replied Acknowledged) i own e = is Item.Drained i e own
   follows watch (OfBoard LookHalt) (Replied (Halting halt)) i own e = halted-item (IsInTurn listed course past) (λ asked. tt) (λ core status. tt) watch halt i e
-  follows watch (OfBoard (AskHalt status)) (Replied reply) i own e = absurd own
+  follows watch (OfBoard (AskHalt status)) (Replied (Decided asked)) i own e = is (Item.Halt asked.0 asked.1) i e tt
   follows watch (OfSpins wish) (Spun reply) i own e = spun-item (IsInTurn listed course past) (λ l. tt) (λ l taken. tt) (λ l. tt) wish reply i e
   follows watch (Room to) (HasRoom true) i own e = is (Item.Posted to) i e tt
   follows watch (Oldest from) (Found (Some x)) i own e = is (Item.Received from x.number x.message) i e tt
   follows watch (StartUnknown k) Unasked i own e = is (Item.Began k EOsId) i e tt
-  follows watch (TakeStimulus s) Unasked i own e = is (Item.Stim s) i e own
+  follows watch (TakeStimulus stimulus) Unasked i own e = is (Item.Stim stimulus) i e own
   follows watch ask answer i own e = cc
 
 -- ---- the core
@@ -278,9 +281,9 @@ module _ (plan : Plan) (stimuli : List CoreStimuli) (loads : ℕ) (old new : Sea
 
   in-turn : IsInTurn (stimuli_of stimuli old.id) (course_of past) old.items.items item
   in-turn =
-      follows view (stimuli_of stimuli old.id) (course_of past) old.items.items (watch_in (state_of view past)) ask answer item
-      (subst (λ (next : Option Stimulus). IsOwnAsk view (course_of past) next (Some ask)) (next-left plan stimuli old done.work)
-      (subst (IsOwnAsk view (course_of past) (slice_get old.stimuli.now 0)) asks-it (asks-own view (state_of view past) (slice_get old.stimuli.now 0) asked.0))) leads.names
+      follows view (stimuli_of stimuli old.id) (state_of view past) old.items.items (watch_in (state_of view past)) ask answer item
+      (subst (λ (next : Option Stimulus). IsOwnAsk view (state_of view past) next (Some ask)) (next-left plan stimuli old done.work)
+      (subst (IsOwnAsk view (state_of view past) (slice_get old.stimuli.now 0)) asks-it (asks-own view (state_of view past) (slice_get old.stimuli.now 0) asked.0))) leads.names
 
   done-on : AreCalls view (old.items.items ++ item ∷ []) mine' 0 → IsMailed view (after view past item) sent' taken' None → HasDone plan stimuli new mine' sent' taken' None 0
   done-on calls mail = record {

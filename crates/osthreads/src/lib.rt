@@ -4,7 +4,6 @@
 //! Two workers share the board's words and a mailbox for each direction, and nothing else.
 #![tactic(auto)]
 
-mod calls;
 pub mod ending;
 pub mod gates;
 pub mod run;

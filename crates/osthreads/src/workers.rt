@@ -5,10 +5,10 @@ ghost use Rattle.oskernel.specs.declared.kernel.TheConstants.{STEP_MARKS};
 ghost use Rattle.osturn.specs.declared.asks.Answer.{Answer as AnswerValue};
 ghost use Rattle.osturn.specs.declared.asks.Answer.TheVariants.{Unasked};
 ghost use Rattle.osturn.specs.declared.asks.Ask.TheVariants.{OfBoard, Room};
-ghost use Rattle.osthreads.specs.Calling.{ChangesBoard, HasPlace, LoadsBoard, item_of_call};
+ghost use Rattle.osboard.specs.Boards.{HasPlace};
+ghost use Rattle.osthreads.specs.Calling.{ChangesBoard, LoadsBoard, item_of_call};
 ghost use Rattle.osthreads.specs.Working.{HasNoWork, IsAsked, IsFruitless, MayAnswer, Turns, UnlessTook};
 
-use crate::calls::call_board;
 use crate::turns::Turned;
 use crate::worker::Worker;
 use osbase::{Choice, CoreId, Item, Status};
@@ -114,7 +114,7 @@ impl<'a, M: Mail> Worker<'a, M> {
         ensures run { self.new.run ≡ self.old.run }
         ensures id { self.new.core.id ≡ self.old.core.id }
     {
-        let answer = Answer::Replied(call_board(self.run.board, &mut self.seat, call));
+        let answer = Answer::Replied(self.run.board.call(&mut self.seat, call));
         let Some(item) = self.core.named(Ask::OfBoard(call), &answer) else {
             return Turned::Nothing;
         };
@@ -138,10 +138,10 @@ impl<'a, M: Mail> Worker<'a, M> {
         ensures run { self.new.run ≡ self.old.run }
         ensures id { self.new.core.id ≡ self.old.core.id }
     {
-        if !self.core.kernel.may_take(&item_of_call(call)) {
+        if !self.core.kernel.may_take(&item_of_call(self.core.id, call)) {
             return Turned::Nothing;
         }
-        let answer = Answer::Replied(call_board(self.run.board, &mut self.seat, call));
+        let answer = Answer::Replied(self.run.board.call(&mut self.seat, call));
         let Some(item) = self.core.named(Ask::OfBoard(call), &answer) else {
             unreachable!()
         };
@@ -198,16 +198,17 @@ impl<'a, M: Mail> Worker<'a, M> {
     }
 }
 
-// The item that a call results in that changes the board. A start may also be answered E_OS_STATE, and a core takes that
-// where it takes this.
-fn item_of_call(call: BoardCall) -> Item
-    ensures { result ≡ item_of_call call }
+// The item that a core's call results in that changes the board. A start may also be answered E_OS_STATE, and the first that
+// asked for a shutdown may be another core; a core takes that where it takes this.
+fn item_of_call(core: CoreId, call: BoardCall) -> Item
+    ensures { result ≡ item_of_call core call }
 {
     match call {
-        BoardCall::Start(core) => Item::Began {
-            core,
+        BoardCall::Start(started) => Item::Began {
+            core: started,
             status: Status::EOk,
         },
+        BoardCall::AskHalt(status) => Item::Halt { core, status },
         BoardCall::Enter(_) => Item::Entered,
         BoardCall::MakeReady => Item::Readied,
         _ => Item::Drained,

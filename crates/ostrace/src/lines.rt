@@ -284,6 +284,8 @@ fn write_arg<S: Sink>(
         Arg::Number(n) => write_led_whole(out, gathered, n),
         Arg::Int(n) => write_led_signed(out, gathered, n),
         Arg::Variable(x) => write_led_variable(out, gathered, x),
+        Arg::Core(None) => write_led_text(out, gathered, "?"),
+        Arg::Core(Some(core)) => write_led_core(out, gathered, core),
     }
 }
 

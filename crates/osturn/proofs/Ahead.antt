@@ -34,19 +34,21 @@ use Rattle.osturn.specs.Sound.{until_down}
 use Rattle.osturn.proofs.Beginnings.{begins-itself, begins-longer, begins-through}
 use Rattle.osturn.proofs.Ending.{phase-after}
 use Rattle.osturn.proofs.Going.{calm-goes, drained-course, stimulus-going}
-use Rattle.osturn.proofs.Sane.{AreAgreed, is_conflict}
+use Rattle.osturn.proofs.Sane.{AreAgreed, AreQuiet, is_conflict, is_halting}
 
 -- ---- items in order
 
--- Each of the items may be taken in turn; none is mail, and none a conflict.
+-- Each of the items may be taken in turn; none is mail, none a conflict, and none tells of a shutdown of all cores.
 pub record Taken (v : View) (h : History) (items : List Item) : Type 0 where
   pub each : solo_from v h items ≡ Some (history_from v h items)
   pub no_mail : list_all (λ (i : Item). not (is_mail i)) items ≡ true
   pub agreed : AreAgreed items
+  pub quiet : AreQuiet items
 
 record First (v : View) (h : History) (i : Item) (is : List Item) : Type 0 where
   pub may : admits outbox_size (state_of v h) i ≡ true
   pub agreed : is_conflict i ≡ false
+  pub quiet : is_halting i ≡ false
   pub at : Some (phase_at v h) ≡ stage_of i
   pub rest : Taken v (after v h i) is
 
@@ -55,11 +57,13 @@ first v h i is taken =
     let turn = solo-parts v h i is taken.each in
     let mail = and_parts (not (is_mail i)) (list_all (λ (j : Item). not (is_mail j)) is) taken.no_mail in
     let agreed = and_parts (not (is_conflict i)) (list_all (λ (j : Item). not (is_conflict j)) is) taken.agreed in
+    let quiet = and_parts (not (is_halting i)) (list_all (λ (j : Item). not (is_halting j)) is) taken.quiet in
     record {
       may = turn.0;
       agreed = not-true (is_conflict i) agreed.0;
+      quiet = not-true (is_halting i) quiet.0;
       at = stage v h i (not-true (is_mail i) mail.0) turn.0;
-      rest = record { each = turn.1; no_mail = mail.1; agreed = agreed.1 };
+      rest = record { each = turn.1; no_mail = mail.1; agreed = agreed.1; quiet = quiet.1 };
     }
 
 -- The last items: of a core that ended, one that closes, and one that drained.
@@ -76,7 +80,8 @@ ended v h p (i ∷ is) taken = absurd (unstaged i (ap Some (sym p) ∙ (first v 
 
 closing : (v : View) (h : History) → phase_at v h ≡ Phase.Closing → (items : List Item) → Taken v h items → Ends v h items
 closing v h p [] taken = (refl, refl, refl)
-closing v h p (Item.Last shutdown ∷ is) taken = ended v (Took (Item.Last shutdown) ∷ h) refl is (first v h (Item.Last shutdown) is taken).rest
+closing v h p (Item.Last None ∷ is) taken = ended v (Took (Item.Last None) ∷ h) refl is (first v h (Item.Last None) is taken).rest
+closing v h p (Item.Last (Some asked) ∷ is) taken = absurd (true≢false (first v h (Item.Last (Some asked)) is taken).quiet)
 closing v h p (i ∷ is) taken = let e : Some Phase.Closing ≡ stage_of i = ap Some (sym p) ∙ (first v h i is taken).at in cc
 
 drained : (v : View) (h : History) → Idle v h → phase_at v h ≡ Phase.Drained → (items : List Item) → Taken v h items → Ends v h items
@@ -125,7 +130,10 @@ boot_items self m own st = gates_of m own ++ live_items (ahead_of self m own st)
 
 -- What the core names is the same where it stands alone.
 allow-alone : (v : View) (ids : List CoreId) → NamesAllow v nobody → NamesAllow (alone_view v ids) nobody
-allow-alone v ids allowed = record { scripts = allowed.scripts; actions = allowed.actions }
+allow-alone v ids allowed = record {
+  scripts = λ r n op e. let one = allowed.scripts r n op e in record { objects = one.objects; shared = one.shared; halt = one.halt };
+  actions = allowed.actions;
+}
 
 module _ (v : View) (ids : List CoreId) (allowed : NamesAllow v nobody) where
   abbrev self : View
@@ -198,6 +206,7 @@ module _ (v : View) (ids : List CoreId) (allowed : NamesAllow v nobody) where
 
         marks : marks_of (history_from v (after v (here k) Item.Drained) is) ≡ marks_of (after self k Item.Drained)
         marks = ends.0 ∙ ap marks_of (same-drained v ids s allowed k steady.there steady.alone) ∙ marks-same s v.around.is_master (after self k Item.Drained)
+    live (Item.Halt core status ∷ is) k st steady taken fits = absurd (true≢false (first v (here k) (Item.Halt core status) is taken).quiet)
     live (i ∷ is) k st steady taken fits = let e : Some Phase.Live ≡ stage_of i = ap Some (sym (phase-here k ∙ steady.live)) ∙ (first v (here k) i is taken).at in cc
 
   -- ---- the gates

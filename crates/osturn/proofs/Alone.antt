@@ -45,7 +45,7 @@ use Rattle.osturn.proofs.Ahead.{boot_items, Goes, goes-alone, live_items, solo-a
 use Rattle.osturn.proofs.Beginnings.{begins-all_pass, begins-flat_map}
 use Rattle.osturn.proofs.Mailed.{is_reply, posts-replies, takes-no-mail}
 use Rattle.osturn.proofs.Members.{has_core-more, nobody-there, only-own}
-use Rattle.osturn.proofs.Sane.{AreAgreed, never-conflict}
+use Rattle.osturn.proofs.Sane.{AreAgreed, AreQuiet, never-conflict}
 
 -- ---- the set of one core
 
@@ -157,8 +157,8 @@ module _ (plan : Plan) (stimuli : List CoreStimuli) (lists : List (CoreId × Lis
     no_mail : list_all (λ (i : Item). not (is_mail i)) (items_of lists id) ≡ true
     no_mail = takes-no-mail v allowed (items_of lists id) [] (fits.cores id).alone (record { closed = refl; empty = refl }) replies
 
-    no_conflict : AreAgreed (items_of lists id)
-    no_conflict = (never-conflict plan m agreed configured calls fits.board (items_of lists) (λ d. (fits.cores d).alone) fits.answers id).0
+    no_conflict : AreAgreed (items_of lists id) × AreQuiet (items_of lists id)
+    no_conflict = never-conflict plan m agreed parts.unhalted configured calls fits.board (items_of lists) (λ d. (fits.cores d).alone) fits.answers id
 
     abbrev listed : List Stimulus
     listed = stimuli_of stimuli id
@@ -174,7 +174,7 @@ module _ (plan : Plan) (stimuli : List CoreStimuli) (lists : List (CoreId × Lis
 
     goes : Goes v self [] [] (items_of lists id) (boot_items self m (only id) listed)
     goes = goes-alone v (id ∷ []) allowed m in_mode no_start (only id) (only-own id low) (items_of lists id) listed
-        (record { each = (fits.cores id).alone; no_mail = no_mail; agreed = no_conflict }) ((fits.cores id).begins, (fits.cores id).drains)
+        (record { each = (fits.cores id).alone; no_mail = no_mail; agreed = no_conflict.0; quiet = no_conflict.1 }) ((fits.cores id).begins, (fits.cores id).drains)
 
     takes_alone : solo self (boot_items self m (only id) listed) ≡ Some (history_from self [] (boot_items self m (only id) listed))
     takes_alone =

@@ -38,6 +38,7 @@ module _ (v : View) (h : History) where
   end-on (Item.Stim s) t = ap is_ended_phase (same_Some _ _ (stage v h (Item.Stim s) refl t))
   end-on (Item.Posted to) t = going _ (mail-schedules v h (Item.Posted to) refl t)
   end-on (Item.Received from number message) t = going _ (mail-schedules v h (Item.Received from number message) refl t)
+  end-on (Item.Halt core status) t = ap is_ended_phase (same_Some _ _ (stage v h (Item.Halt core status) refl t))
   end-on Item.Drained t = refl
   end-on Item.PassEnd t = refl
   end-on (Item.Last shutdown) t = refl

@@ -1,4 +1,4 @@
--- A core that goes on, until it is down: it never goes on again.
+-- A core goes on until it is down or halted, and then never again; and what it wants by itself then.
 use Rattle.std.proofs.Common.{◌≡◌, Bool, true, false, ◌&&◌, cond, Option, Some, None, List, [], ◌∷◌, refl, sym, ap, ◌∙◌}
 use Rattle.std.specs.Option.{option_map_or}
 use Rattle.std.proofs.lemmas.Bool.{and_parts, false≢true}
@@ -7,31 +7,42 @@ use Rattle.osbase.specs.declared.references.TaskRef.{TaskRef}
 use Rattle.osbase.specs.declared.references.Runner.{Runner}
 use Rattle.osbase.specs.declared.items.Item.{Item}
 use Rattle.osbase.specs.declared.items.Stimulus.{Stimulus}
+use Rattle.osbase.specs.declared.histories.Awaited.{Awaited}
 use Rattle.osbase.specs.declared.histories.Course.{Course}
 use Rattle.osbase.specs.declared.histories.Job.{Job}
+use Rattle.osbase.specs.declared.histories.OpenCall.{OpenCall}
 use Rattle.osbase.specs.declared.histories.Phase.{Phase}
 use Rattle.osbase.specs.declared.histories.Sent.{Sent}
 use Rattle.osbase.specs.History.{History, Note, Noted, Took, WentDown, course_of, current_task, same_job}
-use Rattle.osbase.specs.Phases.{is_going, stands_in}
+use Rattle.osbase.specs.Phases.{halted_from, is_going, stands_in}
 use Rattle.osplan.specs.Stimuli.{knows_stimulus}
 use Rattle.osplan.specs.View.{View}
 use Rattle.osstate.specs.Readings.{best_job, next_start, phase_at, running}
 use Rattle.osstate.specs.State.{KernelState, state_of}
 use Rattle.oskernel.specs.declared.wants.Want.{Want}
-use Rattle.oskernel.specs.Admission.{admits}
+use Rattle.oskernel.specs.Admission.{admits, asks_halt, has_asked_halt}
 use Rattle.oskernel.specs.Free.{is_free, may_dispatch, may_go_on}
 use Rattle.oskernel.specs.Step.{after, dispatches, enters, goes_to, leaves, outbox_size}
-use Rattle.oskernel.specs.Wants.{go_on_by, go_on_if_free, post_or, start_or_enter, want_from, want_in}
+use Rattle.oskernel.specs.Wants.{go_on_by, post_or, start_or_enter, want_call, want_for, want_from, want_in}
 use Rattle.oskernel.proofs.Calm.{Calm}
 use Rattle.oskernel.proofs.Holding.{kept_after}
 
 -- If it goes on after an item, it went on before.
 pub going-before : (v : View) (h : History) (i : Item) → is_going (course_of (after v h i)) ≡ true → is_going (course_of h) ≡ true
-going-before v h i = kept_after (λ (k : History). is_going (course_of k) ≡ true → is_going (course_of h) ≡ true) (λ m k p. p) noted v h i (λ e. e)
+going-before v h i = kept_after (λ (k : History). is_going (course_of k) ≡ true → is_going (course_of h) ≡ true) (λ m k p. p) noted v h i (took i)
   where
     noted : (n : Note) (k : History) → (is_going (course_of k) ≡ true → is_going (course_of h) ≡ true) → is_going (course_of (Noted n ∷ k)) ≡ true → is_going (course_of h) ≡ true
     noted WentDown k p e = absurd (false≢true e)
     noted n k p e = p e
+
+    halted : (course : Course) → is_going (halted_from course) ≡ false
+    halted Course.Going = refl
+    halted Course.Down = refl
+    halted Course.Halted = refl
+
+    took : (j : Item) → is_going (course_of (Took j ∷ h)) ≡ true → is_going (course_of h) ≡ true
+    took (Item.Halt core status) e = absurd (false≢true (sym (halted (course_of h)) ∙ e))
+    took j e = e
 
 -- It takes a stimulus only while it goes on.
 pub stimulus-going : (v : View) (h : History) (s : Stimulus) → admits outbox_size (state_of v h) (Item.Stim s) ≡ true → is_going (course_of h) ≡ true
@@ -70,36 +81,39 @@ dispatch-course v h = by (may_dispatch (state_of v h))
 pub drained-course : (v : View) (h : History) → course_of (after v h Item.Drained) ≡ course_of h
 drained-course v h = dispatch-course v (Took Item.Drained ∷ h)
 
--- It drains before its stimuli are taken only if it is down.
-pub drains-down : (s : KernelState) → want_in s ≡ Want.Drain → is_going s.progress.course ≡ false
-drains-down s e = by s.progress.phase e
+-- It drains whatever stimuli are left only if it is down or halted, and asks for a shutdown of all cores only where that call is open.
+abbrev pub WantsOwn : KernelState → Want → Type 0
+WantsOwn s Want.Drain = is_going s.progress.course ≡ false
+WantsOwn s (Want.AskHalt status) = has_asked_halt s ≡ true
+WantsOwn s want = Unit {0}
+
+pub wants-own : (s : KernelState) → WantsOwn s (want_in s)
+wants-own s = by s.progress.phase
   where
-    posting : (want : Want) (ss : List Sent) → post_or want ss ≡ Want.Drain → want ≡ Want.Drain
-    posting want [] f = f
-    posting want (x ∷ ss) f = cc
+    posts : (want : Want) → WantsOwn s want → (ss : List Sent) → WantsOwn s (post_or want ss)
+    posts want own [] = own
+    posts want own (x ∷ xs) = tt
 
-    starting : (o : Option CoreId) → start_or_enter o ≡ Want.Drain → is_going s.progress.course ≡ false
-    starting None f = cc
-    starting (Some core) f = cc
+    starts : (o : Option CoreId) → WantsOwn s (start_or_enter o)
+    starts None = tt
+    starts (Some core) = tt
 
-    course : (c : Course) → go_on_by c ≡ Want.Drain → is_going c ≡ false
-    course Course.Going f = cc
-    course Course.Down f = refl
+    goes : (c : Course) → s.progress.course ≡ c → WantsOwn s (go_on_by c)
+    goes Course.Going e = tt
+    goes Course.Down e = ap is_going e
+    goes Course.Halted e = ap is_going e
 
-    free : (b : Bool) → cond b (go_on_by s.progress.course) Want.Nothing ≡ Want.Drain → is_going s.progress.course ≡ false
-    free true f = course s.progress.course f
-    free false f = cc
+    awaits : (a : Awaited) → has_asked_halt s ≡ asks_halt a → WantsOwn s (want_for a)
+    awaits (Awaited.Halt status) e = e
+    awaits a e = tt
 
-    posts : (ss : List Sent) → post_or Want.Nothing ss ≡ Want.Drain → is_going s.progress.course ≡ false
-    posts ss f = let none : Want.Nothing ≡ Want.Drain = posting Want.Nothing ss f in cc
+    calls : (o : Option OpenCall) → s.border.open_call ≡ o → WantsOwn s (want_call o (go_on_by s.progress.course))
+    calls None e = goes s.progress.course refl
+    calls (Some call) e = awaits call.awaits (ap (λ (o : Option OpenCall). option_map_or (λ (c : OpenCall). asks_halt c.awaits) o false) e)
 
-    by : (p : Phase) → want_from p s ≡ Want.Drain → is_going s.progress.course ≡ false
-    by Phase.Boot f = starting (next_start s.view s.progress.began) f
-    by Phase.BetweenGates f = cc
-    by Phase.Live f = free (is_free s) (posting (go_on_if_free s) s.border.outbox f)
-    by Phase.Drained f = posts s.border.outbox f
-    by Phase.Closing f = posts s.border.outbox f
-    by Phase.Off f = cc
-    by Phase.FirstGate f = cc
-    by Phase.SecondGate f = cc
-    by Phase.Ended f = cc
+    by : (p : Phase) → WantsOwn s (want_from p s)
+    by Phase.Boot = starts (next_start s.view s.progress.began)
+    by Phase.Live = posts (want_call s.border.open_call (go_on_by s.progress.course)) (calls s.border.open_call refl) s.border.outbox
+    by Phase.Drained = posts Want.Nothing tt s.border.outbox
+    by Phase.Closing = posts Want.Nothing tt s.border.outbox
+    by p = tt

@@ -63,7 +63,7 @@ solo-push v h (i ∷ items) item so_far taken = by (takes outbox_size v h i) so_
     by false e rest = cc
 
 -- What an item says of the stimuli of the core that takes it: that it is the next one, or that there is none, unless the core is
--- down.
+-- down or halted.
 abbrev pub IsInTurn : List Stimulus → Course → List Item → Item → Type 0
 IsInTurn listed course past (Item.Stim s) = slice_get listed (length (stimuli_in past)) ≡ Some s
 IsInTurn listed course past Item.Drained = is_going course ≡ true → slice_get listed (length (stimuli_in past)) ≡ None

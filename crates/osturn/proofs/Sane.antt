@@ -2,6 +2,7 @@
 -- shutdown of all cores.
 use Rattle.std.proofs.Common.{◌≡◌, ◌≢◌, ◌⊎◌, ℕ, zero, suc, ◌≤◌, Bool, true, false, not, ◌||◌, cond, Option, Some, None, is_some, List, [], ◌∷◌, ◌++◌, get_or, inl, inr, refl, sym, ap, subst, ◌∙◌, arith, get_or-set_other, unwrap_or}
 use Rattle.std.specs.List.{count_by, list_all, slice_get}
+use Rattle.std.specs.Option.{option_map_or}
 use Rattle.std.proofs.lemmas.Bool.{and_from, and_parts, both_ways, eqb-true, false≢true, not_from_false, or_left, or_right, true≢false}
 use Rattle.std.proofs.lemmas.List.Sums.{sum_by-cons}
 use Rattle.std.proofs.lemmas.Option.{same_Some}
@@ -11,27 +12,33 @@ use Rattle.osbase.specs.declared.references.ModeId.{ModeId}
 use Rattle.osbase.specs.declared.items.Agreement.{Agreement}
 use Rattle.osbase.specs.declared.items.Item.{Item}
 use Rattle.osbase.specs.declared.items.Stimulus.{Stimulus}
-use Rattle.osbase.specs.declared.histories.Course.{Course}
+use Rattle.osbase.specs.declared.histories.Awaited.{Awaited}
+use Rattle.osbase.specs.declared.histories.OpenCall.{OpenCall}
 use Rattle.osbase.specs.declared.histories.Phase.{Phase}
-use Rattle.osbase.specs.History.{History, began_count, course_of, no_cores, phase_of, same_core}
+use Rattle.osbase.specs.History.{History, began_count, no_cores, open_call, phase_of, same_core}
 use Rattle.osbase.specs.Sets.{has_core}
 use Rattle.osbase.proofs.Same.{same_core-true, same_core-refl}
 use Rattle.osplan.specs.declared.plans.Plan.{Plan}
 use Rattle.osplan.specs.declared.plans.Core.{Core}
 use Rattle.osbase.specs.declared.items.CoreMode.{CoreMode}
 use Rattle.osbase.specs.declared.items.CoreMode.TheVariants.{Named, DontCare}
-use Rattle.osplan.specs.Separate.{agree, is_agreed_mode, is_among, is_started}
+use Rattle.osplan.specs.Separate.{agree, halts_somewhere, is_agreed_mode, is_among, is_started}
 use Rattle.osplan.specs.View.{View, core_of, is_configured, no_core, view_of}
 use Rattle.osplan.proofs.Reached.{started-master, started-next}
 use Rattle.osplan.proofs.Starting.{no-flag}
 use Rattle.osplan.proofs.Tests.{find-holds, find-passes}
+use Rattle.osact.proofs.Kept.{may_open}
+use Rattle.osact.proofs.Partners.{partner_of}
 use Rattle.osstate.specs.Readings.{next_start, phase_at}
 use Rattle.osstate.proofs.Begun.{is_some-core_of}
 use Rattle.osstate.specs.State.{state_of}
-use Rattle.oskernel.specs.Admission.{admits, is_for, is_start_answer}
+use Rattle.oskernel.specs.Admission.{admits, asks_halt, has_asked_halt, is_for, is_start_answer}
 use Rattle.oskernel.specs.Step.{after, history_from, outbox_size, solo_from}
 use Rattle.oskernel.specs.declared.wants.Watch.{Watch}
 use Rattle.oskernel.specs.Wants.{watch_from, watch_of}
+use Rattle.oskernel.proofs.Carried.{passes}
+use Rattle.oskernel.proofs.Opened.{Asks, asks-after}
+use Rattle.oskernel.proofs.Scripts.{but_halt, halt-allow}
 use Rattle.oskernel.proofs.Stages.{only-on, solo-parts, stage}
 use Rattle.osseat.specs.Histories.{IsLegal, entry}
 use Rattle.osboard.specs.declared.calls.BoardState.{BoardState}
@@ -105,6 +112,18 @@ is_halting item = false
 
 abbrev pub AreQuiet : List Item → Type 0
 AreQuiet items = list_all (λ (i : Item). not (is_halting i)) items ≡ true
+
+-- A core that may ask for anything else has no open call for a shutdown of all cores.
+never-asked : (v : View) (h : History) → Asks but_halt h → has_asked_halt (state_of v h) ≡ true → ⊥
+never-asked v h never asked = by (open_call h) never asked
+  where
+    awaits : (a : Awaited) → but_halt (partner_of a) ≡ true → asks_halt a ≡ true → ⊥
+    awaits (Awaited.Halt status) may e = false≢true may
+    awaits a may e = false≢true e
+
+    by : (o : Option OpenCall) → passes o (may_open but_halt) ≡ true → option_map_or (λ (call : OpenCall). asks_halt call.awaits) o false ≡ true → ⊥
+    by None may e = false≢true e
+    by (Some call) may e = awaits call.awaits may e
 
 -- ---- the board
 
@@ -224,23 +243,23 @@ module _ (plan : Plan) (m : ModeId) where
       }
 
       -- The call of a turn whose item may be taken keeps the board sane.
-      keeps : (call : BoardCall) (reply : BoardReply) (i : Item) (next : Option Stimulus) → IsOwnAsk v (course_of h) next (Some (OfBoard call)) → replied core (watch_of v h) call reply ≡ Some i → admits outbox_size (state_of v h) i ≡ true → (b : BoardState) → Sane b → Sane (board_after core call b)
-      keeps (Start k) (Started status) i next own e taken = start-keeps k (starts k status own (subst (λ (j : Item). admits outbox_size (state_of v h) j ≡ true) (sym (same_Some _ _ e)) taken))
-      keeps (Start k) reply i next own e taken = cc
-      keeps (Enter mode) Acknowledged i next own e taken = λ b sane. record {
+      keeps : Asks but_halt h → (call : BoardCall) (reply : BoardReply) (i : Item) (next : Option Stimulus) → IsOwnAsk v (state_of v h) next (Some (OfBoard call)) → replied core (watch_of v h) call reply ≡ Some i → admits outbox_size (state_of v h) i ≡ true → (b : BoardState) → Sane b → Sane (board_after core call b)
+      keeps never (Start k) (Started status) i next own e taken = start-keeps k (starts k status own (subst (λ (j : Item). admits outbox_size (state_of v h) j ≡ true) (sym (same_Some _ _ e)) taken))
+      keeps never (Start k) reply i next own e taken = cc
+      keeps never (Enter mode) Acknowledged i next own e taken = λ b sane. record {
         begun = sane.begun;
         modes = λ j ne. ap (λ (k : CoreMode). get_or (with_mode k b.view.modes).members j false) own
             ∙ told b sane j ne (boots (stage v h Item.Entered refl (subst (λ (j : Item). admits outbox_size (state_of v h) j ≡ true) (sym (same_Some _ _ e)) taken)));
         quiet = sane.quiet;
       }
-      keeps (Enter mode) reply i next own e taken = cc
-      keeps (AskHalt status) reply i next own e taken = absurd own
-      keeps call reply i next own e taken = λ b sane. record { begun = sane.begun; modes = sane.modes; quiet = sane.quiet }
+      keeps never (Enter mode) reply i next own e taken = cc
+      keeps never (AskHalt status) reply i next own e taken = absurd (never-asked v h never own)
+      keeps never call reply i next own e taken = λ b sane. record { begun = sane.begun; modes = sane.modes; quiet = sane.quiet }
 
     -- Each call of the core keeps the board sane, if the core saw only sane ones before.
-    relies : (items : List Item) (h : History) (es : Calls) → IfOn h → solo_from v h items ≡ Some (history_from v h items) → AreAnswered v h items es → Relies one_board Sane core es.board
-    relies [] h es if_on each none = subst (λ (c : Calls). Relies one_board Sane core c.board) (sym none) tt
-    relies (i ∷ is) h es if_on each all = subst (λ (c : Calls). Relies one_board Sane core c.board) (sym all.4) (by all.0 all.1 all.2 (λ on. relies is (after v h i) all.3 on turn.1 all.5))
+    relies : halts_somewhere plan ≡ false → (items : List Item) (h : History) (es : Calls) → IfOn h → Asks but_halt h → solo_from v h items ≡ Some (history_from v h items) → AreAnswered v h items es → Relies one_board Sane core es.board
+    relies unhalted [] h es if_on never each none = subst (λ (c : Calls). Relies one_board Sane core c.board) (sym none) tt
+    relies unhalted (i ∷ is) h es if_on never each all = subst (λ (c : Calls). Relies one_board Sane core c.board) (sym all.4) (by all.0 all.1 all.2 (λ on. relies unhalted is (after v h i) all.3 on (asks-after but_halt v (halt-allow plan core unhalted) h i never) turn.1 all.5))
       where
         turn : (admits outbox_size (state_of v h) i ≡ true) × (solo_from v (after v h i) is ≡ Some (history_from v (after v h i) is))
         turn = solo-parts v h i is each
@@ -254,7 +273,7 @@ module _ (plan : Plan) (m : ModeId) where
 
         by : (ask : Ask) (answer : Answer) → Leads v h ask answer i → (IfOn (after v h i) → Relies one_board Sane core all.3.board) → Relies one_board Sane core ((told_by core ask answer).board ++ all.3.board)
         by (OfBoard call) (Replied reply) leads later = (
-          keeps h if_on call reply i leads.next (subst (IsOwnAsk v (course_of h) leads.next) leads.asks (asks-own v (state_of v h) leads.next leads.choice)) leads.names turn.0,
+          keeps h if_on never call reply i leads.next (subst (IsOwnAsk v (state_of v h) leads.next) leads.asks (asks-own v (state_of v h) leads.next leads.choice)) leads.names turn.0,
           λ sees. later (on-later (λ off. turned-on sees off)),
         )
           where
@@ -291,20 +310,20 @@ module _ (plan : Plan) (m : ModeId) where
     abbrev Heard : Watch → Item → Ask → Answer → Type 0
     Heard watch i ask answer = (halt : Option (CoreId × Status)) × (ask ≡ OfBoard LookHalt) × (answer ≡ Replied (Halting halt)) × (halted watch halt ≡ Some i)
 
-    heard : (course : Course) (next : Option Stimulus) (watch : Watch) (ask : Ask) (answer : Answer) (i : Item) → IsOwnAsk v course next (Some ask) → named_by core watch ask answer ≡ Some i → is_halting i ≡ true → Heard watch i ask answer
-    heard course next watch (OfBoard LookHalt) (Replied (Halting halt)) i own e halts = (halt, refl, refl, e)
-    heard course next watch (OfBoard Look) (Replied (Shown b)) i own e halts = absurd (both_ways (is_halting i) (passing-item (λ j. is_halting j ≡ false) refl (λ agreement. refl) (λ cores. refl) refl core b watch i e) halts)
-    heard course next watch (OfBoard (AskHalt status)) answer i own e halts = absurd own
-    heard course next watch (OfBoard (Start k)) (Replied (Started status)) i own e halts = unlike is_halting _ i e refl halts
-    heard course next watch (OfBoard (Enter mode)) (Replied Acknowledged) i own e halts = unlike is_halting _ i e refl halts
-    heard course next watch (OfBoard MakeReady) (Replied Acknowledged) i own e halts = unlike is_halting _ i e refl halts
-    heard course next watch (OfBoard Drain) (Replied Acknowledged) i own e halts = unlike is_halting _ i e refl halts
-    heard course next watch (OfSpins wish) (Spun reply) i own e halts = absurd (both_ways (is_halting i) (spun-item (λ j. is_halting j ≡ false) (λ l. refl) (λ l taken. refl) (λ l. refl) wish reply i e) halts)
-    heard course next watch (Room to) (HasRoom true) i own e halts = unlike is_halting _ i e refl halts
-    heard course next watch (Oldest from) (Found (Some x)) i own e halts = unlike is_halting _ i e refl halts
-    heard course next watch (StartUnknown k) Unasked i own e halts = unlike is_halting _ i e refl halts
-    heard course next watch (TakeStimulus s) Unasked i own e halts = unlike is_halting _ i e refl halts
-    heard course next watch ask answer i own e halts = cc
+    heard : (h : History) → Asks but_halt h → (next : Option Stimulus) (watch : Watch) (ask : Ask) (answer : Answer) (i : Item) → IsOwnAsk v (state_of v h) next (Some ask) → named_by core watch ask answer ≡ Some i → is_halting i ≡ true → Heard watch i ask answer
+    heard h never next watch (OfBoard LookHalt) (Replied (Halting halt)) i own e halts = (halt, refl, refl, e)
+    heard h never next watch (OfBoard Look) (Replied (Shown b)) i own e halts = absurd (both_ways (is_halting i) (passing-item (λ j. is_halting j ≡ false) refl (λ agreement. refl) (λ cores. refl) refl core b watch i e) halts)
+    heard h never next watch (OfBoard (AskHalt status)) answer i own e halts = absurd (never-asked v h never own)
+    heard h never next watch (OfBoard (Start k)) (Replied (Started status)) i own e halts = unlike is_halting _ i e refl halts
+    heard h never next watch (OfBoard (Enter mode)) (Replied Acknowledged) i own e halts = unlike is_halting _ i e refl halts
+    heard h never next watch (OfBoard MakeReady) (Replied Acknowledged) i own e halts = unlike is_halting _ i e refl halts
+    heard h never next watch (OfBoard Drain) (Replied Acknowledged) i own e halts = unlike is_halting _ i e refl halts
+    heard h never next watch (OfSpins wish) (Spun reply) i own e halts = absurd (both_ways (is_halting i) (spun-item (λ j. is_halting j ≡ false) (λ l. refl) (λ l taken. refl) (λ l. refl) wish reply i e) halts)
+    heard h never next watch (Room to) (HasRoom true) i own e halts = unlike is_halting _ i e refl halts
+    heard h never next watch (Oldest from) (Found (Some x)) i own e halts = unlike is_halting _ i e refl halts
+    heard h never next watch (StartUnknown k) Unasked i own e halts = unlike is_halting _ i e refl halts
+    heard h never next watch (TakeStimulus s) Unasked i own e halts = unlike is_halting _ i e refl halts
+    heard h never next watch ask answer i own e halts = cc
 
     -- And it tells of one.
     halting-told : (watch : Watch) (halt : Option (CoreId × Status)) (i : Item) → halted watch halt ≡ Some i → is_halting i ≡ true → is_some halt ≡ true
@@ -315,25 +334,25 @@ module _ (plan : Plan) (m : ModeId) where
     told-as : (halt : Option (CoreId × Status)) (s : BoardState) → Halting halt ≡ board_reply core LookHalt s → halt ≡ s.halt
     told-as halt s e = cc
 
-    quiet-item : (course : Course) (next : Option Stimulus) (watch : Watch) (i : Item) (ask : Ask) (answer : Answer) → IsOwnAsk v course next (Some ask) → named_by core watch ask answer ≡ Some i → Seen ask answer → is_halting i ≡ false
-    quiet-item course next watch i ask answer own e seen = by (is_halting i) refl
+    quiet-item : (h : History) → Asks but_halt h → (next : Option Stimulus) (watch : Watch) (i : Item) (ask : Ask) (answer : Answer) → IsOwnAsk v (state_of v h) next (Some ask) → named_by core watch ask answer ≡ Some i → Seen ask answer → is_halting i ≡ false
+    quiet-item h never next watch i ask answer own e seen = by (is_halting i) refl
       where
         by : (b : Bool) → is_halting i ≡ b → b ≡ false
         by false halts = refl
         by true halts =
-            let look = heard course next watch ask answer i own e halts in
+            let look = heard h never next watch ask answer i own e halts in
             let sees = seen LookHalt (Halting look.0) look.1 look.2 in
             absurd (false≢true (ap is_some (sym (told-as look.0 sees.state sees.answers ∙ sees.has.quiet)) ∙ halting-told watch look.0 i look.3 halts))
 
     -- A core that saw only sane boards came to no conflict, and to no shutdown.
-    all-agreed : (items : List Item) (h : History) (es : Calls) → AreAnswered v h items es → AllSee one_board Sane es.board → AreAgreed items × AreQuiet items
-    all-agreed [] h es none see = (refl, refl)
-    all-agreed (i ∷ is) h es all see =
+    all-agreed : halts_somewhere plan ≡ false → (items : List Item) (h : History) (es : Calls) → Asks but_halt h → AreAnswered v h items es → AllSee one_board Sane es.board → AreAgreed items × AreQuiet items
+    all-agreed unhalted [] h es never none see = (refl, refl)
+    all-agreed unhalted (i ∷ is) h es never all see =
         let parts = by all.0 all.1 all.2 (subst (λ (c : Calls). AllSee one_board Sane c.board) all.4 see) in
-        let rest = all-agreed is (after v h i) all.3 all.5 parts.1 in
-        let own = subst (IsOwnAsk v (course_of h) all.2.next) all.2.asks (asks-own v (state_of v h) all.2.next all.2.choice) in (
+        let rest = all-agreed unhalted is (after v h i) all.3 (asks-after but_halt v (halt-allow plan core unhalted) h i never) all.5 parts.1 in
+        let own = subst (IsOwnAsk v (state_of v h) all.2.next) all.2.asks (asks-own v (state_of v h) all.2.next all.2.choice) in (
           and_from _ _ (not_from_false (is_conflict i) (agreed-item (watch_of v h) i all.0 all.1 all.2.names parts.0)) rest.0,
-          and_from _ _ (not_from_false (is_halting i) (quiet-item (course_of h) all.2.next (watch_of v h) i all.0 all.1 own all.2.names parts.0)) rest.1,
+          and_from _ _ (not_from_false (is_halting i) (quiet-item h never all.2.next (watch_of v h) i all.0 all.1 own all.2.names parts.0)) rest.1,
         )
       where
         by : (ask : Ask) (answer : Answer) → Leads v h ask answer i → AllSee one_board Sane ((told_by core ask answer).board ++ all.3.board) → Seen ask answer × AllSee one_board Sane all.3.board
@@ -346,11 +365,12 @@ module _ (plan : Plan) (m : ModeId) where
         by (OfSpins wish) (Spun reply) leads see = (λ asked replying asks answers. cc, see)
         by ask answer leads see = (λ asked replying asks answers. cc, see)
 
-  -- In one history of the board that is legal, and answers each core's calls, no core came to a conflict or a shutdown.
-  module _ (agreed : is_agreed_mode plan (Named m) ≡ true) (there : is_some (core_of plan plan.master) ≡ true) (calls : Calls) (legal : IsLegal one_board plan.master calls.board) (items : CoreId → List Item)
+  -- In one history of the board that is legal, and answers each core's calls, no core came to a conflict or a shutdown, where no script
+  -- shuts all cores down.
+  module _ (agreed : is_agreed_mode plan (Named m) ≡ true) (unhalted : halts_somewhere plan ≡ false) (there : is_some (core_of plan plan.master) ≡ true) (calls : Calls) (legal : IsLegal one_board plan.master calls.board) (items : CoreId → List Item)
       (each : (id : CoreId) → solo_from (view_of plan id) [] (items id) ≡ Some (history_from (view_of plan id) [] (items id)))
       (answers : (id : CoreId) → AreAnswered (view_of plan id) [] (items id) (calls_of id calls)) where
     pub never-conflict : (id : CoreId) → AreAgreed (items id) × AreQuiet (items id)
     never-conflict id =
-        all-agreed agreed id (items id) [] (calls_of id calls) (answers id)
-        (only-seen one_board Sane (first_board plan.master) calls.board (sane-first there) legal (λ d. relies agreed d (items d) [] (calls_of d calls) (if-on-first agreed d there) (each d) (answers d)) id)
+        all-agreed agreed id unhalted (items id) [] (calls_of id calls) refl (answers id)
+        (only-seen one_board Sane (first_board plan.master) calls.board (sane-first there) legal (λ d. relies agreed d unhalted (items d) [] (calls_of d calls) (if-on-first agreed d there) refl (each d) (answers d)) id)

@@ -46,6 +46,7 @@ own_asked v next (Want.Start k) = Some (starting k (is_configured v k))
 own_asked v next Want.Enter = Some (OfBoard (Enter v.own.mode))
 own_asked v next Want.Ready = Some (OfBoard MakeReady)
 own_asked v next (Want.Post to) = Some (Room to)
+own_asked v next (Want.AskHalt status) = Some (OfBoard (AskHalt status))
 own_asked v next Want.GoOn = Some (going_on next)
 own_asked v next Want.Drain = Some (OfBoard Drain)
 own_asked v next Want.Nothing = None

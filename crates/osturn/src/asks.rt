@@ -81,6 +81,7 @@ pub fn own_asked(plan: &Plan, id: CoreId, want: Want, next: Option<Stimulus>) ->
         Want::Enter => Some(Ask::OfBoard(BoardCall::Enter(mode_of(plan, id)))),
         Want::Ready => Some(Ask::OfBoard(BoardCall::MakeReady)),
         Want::Post(to) => Some(Ask::Room(to)),
+        Want::AskHalt(status) => Some(Ask::OfBoard(BoardCall::AskHalt(status))),
         Want::GoOn => Some(going_on(next)),
         Want::Drain => Some(Ask::OfBoard(BoardCall::Drain)),
         Want::Nothing => None,
@@ -170,10 +171,7 @@ fn replied(id: CoreId, watch: Watch, call: BoardCall, reply: &BoardReply) -> Opt
         (BoardCall::MakeReady, BoardReply::Acknowledged) => Some(Item::Readied),
         (BoardCall::Drain, BoardReply::Acknowledged) => Some(Item::Drained),
         (BoardCall::Look, BoardReply::Shown(view)) => passing(id, view, watch),
-        (BoardCall::AskHalt(_), BoardReply::Decided((core, status))) => Some(Item::Halt {
-            core: *core,
-            status: *status,
-        }),
+        (BoardCall::AskHalt(_), BoardReply::Decided(asked)) => Some(halt_by(*asked)),
         (BoardCall::LookHalt, BoardReply::Halting(halt)) => halted(watch, *halt),
         (_, _) => None,
     }
@@ -199,9 +197,17 @@ fn halted(watch: Watch, halt: Option<(CoreId, Status)>) -> Option<Item>
 {
     match (watch, halt) {
         (Watch::Last, halt) => Some(Item::Last(halt)),
-        (Watch::Halt, Some((core, status))) => Some(Item::Halt { core, status }),
+        (Watch::Halt, Some(asked)) => Some(halt_by(asked)),
         (_, _) => None,
     }
+}
+
+// This core asked first for the shutdown, with this status.
+fn halt_by(asked: (CoreId, Status)) -> Item
+    ensures { result ≡ Item.Halt asked.0 asked.1 }
+{
+    let (core, status) = asked;
+    Item::Halt { core, status }
 }
 
 // GetSpinlock goes on once it took the spinlock, TryToGetSpinlock by either answer (AUTOSAR SWS OS 4.x).

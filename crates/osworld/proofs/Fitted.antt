@@ -58,7 +58,7 @@ module _ (plan : Plan) (stimuli : List CoreStimuli) (w : World) (fits : WorldFit
 
   follows-on : IsNext plan stimuli w core item
   follows-on = follows plan stimuli w core _ ask item
-      (subst (IsOwnAsk (view_of plan core) (course_of (history_in plan w core)) (next_stimulus stimuli w core)) turn.asks (asks-own (view_of plan core) (state_of (view_of plan core) (history_in plan w core)) _ turn.choice)) turn.names
+      (subst (IsOwnAsk (view_of plan core) (state_of (view_of plan core) (history_in plan w core)) (next_stimulus stimuli w core)) turn.asks (asks-own (view_of plan core) (state_of (view_of plan core) (history_in plan w core)) _ turn.choice)) turn.names
 
   items-same : items_in next core ≡ items_in w core ++ item ∷ []
   items-same = ap items_by (list_of-same core item w.items p turn.listed) ∙ ap (λ (o : Option (CoreId × List Item)). items_by o ++ item ∷ []) (sym turn.listed)

@@ -10,6 +10,7 @@ use Rattle.osbase.specs.Phases.{is_going}
 use Rattle.osbase.specs.Runs.{stimuli_of}
 use Rattle.osplan.specs.declared.plans.Plan.{Plan}
 use Rattle.osplan.specs.View.{view_of}
+use Rattle.osstate.specs.State.{state_of}
 use Rattle.oskernel.specs.declared.wants.Watch.{Watch}
 use Rattle.osboard.specs.declared.calls.BoardCall.TheVariants.{Drain, Look, LookHalt}
 use Rattle.osspin.specs.Spins.{spin_reply}
@@ -33,7 +34,7 @@ module _ (plan : Plan) (stimuli : List CoreStimuli) (w : World) (id : CoreId) wh
   is : (j i : Item) → Some j ≡ Some i → IsNext plan stimuli w id j → IsNext plan stimuli w id i
   is j i e next = is-item (IsNext plan stimuli w id) j i next e
 
-  pub follows : (watch : Watch) (ask : Ask) (i : Item) → IsOwnAsk (view_of plan id) (course_of (history_in plan w id)) (next_stimulus stimuli w id) (Some ask) → named_by id watch ask (answer_in plan w id ask) ≡ Some i → IsNext plan stimuli w id i
+  pub follows : (watch : Watch) (ask : Ask) (i : Item) → IsOwnAsk (view_of plan id) (state_of (view_of plan id) (history_in plan w id)) (next_stimulus stimuli w id) (Some ask) → named_by id watch ask (answer_in plan w id ask) ≡ Some i → IsNext plan stimuli w id i
   follows watch (OfBoard Look) i own e = passing-item (IsNext plan stimuli w id) tt (λ agreement. tt) (λ cores. tt) tt id (board_in plan w).view watch i e
   follows watch (OfBoard Drain) i own e = is Item.Drained i e own
   follows watch (OfBoard LookHalt) i own e = halted-item (IsNext plan stimuli w id) (λ asked. tt) (λ core status. tt) watch (board_in plan w).halt i e

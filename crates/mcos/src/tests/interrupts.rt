@@ -34,7 +34,7 @@ const RUNS: &[Run] = &[
         r#"{"0":"irq=I1 op irq=I2 irq=J2 op op op op op op op op"}"#,
         "core 0\nhook Startup\nact A\npre A\nirq I1\nenter I1\nirq I2\nenter I2\nirq J2\nleave I2\nenter J2\nleave J2\nvar I1 v0 1\nleave I1\npost A\nend A\nended\n",
     ),
-    // What only tasks may call; a task that an ISR activates runs once no ISR does; a job is pending beside one that was started.
+    // What only tasks may call; a task that an ISR activates runs once no ISR does; a job is pending beside one that was entered.
     (
         r#"{"cores":[{"id":0,"tasks":[{"name":"A","prio":1,"auto":["M"],"script":"TerminateTask"},{"name":"E","prio":3,"extended":true,"script":"WaitEvent 1;TerminateTask"}],"isrs":[{"name":"I","level":1,"script":"TerminateTask;ChainTask A;Schedule;ClearEvent 1;WaitEvent 1;ActivateTask E"}]}]}"#,
         r#"{"0":"irq=I op irq=I irq=I op op op op op op op op op op op op op op op op"}"#,

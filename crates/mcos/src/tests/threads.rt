@@ -1,6 +1,10 @@
 //! Runs by threads. Each prints what every order of the cores' turns prints, or is compared with itself.
 
 use super::logs::replay_of;
+use super::shutdown::{
+    ALL_DOWN, ALL_DOWN_STIMULI, ALL_DOWN_TRACE, ASKERS, ASKERS_STIMULI, DRAINED_TRACE, FIRST_ASKED,
+    SECOND_ASKED,
+};
 use super::{Printed, compare, print};
 use crate::threads::Yielding;
 use osbase::{CoreId, Report};
@@ -72,10 +76,11 @@ fn block_of(alloc: Global, config: &Config, report: &Report) -> Result<String, F
     Ok(String::from_utf8(out.bytes).ok().ok_or("a text")?)
 }
 
-// Each report's log replays to its block.
+// Each report's log replays to its block, by the configuration of this text.
 fn replays(
     rt: &(impl Abort + Threads + Wait + Sync),
     alloc: Global,
+    text: &str,
     config: &Config,
     reports: &[Report],
 ) -> Result<(), Fail> {
@@ -84,7 +89,7 @@ fn replays(
             .ok()
             .ok_or("a log")?;
         let block = block_of(alloc, config, report)?;
-        let texts = [Some(BOUND_AND_SEPARATE), Some(log.as_str())];
+        let texts = [Some(text), Some(log.as_str())];
         let job = replay_of(report.core.number);
         compare(rt, alloc, &job, &texts, (block.as_str(), "", 0))?;
     }
@@ -94,20 +99,53 @@ fn replays(
 #[test]
 fn each_log_of_a_run_by_threads_replays_to_its_block(rt: HostRuntime) -> Result<(), Fail> {
     let alloc = rt.alloc();
-    let config = read_config(alloc, BOUND_AND_SEPARATE)?;
-    let stimuli = read_stimuli(alloc, &config, STIMULI)?;
-    let run = run_threads(
-        &rt,
-        alloc,
-        &config,
-        &stimuli,
-        MailKind::Locked,
-        &Yielding::new(),
-        MANY,
-    );
-    let reports = run.ok().ok_or("reports")?;
-    assert_eq!(rt; reports.len(), 3);
-    replays(&rt, alloc, &config, reports.as_slice())
+    let examples = [
+        (BOUND_AND_SEPARATE, STIMULI, 3),
+        (ALL_DOWN, ALL_DOWN_STIMULI, 2),
+        (ASKERS, ASKERS_STIMULI, 2),
+    ];
+    for (text, stimuli, cores) in examples.as_slice() {
+        let config = read_config(alloc, text)?;
+        let stimuli = read_stimuli(alloc, &config, stimuli)?;
+        let run = run_threads(
+            &rt,
+            alloc,
+            &config,
+            &stimuli,
+            MailKind::Locked,
+            &Yielding::new(),
+            MANY,
+        );
+        let reports = run.ok().ok_or("reports")?;
+        assert_eq!(rt; reports.len(), *cores);
+        replays(&rt, alloc, text, &config, reports.as_slice())?;
+    }
+    Ok(())
+}
+
+// A run by threads ends, and prints one of these two texts.
+fn prints_either(
+    rt: &(impl Abort + Threads + Wait + Sync),
+    alloc: Global,
+    texts: &[Option<&str>],
+    (one, other): (&str, &str),
+) -> Result<(), Fail> {
+    let run = print(rt, alloc, &threads_of(MANY, None), texts)?;
+    assert_eq!(rt; run.status, 0);
+    assert!(rt; run.err.is_empty());
+    let out = run.out.as_slice();
+    assert!(rt; out == one.as_bytes() || out == other.as_bytes());
+    Ok(())
+}
+
+#[test]
+fn all_cores_see_who_asked_first_for_their_shutdown(rt: HostRuntime) -> Result<(), Fail> {
+    let alloc = rt.alloc();
+    let askers = [Some(ASKERS), Some(ASKERS_STIMULI)];
+    prints_either(&rt, alloc, &askers, (FIRST_ASKED, SECOND_ASKED))?;
+    // The second core may have drained before it sees the halt.
+    let all = [Some(ALL_DOWN), Some(ALL_DOWN_STIMULI)];
+    prints_either(&rt, alloc, &all, (ALL_DOWN_TRACE, DRAINED_TRACE))
 }
 
 // Turns, a core's stimuli, and what is printed.

@@ -32,6 +32,19 @@ const ALARM_INWARD: &str =
 const ISR_INWARD: &str =
     r#"{"cores":[{"id":0,"tasks":[{"name":"A","prio":1,"script":""}]},{"id":1,"tasks":[{"name":"B","prio":1,"script":""}],"isrs":[{"name":"I","level":1,"script":"ActivateTask @"}]}]}"#;
 
+// A script of core 0, and one of core 1, which is never started: of a task, and of an ISR.
+const OWN_TASK: &str =
+    r#"{"cores":[{"id":0,"tasks":[{"name":"A","prio":1,"script":"@"}]},{"id":1}]}"#;
+
+const OWN_ISR: &str =
+    r#"{"cores":[{"id":0,"isrs":[{"name":"I","level":1,"script":"@"}]},{"id":1}]}"#;
+
+const OTHER_TASK: &str =
+    r#"{"cores":[{"id":0},{"id":1,"tasks":[{"name":"B","prio":1,"script":"@"}]}]}"#;
+
+const OTHER_ISR: &str =
+    r#"{"cores":[{"id":0},{"id":1,"isrs":[{"name":"J","level":1,"script":"@"}]}]}"#;
+
 // A core that starts itself.
 const ITSELF: &str = r#"{"cores":[{"id":0,"start":[0]}]}"#;
 
@@ -121,6 +134,42 @@ const STANDINGS: &[Standing] = &[
         core: 0,
         separate: &["B"],
         bound: &["A"],
+    },
+    // A script that starts cores, also none that there is, or counts them binds its own core; one that shuts all down binds
+    // every core.
+    Standing {
+        text: OWN_TASK,
+        core: 0,
+        separate: &["ShutdownOS 0;ShutdownOS 15"],
+        bound: &[
+            "StartCore 0",
+            "StartCore 255",
+            "StartCore ?",
+            "work;GetNumberOfActivatedCores v7",
+            "work;ShutdownAllCores 15",
+        ],
+    },
+    Standing {
+        text: OWN_ISR,
+        core: 0,
+        separate: &["ShutdownOS 0"],
+        bound: &[
+            "StartCore ?",
+            "GetNumberOfActivatedCores v0",
+            "ShutdownAllCores 0",
+        ],
+    },
+    Standing {
+        text: OTHER_TASK,
+        core: 0,
+        separate: &["StartCore 0;StartCore ?;GetNumberOfActivatedCores v0;ShutdownOS 0"],
+        bound: &["ShutdownAllCores 0"],
+    },
+    Standing {
+        text: OTHER_ISR,
+        core: 0,
+        separate: &["StartCore 0;StartCore ?;GetNumberOfActivatedCores v0;ShutdownOS 0"],
+        bound: &["work;ShutdownAllCores 0"],
     },
     // A table that acts on another core's task binds both cores.
     Standing {

@@ -10,6 +10,12 @@ returns-in-Pass2 g c = rw c.in-Pass2.is c.start.ensures
 pub returns-in-Began : goal.returns-in-Began
 returns-in-Began g c = rw c.in-Began.is (as_effect (λ v h stands. refl) (lit≤ tt) (lit≤ tt) c.print.ensures.effects)
 
+pub returns-in-Halt : goal.returns-in-Halt
+returns-in-Halt g c = rw c.in-Halt.is (as_effect (λ v h stands. refl) (lit≤ tt) (lit≤ tt) c.print_halt.ensures)
+
+pub returns-in-Last : goal.returns-in-Last
+returns-in-Last g c = rw c.in-Last.is (as_effect (λ v h stands. refl) (lit≤ tt) (lit≤ tt) c.end.ensures)
+
 pub go_on-requires : goal.go_on-requires
 go_on-requires g c =
     let empty : c.args.state.now.border.outbox ≡ [] = c.requires.empty (rw c.in-Stim.is refl) in

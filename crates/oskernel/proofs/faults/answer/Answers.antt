@@ -4,7 +4,8 @@ use Rattle.osbase.specs.declared.statuses.Status.{Status}
 use Rattle.osplan.specs.declared.protection.Protection.{Protection}
 use Rattle.osstate.proofs.Effecting.{as_effect}
 use Rattle.osact.specs.Acts.{Acts, does}
-use Rattle.oskernel.specs.Faults.{answers_fault, goes_down}
+use Rattle.oscall.specs.Shutdown.{goes_down}
+use Rattle.oskernel.specs.Faults.{answers_fault}
 use Rattle.oskernel.proofs.faults.answer.Goals as goal
 
 -- each other answer is a shutdown

@@ -1,4 +1,4 @@
-use Rattle.std.proofs.Common.{◌≡◌, ◌+◌, ◌≤◌, ℕ, Bool, true, false, Option, Some, None, is_some, unwrap_or, length, refl, rules, sym, subst, ◌∙◌, arith, Vec, Global}
+use Rattle.std.proofs.Common.{◌≡◌, ◌≤◌, ℕ, Bool, true, false, Option, Some, None, is_some, unwrap_or, refl, rules, sym, subst, ◌∙◌, arith, Vec, Global}
 use Rattle.std.proofs.lemmas.Bool.{false≢true}
 use Rattle.osbase.specs.declared.marks.Mark.{Mark}
 use Rattle.osbase.specs.declared.references.Runner.{Runner}
@@ -14,6 +14,7 @@ use Rattle.ostaskcall.specs.Tasks.{task_acts}
 use Rattle.osalarmcall.specs.Counters.{counter_acts}
 use Rattle.ostablecall.specs.Tables.{table_acts}
 use Rattle.oscall.specs.Chaining.{chain_acts}
+use Rattle.oscall.specs.Shutdown.{core_acts}
 use Rattle.oscall.specs.Variables.{script_acts}
 use Rattle.osdue.specs.Incrementing.{increment_acts}
 use Rattle.oskernel.proofs.operations.act_alone.Goals as goal
@@ -68,4 +69,5 @@ returns g c =
     (next (chain_acts c.args.step.runner c.args.step.op) c.operate-3.ensures.known _ c.if-operate-3.false (c.operate-3.ensures.others c.if-operate-3.false)
     (next (counter_acts c.args.step.runner c.args.step.op) c.operate-4.ensures.known _ c.if-operate-4.false (c.operate-4.ensures.others c.if-operate-4.false)
     (next (increment_acts c.args.step.runner c.args.step.op) c.operate-5.ensures.known _ c.if-operate-5.false (c.operate-5.ensures.others c.if-operate-5.false)
-    (last (table_acts c.args.step.runner c.args.step.op) c.operate-6.ensures.known c.operate-6.ensures.effects c.operate-6.ensures.others)))))
+    (next (table_acts c.args.step.runner c.args.step.op) c.operate-6.ensures.known _ c.if-operate-6.false (c.operate-6.ensures.others c.if-operate-6.false)
+    (last (core_acts c.args.step.runner c.args.step.op) c.operate-7.ensures.known c.operate-7.ensures.effects c.operate-7.ensures.others))))))

@@ -1,4 +1,4 @@
-use Rattle.std.proofs.Common.{◌≡◌, ◌<◌, ◌≤◌, ◌+◌, ◌*◌, ◌^◌, false, IsTrue, length, suc, vec_len, vec_capacity, rules, refl, ap, ◌∙◌, arith, lit≤}
+use Rattle.std.proofs.Common.{◌≡◌, ◌<◌, ◌≤◌, ◌+◌, ◌*◌, ◌^◌, false, IsTrue, length, suc, vec_len, vec_capacity, rules, refl, ap, ◌∙◌, arith}
 use Rattle.osbase.specs.declared.references.CounterRef.{CounterRef}
 use Rattle.osclock.specs.Clocks.{attached_to, counter_ref}
 use Rattle.osbase.specs.Objects.{counter_object}

@@ -1,0 +1,63 @@
+-- The services of whole cores: one that is started while it runs, how many are started, and that one or all shut down.
+use Rattle.std.specs.Prelude.{ℕ, pos, Bool, true, false, not, Option, Some, None, List, [], ◌∷◌, count_by, find, is_some}
+use Rattle.std.specs.Option.{option_map_or}
+use Rattle.osbase.specs.declared.statuses.Status.{Status}
+use Rattle.osbase.specs.declared.statuses.Status.TheVariants.{EOsAccess, EOsId}
+use Rattle.osbase.specs.declared.statuses.ServiceId.TheVariants as Service
+use Rattle.osbase.specs.declared.references.CoreId.{CoreId}
+use Rattle.osbase.specs.declared.references.Runner.{Runner}
+use Rattle.osbase.specs.declared.references.Variable.{Variable}
+use Rattle.osbase.specs.declared.items.CoreSet.{CoreSet}
+use Rattle.osbase.specs.declared.marks.Mark.TheVariants as Mark
+use Rattle.osbase.specs.declared.histories.Awaited.TheVariants as Awaited
+use Rattle.osbase.specs.History.{Opened, WentDown, same_core}
+use Rattle.oscript.specs.declared.Op.{Op}
+use Rattle.osact.specs.Acts.{Acts, Prints, look_around, notes, one_then}
+use Rattle.osact.specs.Checks.{Check, first_failing}
+use Rattle.osact.specs.Returning.{returns}
+use Rattle.osact.specs.Seen.{AllCores}
+use Rattle.oscall.specs.Variables.{sets}
+
+-- No core of this number is configured, or it is the invalid identifier.
+abbrev pub is_unknown : AllCores → Option CoreId → Bool
+is_unknown all target = not (option_map_or (λ (core : CoreId). is_some (find (same_core core) all.configured)) target false)
+
+-- What StartCore checks in a script, which runs once StartOS was called: that there is such a core; and then it is too late.
+-- [AUTOSAR SWS OS 4.x, StartCore: E_OS_ID, E_OS_ACCESS]
+abbrev pub starting_checks : AllCores → Option CoreId → List Check
+starting_checks all target = (is_unknown all target, EOsId) ∷ (true, EOsAccess) ∷ []
+
+-- So StartCore is always refused. [AUTOSAR SWS OS 4.x, SWS_Os_00676]
+abbrev pub starts_core : Runner → Option CoreId → Acts
+starts_core r target = look_around (λ all. returns r Service.StartCore (first_failing (starting_checks all target)) None)
+
+abbrev pub core_count : CoreSet → ℕ
+core_count cores = count_by (λ b. b) cores.members
+
+-- GetNumberOfActivatedCores: the variable becomes the number of started cores, which is printed. [AUTOSAR SWS OS 4.x, SWS_Os_00672]
+abbrev pub counts_cores : Runner → Variable → Acts
+counts_cores r x = look_around (λ all. sets r x (pos (core_count all.started)))
+
+-- ShutdownOS: ShutdownHook is called at once, and the core goes down. [OSEK/VDX OS 2.2.3, section 11.4; AUTOSAR SWS OS 4.x, section 7.9.6]
+abbrev pub goes_down : Status → Acts
+goes_down status = one_then (Prints (Mark.ShutdownHook status)) (notes WentDown)
+
+-- ShutdownAllCores asks that all cores shut down, and waits for that: its job does nothing more.
+-- [AUTOSAR SWS OS 4.x, SWS_Os_00713; that the core that asks first decides on the status is this project's own]
+abbrev pub shuts_down_all : Runner → Status → Acts
+shuts_down_all r status = notes (Opened (record { runner = r; awaits = Awaited.Halt status }))
+
+-- The table of the family.
+abbrev pub core_acts : Runner → Op → Option Acts
+core_acts r (Op.StartCore target) = Some (starts_core r target)
+core_acts r (Op.GetNumberOfActivatedCores x) = Some (counts_cores r x)
+core_acts r (Op.ShutdownOs status) = Some (goes_down status)
+core_acts r (Op.ShutdownAllCores status) = Some (shuts_down_all r status)
+core_acts r op = None
+
+-- Those that answer no status: while their caller has suspended interrupts, they are ignored. [AUTOSAR SWS OS 4.x, SWS_Os_00093]
+abbrev pub is_ignored : Op → Bool
+is_ignored (Op.GetNumberOfActivatedCores x) = true
+is_ignored (Op.ShutdownOs status) = true
+is_ignored (Op.ShutdownAllCores status) = true
+is_ignored op = false

@@ -1,0 +1,153 @@
+//! The services of whole cores: one that is started while it runs, how many are started, and that one or all shut down.
+
+ghost use Rattle.std.specs.Prelude.{◌≡◌, ◌≤◌, ◌+◌, ◌^◌, IsTrue};
+ghost use Rattle.osjobs.specs.Priorities.{is_own_runner};
+ghost use Rattle.osstate.specs.Does.{Effects, HasRoom, Reads, Remarks, service_entries, service_marks};
+ghost use Rattle.osact.specs.Terms.{MayAct, Offered};
+ghost use Rattle.osact.specs.Acts.{does};
+ghost use Rattle.osact.specs.Checks.{first_failing};
+ghost use Rattle.osact.specs.Seen.{all_cores};
+ghost use Rattle.oscall.specs.Shutdown.{core_acts, core_count, counts_cores, goes_down, is_ignored, is_unknown, shuts_down_all, starting_checks, starts_core};
+
+use crate::variables::set;
+use osact::{Step, refuse};
+use osbase::{Awaited, CoreId, CoreSet, Mark, OpenCall, Runner, ServiceId, Status, Variable};
+use oscript::Op;
+use osstate::CoreState;
+
+// No core of this number is configured, or it is the invalid identifier.
+fn is_unknown<const P: usize, const J: usize, const OUT: usize>(
+    state: &CoreState<'_, P, J, OUT>,
+    target: Option<CoreId>,
+) -> bool
+    ensures { Reads (λ v h. is_unknown (all_cores v h) target) state.now result }
+{
+    match target {
+        Some(core) => !state.is_configured(core),
+        None => true,
+    }
+}
+
+// The first check of StartCore that fails: one always does.
+fn status_of_starting<const P: usize, const J: usize, const OUT: usize>(
+    state: &CoreState<'_, P, J, OUT>,
+    target: Option<CoreId>,
+) -> Status
+    ensures { Reads (λ v h. first_failing (starting_checks (all_cores v h) target)) state.now result }
+{
+    if is_unknown(state, target) {
+        Status::EOsId
+    } else {
+        Status::EOsAccess
+    }
+}
+
+// A running job of one of the core's tasks or ISRs would start a core, which is too late once StartOS was called: E_OS_ID of a
+// core that is not configured, else E_OS_ACCESS (AUTOSAR SWS OS 4.x, SWS_Os_00676).
+fn start_core<const P: usize, const J: usize, const OUT: usize>(
+    state: &mut CoreState<'_, P, J, OUT>,
+    runner: Runner,
+    target: Option<CoreId>,
+    marks: &mut Vec<Mark>,
+)
+    requires { MayAct service_entries service_marks state.old runner marks.old }
+    ensures { Effects service_entries service_marks (does (starts_core runner target)) state.old state.new marks.old marks.new }
+{
+    let status = status_of_starting(state, target);
+    refuse(state, runner, ServiceId::StartCore, status, marks);
+}
+
+fn core_count(cores: &CoreSet) -> usize
+    ensures value { result ≡ core_count cores.now }
+    ensures few { result ≤ 8 }
+{
+    cores.members.iter().filter(|is_member| **is_member).count()
+}
+
+// The variable becomes the number of started cores (AUTOSAR SWS OS 4.x, SWS_Os_00672).
+fn count_cores<const P: usize, const J: usize, const OUT: usize>(
+    state: &mut CoreState<'_, P, J, OUT>,
+    runner: Runner,
+    variable: Variable,
+    marks: &mut Vec<Mark>,
+)
+    requires { MayAct service_entries service_marks state.old runner marks.old }
+    ensures { Effects service_entries service_marks (does (counts_cores runner variable)) state.old state.new marks.old marks.new }
+{
+    let count = core_count(&state.started_cores());
+    set(state, runner, variable, count as i64, marks);
+}
+
+/// ShutdownHook is called at once, and the core goes down (OSEK/VDX OS 2.2.3, section 11.4; AUTOSAR SWS OS 4.x, section 7.9.6).
+pub fn go_down<const P: usize, const J: usize, const OUT: usize>(
+    state: &mut CoreState<'_, P, J, OUT>,
+    status: Status,
+    marks: &mut Vec<Mark>,
+)
+    requires { HasRoom 2 1 state.old marks.old }
+    ensures effects { Effects 2 1 (does (goes_down status)) state.old state.new marks.old marks.new }
+    ensures outbox { state.new.border.outbox ≡ state.old.border.outbox }
+{
+    state.print(Mark::ShutdownHook(status), marks);
+    state.go_down();
+}
+
+// A running job of one of the core's tasks or ISRs asks that all cores shut down, and waits for that (AUTOSAR SWS OS 4.x,
+// SWS_Os_00713).
+fn shut_down_all<const P: usize, const J: usize, const OUT: usize>(
+    state: &mut CoreState<'_, P, J, OUT>,
+    runner: Runner,
+    status: Status,
+)
+    requires own { IsTrue (is_own_runner state.old.view.own runner) }
+    requires count { state.old.progress.entries + 1 ≤ 2 ^ 63 }
+    ensures { Remarks 1 (does (shuts_down_all runner status)) state.old state.new }
+{
+    state.open_call(OpenCall {
+        runner,
+        awaits: Awaited::Halt(status),
+    });
+}
+
+/// An operation of a running job of one of the core's tasks or ISRs, if it is a service of whole cores: it is done, and the answer
+/// is yes. Else nothing changes.
+pub fn operate<const P: usize, const J: usize, const OUT: usize>(
+    state: &mut CoreState<'_, P, J, OUT>,
+    step: Step,
+    marks: &mut Vec<Mark>,
+) -> bool
+    requires { MayAct service_entries service_marks state.old step.runner marks.old }
+    ensures { Offered (core_acts step.runner step.op) result state.old state.new marks.old marks.new }
+{
+    let runner = step.runner;
+    match step.op {
+        Op::StartCore(target) => {
+            start_core(state, runner, target, marks);
+            true
+        }
+        Op::GetNumberOfActivatedCores(variable) => {
+            count_cores(state, runner, variable, marks);
+            true
+        }
+        Op::ShutdownOs(status) => {
+            go_down(state, status, marks);
+            true
+        }
+        Op::ShutdownAllCores(status) => {
+            shut_down_all(state, runner, status);
+            true
+        }
+        _ => false,
+    }
+}
+
+/// Whether the operation is ignored while its caller has suspended interrupts: those of whole cores that answer no status are
+/// (AUTOSAR SWS OS 4.x, SWS_Os_00093).
+pub fn is_ignored(op: Op) -> bool
+    ensures { result ≡ is_ignored op }
+{
+    matches!(
+        op,
+        Op::GetNumberOfActivatedCores(_) | Op::ShutdownOs(_) | Op::ShutdownAllCores(_)
+    )
+}

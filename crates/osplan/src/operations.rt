@@ -1,0 +1,66 @@
+//! Which operations the scripts of a core have.
+
+ghost use Rattle.std.specs.Prelude.{◌≡◌};
+ghost use Rattle.std.specs.List.{list_any};
+ghost use Rattle.osplan.specs.declared.plans.Isr.{Isr as IsrValue};
+ghost use Rattle.osplan.specs.declared.plans.Task.{Task as TaskValue};
+ghost use Rattle.osplan.specs.Separate.{has_operation, passes_test};
+
+use crate::plans::Core;
+use crate::sides::Side;
+use oscript::Op;
+
+/// A test of an operation: what ties the core of its script to others.
+#[derive(Clone, Copy)]
+pub enum OpTest {
+    /// It names an object on this side.
+    Names(Side),
+    /// Its effect hangs on what all cores share.
+    AsksShared,
+    /// It takes all cores down.
+    HaltsAll,
+}
+
+impl OpTest {
+    fn passes(self, op: Op) -> bool
+        ensures { result ≡ passes_test self op }
+    {
+        match self {
+            OpTest::Names(side) => side.is_named_by_op(op),
+            OpTest::AsksShared => op.asks_shared(),
+            OpTest::HaltsAll => op.halts_all(),
+        }
+    }
+}
+
+fn script_has(script: &[Op], test: OpTest) -> bool
+    ensures { result ≡ list_any (passes_test test) script.now }
+{
+    script.iter().any(|op| test.passes(*op))
+}
+
+fn tasks_have(core: &Core, test: OpTest) -> bool
+    ensures { result ≡ list_any (λ (task : TaskValue). list_any (passes_test test) task.script) core.now.tasks }
+{
+    core.tasks
+        .as_slice()
+        .iter()
+        .any(|task| script_has(task.script.as_slice(), test))
+}
+
+fn isrs_have(core: &Core, test: OpTest) -> bool
+    ensures { result ≡ list_any (λ (isr : IsrValue). list_any (passes_test test) isr.script) core.now.isrs }
+{
+    core.isrs
+        .as_slice()
+        .iter()
+        .any(|isr| script_has(isr.script.as_slice(), test))
+}
+
+/// Whether a script of the core, of a task or of an ISR, has an operation that passes the test.
+#[tactic(auto, using(crate::proofs::Scripts::any_script))]
+pub fn has_operation(core: &Core, test: OpTest) -> bool
+    ensures { result ≡ has_operation (passes_test test) core.now }
+{
+    tasks_have(core, test) || isrs_have(core, test)
+}
