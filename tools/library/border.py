@@ -170,7 +170,10 @@ def _objects(references: Iterable[Reference]) -> str:
 
 
 class Step(NamedTuple):
-    """Why a change of one core can change what another one does: it serves what crosses, waits for the reply, or is halted."""
+    """Why a change of one core can change what another one does.
+
+    It serves what crosses, waits for the reply, or is halted.
+    """
 
     source: int
     target: int

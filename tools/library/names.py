@@ -78,7 +78,8 @@ def _judge_new_modes(report: Report, draft: Draft) -> None:
         earlier = first.setdefault(mode.text, mode)
         if mode.text in NO_MODES:
             words = listed("`%s`" % word for word in NO_MODES)
-            report.fault(DUPLICATE_NAME, mode, "no mode is called `%s`: %s have a meaning of their own" % (mode.text, words))
+            text = "no mode is called `%s`: %s have a meaning of their own" % (mode.text, words)
+            report.fault(DUPLICATE_NAME, mode, text)
         elif earlier is not mode:
             report.fault(DUPLICATE_NAME, mode, "the mode `%s` stands twice" % mode.text)
 
@@ -93,7 +94,8 @@ def _judge_mode(report: Report, draft: Draft, mode: JsonText) -> None:
     """Judges the name of a mode."""
     known = draft.modes
     if is_name(mode.text) and mode.text not in known:
-        others = "there is one, `%s`" % known[0] if len(known) == 1 else "there are %s" % listed("`%s`" % each for each in known)
+        names = listed("`%s`" % each for each in known)
+        others = {0: "`modes` is empty", 1: "there is one, %s" % names}.get(len(known), "there are %s" % names)
         text = "no mode is called `%s`: %s%s" % (mode.text, others, did_you_mean(mode.text, known))
         report.fault(UNKNOWN_NAME, mode, text)
 

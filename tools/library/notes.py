@@ -136,7 +136,8 @@ class _Notes:
             steps = steps_of(scripted["script"])
             if all(step.is_in_form for step in steps):
                 reached = _reached(scripted, steps)
-                shuts_down = any(0 in reached.get(step.number, ()) for step in steps if step.operation.name in _SHUTDOWNS)
+                shutdowns = (step for step in steps if step.operation.name in _SHUTDOWNS)
+                shuts_down = any(0 in reached.get(step.number, ()) for step in shutdowns)
                 text = _end_note(scripted, reached.get(len(steps), set()), shuts_down)
                 if text:
                     self.report.note(scripted.spot("script"), text)

@@ -239,7 +239,8 @@ def wrong_form(argument: Argument, word: str) -> str:
     if argument.kind == "core" and is_name(word):
         return "%s is no core: write its number, or `?`" % shown(word)
     if argument.kind == "status" and is_name(word):
-        return "%s is no number of a status: write 0 to %d, as docs/FORMATS.md counts them" % (shown(word), GREATEST_STATUS)
+        text = "%s is no number of a status: write 0 to %d, as docs/FORMATS.md counts them"
+        return text % (shown(word), GREATEST_STATUS)
     if argument.kind == "signed" and is_signed_decimal(word):
         return "%s is not %d to %d" % (shown(word), -GREATEST_SIGNED - 1, GREATEST_SIGNED)
     return "%s is no decimal number" % shown(word)

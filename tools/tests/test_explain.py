@@ -638,6 +638,72 @@ CASES = (
         ),
     ),
     Case(
+        "no mode of three",
+        '{"cores": [',
+        '{"modes": ["M", "Run", "Diagnosis"], "cores": [{"id": 3, "mode": "Diagnosi"},',
+        '"Diagnosi"}',
+        (
+            "config.json:1:66: fault 5 UnknownName: /cores/0/mode: "
+            "no mode is called `Diagnosi`: there are `M`, `Run` and `Diagnosis`; did you mean `Diagnosis`?",
+            "config.json:1:55: note: /cores/0/id: core 3 is off: no `start` leads to it from the master, core 0",
+        ),
+    ),
+    Case(
+        "modes without one",
+        '{"cores": [',
+        '{"modes": [], "cores": [',
+        "[]",
+        (
+            "config.json:1:11: fault 3 Limit: /modes: `modes` is empty: a configuration has at least 1 mode",
+            "config.json:6:26: fault 5 UnknownName: /cores/0/alarms/0/auto/modes/0: "
+            "no mode is called `M`: `modes` is empty",
+            "config.json:8:94: fault 5 UnknownName: /cores/0/tables/0/auto/modes/0: "
+            "no mode is called `M`: `modes` is empty",
+            "config.json:18:61: fault 5 UnknownName: /cores/1/tasks/0/auto/0: no mode is called `M`: `modes` is empty",
+        ),
+    ),
+    Case(
+        "a word in place of a mode's name",
+        '{"cores": [',
+        '{"modes": ["M", "none"], "cores": [',
+        '"none"',
+        (
+            "config.json:1:17: fault 4 DuplicateName: /modes/1: "
+            "no mode is called `none`: `DONOTCARE`, `conflict` and `none` have a meaning of their own",
+        ),
+    ),
+    Case(
+        "a mode twice",
+        '{"cores": [',
+        '{"modes": ["M", "M"], "cores": [',
+        '"M"]',
+        ("config.json:1:17: fault 4 DuplicateName: /modes/1: the mode `M` stands twice",),
+    ),
+    Case(
+        "a mode that is no text",
+        '"id": 1,',
+        '"id": 1, "mode": null,',
+        "null",
+        (
+            "config.json:16:21: fault 2 Shape: /cores/1/mode: "
+            '`mode` is the name of a mode, or `"DONOTCARE"`, not `null`: to have the default, leave the member out',
+        ),
+    ),
+    Case(
+        "a conflict of modes",
+        '{"cores": [',
+        '{"modes": ["M", "N"], "master": 3, "cores": [{"id": 3, "mode": "N", "start": [0]},',
+        '{"id": 0',
+        (
+            "config.json:2:3: note: /cores/1: "
+            "core 0 names the mode `M`, and core 3 `N`: the start ends in a conflict",
+            "config.json:16:3: note: /cores/2: "
+            "core 1 names the mode `M`, and core 3 `N`: the start ends in a conflict",
+            "config.json:20:3: note: /cores/3: "
+            "core 2 names the mode `M`, and core 3 `N`: the start ends in a conflict",
+        ),
+    ),
+    Case(
         "another mode",
         '"modes": ["M"], "start"',
         '"modes": ["Diag"], "start"',

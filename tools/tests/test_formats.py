@@ -168,7 +168,7 @@ class Operations(unittest.TestCase):
         asks = re.search(r"no script of it has `(\w+)` or `(\w+)`", row).groups()
         self.assertEqual(asks, formats.ASKS_SHARED)
         self.assertIn("no script of any core, also of one that is off, has `%s`" % formats.HALTS_ALL, row)
-        self.assertIn("after the `stat` of a %s" % formats.WITHOUT_ERROR_HOOK, TEXT.lower().replace("startcore", "StartCore"))
+        self.assertIn("After the `stat` of a %s" % formats.WITHOUT_ERROR_HOOK, TEXT)
 
     def test_the_numbers_of_statuses(self):
         start = TEXT.index("| Status | Number | When |")

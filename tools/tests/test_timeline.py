@@ -316,7 +316,8 @@ class Shutdowns(unittest.TestCase):
         self.assertEqual([item.lines for item in items.items_of(run, 0)], [[], ["conflict"]])
 
     def test_what_autostarts_in_a_mode(self):
-        tasks = [{"name": "A", "prio": 1, "auto": ["M", "N"], "script": ""}, {"name": "B", "prio": 2, "auto": ["M"], "script": ""}]
+        tasks = [{"name": "A", "prio": 1, "auto": ["M", "N"], "script": ""}]
+        tasks.append({"name": "B", "prio": 2, "auto": ["M"], "script": ""})
         text = json.dumps({"modes": ["M", "N"], "cores": [{"id": 0, "mode": "DONOTCARE", "tasks": tasks}]})
         for mode, lines in (("N", ["act A", "pre A"]), ("M", ["act A", "act B", "pre B"]), ("none", [])):
             with self.subTest(mode=mode):

@@ -1,4 +1,4 @@
--- The services of whole cores: one that is started while it runs, how many are started, and that one or all shut down.
+-- The services of whole cores: StartCore, which a script calls too late; how many cores are started; the shutdown of one core and of all.
 use Rattle.std.specs.Prelude.{ℕ, pos, Bool, true, false, not, Option, Some, None, List, [], ◌∷◌, count_by, find, is_some}
 use Rattle.std.specs.Option.{option_map_or}
 use Rattle.osbase.specs.declared.statuses.Status.{Status}
@@ -28,8 +28,8 @@ abbrev pub starting_checks : AllCores → Option CoreId → List Check
 starting_checks all target = (is_unknown all target, EOsId) ∷ (true, EOsAccess) ∷ []
 
 -- So StartCore is always refused. [AUTOSAR SWS OS 4.x, SWS_Os_00676]
-abbrev pub starts_core : Runner → Option CoreId → Acts
-starts_core r target = look_around (λ all. returns r Service.StartCore (first_failing (starting_checks all target)) None)
+abbrev pub refuses_start : Runner → Option CoreId → Acts
+refuses_start r target = look_around (λ all. returns r Service.StartCore (first_failing (starting_checks all target)) None)
 
 abbrev pub core_count : CoreSet → ℕ
 core_count cores = count_by (λ b. b) cores.members
@@ -38,7 +38,8 @@ core_count cores = count_by (λ b. b) cores.members
 abbrev pub counts_cores : Runner → Variable → Acts
 counts_cores r x = look_around (λ all. sets r x (pos (core_count all.started)))
 
--- ShutdownOS: ShutdownHook is called at once, and the core goes down. [OSEK/VDX OS 2.2.3, section 11.4; AUTOSAR SWS OS 4.x, section 7.9.6]
+-- ShutdownHook is called at once, and the core goes down: by ShutdownOS, and by a time fault.
+-- [OSEK/VDX OS 2.2.3, section 11.4; AUTOSAR SWS OS 4.x, section 7.9.6]
 abbrev pub goes_down : Status → Acts
 goes_down status = one_then (Prints (Mark.ShutdownHook status)) (notes WentDown)
 
@@ -49,13 +50,14 @@ shuts_down_all r status = notes (Opened (record { runner = r; awaits = Awaited.H
 
 -- The table of the family.
 abbrev pub core_acts : Runner → Op → Option Acts
-core_acts r (Op.StartCore target) = Some (starts_core r target)
+core_acts r (Op.StartCore target) = Some (refuses_start r target)
 core_acts r (Op.GetNumberOfActivatedCores x) = Some (counts_cores r x)
 core_acts r (Op.ShutdownOs status) = Some (goes_down status)
 core_acts r (Op.ShutdownAllCores status) = Some (shuts_down_all r status)
 core_acts r op = None
 
--- Those that answer no status: while their caller has suspended interrupts, they are ignored. [AUTOSAR SWS OS 4.x, SWS_Os_00093]
+-- Those of whole cores that answer no status: while their caller has suspended interrupts, they are ignored.
+-- [AUTOSAR SWS OS 4.x, SWS_Os_00093]
 abbrev pub is_ignored : Op → Bool
 is_ignored (Op.GetNumberOfActivatedCores x) = true
 is_ignored (Op.ShutdownOs status) = true

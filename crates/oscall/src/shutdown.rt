@@ -1,4 +1,4 @@
-//! The services of whole cores: one that is started while it runs, how many are started, and that one or all shut down.
+//! The services of whole cores: StartCore, which a script calls too late; how many cores are started; the shutdown of one core and of all.
 
 ghost use Rattle.std.specs.Prelude.{◌≡◌, ◌≤◌, ◌+◌, ◌^◌, IsTrue};
 ghost use Rattle.osbase.specs.declared.limits.TheConstants.{CORES};
@@ -8,7 +8,7 @@ ghost use Rattle.osact.specs.Terms.{MayAct, Offered};
 ghost use Rattle.osact.specs.Acts.{does};
 ghost use Rattle.osact.specs.Checks.{first_failing};
 ghost use Rattle.osact.specs.Seen.{all_cores};
-ghost use Rattle.oscall.specs.Shutdown.{core_acts, core_count, counts_cores, goes_down, is_ignored, is_unknown, shuts_down_all, starting_checks, starts_core};
+ghost use Rattle.oscall.specs.Shutdown.{core_acts, core_count, counts_cores, goes_down, is_ignored, is_unknown, refuses_start, shuts_down_all, starting_checks};
 
 use crate::variables::set;
 use osact::{Step, refuse};
@@ -52,15 +52,15 @@ fn start_core<const P: usize, const J: usize, const OUT: usize>(
     marks: &mut Vec<Mark>,
 )
     requires { MayAct service_entries service_marks state.old runner marks.old }
-    ensures { Effects service_entries service_marks (does (starts_core runner target)) state.old state.new marks.old marks.new }
+    ensures { Effects service_entries service_marks (does (refuses_start runner target)) state.old state.new marks.old marks.new }
 {
     let status = status_of_starting(state, target);
     refuse(state, runner, ServiceId::StartCore, status, marks);
 }
 
-fn core_count(cores: CoreSet) -> usize
-    ensures value { result ≡ core_count cores }
-    ensures few { result ≤ CORES }
+fn core_count(cores: &CoreSet) -> usize
+    ensures value { result ≡ core_count cores.now }
+    ensures few { result ≤ 16 }
 {
     cores.members.iter().filter(|is_member| **is_member).count()
 }
@@ -79,7 +79,8 @@ fn count_cores<const P: usize, const J: usize, const OUT: usize>(
     set(state, runner, variable, count as i64, marks);
 }
 
-/// ShutdownHook is called at once, and the core goes down (OSEK/VDX OS 2.2.3, section 11.4; AUTOSAR SWS OS 4.x, section 7.9.6).
+/// ShutdownHook is called at once, and the core goes down: by ShutdownOS, and by a time fault (OSEK/VDX OS 2.2.3, section 11.4;
+/// AUTOSAR SWS OS 4.x, section 7.9.6).
 pub fn go_down<const P: usize, const J: usize, const OUT: usize>(
     state: &mut CoreState<'_, P, J, OUT>,
     status: Status,

@@ -1,15 +1,15 @@
 -- The tests of a configuration's text, a row for each fault past its shape that a text can have so far. Each is defined apart from
 -- the others, over the text as it stands; `tests_of` says which of them pass over a name that is unknown or stands twice. [own]
-use Rattle.std.specs.Prelude.{ℕ, ◌&&◌, Bool, Option, None, is_some, option_map, List, [], ◌∷◌, ◌++◌, length, map}
+use Rattle.std.specs.Prelude.{ℕ, ◌&&◌, ◌||◌, not, true, Bool, Option, None, is_some, option_map, List, [], ◌∷◌, ◌++◌, length, map}
 use Rattle.std.specs.List.{list_all}
 use Rattle.std.specs.Option.{option_map_or}
 use Rattle.std.specs.Str.{bytes_eq}
 use Rattle.oscheck.specs.Words.{AlarmStartText, AlarmText, ConfigText, CoreId, CoreText, CounterText, Declaration, IsrText, PointText, ResourceText, TableStartText, TableText, TaskText}
-use Rattle.osbase.specs.declared.objects.ObjectKind.TheVariants.{Counter}
+use Rattle.osbase.specs.declared.objects.ObjectKind.TheVariants.{Counter, Mode}
 use Rattle.osbase.specs.History.{same_core}
 use Rattle.osforms.specs.Action.{is_action}
 use Rattle.osforms.specs.Operation.{has_masks}
-use Rattle.osplan.specs.Expressible.{are_distinct, is_free_of_resources, is_jumping_within, mode_name}
+use Rattle.osplan.specs.Expressible.{are_distinct, dont_care, is_free_of_resources, is_jumping_within, is_reserved}
 use Rattle.osplan.specs.Limits.{TaskSizes, IsrSizes, CounterSizes, StartSizes, PointSizes, TableSizes, CoreSizes, Sizes, is_between, is_by, is_core_numbered, is_short, is_within, is_table_timed, has_number, are_numbers_distinct, stays_on}
 use Rattle.osplan.specs.declared.faults.ConfFault.TheVariants.{Limit, DuplicateName, UnknownName, WrongCore, BadMask, BadTable, BadScript}
 use Rattle.osplan.specs.Fault.{Tests}
@@ -76,9 +76,9 @@ core_sizes objects core = record {
 abbrev pub bare_sizes : CoreText → CoreSizes
 bare_sizes core = record (core_sizes [] core) { counters = []; alarms = []; tables = []; posted = 0 }
 
--- All numbers of a text that have limits. There is one mode.
+-- All numbers of a text that have limits.
 abbrev pub sizes_of : ConfigText → Sizes
-sizes_of t = record { modes = 1; cap = t.cap; cores = map (core_sizes (declarations t)) t.cores }
+sizes_of t = record { modes = length t.modes; cap = t.cap; cores = map (core_sizes (declarations t)) t.cores }
 
 -- The version, which no configuration keeps, is 1, and the numbers are within the limits.
 abbrev pub is_text_within : ConfigText → Bool
@@ -103,26 +103,34 @@ is_text_numbered t = is_between 1 1 t.version && is_by is_core_numbered (sizes_o
 abbrev pub numbers_of : List CoreText → List (Option ℕ)
 numbers_of cores = map (λ (core : CoreText). core.id) cores
 
--- Every core number stands once, and every name.
+-- The name stands for nothing else in a mode's place.
+abbrev pub is_unreserved : List ℕ → Bool
+is_unreserved name = not (is_reserved name)
+
+-- Every core number stands once, and every name, and no mode has a name that stands for something else.
 abbrev pub is_each_once : ConfigText → Bool
-is_each_once t = are_numbers_distinct (numbers_of t.cores) && are_distinct (names_of (declarations t))
+is_each_once t = are_numbers_distinct (numbers_of t.cores) && are_distinct (names_of (declarations t)) && list_all is_unreserved t.modes
 
 -- ---- names and numbers that name nothing
 
 abbrev pub are_operations_known : List Declaration → List ℕ → Bool
 are_operations_known objects script = list_all (is_operation_known objects) (operations_of script)
 
-abbrev pub is_mode_name : List ℕ → Bool
-is_mode_name name = bytes_eq name mode_name
+abbrev pub is_mode_known : List Declaration → List ℕ → Bool
+is_mode_known objects name = is_some (place_of objects Mode name)
+
+-- A core that says nothing of its mode, and one that goes with any, names none.
+abbrev pub is_core_mode_known : List Declaration → Option (List ℕ) → Bool
+is_core_mode_known objects mode = option_map_or (λ (name : List ℕ). bytes_eq name dont_care || is_mode_known objects name) mode true
 
 abbrev pub is_task_known : List Declaration → TaskText → Bool
-is_task_known objects task = list_all is_mode_name task.auto && are_operations_known objects task.script
+is_task_known objects task = list_all (is_mode_known objects) task.auto && are_operations_known objects task.script
 
 abbrev pub alarm_modes : AlarmText → List (List ℕ)
 alarm_modes alarm = option_map_or (λ (auto : AlarmStartText). auto.modes) alarm.auto []
 
 abbrev pub is_alarm_known : List Declaration → AlarmText → Bool
-is_alarm_known objects alarm = is_some (place_of objects Counter alarm.counter) && is_action_known objects alarm.action && list_all is_mode_name (alarm_modes alarm)
+is_alarm_known objects alarm = is_some (place_of objects Counter alarm.counter) && is_action_known objects alarm.action && list_all (is_mode_known objects) (alarm_modes alarm)
 
 abbrev pub is_point_known : List Declaration → PointText → Bool
 is_point_known objects point = list_all (is_action_known objects) point.actions
@@ -131,14 +139,15 @@ abbrev pub table_modes : TableText → List (List ℕ)
 table_modes table = option_map_or (λ (auto : TableStartText). auto.modes) table.auto []
 
 abbrev pub is_table_known : List Declaration → TableText → Bool
-is_table_known objects table = is_some (place_of objects Counter table.counter) && list_all (is_point_known objects) table.points && list_all is_mode_name (table_modes table)
+is_table_known objects table = is_some (place_of objects Counter table.counter) && list_all (is_point_known objects) table.points && list_all (is_mode_known objects) (table_modes table)
 
 abbrev pub is_core_known : List Declaration → CoreText → Bool
 is_core_known objects core =
-    list_all (is_task_known objects) core.tasks && list_all (λ (isr : IsrText). are_operations_known objects isr.script) core.isrs
-    && list_all (is_alarm_known objects) core.alarms && list_all (is_table_known objects) core.tables
+    is_core_mode_known objects core.mode
+    && (list_all (is_task_known objects) core.tasks && list_all (λ (isr : IsrText). are_operations_known objects isr.script) core.isrs
+    && list_all (is_alarm_known objects) core.alarms && list_all (is_table_known objects) core.tables)
 
--- The master is a configured core, and each name in an autostart, an operation, an alarm or a table has its object.
+-- The master is a configured core, and each name of a core's mode, in an autostart, an operation, an alarm or a table has its object.
 abbrev pub are_known : ConfigText → Bool
 are_known t = has_number (numbers_of t.cores) t.master && list_all (is_core_known (declarations t)) t.cores
 

@@ -8,24 +8,26 @@ ghost use Rattle.osshape.specs.declared.shapes.CounterText.{CounterText as Count
 ghost use Rattle.osshape.specs.declared.shapes.IsrText.{IsrText as Isr};
 ghost use Rattle.osshape.specs.declared.shapes.ResourceText.{ResourceText as Resource};
 ghost use Rattle.osshape.specs.declared.shapes.TaskText.{TaskText as Task};
-ghost use Rattle.osplan.specs.Limits.{are_alarms_within, are_counters_within, are_isrs_within, are_numbers_distinct, has_number, is_alarm_within, is_between, is_budget, is_ceiling, is_core_numbered, is_counter_within, is_isr_within, is_start, is_start_within, is_task_within, jobs_of, most_activations, most_cores, same_number};
+ghost use Rattle.osplan.specs.Limits.{are_alarms_within, are_counters_within, are_isrs_within, are_numbers_distinct, has_number, is_alarm_within, is_between, is_budget, is_ceiling, is_core_numbered, is_counter_within, is_isr_within, is_start, is_start_within, is_task_within, jobs_of, most_activations, most_cores, most_of, same_number};
+ghost use Rattle.osbase.specs.declared.objects.ObjectKind.{ObjectKind};
 ghost use Rattle.osplan.specs.Fault.{failing, first_fault};
 ghost use Rattle.osshape.specs.Declarations.{declarations};
 ghost use Rattle.oscheck.specs.Few.{are_objects_few, is_core_few};
-ghost use Rattle.oscheck.specs.Check.{is_text_numbered, task_sizes, isr_sizes, counter_sizes, start_sizes, alarm_sizes, bare_sizes, core_sizes, numbers_of, is_text_within, is_each_once, is_mode_name, alarm_modes, are_timed, tests_of};
+ghost use Rattle.oscheck.specs.Check.{is_text_numbered, task_sizes, isr_sizes, counter_sizes, start_sizes, alarm_sizes, bare_sizes, core_sizes, numbers_of, is_text_within, is_unreserved, is_each_once, is_core_mode_known, is_mode_known, alarm_modes, are_timed, tests_of};
 ghost use Rattle.oscheck.specs.Verdict.{text_verdict};
 
 use crate::table_checks::{are_posted_few, are_tables_timed, are_tables_within};
 use crate::verdicts::Verdict;
 use osbase::{
-    ALARMS, CONFIGURED_CORES, COUNTERS, GREATEST_BUDGET, GREATEST_VALUE, ISRS, JOBS, LEVELS,
-    RESOURCES, TABLES, TASKS,
+    ALARMS, CONFIGURED_CORES, COUNTERS, GREATEST_BUDGET, GREATEST_VALUE, ISRS, JOBS, LEVELS, MODES,
+    ObjectKind, RESOURCES, TABLES, TASKS,
 };
-use osplan::ConfFault;
+use osforms::Places;
+use osplan::{ConfFault, DONT_CARE, is_reserved};
 use osread::{Text, Whole};
 use osshape::{
-    AlarmStartText, AlarmText, ConfigText, CoreText, CounterText, IsrText, MODE, Objects,
-    ResourceText, TaskText,
+    AlarmStartText, AlarmText, ConfigText, CoreText, CounterText, IsrText, Objects, ResourceText,
+    TaskText,
 };
 
 pub(crate) fn is_between(low: u64, high: u64, number: Whole) -> bool
@@ -218,10 +220,19 @@ fn are_cores_few(cores: &[CoreText]) -> bool
 
 /// Whether the text has no more cores, and no more objects of each kind, than a configuration may have. So many names are
 /// the most that are ever looked up.
+#[tactic(auto, using(crate::proofs::Numbers::mapped))]
 pub fn are_objects_few(text: &ConfigText) -> bool
     ensures { result ≡ are_objects_few text.now }
 {
-    text.cores.len() <= CONFIGURED_CORES && are_cores_few(text.cores.as_slice())
+    text.modes.len() <= MODES
+        && text.cores.len() <= CONFIGURED_CORES
+        && are_cores_few(text.cores.as_slice())
+}
+
+fn are_modes_within(text: &ConfigText) -> bool
+    ensures { result ≡ is_between 1 (most_of ObjectKind.Mode) (Some (length text.now.modes)) }
+{
+    1 <= text.modes.len() && text.modes.len() <= MODES
 }
 
 /// Whether the text is of version 1 and within the limits, but for its scripts, whose operations are counted where they
@@ -231,6 +242,7 @@ pub fn is_numbered(text: &ConfigText, objects: &Objects) -> bool
     ensures { result ≡ is_text_numbered text.now }
 {
     is_between(1, 1, text.version)
+        && are_modes_within(text)
         && is_between(1, 16, text.cap)
         && are_cores_within(objects, text.cores.as_slice())
 }
@@ -267,27 +279,53 @@ fn are_numbers_distinct(cores: &[CoreText]) -> bool
     true
 }
 
-// Whether every core number stands once, and every name.
+fn are_modes_unreserved(modes: &[Text]) -> bool
+    ensures { result ≡ list_all is_unreserved modes.now }
+{
+    modes.iter().all(|name| !is_reserved(name.as_str()))
+}
+
+// Whether every core number stands once, and every name, and no mode has a name that stands for something else.
 fn is_each_once(text: &ConfigText, objects: &Objects) -> bool
     requires objects { objects.now.declared ≡ declarations text.now }
     ensures { result ≡ is_each_once text.now }
 {
-    are_numbers_distinct(text.cores.as_slice()) && objects.are_named_apart()
+    are_numbers_distinct(text.cores.as_slice())
+        && objects.are_named_apart()
+        && are_modes_unreserved(text.modes.as_slice())
 }
 
-/// Whether each name is the only mode's.
-pub fn are_mode_names(names: &[Text]) -> bool
-    ensures { result ≡ list_all is_mode_name names.now }
+fn is_mode_known(objects: &Objects, name: &str) -> bool
+    ensures { result ≡ is_mode_known objects.now.declared name.now }
 {
-    names.iter().all(|name| name.as_str() == MODE)
+    objects.place(ObjectKind::Mode, name).is_some()
 }
 
-/// Whether each mode in which the alarm is set by itself is the only one.
-pub fn are_alarm_modes(alarm: &AlarmText) -> bool
-    ensures { result ≡ list_all is_mode_name (alarm_modes alarm.now) }
+/// Whether each name is that of a mode.
+pub fn are_modes_known(objects: &Objects, names: &[Text]) -> bool
+    ensures { result ≡ list_all (is_mode_known objects.now.declared) names.now }
+{
+    names
+        .iter()
+        .all(|name| is_mode_known(objects, name.as_str()))
+}
+
+/// Whether the mode that a core names is there; `DONOTCARE` names none.
+pub fn is_core_mode_known(objects: &Objects, mode: &Option<Text>) -> bool
+    ensures { result ≡ is_core_mode_known objects.now.declared mode.now }
+{
+    match mode {
+        Some(name) => name.as_str() == DONT_CARE || is_mode_known(objects, name.as_str()),
+        None => true,
+    }
+}
+
+/// Whether the modes in which the alarm is set by itself are there.
+pub fn are_alarm_modes_known(objects: &Objects, alarm: &AlarmText) -> bool
+    ensures { result ≡ list_all (is_mode_known objects.now.declared) (alarm_modes alarm.now) }
 {
     match &alarm.auto {
-        Some(auto) => are_mode_names(auto.modes.as_slice()),
+        Some(auto) => are_modes_known(objects, auto.modes.as_slice()),
         None => true,
     }
 }

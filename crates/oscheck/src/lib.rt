@@ -10,7 +10,10 @@ mod judging;
 mod table_checks;
 mod verdicts;
 
-pub use checks::{are_alarm_modes, are_mode_names, are_objects_few, fault_of, is_numbered};
+pub use checks::{
+    are_alarm_modes_known, are_modes_known, are_objects_few, fault_of, is_core_mode_known,
+    is_numbered,
+};
 pub use judging::{judge_action, judge_counter, judge_isr_script, judge_script};
-pub use table_checks::are_table_modes;
+pub use table_checks::are_table_modes_known;
 pub use verdicts::{Judged, Verdict};

@@ -8,9 +8,9 @@ ghost use Rattle.osshape.specs.declared.table_shapes.TableText.{TableText as Tab
 ghost use Rattle.osplan.specs.Limits.{are_alarms_within, are_ascending, are_tables_within, delays, first_offset, is_before, is_delay, is_final, is_point_within, is_table_start_within, is_table_timed, is_table_within, is_timed_by, last_offset, most_posted};
 ghost use Rattle.osshape.specs.Declarations.{declared_sizes, place_alone};
 ghost use Rattle.oscheck.specs.Posted.{greatest_posted, is_posting, posted_at, posted_by_alarms, posted_by_tables, posted_at_once};
-ghost use Rattle.oscheck.specs.Check.{alarm_sizes, is_mode_name, point_sizes, table_modes, table_sizes, table_times};
+ghost use Rattle.oscheck.specs.Check.{alarm_sizes, is_mode_known, point_sizes, table_modes, table_sizes, table_times};
 
-use crate::checks::{are_mode_names, is_between};
+use crate::checks::{are_modes_known, is_between};
 use osbase::{ACTIONS, CoreId, GREATEST_DURATION, ObjectKind, POINTS, POSTED, Place, TABLES};
 use oscript::action_of_op;
 use osforms::{Places, op_meant};
@@ -94,7 +94,7 @@ pub fn are_tables_within(objects: &Objects, tables: &[TableText]) -> bool
     tables.len() <= TABLES && is_each_table_within(objects, tables)
 }
 
-// The objects whose names no other object has, nor the mode. What a text posts is judged before it is known whether names
+// The objects whose names no other object has. What a text posts is judged before it is known whether names
 // stand twice.
 #[derive(Clone, Copy)]
 struct Alone<'o, 'e> {
@@ -177,12 +177,12 @@ pub fn are_posted_few(objects: &Objects, core: &CoreText) -> bool
     by_alarms + by_tables <= POSTED
 }
 
-/// Whether each mode in which the table is started by itself is the only one.
-pub fn are_table_modes(table: &TableText) -> bool
-    ensures { result ≡ list_all is_mode_name (table_modes table.now) }
+/// Whether the modes in which the table is started by itself are there.
+pub fn are_table_modes_known(objects: &Objects, table: &TableText) -> bool
+    ensures { result ≡ list_all (is_mode_known objects.now.declared) (table_modes table.now) }
 {
     match &table.auto {
-        Some(auto) => are_mode_names(auto.modes.as_slice()),
+        Some(auto) => are_modes_known(objects, auto.modes.as_slice()),
         None => true,
     }
 }

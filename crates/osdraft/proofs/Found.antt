@@ -1,24 +1,25 @@
 -- The numbers of a text within their limits are those of its plan, and what its names find there.
-use Rattle.std.proofs.Common.{◌≡◌, ℕ, ◌≤◌, Bool, true, eqb, List, Option, Some, refl, sym, ◌∙◌, arith, suc, ◌+◌, false, cond, [], ◌∷◌, length, map, None, option_and_then, ap, inl, inr, ◌++◌, is_some, option_map, subst}
+use Rattle.std.proofs.Common.{◌≡◌, ℕ, ◌≤◌, ◌<◌, Bool, true, eqb, List, Option, Some, refl, sym, ◌∙◌, arith, suc, ◌+◌, false, cond, [], ◌∷◌, length, map, None, option_and_then, ap, inl, inr, ◌++◌, is_some, option_map, subst}
 use Rattle.std.specs.List.{list_all, enumerate_from, find, flat_map, AllByRecursion, slice_get}
 use Rattle.std.proofs.lemmas.Bool.Decides.{nat_tests}
-use Rattle.std.proofs.lemmas.Bool.{le-leb, and_parts, and_from, or_parts, cases_Bool, leb-true, true≢false}
+use Rattle.std.proofs.lemmas.Bool.{le-leb, lt-ltb, and_parts, and_from, or_parts, cases_Bool, leb-true, true≢false}
 use Rattle.std.proofs.lemmas.List.Folds.{list_all-map, list_all-append}
 use Rattle.oscheck.specs.Words.{ConfigText, Core, CoreText, Declaration, Named, Object, ObjectKind, Place, CoreId, CounterRef, CounterText, Plan}
 use Rattle.osplan.specs.Limits as limits
 use Rattle.osplan.specs.Limits.{is_between, is_core_within, is_within, number_of, same_number, has_number, are_numbers_distinct, is_object, CounterSizes, are_counters_within, is_counter_within}
-use Rattle.osshape.specs.Declarations.{byte_of, word_of, declarations, declaration, declared_of, declared_by, has_name, place_in, place_of, id_of, is_alone, counter_ref, counter_declared, declared_sizes, names_of}
+use Rattle.osshape.specs.Declarations.{byte_of, word_of, common_of, declarations, declaration, declared_of, declared_by, has_name, place_in, place_of, id_of, is_alone, counter_ref, counter_declared, declared_sizes, names_of}
 use Rattle.osshape.proofs.Lists.{map-same, list_all-every}
 use Rattle.oscheck.specs.Check.{core_sizes, sizes_of, numbers_of, counter_sizes}
 use Rattle.osdraft.specs.Meaning.{core_plan, plan_of}
 use Rattle.std.proofs.lemmas.List.{length-map}
-use Rattle.osbase.specs.Objects.{same_kind}
+use Rattle.osbase.specs.Objects.{object_at, place_on, same_kind}
+use Rattle.osbase.specs.declared.objects.TheConstants.{NOBODY}
 use Rattle.osbase.proofs.Same.{same_kind-true, same_core-comm, same_core-refl}
 use Rattle.osbase.specs.History.{same_core}
-use Rattle.osplan.specs.Objects.{object_count}
-use Rattle.osplan.specs.declared.plans.TheConstants.{KINDS}
+use Rattle.osplan.specs.Objects.{common_names, object_count}
+use Rattle.osplan.specs.declared.plans.TheConstants.{COMMON, KINDS}
 use Rattle.osplan.proofs.Tests.{all-flat, find-passes}
-use Rattle.osshape.specs.Shape.{objects_in, numbered}
+use Rattle.osshape.specs.Shape.{common_in, objects_in, numbered}
 use Rattle.std.proofs.lemmas.Option.{slice_get-map}
 use Rattle.osplan.specs.Expressible.{are_distinct}
 use Rattle.osplan.specs.View.{core_of, counter_in}
@@ -87,25 +88,43 @@ module _ (t : ConfigText) where
   abbrev planned : CoreText → Core
   planned core = core_plan (declarations t) core
 
-  as-many : (core : CoreText) (kind : ObjectKind) → length (objects_in kind core) ≡ object_count kind (planned core)
-  as-many core ObjectKind.Task = simp length-map
-  as-many core kind = simp length-map
+  -- Objects of a kind, each of which is there at its index,
+  each-there : (id : CoreId) (kind : ObjectKind) (count : ℕ) → ((i : ℕ) → i < count → is_object (plan_of t) (object_at kind (place_on id i)) ≡ true) → (n : ℕ) (objects : List Named) → n + length objects ≤ count
+      → list_all is_there (map (declaration id kind) (enumerate_from n objects)) ≡ true
+  each-there id kind count there n [] within = refl
+  each-there id kind count there n (object ∷ objects) within =
+      and_from _ _ (there (byte_of (Some n)) (omega (arith, byte-at_most n))) (each-there id kind count there (n + 1) objects (omega arith))
 
-  each-there : (core : CoreText) (kind : ObjectKind) (n : ℕ) (objects : List Named) → IsFound (plan_of t).cores (planned core) → n + length objects ≤ object_count kind (planned core) → list_all is_there (map (declaration core kind) (enumerate_from n objects)) ≡ true
-  each-there core kind n [] found within = refl
-  each-there core kind n (object ∷ objects) found within =
-      let below : byte_of (Some n) ≤ n = byte-at_most n in
-      and_from _ _ (rw found (le-leb (suc (byte_of (Some n))) (object_count kind (planned core)) (omega arith))) (each-there core kind (n + 1) objects found (omega arith))
+  -- of each core,
+  as-many : (core : CoreText) (kind : ObjectKind) → length (objects_in kind core) ≡ object_count kind (planned core)
+  as-many core ObjectKind.Mode = refl
+  as-many core kind = simp length-map
 
   objects-there : (core : CoreText) → IsFound (plan_of t).cores (planned core) → list_all is_there (declared_by core) ≡ true
   objects-there core found =
       all-flat is_there (declared_of core) KINDS
-      (list_all-every (λ (kind : ObjectKind). list_all is_there (declared_of core kind)) (λ kind. let many = as-many core kind in each-there core kind 0 (objects_in kind core) found (omega arith)) KINDS)
+      (list_all-every (λ (kind : ObjectKind). list_all is_there (declared_of core kind))
+      (λ kind. let many = as-many core kind in each-there (id_of core) kind (object_count kind (planned core)) (λ i lt. rw found (lt-ltb i (object_count kind (planned core)) lt)) 0 (objects_in kind core) (omega arith)) KINDS)
 
-  all-there : (cores : List CoreText) → AllByRecursion (IsFound (plan_of t).cores) (map planned cores) → list_all is_there (flat_map declared_by cores) ≡ true
-  all-there [] found = refl
-  all-there (core ∷ cores) found =
-      list_all-append is_there (declared_by core) (flat_map declared_by cores) ∙ and_from _ _ (objects-there core found.0) (all-there cores found.1)
+  cores-there : (cores : List CoreText) → AllByRecursion (IsFound (plan_of t).cores) (map planned cores) → list_all is_there (flat_map declared_by cores) ≡ true
+  cores-there [] found = refl
+  cores-there (core ∷ cores) found =
+      list_all-append is_there (declared_by core) (flat_map declared_by cores) ∙ and_from _ _ (objects-there core found.0) (cores-there cores found.1)
+
+  -- and of those that all have in common.
+  module _ (alone : core_of (plan_of t) NOBODY ≡ None) where
+    common-many : (kind : ObjectKind) → length (common_in kind t) ≡ length (common_names kind (plan_of t))
+    common-many ObjectKind.Mode = simp length-map
+    common-many kind = refl
+
+    common-there : list_all is_there (flat_map (common_of t) COMMON) ≡ true
+    common-there =
+        all-flat is_there (common_of t) COMMON
+        (list_all-every (λ (kind : ObjectKind). list_all is_there (common_of t kind))
+        (λ kind. let many = common-many kind in each-there NOBODY kind (length (common_names kind (plan_of t))) (λ i lt. rw alone (lt-ltb i (length (common_names kind (plan_of t))) lt)) 0 (common_in kind t) (omega arith)) COMMON)
+
+    all-there : AllByRecursion (IsFound (plan_of t).cores) (map planned t.cores) → list_all is_there (declarations t) ≡ true
+    all-there found = list_all-append is_there (flat_map (common_of t) COMMON) (flat_map declared_by t.cores) ∙ and_from _ _ common-there (cores-there t.cores found)
 
 -- ---- what a name stands for
 
@@ -122,10 +141,10 @@ found-there t kind name place (Some d) found is there =
     ap (is_object (plan_of t)) (sym (place-is kind d place (same_kind d.kind kind) refl is)) ∙ find-passes (has_name name) (is_there t) (declarations t) d there found
 
 -- A name that has a place stands for an object of the plan.
-pub place-known : (t : ConfigText) → are_numbers_distinct (limits.numbers_of (plan_of t).cores) ≡ true → (kind : ObjectKind) (name : List ℕ) (place : Place) → place_of (declarations t) kind name ≡ Some place
+pub place-known : (t : ConfigText) → are_numbers_distinct (limits.numbers_of (plan_of t).cores) ≡ true → core_of (plan_of t) NOBODY ≡ None → (kind : ObjectKind) (name : List ℕ) (place : Place) → place_of (declarations t) kind name ≡ Some place
     → is_object (plan_of t) (record { kind = kind; place = place }) ≡ true
-place-known t distinct kind name place is =
-    found-there t kind name place (find (has_name name) (declarations t)) refl is (all-there t t.cores (each-found (plan_of t).cores distinct))
+place-known t distinct alone kind name place is =
+    found-there t kind name place (find (has_name name) (declarations t)) refl is (all-there t alone (each-found (plan_of t).cores distinct))
 
 -- ---- the counters that a text names are those of a configuration that has the text's counters
 
@@ -152,9 +171,9 @@ both-sized plan [] back f b = b
 both-sized plan (d ∷ front) back f b = (f.0, both-sized plan front back f.1 b)
 
 -- no other object has numbers
-unsized : (plan : Plan) (core : CoreText) (kind : ObjectKind) → ((d : Declaration) → IsSized plan d kind) → (n : ℕ) (objects : List Named) → AreSized plan (map (declaration core kind) (enumerate_from n objects))
-unsized plan core kind each n [] = tt
-unsized plan core kind each n (object ∷ objects) = (each (declaration core kind (n, object)), unsized plan core kind each (n + 1) objects)
+unsized : (plan : Plan) (id : CoreId) (kind : ObjectKind) → ((d : Declaration) → IsSized plan d kind) → (n : ℕ) (objects : List Named) → AreSized plan (map (declaration id kind) (enumerate_from n objects))
+unsized plan id kind each n [] = tt
+unsized plan id kind each n (object ∷ objects) = (each (declaration id kind (n, object)), unsized plan id kind each (n + 1) objects)
 
 module _ (plan : Plan) (text : CoreText) (has : HasCounters plan text) where
   few : length text.counters ≤ 8
@@ -166,7 +185,7 @@ module _ (plan : Plan) (text : CoreText) (has : HasCounters plan text) where
       (sym (slice_get-map limits.counter_sizes has.core.counters n) ∙ ap (λ (sizes : List CounterSizes). slice_get sizes n) has.same ∙ slice_get-map counter_sizes text.counters n ∙ ap (option_map counter_sizes) is)
 
   counters-sized : (n : ℕ) (counters : List CounterText) → ((k : ℕ) → slice_get text.counters (n + k) ≡ slice_get counters k) → n + length counters ≤ 8 → list_all is_counter_within (map counter_sizes counters) ≡ true
-      → AreSized plan (map (declaration text ObjectKind.Counter) (enumerate_from n (map numbered counters)))
+      → AreSized plan (map (declaration (id_of text) ObjectKind.Counter) (enumerate_from n (map numbered counters)))
   counters-sized n [] at low within = tt
   counters-sized n (counter ∷ counters) at low within =
       let first : n ≡ n + 0 = omega arith in
@@ -179,15 +198,21 @@ module _ (plan : Plan) (text : CoreText) (has : HasCounters plan text) where
       let at = λ (k : ℕ). let index : 0 + k ≡ k = omega arith in ap (slice_get text.counters) index in
       let fits = few in
       counters-sized 0 text.counters at (omega arith) (and_parts _ (list_all is_counter_within (map counter_sizes text.counters)) has.within).1
-  kind-sized kind = unsized plan text kind (λ d. tt) 0 (objects_in kind text)
+  kind-sized kind = unsized plan (id_of text) kind (λ d. tt) 0 (objects_in kind text)
 
   kinds-sized : (kinds : List ObjectKind) → AreSized plan (flat_map (declared_of text) kinds)
   kinds-sized [] = tt
   kinds-sized (kind ∷ kinds) = both-sized plan (declared_of text kind) (flat_map (declared_of text) kinds) (kind-sized kind) (kinds-sized kinds)
 
-all-sized : (plan : Plan) (cores : List CoreText) → AllByRecursion (HasCounters plan) cores → AreSized plan (flat_map declared_by cores)
-all-sized plan [] has = tt
-all-sized plan (core ∷ cores) has = both-sized plan (declared_by core) (flat_map declared_by cores) (kinds-sized plan core has.0 KINDS) (all-sized plan cores has.1)
+cores-sized : (plan : Plan) (cores : List CoreText) → AllByRecursion (HasCounters plan) cores → AreSized plan (flat_map declared_by cores)
+cores-sized plan [] has = tt
+cores-sized plan (core ∷ cores) has = both-sized plan (declared_by core) (flat_map declared_by cores) (kinds-sized plan core has.0 KINDS) (cores-sized plan cores has.1)
+
+-- and no counter is common to all cores
+all-sized : (plan : Plan) (t : ConfigText) → AllByRecursion (HasCounters plan) t.cores → AreSized plan (declarations t)
+all-sized plan t has =
+    both-sized plan (flat_map (common_of t) COMMON) (flat_map declared_by t.cores)
+    (both-sized plan (common_of t ObjectKind.Mode) [] (unsized plan NOBODY ObjectKind.Mode (λ d. tt) 0 (common_in ObjectKind.Mode t)) tt) (cores-sized plan t.cores has)
 
 -- ---- the counter of a name
 
@@ -229,4 +254,4 @@ counter-by plan objects id name (Some d) found apart sized known =
 
 pub named-counter : (plan : Plan) (t : ConfigText) (id : CoreId) (name : List ℕ) → are_distinct (names_of (declarations t)) ≡ true → AllByRecursion (HasCounters plan) t.cores → is_some (place_of (declarations t) ObjectKind.Counter name) ≡ true
     → NamedCounter plan (declarations t) id name
-named-counter plan t id name apart has known = counter-by plan (declarations t) id name (find (has_name name) (declarations t)) refl apart (all-sized plan t.cores has) known
+named-counter plan t id name apart has known = counter-by plan (declarations t) id name (find (has_name name) (declarations t)) refl apart (all-sized plan t has) known

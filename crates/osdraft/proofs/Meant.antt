@@ -1,19 +1,22 @@
 -- What a text without a fault means is a configuration with the text's numbers: it keeps the limits, and a text can say it.
-use Rattle.std.proofs.Common.{◌≡◌, ℕ, ◌&&◌, Bool, true, cond, count_by, sum_by, List, [], ◌∷◌, map, Option, Some, None, is_some, option_map, unwrap_or, refl, sym, ap, ◌∙◌, arith, ◌≤◌, ◌-◌, nat_le, ◌||◌, length, not}
+use Rattle.std.proofs.Common.{◌≡◌, ℕ, ◌&&◌, Bool, true, cond, count_by, sum_by, List, [], ◌∷◌, map, Option, Some, None, is_some, option_map, unwrap_or, refl, sym, ap, ◌∙◌, arith, ◌≤◌, ◌-◌, nat_le, nat_lt, ◌||◌, length, not, false}
 use Rattle.std.proofs.lemmas.Bool.Decides.{nat_tests}
-use Rattle.std.specs.List.{find, list_all, sum, AllByRecursion, flat_map}
+use Rattle.std.specs.List.{find, list_all, sum, AllByRecursion}
 use Rattle.std.proofs.lemmas.Bool.{and_parts, leb-true, and_from, true≢false}
-use Rattle.oscheck.specs.Words.{Alarm, AlarmText, Core, CoreText, Declaration, ObjectKind, Op, Place, PointText, RemoteCall, TableText, AlarmStartText, ConfigText, CoreId, CounterText, Plan, ResourceText, Table, TableStart, TableStartText, TaskText, ModeId, Task, AlarmStart, ExpiryPoint, Isr, IsrText, Named}
+use Rattle.oscheck.specs.Words.{Alarm, AlarmText, Core, CoreMode, CoreText, Declaration, ObjectKind, Op, Place, PointText, RemoteCall, TableText, AlarmStartText, ConfigText, CoreId, CounterText, Plan, ResourceText, Table, TableStart, TableStartText, TaskText, ModeId, Task, AlarmStart, ExpiryPoint, Isr, IsrText, Named}
 use Rattle.oscript.specs.Calls.{action_of_op}
 use Rattle.osforms.specs.Action.{is_action, is_action_op}
 use Rattle.osforms.specs.Operation.{op_meant, has_masks}
-use Rattle.osplan.specs.Expressible.{are_distinct, mode_name, is_only_mode}
+use Rattle.osplan.specs.Expressible.{are_distinct, dont_care}
 use Rattle.osplan.specs.Objects.{greatest_of, names_in, table_actions}
 use Rattle.osplan.proofs.Tests.{all-both, all-flat, any-find, any-mapped}
+use Rattle.osplan.proofs.ModeObjects.{mode-there, nobody}
+use Rattle.osbase.specs.declared.objects.TheConstants.{NOBODY}
+use Rattle.std.specs.Str.{bytes_eq}
 use Rattle.oscheck.specs.Action.{action_of, any_action, is_action_known, is_action_masked}
-use Rattle.oscheck.specs.Check.{core_scripts, isr_sizes, is_isr_script, task_sizes, counter_sizes, start_sizes, alarm_sizes, point_sizes, table_sizes, core_sizes, sizes_of, numbers_of, is_core_timed, is_each_once, are_timed, is_core_near, is_core_script, is_operation_near, is_script_near, is_task_script, is_text_within, are_known, are_near, are_masks, are_operations, tests_of}
-use Rattle.osshape.specs.Declarations.{has_name, id_of, is_alone, place_alone, place_of, names_of, byte_of, number_id, word_of, declarations, counter_ref, declared_by}
-use Rattle.osdraft.specs.Meaning.{alarm_plan, core_plan, isr_plan, point_plan, table_plan, task_plan, resource_plan, counter_plan, start_plan, table_start_plan, plan_of, only_mode}
+use Rattle.oscheck.specs.Check.{core_scripts, isr_sizes, is_isr_script, task_sizes, counter_sizes, start_sizes, alarm_sizes, point_sizes, table_sizes, core_sizes, sizes_of, numbers_of, is_core_timed, is_each_once, are_timed, is_core_mode_known, is_core_near, is_core_script, is_mode_known, is_operation_near, is_script_near, is_task_script, is_text_within, is_unreserved, are_known, are_near, are_masks, are_operations, tests_of}
+use Rattle.osshape.specs.Declarations.{has_name, id_of, is_alone, mode_ref, place_alone, place_of, names_of, byte_of, number_id, word_of, declarations, counter_ref}
+use Rattle.osdraft.specs.Meaning.{alarm_plan, core_mode, core_plan, isr_plan, point_plan, table_plan, task_plan, resource_plan, counter_plan, start_plan, table_start_plan, plan_of}
 use Rattle.oscheck.specs.Posted.{greatest_posted, is_posting, posted_at, posted_at_once}
 use Rattle.osdraft.proofs.Alarms.{acted, action-meant, action-acts, action-passes, action-keeps}
 use Rattle.osshape.proofs.Alone.{alone}
@@ -25,8 +28,8 @@ use Rattle.std.specs.Option.{option_map_or}
 use Rattle.osplan.proofs.Scripts.{all_scripts}
 use Rattle.std.proofs.lemmas.List.{length-map, map-append}
 use Rattle.std.proofs.lemmas.List.Folds.{list_all-map, flat_map-map}
-use Rattle.osplan.specs.Limits.{CounterSizes, IsrSizes, PointSizes, Sizes, StartSizes, TableSizes, TaskSizes, first_offset, is_cycle, is_start_by, is_start_within, is_table_start, most_activations, are_ascending, are_numbers_distinct, is_alarm_within, is_between, is_ceiling, is_counter_within, is_isr_within, is_point_within, is_start, is_table_start_within, is_timed_by, is_table_timed, is_table_within, is_task_within, is_within, last_offset, number_of, same_number, has_number}
-use Rattle.osplan.specs.View.{counter_in}
+use Rattle.osplan.specs.Limits.{CounterSizes, IsrSizes, PointSizes, Sizes, StartSizes, TableSizes, TaskSizes, first_offset, is_cycle, is_start_by, is_start_within, is_table_start, most_activations, are_ascending, are_numbers_distinct, is_alarm_within, is_between, is_ceiling, is_counter_within, is_isr_within, is_point_within, is_start, is_table_start_within, is_timed_by, is_table_timed, is_table_within, is_task_within, is_core_within, is_within, last_offset, number_of, same_number, has_number}
+use Rattle.osplan.specs.View.{core_of, counter_in}
 use Rattle.oscheck.specs.Operation.{operations_of, op_of, is_operation}
 use Rattle.oscheck.proofs.Numbers.{most}
 use Rattle.osdraft.proofs.Found.{IsByte, IsWord, is-byte, is-word, is_inside, cores-inside, numbers-kept, bytes-equal, IsFound, each-found, HasCounters, NamedCounter, named-counter, place-known}
@@ -46,8 +49,8 @@ use Rattle.std.proofs.lemmas.Simd.{map-map}
 use Rattle.oscript.specs.Rows.{is_in_form}
 use Rattle.osbase.specs.Names.{is_name}
 use Rattle.osplan.proofs.EveryKind.{every-kind}
-use Rattle.osshape.specs.Shape.{has_named_objects, numbered, objects_in, unnumbered}
-use Rattle.osshape.proofs.Naming.{names-of-all}
+use Rattle.osshape.specs.Shape.{has_named_objects, is_named, numbered, objects_in, unnumbered}
+use Rattle.osshape.proofs.Naming.{names-of-all, names-of-text}
 use Rattle.oscript.specs.Rows as rows
 use Rattle.osplan.specs.Expressible as said
 use Rattle.osdraft.proofs.Loops.{always}
@@ -147,6 +150,10 @@ table-start-word s counter offset is within h =
 pub cap-byte : (s : Sizes) → is_within s ≡ true → IsByte s.cap
 cap-byte s h = is-byte 1 16 s.cap (grind arith) (omega arith)
 
+-- there are modes
+some-modes : (s : Sizes) → is_within s ≡ true → nat_lt 0 s.modes ≡ true
+some-modes s h = grind arith
+
 -- of a schedule table and its points
 pub record TableLimits (s : TableSizes) : Type 0 where
   pub duration : is_between 1 1000000000 s.duration ≡ true
@@ -164,7 +171,7 @@ table-limits s within timed =
 -- ---- the plan of a text has the text's numbers, those of the counters that alarms and tables name too
 
 start-numbers : (plan : Plan) (objects : List Declaration) (id : CoreId) (name : List ℕ) (auto : Option AlarmStartText) → NamedCounter plan objects id name → is_alarm_within (option_map (start_sizes objects name) auto) ≡ true
-    → option_map (limits.start_sizes (option_map limits.counter_sizes (counter_in plan (counter_ref objects id name)))) (option_map start_plan auto) ≡ option_map (start_sizes objects name) auto
+    → option_map (limits.start_sizes (option_map limits.counter_sizes (counter_in plan (counter_ref objects id name)))) (option_map (start_plan objects) auto) ≡ option_map (start_sizes objects name) auto
 start-numbers plan objects id name None counter within = refl
 start-numbers plan objects id name (Some auto) counter within =
     let words = start-words (start_sizes objects name auto) counter.sizes counter.declared within counter.within in
@@ -172,10 +179,10 @@ start-numbers plan objects id name (Some auto) counter within =
     let cycle : Some (word_of auto.cycle) ≡ auto.cycle = words.1 in
     rw (start, cycle, counter.planned, counter.declared) refl
 
-table-start-numbers : (s : TableSizes) (counter : CounterSizes) (auto : Option TableStartText) → s.counter ≡ Some counter → is_counter_within counter ≡ true → option_map_or (is_table_start_within s) (option_map (λ (auto : TableStartText). auto.offset) auto) true ≡ true
-    → option_map (λ (auto : TableStart). Some auto.offset) (option_map table_start_plan auto) ≡ option_map (λ (auto : TableStartText). auto.offset) auto
-table-start-numbers s counter None is within starts = refl
-table-start-numbers s counter (Some auto) is within starts = ap Some (table-start-word s counter auto.offset is within starts)
+table-start-numbers : (objects : List Declaration) (s : TableSizes) (counter : CounterSizes) (auto : Option TableStartText) → s.counter ≡ Some counter → is_counter_within counter ≡ true → option_map_or (is_table_start_within s) (option_map (λ (auto : TableStartText). auto.offset) auto) true ≡ true
+    → option_map (λ (auto : TableStart). Some auto.offset) (option_map (table_start_plan objects) auto) ≡ option_map (λ (auto : TableStartText). auto.offset) auto
+table-start-numbers objects s counter None is within starts = refl
+table-start-numbers objects s counter (Some auto) is within starts = ap Some (table-start-word s counter auto.offset is within starts)
 
 -- What is known of the core of a text that has no fault.
 abbrev pub is_sound : List Declaration → CoreText → Bool
@@ -248,7 +255,7 @@ module _ (objects : List Declaration) where
       rw (
         duration,
         map-same limits.point_sizes (point_plan objects) point_sizes (λ (point : PointText). is_between 0 1000000000 point.offset) point-numbers table.points offsets,
-        table-start-numbers (table_sizes objects table) named.sizes table.auto named.declared named.within limit.start,
+        table-start-numbers objects (table_sizes objects table) named.sizes table.auto named.declared named.within limit.start,
         named.planned,
         named.declared,
       ) refl
@@ -314,11 +321,14 @@ module _ (t : ConfigText) (tested : Tested t) where
   abbrev declared : List Declaration
   declared = declarations t
 
+  once : (are_numbers_distinct (numbers_of t.cores) ≡ true) × (are_distinct (names_of declared) ≡ true) × (list_all is_unreserved t.modes ≡ true)
+  once = three-parts (are_numbers_distinct (numbers_of t.cores)) (are_distinct (names_of declared)) (list_all is_unreserved t.modes) tested.once
+
   apart : are_distinct (names_of declared) ≡ true
-  apart = (and_parts (are_numbers_distinct (numbers_of t.cores)) (are_distinct (names_of declared)) tested.once).1
+  apart = once.1
 
   pub distinct : are_numbers_distinct (limits.numbers_of (plan_of t).cores) ≡ true
-  distinct = ap are_numbers_distinct (numbers-kept t tested.within) ∙ (and_parts (are_numbers_distinct (numbers_of t.cores)) (are_distinct (names_of declared)) tested.once).0
+  distinct = ap are_numbers_distinct (numbers-kept t tested.within) ∙ once.0
 
   named : Counters (plan_of t) declared
   named name id known = named-counter (plan_of t) t id name apart (cores-have t t.cores (each-found (plan_of t).cores distinct) (cores-inside t tested.within)) known
@@ -330,6 +340,10 @@ module _ (t : ConfigText) (tested : Tested t) where
   plan-numbers =
       let cap : Some (byte_of t.cap) ≡ t.cap = cap-byte (sizes_of t) tested.within in
       rw (cap, map-same (limits.core_sizes (plan_of t)) (core_plan declared) (core_sizes declared) (is_sound declared) (core-numbers declared (plan_of t) apart named) t.cores sound) refl
+
+  -- none of its cores has nobody's number
+  pub by-nobody : core_of (plan_of t) NOBODY ≡ None
+  by-nobody = nobody (plan_of t) (sym (list_all-map is_core_within (limits.core_sizes (plan_of t)) (plan_of t).cores) ∙ (and_parts _ (list_all is_core_within (limits.sizes_of (plan_of t)).cores) (ap is_within plan-numbers ∙ tested.within)).1)
 
   pub plan-timed : list_all (limits.is_core_timed (plan_of t)) (plan_of t).cores ≡ true
   plan-timed = list_all-by (is_sound declared) (limits.is_core_timed (plan_of t)) (core_plan declared) (core-timed declared (plan_of t) apart named) t.cores sound
@@ -359,12 +373,6 @@ near_kept objects = all-same limits.is_core_near (core_plan objects) (is_core_ne
 
 -- ---- the parts of the plan: what each names is there, and a text can say it
 
--- The modes of what starts by itself, where it does: each is the only one.
-modes-pass : {X Y : Type 0} (p : ModeId → Bool) → p only_mode ≡ true → (modes : Y → List ModeId) (plan : X → Y) (names : X → List (List ℕ)) → ((x : X) → modes (plan x) ≡ map (λ (name : List ℕ). only_mode) (names x)) → (o : Option X)
-    → list_all p (option_map_or modes (option_map plan o) []) ≡ true
-modes-pass p only modes plan names are None = refl
-modes-pass p only modes plan names are (Some x) = ap (list_all p) (are x) ∙ list_all-total p (λ (name : List ℕ). only_mode) (λ name. only) (names x)
-
 -- The plans of objects with names in form that are right.
 each-kept : {X Y : Type 0} (named : X → Named) (right : X → Bool) (plan : X → Y) (p q : Y → Bool) → ((x : X) → (is_name (named x).name && right x) ≡ true → (p (plan x) && q (plan x)) ≡ true) → (xs : List X)
     → list_all (λ (n : Named). is_name n.name) (map named xs) ≡ true → list_all right xs ≡ true → (list_all p (map plan xs) && list_all q (map plan xs)) ≡ true
@@ -372,11 +380,11 @@ each-kept named right plan p q each xs names rights =
     all-apart p q (map plan xs) (list_all-by (λ x. is_name (named x).name && right x) (λ y. p y && q y) plan each xs (all-both (λ x. is_name (named x).name) right xs (sym (list_all-map (λ (n : Named). is_name n.name) named xs) ∙ names) rights))
 
 -- An alarm, or a table: its counter, what it does, its modes, and its name.
-acting-kept : (counter known modes name said only : Bool) → counter ≡ true → (known && said) ≡ true → modes ≡ true → name ≡ true → only ≡ true → ((counter && known && modes) && (name && said && only)) ≡ true
-acting-kept counter known modes name said only c k m n o = grind arith
+acting-kept : (counter known modes name said : Bool) → counter ≡ true → (known && said) ≡ true → modes ≡ true → name ≡ true → ((counter && known && modes) && (name && said)) ≡ true
+acting-kept counter known modes name said c k m n = grind arith
 
--- What a name with a place stands for is an object of the plan.
-module _ (t : ConfigText) (places : (kind : ObjectKind) (name : List ℕ) (place : Place) → place_of (declarations t) kind name ≡ Some place → limits.is_object (plan_of t) (record { kind = kind; place = place }) ≡ true) where
+-- What a name with a place stands for is an object of the plan, which has a mode.
+module _ (t : ConfigText) (places : (kind : ObjectKind) (name : List ℕ) (place : Place) → place_of (declarations t) kind name ≡ Some place → limits.is_object (plan_of t) (record { kind = kind; place = place }) ≡ true) (some : nat_lt 0 (length t.modes) ≡ true) where
   abbrev plan : Plan
   plan = plan_of t
 
@@ -400,14 +408,34 @@ module _ (t : ConfigText) (places : (kind : ObjectKind) (name : List ℕ) (place
   op-masked : (text : List ℕ) → has_masks text ≡ true → rows.has_masks (op_of objects text) ≡ true
   op-masked text h = op-passes text rows.has_masks refl (λ op e. meant_masks (place_of objects) text op e ∙ h)
 
+  mode-kept : (name : List ℕ) → is_mode_known objects name ≡ true → limits.is_mode plan (mode_ref objects name) ≡ true
+  mode-kept name known = by (place_of objects ObjectKind.Mode name) refl known
+    where
+      by : (o : Option Place) → place_of objects ObjectKind.Mode name ≡ o → is_some o ≡ true → limits.is_mode plan (mode_ref objects name) ≡ true
+      by None found there = absurd (true≢false (sym there))
+      by (Some place) found there = rw found (mode-there plan place (places ObjectKind.Mode name place found)).1
+
+  -- of what starts by itself, where it does
+  modes-kept : {X Y : Type 0} (modes : Y → List ModeId) (made : X → Y) (names : X → List (List ℕ)) → ((x : X) → modes (made x) ≡ map (mode_ref objects) (names x)) → (o : Option X) → list_all (is_mode_known objects) (option_map_or names o []) ≡ true
+      → list_all (limits.is_mode plan) (option_map_or modes (option_map made o) []) ≡ true
+  modes-kept modes made names are None known = refl
+  modes-kept modes made names are (Some x) known = ap (list_all (limits.is_mode plan)) (are x) ∙ list_all-by (is_mode_known objects) (limits.is_mode plan) (mode_ref objects) mode-kept (names x) known
+
+  core-mode-kept : (mode : Option (List ℕ)) → is_core_mode_known objects mode ≡ true → limits.is_core_mode plan (core_mode objects mode) ≡ true
+  core-mode-kept None known = some
+  core-mode-kept (Some name) known = by (bytes_eq name dont_care) known
+    where
+      by : (any : Bool) → (any || is_mode_known objects name) ≡ true → limits.is_core_mode plan (cond any CoreMode.DontCare (CoreMode.Named (mode_ref objects name))) ≡ true
+      by true h = refl
+      by false h = mode-kept name h
+
   task-kept : (id : CoreId) (task : TaskText) → (is_name task.name && is_right (task_verdict objects id task)) ≡ true → (limits.is_task_known plan (task_plan objects task) && said.is_task_expressible (task_plan objects task)) ≡ true
   task-kept id task h =
       let texts = operations_of task.script in
       let formed = list_all-total is_in_form (op_of objects) op-formed texts in
       let masked = list_all-by has_masks rows.has_masks (op_of objects) op-masked texts (grind arith) in
-      let modes = list_all-total (limits.is_mode plan) (λ (name : List ℕ). only_mode) (λ name. refl) task.auto in
-      let only = list_all-total is_only_mode (λ (name : List ℕ). only_mode) (λ name. refl) task.auto in
-      grind (arith, formed, masked, modes, only)
+      let modes = list_all-by (is_mode_known objects) (limits.is_mode plan) (mode_ref objects) mode-kept task.auto (grind arith) in
+      grind (arith, formed, masked, modes)
 
   isr-kept : (id : CoreId) (isr : IsrText) → (is_name isr.name && is_right (isr_verdict objects id isr.script)) ≡ true → said.is_isr_expressible (isr_plan objects isr) ≡ true
   isr-kept id isr h =
@@ -443,9 +471,8 @@ module _ (t : ConfigText) (places : (kind : ObjectKind) (name : List ℕ) (place
       let both = and_parts (is_name alarm.name) (is_right (alarm_verdict objects id alarm)) h in
       let parts = alarm-parts objects id alarm both.1 in
       let counter = counter-known id alarm.counter (place_of objects ObjectKind.Counter alarm.counter) refl parts.0 in
-      let modes = modes-pass (limits.is_mode plan) refl (λ (auto : AlarmStart). auto.modes) start_plan (λ (auto : AlarmStartText). auto.modes) (λ auto. refl) alarm.auto in
-      let only = modes-pass is_only_mode refl (λ (auto : AlarmStart). auto.modes) start_plan (λ (auto : AlarmStartText). auto.modes) (λ auto. refl) alarm.auto in
-      acting-kept _ _ _ _ _ _ counter (action-kept alarm.action parts.1) modes both.0 only
+      let modes = modes-kept (λ (auto : AlarmStart). auto.modes) (start_plan objects) (λ (auto : AlarmStartText). auto.modes) (λ auto. refl) alarm.auto parts.2 in
+      acting-kept _ _ _ _ _ counter (action-kept alarm.action parts.1) modes both.0
 
   point-kept : (point : PointText) → is_right (point_verdict objects point) ≡ true → list_all is_kept_action (point_plan objects point).actions ≡ true
   point-kept point h = list_all-by (λ (text : List ℕ). is_right (action_verdict objects text)) is_kept_action (action_of objects) action-kept point.actions (of-each (action_verdict objects) point.actions h)
@@ -457,9 +484,8 @@ module _ (t : ConfigText) (places : (kind : ObjectKind) (name : List ℕ) (place
       let counter = counter-known id table.counter (place_of objects ObjectKind.Counter table.counter) refl parts.0 in
       let points = list_all-by (λ (point : PointText). is_right (point_verdict objects point)) (λ (point : ExpiryPoint). list_all is_kept_action point.actions) (point_plan objects) point-kept table.points parts.1 in
       let actions = all-apart (limits.is_action_known plan) said.is_action_expressible (table_actions (table_plan objects id table)) (all-flat is_kept_action (λ (point : ExpiryPoint). point.actions) (map (point_plan objects) table.points) points) in
-      let modes = modes-pass (limits.is_mode plan) refl (λ (auto : TableStart). auto.modes) table_start_plan (λ (auto : TableStartText). auto.modes) (λ auto. refl) table.auto in
-      let only = modes-pass is_only_mode refl (λ (auto : TableStart). auto.modes) table_start_plan (λ (auto : TableStartText). auto.modes) (λ auto. refl) table.auto in
-      acting-kept _ _ _ _ _ _ counter actions modes both.0 only
+      let modes = modes-kept (λ (auto : TableStart). auto.modes) (table_start_plan objects) (λ (auto : TableStartText). auto.modes) (λ auto. refl) table.auto parts.2 in
+      acting-kept _ _ _ _ _ counter actions modes both.0
 
   abbrev is_kept_core : Core → Bool
   is_kept_core core = limits.is_core_known plan core && said.is_core_expressible core
@@ -470,13 +496,13 @@ module _ (t : ConfigText) (places : (kind : ObjectKind) (name : List ℕ) (place
       let both = and_parts (has_named_objects core) (is_right (core_verdict objects core)) h in
       let right = core-right objects core both.1 in
       let named = every-kind (λ (kind : ObjectKind). list_all (λ (named : Named). is_name named.name) (objects_in kind core)) both.0 in
-      let tasks = each-kept (λ (task : TaskText). unnumbered task.name) (λ (task : TaskText). is_right (task_verdict objects id task)) (task_plan objects) (limits.is_task_known plan) said.is_task_expressible (task-kept id) core.tasks (named ObjectKind.Task) right.tasks in
-      let isrs = each-kept (λ (isr : IsrText). unnumbered isr.name) (λ (isr : IsrText). is_right (isr_verdict objects id isr.script)) (isr_plan objects) (λ _. true) said.is_isr_expressible (isr-kept id) core.isrs (named ObjectKind.Isr) right.isrs in
-      let resources = each-kept (λ (resource : ResourceText). unnumbered resource.name) (λ (resource : ResourceText). true) resource_plan (λ _. true) said.is_resource_expressible (λ resource e. grind arith) core.resources (named ObjectKind.Resource) (always core.resources) in
-      let counters = each-kept numbered (λ (counter : CounterText). true) counter_plan (λ _. true) said.is_counter_expressible (λ counter e. grind arith) core.counters (named ObjectKind.Counter) (always core.counters) in
-      let alarms = each-kept (λ (alarm : AlarmText). unnumbered alarm.name) (λ (alarm : AlarmText). is_right (alarm_verdict objects id alarm)) (alarm_plan objects id) (limits.is_alarm_known plan) said.is_alarm_expressible (alarm-kept id) core.alarms (named ObjectKind.Alarm) right.alarms in
-      let tables = each-kept (λ (table : TableText). unnumbered table.name) (λ (table : TableText). is_right (table_verdict objects id table)) (table_plan objects id) (limits.is_table_known plan) said.is_table_expressible (table-kept id) core.tables (named ObjectKind.Table) right.tables in
-      grind (arith, scripts-known core, tasks, isrs, resources, counters, alarms, tables)
+      let tasks = each-kept (λ (task : TaskText). unnumbered task.name) (λ (task : TaskText). is_right (task_verdict objects id task)) (task_plan objects) (limits.is_task_known plan) said.is_task_expressible (task-kept id) core.tasks (named ObjectKind.Task refl) right.tasks in
+      let isrs = each-kept (λ (isr : IsrText). unnumbered isr.name) (λ (isr : IsrText). is_right (isr_verdict objects id isr.script)) (isr_plan objects) (λ _. true) said.is_isr_expressible (isr-kept id) core.isrs (named ObjectKind.Isr refl) right.isrs in
+      let resources = each-kept (λ (resource : ResourceText). unnumbered resource.name) (λ (resource : ResourceText). true) resource_plan (λ _. true) said.is_resource_expressible (λ resource e. grind arith) core.resources (named ObjectKind.Resource refl) (always core.resources) in
+      let counters = each-kept numbered (λ (counter : CounterText). true) counter_plan (λ _. true) said.is_counter_expressible (λ counter e. grind arith) core.counters (named ObjectKind.Counter refl) (always core.counters) in
+      let alarms = each-kept (λ (alarm : AlarmText). unnumbered alarm.name) (λ (alarm : AlarmText). is_right (alarm_verdict objects id alarm)) (alarm_plan objects id) (limits.is_alarm_known plan) said.is_alarm_expressible (alarm-kept id) core.alarms (named ObjectKind.Alarm refl) right.alarms in
+      let tables = each-kept (λ (table : TableText). unnumbered table.name) (λ (table : TableText). is_right (table_verdict objects id table)) (table_plan objects id) (limits.is_table_known plan) said.is_table_expressible (table-kept id) core.tables (named ObjectKind.Table refl) right.tables in
+      grind (arith, core-mode-kept core.mode right.mode, scripts-known core, tasks, isrs, resources, counters, alarms, tables)
 
 master-found : (objects : List Declaration) (cores : List CoreText) (number : Option ℕ) → has_number (numbers_of cores) number ≡ true
     → is_some (find (λ (c : Core). same_core c.id (number_id number)) (map (core_plan objects) cores)) ≡ true
@@ -497,28 +523,31 @@ faultless t none = all-pass (is_text_within t) (is_each_once t) (are_known t) (a
 -- ---- the names of a text are those of its plan
 
 kind-named : (objects : List Declaration) (core : CoreText) (kind : ObjectKind) → names_in kind (core_plan objects core) ≡ map (λ (named : Named). named.name) (objects_in kind core)
-kind-named objects core ObjectKind.Task = simp map-map
+kind-named objects core ObjectKind.Mode = refl
 kind-named objects core kind = simp map-map
 
-names-kept : (objects : List Declaration) (cores : List CoreText) → flat_map said.object_names (map (core_plan objects) cores) ≡ map (λ (d : Declaration). d.name) (flat_map declared_by cores)
-names-kept objects cores = flat_map-map said.object_names (core_plan objects) cores ∙ sym (names-of-all (core_plan objects) (λ core. core) (kind-named objects) cores)
+names-kept : (t : ConfigText) → said.declared_names (plan_of t) ≡ names_of (declarations t)
+names-kept t = names-of-text (plan_of t) t refl (flat_map-map said.object_names (core_plan (declarations t)) t.cores ∙ sym (names-of-all (core_plan (declarations t)) (λ core. core) (kind-named (declarations t)) t.cores))
 
 -- ---- the plan
 
 -- It is a configuration that keeps the limits, and that a text can say.
-pub plan-kept : (t : ConfigText) → list_all has_named_objects t.cores ≡ true → failing (tests_of t) ≡ [] → (limits.is_within_limits (plan_of t) ≡ true) × (said.is_expressible (plan_of t) ≡ true)
+pub plan-kept : (t : ConfigText) → is_named t ≡ true → failing (tests_of t) ≡ [] → (limits.is_within_limits (plan_of t) ≡ true) × (said.is_expressible (plan_of t) ≡ true)
 plan-kept t named none =
     let passed = faultless t none in
     let objects = declarations t in
     let known = and_parts (has_number (numbers_of t.cores) t.master) _ passed.2 in
     let tested : Tested t = record { within = (and_parts (is_between 1 1 t.version) (is_within (sizes_of t)) passed.0).1; once = passed.1; timed = passed.5; right = and_from _ _ (and_from _ _ known.1 passed.4) passed.6 } in
-    let places = place-known t (distinct t tested) in
-    let right = all-both has_named_objects (λ (core : CoreText). is_right (core_verdict objects core)) t.cores named (of-each (core_verdict objects) t.cores tested.right) in
+    let places = place-known t (distinct t tested) (by-nobody t tested) in
+    let names = and_parts (list_all is_name t.modes) (list_all has_named_objects t.cores) named in
+    let once = three-parts (are_numbers_distinct (numbers_of t.cores)) (are_distinct (names_of objects)) (list_all is_unreserved t.modes) tested.once in
+    let some : nat_lt 0 (length t.modes) ≡ true = some-modes (sizes_of t) tested.within in
+    let right = all-both has_named_objects (λ (core : CoreText). is_right (core_verdict objects core)) t.cores names.1 (of-each (core_verdict objects) t.cores tested.right) in
     let cores = all-apart (limits.is_core_known (plan_of t)) said.is_core_expressible (plan_of t).cores
-    (list_all-by (λ (core : CoreText). has_named_objects core && is_right (core_verdict objects core)) (is_kept_core t places) (core_plan objects) (core-kept t places) t.cores right) in
+    (list_all-by (λ (core : CoreText). has_named_objects core && is_right (core_verdict objects core)) (is_kept_core t places some) (core_plan objects) (core-kept t places some) t.cores right) in
     let parts = and_parts (list_all (limits.is_core_known (plan_of t)) (plan_of t).cores) (list_all said.is_core_expressible (plan_of t).cores) cores in
     let sizes = ap is_within (plan-numbers t tested) ∙ tested.within in
     let master = master-found objects t.cores t.master known.0 in
     let near = near_kept objects t.cores passed.6 ∙ passed.3 in
-    let names = ap (λ names. said.are_distinct (mode_name ∷ names)) (names-kept objects t.cores) ∙ (and_parts (are_numbers_distinct (numbers_of t.cores)) _ passed.1).1 in
-    (and_from _ _ (and_from _ _ (and_from _ _ (and_from _ _ (and_from _ _ sizes (distinct t tested)) master) parts.0) near) (plan-timed t tested), and_from _ _ parts.1 names)
+    let modes = all-both is_name is_unreserved t.modes names.0 once.2 in
+    (and_from _ _ (and_from _ _ (and_from _ _ (and_from _ _ (and_from _ _ sizes (distinct t tested)) master) parts.0) near) (plan-timed t tested), and_from _ _ (and_from _ _ modes parts.1) (ap are_distinct (names-kept t) ∙ once.1))

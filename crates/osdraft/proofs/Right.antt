@@ -4,7 +4,7 @@ use Rattle.std.specs.List.{list_all}
 use Rattle.oscheck.specs.Words.{AlarmText, CoreId, CoreText, Declaration, IsrText, ObjectKind, PointText, TableText, TaskText}
 use Rattle.oscheck.specs.declared.verdicts.Verdict.{Verdict}
 use Rattle.oscheck.specs.Action.{is_action_known, is_action_masked}
-use Rattle.oscheck.specs.Check.{alarm_modes, is_mode_name, is_point_known, is_table_acting, is_table_masked, table_modes}
+use Rattle.oscheck.specs.Check.{alarm_modes, is_core_mode_known, is_mode_known, is_point_known, is_table_acting, is_table_masked, table_modes}
 use Rattle.oscheck.specs.Verdict.{action_verdict, alarm_verdict, core_verdict, each, isr_verdict, point_verdict, table_verdict, task_verdict}
 use Rattle.osforms.specs.Action.{is_action}
 use Rattle.osshape.specs.Declarations.{id_of, place_of}
@@ -32,17 +32,18 @@ pub acting-right : (counter known modes masked formed : Bool) → counter ≡ tr
 acting-right counter known modes masked formed c right m = grind arith
 
 pub alarm-parts : (objects : List Declaration) (id : CoreId) (alarm : AlarmText) → is_right (alarm_verdict objects id alarm) ≡ true
-    → (is_some (place_of objects ObjectKind.Counter alarm.counter) ≡ true) × (is_right (action_verdict objects alarm.action) ≡ true) × (list_all is_mode_name (alarm_modes alarm) ≡ true)
-alarm-parts objects id alarm h = acting-parts (is_some (place_of objects ObjectKind.Counter alarm.counter)) (is_action_known objects alarm.action) (list_all is_mode_name (alarm_modes alarm)) (is_action_masked alarm.action) (is_action alarm.action) h
+    → (is_some (place_of objects ObjectKind.Counter alarm.counter) ≡ true) × (is_right (action_verdict objects alarm.action) ≡ true) × (list_all (is_mode_known objects) (alarm_modes alarm) ≡ true)
+alarm-parts objects id alarm h = acting-parts (is_some (place_of objects ObjectKind.Counter alarm.counter)) (is_action_known objects alarm.action) (list_all (is_mode_known objects) (alarm_modes alarm)) (is_action_masked alarm.action) (is_action alarm.action) h
 
 pub table-parts : (objects : List Declaration) (id : CoreId) (table : TableText) → is_right (table_verdict objects id table) ≡ true
-    → (is_some (place_of objects ObjectKind.Counter table.counter) ≡ true) × (list_all (λ (point : PointText). is_right (point_verdict objects point)) table.points ≡ true) × (list_all is_mode_name (table_modes table) ≡ true)
+    → (is_some (place_of objects ObjectKind.Counter table.counter) ≡ true) × (list_all (λ (point : PointText). is_right (point_verdict objects point)) table.points ≡ true) × (list_all (is_mode_known objects) (table_modes table) ≡ true)
 table-parts objects id table h =
-    let parts = acting-parts (is_some (place_of objects ObjectKind.Counter table.counter)) (list_all (is_point_known objects) table.points) (list_all is_mode_name (table_modes table)) (is_table_masked table) (is_table_acting table) h in
+    let parts = acting-parts (is_some (place_of objects ObjectKind.Counter table.counter)) (list_all (is_point_known objects) table.points) (list_all (is_mode_known objects) (table_modes table)) (is_table_masked table) (is_table_acting table) h in
     (parts.0, of-each (point_verdict objects) table.points parts.1, parts.2)
 
--- Of a core, those of its objects that say anything but numbers.
+-- Of a core, its mode, and those of its objects that say anything but numbers.
 pub record CoreRight (objects : List Declaration) (core : CoreText) : Type 0 where
+  pub mode : is_core_mode_known objects core.mode ≡ true
   pub tasks : list_all (λ (task : TaskText). is_right (task_verdict objects (id_of core) task)) core.tasks ≡ true
   pub isrs : list_all (λ (isr : IsrText). is_right (isr_verdict objects (id_of core) isr.script)) core.isrs ≡ true
   pub alarms : list_all (λ (alarm : AlarmText). is_right (alarm_verdict objects (id_of core) alarm)) core.alarms ≡ true
@@ -50,6 +51,7 @@ pub record CoreRight (objects : List Declaration) (core : CoreText) : Type 0 whe
 
 pub core-right : (objects : List Declaration) (core : CoreText) → is_right (core_verdict objects core) ≡ true → CoreRight objects core
 core-right objects core h = record {
+  mode = grind arith;
   tasks = of-each (task_verdict objects (id_of core)) core.tasks (grind arith);
   isrs = of-each (λ (isr : IsrText). isr_verdict objects (id_of core) isr.script) core.isrs (grind arith);
   alarms = of-each (alarm_verdict objects (id_of core)) core.alarms (grind arith);

@@ -1,29 +1,31 @@
 -- The configuration that a text means, and the faults that a text has. [own]
-use Rattle.std.specs.Prelude.{ℕ, Option, option_and_then, option_map, List, [], ◌∷◌, map}
+use Rattle.std.specs.Prelude.{ℕ, if◌then◌else◌, Option, Some, None, option_and_then, option_map, List, [], ◌∷◌, map}
 use Rattle.std.specs.Option.{option_map_or}
-use Rattle.oscheck.specs.Words.{Alarm, AlarmStart, AlarmStartText, AlarmText, ConfigText, Core, CoreId, CoreText, Counter, CounterText, Declaration, ExpiryPoint, Isr, IsrText, ModeId, Plan, PointText, Resource, ResourceText, Table, TableStart, TableStartText, TableText, Task, TaskText}
-use Rattle.osbase.specs.declared.items.CoreMode.TheVariants.{Named}
+use Rattle.std.specs.Str.{bytes_eq}
+use Rattle.oscheck.specs.Words.{Alarm, AlarmStart, AlarmStartText, AlarmText, ConfigText, Core, CoreId, CoreMode, CoreText, Counter, CounterText, Declaration, ExpiryPoint, Isr, IsrText, Plan, PointText, Resource, ResourceText, Table, TableStart, TableStartText, TableText, Task, TaskText}
+use Rattle.osbase.specs.declared.items.CoreMode.TheVariants.{DontCare, Named}
 use Rattle.serde_json.specs.Data.{Data}
 use Rattle.serde_json.specs.Read.{read}
 use Rattle.osplan.specs.declared.faults.ConfFault.{ConfFault}
 use Rattle.osplan.specs.declared.faults.ConfFault.TheVariants.{NotJson, Shape}
-use Rattle.osplan.specs.Expressible.{mode_name}
+use Rattle.osplan.specs.Expressible.{dont_care}
 use Rattle.osplan.specs.Fault.{IsLeast, failing, if_faultless}
 use Rattle.osshape.specs.Shape.{config_shape}
 use Rattle.oscheck.specs.Action.{action_of}
-use Rattle.osshape.specs.Declarations.{byte_of, counter_ref, declarations, number_id, id_of, word_of}
+use Rattle.osshape.specs.Declarations.{byte_of, counter_ref, declarations, mode_ref, number_id, id_of, word_of}
 use Rattle.oscheck.specs.Operation.{operations_of, op_of}
 use Rattle.oscheck.specs.Check.{tests_of}
 
--- There is one mode, of number 0.
-abbrev pub only_mode : ModeId
-only_mode = record { index = 0 }
+-- The mode of a core: the first where it says nothing of it, and none where it goes with any. [AUTOSAR SWS OS 4.x, DONOTCARE; the first is own]
+abbrev pub core_mode : List Declaration → Option (List ℕ) → CoreMode
+core_mode objects None = Named (record { index = 0 })
+core_mode objects (Some name) = if bytes_eq name dont_care then DontCare else Named (mode_ref objects name)
 
 abbrev pub task_plan : List Declaration → TaskText → Task
 task_plan objects task = record {
   name = task.name;
   priority = byte_of task.prio;
-  auto = map (λ (name : List ℕ). only_mode) task.auto;
+  auto = map (mode_ref objects) task.auto;
   activations = byte_of task.activations;
   extended = task.extended;
   preemptable = task.preemptable;
@@ -45,8 +47,8 @@ resource_plan resource = record { name = resource.name; ceiling = byte_of resour
 abbrev pub counter_plan : CounterText → Counter
 counter_plan counter = record { name = counter.name; max = word_of counter.max; min = word_of counter.min; software = counter.software }
 
-abbrev pub start_plan : AlarmStartText → AlarmStart
-start_plan auto = record { modes = map (λ (name : List ℕ). only_mode) auto.modes; start = word_of auto.start; cycle = word_of auto.cycle }
+abbrev pub start_plan : List Declaration → AlarmStartText → AlarmStart
+start_plan objects auto = record { modes = map (mode_ref objects) auto.modes; start = word_of auto.start; cycle = word_of auto.cycle }
 
 -- Of an alarm of the core of this number.
 abbrev pub alarm_plan : List Declaration → CoreId → AlarmText → Alarm
@@ -54,14 +56,14 @@ alarm_plan objects id alarm = record {
   name = alarm.name;
   counter = counter_ref objects id alarm.counter;
   action = action_of objects alarm.action;
-  auto = option_map start_plan alarm.auto;
+  auto = option_map (start_plan objects) alarm.auto;
 }
 
 abbrev pub point_plan : List Declaration → PointText → ExpiryPoint
 point_plan objects point = record { offset = word_of point.offset; actions = map (action_of objects) point.actions }
 
-abbrev pub table_start_plan : TableStartText → TableStart
-table_start_plan auto = record { modes = map (λ (name : List ℕ). only_mode) auto.modes; offset = word_of auto.offset }
+abbrev pub table_start_plan : List Declaration → TableStartText → TableStart
+table_start_plan objects auto = record { modes = map (mode_ref objects) auto.modes; offset = word_of auto.offset }
 
 -- Of a schedule table of the core of this number.
 abbrev pub table_plan : List Declaration → CoreId → TableText → Table
@@ -71,13 +73,13 @@ table_plan objects id table = record {
   duration = word_of table.duration;
   repeating = table.repeating;
   points = map (point_plan objects) table.points;
-  auto = option_map table_start_plan table.auto;
+  auto = option_map (table_start_plan objects) table.auto;
 }
 
 abbrev pub core_plan : List Declaration → CoreText → Core
 core_plan objects core = record {
   id = id_of core;
-  mode = Named only_mode;
+  mode = core_mode objects core.mode;
   start = map number_id core.start;
   protection = core.protection;
   tasks = map (task_plan objects) core.tasks;
@@ -92,7 +94,7 @@ abbrev pub plan_of : ConfigText → Plan
 plan_of t = record {
   cap = byte_of t.cap;
   master = number_id t.master;
-  modes = mode_name ∷ [];
+  modes = t.modes;
   cores = map (core_plan (declarations t)) t.cores;
 }
 

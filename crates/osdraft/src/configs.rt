@@ -1,10 +1,9 @@
 //! Reading a configuration.
 
 ghost use Rattle.std.specs.Prelude.{◌≡◌, ◌≢◌, IfOk, IfErr, IsTrue, Some, []};
-ghost use Rattle.std.specs.List.{list_all};
 ghost use Rattle.serde_json.specs.Read.{read};
 ghost use Rattle.serde_json.specs.View.{view};
-ghost use Rattle.osshape.specs.Shape.{config_shape, has_named_objects};
+ghost use Rattle.osshape.specs.Shape.{config_shape, is_named};
 ghost use Rattle.osplan.specs.Fault.{failing, first_fault, GivesOr};
 ghost use Rattle.oscheck.specs.Check.{tests_of};
 ghost use Rattle.osdraft.specs.Meaning.{plan_of, config_of, IsLeastFault};
@@ -30,7 +29,7 @@ fn json_of(alloc: Global, text: &str) -> Result<Value, ConfFault>
 
 fn shape_of(alloc: Global, value: &Value) -> Result<ConfigText<'_>, ConfFault>
     ensures shape { GivesOr ConfFault.Shape (λ x. x) result (config_shape (view value.now)) }
-    ensures named { IfOk result (λ text. IsTrue (list_all has_named_objects text.cores)) }
+    ensures named { IfOk result (λ text. IsTrue (is_named text)) }
 {
     match ConfigReader.read(alloc, value) {
         Ok(text) => Ok(text),
@@ -42,7 +41,7 @@ fn shape_of(alloc: Global, value: &Value) -> Result<ConfigText<'_>, ConfFault>
 // The plan of a text without a fault. Its parts are made where they are judged.
 #[tactic(auto, using(oscheck::proofs::Counting::within_split, oscheck::proofs::Counting::too_many, crate::proofs::Loops::no_fault))]
 fn plan_if_faultless(alloc: Global, text: &ConfigText) -> Result<Plan, ConfFault>
-    requires named { IsTrue (list_all has_named_objects text.now.cores) }
+    requires named { IsTrue (is_named text.now) }
     ensures ok { IfOk result (λ plan. (failing (tests_of text.now) ≡ []) × (plan ≡ plan_of text.now)) }
     ensures fault { IfErr result (λ fault. fault ≢ ConfFault.NoMemory → first_fault (failing (tests_of text.now)) ≡ Some fault) }
 {

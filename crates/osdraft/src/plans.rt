@@ -1,33 +1,62 @@
 //! The plan of a text, which is made while its names and operations are judged.
 
-ghost use Rattle.std.specs.Prelude.{◌≡◌, ℕ, IfOk, List as Items, map, option_map, true};
-ghost use Rattle.osshape.specs.Declarations.{declarations, number_id};
+ghost use Rattle.std.specs.Prelude.{◌≡◌, IfOk, map, option_map, true};
+ghost use Rattle.osshape.specs.Declarations.{declarations, mode_ref, number_id};
 ghost use Rattle.oscheck.specs.Check.{are_scripts_short, is_core_short, is_script_short};
 ghost use Rattle.oscheck.specs.Verdict.{Judges, alarm_verdict, all_right, core_verdict, isr_verdict, task_verdict, text_verdict};
-ghost use Rattle.osdraft.specs.Meaning.{only_mode, task_plan, isr_plan, resource_plan, counter_plan, start_plan, alarm_plan, core_plan, plan_of};
+ghost use Rattle.osdraft.specs.Meaning.{core_mode, task_plan, isr_plan, resource_plan, counter_plan, start_plan, alarm_plan, core_plan, plan_of};
 
 use crate::planners::{Planner, plan_each};
 use osbase::{CoreId, CoreMode, List, ModeId, Name};
 use oscheck::{
-    Judged, Verdict, are_alarm_modes, are_mode_names, judge_action, judge_counter,
-    judge_isr_script, judge_script,
+    Judged, Verdict, are_alarm_modes_known, are_modes_known, is_core_mode_known, judge_action,
+    judge_counter, judge_isr_script, judge_script,
 };
-use osplan::{Alarm, AlarmStart, ConfFault, Core, Counter, Isr, Plan, Resource, Task};
+use osplan::{Alarm, AlarmStart, ConfFault, Core, Counter, DONT_CARE, Isr, Plan, Resource, Task};
 use osread::{Text, Whole};
 use osshape::{
-    AlarmStartText, AlarmText, ConfigText, CoreText, CounterText, IsrText, MODE, Objects,
-    ResourceText, TaskText, byte_of, number_id, word_of,
+    AlarmStartText, AlarmText, ConfigText, CoreText, CounterText, IsrText, Objects, ResourceText,
+    TaskText, byte_of, number_id, word_of,
 };
 use std::alloc::{AllocError, Global};
 
-/// The only mode.
-const ONLY_MODE: ModeId = ModeId { index: 0 };
+/// The first mode, of a core whose text says nothing of it.
+const FIRST_MODE: ModeId = ModeId { index: 0 };
 
-/// The modes of an autostart, each of which is the only one.
-pub fn modes_of(alloc: Global, names: &[Text]) -> Result<Vec<ModeId>, AllocError>
-    ensures { IfOk result (λ modes. modes.items ≡ map (λ (name : Items ℕ). only_mode) names.now) }
+/// The modes of these names.
+pub fn modes_of(alloc: Global, objects: &Objects, names: &[Text]) -> Result<Vec<ModeId>, AllocError>
+    ensures { IfOk result (λ modes. modes.items ≡ map (mode_ref objects.now.declared) names.now) }
 {
-    names.iter().map(|_| ONLY_MODE).collect(alloc)
+    names
+        .iter()
+        .map(|name| objects.mode(name.as_str()))
+        .collect(alloc)
+}
+
+// The mode of a core.
+fn core_mode(objects: &Objects, mode: &Option<Text>) -> CoreMode
+    ensures { result ≡ core_mode objects.now.declared mode.now }
+{
+    match mode {
+        None => CoreMode::Named(FIRST_MODE),
+        Some(name) => {
+            if name.as_str() == DONT_CARE {
+                CoreMode::DontCare
+            } else {
+                CoreMode::Named(objects.mode(name.as_str()))
+            }
+        }
+    }
+}
+
+fn names_of(alloc: Global, texts: &[Text]) -> Result<List<Name>, AllocError>
+    ensures { IfOk result (λ names. names ≡ texts.now) }
+{
+    let mut names = List::new(alloc);
+    for text in texts {
+        names.push(Name::new(alloc, text.as_str())?)?;
+    }
+    Ok(names)
 }
 
 /// Makes the plans of the objects of a core.
@@ -50,7 +79,7 @@ impl<'e> Planner<'e, TaskText<'e>, Task> for CorePlanner<'_, 'e> {
             value: Task {
                 name: Name::new(alloc, task.name.as_str())?,
                 priority: byte_of(task.prio),
-                auto: List::from_vec(modes_of(alloc, task.auto.as_slice())?),
+                auto: List::from_vec(modes_of(alloc, self.objects, task.auto.as_slice())?),
                 activations: byte_of(task.activations),
                 extended: task.extended,
                 preemptable: task.preemptable,
@@ -59,7 +88,7 @@ impl<'e> Planner<'e, TaskText<'e>, Task> for CorePlanner<'_, 'e> {
             },
             verdict: script
                 .verdict
-                .with_names(are_mode_names(task.auto.as_slice())),
+                .with_names(are_modes_known(self.objects, task.auto.as_slice())),
         })
     }
 }
@@ -131,21 +160,29 @@ impl<'e> Planner<'e, CounterText<'e>, Counter> for CorePlanner<'_, 'e> {
     }
 }
 
-fn start_of(alloc: Global, auto: &AlarmStartText) -> Result<AlarmStart, AllocError>
-    ensures { IfOk result (λ start. start ≡ start_plan auto.now) }
+fn start_of(
+    alloc: Global,
+    objects: &Objects,
+    auto: &AlarmStartText,
+) -> Result<AlarmStart, AllocError>
+    ensures { IfOk result (λ start. start ≡ start_plan objects.now.declared auto.now) }
 {
     Ok(AlarmStart {
-        modes: List::from_vec(modes_of(alloc, auto.modes.as_slice())?),
+        modes: List::from_vec(modes_of(alloc, objects, auto.modes.as_slice())?),
         start: word_of(auto.start),
         cycle: word_of(auto.cycle),
     })
 }
 
-fn auto_of(alloc: Global, auto: &Option<AlarmStartText>) -> Result<Option<AlarmStart>, AllocError>
-    ensures { IfOk result (λ start. start ≡ option_map start_plan auto.now) }
+fn auto_of(
+    alloc: Global,
+    objects: &Objects,
+    auto: &Option<AlarmStartText>,
+) -> Result<Option<AlarmStart>, AllocError>
+    ensures { IfOk result (λ start. start ≡ option_map (start_plan objects.now.declared) auto.now) }
 {
     match auto {
-        Some(auto) => Ok(Some(start_of(alloc, auto)?)),
+        Some(auto) => Ok(Some(start_of(alloc, objects, auto)?)),
         None => Ok(None),
     }
 }
@@ -165,10 +202,12 @@ impl<'e> Planner<'e, AlarmText<'e>, Alarm> for CorePlanner<'_, 'e> {
                 name: Name::new(alloc, alarm.name.as_str())?,
                 counter: counter.value,
                 action: action.value,
-                auto: auto_of(alloc, &alarm.auto)?,
+                auto: auto_of(alloc, self.objects, &alarm.auto)?,
             },
             verdict: Verdict {
-                known: counter.verdict.known && action.verdict.known && are_alarm_modes(alarm),
+                known: counter.verdict.known
+                    && action.verdict.known
+                    && are_alarm_modes_known(self.objects, alarm),
                 near: counter.verdict.near,
                 masked: action.verdict.masked,
                 formed: action.verdict.formed,
@@ -215,7 +254,7 @@ impl<'e> Planner<'e, CoreText<'e>, Core> for TextPlanner<'_, 'e> {
         Ok(Judged {
             value: Core {
                 id,
-                mode: CoreMode::Named(ONLY_MODE),
+                mode: core_mode(self.objects, &core.mode),
                 start: List::from_vec(ids_of(alloc, core.start.as_slice())?),
                 protection: core.protection,
                 tasks: tasks.value,
@@ -229,7 +268,8 @@ impl<'e> Planner<'e, CoreText<'e>, Core> for TextPlanner<'_, 'e> {
                 .verdict
                 .and(isrs.verdict)
                 .and(alarms.verdict)
-                .and(tables.verdict),
+                .and(tables.verdict)
+                .with_names(is_core_mode_known(self.objects, &core.mode)),
         })
     }
 }
@@ -245,13 +285,11 @@ pub fn plan_of<'e>(
     ensures { Judges result (are_scripts_short text.now) (plan_of text.now) (text_verdict text.now) }
 {
     let cores = plan_each(alloc, &TextPlanner { objects }, text.cores.as_slice())?;
-    let mut modes = List::new(alloc);
-    modes.push(Name::new(alloc, MODE)?)?;
     Ok(Judged {
         value: Plan {
             cap: byte_of(text.cap),
             master: number_id(text.master),
-            modes,
+            modes: names_of(alloc, text.modes.as_slice())?,
             cores: cores.value,
         },
         verdict: cores.verdict,

@@ -8,10 +8,10 @@ ghost use Rattle.osdraft.specs.Meaning.{point_plan, table_plan, table_start_plan
 use crate::planners::{Planner, plan_each};
 use crate::plans::{CorePlanner, modes_of};
 use osbase::{List, Name, RemoteCall};
-use oscheck::{Judged, Verdict, are_table_modes, judge_action, judge_counter};
+use oscheck::{Judged, Verdict, are_table_modes_known, judge_action, judge_counter};
 use osplan::{ConfFault, ExpiryPoint, Table, TableStart};
 use osread::Text;
-use osshape::{PointText, TableStartText, TableText, word_of};
+use osshape::{Objects, PointText, TableStartText, TableText, word_of};
 use std::alloc::{AllocError, Global};
 
 impl<'e> Planner<'e, Text<'e>, RemoteCall> for CorePlanner<'_, 'e> {
@@ -53,20 +53,28 @@ impl<'e> Planner<'e, PointText<'e>, ExpiryPoint> for CorePlanner<'_, 'e> {
     }
 }
 
-fn start_of(alloc: Global, auto: &TableStartText) -> Result<TableStart, AllocError>
-    ensures { IfOk result (λ start. start ≡ table_start_plan auto.now) }
+fn start_of(
+    alloc: Global,
+    objects: &Objects,
+    auto: &TableStartText,
+) -> Result<TableStart, AllocError>
+    ensures { IfOk result (λ start. start ≡ table_start_plan objects.now.declared auto.now) }
 {
     Ok(TableStart {
-        modes: List::from_vec(modes_of(alloc, auto.modes.as_slice())?),
+        modes: List::from_vec(modes_of(alloc, objects, auto.modes.as_slice())?),
         offset: word_of(auto.offset),
     })
 }
 
-fn auto_of(alloc: Global, auto: &Option<TableStartText>) -> Result<Option<TableStart>, AllocError>
-    ensures { IfOk result (λ start. start ≡ option_map table_start_plan auto.now) }
+fn auto_of(
+    alloc: Global,
+    objects: &Objects,
+    auto: &Option<TableStartText>,
+) -> Result<Option<TableStart>, AllocError>
+    ensures { IfOk result (λ start. start ≡ option_map (table_start_plan objects.now.declared) auto.now) }
 {
     match auto {
-        Some(auto) => Ok(Some(start_of(alloc, auto)?)),
+        Some(auto) => Ok(Some(start_of(alloc, objects, auto)?)),
         None => Ok(None),
     }
 }
@@ -89,10 +97,12 @@ impl<'e> Planner<'e, TableText<'e>, Table> for CorePlanner<'_, 'e> {
                 duration: word_of(table.duration),
                 repeating: table.repeating,
                 points: points.value,
-                auto: auto_of(alloc, &table.auto)?,
+                auto: auto_of(alloc, self.objects, &table.auto)?,
             },
             verdict: Verdict {
-                known: counter.verdict.known & points.verdict.known & are_table_modes(table),
+                known: counter.verdict.known
+                    & points.verdict.known
+                    & are_table_modes_known(self.objects, table),
                 near: counter.verdict.near,
                 masked: points.verdict.masked,
                 formed: points.verdict.formed,

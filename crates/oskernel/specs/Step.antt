@@ -149,10 +149,10 @@ receives from (Message.Value status n) = look (λ s. closes s.awaits status (Som
 abbrev pub calls_shutdown_hook : Status → Acts
 calls_shutdown_hook status = look (λ s. when (is_down s.course) nothing (prints (Mark.ShutdownHook status)))
 
--- The end of a core: who asked first for a shutdown of all cores, and with which status, if one was asked for. [own]
-abbrev pub ends : Option (CoreId × Status) → Acts
-ends None = nothing
-ends (Some asked) = calls_shutdown_hook asked.1
+-- The end of a core: if a shutdown of all cores was asked for, ShutdownHook is called with its status. [own]
+abbrev pub ends_core : Option (CoreId × Status) → Acts
+ends_core None = nothing
+ends_core (Some asked) = calls_shutdown_hook asked.1
 
 -- What follows from an item at once, in the history with it. Those of spinlocks cannot be taken yet.
 -- [OSEK/VDX OS 2.2.3, section 11.3; AUTOSAR SWS OS 4.x, SWS_Os_00608 to SWS_Os_00610; items are this project's own]
@@ -163,7 +163,7 @@ effect (Item.Pass2 cores) = look (λ s. starts s.agreement s.core)
 effect (Item.Stim stimulus) = stimulates stimulus
 effect (Item.Received from number message) = receives from message
 effect (Item.Halt core status) = prints (Mark.Halted core status)
-effect (Item.Last shutdown) = ends shutdown
+effect (Item.Last shutdown) = ends_core shutdown
 effect item = nothing
 
 -- PostTaskHook of the current task, if there is one, and PreTaskHook of the runner's.

@@ -25,7 +25,7 @@ abbrev pub post_or : Want → List Sent → Want
 post_or want [] = want
 post_or want (s ∷ ss) = Post s.to
 
--- ShutdownAllCores asks the other cores, and what waits for a reply only waits.
+-- ShutdownAllCores asks for the shutdown of all cores, and what waits for a reply only waits.
 -- [AUTOSAR SWS OS 4.x, ShutdownAllCores; that a turn of its own asks is this project's own]
 abbrev pub want_for : Awaited → Want
 want_for (Awaited.Halt status) = AskHalt status

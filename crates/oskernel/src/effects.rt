@@ -14,7 +14,7 @@ ghost use Rattle.osact.specs.Acts.{does, look, prints};
 ghost use Rattle.oscall.specs.Border.{is_served};
 ghost use Rattle.oskernel.specs.Admission.{admits};
 ghost use Rattle.oskernel.specs.Bounded.{step_entries};
-ghost use Rattle.oskernel.specs.Step.{calls_shutdown_hook, closes, effect, ends, gate_mark, goes_on, receives, stimulates};
+ghost use Rattle.oskernel.specs.Step.{calls_shutdown_hook, closes, effect, ends_core, gate_mark, goes_on, receives, stimulates};
 ghost use Rattle.oskernel.specs.Taking.{TakesItem, is_acting, is_answered, is_filling, is_going_on, is_known, is_request, is_second_gate};
 
 use crate::interrupts::raise;
@@ -114,7 +114,7 @@ fn follow<const P: usize, const J: usize, const OUT: usize>(
     }
 }
 
-// All cores are halted, as this one asked first with this status.
+// The core is halted, as this core asked first with this status.
 fn print_halt<const P: usize, const J: usize, const OUT: usize>(
     state: &mut CoreState<'_, P, J, OUT>,
     core: CoreId,
@@ -128,14 +128,14 @@ fn print_halt<const P: usize, const J: usize, const OUT: usize>(
     state.print(mark, marks);
 }
 
-// The end of a core: who asked first for a shutdown of all cores, if one was asked for.
+// The end of a core: if a shutdown of all cores was asked for, ShutdownHook is called with its status.
 fn end<const P: usize, const J: usize, const OUT: usize>(
     state: &mut CoreState<'_, P, J, OUT>,
     shutdown: Option<(CoreId, Status)>,
     marks: &mut Vec<Mark>,
 )
     requires { HasRoom 1 1 state.old marks.old }
-    ensures { Effects 1 1 (does (ends shutdown)) state.old state.new marks.old marks.new }
+    ensures { Effects 1 1 (does (ends_core shutdown)) state.old state.new marks.old marks.new }
 {
     if let Some((_, status)) = shutdown {
         call_shutdown_hook(state, status, marks);
@@ -168,6 +168,7 @@ fn first_gate_mark(agreement: Agreement) -> Mark
 }
 
 // A stimulus: one operation of the running job or its end, a tick, or an interrupt.
+#[inline(always)]
 fn go_on<const P: usize, const J: usize, const OUT: usize>(
     state: &mut CoreState<'_, P, J, OUT>,
     stimulus: Stimulus,

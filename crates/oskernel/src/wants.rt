@@ -64,7 +64,7 @@ pub(crate) fn want_call(open_call: Option<OpenCall>, want: Want) -> Want
     }
 }
 
-// ShutdownAllCores asks the other cores, and what waits for a reply only waits.
+// ShutdownAllCores asks for the shutdown of all cores, and what waits for a reply only waits.
 fn want_for(awaits: Awaited) -> Want
     ensures { result ≡ want_for awaits }
 {

@@ -39,14 +39,12 @@ use Rattle.osplan.specs.Expressible.{is_expressible}
 use Rattle.osplan.specs.Limits.{is_object, is_within_limits}
 use Rattle.osplan.specs.Names.{name_of}
 use Rattle.osplan.specs.declared.plans.Plan.{Plan}
-use Rattle.oslog.specs.Naming.{if_object, name_of_named, named_by, place_named}
+use Rattle.oslog.specs.Naming.{if_object, name_of_object, named_by, place_named}
 use Rattle.oslog.specs.Words.{call_in, call_of, op_said}
-use Rattle.oslog.specs.declared.names.Named.{Named}
-use Rattle.oslog.specs.declared.names.Named.TheVariants as N
 use Rattle.oslog.specs.Logs.{is_call_representable}
 use Rattle.oslog.proofs.WordKinds.{int-word, number-word, place-spells, place-there}
 use Rattle.oslog.proofs.Joining.{end-apart, joined-parts, split-none}
-use Rattle.oslog.proofs.Named.{is_there, named-formed, named-there, place-found}
+use Rattle.oslog.proofs.Named.{named-formed, named-there, place-found}
 
 -- ---- calls
 

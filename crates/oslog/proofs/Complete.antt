@@ -26,7 +26,7 @@ use Rattle.osforms.proofs.RoundTrip.{space-apart}
 use Rattle.osplan.proofs.Tests.{all-append}
 use Rattle.osplan.specs.Expressible.{is_expressible}
 use Rattle.osplan.specs.Limits.{is_within_limits}
-use Rattle.osplan.specs.Names.{isr_name}
+use Rattle.osplan.specs.Names.{isr_name, name_of_mode}
 use Rattle.osplan.specs.declared.plans.Plan.{Plan}
 use Rattle.oslog.specs.Forms.{form_of}
 use Rattle.oslog.specs.Items.{first_item, item_as, item_meant, later_words, led, line_of}
@@ -45,7 +45,8 @@ use Rattle.oslog.specs.declared.rows.TheConstants.{LINES}
 use Rattle.oslog.proofs.Calls.{call-read}
 use Rattle.oslog.proofs.Cores.{cores-none, cores-read}
 use Rattle.oslog.proofs.Joining.{end-apart, led-joined}
-use Rattle.oslog.proofs.Named.{mode-found, mode-only, object-formed, place-found}
+use Rattle.oslog.proofs.Named.{mode-found, object-formed, place-found}
+use Rattle.osplan.proofs.ModeObjects.{mode-said}
 use Rattle.oslog.proofs.Sound.{is_tail_representable}
 use Rattle.oslog.proofs.WordKinds.{is_part_representable}
 
@@ -86,6 +87,9 @@ module _ (byte : ℕ) (apart : IsApart byte) where
   number-none : (high n : ℕ) → n ≤ high → high < 2 ^ 64 → has_none byte (decimal n) ≡ true
   number-none high n most short = arg_of-none byte (operation.Kind.Number 0 high) (decimal n) (Number n) apart (ap (option_map Number) (number-back 0 high n (omega arith) most (omega arith)))
 
+  name-none : (name : List ℕ) → is_name name ≡ true → has_none byte name ≡ true
+  name-none name formed = arg_of-none byte (operation.Kind.Object ObjectKind.Isr) name (Object ObjectKind.Isr (Some name)) apart (name-back ObjectKind.Isr name formed)
+
 module _ (plan : Plan) (limits : IsTrue (is_within_limits plan)) (expressible : IsTrue (is_expressible plan)) where
   part-none : (byte : ℕ) → IsApart byte → (byte ≡ 32) ⊎ (byte ≡ 10) → (k : Kind) (q : Parts) → is_part_representable plan q k ≡ true → has_none byte (word_text plan q k) ≡ true
   part-none byte apart which (K.Keyword word) q representable = all-none is_name_part byte (keyword_text word) apart.part (word-parts word)
@@ -93,11 +97,11 @@ module _ (plan : Plan) (limits : IsTrue (is_within_limits plan)) (expressible : 
   part-none byte apart which K.Count q representable = number-none byte apart 18446744073709551615 q.count (leb-true q.count 18446744073709551615 representable) (omega arith)
   part-none byte apart which K.Status q representable = all-none is_name_part byte (status_name q.status) apart.part (status-parts q.status)
   part-none byte apart which K.Value q representable = arg_of-none byte operation.Kind.Int (signed_decimal q.value) (Int q.value) apart (int-back q.value representable)
-  part-none byte apart which K.Mode q representable = ap (has_none byte) (mode-only plan limits expressible q.mode representable) ∙ all-none is_name_part byte (77 ∷ []) apart.part refl
+  part-none byte apart which K.Mode q representable = name-none byte apart (name_of_mode plan q.mode) (mode-said plan expressible q.mode representable).in_form
   part-none byte apart which K.Irq q representable =
       let name = isr_name plan q.isr in
       let formed : is_name name ≡ true = object-formed plan limits expressible (isr_object q.isr) representable in
-      list_all-append (λ b. not (b == byte)) irq_prefix name ∙ and_from _ _ (prefix-none byte which) (arg_of-none byte (operation.Kind.Object ObjectKind.Isr) name (Object ObjectKind.Isr (Some name)) apart (name-back ObjectKind.Isr name formed))
+      list_all-append (λ b. not (b == byte)) irq_prefix name ∙ and_from _ _ (prefix-none byte which) (name-none byte apart name formed)
   part-none byte apart which K.Spinlock q representable = absurd (false≢true representable)
 
   parts-none : (byte : ℕ) → IsApart byte → (byte ≡ 32) ⊎ (byte ≡ 10) → (ks : List Kind) (q : Parts) → list_all (is_part_representable plan q) ks ≡ true → list_all (has_none byte) (map (word_text plan q) ks) ≡ true
@@ -144,7 +148,9 @@ module _ (plan : Plan) (limits : IsTrue (is_within_limits plan)) (expressible : 
   words-read (Item.Began core status) representable = rw (core-read core representable, status-read status) refl
   words-read Item.Entered representable = refl
   words-read (Item.Pass1 Agreement.Conflict) representable = refl
-  words-read (Item.Pass1 (Agreement.Mode mode)) representable = rw (mode-only plan limits expressible mode representable, ap (mode_named plan) (sym (mode-only plan limits expressible mode representable)) ∙ mode-found plan limits expressible mode representable) refl
+  words-read (Item.Pass1 (Agreement.Mode mode)) representable =
+      let named = mode-said plan expressible mode representable in
+      rw (named.not_conflict, named.not_none, mode-found plan limits expressible mode representable) refl
   words-read (Item.Pass1 Agreement.NoMode) representable = refl
   words-read Item.Readied representable = refl
   words-read (Item.Pass2 cores) representable = rw (cores-read cores (eqb-true (length cores.members) 16 representable)) refl

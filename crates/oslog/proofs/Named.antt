@@ -1,5 +1,5 @@
 -- What has a name in a configuration: each has a name of its own, in form, and is found by it.
-use Rattle.std.proofs.Common.{◌≡◌, ℕ, zero, suc, ◌+◌, ◌<◌, ◌⊎◌, nat_lt, Bool, true, false, not, cond, List, [], ◌∷◌, ◌++◌, length, map, get_or, Option, Some, None, option_and_then, slice_get, unwrap_or, IsTrue, inl, inr, refl, sym, ap, ◌∙◌, subst, arith}
+use Rattle.std.proofs.Common.{◌≡◌, ℕ, zero, suc, ◌+◌, ◌<◌, ◌⊎◌, nat_lt, Bool, true, false, not, cond, List, [], ◌∷◌, ◌++◌, length, map, get_or, Option, Some, None, option_and_then, option_map, slice_get, unwrap_or, IsTrue, inl, inr, refl, sym, ap, ◌∙◌, subst, arith}
 use Rattle.std.specs.List.{AllByRecursion, find, flat_map, list_all, list_any}
 use Rattle.std.specs.Option.{option_map_or}
 use Rattle.std.specs.Str.{bytes_eq}
@@ -13,7 +13,8 @@ use Rattle.osbase.proofs.Places.{passes-at}
 use Rattle.osbase.proofs.Same.{same_core-comm, same_core-refl, same_core-true, same_kind-self, same_kind-true}
 use Rattle.osbase.specs.History.{same_core}
 use Rattle.osbase.specs.Names.{is_name}
-use Rattle.osbase.specs.Objects.{same_kind}
+use Rattle.osbase.specs.Objects.{mode_object, mode_of, place_on, same_kind}
+use Rattle.osbase.specs.declared.objects.TheConstants.{NOBODY}
 use Rattle.osbase.specs.Sets.{numbers_from}
 use Rattle.osbase.specs.declared.objects.Object.{Object}
 use Rattle.osbase.specs.declared.objects.ObjectKind.{ObjectKind}
@@ -21,20 +22,18 @@ use Rattle.osbase.specs.declared.objects.Place.{Place}
 use Rattle.osbase.specs.declared.references.CoreId.{CoreId}
 use Rattle.osbase.specs.declared.references.ModeId.{ModeId}
 use Rattle.osforms.proofs.RoundTrip.{chained}
-use Rattle.osplan.proofs.EveryKind.{kind-there}
-use Rattle.osplan.proofs.Tests.{all-append, all-flat, any-mapped, find-holds, find-passes}
-use Rattle.osplan.proofs.Within.{core-text-parts, few-objects, fits, limit-parts, names-formed, text-parts}
-use Rattle.osplan.specs.Expressible.{are_distinct, are_mode_name, declared_names, is_core_expressible, is_expressible, mode_name, object_names}
-use Rattle.osplan.specs.Limits.{are_numbers_distinct, core_sizes, has_number, is_core_within, is_mode, is_object, is_within_limits, number_of, numbers_of}
-use Rattle.osplan.specs.Names.{name_in, name_of, name_of_mode}
-use Rattle.osplan.specs.Objects.{names_in, object_count}
+use Rattle.osplan.proofs.ModeObjects.{mode-named, nobody, there-mode}
+use Rattle.osplan.proofs.Tests.{all-append, all-flat, all-weaker, any-mapped, find-holds, find-passes}
+use Rattle.osplan.proofs.Within.{core-text-parts, few-modes, few-objects, fits, limit-parts, names-formed, text-parts}
+use Rattle.osplan.specs.Expressible.{all_common_names, are_distinct, declared_names, is_core_expressible, is_expressible, is_mode_expressible, object_names}
+use Rattle.osplan.specs.Limits.{are_numbers_distinct, core_sizes, has_number, is_core_within, is_mode, is_object, is_within_limits, number_of, numbers_of, sizes_of}
+use Rattle.osplan.specs.Names.{common_name, name_in, name_of, name_of_mode}
+use Rattle.osplan.specs.Objects.{common_names, is_common, names_in, object_count}
 use Rattle.osplan.specs.View.{core_of}
 use Rattle.osplan.specs.declared.plans.Core.{Core}
 use Rattle.osplan.specs.declared.plans.Plan.{Plan}
-use Rattle.osplan.specs.declared.plans.TheConstants.{KINDS}
-use Rattle.oslog.specs.Naming.{HasFew, all_named, if_mode, if_object, mode_at, mode_named, modes_in, name_of_named, named_by, named_in, object_at, objects_in, place_named}
-use Rattle.oslog.specs.declared.names.Named.{Named}
-use Rattle.oslog.specs.declared.names.Named.TheVariants as N
+use Rattle.osplan.specs.declared.plans.TheConstants.{COMMON, KINDS}
+use Rattle.oslog.specs.Naming.{HasFew, HasFewCommon, all_named, common_in, if_object, mode_named, name_of_object, named_by, named_in, object_under, objects_in, objects_under, place_named}
 
 -- ---- each core is found by its number
 
@@ -63,7 +62,7 @@ by-place at first (x ∷ xs) same =
     ∙ ap (λ ys. x ∷ ys) (by-place at (first + 1) xs (λ k y is. ap at (let on : first + 1 + k ≡ first + suc k = omega arith in on) ∙ same (suc k) y is))
 
 -- a test that each place passes
-all-places : (p : Named → Bool) (at : ℕ → Named) (first count : ℕ) → ((n : ℕ) → n < first + count → p (at n) ≡ true) → list_all p (map at (numbers_from first count)) ≡ true
+all-places : (p : Object → Bool) (at : ℕ → Object) (first count : ℕ) → ((n : ℕ) → n < first + count → p (at n) ≡ true) → list_all p (map at (numbers_from first count)) ≡ true
 all-places p at first zero each = refl
 all-places p at first (suc count) each = and_from _ _ (each first (omega arith)) (all-places p at (first + 1) count (λ n lt. each n (omega (arith, lt))))
 
@@ -73,20 +72,20 @@ every p each (x ∷ xs) = and_from _ _ (each x) (every p each xs)
 
 -- ---- what stands in a list is found by its name, where no name stands twice
 
-abbrev Stands : List Named → Named → Type 0
+abbrev Stands : List Object → Object → Type 0
 Stands [] n = ⊥
 Stands (x ∷ xs) n = (x ≡ n) ⊎ Stands xs n
 
-module _ (name : Named → List ℕ) where
-  abbrev has : List ℕ → Named → Bool
+module _ (name : Object → List ℕ) where
+  abbrev has : List ℕ → Object → Bool
   has w n = bytes_eq (name n) w
 
-  stands-any : (xs : List Named) (n : Named) → Stands xs n → list_any (has (name n)) xs ≡ true
+  stands-any : (xs : List Object) (n : Object) → Stands xs n → list_any (has (name n)) xs ≡ true
   stands-any [] n among = absurd among
   stands-any (x ∷ xs) n (inl is) = or_left _ _ (ap (has (name n)) is ∙ (bytes_eq-Decides (name n) (name n)).1 refl)
   stands-any (x ∷ xs) n (inr later) = or_right (has (name n) x) _ (stands-any xs n later)
 
-  stands-found : (xs : List Named) (n : Named) → are_distinct (map name xs) ≡ true → Stands xs n → find (has (name n)) xs ≡ Some n
+  stands-found : (xs : List Object) (n : Object) → are_distinct (map name xs) ≡ true → Stands xs n → find (has (name n)) xs ≡ Some n
   stands-found [] n distinct among = absurd among
   stands-found (x ∷ xs) n distinct (inl is) = rw (ap (has (name n)) is ∙ (bytes_eq-Decides (name n) (name n)).1 refl) (ap Some is)
   stands-found (x ∷ xs) n distinct (inr later) =
@@ -99,29 +98,33 @@ module _ (name : Named → List ℕ) where
         | inr other ↦ rw other (stands-found xs n parts.1 later)
       ]
 
-stands-front : (front back : List Named) (n : Named) → Stands front n → Stands (front ++ back) n
+stands-front : (front back : List Object) (n : Object) → Stands front n → Stands (front ++ back) n
 stands-front [] back n among = absurd among
 stands-front (x ∷ front) back n (inl is) = inl is
 stands-front (x ∷ front) back n (inr later) = inr (stands-front front back n later)
 
-stands-back : (front back : List Named) (n : Named) → Stands back n → Stands (front ++ back) n
+stands-back : (front back : List Object) (n : Object) → Stands back n → Stands (front ++ back) n
 stands-back [] back n among = among
 stands-back (x ∷ front) back n among = inr (stands-back front back n among)
 
-stands-at : (at : ℕ → Named) (first count k : ℕ) → k < count → Stands (map at (numbers_from first count)) (at (first + k))
+stands-at : (at : ℕ → Object) (first count k : ℕ) → k < count → Stands (map at (numbers_from first count)) (at (first + k))
 stands-at at first zero k lt = absurd (omega (arith, lt))
 stands-at at first (suc count) zero lt = inl (ap at (let here : first ≡ first + 0 = omega arith in here))
 stands-at at first (suc count) (suc k) lt = inr (subst (λ i. Stands (map at (numbers_from (first + 1) count)) (at i)) (let on : first + 1 + k ≡ first + suc k = omega arith in on) (stands-at at (first + 1) count k (omega (arith, lt))))
 
-stands-kind : (core : Core) (kinds : List ObjectKind) (kind : ObjectKind) (n : Named) → list_any (λ (k : ObjectKind). same_kind k kind) kinds ≡ true → Stands (objects_in core kind) n → Stands (flat_map (objects_in core) kinds) n
-stands-kind core [] kind n there among = absurd (true≢false (sym there))
-stands-kind core (k ∷ kinds) kind n there among =
-    elim (or_cases (same_kind k kind) (list_any (λ (k : ObjectKind). same_kind k kind) kinds) there) as (λ _. Stands (flat_map (objects_in core) (k ∷ kinds)) n) [
-      | inl here ↦ stands-front (objects_in core k) (flat_map (objects_in core) kinds) n (subst (λ (k : ObjectKind). Stands (objects_in core k) n) (sym (same_kind-true k kind here)) among)
-      | inr later ↦ stands-back (objects_in core k) (flat_map (objects_in core) kinds) n (stands-kind core kinds kind n later among)
+stands-kind : (objects : ObjectKind → List Object) (kinds : List ObjectKind) (kind : ObjectKind) (n : Object) → list_any (λ (k : ObjectKind). same_kind k kind) kinds ≡ true → Stands (objects kind) n → Stands (flat_map objects kinds) n
+stands-kind objects [] kind n there among = absurd (true≢false (sym there))
+stands-kind objects (k ∷ kinds) kind n there among =
+    elim (or_cases (same_kind k kind) (list_any (λ (k : ObjectKind). same_kind k kind) kinds) there) as (λ _. Stands (flat_map objects (k ∷ kinds)) n) [
+      | inl here ↦ stands-front (objects k) (flat_map objects kinds) n (subst (λ (k : ObjectKind). Stands (objects k) n) (sym (same_kind-true k kind here)) among)
+      | inr later ↦ stands-back (objects k) (flat_map objects kinds) n (stands-kind objects kinds kind n later among)
     ]
 
-stands-core : (cores : List Core) (id : CoreId) (core : Core) (n : Named) → find (λ (c : Core). same_core c.id id) cores ≡ Some core → Stands (named_in core) n → Stands (flat_map named_in cores) n
+-- an object of an index below their number stands among those of its kind
+stands-under : (id : CoreId) (kind : ObjectKind) (count i : ℕ) → i < count → Stands (objects_under id kind count) (object_under id kind i)
+stands-under id kind count i lt = subst (λ k. Stands (objects_under id kind count) (object_under id kind k)) (let here : 0 + i ≡ i = omega arith in here) (stands-at (object_under id kind) 0 count i lt)
+
+stands-core : (cores : List Core) (id : CoreId) (core : Core) (n : Object) → find (λ (c : Core). same_core c.id id) cores ≡ Some core → Stands (named_in core) n → Stands (flat_map named_in cores) n
 stands-core [] id core n found among = cc
 stands-core (c ∷ cores) id core n found among = by (same_core c.id id) found (λ later. stands-core cores id core n later among)
   where
@@ -133,50 +136,52 @@ stands-core (c ∷ cores) id core n found among = by (same_core c.id id) found (
 
 -- as many names as objects
 as-many : (core : Core) (kind : ObjectKind) → length (names_in kind core) ≡ object_count kind core
-as-many core ObjectKind.Task = simp length-map
+as-many core ObjectKind.Mode = refl
 as-many core kind = simp length-map
 
-only-mode : (modes : List (List ℕ)) → are_mode_name modes ≡ true → modes ≡ mode_name ∷ []
-only-mode [] e = cc
-only-mode (name ∷ []) e = ap (λ (n : List ℕ). n ∷ []) ((bytes_eq-Decides name mode_name).0 e)
-only-mode (name ∷ other ∷ names) e = cc
-
 module _ (plan : Plan) where
-  kind-names : (core : Core) (kind : ObjectKind) → IsFound plan.cores core → map (name_of_named plan) (objects_in core kind) ≡ names_in kind core
-  kind-names core kind found =
-      map-map (name_of_named plan) (object_at core kind) (numbers_from 0 (object_count kind core))
-      ∙ ap (λ n. map (λ i. name_of_named plan (object_at core kind i)) (numbers_from 0 n)) (sym (as-many core kind))
-      ∙ by-place (λ i. name_of_named plan (object_at core kind i)) 0 (names_in kind core)
-      (λ k name is. let here : 0 + k ≡ k = omega arith in ap (λ i. name_of_named plan (object_at core kind i)) here ∙ ap (λ (o : Option Core). option_map_or (λ (c : Core). name_in kind c k) o []) found ∙ ap (λ (o : Option (List ℕ)). unwrap_or o []) is)
+  -- the names of the objects of a kind, each of which has the one of its index,
+  under-names : (id : CoreId) (kind : ObjectKind) (names : List (List ℕ)) → ((k : ℕ) (name : List ℕ) → slice_get names k ≡ Some name → name_of plan kind (place_on id k) ≡ name) → (count : ℕ) → count ≡ length names → map (name_of_object plan) (objects_under id kind count) ≡ names
+  under-names id kind names same count many =
+      map-map (name_of_object plan) (object_under id kind) (numbers_from 0 count)
+      ∙ ap (λ n. map (λ i. name_of_object plan (object_under id kind i)) (numbers_from 0 n)) many
+      ∙ by-place (λ i. name_of_object plan (object_under id kind i)) 0 names (λ k name is. let here : 0 + k ≡ k = omega arith in ap (λ i. name_of_object plan (object_under id kind i)) here ∙ same k name is)
 
-  kinds-names : (core : Core) (kinds : List ObjectKind) → IsFound plan.cores core → map (name_of_named plan) (flat_map (objects_in core) kinds) ≡ flat_map (λ (kind : ObjectKind). names_in kind core) kinds
-  kinds-names core [] found = refl
-  kinds-names core (kind ∷ kinds) found =
-      map-append (name_of_named plan) (objects_in core kind) (flat_map (objects_in core) kinds)
-      ∙ ap (λ (names : List (List ℕ)). names ++ map (name_of_named plan) (flat_map (objects_in core) kinds)) (kind-names core kind found)
-      ∙ ap (λ (names : List (List ℕ)). names_in kind core ++ names) (kinds-names core kinds found)
+  -- of all kinds,
+  kinds-names : (objects : ObjectKind → List Object) (names : ObjectKind → List (List ℕ)) → ((kind : ObjectKind) → map (name_of_object plan) (objects kind) ≡ names kind) → (kinds : List ObjectKind) → map (name_of_object plan) (flat_map objects kinds) ≡ flat_map names kinds
+  kinds-names objects names same [] = refl
+  kinds-names objects names same (kind ∷ kinds) =
+      map-append (name_of_object plan) (objects kind) (flat_map objects kinds)
+      ∙ ap (λ (front : List (List ℕ)). front ++ map (name_of_object plan) (flat_map objects kinds)) (same kind)
+      ∙ ap (λ (back : List (List ℕ)). names kind ++ back) (kinds-names objects names same kinds)
 
-  cores-names : (cores : List Core) → AllByRecursion (IsFound plan.cores) cores → map (name_of_named plan) (flat_map named_in cores) ≡ flat_map object_names cores
+  -- of the cores,
+  core-names : (core : Core) (kind : ObjectKind) → IsFound plan.cores core → map (name_of_object plan) (objects_in core kind) ≡ names_in kind core
+  core-names core kind found =
+      under-names core.id kind (names_in kind core)
+      (λ k name is. ap (λ (o : Option Core). option_map_or (λ (c : Core). name_in kind c k) o (common_name plan kind (place_on core.id k))) found ∙ ap (λ (o : Option (List ℕ)). unwrap_or o []) is) (object_count kind core) (sym (as-many core kind))
+
+  cores-names : (cores : List Core) → AllByRecursion (IsFound plan.cores) cores → map (name_of_object plan) (flat_map named_in cores) ≡ flat_map object_names cores
   cores-names [] found = refl
   cores-names (core ∷ cores) found =
-      map-append (name_of_named plan) (named_in core) (flat_map named_in cores)
-      ∙ ap (λ (names : List (List ℕ)). names ++ map (name_of_named plan) (flat_map named_in cores)) (kinds-names core KINDS found.0)
-      ∙ ap (λ (names : List (List ℕ)). object_names core ++ names) (cores-names cores found.1)
+      map-append (name_of_object plan) (named_in core) (flat_map named_in cores)
+      ∙ ap (λ (front : List (List ℕ)). front ++ map (name_of_object plan) (flat_map named_in cores)) (kinds-names (objects_in core) (λ kind. names_in kind core) (λ kind. core-names core kind found.0) KINDS)
+      ∙ ap (λ (back : List (List ℕ)). object_names core ++ back) (cores-names cores found.1)
 
-  modes-names : map (name_of_named plan) (modes_in plan) ≡ plan.modes
-  modes-names =
-      map-map (name_of_named plan) mode_at (numbers_from 0 (length plan.modes))
-      ∙ by-place (λ i. name_of_named plan (mode_at i)) 0 plan.modes
-      (λ k name is. let here : 0 + k ≡ k = omega arith in ap (λ i. name_of_named plan (mode_at i)) here ∙ ap (λ (o : Option (List ℕ)). option_map_or (λ (n : List ℕ). n) o []) is)
+  -- and of what all have in common
+  common-each : (alone : core_of plan NOBODY ≡ None) (kind : ObjectKind) → map (name_of_object plan) (common_in plan kind) ≡ common_names kind plan
+  common-each alone kind =
+      under-names NOBODY kind (common_names kind plan)
+      (λ k name is. ap (λ (o : Option Core). option_map_or (λ (c : Core). name_in kind c k) o (common_name plan kind (place_on NOBODY k))) alone ∙ ap (λ (o : Option (List ℕ)). unwrap_or o []) is) (length (common_names kind plan)) refl
 
-  -- what each core's objects and modes pass, all do that have a name
-  core-passes : (p : Named → Bool) (core : Core) → ((kind : ObjectKind) (i : ℕ) → i < object_count kind core → p (object_at core kind i) ≡ true) → list_all p (named_in core) ≡ true
-  core-passes p core each =
-      all-flat p (objects_in core) KINDS (every (λ kind. list_all p (objects_in core kind)) (λ kind. all-places p (object_at core kind) 0 (object_count kind core) (λ n lt. each kind n (omega (arith, lt)))) KINDS)
+  -- what objects pass by their places, all do that have a name
+  kinds-pass : (p : Object → Bool) (id : CoreId) (count : ObjectKind → ℕ) → ((kind : ObjectKind) (i : ℕ) → i < count kind → p (object_under id kind i) ≡ true) → (kinds : List ObjectKind) → list_all p (flat_map (λ (kind : ObjectKind). objects_under id kind (count kind)) kinds) ≡ true
+  kinds-pass p id count each kinds =
+      all-flat p (λ (kind : ObjectKind). objects_under id kind (count kind)) kinds (every (λ kind. list_all p (objects_under id kind (count kind))) (λ kind. all-places p (object_under id kind) 0 (count kind) (λ n lt. each kind n (omega (arith, lt)))) kinds)
 
-  cores-pass : (p : Named → Bool) (cores : List Core) → ((core : Core) → IsFound plan.cores core → (kind : ObjectKind) (i : ℕ) → i < object_count kind core → p (object_at core kind i) ≡ true) → AllByRecursion (IsFound plan.cores) cores → list_all p (flat_map named_in cores) ≡ true
+  cores-pass : (p : Object → Bool) (cores : List Core) → ((core : Core) → IsFound plan.cores core → (kind : ObjectKind) (i : ℕ) → i < object_count kind core → p (object_under core.id kind i) ≡ true) → AllByRecursion (IsFound plan.cores) cores → list_all p (flat_map named_in cores) ≡ true
   cores-pass p [] each found = refl
-  cores-pass p (core ∷ cores) each found = all-append p (named_in core) (flat_map named_in cores) (core-passes p core (each core found.0)) (cores-pass p cores each found.1)
+  cores-pass p (core ∷ cores) each found = all-append p (named_in core) (flat_map named_in cores) (kinds-pass p core.id (λ kind. object_count kind core) (each core found.0) KINDS) (cores-pass p cores each found.1)
 
 -- ---- so few objects that each has a place in a byte
 
@@ -185,90 +190,90 @@ few plan limits i core within is =
     let at : slice_get plan.cores i ≡ Some core = slice_get-get_or plan.cores i core within ∙ ap Some (sym is) in
     few-objects core (fits plan core (passes-at (λ (c : Core). is_core_within (core_sizes plan c)) plan.cores i core (limit-parts plan limits).cores at))
 
--- ---- all that has a name
+pub few-common : (plan : Plan) → IsTrue (is_within_limits plan) → HasFewCommon plan
+few-common plan limits ObjectKind.Mode = let few = few-modes (sizes_of plan) (limit-parts plan limits).sizes in omega (arith, few)
+few-common plan limits kind = omega arith
 
--- a thing that has a name is one of the configuration
-abbrev pub is_there : Plan → Named → Bool
-is_there plan (N.Mode mode) = is_mode plan mode
-is_there plan (N.Object object) = is_object plan object
+-- ---- all that has a name
 
 module _ (plan : Plan) (limits : IsTrue (is_within_limits plan)) (said : IsTrue (is_expressible plan)) where
   found : AllByRecursion (IsFound plan.cores) plan.cores
   found = each-found plan.cores (limit-parts plan limits).distinct
 
-  names-are : map (name_of_named plan) (all_named plan) ≡ declared_names plan
+  alone : core_of plan NOBODY ≡ None
+  alone = nobody plan (limit-parts plan limits).cores
+
+  names-are : map (name_of_object plan) (all_named plan) ≡ declared_names plan
   names-are =
-      map-append (name_of_named plan) (modes_in plan) (flat_map named_in plan.cores)
-      ∙ ap (λ (names : List (List ℕ)). names ++ map (name_of_named plan) (flat_map named_in plan.cores)) (modes-names plan)
-      ∙ ap (λ (names : List (List ℕ)). plan.modes ++ names) (cores-names plan plan.cores found)
+      map-append (name_of_object plan) (flat_map (common_in plan) COMMON) (flat_map named_in plan.cores)
+      ∙ ap (λ (names : List (List ℕ)). names ++ map (name_of_object plan) (flat_map named_in plan.cores)) (kinds-names plan (common_in plan) (λ kind. common_names kind plan) (common-each plan alone) COMMON)
+      ∙ ap (λ (names : List (List ℕ)). all_common_names plan ++ names) (cores-names plan plan.cores found)
 
   all-formed : list_all is_name (declared_names plan) ≡ true
   all-formed =
-      all-append is_name plan.modes (flat_map object_names plan.cores)
-      (ap (list_all is_name) (only-mode plan.modes (text-parts plan said).modes))
+      all-append is_name (all_common_names plan) (flat_map object_names plan.cores) (all-flat is_name (λ (kind : ObjectKind). common_names kind plan) COMMON (every (λ (kind : ObjectKind). list_all is_name (common_names kind plan)) common COMMON))
       (all-flat is_name object_names plan.cores (by plan.cores (text-parts plan said).cores))
     where
+      common : (kind : ObjectKind) → list_all is_name (common_names kind plan) ≡ true
+      common ObjectKind.Mode = all-weaker is_mode_expressible is_name (λ name h. (and_parts (is_name name) _ h).0) plan.modes (text-parts plan said).modes
+      common kind = refl
+
       by : (cores : List Core) → list_all is_core_expressible cores ≡ true → list_all (λ (core : Core). list_all is_name (object_names core)) cores ≡ true
       by [] each = refl
       by (core ∷ cores) each =
           let parts = and_parts (is_core_expressible core) (list_all is_core_expressible cores) each in
           and_from _ _ (all-flat is_name (λ (kind : ObjectKind). names_in kind core) KINDS (every (λ (kind : ObjectKind). list_all is_name (names_in kind core)) (names-formed core (core-text-parts core parts.0)) KINDS)) (by cores parts.1)
 
-  all-there : list_all (is_there plan) (all_named plan) ≡ true
+  all-there : list_all (is_object plan) (all_named plan) ≡ true
   all-there =
-      all-append (is_there plan) (modes_in plan) (flat_map named_in plan.cores)
-      (all-places (is_there plan) mode_at 0 (length plan.modes) (λ n lt. lt-ltb n (length plan.modes) (omega (arith, lt))))
-      (cores-pass plan (is_there plan) plan.cores
-      (λ core is kind i lt. ap (λ (o : Option Core). option_map_or (λ (c : Core). nat_lt i (object_count kind c)) o false) is ∙ lt-ltb i (object_count kind core) lt) found)
+      all-append (is_object plan) (flat_map (common_in plan) COMMON) (flat_map named_in plan.cores)
+      (kinds-pass plan (is_object plan) NOBODY (λ kind. length (common_names kind plan))
+      (λ kind i lt. ap (λ (o : Option Core). option_map_or (λ (c : Core). nat_lt i (object_count kind c)) o (is_common plan (object_under NOBODY kind i))) alone ∙ lt-ltb i (length (common_names kind plan)) lt) COMMON)
+      (cores-pass plan (is_object plan) plan.cores
+      (λ core is kind i lt. ap (λ (o : Option Core). option_map_or (λ (c : Core). nat_lt i (object_count kind c)) o (is_common plan (object_under core.id kind i))) is ∙ lt-ltb i (object_count kind core) lt) found)
 
   -- What a name stands for is there, and the name is in form.
-  pub named-there : (w : List ℕ) (n : Named) → named_by plan w ≡ Some n → is_there plan n ≡ true
-  named-there w n e = find-passes (λ (n : Named). bytes_eq (name_of_named plan n) w) (is_there plan) (all_named plan) n all-there e
+  pub named-there : (w : List ℕ) (n : Object) → named_by plan w ≡ Some n → is_object plan n ≡ true
+  named-there w n e = find-passes (λ (n : Object). bytes_eq (name_of_object plan n) w) (is_object plan) (all_named plan) n all-there e
 
-  pub named-formed : (w : List ℕ) (n : Named) → named_by plan w ≡ Some n → is_name w ≡ true
+  pub named-formed : (w : List ℕ) (n : Object) → named_by plan w ≡ Some n → is_name w ≡ true
   named-formed w n e =
-      ap is_name (sym ((bytes_eq-Decides (name_of_named plan n) w).0 (find-holds (λ (n : Named). bytes_eq (name_of_named plan n) w) (all_named plan) n e)))
-      ∙ find-passes (λ (n : Named). bytes_eq (name_of_named plan n) w) (λ (n : Named). is_name (name_of_named plan n)) (all_named plan) n
-      (sym (list_all-map is_name (name_of_named plan) (all_named plan)) ∙ ap (list_all is_name) names-are ∙ all-formed) e
+      ap is_name (sym ((bytes_eq-Decides (name_of_object plan n) w).0 (find-holds (λ (n : Object). bytes_eq (name_of_object plan n) w) (all_named plan) n e)))
+      ∙ find-passes (λ (n : Object). bytes_eq (name_of_object plan n) w) (λ (n : Object). is_name (name_of_object plan n)) (all_named plan) n
+      (sym (list_all-map is_name (name_of_object plan) (all_named plan)) ∙ ap (list_all is_name) names-are ∙ all-formed) e
 
-  -- And what is there is what its name stands for.
-  by-name : (n : Named) → Stands (all_named plan) n → named_by plan (name_of_named plan n) ≡ Some n
-  by-name n among = stands-found (name_of_named plan) (all_named plan) n (ap are_distinct names-are ∙ (text-parts plan said).names) among
+  -- And what is there is what its name stands for:
+  by-name : (n : Object) → Stands (all_named plan) n → named_by plan (name_of_object plan n) ≡ Some n
+  by-name n among = stands-found (name_of_object plan) (all_named plan) n (ap are_distinct names-are ∙ (text-parts plan said).names) among
 
-  pub mode-found : (mode : ModeId) → is_mode plan mode ≡ true → mode_named plan (name_of_mode plan mode) ≡ Some mode
-  mode-found mode is =
-      ap (option_and_then if_mode) (by-name (N.Mode mode)
-      (stands-front (modes_in plan) (flat_map named_in plan.cores) (N.Mode mode)
-      (subst (λ i. Stands (modes_in plan) (mode_at i)) (let here : 0 + mode.index ≡ mode.index = omega arith in here) (stands-at mode_at 0 (length plan.modes) mode.index (ltb-true mode.index (length plan.modes) is)))))
+  -- an object of a core, which is of a kind that cores have,
+  core-stands : (core : Core) (kind : ObjectKind) (i : ℕ) → i < object_count kind core → Stands (named_in core) (object_under core.id kind i)
+  core-stands core ObjectKind.Mode i lt = absurd (omega (arith, lt))
+  core-stands core kind i lt = stands-kind (objects_in core) KINDS kind _ refl (stands-under core.id kind (object_count kind core) i lt)
 
-  pub mode-only : (mode : ModeId) → is_mode plan mode ≡ true → name_of_mode plan mode ≡ mode_name
-  mode-only mode is = by plan.modes (only-mode plan.modes (text-parts plan said).modes) mode.index is
+  -- and one that all have in common.
+  common-stands : (kind : ObjectKind) (i : ℕ) → i < length (common_names kind plan) → Stands (flat_map (common_in plan) COMMON) (object_under NOBODY kind i)
+  common-stands ObjectKind.Mode i lt = stands-kind (common_in plan) COMMON ObjectKind.Mode _ refl (stands-under NOBODY ObjectKind.Mode (length plan.modes) i lt)
+  common-stands kind i lt = absurd (omega (arith, lt))
+
+  object-stands : (object : Object) → is_object plan object ≡ true → Stands (all_named plan) object
+  object-stands object is = by (core_of plan object.place.core) refl is
     where
-      by : (modes : List (List ℕ)) → modes ≡ mode_name ∷ [] → (i : ℕ) → nat_lt i (length modes) ≡ true → option_map_or (λ (name : List ℕ). name) (slice_get modes i) [] ≡ mode_name
-      by [] e i is = cc
-      by (name ∷ names) e zero is = cc
-      by (name ∷ []) e (suc i) is = absurd (omega (arith, ltb-true (suc i) 1 is))
-      by (name ∷ other ∷ names) e (suc i) is = cc
+      at : CoreId → Object
+      at id = object_under id object.kind object.place.index
 
-  object-found : (kind : ObjectKind) (place : Place) (core : Core) → core_of plan place.core ≡ Some core → place.index < object_count kind core → named_by plan (name_of plan kind place) ≡ Some (N.Object (record { kind = kind; place = place }))
-  object-found kind place core is within =
-      let same : core.id ≡ place.core = same_core-true core.id place.core (find-holds (λ (c : Core). same_core c.id place.core) plan.cores core is) in
-      let object : Named = N.Object (record { kind = kind; place = place }) in
-      let at : object_at core kind (0 + place.index) ≡ object = ap (λ i. object_at core kind i) (let here : 0 + place.index ≡ place.index = omega arith in here) ∙ ap (λ (c : CoreId). let n : Named = N.Object (record { kind = kind; place = record { core = c; index = place.index } }) in n) same in
-      by-name object
-      (stands-back (modes_in plan) (flat_map named_in plan.cores) object
-      (stands-core plan.cores place.core core object is
-      (stands-kind core KINDS kind object (kind-there kind)
-      (subst (Stands (objects_in core kind)) at (stands-at (object_at core kind) 0 (object_count kind core) place.index within)))))
+      by : (o : Option Core) → core_of plan object.place.core ≡ o → option_map_or (λ (c : Core). nat_lt object.place.index (object_count object.kind c)) o (is_common plan object) ≡ true → Stands (all_named plan) object
+      by None none is =
+          let parts = and_parts (same_core object.place.core NOBODY) (nat_lt object.place.index (length (common_names object.kind plan))) is in
+          let among = common-stands object.kind object.place.index (ltb-true object.place.index (length (common_names object.kind plan)) parts.1) in
+          stands-front (flat_map (common_in plan) COMMON) (flat_map named_in plan.cores) object (subst (λ (id : CoreId). Stands (flat_map (common_in plan) COMMON) (at id)) (sym (same_core-true object.place.core NOBODY parts.0)) among)
+      by (Some core) here is =
+          let same : core.id ≡ object.place.core = same_core-true core.id object.place.core (find-holds (λ (c : Core). same_core c.id object.place.core) plan.cores core here) in
+          let among = core-stands core object.kind object.place.index (ltb-true object.place.index (object_count object.kind core) is) in
+          stands-back (flat_map (common_in plan) COMMON) (flat_map named_in plan.cores) object (stands-core plan.cores object.place.core core object here (subst (λ (id : CoreId). Stands (named_in core) (at id)) same among))
 
   pub place-found : (object : Object) → is_object plan object ≡ true → place_named plan object.kind (name_of plan object.kind object.place) ≡ Some object.place
-  place-found object is = by (core_of plan object.place.core) refl is
-    where
-      by : (o : Option Core) → core_of plan object.place.core ≡ o → option_map_or (λ (c : Core). nat_lt object.place.index (object_count object.kind c)) o false ≡ true → place_named plan object.kind (name_of plan object.kind object.place) ≡ Some object.place
-      by None none is = absurd (true≢false (sym is))
-      by (Some core) here is =
-          ap (option_and_then (if_object object.kind)) (object-found object.kind object.place core here (ltb-true object.place.index (object_count object.kind core) is))
-          ∙ rw (same_kind-self object.kind) refl
+  place-found object is = ap (option_and_then (if_object object.kind)) (by-name object (object-stands object is)) ∙ rw (same_kind-self object.kind) refl
 
   -- So its name is in form.
   pub object-formed : (object : Object) → is_object plan object ≡ true → is_name (name_of plan object.kind object.place) ≡ true
@@ -276,3 +281,7 @@ module _ (plan : Plan) (limits : IsTrue (is_within_limits plan)) (said : IsTrue 
       let name = name_of plan object.kind object.place in
       let c = chained (if_object object.kind) (named_by plan name) object.place (place-found object is) in
       named-formed name c.0 c.1
+
+  -- So it is with a mode.
+  pub mode-found : (mode : ModeId) → is_mode plan mode ≡ true → mode_named plan (name_of_mode plan mode) ≡ Some mode
+  mode-found mode is = ap (mode_named plan) (sym (mode-named plan alone mode)) ∙ ap (option_map mode_of) (place-found (mode_object mode) (there-mode plan alone mode is))

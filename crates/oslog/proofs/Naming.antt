@@ -1,35 +1,23 @@
 -- The list of all that has a name, and its index, made from the last name on.
-use Rattle.std.proofs.Common.{◌≡◌, ℕ, zero, suc, ◌+◌, ◌<◌, cond, List, [], ◌∷◌, ◌++◌, length, map, drop, get_or, nat_lt, true, Some, sym, ap, subst, ◌∙◌, add-one, append_assoc, arith}
+use Rattle.std.proofs.Common.{◌≡◌, ℕ, zero, suc, ◌+◌, ◌<◌, cond, List, [], ◌∷◌, ◌++◌, length, map, drop, get_or, Some, sym, ap, subst, ◌∙◌, add-one, append_assoc, arith}
 use Rattle.std.specs.Borrow.{Bor}
 use Rattle.std.specs.HashMap.{HashMap}
 use Rattle.std.specs.Map.{update}
 use Rattle.std.specs.Str.{bytes_eq}
-use Rattle.std.proofs.lemmas.Bool.{and_parts, ltb-true}
 use Rattle.std.proofs.lemmas.List.{get_or_default}
 use Rattle.osbase.specs.Sets.{numbers_from}
 use Rattle.osread.proofs.Each.{drop-here}
 use Rattle.osbase.specs.declared.objects.Object.{Object}
-use Rattle.osbase.specs.declared.objects.ObjectKind.{ObjectKind}
-use Rattle.osplan.specs.Objects.{is_own_object, object_count}
-use Rattle.osplan.specs.declared.plans.Core.{Core}
 use Rattle.osplan.specs.declared.plans.Plan.{Plan}
-use Rattle.oslog.specs.Naming.{Indexes, index_in, name_of_named, object_at}
-use Rattle.oslog.specs.declared.names.Named.{Named}
-use Rattle.oslog.specs.declared.names.Named.TheVariants as N
+use Rattle.oslog.specs.Naming.{Indexes, index_in, name_of_object}
 
 -- one more in front of those that are indexed
-pub one-more : {S : Type 0} (plan : Plan) (all : List Named) (d : Named) (place : ℕ) (old new : HashMap (Bor (List ℕ)) Named S) → place < length all → Indexes plan old (drop (place + 1) all)
-    → ((name : List ℕ) → index_in new name ≡ update bytes_eq (index_in old) (name_of_named plan (get_or all place d)) (Some (get_or all place d)) name) → Indexes plan new (drop place all)
+pub one-more : {S : Type 0} (plan : Plan) (all : List Object) (d : Object) (place : ℕ) (old new : HashMap (Bor (List ℕ)) Object S) → place < length all → Indexes plan old (drop (place + 1) all)
+    → ((name : List ℕ) → index_in new name ≡ update bytes_eq (index_in old) (name_of_object plan (get_or all place d)) (Some (get_or all place d)) name) → Indexes plan new (drop place all)
 one-more plan all d place old new within so_far updates =
     let n = get_or all place d in
     subst (Indexes plan new) (sym (drop-here all place n within (get_or_default all place d n within)))
-    (λ name. updates name ∙ ap (cond (bytes_eq (name_of_named plan n) name) (Some n)) (so_far name))
-
--- an object that the core has stands below their number
-pub own-within : (core : Core) (kind : ObjectKind) (i : ℕ) (object : Object) → N.Object object ≡ object_at core kind i → is_own_object core object ≡ true → i < object_count kind core
-own-within core kind i object is own =
-    let same : object ≡ record { kind = kind; place = record { core = core.id; index = i } } = cc in
-    ltb-true i (object_count kind core) (and_parts _ (nat_lt i (object_count kind core)) (ap (is_own_object core) (sym same) ∙ own)).1
+    (λ name. updates name ∙ ap (cond (bytes_eq (name_of_object plan n) name) (Some n)) (so_far name))
 
 -- one place more
 pub place-more : {A : Type 0} (at : ℕ → A) (count : ℕ) → map at (numbers_from 0 (count + 1)) ≡ map at (numbers_from 0 count) ++ at count ∷ []

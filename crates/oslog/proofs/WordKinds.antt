@@ -7,7 +7,8 @@ use Rattle.std.proofs.lemmas.Bool.{and_parts, eqb-true, le-leb}
 use Rattle.std.proofs.lemmas.Fmt.{decimal-digits_value}
 use Rattle.std.proofs.lemmas.Slice.Eq.{bytes_eq-Decides}
 use Rattle.osbase.proofs.Same.{same_kind-true}
-use Rattle.osbase.specs.Objects.{isr_object, isr_of}
+use Rattle.osbase.specs.Objects.{isr_object, isr_of, mode_of, mode_place, place_on}
+use Rattle.osbase.specs.declared.objects.Object.{Object}
 use Rattle.osbase.specs.Words.{status_name}
 use Rattle.osbase.specs.declared.objects.ObjectKind.{ObjectKind}
 use Rattle.osbase.specs.declared.objects.Place.{Place}
@@ -25,16 +26,16 @@ use Rattle.osplan.specs.Expressible.{is_expressible}
 use Rattle.osplan.specs.Limits.{is_mode, is_object, is_within_limits}
 use Rattle.osplan.specs.Names.{isr_name, name_of, name_of_mode}
 use Rattle.osplan.specs.declared.plans.Plan.{Plan}
-use Rattle.oslog.specs.Naming.{all_named, if_mode, if_object, isr_named, mode_named, name_of_named, named_by, place_named}
+use Rattle.oslog.specs.Naming.{all_named, if_object, isr_named, mode_named, name_of_object, named_by, place_named}
 use Rattle.oslog.specs.Rows.{keyword_text}
 use Rattle.oslog.specs.Words.{behind, core_of, irq_of, irq_prefix, status_of, with_word, word_text}
 use Rattle.oslog.specs.declared.forms.Parts.{Parts}
-use Rattle.oslog.specs.declared.names.Named.{Named}
-use Rattle.oslog.specs.declared.names.Named.TheVariants as N
+use Rattle.osplan.proofs.ModeObjects.{mode-named, mode-there, nobody}
+use Rattle.osplan.proofs.Within.{limit-parts}
 use Rattle.oslog.specs.declared.rows.Kind.{Kind}
 use Rattle.oslog.specs.declared.rows.Kind.TheVariants as K
 use Rattle.oslog.specs.declared.words.TheConstants.{STATUSES}
-use Rattle.oslog.proofs.Named.{is_there, named-there}
+use Rattle.oslog.proofs.Named.{named-there}
 
 -- ---- numbers
 
@@ -93,20 +94,15 @@ int-fits (c ∷ cs) z e =
 
 -- ---- names
 
-pub named-is : (plan : Plan) (w : List ℕ) (n : Named) → named_by plan w ≡ Some n → name_of_named plan n ≡ w
-named-is plan w n e = (bytes_eq-Decides (name_of_named plan n) w).0 (find-holds (λ (n : Named). bytes_eq (name_of_named plan n) w) (all_named plan) n e)
+pub named-is : (plan : Plan) (w : List ℕ) (n : Object) → named_by plan w ≡ Some n → name_of_object plan n ≡ w
+named-is plan w n e = (bytes_eq-Decides (name_of_object plan n) w).0 (find-holds (λ (n : Object). bytes_eq (name_of_object plan n) w) (all_named plan) n e)
 
-mode-is : (n : Named) (m : ModeId) → if_mode n ≡ Some m → n ≡ N.Mode m
-mode-is (N.Mode mode) m e = cc
-mode-is (N.Object object) m e = cc
-
-object-is : (kind : ObjectKind) (n : Named) (found : Place) → if_object kind n ≡ Some found → n ≡ N.Object (record { kind = kind; place = found })
-object-is kind (N.Object object) found e =
+object-is : (kind : ObjectKind) (object : Object) (found : Place) → if_object kind object ≡ Some found → object ≡ record { kind = kind; place = found }
+object-is kind object found e =
     let c = cond-some _ (Some object.place) found e in
     let place : object.place ≡ found = cc in
-    ap (λ (k : ObjectKind). let n : Named = N.Object (record { kind = k; place = object.place }) in n) (same_kind-true object.kind kind c.0)
-    ∙ ap (λ (p : Place). let n : Named = N.Object (record { kind = kind; place = p }) in n) place
-object-is kind (N.Mode mode) found e = cc
+    ap (λ (k : ObjectKind). let o : Object = record { kind = k; place = object.place } in o) (same_kind-true object.kind kind c.0)
+    ∙ ap (λ (p : Place). let o : Object = record { kind = kind; place = p } in o) place
 
 status-word : (w : List ℕ) (s : Status) → status_of w ≡ Some s → status_name s ≡ w
 status-word w s e = (bytes_eq-Decides (status_name s) w).0 (find-holds (λ (s : Status). bytes_eq (status_name s) w) STATUSES s e)
@@ -140,17 +136,20 @@ pair : (text w : List ℕ) (b : Bool) → text ≡ w → b ≡ true → ◌≡�
 pair text w b is passes = ap (λ (t : List ℕ). (t, b)) is ∙ ap (λ (p : Bool). (w, p)) passes
 
 module _ (plan : Plan) (limits : IsTrue (is_within_limits plan)) (expressible : IsTrue (is_expressible plan)) where
-  mode-back : (w : List ℕ) (m : ModeId) → mode_named plan w ≡ Some m → (name_of_mode plan m ≡ w) × (is_mode plan m ≡ true)
-  mode-back w m e =
-      let c = chained if_mode (named_by plan w) m e in
-      let is = mode-is c.0 m c.2 in
-      (ap (name_of_named plan) (sym is) ∙ named-is plan w c.0 c.1, ap (is_there plan) (sym is) ∙ named-there plan limits expressible w c.0 c.1)
-
   pub place-spells : (kind : ObjectKind) (name : List ℕ) (found : Place) → place_named plan kind name ≡ Some found → name_of plan kind found ≡ name
-  place-spells kind name found e = let c = chained (if_object kind) (named_by plan name) found e in ap (name_of_named plan) (sym (object-is kind c.0 found c.2)) ∙ named-is plan name c.0 c.1
+  place-spells kind name found e = let c = chained (if_object kind) (named_by plan name) found e in ap (name_of_object plan) (sym (object-is kind c.0 found c.2)) ∙ named-is plan name c.0 c.1
 
   pub place-there : (kind : ObjectKind) (name : List ℕ) (found : Place) → place_named plan kind name ≡ Some found → is_object plan (record { kind = kind; place = found }) ≡ true
-  place-there kind name found e = let c = chained (if_object kind) (named_by plan name) found e in ap (is_there plan) (sym (object-is kind c.0 found c.2)) ∙ named-there plan limits expressible name c.0 c.1
+  place-there kind name found e = let c = chained (if_object kind) (named_by plan name) found e in ap (is_object plan) (sym (object-is kind c.0 found c.2)) ∙ named-there plan limits expressible name c.0 c.1
+
+  mode-back : (w : List ℕ) (m : ModeId) → mode_named plan w ≡ Some m → (name_of_mode plan m ≡ w) × (is_mode plan m ≡ true)
+  mode-back w m e =
+      let p = mapped mode_of (place_named plan ObjectKind.Mode w) m e in
+      let there = mode-there plan p.0 (place-there ObjectKind.Mode w p.0 p.1) in
+      let stands : mode_place m ≡ p.0 = ap mode_place (sym p.2) ∙ ap (λ (id : CoreId). place_on id p.0.index) (sym there.0) in (
+        sym (mode-named plan (nobody plan (limit-parts plan limits).cores) m) ∙ ap (name_of plan ObjectKind.Mode) stands ∙ place-spells ObjectKind.Mode w p.0 p.1,
+        ap (is_mode plan) (sym p.2) ∙ there.1,
+      )
 
   irq-back : (w : List ℕ) (i : IsrRef) → irq_of plan w ≡ Some i → (irq_prefix ++ isr_name plan i ≡ w) × (is_object plan (isr_object i) ≡ true)
   irq-back w i e =

@@ -1,23 +1,17 @@
 //! What the names of a configuration stand for, by an index.
 
-ghost use Rattle.std.specs.Prelude.{◌≡◌, ◌≤◌, ◌++◌, IfOk, IsTrue, OnOk, length};
+ghost use Rattle.std.specs.Prelude.{◌≡◌, ◌≤◌, ◌++◌, IfOk, IsTrue, OnOk};
 ghost use Rattle.osplan.specs.Expressible.{is_expressible};
 ghost use Rattle.osplan.specs.Limits.{is_within_limits};
-ghost use Rattle.osplan.specs.Objects.{object_count};
-ghost use Rattle.oslog.specs.Naming.{HasFew, Indexes, all_named, isr_named, mode_named, object_at, modes_in, name_of_named, named_in, objects_in};
+ghost use Rattle.oslog.specs.Naming.{HasFew, HasFewCommon, Indexes, all_named, common_in, isr_named, mode_named, name_of_object, named_in, object_under, objects_under};
+ghost use Rattle.osplan.specs.declared.plans.TheConstants.{COMMON};
+ghost use Rattle.std.specs.List.{flat_map};
 
-use osbase::{IsrRef, List, ModeId, Object, ObjectKind, Place, Reference};
+use osbase::{CoreId, IsrRef, List, ModeId, NOBODY, Object, ObjectKind, Place, Reference};
 use osforms::{Names, Places};
-use osplan::{Config, Core, KINDS, Plan};
+use osplan::{COMMON, Config, Core, KINDS, Plan};
 use std::alloc::{AllocError, Global};
 use std::collections::HashMap;
-
-/// What a configuration gives a name to.
-#[derive(Clone, Copy, Debug, PartialEq, Eq)]
-pub enum Named {
-    Mode(ModeId),
-    Object(Object),
-}
 
 /// The names of a plan.
 #[derive(Clone, Copy, Debug)]
@@ -26,13 +20,10 @@ pub struct PlanNames<'p> {
 }
 
 impl<'p> PlanNames<'p> {
-    fn name_of(&self, named: Named) -> &'p str
-        ensures { result.now ≡ name_of_named self.now.plan.now named }
+    fn name_of(&self, object: Object) -> &'p str
+        ensures { result.now ≡ name_of_object self.now.plan.now object }
     {
-        match named {
-            Named::Mode(mode) => self.plan.name_of_mode(mode),
-            Named::Object(object) => self.plan.name_of(object.kind, object.place),
-        }
+        self.plan.name_of(object.kind, object.place)
     }
 }
 
@@ -46,58 +37,58 @@ impl Names for PlanNames<'_> {
     }
 }
 
-fn push_modes(named: &mut List<Named>, plan: &Plan) -> Result<(), AllocError>
-    requires { length plan.now.modes ≤ 255 }
-    ensures { OnOk result (named.new ≡ named.old ++ modes_in plan.now) }
+// The object of this index under a core's number, or nobody's.
+fn object_under(core: CoreId, kind: ObjectKind, index: u8) -> Object
+    ensures { result ≡ object_under core kind index }
 {
-    let mut index = 0;
-    while usize::from(index) < plan.modes.len() {
-        named.push(Named::Mode(ModeId { index }))?;
-        index += 1;
-    }
-    Ok(())
-}
-
-// The object of a core at this index.
-fn object_at(core: &Core, kind: ObjectKind, index: u8) -> Object
-    ensures { Named.Object result ≡ object_at core.now kind index }
-{
-    let place = Place {
-        core: core.id,
-        index,
-    };
+    let place = Place { core, index };
     Object { kind, place }
 }
 
-fn push_objects(named: &mut List<Named>, core: &Core, kind: ObjectKind) -> Result<(), AllocError>
-    requires { object_count kind core.now ≤ 255 }
-    ensures { OnOk result (named.new ≡ named.old ++ objects_in core.now kind) }
+fn push_objects(
+    named: &mut List<Object>,
+    core: CoreId,
+    kind: ObjectKind,
+    count: usize,
+) -> Result<(), AllocError>
+    requires { count ≤ 255 }
+    ensures { OnOk result (named.new ≡ named.old ++ objects_under core kind count) }
 {
     let mut index = 0;
-    while core.has(object_at(core, kind, index)) {
-        named.push(Named::Object(object_at(core, kind, index)))?;
+    while usize::from(index) < count {
+        named.push(object_under(core, kind, index))?;
         index += 1;
     }
     Ok(())
 }
 
-fn push_core(named: &mut List<Named>, core: &Core) -> Result<(), AllocError>
+fn push_common(named: &mut List<Object>, plan: &Plan) -> Result<(), AllocError>
+    requires { HasFewCommon plan.now }
+    ensures { OnOk result (named.new ≡ named.old ++ flat_map (common_in plan.now) COMMON) }
+{
+    for kind in COMMON.iter() {
+        push_objects(named, NOBODY, *kind, plan.common_count(*kind))?;
+    }
+    Ok(())
+}
+
+fn push_core(named: &mut List<Object>, core: &Core) -> Result<(), AllocError>
     requires { HasFew core.now }
     ensures { OnOk result (named.new ≡ named.old ++ named_in core.now) }
 {
     for kind in KINDS.iter() {
-        push_objects(named, core, *kind)?;
+        push_objects(named, core.id, *kind, core.count(*kind))?;
     }
     Ok(())
 }
 
 // All that has a name.
-fn all_named(alloc: Global, plan: &Plan) -> Result<List<Named>, AllocError>
+fn all_named(alloc: Global, plan: &Plan) -> Result<List<Object>, AllocError>
     requires { IsTrue (is_within_limits plan.now) }
     ensures { IfOk result (λ named. named ≡ all_named plan.now) }
 {
     let mut named = List::new(alloc);
-    push_modes(&mut named, plan)?;
+    push_common(&mut named, plan)?;
     for core in plan.cores.as_slice() {
         push_core(&mut named, core)?;
     }
@@ -108,8 +99,8 @@ fn all_named(alloc: Global, plan: &Plan) -> Result<List<Named>, AllocError>
 fn index_of<'p>(
     alloc: Global,
     names: &PlanNames<'p>,
-    named: &[Named],
-) -> Result<HashMap<&'p str, Named>, AllocError>
+    named: &[Object],
+) -> Result<HashMap<&'p str, Object>, AllocError>
     ensures { IfOk result (λ index. Indexes names.now.plan.now index named.now) }
 {
     let mut index = HashMap::new(alloc);
@@ -126,7 +117,7 @@ fn index_of<'p>(
 #[derive(Drop)]
 pub struct NameIndex<'p> {
     config: &'p Config,
-    index: HashMap<&'p str, Named>,
+    index: HashMap<&'p str, Object>,
     ghost limits: { IsTrue (is_within_limits config.now) },
     ghost expressible: { IsTrue (is_expressible config.now) },
     ghost indexed: { Indexes config.now index (all_named config.now) },
@@ -146,9 +137,9 @@ impl<'p> NameIndex<'p> {
     pub fn mode(&self, name: &str) -> Option<ModeId>
         ensures { result ≡ mode_named self.now.config.now name.now }
     {
-        match self.index.get(name) {
-            Some(Named::Mode(mode)) => Some(*mode),
-            _ => None,
+        match self.place(ObjectKind::Mode, name) {
+            Some(place) => Some(ModeId::at(place)),
+            None => None,
         }
     }
 
@@ -170,7 +161,7 @@ impl Places for NameIndex<'_> {
 
     fn place(&self, kind: ObjectKind, name: &str) -> Option<Place> {
         match self.index.get(name) {
-            Some(Named::Object(object)) if object.kind.is(kind) => Some(object.place),
+            Some(object) if object.kind.is(kind) => Some(object.place),
             _ => None,
         }
     }

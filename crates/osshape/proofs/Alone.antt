@@ -2,11 +2,11 @@
 use Rattle.std.proofs.Common.{inl, inr, ◌≡◌, ℕ, ◌+◌, Bool, true, false, not, cond, count_by, List, [], ◌∷◌, map, Option, Some, None, is_some, refl, sym, ap, ◌∙◌}
 use Rattle.std.specs.List.{list_any, find}
 use Rattle.std.specs.Str.{bytes_eq}
-use Rattle.std.proofs.lemmas.Bool.{and_parts, and_from, cases_Bool, not-true, not_from_false, or_parts, true≢false}
+use Rattle.std.proofs.lemmas.Bool.{and_parts, cases_Bool, not-true, or_parts, true≢false}
 use Rattle.std.proofs.lemmas.List.Sums.{sum_by-cons}
 use Rattle.std.proofs.lemmas.Slice.Eq.{bytes_eq-Decides}
-use Rattle.osplan.specs.Expressible.{are_distinct, mode_name}
-use Rattle.osplan.proofs.Tests.{any-mapped, find-fails, find-holds}
+use Rattle.osplan.specs.Expressible.{are_distinct}
+use Rattle.osplan.proofs.Tests.{any-mapped}
 use Rattle.osshape.specs.declared.declarations.Declaration.{Declaration}
 use Rattle.osshape.specs.Declarations.{has_name, is_alone, names_of}
 
@@ -37,12 +37,7 @@ count-one name (x ∷ xs) d apart found =
 
 -- Where no name stands twice, that of an object is its alone.
 pub alone : (objects : List Declaration) (name : List ℕ) (d : Declaration) → are_distinct (names_of objects) ≡ true → find (has_name name) objects ≡ Some d → is_alone objects name ≡ true
-alone objects name d apart found =
-    let parts = and_parts (not (list_any (λ later. bytes_eq later mode_name) (map (λ (d : Declaration). d.name) objects))) (are_distinct (map (λ (d : Declaration). d.name) objects)) apart in
-    let none : list_any (λ (d : Declaration). bytes_eq d.name mode_name) objects ≡ false = sym (any-mapped (λ later. bytes_eq later mode_name) (λ (d : Declaration). d.name) objects) ∙ not-true _ parts.0 in
-    let is : d.name ≡ name = (bytes_eq-Decides d.name name).0 (find-holds (has_name name) objects d found) in
-    let other : bytes_eq name mode_name ≡ false = ap (λ n. bytes_eq n mode_name) (sym is) ∙ find-fails (has_name name) (λ (d : Declaration). bytes_eq d.name mode_name) objects d none found in
-    and_from _ _ (not_from_false _ other) (rw (count-one name objects d parts.1 found) refl)
+alone objects name d apart found = rw (count-one name objects d apart found) refl
 
 pub alone_if : (objects : List Declaration) (name : List ℕ) → are_distinct (names_of objects) ≡ true → is_some (find (has_name name) objects) ≡ true → is_alone objects name ≡ true
 alone_if objects name apart some = by (find (has_name name) objects) refl

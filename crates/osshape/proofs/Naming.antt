@@ -2,65 +2,86 @@
 use Rattle.std.proofs.Common.{◌≡◌, ℕ, ◌+◌, true, List, [], ◌∷◌, ◌++◌, map, Option, Some, None, refl, sym, ap, ◌∙◌, arith}
 use Rattle.std.specs.List.{list_all, enumerate_from, find, flat_map}
 use Rattle.std.specs.Option.{IfSome}
-use Rattle.std.proofs.lemmas.Bool.{and_from}
-use Rattle.std.proofs.lemmas.List.{map-append}
-use Rattle.std.proofs.lemmas.List.Folds.{list_all-append}
+use Rattle.std.proofs.lemmas.Bool.{and_from, and_parts}
+use Rattle.std.proofs.lemmas.List.{map-append, map-id}
+use Rattle.std.proofs.lemmas.List.Folds.{list_all-append, list_all-map}
+use Rattle.std.proofs.lemmas.Simd.{map-map}
 use Rattle.std.proofs.lemmas.Slice.Eq.{bytes_eq-Decides}
 use Rattle.osbase.specs.declared.objects.ObjectKind.{ObjectKind}
 use Rattle.osbase.specs.declared.objects.Place.{Place}
+use Rattle.osbase.specs.declared.objects.TheConstants.{NOBODY}
+use Rattle.osbase.specs.declared.references.CoreId.{CoreId}
 use Rattle.osbase.specs.Names.{is_name}
 use Rattle.osplan.specs.declared.plans.Core.{Core}
-use Rattle.osplan.specs.declared.plans.TheConstants.{KINDS}
-use Rattle.osplan.specs.Expressible.{object_names}
-use Rattle.osplan.specs.Objects.{names_in}
+use Rattle.osplan.specs.declared.plans.Plan.{Plan}
+use Rattle.osplan.specs.declared.plans.TheConstants.{COMMON, KINDS}
+use Rattle.osplan.specs.Expressible.{declared_names, object_names}
+use Rattle.osplan.specs.Objects.{common_names, names_in}
 use Rattle.osplan.proofs.Tests.{all-flat, all-weaker, find-holds, find-passes}
+use Rattle.osshape.specs.declared.shapes.ConfigText.{ConfigText}
 use Rattle.osshape.specs.declared.shapes.CoreText.{CoreText}
 use Rattle.osshape.specs.declared.shapes.Named.{Named}
 use Rattle.osshape.specs.declared.declarations.Declaration.{Declaration}
-use Rattle.osshape.specs.Shape.{has_named_objects, objects_in}
-use Rattle.osshape.specs.Declarations.{declaration, declared_of, declared_by, has_name}
+use Rattle.osshape.specs.Shape.{common_in, has_named_objects, is_named, objects_in, unnumbered}
+use Rattle.osshape.specs.Declarations.{common_of, declaration, declarations, declared_as, declared_by, has_name, id_of, names_of}
 
-each-named : (core : CoreText) (kind : ObjectKind) (n : ℕ) (objects : List Named) → list_all (λ (named : Named). is_name named.name) objects ≡ true → list_all (λ (d : Declaration). is_name d.name) (map (declaration core kind) (enumerate_from n objects)) ≡ true
-each-named core kind n [] named = refl
-each-named core kind n (object ∷ objects) named = and_from _ _ (grind arith) (each-named core kind (n + 1) objects (grind arith))
+-- Objects of one kind,
+each-named : (id : CoreId) (kind : ObjectKind) (n : ℕ) (objects : List Named) → list_all (λ (named : Named). is_name named.name) objects ≡ true → list_all (λ (d : Declaration). is_name d.name) (map (declaration id kind) (enumerate_from n objects)) ≡ true
+each-named id kind n [] named = refl
+each-named id kind n (object ∷ objects) named = and_from _ _ (grind arith) (each-named id kind (n + 1) objects (grind arith))
 
-objects-named : (core : CoreText) → has_named_objects core ≡ true → list_all (λ (d : Declaration). is_name d.name) (declared_by core) ≡ true
-objects-named core named =
-    all-flat (λ (d : Declaration). is_name d.name) (declared_of core) KINDS
-    (all-weaker (λ (kind : ObjectKind). list_all (λ (named : Named). is_name named.name) (objects_in kind core)) (λ (kind : ObjectKind). list_all (λ (d : Declaration). is_name d.name) (declared_of core kind)) (λ kind named. each-named core kind 0 (objects_in kind core) named) KINDS named)
+-- of all kinds,
+kinds-named : (id : CoreId) (objects : ObjectKind → List Named) (kinds : List ObjectKind) → list_all (λ (kind : ObjectKind). list_all (λ (named : Named). is_name named.name) (objects kind)) kinds ≡ true
+    → list_all (λ (d : Declaration). is_name d.name) (flat_map (λ (kind : ObjectKind). declared_as id kind (objects kind)) kinds) ≡ true
+kinds-named id objects kinds named =
+    all-flat (λ (d : Declaration). is_name d.name) (λ (kind : ObjectKind). declared_as id kind (objects kind)) kinds
+    (all-weaker (λ (kind : ObjectKind). list_all (λ (named : Named). is_name named.name) (objects kind)) (λ (kind : ObjectKind). list_all (λ (d : Declaration). is_name d.name) (declared_as id kind (objects kind))) (λ kind named. each-named id kind 0 (objects kind) named) kinds named)
 
-pub declared-named : (cores : List CoreText) → list_all has_named_objects cores ≡ true → list_all (λ (d : Declaration). is_name d.name) (flat_map declared_by cores) ≡ true
-declared-named [] named = refl
-declared-named (core ∷ cores) named =
-    list_all-append (λ (d : Declaration). is_name d.name) (declared_by core) (flat_map declared_by cores) ∙ and_from _ _ (objects-named core (grind arith)) (declared-named cores (grind arith))
+cores-named : (cores : List CoreText) → list_all has_named_objects cores ≡ true → list_all (λ (d : Declaration). is_name d.name) (flat_map declared_by cores) ≡ true
+cores-named [] named = refl
+cores-named (core ∷ cores) named =
+    list_all-append (λ (d : Declaration). is_name d.name) (declared_by core) (flat_map declared_by cores) ∙ and_from _ _ (kinds-named (id_of core) (λ kind. objects_in kind core) KINDS (grind arith)) (cores-named cores (grind arith))
 
--- ---- the names of what a core declares are those of its objects
+-- and all of them.
+pub declared-named : (t : ConfigText) → is_named t ≡ true → list_all (λ (d : Declaration). is_name d.name) (declarations t) ≡ true
+declared-named t named =
+    let parts = and_parts (list_all is_name t.modes) (list_all has_named_objects t.cores) named in
+    list_all-append (λ (d : Declaration). is_name d.name) (flat_map (common_of t) COMMON) (flat_map declared_by t.cores)
+    ∙ and_from _ _ (kinds-named NOBODY (λ kind. common_in kind t) COMMON (and_from _ true (list_all-map (λ (named : Named). is_name named.name) unnumbered t.modes ∙ parts.0) refl)) (cores-named t.cores parts.1)
 
-each-name : (core : CoreText) (kind : ObjectKind) (n : ℕ) (objects : List Named) → map (λ (d : Declaration). d.name) (map (declaration core kind) (enumerate_from n objects)) ≡ map (λ (named : Named). named.name) objects
-each-name core kind n [] = refl
-each-name core kind n (object ∷ objects) = ap (λ names. object.name ∷ names) (each-name core kind (n + 1) objects)
+-- ---- the names of what a text declares are those of its objects
 
-names-by : (core : CoreText) (kinds : List ObjectKind) → map (λ (d : Declaration). d.name) (flat_map (declared_of core) kinds) ≡ flat_map (λ (kind : ObjectKind). map (λ (named : Named). named.name) (objects_in kind core)) kinds
-names-by core [] = refl
-names-by core (kind ∷ kinds) =
-    map-append (λ (d : Declaration). d.name) (declared_of core kind) (flat_map (declared_of core) kinds)
-    ∙ ap (λ names. names ++ map (λ (d : Declaration). d.name) (flat_map (declared_of core) kinds)) (each-name core kind 0 (objects_in kind core))
-    ∙ ap (λ names. map (λ (named : Named). named.name) (objects_in kind core) ++ names) (names-by core kinds)
+each-name : (id : CoreId) (kind : ObjectKind) (n : ℕ) (objects : List Named) → map (λ (d : Declaration). d.name) (map (declaration id kind) (enumerate_from n objects)) ≡ map (λ (named : Named). named.name) objects
+each-name id kind n [] = refl
+each-name id kind n (object ∷ objects) = ap (λ names. object.name ∷ names) (each-name id kind (n + 1) objects)
 
--- So they are those of a configuration's core whose names of each kind are the text's,
-names-declared : (plan : Core) (core : CoreText) → ((kind : ObjectKind) → names_in kind plan ≡ map (λ (named : Named). named.name) (objects_in kind core)) → map (λ (d : Declaration). d.name) (declared_by core) ≡ object_names plan
-names-declared plan core same = names-by core KINDS ∙ sym (by KINDS)
-  where
-    by : (kinds : List ObjectKind) → flat_map (λ (kind : ObjectKind). names_in kind plan) kinds ≡ flat_map (λ (kind : ObjectKind). map (λ (named : Named). named.name) (objects_in kind core)) kinds
-    by [] = refl
-    by (kind ∷ kinds) = rw (same kind, by kinds) refl
+-- So they are those of a configuration whose names of each kind are the text's,
+pub names-of-kinds : (id : CoreId) (names : ObjectKind → List (List ℕ)) (objects : ObjectKind → List Named) → ((kind : ObjectKind) → names kind ≡ map (λ (named : Named). named.name) (objects kind)) → (kinds : List ObjectKind)
+    → map (λ (d : Declaration). d.name) (flat_map (λ (kind : ObjectKind). declared_as id kind (objects kind)) kinds) ≡ flat_map names kinds
+names-of-kinds id names objects same [] = refl
+names-of-kinds id names objects same (kind ∷ kinds) =
+    map-append (λ (d : Declaration). d.name) (declared_as id kind (objects kind)) (flat_map (λ (kind : ObjectKind). declared_as id kind (objects kind)) kinds)
+    ∙ ap (λ front. front ++ map (λ (d : Declaration). d.name) (flat_map (λ (kind : ObjectKind). declared_as id kind (objects kind)) kinds)) (each-name id kind 0 (objects kind) ∙ sym (same kind))
+    ∙ ap (λ back. names kind ++ back) (names-of-kinds id names objects same kinds)
 
 -- core by core.
 pub names-of-all : {X : Type 0} (plan : X → Core) (core : X → CoreText) → ((x : X) (kind : ObjectKind) → names_in kind (plan x) ≡ map (λ (named : Named). named.name) (objects_in kind (core x))) → (xs : List X)
     → map (λ (d : Declaration). d.name) (flat_map (λ x. declared_by (core x)) xs) ≡ flat_map (λ x. object_names (plan x)) xs
 names-of-all plan core same [] = refl
 names-of-all plan core same (x ∷ xs) =
-    map-append (λ (d : Declaration). d.name) (declared_by (core x)) (flat_map (λ y. declared_by (core y)) xs) ∙ rw (names-declared (plan x) (core x) (same x), names-of-all plan core same xs) refl
+    map-append (λ (d : Declaration). d.name) (declared_by (core x)) (flat_map (λ y. declared_by (core y)) xs)
+    ∙ rw (names-of-kinds (id_of (core x)) (λ kind. names_in kind (plan x)) (λ kind. objects_in kind (core x)) (same x) KINDS, names-of-all plan core same xs) refl
+
+-- Those that all cores have in common are the configuration's with the text's modes,
+pub common-named : (plan : Plan) (t : ConfigText) → plan.modes ≡ t.modes → (kind : ObjectKind) → common_names kind plan ≡ map (λ (named : Named). named.name) (common_in kind t)
+common-named plan t modes ObjectKind.Mode = modes ∙ sym (map-map (λ (named : Named). named.name) unnumbered t.modes ∙ map-id t.modes)
+common-named plan t modes kind = refl
+
+-- and all of them those of the configuration that also has the names of its cores.
+pub names-of-text : (plan : Plan) (t : ConfigText) → plan.modes ≡ t.modes → flat_map object_names plan.cores ≡ map (λ (d : Declaration). d.name) (flat_map declared_by t.cores) → declared_names plan ≡ names_of (declarations t)
+names-of-text plan t modes cores =
+    ap (λ (front : List (List ℕ)). front ++ flat_map object_names plan.cores) (sym (names-of-kinds NOBODY (λ kind. common_names kind plan) (λ kind. common_in kind t) (common-named plan t modes) COMMON))
+    ∙ ap (λ (back : List (List ℕ)). map (λ (d : Declaration). d.name) (flat_map (common_of t) COMMON) ++ back) cores ∙ sym (map-append (λ (d : Declaration). d.name) (flat_map (common_of t) COMMON) (flat_map declared_by t.cores))
 
 pub if-named : (objects : List Declaration) (name : List ℕ) (d : Declaration) (found : Option Place) → list_all (λ (d : Declaration). is_name d.name) objects ≡ true → find (has_name name) objects ≡ Some d → IfSome found (λ place. is_name name ≡ true)
 if-named objects name d None named is = tt

@@ -1,21 +1,22 @@
 -- The objects that a configuration's text declares, in one list, and what a name stands for by it. [own]
-use Rattle.std.specs.Prelude.{ℕ, ◌==◌, ◌&&◌, nat_le, Bool, not, Option, Some, None, option_and_then, option_map, unwrap_or, if◌then◌else◌, List, ◌∷◌, map, find, count_by}
+use Rattle.std.specs.Prelude.{ℕ, ◌==◌, ◌++◌, nat_le, Bool, Option, Some, None, option_and_then, option_map, unwrap_or, if◌then◌else◌, List, map, find, count_by}
 use Rattle.std.specs.List.{enumerate_from, flat_map}
 use Rattle.std.specs.Str.{bytes_eq}
-use Rattle.osbase.specs.Objects.{counter_of, same_kind}
+use Rattle.osbase.specs.Objects.{counter_of, mode_of, same_kind}
 use Rattle.osbase.specs.declared.references.CoreId.{CoreId}
 use Rattle.osbase.specs.declared.references.CounterRef.{CounterRef}
 use Rattle.osbase.specs.declared.objects.ObjectKind.{ObjectKind}
-use Rattle.osbase.specs.declared.objects.ObjectKind.TheVariants.{Counter}
+use Rattle.osbase.specs.declared.objects.ObjectKind.TheVariants.{Counter, Mode}
 use Rattle.osbase.specs.declared.objects.Place.{Place}
-use Rattle.osplan.specs.declared.plans.TheConstants.{KINDS}
-use Rattle.osplan.specs.Expressible.{mode_name}
+use Rattle.osbase.specs.declared.objects.TheConstants.{NOBODY}
+use Rattle.osbase.specs.declared.references.ModeId.{ModeId}
+use Rattle.osplan.specs.declared.plans.TheConstants.{COMMON, KINDS}
 use Rattle.osplan.specs.Limits.{CounterSizes}
 use Rattle.osshape.specs.declared.shapes.ConfigText.{ConfigText}
 use Rattle.osshape.specs.declared.shapes.CoreText.{CoreText}
 use Rattle.osshape.specs.declared.shapes.Named.{Named}
 use Rattle.osshape.specs.declared.declarations.Declaration.{Declaration}
-use Rattle.osshape.specs.Shape.{objects_in}
+use Rattle.osshape.specs.Shape.{common_in, objects_in}
 
 -- A number as a byte: 0 where it is no byte, which no text without a fault has.
 abbrev pub byte_of : Option ℕ → ℕ
@@ -35,24 +36,32 @@ id_of core = number_id core.id
 
 -- ---- the list
 
--- The object of a kind of a core, at an index.
-abbrev pub declaration : CoreText → ObjectKind → ℕ × Named → Declaration
-declaration core kind p = record { name = p.1.name; kind = kind; core = id_of core; index = p.0; max = p.1.max; min = p.1.min }
+-- The object of a kind of the core of this number, or of nobody's, at an index.
+abbrev pub declaration : CoreId → ObjectKind → ℕ × Named → Declaration
+declaration id kind p = record { name = p.1.name; kind = kind; core = id; index = p.0; max = p.1.max; min = p.1.min }
+
+-- Objects of a kind, in their order.
+abbrev pub declared_as : CoreId → ObjectKind → List Named → List Declaration
+declared_as id kind objects = map (declaration id kind) (enumerate_from 0 objects)
 
 abbrev pub declared_of : CoreText → ObjectKind → List Declaration
-declared_of core kind = map (declaration core kind) (enumerate_from 0 (objects_in kind core))
+declared_of core kind = declared_as (id_of core) kind (objects_in kind core)
 
 -- A core declares its objects kind by kind, in their order.
 abbrev pub declared_by : CoreText → List Declaration
 declared_by core = flat_map (declared_of core) KINDS
 
--- All objects of a text, core by core.
-abbrev pub declarations : ConfigText → List Declaration
-declarations t = flat_map declared_by t.cores
+-- The objects of a kind that all cores have in common.
+abbrev pub common_of : ConfigText → ObjectKind → List Declaration
+common_of t kind = declared_as NOBODY kind (common_in kind t)
 
--- The only mode's name, and those of all objects.
+-- All objects of a text: those that all cores have in common, and then those of each core.
+abbrev pub declarations : ConfigText → List Declaration
+declarations t = flat_map (common_of t) COMMON ++ flat_map declared_by t.cores
+
+-- Their names.
 abbrev pub names_of : List Declaration → List (List ℕ)
-names_of objects = mode_name ∷ map (λ (declaration : Declaration). declaration.name) objects
+names_of objects = map (λ (declaration : Declaration). declaration.name) objects
 
 -- ---- what a name stands for
 
@@ -67,15 +76,19 @@ place_in kind declaration = if same_kind declaration.kind kind then Some (record
 abbrev pub place_of : List Declaration → ObjectKind → List ℕ → Option Place
 place_of objects kind name = option_and_then (place_in kind) (find (has_name name) objects)
 
--- ---- counters by their names
+-- ---- modes and counters by their names
+
+-- The mode of a name; where there is none, the first.
+abbrev pub mode_ref : List Declaration → List ℕ → ModeId
+mode_ref objects name = unwrap_or (option_map mode_of (place_of objects Mode name)) (record { index = 0 })
 
 -- The counter of a name; where there is none, the first that the core of this number might have.
 abbrev pub counter_ref : List Declaration → CoreId → List ℕ → CounterRef
 counter_ref objects id name = unwrap_or (option_map counter_of (place_of objects Counter name)) (record { core = id; index = 0 })
 
--- The name is that of one object alone, and of no mode. A name that stands twice is that of none.
+-- The name is that of one object alone. A name that stands twice is that of none.
 abbrev pub is_alone : List Declaration → List ℕ → Bool
-is_alone objects name = not (bytes_eq name mode_name) && (count_by (has_name name) objects == 1)
+is_alone objects name = count_by (has_name name) objects == 1
 
 abbrev pub if_counter : Declaration → Option Declaration
 if_counter declaration = if same_kind declaration.kind Counter then Some declaration else None

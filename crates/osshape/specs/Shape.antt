@@ -1,5 +1,5 @@
 -- The shape of a configuration: the members and their types, before any limit or name is judged. [own]
-use Rattle.std.specs.Prelude.{ℕ, Bool, true, false, Option, Some, None, option_and_then, List, [], ◌∷◌, codes, map}
+use Rattle.std.specs.Prelude.{ℕ, ◌&&◌, Bool, true, false, Option, Some, None, option_and_then, option_map, List, [], ◌∷◌, codes, map}
 use Rattle.std.specs.List.{list_all}
 use Rattle.osbase.specs.declared.objects.ObjectKind.{ObjectKind}
 use Rattle.osbase.specs.Names.{is_name}
@@ -118,12 +118,17 @@ table_shape d = do
 abbrev pub protection_of : Data → Option Protection
 protection_of d = option_and_then protection_named (as_str d)
 
--- A core: its number; how it answers a time fault, PRO_SHUTDOWN by default; the cores that it starts, its tasks, its ISRs, its
--- resources, its counters, its alarms and its tables, none by default.
+-- The name of a core's mode.
+abbrev pub mode_shape : Data → Option (Option (List ℕ))
+mode_shape d = option_map Some (name_of d)
+
+-- A core: its number; its mode, none by default; how it answers a time fault, PRO_SHUTDOWN by default; the cores that it starts, its
+-- tasks, its ISRs, its resources, its counters, its alarms and its tables, none by default.
 unfoldable pub core_shape : Data → Option CoreText
 core_shape d = do
-  _ ← only_members (codes "id" ∷ codes "start" ∷ codes "protection" ∷ codes "tasks" ∷ codes "isrs" ∷ codes "resources" ∷ codes "counters" ∷ codes "alarms" ∷ codes "tables" ∷ []) d
+  _ ← only_members (codes "id" ∷ codes "mode" ∷ codes "start" ∷ codes "protection" ∷ codes "tasks" ∷ codes "isrs" ∷ codes "resources" ∷ codes "counters" ∷ codes "alarms" ∷ codes "tables" ∷ []) d
   id ← member_of whole_of (codes "id") d
+  mode ← member_or mode_shape None (codes "mode") d
   start ← member_or (each_of whole_of) [] (codes "start") d
   protection ← member_or protection_of Protection.Shutdown (codes "protection") d
   tasks ← member_or (each_of task_shape) [] (codes "tasks") d
@@ -132,19 +137,21 @@ core_shape d = do
   counters ← member_or (each_of counter_shape) [] (codes "counters") d
   alarms ← member_or (each_of alarm_shape) [] (codes "alarms") d
   tables ← member_or (each_of table_shape) [] (codes "tables") d
-  Some (record { id = id; start = start; protection = protection; tasks = tasks; isrs = isrs; resources = resources; counters = counters; alarms = alarms; tables = tables })
+  Some (record { id = id; mode = mode; start = start; protection = protection; tasks = tasks; isrs = isrs; resources = resources; counters = counters; alarms = alarms; tables = tables })
 
--- A configuration: its version, 1 by default; the size of a mailbox, 16 by default; the master core, 0 by default; its cores.
+-- A configuration: its version, 1 by default; the size of a mailbox, 16 by default; the master core, 0 by default; its application
+-- modes, one by default; its cores.
 unfoldable pub config_shape : Data → Option ConfigText
 config_shape d = do
-  _ ← only_members (codes "version" ∷ codes "cap" ∷ codes "master" ∷ codes "cores" ∷ []) d
+  _ ← only_members (codes "version" ∷ codes "cap" ∷ codes "master" ∷ codes "modes" ∷ codes "cores" ∷ []) d
   version ← member_or whole_of (Some 1) (codes "version") d
   cap ← member_or whole_of (Some 16) (codes "cap") d
   master ← member_or whole_of (Some 0) (codes "master") d
+  modes ← member_or (each_of name_of) (codes "M" ∷ []) (codes "modes") d
   cores ← member_of (each_of core_shape) (codes "cores") d
-  Some (record { version = version; cap = cap; master = master; cores = cores })
+  Some (record { version = version; cap = cap; master = master; modes = modes; cores = cores })
 
--- ---- the objects of a core
+-- ---- the objects of a text
 
 -- An object without numbers.
 abbrev pub unnumbered : List ℕ → Named
@@ -155,6 +162,7 @@ numbered counter = record { name = counter.name; max = counter.max; min = counte
 
 -- What a core's text has of each object of a kind, in their order. What is said of the objects of every kind goes over these.
 abbrev pub objects_in : ObjectKind → CoreText → List Named
+objects_in ObjectKind.Mode core = []
 objects_in ObjectKind.Task core = map (λ (task : TaskText). unnumbered task.name) core.tasks
 objects_in ObjectKind.Isr core = map (λ (isr : IsrText). unnumbered isr.name) core.isrs
 objects_in ObjectKind.Resource core = map (λ (resource : ResourceText). unnumbered resource.name) core.resources
@@ -162,6 +170,15 @@ objects_in ObjectKind.Counter core = map numbered core.counters
 objects_in ObjectKind.Alarm core = map (λ (alarm : AlarmText). unnumbered alarm.name) core.alarms
 objects_in ObjectKind.Table core = map (λ (table : TableText). unnumbered table.name) core.tables
 
+-- And what it has of each object of a kind that all cores have in common.
+abbrev pub common_in : ObjectKind → ConfigText → List Named
+common_in ObjectKind.Mode t = map unnumbered t.modes
+common_in kind t = []
+
 -- Each object of the core has a name in form, as in every shape.
 abbrev pub has_named_objects : CoreText → Bool
 has_named_objects core = list_all (λ (kind : ObjectKind). list_all (λ (named : Named). is_name named.name) (objects_in kind core)) KINDS
+
+-- And each object of the text.
+abbrev pub is_named : ConfigText → Bool
+is_named t = list_all is_name t.modes && list_all has_named_objects t.cores

@@ -1,22 +1,23 @@
 //! The objects that a configuration's text declares, in one list.
 
-ghost use Rattle.std.specs.Prelude.{◌≡◌, ◌++◌, IfOk, OnOk, map};
-ghost use Rattle.std.specs.List.{enumerate_from};
-ghost use Rattle.osshape.specs.Declarations.{byte_of, declaration, declarations, declared_by, number_id, word_of};
+ghost use Rattle.std.specs.Prelude.{◌≡◌, ◌++◌, IfOk, OnOk};
+ghost use Rattle.std.specs.List.{flat_map};
+ghost use Rattle.osplan.specs.declared.plans.TheConstants.{COMMON};
+ghost use Rattle.osshape.specs.Declarations.{byte_of, common_of, declarations, declared_as, declared_by, number_id, word_of};
 
 use crate::shapes::{ConfigText, CoreText, Named};
-use osbase::{CoreId, List, ObjectKind};
-use osplan::KINDS;
+use osbase::{CoreId, List, NOBODY, ObjectKind};
+use osplan::{COMMON, KINDS};
 use osread::{Text, Whole};
 use std::alloc::{AllocError, Global};
 
-/// A declared object, by its name.
+/// A declared object, by its name. Under `NOBODY` stands what all cores have in common.
 #[derive(Debug, Drop)]
 pub struct Declaration<'t> {
     pub name: Text<'t>,
     pub kind: ObjectKind,
     pub core: CoreId,
-    /// Which of that core's objects of its kind it is, counted from 0.
+    /// Which of the objects of its kind there it is, counted from 0.
     pub index: usize,
     /// Of a counter the greatest value and the least cycle; of another object none.
     pub max: Whole,
@@ -61,17 +62,17 @@ pub fn number_id(number: Whole) -> CoreId
 // The objects of one kind, in their order.
 fn declare_each<'t>(
     declared: &mut List<Declaration<'t>>,
-    core: &CoreText<'t>,
+    core: CoreId,
     kind: ObjectKind,
     objects: &[Named<'t>],
 ) -> Result<(), AllocError>
-    ensures { OnOk result (declared.new ≡ declared.old ++ map (declaration core.now kind) (enumerate_from 0 objects.now)) }
+    ensures { OnOk result (declared.new ≡ declared.old ++ declared_as core kind objects.now) }
 {
     for (index, object) in objects.iter().enumerate() {
         declared.push(Declaration {
             name: Text::of(object.name.as_str()),
             kind,
-            core: number_id(core.id),
+            core,
             index,
             max: object.max,
             min: object.min,
@@ -89,12 +90,26 @@ fn declare<'t>(
 {
     for kind in KINDS.iter() {
         let objects = core.objects(alloc, *kind)?;
-        declare_each(declared, core, *kind, objects.as_slice())?;
+        declare_each(declared, number_id(core.id), *kind, objects.as_slice())?;
     }
     Ok(())
 }
 
-/// The objects of a text, core by core.
+fn declare_common<'t>(
+    alloc: Global,
+    declared: &mut List<Declaration<'t>>,
+    text: &'t ConfigText<'t>,
+) -> Result<(), AllocError>
+    ensures { OnOk result (declared.new ≡ declared.old ++ flat_map (common_of text.now) COMMON) }
+{
+    for kind in COMMON.iter() {
+        let objects = text.common(alloc, *kind)?;
+        declare_each(declared, NOBODY, *kind, objects.as_slice())?;
+    }
+    Ok(())
+}
+
+/// The objects of a text: those that all cores have in common, and then those of each core.
 pub fn declarations_of<'t>(
     alloc: Global,
     text: &'t ConfigText<'t>,
@@ -102,6 +117,7 @@ pub fn declarations_of<'t>(
     ensures { IfOk result (λ declared. declared ≡ declarations text.now) }
 {
     let mut declared = List::new(alloc);
+    declare_common(alloc, &mut declared, text)?;
     let cores = text.cores.as_slice();
     for core in cores {
         declare(alloc, &mut declared, core)?;

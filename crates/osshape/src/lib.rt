@@ -11,7 +11,7 @@ mod shapes;
 mod table_shapes;
 
 pub use declarations::{Declaration, byte_of, number_id, word_of};
-pub use places::{MODE, Objects};
+pub use places::Objects;
 pub use shapes::{
     AlarmStartText, AlarmText, ConfigReader, ConfigText, CoreText, CounterText, IsrText,
     ResourceText, TaskText,

@@ -1,24 +1,20 @@
 //! Where the objects of a configuration's text stand, by their names.
 
-ghost use Rattle.std.specs.Prelude.{◌≡◌, IfOk, IfSome, IsTrue, count_by, find, is_some, map, option_copied, true};
-ghost use Rattle.std.specs.List.{list_all, list_any};
-ghost use Rattle.std.specs.Str.{bytes_eq};
+ghost use Rattle.std.specs.Prelude.{◌≡◌, IfOk, IfSome, IsTrue, count_by, find, is_some, option_copied, true};
+ghost use Rattle.std.specs.List.{list_all};
 ghost use Rattle.osbase.specs.Names.{is_name};
 ghost use Rattle.osplan.specs.Expressible.{are_distinct};
 ghost use Rattle.osshape.specs.declared.declarations.Declaration.{Declaration as Declared};
-ghost use Rattle.osshape.specs.Shape.{has_named_objects};
-ghost use Rattle.osshape.specs.Declarations.{counter_declared, declarations, has_name, is_alone, place_alone, place_in, names_of};
+ghost use Rattle.osshape.specs.Shape.{is_named};
+ghost use Rattle.osshape.specs.Declarations.{counter_declared, declarations, has_name, is_alone, mode_ref, place_alone, place_in, names_of};
 ghost use Rattle.osshape.specs.Index.{Indexes};
 
 use crate::declarations::{Declaration, byte_of, declarations_of};
 use crate::shapes::ConfigText;
-use osbase::{List, ObjectKind, Place};
+use osbase::{List, ModeId, ObjectKind, Place, Reference};
 use osforms::Places;
 use std::alloc::{AllocError, Global};
 use std::collections::HashMap;
-
-/// The name of the only mode.
-pub const MODE: &str = "M";
 
 fn place_in(kind: ObjectKind, declaration: &Declaration) -> Option<Place>
     ensures { result ≡ place_in kind declaration.now }
@@ -68,7 +64,7 @@ pub struct Objects<'t> {
 impl<'t> Objects<'t> {
     /// The objects of this text, whose names are in form, as in every shape.
     pub fn of(alloc: Global, text: &'t ConfigText<'t>) -> Result<Self, AllocError>
-        requires named { IsTrue (list_all has_named_objects text.now.cores) }
+        requires named { IsTrue (is_named text.now) }
         ensures { IfOk result (λ objects. objects.declared ≡ declarations text.now) }
     {
         let declared = declarations_of(alloc, text)?;
@@ -76,20 +72,24 @@ impl<'t> Objects<'t> {
         Ok(Objects { declared, index })
     }
 
-    /// Whether the names of the only mode and of all objects are different.
+    /// Whether the names of all objects are different.
     pub fn are_named_apart(&self) -> bool
         ensures { result ≡ are_distinct (names_of self.now.declared) }
     {
-        !self.is_declared(MODE) && self.index.are_apart
+        self.index.are_apart
     }
 
-    fn is_declared(&self, name: &str) -> bool
-        ensures { result ≡ list_any (λ later. bytes_eq later name.now) (map (λ (d : Declared). d.name) self.now.declared) }
+    /// The mode of this name; the first where there is none.
+    pub fn mode(&self, name: &str) -> ModeId
+        ensures { result ≡ mode_ref self.now.declared name.now }
     {
-        self.find(name).is_some()
+        match self.place(ObjectKind::Mode, name) {
+            Some(place) => ModeId::at(place),
+            None => ModeId { index: 0 },
+        }
     }
 
-    /// The counter of this name, if that is the name of no other object and of no mode.
+    /// The counter of this name, if that is the name of no other object.
     pub fn counter(&self, name: &str) -> Option<&Declaration<'t>>
         ensures { option_copied result ≡ counter_declared self.now.declared name.now }
     {
@@ -105,7 +105,7 @@ impl<'t> Objects<'t> {
         }
     }
 
-    /// Where the object of this kind and name stands, if that is the name of no other object and of no mode.
+    /// Where the object of this kind and name stands, if that is the name of no other object.
     pub fn place_alone(&self, kind: ObjectKind, name: &str) -> Option<Place>
         ensures value { result ≡ place_alone self.now.declared kind name.now }
         ensures in_form { IfSome result (λ _. is_name name.now ≡ true) }
@@ -122,13 +122,12 @@ impl<'t> Objects<'t> {
         }
     }
 
-    // Whether no other object has the name of this one, nor the mode. Where no name stands twice, none is counted.
-    #[tactic(auto, using(crate::proofs::Alone::alone_if))]
+    // Whether no other object has the name of this one. Where no name stands twice, none is counted.
     fn is_alone(&self, name: &str) -> bool
         requires declared { is_some (find (has_name name.now) self.now.declared) ≡ true }
         ensures { result ≡ is_alone self.now.declared name.now }
     {
-        self.are_named_apart() || (name != MODE && self.count(name) == 1)
+        self.are_named_apart() || self.count(name) == 1
     }
 
     // How many objects have the name.

@@ -1,13 +1,13 @@
 //! The shape of a configuration: its members and their types. Limits and names are judged later. Texts are
 //! borrowed from the value that is read.
 
-ghost use Rattle.std.specs.Prelude.{◌≡◌, [], IfOk, IsTrue, map, true};
+ghost use Rattle.std.specs.Prelude.{◌≡◌, [], ◌∷◌, IfOk, IsTrue, codes, map, true};
 ghost use Rattle.std.specs.List.{list_all};
 ghost use Rattle.osbase.specs.Names.{is_name};
 ghost use Rattle.osread.specs.Json.{each_of, member_or};
 ghost use Rattle.osread.specs.Reading.{Gives};
 ghost use Rattle.serde_json.specs.View.{view};
-ghost use Rattle.osshape.specs.Shape.{task_shape, isr_shape, resource_shape, counter_shape, alarm_start_shape, alarm_shape, core_shape, config_shape, has_named_objects, numbered, objects_in, protection_of, unnumbered};
+ghost use Rattle.osshape.specs.Shape.{task_shape, isr_shape, resource_shape, counter_shape, alarm_start_shape, alarm_shape, common_in, core_shape, config_shape, has_named_objects, is_named, mode_shape, numbered, objects_in, protection_of, unnumbered};
 ghost use Rattle.osshape.specs.declared.shapes.Named.{Named as NamedValue};
 
 use crate::table_shapes::{TableReader, TableText};
@@ -79,6 +79,8 @@ pub struct AlarmText<'v> {
 #[derive(Debug, Drop)]
 pub struct CoreText<'v> {
     pub id: Whole,
+    /// None where the text says nothing of it.
+    pub mode: Option<Text<'v>>,
     pub start: List<Whole>,
     pub protection: Protection,
     pub tasks: List<TaskText<'v>>,
@@ -97,7 +99,7 @@ pub struct Named<'v> {
     pub min: Whole,
 }
 
-/// What a core's text has under a name.
+/// What a text has under a name.
 trait Declared<'v> {
     ghost named: { Self → NamedValue };
 
@@ -113,6 +115,15 @@ fn unnumbered<'v>(name: &Text<'v>) -> Named<'v>
         name: Text::of(name.as_str()),
         max: None,
         min: None,
+    }
+}
+
+/// A mode is its name.
+impl<'v> Declared<'v> for Text<'v> {
+    ghost named = { unnumbered };
+
+    fn named(&self) -> Named<'v> {
+        unnumbered(self)
     }
 }
 
@@ -191,6 +202,7 @@ impl<'v> CoreText<'v> {
         ensures { IfOk result (λ objects. objects ≡ objects_in kind self.now) }
     {
         match kind {
+            ObjectKind::Mode => Ok(List::new(alloc)),
             ObjectKind::Task => each_named(alloc, &self.tasks),
             ObjectKind::Isr => each_named(alloc, &self.isrs),
             ObjectKind::Resource => each_named(alloc, &self.resources),
@@ -207,7 +219,24 @@ pub struct ConfigText<'v> {
     pub version: Whole,
     pub cap: Whole,
     pub master: Whole,
+    pub modes: List<Text<'v>>,
     pub cores: List<CoreText<'v>>,
+}
+
+impl<'v> ConfigText<'v> {
+    /// What the text has of each object of a kind that all cores have in common, in their order.
+    pub(crate) fn common(
+        &self,
+        alloc: Global,
+        kind: ObjectKind,
+    ) -> Result<List<Named<'v>>, AllocError>
+        ensures { IfOk result (λ objects. objects ≡ common_in kind self.now) }
+    {
+        match kind {
+            ObjectKind::Mode => each_named(alloc, &self.modes),
+            _ => Ok(List::new(alloc)),
+        }
+    }
 }
 
 // The list of a member that may be left out, then empty.
@@ -385,6 +414,29 @@ impl<'v> JsonReader<'v, Protection> for ProtectionReader {
     }
 }
 
+// Reads the mode of a core.
+#[derive(Clone, Copy, Debug)]
+struct ModeReader;
+
+impl<'v> JsonReader<'v, Option<Text<'v>>> for ModeReader {
+    ghost shape = { λ _ d. mode_shape d };
+
+    ghost passes = { λ _ _. true };
+
+    fn read(&self, alloc: Global, value: &'v Value) -> Result<Option<Text<'v>>, Refusal> {
+        Ok(Some(NameReader.read(alloc, value)?))
+    }
+}
+
+// The modes of a text that names none.
+fn default_modes<'v>(alloc: Global) -> Result<List<Text<'v>>, AllocError>
+    ensures { IfOk result (λ modes. modes ≡ codes "M" ∷ []) }
+{
+    let mut modes = List::new(alloc);
+    modes.push(Text::of("M"))?;
+    Ok(modes)
+}
+
 // Reads a core.
 #[derive(Clone, Copy, Debug)]
 struct CoreReader;
@@ -400,6 +452,7 @@ impl<'v> JsonReader<'v, CoreText<'v>> for CoreReader {
             value,
             &[
                 "id",
+                "mode",
                 "start",
                 "protection",
                 "tasks",
@@ -412,6 +465,7 @@ impl<'v> JsonReader<'v, CoreText<'v>> for CoreReader {
         )?;
         Ok(CoreText {
             id: at(alloc, value, "id", &WholeReader)?,
+            mode: at_or(alloc, value, "mode", &ModeReader, None)?,
             start: list_at(alloc, value, "start", WholeReader)?,
             protection: at_or(
                 alloc,
@@ -437,15 +491,17 @@ pub struct ConfigReader;
 impl<'v> JsonReader<'v, ConfigText<'v>> for ConfigReader {
     ghost shape = { λ _ d. config_shape d };
 
-    ghost passes = { λ _ config. list_all has_named_objects config.cores };
+    ghost passes = { λ _ config. is_named config };
 
     #[tactic(auto, unfolding(crate::specs::Shape::config_shape))]
     fn read(&self, alloc: Global, value: &'v Value) -> Result<ConfigText<'v>, Refusal> {
-        only_members(value, &["version", "cap", "master", "cores"])?;
+        only_members(value, &["version", "cap", "master", "modes", "cores"])?;
+        let names = ListOf { of: NameReader };
         Ok(ConfigText {
             version: at_or(alloc, value, "version", &WholeReader, Some(1))?,
             cap: at_or(alloc, value, "cap", &WholeReader, Some(16))?,
             master: at_or(alloc, value, "master", &WholeReader, Some(0))?,
+            modes: at_or(alloc, value, "modes", &names, default_modes(alloc)?)?,
             cores: at(alloc, value, "cores", &ListOf { of: CoreReader })?,
         })
     }

@@ -51,8 +51,8 @@ abbrev pub has_drained : List Item → Bool
 has_drained [] = false
 has_drained (item ∷ items) = is_drain item || has_drained items
 
--- A core's items: each in turn may be taken; its stimuli begin the listed ones, and are all of them if it has drained and was neither
--- shut down nor halted.
+-- A core's items: each in turn may be taken; its stimuli begin the listed ones, and are all of them if it has drained and is neither
+-- down nor halted.
 pub record FitsCore (plan : Plan) (stimuli : List CoreStimuli) (id : CoreId) (items : List Item) : Type 0 where
   pub alone : solo (view_of plan id) items ≡ Some (history_by plan id items)
   pub begins : IsBeginning (stimuli_in items) (stimuli_of stimuli id)

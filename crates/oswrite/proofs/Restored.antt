@@ -1,32 +1,33 @@
 -- The data of a configuration has the shape of one. So its text has no fault, and means the configuration.
-use Rattle.std.proofs.Common.{◌≡◌, ℕ, ◌&&◌, Bool, true, List, [], ◌∷◌, map, Option, Some, None, option_map, IsTrue, refl, sym, ap, ◌∙◌, arith, ◌<◌, ◌++◌, is_some, unwrap_or, length, option_and_then, not}
-use Rattle.std.specs.List.{list_all, flat_map, AllByRecursion}
+use Rattle.std.proofs.Common.{◌≡◌, ℕ, ◌&&◌, Bool, true, List, [], ◌∷◌, map, Option, Some, None, option_map, IsTrue, refl, sym, ap, ◌∙◌, arith, ◌<◌, is_some, unwrap_or, length, option_and_then, not}
+use Rattle.std.specs.List.{list_all, AllByRecursion}
 use Rattle.std.specs.Option.{option_map_or}
-use Rattle.std.proofs.lemmas.Bool.{and_parts, true≢false, eqb-true, and_from, or_right}
-use Rattle.std.proofs.lemmas.Slice.Eq.{bytes_eq-Decides}
-use Rattle.serde_json.specs.Data.{Data}
+use Rattle.std.proofs.lemmas.Bool.{and_parts, and_from, or_right}
+use Rattle.std.specs.Str.{bytes_eq}
+use Rattle.serde_json.specs.Data.{Data, string}
 use Rattle.serde_json.specs.View.{items_of}
-use Rattle.osbase.specs.Objects.{counter_object, counter_place, object_of_call}
+use Rattle.osbase.specs.Objects.{counter_object, counter_place, mode_object, mode_place, object_of_call}
+use Rattle.osbase.specs.declared.objects.TheConstants.{NOBODY}
 use Rattle.oscheck.specs.Words.{Alarm, AlarmStart, Core, Counter, CounterRef, ExpiryPoint, Isr, IsrText, ModeId, Plan, RemoteCall, Resource, Table, TableStart, Task, CoreId, CoreMode, Declaration, Object, ObjectKind, Op, AlarmStartText, ResourceText, TableStartText, TableText}
 use Rattle.osbase.specs.Names.{is_name}
 use Rattle.osplan.specs.Limits as limits
 use Rattle.osplan.specs.Limits.{number_of, CoreSizes, CounterSizes, PointSizes, TableSizes, are_counters_within, is_alarm_within, is_between, is_start, is_table_start_within, is_table_timed, is_table_within, is_task_within, is_isr_within, is_core_within, same_number, has_number, are_numbers_distinct}
-use Rattle.osplan.specs.Expressible.{mode_name, are_mode_name, is_only_mode, is_task_expressible, is_isr_expressible, is_resource_expressible, is_counter_expressible, is_action_expressible, is_alarm_expressible, is_table_expressible, is_core_expressible, is_expressible}
+use Rattle.osplan.specs.Expressible.{dont_care, is_mode_expressible, is_task_expressible, is_isr_expressible, is_resource_expressible, is_counter_expressible, is_action_expressible, is_alarm_expressible, is_table_expressible, is_core_expressible, is_expressible}
 use Rattle.osread.specs.Reading.{each}
 use Rattle.osread.specs.Json.{elements, whole_of, name_of as read_name, or_null}
 use Rattle.serde_json.specs.Find.{as_str}
-use Rattle.osshape.specs.Shape.{task_shape, isr_shape, resource_shape, counter_shape, alarm_start_shape, alarm_shape, point_shape, table_start_shape, table_shape, core_shape, config_shape}
+use Rattle.osshape.specs.Shape.{mode_shape, task_shape, isr_shape, resource_shape, counter_shape, alarm_start_shape, alarm_shape, point_shape, table_start_shape, table_shape, core_shape, config_shape}
 use Rattle.osplan.specs.Names.{name_of_mode, name_of}
 use Rattle.osplan.specs.Objects.{alarm_modes, table_actions, table_modes, posted_at_once}
 use Rattle.osplan.specs.Objects as plans
 use Rattle.osplan.specs.Protection.{protection_named, protection_word}
 use Rattle.osplan.specs.declared.protection.Protection.{Protection}
 use Rattle.osplan.proofs.Scripts.{all_scripts}
-use Rattle.osplan.proofs.Tests.{all-both, all-weaker, each-flat, find-holds, any-find, any-mapped}
+use Rattle.osplan.proofs.Tests.{all-both, all-weaker, each-flat, any-find, any-mapped}
 use Rattle.osplan.proofs.Within.{limit-parts, text-parts, core-text-parts, TextParts, LimitParts}
 use Rattle.osdraft.proofs.Loops.{always}
 use Rattle.osdraft.proofs.Right.{three-parts, acting-right, each-right, is_right}
-use Rattle.oswrite.specs.Writing.{id_data, mode_data, task_data, isr_data, resource_data, counter_data, start_data, or_null_data, alarm_data, action_data, point_data, table_start_data, table_data, core_data, config_data, op_text, script_text}
+use Rattle.oswrite.specs.Writing.{core_mode_word, name_data, id_data, mode_data, task_data, isr_data, resource_data, counter_data, start_data, or_null_data, alarm_data, action_data, point_data, table_start_data, table_data, core_data, config_data, op_text, script_text}
 use Rattle.osread.proofs.Contents.{elements-items_of}
 use Rattle.oswrite.proofs.Placed.{found, names-said, placed}
 use Rattle.oswrite.proofs.Said.{task_said, isr_said, resource_said, counter_said, start_said, counter_name, action_said, alarm_said, point_said, table_start_said, table_said, core_said, config_said}
@@ -43,37 +44,24 @@ use Rattle.osforms.proofs.Operations.{IsNamed, text-meant, text-none, text-some,
 use Rattle.osbase.specs.declared.items.CoreMode.TheVariants.{Named, DontCare}
 use Rattle.osplan.specs.View.{core_of, counter_in}
 use Rattle.osplan.specs.Expressible as said
-use Rattle.osplan.proofs.Distinct.{distinct-back}
+use Rattle.osplan.proofs.ModeObjects.{mode-named, mode-said, nobody, there-mode}
 use Rattle.osplan.proofs.Starting.{master-low}
 use Rattle.oscheck.specs.Action.{action_of, any_action}
-use Rattle.oscheck.specs.Check.{core_scripts, counter_sizes, isr_sizes, task_sizes, start_sizes, alarm_sizes, point_sizes, table_sizes, core_sizes, sizes_of, numbers_of, is_text_within, is_each_once, is_mode_name, are_known, are_near, is_core_timed, are_timed, are_masks, are_operations, tests_of}
-use Rattle.osshape.specs.Declarations.{counter_ref, number_id, declarations, place_of, names_of, counter_declared, declared_sizes, id_of}
+use Rattle.oscheck.specs.Check.{core_scripts, counter_sizes, isr_sizes, task_sizes, start_sizes, alarm_sizes, point_sizes, table_sizes, core_sizes, sizes_of, numbers_of, is_text_within, is_unreserved, is_each_once, is_core_mode_known, is_mode_known, are_known, are_near, is_core_timed, are_timed, are_masks, are_operations, tests_of}
+use Rattle.osshape.specs.Declarations.{counter_ref, mode_ref, number_id, declarations, place_of, names_of, counter_declared, declared_sizes, id_of}
 use Rattle.oscheck.specs.Operation.{is_operation, is_operation_known, operations_of, op_of}
-use Rattle.osdraft.specs.Meaning.{only_mode, task_plan, isr_plan, resource_plan, counter_plan, start_plan, alarm_plan, point_plan, table_start_plan, table_plan, core_plan, plan_of, config_of, config_of_shape}
+use Rattle.osdraft.specs.Meaning.{core_mode, task_plan, isr_plan, resource_plan, counter_plan, start_plan, alarm_plan, point_plan, table_start_plan, table_plan, core_plan, plan_of, config_of, config_of_shape}
 use Rattle.osshape.proofs.Lists.{map-back, list_all-by, map-same}
 use Rattle.osdraft.proofs.Found.{IsByte, byte-small, is-byte, is-word, HasCounters, NamedCounter, named-counter, IsFound, each-found}
 use Rattle.oswrite.proofs.Joining.{parts-pieces}
-use Rattle.std.proofs.lemmas.List.{length-map, map-append}
+use Rattle.std.proofs.lemmas.List.{length-map, map-append, map-id}
 use Rattle.osforms.proofs.ActionTexts.{meant_action}
 use Rattle.serde_json.specs.Read.{read}
 use Rattle.osplan.specs.Fault.{if_faultless, failing}
 use Rattle.oscheck.specs.declared.verdicts.Verdict.{Verdict}
-use Rattle.oscheck.specs.Verdict.{action_verdict, alarm_verdict, both, core_verdict, each as each_verdict, isr_verdict, op_verdict, point_verdict, table_verdict, task_verdict, text_verdict}
+use Rattle.oscheck.specs.Verdict.{action_verdict, alarm_verdict, both, core_verdict, each as each_verdict, isr_verdict, op_verdict, point_verdict, table_verdict, task_verdict, text_verdict, with_names}
 use Rattle.osdraft.proofs.Meant.{near_kept, TableLimits, table-limits, cap-byte, counter-words, isr-bytes, posted-same, start-words, table-start-word, task-bytes}
 use Rattle.osforms.specs.Action.{is_action as is_action_text}
-
--- ---- modes
-
-modes-are : (names : List (List ℕ)) → are_mode_name names ≡ true → names ≡ mode_name ∷ []
-modes-are [] h = absurd (true≢false (sym h))
-modes-are (name ∷ []) h = ap (λ n. n ∷ []) ((bytes_eq-Decides name mode_name).0 h)
-modes-are (name ∷ other ∷ names) h = absurd (true≢false (sym h))
-
-mode-is : (mode : ModeId) → is_only_mode mode ≡ true → mode ≡ record { index = 0 }
-mode-is mode h = ap (λ (n : ℕ). let m : ModeId = record { index = n } in m) (eqb-true mode.index 0 h)
-
-mode-text : (plan : Plan) → are_mode_name plan.modes ≡ true → (mode : ModeId) → is_only_mode mode ≡ true → name_of_mode plan mode ≡ mode_name
-mode-text plan modes mode h = rw (mode-is mode h, modes-are plan.modes modes) refl
 
 -- ---- lists
 
@@ -89,10 +77,6 @@ inside-some e = cc
 
 id-back : (id : CoreId) → IsByte (number_of id) → number_id (number_of id) ≡ id
 id-back id byte = rw (inside-some byte) refl
-
-mode-back : (mode : CoreMode) → said.is_in_only_mode mode ≡ true → Named only_mode ≡ mode
-mode-back (Named m) h = ap Named (sym (mode-is m h))
-mode-back DontCare h = absurd (true≢false (sym h))
 
 -- the word of an answer is read as the answer; the first clause is only there to make a case of each
 protection-back : (p : Protection) → protection_named (protection_word p) ≡ Some p
@@ -112,7 +96,7 @@ abbrev is_sound_action : Plan → RemoteCall → Bool
 is_sound_action plan action = limits.is_action_known plan action && said.is_action_expressible action
 
 abbrev is_kept_task : Plan → Task → Bool
-is_kept_task plan task = is_task_within (limits.task_sizes task) && limits.is_script_known plan task.script && said.is_task_expressible task
+is_kept_task plan task = is_task_within (limits.task_sizes task) && limits.is_script_known plan task.script && limits.is_task_known plan task && said.is_task_expressible task
 
 abbrev is_kept_isr : Plan → Isr → Bool
 is_kept_isr plan isr = is_isr_within (limits.isr_sizes isr) && limits.is_script_known plan isr.script && said.is_isr_expressible isr
@@ -136,7 +120,7 @@ core-limits : (s : CoreSizes) → is_core_within s ≡ true → (is_between 0 7 
     × (list_all is_isr_within s.isrs ≡ true)
 core-limits s h = (grind arith, grind arith, grind arith, grind arith, grind arith, grind arith, grind arith, grind arith, grind arith)
 
-kept-task : (plan : Plan) (task : Task) → is_kept_task plan task ≡ true → (is_task_within (limits.task_sizes task) ≡ true) × (list_all said.is_only_mode task.auto ≡ true) × (list_all (is_kept_op plan) task.script ≡ true) × (said.is_jumping_within task.script ≡ true)
+kept-task : (plan : Plan) (task : Task) → is_kept_task plan task ≡ true → (is_task_within (limits.task_sizes task) ≡ true) × (list_all (limits.is_mode plan) task.auto ≡ true) × (list_all (is_kept_op plan) task.script ≡ true) × (said.is_jumping_within task.script ≡ true)
 kept-task plan task h = (grind arith, grind arith, all-both _ has_masks task.script (all-both (limits.is_op_known plan) is_in_form task.script (grind arith) (grind arith)) (grind arith), grind arith)
 
 kept-isr : (plan : Plan) (isr : Isr) → is_kept_isr plan isr ≡ true → (is_isr_within (limits.isr_sizes isr) ≡ true) × (list_all (is_kept_op plan) isr.script ≡ true) × (said.is_jumping_within isr.script ≡ true) × (said.is_free_of_resources isr.script ≡ true)
@@ -144,19 +128,19 @@ kept-isr plan isr h = (grind arith, all-both _ has_masks isr.script (all-both (l
 
 -- Of an alarm, or of a table, what it keeps of its numbers, its counter, what it does, and its modes. Each is of tests that are given,
 -- whatever they are.
-acting-parts : (within counter known modes name said only : Bool) → (within && (counter && known && modes) && (name && said && only)) ≡ true → (within ≡ true) × (counter ≡ true) × ((known && said) ≡ true) × (only ≡ true)
-acting-parts within counter known modes name said only h = (grind arith, grind arith, grind arith, grind arith)
+acting-parts : (within counter known modes name said : Bool) → (within && (counter && known && modes) && (name && said)) ≡ true → (within ≡ true) × (counter ≡ true) × ((known && said) ≡ true) × (modes ≡ true)
+acting-parts within counter known modes name said h = (grind arith, grind arith, grind arith, grind arith)
 
 alarm-parts : (plan : Plan) (alarm : Alarm) → is_kept_alarm plan alarm ≡ true → (is_alarm_within (limits.alarm_sizes (counter_in plan) alarm) ≡ true) × (limits.is_object plan (counter_object alarm.counter) ≡ true)
-    × (is_sound_action plan alarm.action ≡ true) × (list_all said.is_only_mode (alarm_modes alarm) ≡ true)
+    × (is_sound_action plan alarm.action ≡ true) × (list_all (limits.is_mode plan) (alarm_modes alarm) ≡ true)
 alarm-parts plan alarm h =
-    acting-parts (is_alarm_within (limits.alarm_sizes (counter_in plan) alarm)) (limits.is_object plan (counter_object alarm.counter)) (limits.is_action_known plan alarm.action) (list_all (limits.is_mode plan) (alarm_modes alarm)) (is_name alarm.name) (said.is_action_expressible alarm.action) (list_all said.is_only_mode (alarm_modes alarm)) h
+    acting-parts (is_alarm_within (limits.alarm_sizes (counter_in plan) alarm)) (limits.is_object plan (counter_object alarm.counter)) (limits.is_action_known plan alarm.action) (list_all (limits.is_mode plan) (alarm_modes alarm)) (is_name alarm.name) (said.is_action_expressible alarm.action) h
 
 table-parts : (plan : Plan) (table : Table) → is_kept_table plan table ≡ true → ((is_table_within (limits.table_sizes (counter_in plan) table) && is_table_timed (limits.table_sizes (counter_in plan) table)) ≡ true) × (limits.is_object plan (counter_object table.counter) ≡ true)
-    × ((list_all (limits.is_action_known plan) (table_actions table) && list_all said.is_action_expressible (table_actions table)) ≡ true) × (list_all said.is_only_mode (table_modes table) ≡ true)
+    × ((list_all (limits.is_action_known plan) (table_actions table) && list_all said.is_action_expressible (table_actions table)) ≡ true) × (list_all (limits.is_mode plan) (table_modes table) ≡ true)
 table-parts plan table h =
     let sizes = limits.table_sizes (counter_in plan) table in
-    acting-parts (is_table_within sizes && is_table_timed sizes) (limits.is_object plan (counter_object table.counter)) (list_all (limits.is_action_known plan) (table_actions table)) (list_all (limits.is_mode plan) (table_modes table)) (is_name table.name) (list_all said.is_action_expressible (table_actions table)) (list_all said.is_only_mode (table_modes table)) h
+    acting-parts (is_table_within sizes && is_table_timed sizes) (limits.is_object plan (counter_object table.counter)) (list_all (limits.is_action_known plan) (table_actions table)) (list_all (limits.is_mode plan) (table_modes table)) (is_name table.name) (list_all said.is_action_expressible (table_actions table)) h
 
 kept-action : (plan : Plan) (action : RemoteCall) → is_sound_action plan action ≡ true → is_kept_action plan action ≡ true
 kept-action plan action h =
@@ -177,8 +161,9 @@ kept-points plan table h =
     all-both _ _ table.points (sym (list_all-map (λ (point : PointSizes). is_between 0 1000000000 point.offset) limits.point_sizes table.points) ∙ (limits-of plan table h).offsets)
     (each-flat (is_kept_action plan) (λ (point : ExpiryPoint). point.actions) table.points actions)
 
--- The objects of a core that say anything but numbers.
+-- The mode of a core, and its objects that say anything but numbers.
 record KeptCore (plan : Plan) (core : Core) : Type 0 where
+  mode : limits.is_core_mode plan core.mode ≡ true
   tasks : list_all (is_kept_task plan) core.tasks ≡ true
   isrs : list_all (is_kept_isr plan) core.isrs ≡ true
   alarms : list_all (is_kept_alarm plan) core.alarms ≡ true
@@ -201,7 +186,9 @@ kept-core plan core h =
     let scripts = and_parts _ _ (sym (all_scripts (limits.is_script_known plan) core) ∙ known.1) in
     let texts = core-text-parts core parts.3 in
     record {
-      tasks = all-both _ said.is_task_expressible core.tasks (all-both _ (λ (task : Task). limits.is_script_known plan task.script) core.tasks (sym (list_all-map is_task_within limits.task_sizes core.tasks) ∙ limit.2) scripts.0) texts.tasks;
+      mode = known.0;
+      tasks = all-both _ said.is_task_expressible core.tasks
+          (all-both _ (limits.is_task_known plan) core.tasks (all-both _ (λ (task : Task). limits.is_script_known plan task.script) core.tasks (sym (list_all-map is_task_within limits.task_sizes core.tasks) ∙ limit.2) scripts.0) known.2) texts.tasks;
       isrs = all-both _ said.is_isr_expressible core.isrs (all-both _ (λ (isr : Isr). limits.is_script_known plan isr.script) core.isrs (sym (list_all-map is_isr_within limits.isr_sizes core.isrs) ∙ limit.8) scripts.1) texts.isrs;
       alarms = all-both _ said.is_alarm_expressible core.alarms (all-both _ (limits.is_alarm_known plan) core.alarms (sym (list_all-map is_alarm_within (limits.alarm_sizes (counter_in plan)) core.alarms) ∙ limit.6) known.3) texts.alarms;
       tables = all-both _ said.is_table_expressible core.tables
@@ -232,15 +219,49 @@ module _ (plan : Plan) (inside : IsTrue (limits.is_within_limits plan)) (sayable
   cores : list_all (is_kept_core plan) plan.cores ≡ true
   cores = kept-cores plan inside sayable
 
+  -- ---- what names stand for
+
+  -- No name stands twice.
+  apart : said.are_distinct (names_of objects) ≡ true
+  apart = ap said.are_distinct (sym (names-said plan)) ∙ parts.names
+
+  -- Each object of the configuration has a name in form, which stands for it.
+  object-named : (object : Object) → limits.is_object plan object ≡ true → IsNamed (place_of objects) (name_of plan) object
+  object-named object known =
+      let here = found plan inside sayable object known in
+      record { in_form = rw here.1.name_is here.1.in_form; found = ap (place_of objects object.kind) here.1.name_is ∙ placed objects _ apart here.1.low here.1.declared }
+
+  -- So has each mode.
+  none : core_of plan NOBODY ≡ None
+  none = nobody plan bounds.cores
+
+  mode-placed : (mode : ModeId) → limits.is_mode plan mode ≡ true → place_of objects ObjectKind.Mode (name_of_mode plan mode) ≡ Some (mode_place mode)
+  mode-placed mode h = ap (place_of objects ObjectKind.Mode) (sym (mode-named plan none mode)) ∙ (object-named (mode_object mode) (there-mode plan none mode h)).found
+
+  mode-back : (mode : ModeId) → limits.is_mode plan mode ≡ true → mode_ref objects (name_of_mode plan mode) ≡ mode
+  mode-back mode h = rw (mode-placed mode h) refl
+
+  core-mode-back : (mode : CoreMode) → limits.is_core_mode plan mode ≡ true → core_mode objects (Some (core_mode_word plan mode)) ≡ mode
+  core-mode-back (Named mode) h = rw (mode-said plan sayable mode h).not_any (ap Named (mode-back mode h))
+  core-mode-back DontCare h = refl
+
+  core-mode-known : (mode : CoreMode) → limits.is_core_mode plan mode ≡ true → is_core_mode_known objects (Some (core_mode_word plan mode)) ≡ true
+  core-mode-known (Named mode) h = or_right (bytes_eq (name_of_mode plan mode) dont_care) _ (ap is_some (mode-placed mode h))
+  core-mode-known DontCare h = refl
+
   -- ---- the shape
 
-  mode-shape : (mode : ModeId) → is_only_mode mode ≡ true → read_name (mode_data plan mode) ≡ Some (name_of_mode plan mode)
-  mode-shape mode h = rw (mode-text plan parts.modes mode h) refl
+  mode-shape : (mode : ModeId) → limits.is_mode plan mode ≡ true → read_name (mode_data plan mode) ≡ Some (name_of_mode plan mode)
+  mode-shape mode h = rw (mode-said plan sayable mode h).in_form refl
 
-  modes-shape : (modes : List ModeId) → list_all is_only_mode modes ≡ true → each read_name (elements (items_of (map (mode_data plan) modes))) ≡ Some (map (name_of_mode plan) modes)
-  modes-shape = each-items read_name (mode_data plan) (name_of_mode plan) is_only_mode mode-shape
+  core-mode-shape : (mode : CoreMode) → limits.is_core_mode plan mode ≡ true → mode_shape (string (core_mode_word plan mode)) ≡ Some (Some (core_mode_word plan mode))
+  core-mode-shape (Named mode) h = ap (option_map Some) (mode-shape mode h)
+  core-mode-shape DontCare h = refl
 
-  task-shape : (task : Task) → is_task_expressible task ≡ true → task_shape (task_data plan task) ≡ Some (task_said plan task)
+  modes-shape : (modes : List ModeId) → list_all (limits.is_mode plan) modes ≡ true → each read_name (elements (items_of (map (mode_data plan) modes))) ≡ Some (map (name_of_mode plan) modes)
+  modes-shape = each-items read_name (mode_data plan) (name_of_mode plan) (limits.is_mode plan) mode-shape
+
+  task-shape : (task : Task) → (is_task_expressible task && limits.is_task_known plan task) ≡ true → task_shape (task_data plan task) ≡ Some (task_said plan task)
   unfolding task_shape
   task-shape task h =
       let name : is_name task.name ≡ true = grind arith in
@@ -258,31 +279,31 @@ module _ (plan : Plan) (inside : IsTrue (limits.is_within_limits plan)) (sayable
   unfolding counter_shape
   counter-shape counter h = rw h refl
 
-  start-shape : (auto : AlarmStart) → list_all is_only_mode auto.modes ≡ true → alarm_start_shape (start_data plan auto) ≡ Some (start_said plan auto)
+  start-shape : (auto : AlarmStart) → list_all (limits.is_mode plan) auto.modes ≡ true → alarm_start_shape (start_data plan auto) ≡ Some (start_said plan auto)
   unfolding alarm_start_shape
   start-shape auto h = rw (modes-shape auto.modes h) refl
 
-  table-start-shape : (auto : TableStart) → list_all is_only_mode auto.modes ≡ true → table_start_shape (table_start_data plan auto) ≡ Some (table_start_said plan auto)
+  table-start-shape : (auto : TableStart) → list_all (limits.is_mode plan) auto.modes ≡ true → table_start_shape (table_start_data plan auto) ≡ Some (table_start_said plan auto)
   unfolding table_start_shape
   table-start-shape auto h = rw (modes-shape auto.modes h) refl
 
   -- of what starts by itself, null where it does not
-  auto-shape : {X Y : Type 0} (modes : X → List ModeId) (shape : Data → Option Y) (write : X → Data) (text_of : X → Y) → ((x : X) → list_all is_only_mode (modes x) ≡ true → or_null shape (write x) ≡ Some (Some (text_of x))) → (o : Option X)
-      → list_all is_only_mode (option_map_or modes o []) ≡ true → or_null shape (or_null_data write o) ≡ Some (option_map text_of o)
+  auto-shape : {X Y : Type 0} (modes : X → List ModeId) (shape : Data → Option Y) (write : X → Data) (text_of : X → Y) → ((x : X) → list_all (limits.is_mode plan) (modes x) ≡ true → or_null shape (write x) ≡ Some (Some (text_of x))) → (o : Option X)
+      → list_all (limits.is_mode plan) (option_map_or modes o []) ≡ true → or_null shape (or_null_data write o) ≡ Some (option_map text_of o)
   auto-shape modes shape write text_of each None h = refl
   auto-shape modes shape write text_of each (Some x) h = each x h
 
   -- its counter's name is in form, since the counter is one of the configuration
   counter-formed : (counter : CounterRef) → limits.is_object plan (counter_object counter) ≡ true → is_name (counter_name plan counter) ≡ true
-  counter-formed counter known = let here = found plan inside sayable (counter_object counter) known in rw here.2.name_is here.2.in_form
+  counter-formed counter known = (object-named (counter_object counter) known).in_form
 
   alarm-shape : (alarm : Alarm) → (is_alarm_expressible alarm && limits.is_alarm_known plan alarm) ≡ true → alarm_shape (alarm_data plan alarm) ≡ Some (alarm_said plan alarm)
   unfolding alarm_shape
   alarm-shape alarm h =
       let both = and_parts (is_alarm_expressible alarm) (limits.is_alarm_known plan alarm) h in
-      let says = three-parts (is_name alarm.name) (is_action_expressible alarm.action) (list_all is_only_mode (alarm_modes alarm)) both.0 in
+      let says = and_parts (is_name alarm.name) (is_action_expressible alarm.action) both.0 in
       let known = three-parts (limits.is_object plan (counter_object alarm.counter)) (limits.is_action_known plan alarm.action) (list_all (limits.is_mode plan) (alarm_modes alarm)) both.1 in
-      rw (says.0, counter-formed alarm.counter known.0, auto-shape (λ (auto : AlarmStart). auto.modes) alarm_start_shape (start_data plan) (start_said plan) (λ auto e. rw (start-shape auto e) refl) alarm.auto says.2) refl
+      rw (says.0, counter-formed alarm.counter known.0, auto-shape (λ (auto : AlarmStart). auto.modes) alarm_start_shape (start_data plan) (start_said plan) (λ auto e. rw (start-shape auto e) refl) alarm.auto known.2) refl
 
   point-shape : (point : ExpiryPoint) → point_shape (point_data plan point) ≡ Some (point_said plan point)
   unfolding point_shape
@@ -292,13 +313,13 @@ module _ (plan : Plan) (inside : IsTrue (limits.is_within_limits plan)) (sayable
   unfolding table_shape
   table-shape table h =
       let both = and_parts (is_table_expressible table) (limits.is_table_known plan table) h in
-      let says = three-parts (is_name table.name) (list_all is_action_expressible (table_actions table)) (list_all is_only_mode (table_modes table)) both.0 in
+      let says = and_parts (is_name table.name) (list_all is_action_expressible (table_actions table)) both.0 in
       let known = three-parts (limits.is_object plan (counter_object table.counter)) (list_all (limits.is_action_known plan) (table_actions table)) (list_all (limits.is_mode plan) (table_modes table)) both.1 in
       rw (
         says.0,
         counter-formed table.counter known.0,
         each-items point_shape (point_data plan) (point_said plan) (λ (point : ExpiryPoint). true) (λ point e. point-shape point) table.points (always table.points),
-        auto-shape (λ (auto : TableStart). auto.modes) table_start_shape (table_start_data plan) (table_start_said plan) (λ auto e. rw (table-start-shape auto e) refl) table.auto says.2,
+        auto-shape (λ (auto : TableStart). auto.modes) table_start_shape (table_start_data plan) (table_start_said plan) (λ auto e. rw (table-start-shape auto e) refl) table.auto known.2,
       ) refl
 
   core-shape : (core : Core) → (is_core_expressible core && limits.is_core_known plan core) ≡ true → core_shape (core_data plan core) ≡ Some (core_said plan core)
@@ -307,36 +328,27 @@ module _ (plan : Plan) (inside : IsTrue (limits.is_within_limits plan)) (sayable
       let parts = core-text-parts core (grind arith) in
       let alarms = all-both is_alarm_expressible (limits.is_alarm_known plan) core.alarms parts.alarms (grind arith) in
       let tables = all-both is_table_expressible (limits.is_table_known plan) core.tables parts.tables (grind arith) in
+      let tasks = all-both is_task_expressible (limits.is_task_known plan) core.tasks parts.tasks (grind arith) in
       rw (
         each-items alarm_shape (alarm_data plan) (alarm_said plan) (λ (alarm : Alarm). is_alarm_expressible alarm && limits.is_alarm_known plan alarm) alarm-shape core.alarms alarms,
         each-items counter_shape counter_data counter_said is_counter_expressible counter-shape core.counters parts.counters,
         each-items isr_shape (isr_data plan) (isr_said plan) is_isr_expressible isr-shape core.isrs parts.isrs,
+        core-mode-shape core.mode (grind arith),
         protection-back core.protection,
         each-items resource_shape resource_data resource_said is_resource_expressible resource-shape core.resources parts.resources,
         each-items whole_of id_data number_of (λ id. true) (λ id e. refl) core.start (always core.start),
         each-items table_shape (table_data plan) (table_said plan) (λ (table : Table). is_table_expressible table && limits.is_table_known plan table) table-shape core.tables tables,
-        each-items task_shape (task_data plan) (task_said plan) is_task_expressible task-shape core.tasks parts.tasks,
+        each-items task_shape (task_data plan) (task_said plan) (λ (task : Task). is_task_expressible task && limits.is_task_known plan task) task-shape core.tasks tasks,
       ) refl
 
   config-shape : config_shape (config_data plan) ≡ Some (config_said plan)
   unfolding config_shape
   config-shape =
       let cores = all-both is_core_expressible (limits.is_core_known plan) plan.cores parts.cores bounds.known in
-      rw (each-items core_shape (core_data plan) (core_said plan) (λ (core : Core). is_core_expressible core && limits.is_core_known plan core) core-shape plan.cores cores) refl
+      let modes = each-items read_name name_data (λ name. name) is_mode_expressible (λ name h. rw (and_parts (is_name name) _ h).0 refl) plan.modes parts.modes ∙ ap Some (map-id plan.modes) in
+      rw (modes, each-items core_shape (core_data plan) (core_said plan) (λ (core : Core). is_core_expressible core && limits.is_core_known plan core) core-shape plan.cores cores) refl
 
   -- ---- reading back
-
-  -- Each object of the configuration has a name in form, which stands for it.
-  object-named : (object : Object) → limits.is_object plan object ≡ true → IsNamed (place_of objects) (name_of plan) object
-  object-named object known =
-      let here = found plan inside sayable object known in
-      let core = here.0 in
-      let number : core.id.number ≡ object.place.core.number = eqb-true core.id.number object.place.core.number (find-holds (λ (c : Core). same_core c.id object.place.core) plan.cores core here.2.core_is) in
-      record {
-        in_form = rw here.2.name_is here.2.in_form;
-        found = ap (place_of objects object.kind) here.2.name_is
-            ∙ placed plan plan.cores object.kind object.place core here.1 here.2.max here.2.min (distinct-back plan.modes (flat_map said.object_names plan.cores) parts.names) (omega (arith, number, here.2.number)) here.2.low here.2.core_is here.2.declared;
-      }
 
   op-meant : (op : Op) → is_kept_op plan op ≡ true → op_meant (place_of objects) (op_text plan op) ≡ Some op
   op-meant op h =
@@ -362,8 +374,8 @@ module _ (plan : Plan) (inside : IsTrue (limits.is_within_limits plan)) (sayable
   ops-back : (script : List Op) → list_all (is_kept_op plan) script ≡ true → map (op_of objects) (map (op_text plan) script) ≡ script
   ops-back script known = map-back (op_of objects) (op_text plan) (is_kept_op plan) op-back script known
 
-  modes-back : (modes : List ModeId) → list_all said.is_only_mode modes ≡ true → map (λ (name : List ℕ). only_mode) (map (name_of_mode plan) modes) ≡ modes
-  modes-back modes only = map-back (λ (name : List ℕ). only_mode) (name_of_mode plan) said.is_only_mode (λ m e. sym (mode-is m e)) modes only
+  modes-back : (modes : List ModeId) → list_all (limits.is_mode plan) modes ≡ true → map (mode_ref objects) (map (name_of_mode plan) modes) ≡ modes
+  modes-back = map-back (mode_ref objects) (name_of_mode plan) (limits.is_mode plan) mode-back
 
   task-back : (task : Task) → is_kept_task plan task ≡ true → task_plan objects (task_said plan task) ≡ task
   task-back task h =
@@ -408,10 +420,6 @@ module _ (plan : Plan) (inside : IsTrue (limits.is_within_limits plan)) (sayable
   counter-ref-back : (id : CoreId) (counter : CounterRef) → limits.is_object plan (counter_object counter) ≡ true → counter_ref objects id (counter_name plan counter) ≡ counter
   counter-ref-back id counter known = rw (counter-placed counter known) refl
 
-  -- No name stands twice.
-  apart : said.are_distinct (names_of objects) ≡ true
-  apart = ap (λ rest. said.are_distinct (said.mode_name ∷ rest)) (names-said plan plan.cores) ∙ ap (λ modes. said.are_distinct (modes ++ flat_map said.object_names plan.cores)) (sym (modes-are plan.modes parts.modes)) ∙ parts.names
-
   -- and its numbers are the counter's.
   counter-named : (id : CoreId) (counter : CounterRef) → limits.is_object plan (counter_object counter) ≡ true → NamedCounter plan objects id (counter_name plan counter)
   counter-named id counter known =
@@ -422,7 +430,7 @@ module _ (plan : Plan) (inside : IsTrue (limits.is_within_limits plan)) (sayable
   counter-sized id counter known = ap (λ r. option_map limits.counter_sizes (counter_in plan r)) (sym (counter-ref-back id counter known)) ∙ (counter-named id counter known).planned
 
   auto-back : (id : CoreId) (counter : CounterRef) (auto : Option AlarmStart) → limits.is_object plan (counter_object counter) ≡ true → is_alarm_within (option_map (limits.start_sizes (option_map limits.counter_sizes (counter_in plan counter))) auto) ≡ true
-      → list_all said.is_only_mode (option_map_or (λ (auto : AlarmStart). auto.modes) auto []) ≡ true → option_map start_plan (option_map (start_said plan) auto) ≡ auto
+      → list_all (limits.is_mode plan) (option_map_or (λ (auto : AlarmStart). auto.modes) auto []) ≡ true → option_map (start_plan objects) (option_map (start_said plan) auto) ≡ auto
   auto-back id counter None known within modes = refl
   auto-back id counter (Some auto) known within modes =
       let named = counter-named id counter known in
@@ -445,8 +453,8 @@ module _ (plan : Plan) (inside : IsTrue (limits.is_within_limits plan)) (sayable
       rw (inside-some (is-word 0 1000000000 (Some point.offset) parts.0 (omega arith)), map-back (action_of objects) (action_said plan) (is_kept_action plan) action-back point.actions parts.1) refl
 
   table-auto-back : (s : TableSizes) (counter : CounterSizes) (auto : Option TableStart) → s.counter ≡ Some counter → limits.is_counter_within counter ≡ true
-      → option_map_or (is_table_start_within s) (option_map (λ (auto : TableStart). Some auto.offset) auto) true ≡ true → list_all said.is_only_mode (option_map_or (λ (auto : TableStart). auto.modes) auto []) ≡ true
-      → option_map table_start_plan (option_map (table_start_said plan) auto) ≡ auto
+      → option_map_or (is_table_start_within s) (option_map (λ (auto : TableStart). Some auto.offset) auto) true ≡ true → list_all (limits.is_mode plan) (option_map_or (λ (auto : TableStart). auto.modes) auto []) ≡ true
+      → option_map (table_start_plan objects) (option_map (table_start_said plan) auto) ≡ auto
   table-auto-back s counter None is within starts modes = refl
   table-auto-back s counter (Some auto) is within starts modes = rw (inside-some (table-start-word s counter (Some auto.offset) is within starts), modes-back auto.modes modes) refl
 
@@ -466,10 +474,9 @@ module _ (plan : Plan) (inside : IsTrue (limits.is_within_limits plan)) (sayable
   core-back core h =
       let kept = kept-core plan core h in
       let limit = core-limits (limits.core_sizes plan core) (core-inside plan core h) in
-      let texts = core-text-parts core (and_parts _ (said.is_core_expressible core) h).1 in
       rw (
         id-back core.id (is-byte 0 7 (number_of core.id) limit.0 (omega arith)),
-        mode-back core.mode texts.mode,
+        core-mode-back core.mode kept.mode,
         map-back number_id number_of (λ id. is_start (number_of id)) (λ id e. id-back id (is-byte 0 255 (number_of id) e (omega arith))) core.start (sym (list_all-map is_start number_of core.start) ∙ limit.1),
         map-back (task_plan objects) (task_said plan) (is_kept_task plan) task-back core.tasks kept.tasks,
         map-back (isr_plan objects) (isr_said plan) (is_kept_isr plan) isr-back core.isrs kept.isrs,
@@ -486,7 +493,6 @@ module _ (plan : Plan) (inside : IsTrue (limits.is_within_limits plan)) (sayable
         inside-some (cap-byte (limits.sizes_of plan) bounds.sizes),
         id-back plan.master (ap Some (byte-small plan.master.number (omega arith))),
         map-back (core_plan objects) (core_said plan) (is_kept_core plan) core-back plan.cores cores,
-        modes-are plan.modes parts.modes,
       ) refl
 
   -- ---- names
@@ -496,7 +502,7 @@ module _ (plan : Plan) (inside : IsTrue (limits.is_within_limits plan)) (sayable
   numbers-kept (core ∷ cores) = ap (λ numbers. number_of core.id ∷ numbers) (numbers-kept cores)
 
   once : is_each_once (config_said plan) ≡ true
-  once = and_from _ _ (ap are_numbers_distinct (numbers-kept plan.cores) ∙ bounds.distinct) apart
+  once = and_from _ _ (and_from _ _ (ap are_numbers_distinct (numbers-kept plan.cores) ∙ bounds.distinct) apart) (all-weaker is_mode_expressible is_unreserved (λ name h. (and_parts (is_name name) _ h).1) plan.modes parts.modes)
 
   -- ---- names, masks and operations
 
@@ -507,14 +513,14 @@ module _ (plan : Plan) (inside : IsTrue (limits.is_within_limits plan)) (sayable
       let masked = sym (meant_masks (place_of objects) (op_text plan op) op e) ∙ (and_parts _ (has_masks op) h).1 in
       and_from _ _ (and_from _ _ means.1 masked) means.0
 
-  modes-known : (modes : List ModeId) → list_all said.is_only_mode modes ≡ true → list_all is_mode_name (map (name_of_mode plan) modes) ≡ true
-  modes-known modes h = list_all-by said.is_only_mode is_mode_name (name_of_mode plan) (λ m e. ap is_mode_name (mode-text plan parts.modes m e)) modes h
+  modes-known : (modes : List ModeId) → list_all (limits.is_mode plan) modes ≡ true → list_all (is_mode_known objects) (map (name_of_mode plan) modes) ≡ true
+  modes-known = list_all-by (limits.is_mode plan) (is_mode_known objects) (name_of_mode plan) (λ mode e. ap is_some (mode-placed mode e))
 
   -- of what starts by itself, where it does
-  auto-known : {X Y : Type 0} (modes : X → List ModeId) (names : Y → List (List ℕ)) (said_of : X → Y) → ((x : X) → names (said_of x) ≡ map (name_of_mode plan) (modes x)) → (o : Option X) → list_all said.is_only_mode (option_map_or modes o []) ≡ true
-      → list_all is_mode_name (option_map_or names (option_map said_of o) []) ≡ true
+  auto-known : {X Y : Type 0} (modes : X → List ModeId) (names : Y → List (List ℕ)) (said_of : X → Y) → ((x : X) → names (said_of x) ≡ map (name_of_mode plan) (modes x)) → (o : Option X) → list_all (limits.is_mode plan) (option_map_or modes o []) ≡ true
+      → list_all (is_mode_known objects) (option_map_or names (option_map said_of o) []) ≡ true
   auto-known modes names said_of are None h = refl
-  auto-known modes names said_of are (Some x) h = ap (list_all is_mode_name) (are x) ∙ modes-known (modes x) h
+  auto-known modes names said_of are (Some x) h = ap (list_all (is_mode_known objects)) (are x) ∙ modes-known (modes x) h
 
   task-right : (id : CoreId) (task : Task) → is_kept_task plan task ≡ true → is_right (task_verdict objects id (task_said plan task)) ≡ true
   task-right id task h =
@@ -560,7 +566,9 @@ module _ (plan : Plan) (inside : IsTrue (limits.is_within_limits plan)) (sayable
   core-right core h =
       let kept = kept-core plan core h in
       let id = id_of (core_said plan core) in
-      right-of-four (each_verdict (task_verdict objects id) (map (task_said plan) core.tasks)) (each_verdict (λ (isr : IsrText). isr_verdict objects id isr.script) (map (isr_said plan) core.isrs)) (each_verdict (alarm_verdict objects id) (map (alarm_said plan) core.alarms)) (each_verdict (table_verdict objects id) (map (table_said plan) core.tables))
+      let four = both (both (both (each_verdict (task_verdict objects id) (map (task_said plan) core.tasks)) (each_verdict (λ (isr : IsrText). isr_verdict objects id isr.script) (map (isr_said plan) core.isrs))) (each_verdict (alarm_verdict objects id) (map (alarm_said plan) core.alarms))) (each_verdict (table_verdict objects id) (map (table_said plan) core.tables)) in
+      ap (λ known. is_right (with_names known four)) (core-mode-known core.mode kept.mode)
+      ∙ right-of-four (each_verdict (task_verdict objects id) (map (task_said plan) core.tasks)) (each_verdict (λ (isr : IsrText). isr_verdict objects id isr.script) (map (isr_said plan) core.isrs)) (each_verdict (alarm_verdict objects id) (map (alarm_said plan) core.alarms)) (each_verdict (table_verdict objects id) (map (table_said plan) core.tables))
       (right-of-each (is_kept_task plan) (task_said plan) (task_verdict objects id) (task-right id) core.tasks kept.tasks)
       (right-of-each (is_kept_isr plan) (isr_said plan) (λ (isr : IsrText). isr_verdict objects id isr.script) (isr-right id) core.isrs kept.isrs)
       (right-of-each (is_kept_alarm plan) (alarm_said plan) (alarm_verdict objects id) (alarm-right id) core.alarms kept.alarms)
@@ -634,7 +642,7 @@ module _ (plan : Plan) (inside : IsTrue (limits.is_within_limits plan)) (sayable
       ) refl
 
   plan-numbers : sizes_of (config_said plan) ≡ limits.sizes_of plan
-  plan-numbers = rw (map-same (core_sizes objects) (core_said plan) (limits.core_sizes plan) (is_kept_core plan) core-numbers plan.cores cores, ap length (modes-are plan.modes parts.modes)) refl
+  plan-numbers = rw (map-same (core_sizes objects) (core_said plan) (limits.core_sizes plan) (is_kept_core plan) core-numbers plan.cores cores) refl
 
   within : is_text_within (config_said plan) ≡ true
   within = and_from _ _ refl (ap limits.is_within plan-numbers ∙ bounds.sizes)

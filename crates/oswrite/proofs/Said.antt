@@ -5,7 +5,7 @@ use Rattle.oscheck.specs.Words.{Alarm, AlarmStart, AlarmStartText, AlarmText, Co
 use Rattle.oscript.specs.Calls.{op_of_call}
 use Rattle.osplan.specs.Limits.{ceiling_of, number_of}
 use Rattle.osplan.specs.Names.{name_of, name_of_mode}
-use Rattle.oswrite.specs.Writing.{op_text, script_text}
+use Rattle.oswrite.specs.Writing.{core_mode_word, op_text, script_text}
 
 abbrev pub task_said : Plan → Task → TaskText
 task_said plan task = record { name = task.name; prio = Some task.priority; auto = map (name_of_mode plan) task.auto; activations = Some task.activations; extended = task.extended; preemptable = task.preemptable; budget = Some task.budget; script = script_text plan task.script }
@@ -50,6 +50,7 @@ table_said plan table = record {
 abbrev pub core_said : Plan → Core → CoreText
 core_said plan core = record {
   id = number_of core.id;
+  mode = Some (core_mode_word plan core.mode);
   start = map number_of core.start;
   protection = core.protection;
   tasks = map (task_said plan) core.tasks;
@@ -61,4 +62,4 @@ core_said plan core = record {
 }
 
 abbrev pub config_said : Plan → ConfigText
-config_said plan = record { version = Some 1; cap = Some plan.cap; master = number_of plan.master; cores = map (core_said plan) plan.cores }
+config_said plan = record { version = Some 1; cap = Some plan.cap; master = number_of plan.master; modes = plan.modes; cores = map (core_said plan) plan.cores }

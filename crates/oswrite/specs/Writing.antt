@@ -5,9 +5,11 @@ use Rattle.serde_json.specs.Data.{unsigned, Data, null, boolean, number, string,
 use Rattle.serde_json.specs.View.{items_of}
 use Rattle.serde_json.specs.Written.{compact_text}
 use Rattle.osbase.specs.Objects.{counter_place}
-use Rattle.oscheck.specs.Words.{Alarm, AlarmStart, Core, CoreId, Counter, ExpiryPoint, Isr, ModeId, ObjectKind, Op, Plan, RemoteCall, Resource, Table, TableStart, Task}
+use Rattle.oscheck.specs.Words.{Alarm, AlarmStart, Core, CoreId, CoreMode, Counter, ExpiryPoint, Isr, ModeId, ObjectKind, Op, Plan, RemoteCall, Resource, Table, TableStart, Task}
 use Rattle.osforms.specs.Operation as forms
 use Rattle.oscript.specs.Calls.{op_of_call}
+use Rattle.osbase.specs.declared.items.CoreMode.TheVariants.{DontCare, Named}
+use Rattle.osplan.specs.Expressible.{dont_care}
 use Rattle.osplan.specs.Names.{name_of_mode, name_of}
 use Rattle.osplan.specs.Protection.{protection_word}
 
@@ -37,8 +39,16 @@ or_null_data f (Some x) = f x
 abbrev pub id_data : CoreId → Data
 id_data id = whole_data id.number
 
+abbrev pub name_data : List ℕ → Data
+name_data name = string name
+
 abbrev pub mode_data : Plan → ModeId → Data
 mode_data plan mode = string (name_of_mode plan mode)
+
+-- The word for a core's mode: its name, or that it goes with any. [AUTOSAR SWS OS 4.x, DONOTCARE]
+abbrev pub core_mode_word : Plan → CoreMode → List ℕ
+core_mode_word plan (Named mode) = name_of_mode plan mode
+core_mode_word plan DontCare = dont_care
 
 -- A task: its activation limit, the modes of its autostart, its execution budget, whether it is extended, its name, whether it can be
 -- preempted, its priority and script.
@@ -115,28 +125,30 @@ table_data plan table = object
     (member (codes "points") (list_data (point_data plan) table.points)
     (member (codes "repeating") (boolean table.repeating) no_members))))))
 
--- A core: its alarms, its counters, its number, its ISRs, how it answers a time fault, its resources, the cores that it starts, its
--- tables and its tasks.
+-- A core: its alarms, its counters, its number, its ISRs, its mode, how it answers a time fault, its resources, the cores that it
+-- starts, its tables and its tasks.
 abbrev pub core_data : Plan → Core → Data
 core_data plan core = object
     (member (codes "alarms") (list_data (alarm_data plan) core.alarms)
     (member (codes "counters") (list_data counter_data core.counters)
     (member (codes "id") (id_data core.id)
     (member (codes "isrs") (list_data (isr_data plan) core.isrs)
+    (member (codes "mode") (string (core_mode_word plan core.mode))
     (member (codes "protection") (string (protection_word core.protection))
     (member (codes "resources") (list_data resource_data core.resources)
     (member (codes "start") (list_data id_data core.start)
     (member (codes "tables") (list_data (table_data plan) core.tables)
-    (member (codes "tasks") (list_data (task_data plan) core.tasks) no_members)))))))))
+    (member (codes "tasks") (list_data (task_data plan) core.tasks) no_members))))))))))
 
--- A configuration, with every member of its text, in ascending order of names: the size of a mailbox, its cores, the master core and
--- the version, 1. [own]
+-- A configuration, with every member of its text, in ascending order of names: the size of a mailbox, its cores, the master core, its
+-- application modes and the version, 1. [own]
 abbrev pub config_data : Plan → Data
 config_data plan = object
     (member (codes "cap") (whole_data plan.cap)
     (member (codes "cores") (list_data (core_data plan) plan.cores)
     (member (codes "master") (id_data plan.master)
-    (member (codes "version") (whole_data 1) no_members))))
+    (member (codes "modes") (list_data name_data plan.modes)
+    (member (codes "version") (whole_data 1) no_members)))))
 
 -- Its text: compact JSON. [own]
 abbrev pub config_text : Plan → List ℕ

@@ -4,14 +4,14 @@ ghost use Rattle.std.specs.Prelude.{◌≡◌, IfErr, IfOk, Some, string_bytes};
 ghost use Rattle.serde_json.specs.Data.{Data};
 ghost use Rattle.serde_json.specs.View.{view};
 ghost use Rattle.osdraft.specs.Meaning.{config_of};
-ghost use Rattle.oswrite.specs.Writing.{script_text, id_data, mode_data, list_data, start_data, or_null_data, alarm_data, action_data, point_data, table_start_data, table_data, counter_data, resource_data, isr_data, task_data, core_data, config_data, config_text};
+ghost use Rattle.oswrite.specs.Writing.{core_mode_word, name_data, script_text, id_data, mode_data, list_data, start_data, or_null_data, alarm_data, action_data, point_data, table_start_data, table_data, counter_data, resource_data, isr_data, task_data, core_data, config_data, config_text};
 
-use osbase::{CoreId, ModeId, ObjectKind, Place, Reference, RemoteCall};
+use osbase::{CoreId, CoreMode, ModeId, Name, ObjectKind, Place, Reference, RemoteCall};
 use oscript::{Op, op_of_call};
 use osforms::{Names, op_text};
 use osplan::{
-    Alarm, AlarmStart, ConfFault, Config, Core, Counter, ExpiryPoint, Isr, Plan, Resource, Table,
-    TableStart, Task,
+    Alarm, AlarmStart, ConfFault, Config, Core, Counter, DONT_CARE, ExpiryPoint, Isr, Plan,
+    Resource, Table, TableStart, Task,
 };
 use serde_json::{Value, json};
 use std::alloc::{AllocError, Global};
@@ -82,6 +82,24 @@ impl Writer<ModeId> for PlanWriter<'_> {
 
     fn value(&self, alloc: Global, mode: &ModeId) -> Result<Value, AllocError> {
         Ok(Value::String(String::from_str(alloc, self.plan.name_of_mode(*mode))?))
+    }
+}
+
+impl Writer<Name> for PlanWriter<'_> {
+    ghost written = { λ _. name_data };
+
+    fn value(&self, alloc: Global, name: &Name) -> Result<Value, AllocError> {
+        Ok(Value::String(String::from_str(alloc, name.as_str())?))
+    }
+}
+
+// The word for a core's mode.
+fn mode_word<'p>(writer: &PlanWriter<'p>, mode: CoreMode) -> &'p str
+    ensures { result.now ≡ core_mode_word writer.now.plan.now mode }
+{
+    match mode {
+        CoreMode::Named(mode) => writer.plan.name_of_mode(mode),
+        CoreMode::DontCare => DONT_CARE,
     }
 }
 
@@ -249,6 +267,7 @@ impl Writer<Core> for PlanWriter<'_> {
             "counters": counters,
             "id": u64::from(core.id.number),
             "isrs": isrs,
+            "mode": mode_word(self, core.mode),
             "protection": core.protection.word(),
             "resources": resources,
             "start": start,
@@ -261,11 +280,14 @@ impl Writer<Core> for PlanWriter<'_> {
 fn plan_value(alloc: Global, plan: &Plan) -> Result<Value, AllocError>
     ensures { IfOk result (λ value. view value ≡ config_data plan.now) }
 {
-    let cores = list_value(alloc, &PlanWriter { plan }, plan.cores.as_slice())?;
+    let writer = PlanWriter { plan };
+    let cores = list_value(alloc, &writer, plan.cores.as_slice())?;
+    let modes = list_value(alloc, &writer, plan.modes.as_slice())?;
     json!(in alloc; {
         "cap": u64::from(plan.cap),
         "cores": cores,
         "master": u64::from(plan.master.number),
+        "modes": modes,
         "version": 1u64
     })
 }

@@ -1,4 +1,4 @@
-use Rattle.std.proofs.Common.{◌<◌, ◌^◌, w64, ℕ, ℤ, pos, ap, sym, ◌∙◌, arith, lit≤}
+use Rattle.std.proofs.Common.{ℕ, ℤ, ◌<◌, ◌^◌, w64, pos, ap, sym, ◌∙◌, lit≤, arith}
 use Rattle.std.proofs.lemmas.Int.{to_z_pos}
 use Rattle.osbase.specs.declared.items.CoreSet.{CoreSet}
 use Rattle.osstate.specs.State.{KernelState}
@@ -14,6 +14,5 @@ returns g c =
     let small : c.core_count-count.result < 2 ^ 63 = omega (arith, c.core_count-count.ensures.few) in
     as_effect (λ v h stands.
     ap (λ (cores : CoreSet). does (sets c.args.runner c.args.variable (pos (core_count cores))) v h) (sym (read (λ (s : KernelState). s.progress.started) c.started_cores.ensures stands))
-    ∙ ap (λ (n : ℕ). does (sets c.args.runner c.args.variable (pos n)) v h) (sym c.core_count-count.ensures.value)
-    ∙ ap (λ (z : ℤ). does (sets c.args.runner c.args.variable z) v h) (sym (to_z_pos w64 c.core_count-count.result small)))
+    ∙ ap (λ (z : ℤ). does (sets c.args.runner c.args.variable z) v h) (ap pos (sym c.core_count-count.ensures.value) ∙ sym (to_z_pos w64 c.core_count-count.result small)))
     (lit≤ tt) (lit≤ tt) c.set.ensures

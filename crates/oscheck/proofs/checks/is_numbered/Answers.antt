@@ -1,10 +1,12 @@
-use Rattle.std.proofs.Common.{◌≡◌, true, rules, ◌∙◌}
-use Rattle.osplan.specs.Limits.{is_between}
+use Rattle.std.proofs.Common.{◌≡◌, true, rules, length, Some, ◌∙◌}
+use Rattle.osbase.specs.declared.objects.ObjectKind.{ObjectKind}
+use Rattle.osplan.specs.Limits.{is_between, most_of}
 use Rattle.oscheck.proofs.Counting.{cores-left}
 use Rattle.oscheck.proofs.checks.is_numbered.Goals as goal
 
 pub returns-then-is_between-2 : goal.returns-then-is_between-2
 returns-then-is_between-2 c =
     let version : is_between 1 1 c.args.text.now.version ≡ true = search rules in
+    let modes : is_between 1 (most_of ObjectKind.Mode) (Some (length c.args.text.now.modes)) ≡ true = search rules in
     let cap : is_between 1 16 c.args.text.now.cap ≡ true = search rules in
-    c.are_cores_within.ensures ∙ rw (c.as_slice.ensures, c.requires.objects) (cores-left c.args.text.now version cap)
+    c.are_cores_within.ensures ∙ rw (c.as_slice.ensures, c.requires.objects) (cores-left c.args.text.now version modes cap)
