@@ -1,7 +1,6 @@
 //! The services of whole cores: StartCore, which a script calls too late; how many cores are started; the shutdown of one core and of all.
 
 ghost use Rattle.std.specs.Prelude.{◌≡◌, ◌≤◌, ◌+◌, ◌^◌, IsTrue};
-ghost use Rattle.osbase.specs.declared.limits.TheConstants.{CORES};
 ghost use Rattle.osjobs.specs.Priorities.{is_own_runner};
 ghost use Rattle.osstate.specs.Does.{Effects, HasRoom, Reads, Remarks, service_entries, service_marks};
 ghost use Rattle.osact.specs.Terms.{MayAct, Offered};
@@ -75,7 +74,7 @@ fn count_cores<const P: usize, const J: usize, const OUT: usize>(
     requires { MayAct service_entries service_marks state.old runner marks.old }
     ensures { Effects service_entries service_marks (does (counts_cores runner variable)) state.old state.new marks.old marks.new }
 {
-    let count = core_count(state.started_cores());
+    let count = core_count(&state.started_cores());
     set(state, runner, variable, count as i64, marks);
 }
 

@@ -1,5 +1,5 @@
 -- The call of an operation's words has these words, and a call's words say the call.
-use Rattle.std.proofs.Common.{rules, inl, inr, ◌≡◌, ℕ, ◌+◌, ◌-◌, ◌≤◌, ◌==◌, ◌&&◌, nat_le, true, cond, Option, Some, None, option_and_then, unwrap_or, List, [], ◌∷◌, map, codes, refl, sym, ap, subst, IsTrue, ◌∙◌, arith}
+use Rattle.std.proofs.Common.{rules, inl, inr, ◌≡◌, ℕ, ◌+◌, ◌-◌, ◌≤◌, ◌==◌, ◌&&◌, nat_le, true, cond, Option, Some, None, option_and_then, option_map, unwrap_or, List, [], ◌∷◌, map, codes, refl, sym, ap, subst, IsTrue, ◌∙◌, arith}
 use Rattle.std.specs.Fmt.{decimal}
 use Rattle.std.specs.List.{join_with_byte, list_all}
 use Rattle.std.specs.Str.{bytes_eq}
