@@ -14,7 +14,6 @@ use Rattle.osbase.specs.declared.objects.Object.{Object as ObjectOf}
 use Rattle.osbase.specs.declared.objects.ObjectKind.{ObjectKind}
 use Rattle.osbase.specs.declared.objects.Place.{Place}
 use Rattle.osbase.specs.declared.references.CoreId.{CoreId}
-use Rattle.osbase.proofs.Same.{same_kind-true}
 use Rattle.oscript.specs.declared.Op.{Op}
 use Rattle.oscript.specs.declared.rows.Arg.{Arg}
 use Rattle.oscript.specs.declared.rows.Arg.TheVariants.{Core, Object, Mask, Number, Int, Variable}
@@ -39,12 +38,12 @@ use Rattle.osplan.specs.Expressible.{is_expressible}
 use Rattle.osplan.specs.Limits.{is_object, is_within_limits}
 use Rattle.osplan.specs.Names.{name_of}
 use Rattle.osplan.specs.declared.plans.Plan.{Plan}
-use Rattle.oslog.specs.Naming.{if_object, name_of_object, named_by, place_named}
+use Rattle.oslog.specs.Naming.{if_object, named_by, place_named}
 use Rattle.oslog.specs.Words.{call_in, call_of, op_said}
 use Rattle.oslog.specs.Logs.{is_call_representable}
 use Rattle.oslog.proofs.WordKinds.{int-word, number-word, place-spells, place-there}
 use Rattle.oslog.proofs.Joining.{end-apart, joined-parts, split-none}
-use Rattle.oslog.proofs.Named.{named-formed, named-there, place-found}
+use Rattle.oslog.proofs.Named.{named-formed, place-found}
 
 -- ---- calls
 

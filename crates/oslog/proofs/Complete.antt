@@ -1,5 +1,5 @@
 -- The line of a representable item says the item. It has no line end, and is not empty.
-use Rattle.std.proofs.Common.{◌≡◌, ℕ, ◌<◌, ◌≤◌, ◌^◌, ◌==◌, ◌&&◌, ℤ, true, not, nat_le, Some, None, option_map, List, [], ◌∷◌, length, map, IsTrue, refl, sym, ap, ◌∙◌, ◌⊎◌, inl, inr, arith}
+use Rattle.std.proofs.Common.{◌≡◌, ℕ, ◌<◌, ◌≤◌, ◌^◌, ◌==◌, ◌&&◌, ℤ, true, not, nat_le, Some, None, option_map, List, [], ◌∷◌, length, map, IsTrue, refl, ap, ◌∙◌, ◌⊎◌, inl, inr, arith}
 use Rattle.std.specs.Fmt.{decimal, signed_decimal}
 use Rattle.std.specs.List.{join_with_byte, list_all}
 use Rattle.std.proofs.lemmas.List.Folds.{list_all-append}
@@ -31,7 +31,7 @@ use Rattle.osplan.specs.declared.plans.Plan.{Plan}
 use Rattle.oslog.specs.Forms.{form_of}
 use Rattle.oslog.specs.Items.{first_item, item_as, item_meant, later_words, led, line_of}
 use Rattle.oslog.specs.Logs.{is_core_number, is_message_representable, is_representable}
-use Rattle.oslog.specs.Naming.{isr_named, mode_named}
+use Rattle.oslog.specs.Naming.{isr_named}
 use Rattle.oslog.specs.Rows.{keyword_text, row_of}
 use Rattle.oslog.specs.Words.{core_of, irq_prefix, status_of, tail_words, word_text}
 use Rattle.oslog.specs.declared.forms.Parts.{Parts}
