@@ -9,4 +9,4 @@ returns-then-is_ignored g c v h stands =
 
 pub returns-else-is_ignored : goal.returns-else-is_ignored
 returns-else-is_ignored g c v h stands =
-    ap (λ (b : Bool). b && has_suspended (seen_of v h) c.args.step.runner) (sym c.if-is_ignored.false ∙ c.is_ignored.ensures)
+    c.if-is_ignored.false ∙ ap (λ (b : Bool). b && has_suspended (seen_of v h) c.args.step.runner) (sym c.if-is_ignored.false ∙ c.is_ignored.ensures)
