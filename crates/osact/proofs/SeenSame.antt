@@ -9,6 +9,7 @@ use Rattle.osbase.specs.declared.references.Runner.{Runner}
 use Rattle.osbase.specs.declared.histories.Job.{Job}
 use Rattle.osbase.specs.Counting.{Stopped, alarm_of, counted_once, counts_of, counts_to, is_due, is_in_use, left_of, one_count_more, table_state, value_after}
 use Rattle.osbase.specs.History.{History, agreement_of, course_of, job_count, live_jobs, open_call}
+use Rattle.osbase.specs.Spins.{got_spinlocks}
 use Rattle.osplan.specs.declared.plans.Alarm.{Alarm}
 use Rattle.osplan.specs.declared.plans.Table.{Table}
 use Rattle.osplan.specs.View.{Around, View, own_alarm, own_table}
@@ -32,6 +33,7 @@ pub record ReadsSame (v : View) (h k : History) : Type 0 where
   pub course : course_of h ≡ course_of k
   pub running : option_map (λ (j : Job). j.runner) (running v h) ≡ option_map (λ (j : Job). j.runner) (running v k)
   pub awaits : open_call h ≡ open_call k
+  pub spins : got_spinlocks h ≡ got_spinlocks k
 
 module _ (v : View) (h k : History) (same : ReadsSame v h k) where
   value-same : (c : CounterRef) → value_by v.own c h ≡ value_by v.own c k
@@ -74,4 +76,5 @@ module _ (v : View) (h k : History) (same : ReadsSame v h k) where
     course = same.course i;
     running = same.running i;
     awaits = same.awaits i;
+    spins = same.spins i;
   }

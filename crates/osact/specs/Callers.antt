@@ -1,7 +1,8 @@
 -- What several services check of their caller.
-use Rattle.std.specs.Prelude.{Bool, nat_lt, true, false, not, List, [], ◌∷◌}
+use Rattle.std.specs.Prelude.{Bool, nat_lt, true, false, not, is_some, List, [], ◌∷◌}
 use Rattle.osbase.specs.declared.references.Runner.{Runner}
-use Rattle.osbase.specs.declared.statuses.Status.TheVariants.{EOsAccess, EOsCallevel, EOsResource}
+use Rattle.osbase.specs.declared.statuses.Status.TheVariants.{EOsAccess, EOsCallevel, EOsResource, EOsSpinlock}
+use Rattle.osbase.specs.Spins.{newest_of}
 use Rattle.osjobs.specs.Priorities.{holds_any, is_extended}
 use Rattle.osact.specs.Checks.{Check}
 use Rattle.osact.specs.Seen.{Seen}
@@ -23,6 +24,7 @@ by_extended s r = (not (is_extended s.core r), EOsAccess)
 abbrev pub has_suspended : Seen → Runner → Bool
 has_suspended s r = nat_lt 0 (s.row r).depth
 
--- What a job may not hold that ends itself, waits or gives way. [OSEK/VDX OS 2.2.3, section 8.2]
+-- What a job may not hold that ends itself, waits or gives way: no resource, and no spinlock.
+-- [OSEK/VDX OS 2.2.3, section 8.2; AUTOSAR SWS OS 4.x, E_OS_SPINLOCK; that the resource is checked first: own]
 abbrev pub holding_checks : Seen → Runner → List Check
-holding_checks s r = (holds_any (s.row r).held, EOsResource) ∷ []
+holding_checks s r = (holds_any (s.row r).held, EOsResource) ∷ (is_some (newest_of r s.spins), EOsSpinlock) ∷ []

@@ -4,16 +4,19 @@ use Rattle.osbase.specs.declared.references.AlarmRef.{AlarmRef}
 use Rattle.osbase.specs.declared.references.CoreId.{CoreId}
 use Rattle.osbase.specs.declared.references.CounterRef.{CounterRef}
 use Rattle.osbase.specs.declared.references.IsrRef.{IsrRef}
+use Rattle.osbase.specs.declared.references.SpinlockId.{SpinlockId}
 use Rattle.osbase.specs.declared.references.TableRef.{TableRef}
 use Rattle.osbase.specs.declared.references.TaskRef.{TaskRef}
 use Rattle.osbase.specs.declared.references.Runner.{Runner}
 use Rattle.osbase.specs.declared.histories.Course.{Course}
 use Rattle.osbase.specs.declared.histories.Job.{Job}
+use Rattle.osbase.specs.declared.histories.GotSpinlock.{GotSpinlock}
 use Rattle.osbase.specs.declared.histories.OpenCall.{OpenCall}
 use Rattle.osbase.specs.declared.items.Agreement.{Agreement}
 use Rattle.osbase.specs.declared.items.CoreSet.{CoreSet}
 use Rattle.osbase.specs.Counting.{TableState}
 use Rattle.osbase.specs.History.{History, agreement_of, course_of, job_count, live_jobs, open_call, same_core, started_cores}
+use Rattle.osbase.specs.Spins.{got_spinlocks}
 use Rattle.oscript.specs.Runners.{Row}
 use Rattle.osplan.specs.declared.plans.Core.{Core}
 use Rattle.osplan.specs.View.{View}
@@ -55,6 +58,8 @@ pub record Seen : Type 0 where
   pub course : Course
   pub running : Option Runner
   pub awaits : Option OpenCall
+  -- the spinlocks that the core got, the newest first, and whose job has each
+  pub spins : List GotSpinlock
 
 abbrev pub seen_of : View → History → Seen
 seen_of v h = record {
@@ -77,15 +82,18 @@ seen_of v h = record {
   course = course_of h;
   running = option_map (λ (j : Job). j.runner) (running v h);
   awaits = open_call h;
+  spins = got_spinlocks h;
 }
 
--- What a core may read of all cores: which are configured, and which were started. No separate core reads it. [own]
+-- What a core may read of what all cores share: which cores are configured, which were started, and the successor of each spinlock.
+-- No separate core reads it. [own]
 pub record AllCores : Type 0 where
   pub configured : List CoreId
   pub started : CoreSet
+  pub links : List (Option SpinlockId)
 
 abbrev pub all_cores : View → History → AllCores
-all_cores v h = record { configured = v.around.cores; started = started_cores h }
+all_cores v h = record { configured = v.around.cores; started = started_cores h; links = v.around.links }
 
 -- The object is one of this core's.
 abbrev pub is_own : Seen → CoreId → Bool

@@ -3,3 +3,4 @@ pub mod Phasing
 pub mod Tables
 pub mod Places
 pub mod StatusNumbers
+pub mod Few

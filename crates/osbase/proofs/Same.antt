@@ -2,7 +2,7 @@
 use Rattle.std.proofs.Common.{◌≡◌, ℕ, Bool, true, false, nat_eq, refl, ap, sym, ◌∙◌}
 use Rattle.std.proofs.lemmas.Bool.{eqb-true, eq-eqb, and_parts, and_from, false≢true}
 use Rattle.osbase.specs.declared.objects.ObjectKind.{ObjectKind}
-use Rattle.osbase.specs.declared.objects.ObjectKind.TheVariants.{Mode, Task, Isr, Resource, Counter, Alarm, Table}
+use Rattle.osbase.specs.declared.objects.ObjectKind.TheVariants.{Mode, Spinlock, Task, Isr, Resource, Counter, Alarm, Table}
 use Rattle.osbase.specs.declared.references.CoreId.{CoreId}
 use Rattle.osbase.specs.declared.references.TaskRef.{TaskRef}
 use Rattle.osbase.specs.declared.references.IsrRef.{IsrRef}
@@ -79,6 +79,7 @@ same_runner-refl (Runner.Isr i) = same_place-refl (isr_place i)
 
 pub same_kind-true : (k j : ObjectKind) → same_kind k j ≡ true → k ≡ j
 same_kind-true Mode Mode e = refl
+same_kind-true Spinlock Spinlock e = refl
 same_kind-true Task Task e = refl
 same_kind-true Isr Isr e = refl
 same_kind-true Resource Resource e = refl
@@ -89,6 +90,7 @@ same_kind-true k j e = absurd (false≢true e)
 
 pub same_kind-self : (k : ObjectKind) → same_kind k k ≡ true
 same_kind-self Mode = refl
+same_kind-self Spinlock = refl
 same_kind-self Task = refl
 same_kind-self Isr = refl
 same_kind-self Resource = refl

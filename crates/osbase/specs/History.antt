@@ -240,7 +240,7 @@ abbrev pub first_greatest : (Job → ℕ) → List Job → Option Job
 first_greatest priority [] = None
 first_greatest priority (j ∷ js) = Some (better_of priority j (first_greatest priority js))
 
--- The call that is open: it stays so until its operation is done, its caller has ended, or all cores are halted.
+-- The call that is open: it stays so until its operation is done, its caller has ended, or the core is halted.
 -- [own: a service on another core's object is a request and its reply]
 abbrev pub closed_by : Runner → Option OpenCall → Option OpenCall
 closed_by r None = None
@@ -344,7 +344,7 @@ abbrev pub phase_of : Bool → History → Phase
 phase_of is_master h = phase_from (first_phase is_master) h
 
 -- Whether the core goes on: once it went down, it is down; a halt of all cores halts it, unless it is down.
--- [AUTOSAR SWS OS 4.x, section 7.1, SWS_Os_00107 and SWS_Os_00714]
+-- [AUTOSAR SWS OS 4.x, ShutdownOS and ShutdownAllCores; that a core that is down stays so: own]
 abbrev pub course_after : Entry → Course → Course
 course_after (Noted WentDown) course = Course.Down
 course_after (Took (Item.Halt core status)) course = halted_from course

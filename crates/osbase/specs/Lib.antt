@@ -1,5 +1,6 @@
 pub mod History
 pub mod Interrupts
+pub mod Spins
 pub mod Counting
 pub mod Phases
 pub mod Names

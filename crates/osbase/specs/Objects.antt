@@ -1,6 +1,7 @@
 -- Objects of every kind, and which of them a call across cores names.
 use Rattle.std.specs.Prelude.{ℕ, ◌==◌, ◌&&◌, Bool, true, false}
 use Rattle.osbase.specs.declared.references.ModeId.{ModeId}
+use Rattle.osbase.specs.declared.references.SpinlockId.{SpinlockId}
 use Rattle.osbase.specs.declared.references.TaskRef.{TaskRef}
 use Rattle.osbase.specs.declared.references.IsrRef.{IsrRef}
 use Rattle.osbase.specs.declared.references.ResourceRef.{ResourceRef}
@@ -8,7 +9,7 @@ use Rattle.osbase.specs.declared.references.CounterRef.{CounterRef}
 use Rattle.osbase.specs.declared.references.AlarmRef.{AlarmRef}
 use Rattle.osbase.specs.declared.references.TableRef.{TableRef}
 use Rattle.osbase.specs.declared.objects.ObjectKind.{ObjectKind}
-use Rattle.osbase.specs.declared.objects.ObjectKind.TheVariants.{Mode, Task, Isr, Resource, Counter, Alarm, Table}
+use Rattle.osbase.specs.declared.objects.ObjectKind.TheVariants.{Mode, Spinlock, Task, Isr, Resource, Counter, Alarm, Table}
 use Rattle.osbase.specs.declared.objects.Place.{Place}
 use Rattle.osbase.specs.declared.objects.TheConstants.{NOBODY}
 use Rattle.osbase.specs.declared.objects.Object.{Object}
@@ -20,6 +21,7 @@ use Rattle.osbase.specs.History.{same_core}
 -- Equality of kinds.
 abbrev pub same_kind : ObjectKind → ObjectKind → Bool
 same_kind Mode Mode = true
+same_kind Spinlock Spinlock = true
 same_kind Task Task = true
 same_kind Isr Isr = true
 same_kind Resource Resource = true
@@ -45,6 +47,12 @@ mode_place m = place_on NOBODY m.index
 
 abbrev pub mode_of : Place → ModeId
 mode_of p = record { index = p.index }
+
+abbrev pub spinlock_place : SpinlockId → Place
+spinlock_place l = place_on NOBODY l.index
+
+abbrev pub spinlock_of : Place → SpinlockId
+spinlock_of p = record { index = p.index }
 
 abbrev pub task_place : TaskRef → Place
 task_place t = place_on t.core t.index
@@ -84,6 +92,9 @@ table_of p = record { core = p.core; index = p.index }
 
 abbrev pub mode_object : ModeId → Object
 mode_object m = object_at Mode (mode_place m)
+
+abbrev pub spinlock_object : SpinlockId → Object
+spinlock_object l = object_at Spinlock (spinlock_place l)
 
 abbrev pub task_object : TaskRef → Object
 task_object t = object_at Task (task_place t)

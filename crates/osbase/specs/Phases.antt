@@ -44,7 +44,7 @@ is_down Going = false
 is_down Down = true
 is_down Halted = false
 
--- A halt of all cores: a core that is down stays so. [AUTOSAR SWS OS 4.x, SWS_Os_00714]
+-- A halt of all cores: a core that is down stays so. [own]
 abbrev pub halted_from : Course → Course
 halted_from Going = Halted
 halted_from Down = Down

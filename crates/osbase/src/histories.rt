@@ -63,7 +63,7 @@ impl Course {
         matches!(self, Course::Down)
     }
 
-    /// The course after a halt of all cores: a core that is down stays so (AUTOSAR SWS OS 4.x, SWS_Os_00714).
+    /// The course after a halt of all cores: a core that is down stays so.
     pub fn halted(self) -> Course
         ensures { result ≡ halted_from self }
     {
@@ -118,6 +118,14 @@ pub enum Awaited {
 pub struct OpenCall {
     pub runner: Runner,
     pub awaits: Awaited,
+}
+
+/// A spinlock that the core got, and the runner whose oldest job has it: none once its release is owed
+/// (AUTOSAR SWS OS 4.x, GetSpinlock).
+#[derive(Clone, Copy, Debug, PartialEq, Eq)]
+pub struct GotSpinlock {
+    pub lock: SpinlockId,
+    pub holder: Option<Runner>,
 }
 
 /// An envelope of the outbox, and the core that it is for.

@@ -99,7 +99,7 @@ pub enum Item {
         core: CoreId,
         status: Status,
     },
-    /// The core takes no further stimulus: none is left, or it is down.
+    /// The core takes no further stimulus: none is left, or it is down or halted.
     Drained,
     /// Every started core has drained.
     PassEnd,

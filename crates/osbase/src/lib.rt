@@ -15,7 +15,9 @@ pub mod references;
 pub mod statuses;
 pub mod turns;
 
-pub use histories::{Awaited, Course, HeldResource, Job, OpenCall, Phase, Sent, TaskEvents};
+pub use histories::{
+    Awaited, Course, GotSpinlock, HeldResource, Job, OpenCall, Phase, Sent, TaskEvents,
+};
 pub use items::{Agreement, CoreMode, CoreSet, Item, Stimulus};
 pub use limits::{
     ACTIONS, ALARMS, CONFIGURED_CORES, CORE_NUMBERS, CORES, COUNTERS, GREATEST_BUDGET,

@@ -1,20 +1,21 @@
 //! Objects of every kind, as the operations of scripts and the calls across cores name them.
 
 ghost use Rattle.std.specs.Prelude.{◌≡◌};
-ghost use Rattle.osbase.specs.Objects.{alarm_of, alarm_place, counter_of, counter_place, isr_of, isr_place, mode_of, mode_place, object_at, resource_of, resource_place, same_kind, table_of, table_place, task_of, task_place};
+ghost use Rattle.osbase.specs.Objects.{alarm_of, alarm_place, counter_of, counter_place, isr_of, isr_place, mode_of, mode_place, object_at, resource_of, resource_place, same_kind, spinlock_of, spinlock_place, table_of, table_place, task_of, task_place};
 ghost use Rattle.osbase.specs.declared.objects.ObjectKind.{ObjectKind as KindValue};
 ghost use Rattle.osbase.specs.declared.objects.ObjectKind.TheVariants as kinds;
 ghost use Rattle.osbase.specs.declared.objects.Place.{Place as PlaceValue};
 
 use crate::references::{
-    AlarmRef, CoreId, CounterRef, IsrRef, ModeId, ResourceRef, TableRef, TaskRef,
+    AlarmRef, CoreId, CounterRef, IsrRef, ModeId, ResourceRef, SpinlockId, TableRef, TaskRef,
 };
 
 /// The kinds of objects: those that a core has, of which operations and calls name all but ISRs, and those that all
-/// cores have in common, the application modes.
+/// cores have in common, the application modes and the spinlocks.
 #[derive(Clone, Copy, Debug, PartialEq, Eq)]
 pub enum ObjectKind {
     Mode,
+    Spinlock,
     Task,
     Isr,
     Resource,
@@ -95,6 +96,29 @@ impl Reference for ModeId {
 
     fn place(self) -> Place {
         let ModeId { index } = self;
+        Place {
+            core: NOBODY,
+            index,
+        }
+    }
+}
+
+impl Reference for SpinlockId {
+    const KIND: ObjectKind = ObjectKind::Spinlock;
+
+    ghost KIND = { kinds.Spinlock };
+
+    ghost place_of = { spinlock_place };
+
+    ghost ref_of = { spinlock_of };
+
+    fn at(place: Place) -> Self {
+        let Place { index, .. } = place;
+        SpinlockId { index }
+    }
+
+    fn place(self) -> Place {
+        let SpinlockId { index } = self;
         Place {
             core: NOBODY,
             index,

@@ -22,9 +22,9 @@ use ostaskcall::{end, end_task, status_of_holding};
 
 // A running job of one of the core's tasks ends itself, and a job of the task begins (OSEK/VDX OS 2.2.3, section
 // 13.2.3.3). The invalid identifier answers E_OS_ID, a task of a core that was never started E_OS_CORE, a caller
-// that holds a resource E_OS_RESOURCE, and a task with as many jobs as it may have, if it is not the caller's own,
-// E_OS_LIMIT; then nothing is activated, and the caller goes on. Another core is asked to activate its task, and
-// the caller ends once it answers.
+// that holds a resource E_OS_RESOURCE, one that holds a spinlock E_OS_SPINLOCK, and a task with as many jobs as it may
+// have, if it is not the caller's own, E_OS_LIMIT; then nothing is activated, and the caller goes on. Another core is
+// asked to activate its task, and the caller ends once it answers.
 fn chain<const P: usize, const J: usize, const OUT: usize>(
     state: &mut CoreState<'_, P, J, OUT>,
     runner: Runner,

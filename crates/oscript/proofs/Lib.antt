@@ -1,3 +1,4 @@
 pub mod Arguments
 pub mod Present
 pub mod Acting
+pub mod Homes

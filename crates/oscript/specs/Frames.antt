@@ -30,6 +30,7 @@ result_of (Op.GetCounterValue target x) = Some x
 result_of (Op.GetAlarm target x) = Some x
 result_of (Op.GetScheduleTableStatus target x) = Some x
 result_of (Op.GetNumberOfActivatedCores x) = Some x
+result_of (Op.TryToGetSpinlock target x) = Some x
 result_of op = None
 
 -- The place in the script at which an operation lets its job go on, other than at the next. [own]

@@ -1,17 +1,18 @@
 -- The grammar of operations: a row for each. An operation as its verb and its arguments, and the objects that it names.
-use Rattle.std.specs.Prelude.{ℕ, ◌&&◌, nat_le, ℤ, pos, negsuc, Bool, true, false, if◌then◌else◌, Option, Some, None, List, [], ◌∷◌, codes, option_map, filter_map, slice_get, unwrap_or}
+use Rattle.std.specs.Prelude.{ℕ, ◌&&◌, nat_le, ℤ, pos, negsuc, Bool, true, false, if◌then◌else◌, Option, Some, None, is_some, List, [], ◌∷◌, codes, option_map, filter_map, slice_get, unwrap_or}
 use Rattle.std.specs.List.{list_all}
 use Rattle.std.specs.Option.{option_map_or}
-use Rattle.osbase.specs.Objects.{alarm_of, alarm_place, counter_of, counter_place, resource_of, resource_place, same_kind, table_of, table_place, task_of, task_place}
+use Rattle.osbase.specs.Objects.{alarm_of, alarm_place, counter_of, counter_place, resource_of, resource_place, same_kind, spinlock_of, spinlock_place, table_of, table_place, task_of, task_place}
 use Rattle.osbase.specs.Words.{service_name, status_number, status_numbered}
 use Rattle.osbase.specs.declared.objects.Object.{Object as Named}
 use Rattle.osbase.specs.declared.objects.ObjectKind.{ObjectKind}
-use Rattle.osbase.specs.declared.objects.ObjectKind.TheVariants.{Task, Resource, Counter, Alarm, Table}
+use Rattle.osbase.specs.declared.objects.ObjectKind.TheVariants.{Task, Resource, Counter, Alarm, Table, Spinlock}
 use Rattle.osbase.specs.declared.objects.Place.{Place}
 use Rattle.osbase.specs.declared.references.AlarmRef.{AlarmRef}
 use Rattle.osbase.specs.declared.references.CoreId.{CoreId}
 use Rattle.osbase.specs.declared.references.CounterRef.{CounterRef}
 use Rattle.osbase.specs.declared.references.ResourceRef.{ResourceRef}
+use Rattle.osbase.specs.declared.references.SpinlockId.{SpinlockId}
 use Rattle.osbase.specs.declared.references.TableRef.{TableRef}
 use Rattle.osbase.specs.declared.references.TaskRef.{TaskRef}
 use Rattle.osbase.specs.declared.references.Variable.{Variable as VariableRef}
@@ -27,7 +28,7 @@ use Rattle.oscript.specs.declared.rows.Args.{Args}
 use Rattle.oscript.specs.declared.rows.Form.{Form}
 use Rattle.oscript.specs.declared.rows.Kind.{Kind}
 use Rattle.oscript.specs.declared.rows.Row.{Row}
-use Rattle.oscript.specs.declared.rows.TheConstants.{ALARM, COUNTER, POSITION, RESOURCE, STATUS, TABLE, TASK, TICKS}
+use Rattle.oscript.specs.declared.rows.TheConstants.{ALARM, COUNTER, POSITION, RESOURCE, SPINLOCK, STATUS, TABLE, TASK, TICKS}
 use Rattle.oscript.specs.declared.rows.Verb.{Verb}
 
 -- The arguments, from the left.
@@ -84,6 +85,9 @@ row_of Verb.StartCore = service_row Service.StartCore (One Kind.Core)
 row_of Verb.GetNumberOfActivatedCores = plain_row (codes "GetNumberOfActivatedCores") (One Kind.Variable)
 row_of Verb.ShutdownOs = plain_row (codes "ShutdownOS") (One STATUS)
 row_of Verb.ShutdownAllCores = plain_row (codes "ShutdownAllCores") (One STATUS)
+row_of Verb.GetSpinlock = service_row Service.GetSpinlock (One SPINLOCK)
+row_of Verb.TryToGetSpinlock = service_row Service.TryToGetSpinlock (Two SPINLOCK Kind.Variable)
+row_of Verb.ReleaseSpinlock = service_row Service.ReleaseSpinlock (One SPINLOCK)
 
 abbrev pub word_of : Verb → List ℕ
 word_of verb = (row_of verb).0
@@ -127,6 +131,9 @@ alarm_at args i = ref_at Alarm alarm_of args i
 
 abbrev pub table_at : List (Arg Place) → ℕ → Option TableRef
 table_at args i = ref_at Table table_of args i
+
+abbrev pub spinlock_at : List (Arg Place) → ℕ → Option SpinlockId
+spinlock_at args i = ref_at Spinlock spinlock_of args i
 
 -- The events of the mask at this place.
 abbrev pub mask_in : Option (Arg Place) → ℕ
@@ -205,6 +212,9 @@ op_by Verb.StartCore args = Op.StartCore (core_at args 0)
 op_by Verb.GetNumberOfActivatedCores args = Op.GetNumberOfActivatedCores (variable_at args 0)
 op_by Verb.ShutdownOs args = Op.ShutdownOs (status_at args 0)
 op_by Verb.ShutdownAllCores args = Op.ShutdownAllCores (status_at args 0)
+op_by Verb.GetSpinlock args = Op.GetSpinlock (spinlock_at args 0)
+op_by Verb.TryToGetSpinlock args = Op.TryToGetSpinlock (spinlock_at args 0) (variable_at args 1)
+op_by Verb.ReleaseSpinlock args = Op.ReleaseSpinlock (spinlock_at args 0)
 
 -- The operation of a form. [own]
 abbrev pub op_of : Verb × List (Arg Place) → Op
@@ -228,6 +238,9 @@ alarm_argument target = ref_argument Alarm alarm_place target
 
 abbrev pub table_argument : Option TableRef → Arg Place
 table_argument target = ref_argument Table table_place target
+
+abbrev pub spinlock_argument : Option SpinlockId → Arg Place
+spinlock_argument target = ref_argument Spinlock spinlock_place target
 
 -- A status is written as its number.
 abbrev pub status_argument : Status → Arg Place
@@ -269,6 +282,9 @@ form_of_op (Op.StartCore target) = (Verb.StartCore, Core target ∷ [])
 form_of_op (Op.GetNumberOfActivatedCores x) = (Verb.GetNumberOfActivatedCores, Variable x.index ∷ [])
 form_of_op (Op.ShutdownOs status) = (Verb.ShutdownOs, status_argument status ∷ [])
 form_of_op (Op.ShutdownAllCores status) = (Verb.ShutdownAllCores, status_argument status ∷ [])
+form_of_op (Op.GetSpinlock target) = (Verb.GetSpinlock, spinlock_argument target ∷ [])
+form_of_op (Op.TryToGetSpinlock target x) = (Verb.TryToGetSpinlock, spinlock_argument target ∷ Variable x.index ∷ [])
+form_of_op (Op.ReleaseSpinlock target) = (Verb.ReleaseSpinlock, spinlock_argument target ∷ [])
 
 -- ---- arguments of their kinds
 
@@ -344,14 +360,17 @@ names_own_only (Op.StopScheduleTable target) = true
 names_own_only (Op.GetScheduleTableStatus target x) = true
 names_own_only op = false
 
--- The operation asks how many cores are started, or calls StartCore: what it does hangs on what all cores share.
--- [AUTOSAR SWS OS 4.x, SWS_Os_00672 and SWS_Os_00676]
+-- The operation asks how many cores are started, calls StartCore, or names a spinlock: what it does depends on what all cores share.
+-- [AUTOSAR SWS OS 4.x, SWS_Os_00672, SWS_Os_00676, SWS_Os_00686, SWS_Os_00703 and SWS_Os_00695]
 abbrev pub asks_shared : Op → Bool
 asks_shared (Op.StartCore target) = true
 asks_shared (Op.GetNumberOfActivatedCores x) = true
+asks_shared (Op.GetSpinlock target) = is_some target
+asks_shared (Op.TryToGetSpinlock target x) = is_some target
+asks_shared (Op.ReleaseSpinlock target) = is_some target
 asks_shared op = false
 
--- The operation takes all cores down. [AUTOSAR SWS OS 4.x, SWS_Os_00713]
+-- The operation shuts all cores down. [AUTOSAR SWS OS 4.x, SWS_Os_00713]
 abbrev pub halts_all : Op → Bool
 halts_all (Op.ShutdownAllCores status) = true
 halts_all op = false

@@ -9,7 +9,8 @@ ghost use Rattle.oscript.specs.Frames.{action_at, completed, new_frame, op_has_s
 
 pub use calls::{action_of_op, call_of_op, is_action, is_activation, op_of_call};
 use osbase::{
-    AlarmRef, CoreId, CounterRef, List, ResourceRef, ServiceId, Status, TableRef, TaskRef, Variable,
+    AlarmRef, CoreId, CounterRef, List, ResourceRef, ServiceId, SpinlockId, Status, TableRef,
+    TaskRef, Variable,
 };
 pub use rows::{Arg, Args, Form, Kind, Row, VERBS, Verb, form_of_op, op_of, row_of, verb_of};
 
@@ -89,6 +90,12 @@ pub enum Op {
     ShutdownOs(Status),
     /// ShutdownAllCores with this status (AUTOSAR SWS OS 4.x, SWS_Os_00713).
     ShutdownAllCores(Status),
+    /// GetSpinlock: its job waits until the spinlock is taken (AUTOSAR SWS OS 4.x, SWS_Os_00686).
+    GetSpinlock(Option<SpinlockId>),
+    /// TryToGetSpinlock: the variable becomes 1 if the spinlock is taken, else 0 (AUTOSAR SWS OS 4.x, SWS_Os_00703).
+    TryToGetSpinlock(Option<SpinlockId>, Variable),
+    /// ReleaseSpinlock (AUTOSAR SWS OS 4.x, SWS_Os_00695).
+    ReleaseSpinlock(Option<SpinlockId>),
 }
 
 impl Op {
@@ -120,6 +127,7 @@ impl Op {
             Op::GetAlarm(_, variable) => Some(variable),
             Op::GetScheduleTableStatus(_, variable) => Some(variable),
             Op::GetNumberOfActivatedCores(variable) => Some(variable),
+            Op::TryToGetSpinlock(_, variable) => Some(variable),
             _ => None,
         }
     }

@@ -70,6 +70,9 @@ pub enum Verb {
     GetNumberOfActivatedCores,
     ShutdownOs,
     ShutdownAllCores,
+    GetSpinlock,
+    TryToGetSpinlock,
+    ReleaseSpinlock,
 }
 
 /// One row of the grammar: an operation's word, the kinds of its arguments, and the service that it
@@ -82,7 +85,7 @@ pub struct Row {
 }
 
 /// Every operation. A word is looked for from the front, so what scripts have most stands first.
-pub const VERBS: [Verb; 34] = [
+pub const VERBS: [Verb; 37] = [
     Verb::ActivateTask,
     Verb::TerminateTask,
     Verb::Work,
@@ -117,6 +120,9 @@ pub const VERBS: [Verb; 34] = [
     Verb::GetNumberOfActivatedCores,
     Verb::ShutdownOs,
     Verb::ShutdownAllCores,
+    Verb::GetSpinlock,
+    Verb::TryToGetSpinlock,
+    Verb::ReleaseSpinlock,
 ];
 
 /// A task's name, or `?`.
@@ -133,6 +139,9 @@ pub const ALARM: Kind = Kind::Object(ObjectKind::Alarm);
 
 /// A schedule table's name, or `?`.
 pub const TABLE: Kind = Kind::Object(ObjectKind::Table);
+
+/// A spinlock's name, or `?`.
+pub const SPINLOCK: Kind = Kind::Object(ObjectKind::Spinlock);
 
 /// Ticks of a counter, or a value of one: any number of 32 bits.
 pub const TICKS: Kind = Kind::Number(0, 4294967295);
@@ -220,6 +229,12 @@ pub fn row_of(verb: Verb) -> Row
         }
         Verb::ShutdownOs => plain_row("ShutdownOS", Args::One(STATUS)),
         Verb::ShutdownAllCores => plain_row("ShutdownAllCores", Args::One(STATUS)),
+        Verb::GetSpinlock => service_row(ServiceId::GetSpinlock, Args::One(SPINLOCK)),
+        Verb::TryToGetSpinlock => service_row(
+            ServiceId::TryToGetSpinlock,
+            Args::Two(SPINLOCK, Kind::Variable),
+        ),
+        Verb::ReleaseSpinlock => service_row(ServiceId::ReleaseSpinlock, Args::One(SPINLOCK)),
     }
 }
 
@@ -401,6 +416,9 @@ pub fn op_of(form: Form<Place>) -> Op
         Verb::GetNumberOfActivatedCores => Op::GetNumberOfActivatedCores(variable_at(args, 0)),
         Verb::ShutdownOs => Op::ShutdownOs(status_at(args, 0)),
         Verb::ShutdownAllCores => Op::ShutdownAllCores(status_at(args, 0)),
+        Verb::GetSpinlock => Op::GetSpinlock(ref_at(args, 0)),
+        Verb::TryToGetSpinlock => Op::TryToGetSpinlock(ref_at(args, 0), variable_at(args, 1)),
+        Verb::ReleaseSpinlock => Op::ReleaseSpinlock(ref_at(args, 0)),
     }
 }
 
@@ -465,6 +483,9 @@ pub fn verb_of(op: Op) -> Verb
         Op::GetNumberOfActivatedCores(_) => Verb::GetNumberOfActivatedCores,
         Op::ShutdownOs(_) => Verb::ShutdownOs,
         Op::ShutdownAllCores(_) => Verb::ShutdownAllCores,
+        Op::GetSpinlock(_) => Verb::GetSpinlock,
+        Op::TryToGetSpinlock(_, _) => Verb::TryToGetSpinlock,
+        Op::ReleaseSpinlock(_) => Verb::ReleaseSpinlock,
     }
 }
 
@@ -520,6 +541,8 @@ fn args_of(op: Op) -> Args<Arg<Place>>
         Op::StartCore(target) => one(Arg::Core(target)),
         Op::GetNumberOfActivatedCores(x) => one(variable_argument(x)),
         Op::ShutdownOs(status) | Op::ShutdownAllCores(status) => one(status_argument(status)),
+        Op::GetSpinlock(target) | Op::ReleaseSpinlock(target) => one(argument(target)),
+        Op::TryToGetSpinlock(target, x) => two(argument(target), variable_argument(x)),
     }
 }
 
@@ -590,15 +613,22 @@ impl Op {
         }
     }
 
-    /// Whether the operation asks how many cores are started, or calls StartCore: what it does hangs on what all cores
-    /// share (AUTOSAR SWS OS 4.x, SWS_Os_00672 and SWS_Os_00676).
+    /// Whether the operation asks how many cores are started, calls StartCore, or names a spinlock: what it does depends on
+    /// what all cores share (AUTOSAR SWS OS 4.x, SWS_Os_00672, SWS_Os_00676, SWS_Os_00686, SWS_Os_00703 and
+    /// SWS_Os_00695).
     pub fn asks_shared(self) -> bool
         ensures { result ≡ asks_shared self }
     {
-        matches!(self, Op::StartCore(_) | Op::GetNumberOfActivatedCores(_))
+        match self {
+            Op::StartCore(_) | Op::GetNumberOfActivatedCores(_) => true,
+            Op::GetSpinlock(target) => target.is_some(),
+            Op::TryToGetSpinlock(target, _) => target.is_some(),
+            Op::ReleaseSpinlock(target) => target.is_some(),
+            _ => false,
+        }
     }
 
-    /// Whether the operation takes all cores down (AUTOSAR SWS OS 4.x, SWS_Os_00713).
+    /// Whether the operation shuts all cores down (AUTOSAR SWS OS 4.x, SWS_Os_00713).
     pub fn halts_all(self) -> bool
         ensures { result ≡ halts_all self }
     {

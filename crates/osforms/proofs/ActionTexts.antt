@@ -13,6 +13,7 @@ use Rattle.oscript.specs.declared.rows.Arg.TheVariants.{Core, Object, Mask, Numb
 use Rattle.oscript.specs.declared.rows.Kind.{Kind}
 use Rattle.oscript.specs.declared.rows.Verb.{Verb}
 use Rattle.oscript.specs.Rows.{form_of_op, kinds_of, op_of}
+use Rattle.oscript.proofs.Homes.{at_home}
 use Rattle.osforms.specs.Action.{is_action, is_action_op}
 use Rattle.osforms.specs.Form.{form_of}
 use Rattle.osforms.specs.Operation.{op_meant, place_of_any, resolve_arg, resolve_args}
@@ -40,6 +41,16 @@ is_action_form form = is_action_verb form.0 && list_all is_named form.1
 action-form : (op : Op) → is_action_op op ≡ is_action_form (form_of_op op)
 action-form op = grind arith
 
+-- An object has a name wherever it stands.
+home-named : (arg : Arg Place) → is_named (at_home arg) ≡ is_named arg
+home-named (Object kind None) = refl
+home-named (Object kind (Some place)) = refl
+home-named arg = refl
+
+homes-named : (args : List (Arg Place)) → list_all is_named (map at_home args) ≡ list_all is_named args
+homes-named [] = refl
+homes-named (arg ∷ args) = rw (home-named arg, homes-named args) refl
+
 module _ (place : ObjectKind → List ℕ → Option Place) where
   arg-named : (shown : Arg (List ℕ)) (arg : Arg Place) → resolve_arg place shown ≡ Some arg → is_named arg ≡ is_named shown
   arg-named (Object kind None) arg e = let is : Object kind None ≡ arg = cc in rw (← is) refl
@@ -64,7 +75,7 @@ module _ (place : ObjectKind → List ℕ → Option Place) where
       action-form op
       ∙ ap (λ (verb : Verb). is_action_verb verb && list_all is_named (form_of_op op).1) m.verb_is
       ∙ ap (λ (args : List (Arg Place)). is_action_verb m.form.0 && list_all is_named args) m.args_are
-      ∙ ap (λ b. is_action_verb m.form.0 && b) (args-named m.form.1 m.args m.placed)
+      ∙ ap (λ b. is_action_verb m.form.0 && b) (homes-named m.args ∙ args-named m.form.1 m.args m.placed)
       ∙ sym (ap (λ o. option_map_or is_action_form o false) m.formed)
 
 -- So whether a text is an action does not depend on what its name stands for.

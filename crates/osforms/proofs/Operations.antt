@@ -15,6 +15,7 @@ use Rattle.oscript.specs.declared.rows.Verb.{Verb}
 use Rattle.oscript.specs.Rows as rows
 use Rattle.oscript.specs.Rows.{are_of, form_of_op, has_event, is_in_form, is_of, kinds_of, objects_in, objects_of, op_of}
 use Rattle.oscript.proofs.Arguments.{rest-pass}
+use Rattle.oscript.proofs.Homes.{args-home, at_home, home}
 use Rattle.osforms.specs.Form.{form_of, words_of}
 use Rattle.osforms.specs.Operation.{resolve_arg, resolve_args, resolved, named, op_meant, place_of_any, has_masks, is_formed, is_known, op_text}
 use Rattle.osforms.proofs.Alike.{named-alike}
@@ -29,7 +30,7 @@ use Rattle.osforms.proofs.RoundTrip.{both, chained, AreArgs, form_text-back, for
 
 -- ---- what a text means
 
--- The operation that a text means has the text's form, with the places of its names.
+-- The operation that a text means has the text's form, with the places of its names: each object where its references are.
 pub record Meant (place : ObjectKind → List ℕ → Option Place) (text : List ℕ) (op : Op) : Type 0 where
   pub form : Verb × List (Arg (List ℕ))
   pub args : List (Arg Place)
@@ -37,7 +38,7 @@ pub record Meant (place : ObjectKind → List ℕ → Option Place) (text : List
   pub placed : resolve_args place form.1 ≡ Some args
   pub fit : are_of (kinds_of form.0) args ≡ true
   pub verb_is : (form_of_op op).0 ≡ form.0
-  pub args_are : (form_of_op op).1 ≡ args
+  pub args_are : (form_of_op op).1 ≡ map at_home args
 
 pub meant-form : (place : ObjectKind → List ℕ → Option Place) (text : List ℕ) (op : Op) → op_meant place text ≡ Some op → Meant place text op
 meant-form place text op e =
@@ -57,7 +58,27 @@ meant-form place text op e =
       args_are = ap (λ (o : Op). (form_of_op o).1) back ∙ (is-row c.0.0).4 r.0 fit;
     }
 
-module _ (place : ObjectKind → List ℕ → Option Place) (p : Named → Bool) (passes : (kind : ObjectKind) (name : List ℕ) (found : Place) → place kind name ≡ Some found → p (record { kind = kind; place = found }) ≡ true) where
+-- Arguments stay of their kinds, and masks keep their events.
+home-of : (k : Kind) (a : Arg Place) → is_of k (at_home a) ≡ is_of k a
+home-of (Kind.Object k) (Object j target) = refl
+home-of k (Object j target) = refl
+home-of k a = refl
+
+homes-of : (ks : List Kind) (args : List (Arg Place)) → are_of ks (map at_home args) ≡ are_of ks args
+homes-of [] [] = refl
+homes-of [] (a ∷ args) = refl
+homes-of (k ∷ ks) [] = refl
+homes-of (k ∷ ks) (a ∷ args) = rw (home-of k a, homes-of ks args) refl
+
+home-event : (a : Arg Place) → has_event (at_home a) ≡ has_event a
+home-event (Object j target) = refl
+home-event a = refl
+
+homes-events : (args : List (Arg Place)) → list_all has_event (map at_home args) ≡ list_all has_event args
+homes-events [] = refl
+homes-events (a ∷ args) = rw (home-event a, homes-events args) refl
+
+module _ (place : ObjectKind → List ℕ → Option Place) (p : Named → Bool) (stays : (object : Named) → p object ≡ true → home object.kind object.place ≡ object.place) (passes : (kind : ObjectKind) (name : List ℕ) (found : Place) → place kind name ≡ Some found → p (record { kind = kind; place = found }) ≡ true) where
   arg-passes : (shown : Arg (List ℕ)) (arg : Arg Place) (args : List (Arg Place)) → resolve_arg place shown ≡ Some arg → list_all p (objects_in args) ≡ true → list_all p (objects_in (arg ∷ args)) ≡ true
   arg-passes (Object kind None) arg args e all = let is : Object kind None ≡ arg = cc in rw (← is) all
   arg-passes (Object kind (Some name)) arg args e all =
@@ -75,14 +96,17 @@ module _ (place : ObjectKind → List ℕ → Option Place) (p : Named → Bool)
       let m = both (resolve_arg place a) (resolve_args place shown) args e in
       rw (← m.4) (arg-passes a m.0 m.1 m.2 (args-pass shown m.1 m.3))
 
-  -- Each object of the operation that a text means is one that some name stands for.
+  -- Each object of the operation that a text means is one that some name stands for, where all of these are at home.
   pub meant-passes : (text : List ℕ) (op : Op) → op_meant place text ≡ Some op → list_all p (objects_of op) ≡ true
-  meant-passes text op e = let m = meant-form place text op e in rw m.args_are (args-pass m.form.1 m.args m.placed)
+  meant-passes text op e =
+      let m = meant-form place text op e in
+      let all = args-pass m.form.1 m.args m.placed in
+      rw (m.args_are ∙ args-home p stays m.args all) all
 
 module _ (place : ObjectKind → List ℕ → Option Place) where
   -- Each argument of the operation that a text means is of its kind.
   pub meant-in-form : (text : List ℕ) (op : Op) → op_meant place text ≡ Some op → is_in_form op ≡ true
-  meant-in-form text op e = let m = meant-form place text op e in rw (m.verb_is, m.args_are) m.fit
+  meant-in-form text op e = let m = meant-form place text op e in rw (m.verb_is, m.args_are) (homes-of (kinds_of m.form.0) m.args ∙ m.fit)
 
   -- A text that means an operation is in form and in range, and its names are known.
   pub meant-known : (text : List ℕ) (op : Op) → op_meant place text ≡ Some op → (is_formed text ≡ true) × (is_known place text ≡ true)
@@ -111,7 +135,7 @@ module _ (place : ObjectKind → List ℕ → Option Place) where
   form-masks : (text : List ℕ) (op : Op) → op_meant place text ≡ Some op → rows.has_masks op ≡ option_map_or (λ form. list_all has_event form.1) (form_of text) true
   form-masks text op e =
       let m = meant-form place text op e in
-      ap (list_all has_event) m.args_are ∙ args-events m.form.1 m.args m.placed ∙ sym (ap (λ o. option_map_or (λ form. list_all has_event form.1) o true) m.formed)
+      ap (list_all has_event) m.args_are ∙ homes-events m.args ∙ args-events m.form.1 m.args m.placed ∙ sym (ap (λ o. option_map_or (λ form. list_all has_event form.1) o true) m.formed)
 
 some-of : (o : Option Op) → is_some o ≡ true → (op : Op) × (o ≡ Some op)
 some-of None e = cc

@@ -14,11 +14,14 @@ use Rattle.osbase.specs.declared.references.Runner.{Runner}
 use Rattle.osbase.specs.declared.items.CoreSet.{CoreSet}
 use Rattle.osbase.specs.declared.items.Item.{Item}
 use Rattle.osbase.specs.declared.marks.Mark.{Mark}
+use Rattle.osbase.specs.declared.histories.GotSpinlock.{GotSpinlock}
 use Rattle.osbase.specs.declared.histories.Job.{Job}
+use Rattle.osbase.specs.declared.histories.OpenCall.{OpenCall}
 use Rattle.osbase.specs.Sets.{numbers_from}
 use Rattle.osbase.specs.declared.limits.TheConstants.{RUNNERS}
 use Rattle.osbase.specs.Counting.{alarm_after, alarm_of, counts_after, counts_of, table_after, table_state}
 use Rattle.osbase.specs.History.{History, Entry, Took, Printed, agreement_after, agreement_of, better_of, course_after, course_of, current_after, current_job, current_task, first_greatest, giving_way, giving_way_after, greater, greatest_ceiling, is_waiting, job_count, jobs_after, live_jobs, marks_of, oldest, oldest_of, open_after, open_call, phase_after, phase_of, same_job, same_runner, stamped_anew, without_oldest}
+use Rattle.osbase.specs.Spins.{got_spinlocks, spins_after}
 use Rattle.osbase.specs.Interrupts.{entered_after, entered_isrs, isr_count, isr_jobs, isr_jobs_after, oldest_entered, runner_of_job, running_job}
 use Rattle.oscript.specs.declared.Op.{Op}
 use Rattle.oscript.specs.Runners.{Row, row_after, row_of}
@@ -83,6 +86,16 @@ course-same s m k = reads-same course_of (λ e h j p. ap (course_after e) p) (λ
 
 pub open-same : (s : CoreSet) (m : Bool) (k : History) → open_call (among s (base_of m) k) ≡ open_call k
 open-same s m k = reads-same open_call (λ e h j p. ap (open_after e) p) (λ a b h. refl) refl s m k
+
+-- Which spinlocks the core got hangs on the call that was open.
+abbrev called : History → Option OpenCall × List GotSpinlock
+called h = (open_call h, got_spinlocks h)
+
+called-same : (s : CoreSet) (m : Bool) (k : History) → called (among s (base_of m) k) ≡ called k
+called-same s m k = reads-same called (λ e h j p. λ i. (open_after e (p i).0, spins_after e (p i).0 (p i).1)) (λ a b h. refl) refl s m k
+
+pub got-same : (s : CoreSet) (m : Bool) (k : History) → got_spinlocks (among s (base_of m) k) ≡ got_spinlocks k
+got-same s m k = λ i. (called-same s m k i).1
 
 pub agreement-same : (s : CoreSet) (m : Bool) (k : History) → agreement_of (among s (base_of m) k) ≡ agreement_of k
 agreement-same s m k = reads-same agreement_of (λ e h j p. ap (agreement_after e) p) (λ a b h. refl) refl s m k

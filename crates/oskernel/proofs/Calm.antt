@@ -4,6 +4,7 @@ use Rattle.std.proofs.Common.{Bool, ◌≡◌, true, false, None, [], ◌∷◌,
 use Rattle.osbase.specs.declared.references.CoreId.{CoreId}
 use Rattle.osbase.specs.declared.items.Item.{Item}
 use Rattle.osbase.specs.History.{Entry, History, Took, open_call, outbox}
+use Rattle.osbase.specs.Spins.{got_spinlocks}
 use Rattle.osplan.specs.View.{View}
 use Rattle.osact.proofs.Kept.{anybody, is_local, nobody}
 use Rattle.osstate.specs.State.{state_of}
@@ -13,22 +14,23 @@ use Rattle.oskernel.proofs.Carried.{is_replied, NamesAllow}
 use Rattle.oskernel.proofs.Holding.{Holds, holds-after, holds-local}
 use Rattle.oskernel.proofs.Stages.{is_mail}
 
--- No call is open, and nothing waits in the outbox.
+-- No call is open, nothing waits in the outbox, and no spinlock was got.
 pub record Calm (h : History) : Type 0 where
   pub closed : open_call h ≡ None
   pub empty : outbox h ≡ []
+  pub none_got : got_spinlocks h ≡ []
 
 pub settled : (v : View) (h : History) → Calm h → is_settled (state_of v h) ≡ true
-settled v h calm = rw (calm.closed, calm.empty) refl
+settled v h calm = rw (calm.closed, calm.empty, calm.none_got) refl
 
 pub calm-local : (names : CoreId → Bool) (e : Entry) (h : History) → is_local names e ≡ true → Calm h → Calm (e ∷ h)
-calm-local names e h is p = record { closed = grind (arith, is, p.closed); empty = grind (arith, is, p.empty) }
+calm-local names e h is p = record { closed = grind (arith, is, p.closed); empty = grind (arith, is, p.empty); none_got = grind (arith, is, p.none_got) }
 
 calm-holds : Holds nobody nobody anybody Calm
 calm-holds = holds-local anybody Calm (calm-local anybody)
 
 pub calm-took : (i : Item) (h : History) → is_mail i ≡ false → Calm h → Calm (Took i ∷ h)
-calm-took i h none p = record { closed = grind (arith, none, p.closed); empty = grind (arith, none, p.empty) }
+calm-took i h none p = record { closed = grind (arith, none, p.closed); empty = grind (arith, none, p.empty); none_got = grind (arith, none, p.closed, p.none_got) }
 
 mail-replied : (i : Item) → is_mail i ≡ false → is_replied nobody anybody i ≡ true
 mail-replied i none = grind arith

@@ -5,6 +5,7 @@ use Rattle.std.specs.List.{list_all, slice_get}
 use Rattle.std.specs.Option.{option_map_or}
 use Rattle.std.proofs.lemmas.Bool.{and_from, and_parts, or_right}
 use Rattle.osbase.specs.declared.statuses.Status.{Status}
+use Rattle.osbase.specs.declared.statuses.Status.TheVariants.{EOk}
 use Rattle.osbase.specs.declared.references.CoreId.{CoreId}
 use Rattle.osbase.specs.declared.references.TaskRef.{TaskRef}
 use Rattle.osbase.specs.declared.references.Runner.{Runner}
@@ -37,7 +38,7 @@ use Rattle.osdue.proofs.Allowed.{ActionsAllow, counts-ok}
 use Rattle.oskernel.proofs.Operated.{IsAllowed, operates-ok}
 use Rattle.oskernel.specs.Faults.{answers_fault, fault_of, faults_with, protects}
 use Rattle.oskernel.specs.Free.{may_dispatch}
-use Rattle.oskernel.specs.Step.{after, closes, dispatches, effect, enters_from, goes_to, performs, resumes_with}
+use Rattle.oskernel.specs.Step.{after, closes, dispatches, effect, enters_from, goes_to, performs, resumes_with, service_awaiting, success_value}
 
 -- A request comes from a core that may be answered; and the call that it brings, an action and an interrupt are for an object that
 -- marks may name.
@@ -127,8 +128,7 @@ module _ (l : Leave) (allowed : NamesAllow l.view l.may) where
   closes-ok s seen status value = found-ok l _ s.awaits (λ call is. by call.runner (rw is at seen.awaits) call.awaits)
     where
       by : (r : Runner) → IsNamed l r → (awaits : Awaited) → Allowed (resumes_with r awaits status value)
-      by r n (Awaited.Reply id core) = assumption (ends-ok l r n, returns-ok l r id status value n)
-      by r n awaits = assumption
+      by r n awaits = found-ok l _ (service_awaiting awaits) (λ id is. assumption (ends-ok l r n, returns-ok l r id status value n))
 
   -- The answer to a time fault names no object but the task or ISR whose job it ends, and none if the core goes down.
   answers-ok : (protection : Protection) (r : Runner) (status : Status) → IsNamed l r → Allowed (answers_fault protection r status)
@@ -170,6 +170,9 @@ module _ (l : Leave) (allowed : NamesAllow l.view l.may) where
   )
   effect-ok (Item.Received from number (Message.Reply status)) m = λ s seen. closes-ok s seen status None
   effect-ok (Item.Received from number (Message.Value status n)) m = λ s seen. closes-ok s seen status (Some n)
+  effect-ok (Item.Granted spinlock) m = λ s seen. closes-ok s seen EOk None
+  effect-ok (Item.Tried spinlock taken) m = λ s seen. closes-ok s seen EOk (Some (success_value taken))
+  effect-ok (Item.Freed spinlock) m = λ s seen. closes-ok s seen EOk None
   effect-ok (Item.Last None) m = tt
   effect-ok (Item.Last (Some asked)) m = λ s seen. (λ down. tt, λ up. (refl, tt))
   effect-ok item m = assumption

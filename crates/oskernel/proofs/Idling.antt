@@ -12,11 +12,11 @@ use Rattle.osbase.specs.declared.references.Runner.{Runner}
 use Rattle.osbase.specs.declared.items.Item.{Item}
 use Rattle.osbase.specs.declared.marks.Mark.{Mark}
 use Rattle.osbase.specs.declared.histories.Job.{Job}
-use Rattle.osbase.specs.declared.histories.OpenCall.{OpenCall}
 use Rattle.oscript.specs.Runners.{Row}
 use Rattle.osbase.specs.History.{Entry, History, Took, Printed, better_of, course_of, current_job, current_task, first_greatest, giving_way, greater, greatest_ceiling, jobs_after, live_jobs, oldest, oldest_of, open_call, same_job, same_runner}
 use Rattle.osbase.specs.Interrupts.{entered_isrs, isr_jobs, isr_jobs_after, oldest_entered}
 use Rattle.osbase.specs.Phases.{is_going}
+use Rattle.osbase.specs.Spins.{got_spinlocks, is_owing}
 use Rattle.osbase.proofs.Same.{same_runner-refl, same_runner-true}
 use Rattle.osplan.specs.View.{View}
 use Rattle.osplan.proofs.Tests.{all-filter}
@@ -380,12 +380,15 @@ goes_to-way v (Some j) h = by (option_map_or (same_job j) (running v h) false)
     by false = entered j.runner
 
 -- a core drains, and goes to its best job unless it is down; the end of the pass changes nothing
-pub drained-idle : (v : View) (h : History) → open_call h ≡ None → Idle v (after v h Item.Drained)
-drained-idle v h none =
-    subst (λ (o : Option OpenCall). Idle v (cond (is_none o && is_going (course_of h)) (goes_to v (best_job v next) next) next)) (sym none) (by (is_going (course_of h)) refl)
+pub drained-idle : (v : View) (h : History) → open_call h ≡ None → is_owing (got_spinlocks h) ≡ false → Idle v (after v h Item.Drained)
+drained-idle v h none unowed =
+    subst (λ (free : Bool). Idle v (cond (free && is_going (course_of h)) (goes_to v (best_job v next) next) next)) (sym free) (by (is_going (course_of h)) refl)
   where
     next : History
     next = Took Item.Drained ∷ h
+
+    free : (is_none (open_call h) && not (is_owing (got_spinlocks h))) ≡ true
+    free = λ i. is_none (none i) && not (unowed i)
 
     by : (b : Bool) → is_going (course_of h) ≡ b → Idle v (cond b (goes_to v (best_job v next) next) next)
     by true e = record { runs = λ going. idle-goes_to v next; stays = goes_to-way v (best_job v next) next }
@@ -405,17 +408,20 @@ end-idle v h idle = by (best_job v next) same
     stays true x = refl
     stays false x = refl
 
+    free : Bool
+    free = is_none (open_call h) && not (is_owing (got_spinlocks h))
+
     down : (b : Bool) (x y : History) → cond (b && false) x y ≡ y
     down true x y = refl
     down false x y = refl
 
     turn : (j : Job) → best_job v h ≡ Some j → (b : Bool) → is_going (course_of h) ≡ b
-        → cond (is_none (open_call h) && b) (cond (option_map_or (same_job j) (running v h) false) next (enters j.runner next)) next ≡ next
+        → cond (free && b) (cond (option_map_or (same_job j) (running v h) false) next (enters j.runner next)) next ≡ next
     turn j e true going =
-        ap (λ (runs : Bool). cond (is_none (open_call h) && true) (cond runs next (enters j.runner next)) next) (idle.runs going j e)
-        ∙ stays (is_none (open_call h) && true) next
-    turn j e false going = down (is_none (open_call h)) _ next
+        ap (λ (runs : Bool). cond (free && true) (cond runs next (enters j.runner next)) next) (idle.runs going j e)
+        ∙ stays (free && true) next
+    turn j e false going = down free _ next
 
-    by : (o : Option Job) → best_job v h ≡ o → cond (is_none (open_call h) && is_going (course_of h)) (goes_to v o next) next ≡ next
-    by None e = stays (is_none (open_call h) && is_going (course_of h)) next
+    by : (o : Option Job) → best_job v h ≡ o → cond (free && is_going (course_of h)) (goes_to v o next) next ≡ next
+    by None e = stays (free && is_going (course_of h)) next
     by (Some j) e = turn j e (is_going (course_of h)) refl

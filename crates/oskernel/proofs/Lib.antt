@@ -4,6 +4,7 @@ pub mod Numbered
 pub mod Autostart
 pub mod Ticking
 pub mod Operated
+pub mod Families
 pub mod Going
 pub mod Carried
 pub mod JobLists

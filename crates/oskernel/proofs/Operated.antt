@@ -11,6 +11,7 @@ use Rattle.osact.proofs.Kept.{AreAllowed, IsNamed, Leave, first-ok, returns-ok}
 use Rattle.ostaskcall.proofs.Allowed.{task_acts-ok}
 use Rattle.osalarmcall.proofs.Allowed.{counter_acts-ok}
 use Rattle.ostablecall.proofs.Allowed.{table_acts-ok}
+use Rattle.osspincall.proofs.Allowed.{spin_acts-ok}
 use Rattle.oscall.proofs.Allowed.{called-ok, chain_acts-ok, core_acts-ok, script_acts-ok}
 use Rattle.osdue.proofs.Allowed.{ActionsAllow, increment_acts-ok}
 use Rattle.oskernel.specs.Operations.{operates, operates_by, operates_unless, refused_now}
@@ -26,7 +27,8 @@ operates-ok l actions op r n allowed = λ s seen. (λ ignored. (refl, tt), λ pe
         (first-ok l _ _ (counter_acts-ok l r op n)
         (first-ok l _ _ (increment_acts-ok l actions r op n)
         (first-ok l _ _ (table_acts-ok l r op n)
-        (first-ok l _ _ (core_acts-ok l r op n allowed) tt))))))
+        (first-ok l _ _ (spin_acts-ok l r op n allowed)
+        (first-ok l _ _ (core_acts-ok l r op n allowed) tt)))))))
     by (Some c) is = called-ok l r op c.0 c.1 n is allowed
 
     unless : (o : Option ServiceId) → AreAllowed l (operates_unless r o (operates_by r op (call_of_op op)))

@@ -10,7 +10,7 @@ use Rattle.osbase.proofs.Phasing.{stands_in-is}
 use Rattle.osplan.specs.View.{View}
 use Rattle.osstate.specs.Readings.{next_start, phase_at}
 use Rattle.osstate.specs.State.{state_of}
-use Rattle.oskernel.specs.Admission.{admits, are_started_cores, is_agreement, is_start_answer, may_halt}
+use Rattle.oskernel.specs.Admission.{admits, are_started_cores, awaits_get, awaits_try, is_agreement, is_next_release, is_start_answer, may_halt}
 use Rattle.oskernel.specs.Free.{is_settled, may_go_on}
 use Rattle.oskernel.specs.Step.{after, history_from, outbox_size, solo_from, takes}
 
@@ -29,6 +29,9 @@ stage_of (Item.Pass1 agreement) = Some Phase.FirstGate
 stage_of Item.Readied = Some Phase.BetweenGates
 stage_of (Item.Pass2 cores) = Some Phase.SecondGate
 stage_of (Item.Stim stimulus) = Some Phase.Live
+stage_of (Item.Granted l) = Some Phase.Live
+stage_of (Item.Tried l taken) = Some Phase.Live
+stage_of (Item.Freed l) = Some Phase.Live
 stage_of (Item.Halt core status) = Some Phase.Live
 stage_of Item.Drained = Some Phase.Live
 stage_of Item.PassEnd = Some Phase.Drained
@@ -45,11 +48,13 @@ stage v h (Item.Pass2 cores) m t = ap Some (stands_in-is Phase.SecondGate (phase
 stage v h (Item.Stim s) m t = ap Some (stands_in-is Phase.Live (phase_at v h) (and_parts _ (knows_stimulus v.own s) (and_parts _ (may_go_on (state_of v h)) t).0).0)
 stage v h (Item.Posted to) m t = absurd (true≢false m)
 stage v h (Item.Received from number message) m t = absurd (true≢false m)
+stage v h (Item.Granted l) m t = ap Some (stands_in-is Phase.Live (phase_at v h) (and_parts _ (awaits_get (state_of v h) l) t).0)
+stage v h (Item.Tried l taken) m t = ap Some (stands_in-is Phase.Live (phase_at v h) (and_parts _ (awaits_try (state_of v h) l) t).0)
+stage v h (Item.Freed l) m t = ap Some (stands_in-is Phase.Live (phase_at v h) (and_parts _ (is_next_release (state_of v h) l) t).0)
 stage v h (Item.Halt core status) m t = ap Some (stands_in-is Phase.Live (phase_at v h) (and_parts _ (may_halt (state_of v h)) t).0)
 stage v h Item.Drained m t = ap Some (stands_in-is Phase.Live (phase_at v h) (and_parts _ (is_settled (state_of v h)) t).0)
 stage v h Item.PassEnd m t = ap Some (stands_in-is Phase.Drained (phase_at v h) t)
 stage v h (Item.Last shutdown) m t = ap Some (stands_in-is Phase.Closing (phase_at v h) t)
-stage v h i m t = absurd (false≢true t)
 
 pub mail-schedules : (v : View) (h : History) (i : Item) → is_mail i ≡ true → admits outbox_size (state_of v h) i ≡ true → is_scheduling (phase_at v h) ≡ true
 mail-schedules v h (Item.Posted to) m t = (and_parts (is_scheduling (phase_at v h)) _ t).0

@@ -1,6 +1,6 @@
 -- What a core that names no object of another core does at an item, it does alone.
 use native.Mathlib.Omega.{arith}
-use Rattle.std.proofs.Common.{◌≡◌, ◌&&◌, ◌||◌, ℕ, Bool, true, false, cond, Option, None, is_none, option_map, List, ◌∷◌, refl, sym, ap, ◌∙◌}
+use Rattle.std.proofs.Common.{◌≡◌, ◌&&◌, ◌||◌, ℕ, Bool, true, false, cond, not, Option, None, is_none, option_map, List, [], ◌∷◌, refl, sym, ap, ◌∙◌}
 use Rattle.std.proofs.lemmas.Bool.{false≢true}
 use Rattle.osbase.specs.declared.references.CoreId.{CoreId}
 use Rattle.osbase.specs.declared.items.CoreSet.{CoreSet}
@@ -8,6 +8,7 @@ use Rattle.osbase.specs.declared.items.Item.{Item}
 use Rattle.osbase.specs.declared.items.Stimulus.{Stimulus}
 use Rattle.osbase.specs.declared.histories.Job.{Job}
 use Rattle.osbase.specs.Phases.{is_going, is_scheduling}
+use Rattle.osbase.specs.Spins.{is_owing}
 use Rattle.osbase.specs.Sets.{has_core}
 use Rattle.osbase.specs.History.{Entry, History, Took, Printed, Noted, current_task, same_core}
 use Rattle.osbase.proofs.Same.{same_core-true}
@@ -17,12 +18,12 @@ use Rattle.osact.specs.Seen.{seen_of}
 use Rattle.osact.proofs.Kept.{IsKept, anybody, is_local, is_within, nobody, seen_as}
 use Rattle.osact.proofs.SeenSame.{ReadsSame, seen-same}
 use Rattle.oskernel.specs.Step.{after, effect}
-use Rattle.oskernel.proofs.Among.{agreement-same, among, base_of, best-later, count-same, counts-same, course-same, current-same, delay, later, open-same, pending-same, phase-same, rows-same, running-later, settings-same, stamp-later, tables-same}
+use Rattle.oskernel.proofs.Among.{agreement-same, among, base_of, best-later, count-same, counts-same, course-same, current-same, delay, got-same, later, open-same, pending-same, phase-same, rows-same, running-later, settings-same, stamp-later, tables-same}
 use Rattle.oskernel.proofs.Carried.{NamesAllow, acting-anybody, after-carried, is_replied, leave_all, next_job, next_of}
 
--- What is around a core that is the master of these.
+-- What is around a core that is the master of these, where there are no spinlocks.
 abbrev pub around_master : List CoreId → Around
-around_master ids = record { is_master = true; cores = ids }
+around_master ids = record { is_master = true; cores = ids; links = [] }
 
 -- What the core alone sees.
 abbrev pub alone_view : View → List CoreId → View
@@ -50,7 +51,7 @@ module _ (v : View) (ids : List CoreId) (s : CoreSet) where
   next-here : (k : History) → next_of v (here k) ≡ next_of self k
   next-here k =
       let next = (λ i. next_job (best-later v s v.around.is_master k i) (running-later v s v.around.is_master k i)) ∙ later-next (delay v.around.is_master) (best_job self k) (running self k) in
-      λ i. cond (is_scheduling (phase-same s v.around.is_master k i) && (is_none (open-same s v.around.is_master k i) && is_going (course-same s v.around.is_master k i))) (next i) None
+      λ i. cond (is_scheduling (phase-same s v.around.is_master k i) && ((is_none (open-same s v.around.is_master k i) && not (is_owing (got-same s v.around.is_master k i))) && is_going (course-same s v.around.is_master k i))) (next i) None
 
   steers : (h k : History) → Along h k → (current_task h ≡ current_task k) × (next_of v h ≡ next_of self k)
   steers h k p = (ap current_task p.same ∙ current-same s v.around.is_master k, ap (next_of v) p.same ∙ next-here k)
@@ -67,6 +68,7 @@ module _ (v : View) (ids : List CoreId) (s : CoreSet) where
     course = course-same s v.around.is_master k;
     running = (λ i. option_map (λ (j : Job). j.runner) (running-later v s v.around.is_master k i)) ∙ later-runner (delay v.around.is_master) (running v k);
     awaits = open-same s v.around.is_master k;
+    spins = got-same s v.around.is_master k;
   }
 
   local : (e : Entry) (h k : History) → is_local anybody e ≡ true → Along h k → Along (e ∷ h) (e ∷ k)

@@ -1,27 +1,29 @@
 -- What holds after an admitted item is taken.
-use Rattle.std.proofs.Common.{◌≡◌, ℕ, ◌≤◌, ◌<◌, Bool, true, false, Option, Some, None, is_some, List, [], ◌∷◌, length, nat_lt, refl, arith}
+use Rattle.std.proofs.Common.{◌≡◌, ℕ, ◌≤◌, ◌<◌, Bool, true, false, Option, Some, None, IfSome, List, [], ◌∷◌, length, nat_lt, refl, ap, sym, ◌∙◌, arith}
 use Rattle.std.specs.Option.{option_map_or}
-use Rattle.std.proofs.lemmas.Bool.{false≢true, and_parts, ltb-true}
-use Rattle.osbase.specs.declared.statuses.Status.{Status}
+use Rattle.std.proofs.lemmas.Bool.{false≢true, and_parts, eqb-true, ltb-true}
 use Rattle.osbase.specs.declared.references.CoreId.{CoreId}
+use Rattle.osbase.specs.declared.references.SpinlockId.{SpinlockId}
 use Rattle.osbase.specs.declared.messages.Message.{Message}
+use Rattle.osbase.specs.declared.histories.Awaited.{Awaited}
 use Rattle.osbase.specs.declared.histories.OpenCall.{OpenCall}
 use Rattle.osbase.specs.declared.histories.Phase.{Phase}
 use Rattle.osbase.specs.declared.histories.Sent.{Sent}
 use Rattle.osbase.specs.declared.items.Item.{Item}
-use Rattle.osbase.specs.declared.limits.TheConstants.{CORES}
+use Rattle.osbase.specs.declared.limits.TheConstants.{CORES, SPINLOCKS}
 use Rattle.osbase.specs.History.{Took, phase_after, outbox_after}
 use Rattle.osbase.specs.Phases.{is_before_live, is_past_first_gate, is_scheduling, stands_in}
 use Rattle.osplan.specs.Stimuli.{knows_stimulus}
 use Rattle.osbase.specs.Sets.{has_core}
+use Rattle.osbase.specs.Spins.{same_spinlock}
 use Rattle.osbase.proofs.Phasing.{in_phase}
 use Rattle.osstate.specs.State.{KernelState}
-use Rattle.osstate.specs.Sound.{is_posted, is_sender_known}
+use Rattle.osstate.specs.Sound.{is_awaited_known, is_grant_known, is_lock_known, is_posted, is_sender_known}
 use Rattle.oscript.specs.Calls.{is_action}
 use Rattle.oscall.specs.Border.{is_served}
-use Rattle.oskernel.specs.Admission.{admits, is_awaited, is_front_for, is_reply_to}
+use Rattle.oskernel.specs.Admission.{admits, awaits_get, awaits_try, is_awaited, is_front_for, is_get_of, is_try_of}
 use Rattle.oskernel.specs.Free.{is_empty, may_go_on}
-use Rattle.oskernel.specs.Taking.{is_acting, is_answered, is_filling, is_going_on, is_known, is_second_gate}
+use Rattle.oskernel.specs.Taking.{is_acting, is_filling, is_for_core, is_going_on, is_known, is_second_gate}
 use Rattle.oskernel.proofs.Phases.{scheduling_past}
 
 pub acting : (places : ℕ) (s : KernelState) (item : Item) → admits places s item ≡ true → is_acting item ≡ true → is_before_live (phase_after (Took item) s.progress.phase) ≡ false
@@ -35,6 +37,29 @@ pub sender : (places : ℕ) (s : KernelState) (item : Item) → admits places s 
 sender places s (Item.Received from number message) a =
     (and_parts (nat_lt from.number CORES) _ (and_parts (has_core s.progress.started from) _ (and_parts _ _ (and_parts _ (is_awaited places s from message) (and_parts (is_scheduling s.progress.phase) _ a).1).0).0).0).0
 sender places s item a = refl
+
+-- A spinlock that is got is the one that the open call awaits, which has a place.
+module _ (l : SpinlockId) where
+  same-known : (k : SpinlockId) → is_lock_known k ≡ true → same_spinlock k l ≡ true → is_lock_known l ≡ true
+  same-known k known same = ap (λ (n : ℕ). nat_lt n SPINLOCKS) (sym (eqb-true k.index l.index same)) ∙ known
+
+  get-known : (awaits : Awaited) → is_awaited_known awaits ≡ true → is_get_of l awaits ≡ true → is_lock_known l ≡ true
+  get-known (Awaited.Get k) known same = same-known k known same
+  get-known awaits known same = absurd (false≢true same)
+
+  try-known : (awaits : Awaited) → is_awaited_known awaits ≡ true → is_try_of l awaits ≡ true → is_lock_known l ≡ true
+  try-known (Awaited.Try k) known same = same-known k known same
+  try-known awaits known same = absurd (false≢true same)
+
+  call-known : (test : Awaited → Bool) → ((awaits : Awaited) → is_awaited_known awaits ≡ true → test awaits ≡ true → is_lock_known l ≡ true)
+      → (o : Option OpenCall) → IfSome o (λ (call : OpenCall). is_awaited_known call.awaits ≡ true) → option_map_or (λ (call : OpenCall). test call.awaits) o false ≡ true → is_lock_known l ≡ true
+  call-known test then None known is = absurd (false≢true is)
+  call-known test then (Some call) known is = then call.awaits known is
+
+pub lock : (places : ℕ) (s : KernelState) (item : Item) → IfSome s.border.open_call (λ (call : OpenCall). is_awaited_known call.awaits ≡ true) → admits places s item ≡ true → is_grant_known item ≡ true
+lock places s (Item.Granted l) known a = call-known l (is_get_of l) (get-known l) s.border.open_call known (and_parts (stands_in Phase.Live s.progress.phase) (awaits_get s l) a).1
+lock places s (Item.Tried l taken) known a = call-known l (is_try_of l) (try-known l) s.border.open_call known (and_parts (stands_in Phase.Live s.progress.phase) (awaits_try s l) a).1
+lock places s item known a = refl
 
 pub past : (p : Phase) (item : Item) → is_second_gate item ≡ true → is_past_first_gate (phase_after (Took item) p) ≡ true
 past p (Item.Pass2 cores) b = refl
@@ -74,16 +99,11 @@ pub going_on : (places : ℕ) (s : KernelState) (item : Item) → admits places 
 going_on places s (Item.Stim stimulus) a b = empty s.border.outbox (and_parts _ (is_empty s.border.outbox) (and_parts _ (may_go_on s) a).1).1
 going_on places s item a b = absurd (false≢true b)
 
--- an admitted item is a stimulus that the core knows, or a message that is answered, or neither kind
-reply-known : (status : Status) (has_value : Bool) (from : CoreId) (awaited : Option OpenCall) → option_map_or (is_reply_to from status has_value) awaited false ≡ true → is_some awaited ≡ true
-reply-known status has_value from None a = absurd (false≢true a)
-reply-known status has_value from (Some call) a = refl
-
-message-known : (places : ℕ) (s : KernelState) (from : CoreId) (message : Message) → is_awaited places s from message ≡ true → is_answered s message ≡ true
+-- an admitted item is a stimulus that the core knows, or a message for it, or neither kind
+message-known : (places : ℕ) (s : KernelState) (from : CoreId) (message : Message) → is_awaited places s from message ≡ true → is_for_core s message ≡ true
 message-known places s from (Message.Request call) a = (and_parts (is_served s.view call) _ a).0
 message-known places s from (Message.Action call) a = (and_parts (is_action call) _ a).1
-message-known places s from (Message.Reply status) a = reply-known status false from s.border.open_call a
-message-known places s from (Message.Value status n) a = reply-known status true from s.border.open_call a
+message-known places s from message a = refl
 
 pub known : (places : ℕ) (s : KernelState) (item : Item) → admits places s item ≡ true → is_known s item ≡ true
 known places s (Item.Stim stimulus) a = (and_parts _ (knows_stimulus s.view.own stimulus) (and_parts _ (may_go_on s) a).0).1

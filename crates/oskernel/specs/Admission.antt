@@ -7,6 +7,7 @@ use Rattle.osbase.specs.declared.statuses.Status.TheVariants.{EOk, EOsId, EOsSta
 use Rattle.osbase.specs.declared.statuses.ServiceId.{ServiceId}
 use Rattle.osbase.specs.declared.statuses.ServiceId.TheVariants as Service
 use Rattle.osbase.specs.declared.references.CoreId.{CoreId}
+use Rattle.osbase.specs.declared.references.SpinlockId.{SpinlockId}
 use Rattle.osbase.specs.declared.messages.Message.{Message}
 use Rattle.osbase.specs.declared.items.CoreSet.{CoreSet}
 use Rattle.osbase.specs.declared.items.Agreement.{Agreement}
@@ -18,6 +19,7 @@ use Rattle.osbase.specs.declared.histories.Phase.TheVariants as Phase
 use Rattle.osbase.specs.History.{same_core}
 use Rattle.osbase.specs.Phases.{is_scheduling, stands_in}
 use Rattle.osbase.specs.Sets.{has_core, core_ids}
+use Rattle.osbase.specs.Spins.{newest_owed, same_spinlock}
 use Rattle.osbase.specs.declared.items.CoreMode.{CoreMode}
 use Rattle.osbase.specs.declared.items.CoreMode.TheVariants.{Named, DontCare}
 use Rattle.osplan.specs.Stimuli.{knows_stimulus}
@@ -105,6 +107,31 @@ has_asked_halt s = option_map_or (λ (call : OpenCall). asks_halt call.awaits) s
 abbrev pub may_halt : KernelState → Bool
 may_halt s = has_asked_halt s || may_look_halt s
 
+-- The open call awaits the answer of this spinlock. [AUTOSAR SWS OS 4.x, GetSpinlock, TryToGetSpinlock and ReleaseSpinlock]
+abbrev pub is_get_of : SpinlockId → Awaited → Bool
+is_get_of l (Awaited.Get k) = same_spinlock k l
+is_get_of l awaited = false
+
+abbrev pub is_try_of : SpinlockId → Awaited → Bool
+is_try_of l (Awaited.Try k) = same_spinlock k l
+is_try_of l awaited = false
+
+abbrev pub is_release_of : SpinlockId → Awaited → Bool
+is_release_of l (Awaited.Release k) = same_spinlock k l
+is_release_of l awaited = false
+
+abbrev pub awaits_get : KernelState → SpinlockId → Bool
+awaits_get s l = option_map_or (λ (call : OpenCall). is_get_of l call.awaits) s.border.open_call false
+
+abbrev pub awaits_try : KernelState → SpinlockId → Bool
+awaits_try s l = option_map_or (λ (call : OpenCall). is_try_of l call.awaits) s.border.open_call false
+
+-- The spinlock is given back next: the open call releases it, or no call is open, and of the owed releases it is the newest. [own]
+abbrev pub is_next_release : KernelState → SpinlockId → Bool
+is_next_release s l =
+    option_map_or (λ (call : OpenCall). is_release_of l call.awaits) s.border.open_call
+    (option_map_or (same_spinlock l) (newest_owed s.border.spins) false)
+
 -- An item may be taken: one line for each kind. `places` is how many envelopes the outbox may hold. [own]
 abbrev pub admits : ℕ → KernelState → Item → Bool
 admits places s Item.On = stands_in Phase.Off s.progress.phase
@@ -117,9 +144,9 @@ admits places s (Item.Pass2 cores) = stands_in Phase.SecondGate s.progress.phase
 admits places s (Item.Stim stimulus) = stands_in Phase.Live s.progress.phase && knows_stimulus s.view.own stimulus && may_go_on s
 admits places s (Item.Posted core) = is_scheduling s.progress.phase && is_front_for core s.border.outbox
 admits places s (Item.Received from number message) = is_scheduling s.progress.phase && is_next_from places s from number message
-admits places s (Item.Granted spinlock) = false
-admits places s (Item.Tried spinlock taken) = false
-admits places s (Item.Freed spinlock) = false
+admits places s (Item.Granted l) = stands_in Phase.Live s.progress.phase && awaits_get s l
+admits places s (Item.Tried l taken) = stands_in Phase.Live s.progress.phase && awaits_try s l
+admits places s (Item.Freed l) = stands_in Phase.Live s.progress.phase && is_next_release s l
 admits places s (Item.Halt core status) = stands_in Phase.Live s.progress.phase && may_halt s
 admits places s Item.Drained = stands_in Phase.Live s.progress.phase && is_settled s
 admits places s Item.PassEnd = stands_in Phase.Drained s.progress.phase

@@ -1,25 +1,26 @@
 -- Whether a core may go on by itself.
-use Rattle.std.specs.Prelude.{◌&&◌, Bool, true, false, is_none, List, [], ◌∷◌}
+use Rattle.std.specs.Prelude.{◌&&◌, Bool, true, false, not, is_none, List, [], ◌∷◌}
 use Rattle.std.specs.Option.{option_map_or}
 use Rattle.osbase.specs.declared.histories.Awaited.{Awaited}
 use Rattle.osbase.specs.declared.histories.OpenCall.{OpenCall}
 use Rattle.osbase.specs.declared.histories.Sent.{Sent}
 use Rattle.osbase.specs.Phases.{is_going, is_scheduling}
+use Rattle.osbase.specs.Spins.{is_owing}
 use Rattle.osstate.specs.State.{KernelState}
 
--- No call is open. [own]
+-- No call is open, and the release of no spinlock is owed. [own]
 abbrev pub is_free : KernelState → Bool
-is_free s = is_none s.border.open_call
+is_free s = is_none s.border.open_call && not (is_owing s.border.spins)
 
 abbrev pub is_empty : List Sent → Bool
 is_empty [] = true
 is_empty (s ∷ ss) = false
 
--- No call is open, and nothing waits in the outbox: so a core drains. [own]
+-- No call is open, nothing is owed, and nothing waits in the outbox: so a core drains. [own]
 abbrev pub is_settled : KernelState → Bool
 is_settled s = is_free s && is_empty s.border.outbox
 
--- The core is active: it is neither down nor halted, and no call is open. [own]
+-- The core is active: it is neither down nor halted, no call is open, and nothing is owed. [own]
 abbrev pub is_active : KernelState → Bool
 is_active s = is_free s && is_going s.progress.course
 
@@ -27,7 +28,8 @@ is_active s = is_free s && is_going s.progress.course
 abbrev pub may_go_on : KernelState → Bool
 may_go_on s = is_active s && is_empty s.border.outbox
 
--- An active core that schedules dispatches. [OSEK/VDX OS 2.2.3, section 4.6; that a core waits while a call is open is this project's own]
+-- An active core that schedules dispatches. [OSEK/VDX OS 2.2.3, section 4.6; that a core waits while a call is open, and until what is
+-- owed is freed, is this project's own]
 abbrev pub may_dispatch : KernelState → Bool
 may_dispatch s = is_scheduling s.progress.phase && is_active s
 
@@ -36,7 +38,9 @@ abbrev pub is_get : Awaited → Bool
 is_get (Awaited.Get l) = true
 is_get awaited = false
 
--- A core that goes on may look for a shutdown of all cores, unless a call is open that does not wait for a spinlock.
--- [AUTOSAR SWS OS 4.x, ShutdownAllCores; that a core looks for it, and that a call which awaits a reply is closed first: own]
+-- A core that goes on may look for a shutdown of all cores, once nothing is owed, and unless a call is open that does not wait for a
+-- spinlock. [AUTOSAR SWS OS 4.x, ShutdownAllCores; that a core looks for it, and that any other call is closed first: own]
 abbrev pub may_look_halt : KernelState → Bool
-may_look_halt s = is_going s.progress.course && option_map_or (λ (call : OpenCall). is_get call.awaits) s.border.open_call true
+may_look_halt s =
+    is_going s.progress.course
+    && (not (is_owing s.border.spins) && option_map_or (λ (call : OpenCall). is_get call.awaits) s.border.open_call true)

@@ -16,11 +16,16 @@ use Rattle.osact.specs.Seen.{Seen}
 use Rattle.ostaskcall.specs.Tasks.{task_acts}
 use Rattle.osalarmcall.specs.Counters.{counter_acts}
 use Rattle.ostablecall.specs.Tables.{table_acts}
+use Rattle.osspincall.specs.Spinlocks.{spin_acts}
 use Rattle.oscall.specs.Border.{calls}
 use Rattle.oscall.specs.Chaining.{chain_acts}
 use Rattle.oscall.specs.Shutdown.{core_acts, is_ignored}
 use Rattle.oscall.specs.Variables.{is_done, script_acts}
 use Rattle.osdue.specs.Incrementing.{increment_acts}
+
+-- An operation on what all cores share, the spinlocks, or on the cores themselves, by the table of its family.
+abbrev pub acts_on_shared : Runner → Op → Acts
+acts_on_shared r op = unwrap_or (spin_acts r op) (unwrap_or (core_acts r op) nothing)
 
 -- An operation of the core alone, by the table of its family; what calls for an object of any core is in none of these.
 -- [own: one operation is one unit of a script]
@@ -31,8 +36,7 @@ acts_alone r op =
     (unwrap_or (chain_acts r op)
     (unwrap_or (counter_acts r op)
     (unwrap_or (increment_acts r op)
-    (unwrap_or (table_acts r op)
-    (unwrap_or (core_acts r op) nothing))))))
+    (unwrap_or (table_acts r op) (acts_on_shared r op))))))
 
 -- An operation that calls for an object of any core is that call. [own]
 abbrev pub operates_by : Runner → Op → Option (ServiceId × Option RemoteCall) → Acts

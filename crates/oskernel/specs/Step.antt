@@ -1,9 +1,11 @@
 -- A core's step: which item may be taken, what follows from it, and a core by itself.
-use Rattle.std.specs.Prelude.{ℕ, ℤ, ◌==◌, Bool, false, if◌then◌else◌, Option, Some, None, List, [], ◌∷◌}
+use Rattle.std.specs.Prelude.{ℕ, ℤ, pos, ◌==◌, Bool, true, false, if◌then◌else◌, Option, Some, None, List, [], ◌∷◌}
 use Rattle.std.specs.List.{enumerate_from, list_any}
 use Rattle.std.specs.Option.{option_map_or}
 use Rattle.osbase.specs.declared.statuses.Status.{Status}
-use Rattle.osbase.specs.declared.statuses.Status.TheVariants.{EOsCore}
+use Rattle.osbase.specs.declared.statuses.Status.TheVariants.{EOk, EOsCore}
+use Rattle.osbase.specs.declared.statuses.ServiceId.{ServiceId}
+use Rattle.osbase.specs.declared.statuses.ServiceId.TheVariants as Service
 use Rattle.osbase.specs.declared.references.CoreId.{CoreId}
 use Rattle.osbase.specs.declared.references.ModeId.{ModeId}
 use Rattle.osbase.specs.declared.references.IsrRef.{IsrRef}
@@ -128,13 +130,27 @@ stimulates Stimulus.Op = look (λ s. goes_on s.running)
 stimulates Stimulus.Tick = ticks
 stimulates (Stimulus.Irq isr) = raises isr
 
--- The job whose call awaits a reply goes on with it; where none does, nothing happens. [own]
+-- The service whose call awaits this. ShutdownAllCores does not return. [AUTOSAR SWS OS 4.x, GetSpinlock, TryToGetSpinlock,
+-- ReleaseSpinlock and ShutdownAllCores]
+abbrev pub service_awaiting : Awaited → Option ServiceId
+service_awaiting (Awaited.Reply service core) = Some service
+service_awaiting (Awaited.Get l) = Some Service.GetSpinlock
+service_awaiting (Awaited.Try l) = Some Service.TryToGetSpinlock
+service_awaiting (Awaited.Release l) = Some Service.ReleaseSpinlock
+service_awaiting (Awaited.Halt status) = None
+
+-- The job whose call is open goes on with its answer; where none is, as when an owed spinlock is freed, nothing happens. [own]
 abbrev pub resumes_with : Runner → Awaited → Status → Option ℤ → Acts
-resumes_with r (Awaited.Reply service core) status value = resumes r service status value
-resumes_with r awaited status value = nothing
+resumes_with r awaited status value = option_map_or (λ (service : ServiceId). resumes r service status value) (service_awaiting awaited) nothing
 
 abbrev pub closes : Option OpenCall → Status → Option ℤ → Acts
 closes awaits status value = option_map_or (λ (call : OpenCall). resumes_with call.runner call.awaits status value) awaits nothing
+
+-- What TryToGetSpinlock answers: whether it took the spinlock. [AUTOSAR SWS OS 4.x, TryToGetSpinlockType; its numbers are this project's
+-- own]
+abbrev pub success_value : Bool → ℤ
+success_value true = pos 1
+success_value false = pos 0
 
 -- A message of another core. A core that is down or halted answers each request E_OS_CORE and drops actions, without a line for either.
 -- [own]
@@ -154,7 +170,7 @@ abbrev pub ends_core : Option (CoreId × Status) → Acts
 ends_core None = nothing
 ends_core (Some asked) = calls_shutdown_hook asked.1
 
--- What follows from an item at once, in the history with it. Those of spinlocks cannot be taken yet.
+-- What follows from an item at once, in the history with it.
 -- [OSEK/VDX OS 2.2.3, section 11.3; AUTOSAR SWS OS 4.x, SWS_Os_00608 to SWS_Os_00610; items are this project's own]
 abbrev pub effect : Item → Acts
 effect (Item.Began core status) = prints (Mark.StartCoreReturned core status)
@@ -162,6 +178,9 @@ effect (Item.Pass1 agreement) = prints (gate_mark agreement)
 effect (Item.Pass2 cores) = look (λ s. starts s.agreement s.core)
 effect (Item.Stim stimulus) = stimulates stimulus
 effect (Item.Received from number message) = receives from message
+effect (Item.Granted l) = look (λ s. closes s.awaits EOk None)
+effect (Item.Tried l taken) = look (λ s. closes s.awaits EOk (Some (success_value taken)))
+effect (Item.Freed l) = look (λ s. closes s.awaits EOk None)
 effect (Item.Halt core status) = prints (Mark.Halted core status)
 effect (Item.Last shutdown) = ends_core shutdown
 effect item = nothing

@@ -1,5 +1,5 @@
 -- What an admitted item says of the state before it is taken.
-use Rattle.std.specs.Prelude.{◌≡◌, ℕ, ◌+◌, ◌<◌, ◌≤◌, length, Bool, true, false, Option, Some, None, is_some}
+use Rattle.std.specs.Prelude.{◌≡◌, ℕ, ◌+◌, ◌<◌, ◌≤◌, length, Bool, true, false, Option, Some, None}
 use Rattle.osbase.specs.declared.items.Agreement.{Agreement}
 use Rattle.osbase.specs.declared.items.Item.{Item}
 use Rattle.osbase.specs.declared.references.ModeId.{ModeId}
@@ -37,17 +37,16 @@ abbrev pub is_request : Message → Bool
 is_request (Message.Request call) = true
 is_request message = false
 
--- A message that is answered: a call that is served, and a reply to the call that is open.
-abbrev pub is_answered : KernelState → Message → Bool
-is_answered s (Message.Request call) = is_served s.view call
-is_answered s (Message.Action call) = is_served s.view call
-is_answered s (Message.Reply status) = is_some s.border.open_call
-is_answered s (Message.Value status n) = is_some s.border.open_call
+-- A call that comes is one that the core serves.
+abbrev pub is_for_core : KernelState → Message → Bool
+is_for_core s (Message.Request call) = is_served s.view call
+is_for_core s (Message.Action call) = is_served s.view call
+is_for_core s message = true
 
--- The item is a stimulus that the core knows, or a message that is answered, or neither kind.
+-- The item is a stimulus that the core knows, or a message for it, or neither kind.
 abbrev pub is_known : KernelState → Item → Bool
 is_known s (Item.Stim stimulus) = knows_stimulus s.view.own stimulus
-is_known s (Item.Received from number message) = is_answered s message
+is_known s (Item.Received from number message) = is_for_core s message
 is_known s item = true
 
 -- The items after which jobs begin or go on, and those after which an envelope may join the outbox.

@@ -1,19 +1,26 @@
 -- What a core's own turn would do: the first rule that applies; and what its look at the board waits for. [own]
-use Rattle.std.specs.Prelude.{if◌then◌else◌, Option, Some, None, List, [], ◌∷◌}
+use Rattle.std.specs.Prelude.{if◌then◌else◌, Bool, true, Option, Some, None, List, [], ◌∷◌}
+use Rattle.std.specs.Option.{option_map_or}
 use Rattle.osbase.specs.declared.references.CoreId.{CoreId}
+use Rattle.osbase.specs.declared.references.SpinlockId.{SpinlockId}
 use Rattle.osbase.specs.declared.messages.Envelope.{Envelope}
 use Rattle.osbase.specs.declared.histories.Awaited.{Awaited}
+use Rattle.osbase.specs.declared.histories.GotSpinlock.{GotSpinlock}
 use Rattle.osbase.specs.declared.histories.OpenCall.{OpenCall}
 use Rattle.osbase.specs.declared.histories.Sent.{Sent}
 use Rattle.osbase.specs.declared.histories.Course.{Course}
 use Rattle.osbase.specs.declared.histories.Phase.{Phase}
 use Rattle.osbase.specs.History.{History}
+use Rattle.osbase.specs.Spins.{newest_owed}
 use Rattle.osplan.specs.View.{View}
 use Rattle.osstate.specs.Readings.{next_start}
+use Rattle.osstate.specs.Sound.{is_lock_known}
 use Rattle.osstate.specs.State.{KernelState, state_of}
 use Rattle.oskernel.specs.Free.{may_look_halt}
+use Rattle.oskernel.specs.declared.wants.SpinWish.{SpinWish}
+use Rattle.oskernel.specs.declared.wants.SpinWish.TheVariants as Wish
 use Rattle.oskernel.specs.declared.wants.Want.{Want}
-use Rattle.oskernel.specs.declared.wants.Want.TheVariants.{Start, Enter, Ready, Post, AskHalt, GoOn, Drain, Nothing}
+use Rattle.oskernel.specs.declared.wants.Want.TheVariants.{Start, Enter, Ready, Post, Spin, AskHalt, GoOn, Drain, Nothing}
 use Rattle.oskernel.specs.declared.wants.Watch.{Watch}
 
 abbrev pub start_or_enter : Option CoreId → Want
@@ -25,16 +32,24 @@ abbrev pub post_or : Want → List Sent → Want
 post_or want [] = want
 post_or want (s ∷ ss) = Post s.to
 
--- ShutdownAllCores asks for the shutdown of all cores, and what waits for a reply only waits.
--- [AUTOSAR SWS OS 4.x, ShutdownAllCores; that a turn of its own asks is this project's own]
+-- GetSpinlock tries to take the spinlock in each turn, TryToGetSpinlock in one; ReleaseSpinlock gives it back; ShutdownAllCores asks for
+-- the shutdown of all cores; and what waits for a reply only waits. [AUTOSAR SWS OS 4.x, GetSpinlock, TryToGetSpinlock,
+-- ReleaseSpinlock and ShutdownAllCores; that a turn of its own asks is this project's own]
 abbrev pub want_for : Awaited → Want
+want_for (Awaited.Reply service core) = Nothing
+want_for (Awaited.Get l) = Spin (Wish.Get l)
+want_for (Awaited.Try l) = Spin (Wish.Try l)
+want_for (Awaited.Release l) = Spin (Wish.Free l)
 want_for (Awaited.Halt status) = AskHalt status
-want_for awaited = Nothing
 
 -- An open call goes before what the core would do without it.
 abbrev pub want_call : Option OpenCall → Want → Want
 want_call None want = want
 want_call (Some call) want = want_for call.awaits
+
+-- What is owed is freed before the core does anything without being asked, the newest first.
+abbrev pub want_owed : List GotSpinlock → Want → Want
+want_owed got want = option_map_or (λ l. Spin (Wish.Free l)) (newest_owed got) want
 
 -- A core that is down or halted drains, whatever stimuli are left.
 abbrev pub go_on_by : Course → Want
@@ -45,7 +60,7 @@ go_on_by Course.Halted = Drain
 abbrev pub want_from : Phase → KernelState → Want
 want_from Phase.Boot s = start_or_enter (next_start s.view s.progress.began)
 want_from Phase.BetweenGates s = Ready
-want_from Phase.Live s = post_or (want_call s.border.open_call (go_on_by s.progress.course)) s.border.outbox
+want_from Phase.Live s = post_or (want_call s.border.open_call (want_owed s.border.spins (go_on_by s.progress.course))) s.border.outbox
 want_from Phase.Drained s = post_or Nothing s.border.outbox
 want_from Phase.Closing s = post_or Nothing s.border.outbox
 want_from Phase.Off s = Nothing
@@ -60,6 +75,16 @@ want_in s = want_from s.progress.phase s
 -- The same of a history: it is asked of its state.
 abbrev pub want_of : View → History → Want
 want_of v h = want_in (state_of v h)
+
+-- Of a spinlock that is wanted there is one. [own]
+abbrev pub lock_of : SpinWish → SpinlockId
+lock_of (Wish.Get l) = l
+lock_of (Wish.Try l) = l
+lock_of (Wish.Free l) = l
+
+abbrev pub is_want_known : Want → Bool
+is_want_known (Spin wish) = is_lock_known (lock_of wish)
+is_want_known want = true
 
 -- A live core that may look for a shutdown of all cores watches for it. [own]
 abbrev pub watch_halt : KernelState → Watch

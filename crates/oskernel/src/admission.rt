@@ -4,16 +4,17 @@ ghost use Rattle.std.specs.Prelude.{◌≡◌, ◌||◌, false, not};
 ghost use Rattle.std.specs.List.{list_all};
 ghost use Rattle.std.specs.Option.{option_map_or};
 ghost use Rattle.osbase.specs.Sets.{core_ids, has_core};
+ghost use Rattle.osbase.specs.Spins.{newest_owed, same_spinlock};
 ghost use Rattle.osplan.specs.View.{is_configured};
 ghost use Rattle.osstate.specs.Readings.{next_start};
 ghost use Rattle.oscall.specs.Border.{is_served};
-ghost use Rattle.oskernel.specs.Admission.{admits, answers_value, are_started_cores, is_agreement, is_awaited, is_for, is_front_for, is_next_from, is_reply_to, is_start_answer, is_started_now_or_before, is_unknown_core, asks_halt, has_asked_halt, may_halt};
+ghost use Rattle.oskernel.specs.Admission.{admits, answers_value, are_started_cores, is_agreement, is_awaited, is_for, is_front_for, is_next_from, is_reply_to, is_start_answer, is_started_now_or_before, is_unknown_core, asks_halt, awaits_get, awaits_try, has_asked_halt, is_get_of, is_next_release, is_release_of, is_try_of, may_halt};
 
 use crate::free::{is_settled, may_go_on, may_look_halt};
 use osact::is_ok;
 use osbase::{
     Agreement, Awaited, CORE_NUMBERS, CoreId, CoreMode, CoreSet, Item, Message, ModeId, OpenCall,
-    Phase, RemoteCall, ServiceId, Status,
+    Phase, RemoteCall, ServiceId, SpinlockId, Status,
 };
 use oscript::is_action;
 use osstate::CoreState;
@@ -45,12 +46,11 @@ pub(crate) fn is_admitted<const P: usize, const J: usize, const OUT: usize>(
             number,
             message,
         } => phase.is_scheduling() & is_next_envelope(state, *from, *number, message),
-        Item::Granted(_) => false,
-        Item::Tried {
-            spinlock: _,
-            taken: _,
-        } => false,
-        Item::Freed(_) => false,
+        Item::Granted(lock) => phase.stands_in(Phase::Live) & awaits_get(state, *lock),
+        Item::Tried { spinlock, taken: _ } => {
+            phase.stands_in(Phase::Live) & awaits_try(state, *spinlock)
+        }
+        Item::Freed(lock) => phase.stands_in(Phase::Live) & is_next_release(state, *lock),
         Item::Halt { core: _, status: _ } => phase.stands_in(Phase::Live) & may_halt(state),
         Item::Drained => phase.stands_in(Phase::Live) & is_settled(state),
         Item::PassEnd => phase.stands_in(Phase::Drained),
@@ -241,6 +241,84 @@ fn gives_value(service: ServiceId) -> bool
     ensures { result ≡ answers_value service }
 {
     matches!(service, ServiceId::GetAlarm)
+}
+
+// The open call is GetSpinlock of this spinlock.
+fn awaits_get<const P: usize, const J: usize, const OUT: usize>(
+    state: &CoreState<'_, P, J, OUT>,
+    lock: SpinlockId,
+) -> bool
+    ensures { result ≡ awaits_get state.now lock }
+{
+    match state.awaited_call() {
+        Some(call) => is_get_of(call.awaits, lock),
+        None => false,
+    }
+}
+
+fn is_get_of(awaits: Awaited, lock: SpinlockId) -> bool
+    ensures { result ≡ is_get_of lock awaits }
+{
+    match awaits {
+        Awaited::Get(wanted) => wanted == lock,
+        _ => false,
+    }
+}
+
+// The open call is TryToGetSpinlock of this spinlock.
+fn awaits_try<const P: usize, const J: usize, const OUT: usize>(
+    state: &CoreState<'_, P, J, OUT>,
+    lock: SpinlockId,
+) -> bool
+    ensures { result ≡ awaits_try state.now lock }
+{
+    match state.awaited_call() {
+        Some(call) => is_try_of(call.awaits, lock),
+        None => false,
+    }
+}
+
+fn is_try_of(awaits: Awaited, lock: SpinlockId) -> bool
+    ensures { result ≡ is_try_of lock awaits }
+{
+    match awaits {
+        Awaited::Try(wanted) => wanted == lock,
+        _ => false,
+    }
+}
+
+// The spinlock is given back next: the open call releases it, or no call is open, and of the owed releases it is the newest.
+fn is_next_release<const P: usize, const J: usize, const OUT: usize>(
+    state: &CoreState<'_, P, J, OUT>,
+    lock: SpinlockId,
+) -> bool
+    ensures { result ≡ is_next_release state.now lock }
+{
+    match state.awaited_call() {
+        Some(call) => is_release_of(call.awaits, lock),
+        None => is_owed_next(state, lock),
+    }
+}
+
+fn is_release_of(awaits: Awaited, lock: SpinlockId) -> bool
+    ensures { result ≡ is_release_of lock awaits }
+{
+    match awaits {
+        Awaited::Release(given) => given == lock,
+        _ => false,
+    }
+}
+
+fn is_owed_next<const P: usize, const J: usize, const OUT: usize>(
+    state: &CoreState<'_, P, J, OUT>,
+    lock: SpinlockId,
+) -> bool
+    ensures { result ≡ option_map_or (same_spinlock lock) (newest_owed state.now.border.spins) false }
+{
+    match state.owed_spinlock() {
+        Some(owed) => lock == owed,
+        None => false,
+    }
 }
 
 // A core is halted where it asked for the shutdown of all cores itself, or may look for one.

@@ -13,7 +13,7 @@ use crate::free::may_dispatch;
 use osbase::{Job, Mark, Runner, TaskRef};
 use osstate::CoreState;
 
-/// Dispatch, where the core schedules, is neither down nor halted, and no call is open.
+/// Dispatch, where the core schedules, is neither down nor halted, no call is open, and nothing is owed.
 pub(crate) fn dispatch<const P: usize, const J: usize, const OUT: usize>(
     state: &mut CoreState<'_, P, J, OUT>,
     marks: &mut Vec<Mark>,

@@ -1,6 +1,6 @@
 //! What follows from an item.
 
-ghost use Rattle.std.specs.Prelude.{◌≡◌, ◌+◌, ◌<◌, ◌≤◌, ◌∷◌, ◌||◌, [], IsSome, IsTrue, Some, false, length, vec_len, vec_capacity};
+ghost use Rattle.std.specs.Prelude.{◌≡◌, ◌+◌, ◌<◌, ◌≤◌, ◌∷◌, ◌||◌, [], IsTrue, Some, false, length, vec_len, vec_capacity};
 ghost use Rattle.osbase.specs.declared.limits.TheConstants.{CORES};
 ghost use Rattle.osbase.specs.History.{Took, outbox_after, phase_after};
 ghost use Rattle.osbase.specs.Phases.{is_before_live, is_past_first_gate};
@@ -8,21 +8,22 @@ ghost use Rattle.osplan.specs.Objects.{posted_at_once, outbox_needed};
 ghost use Rattle.osplan.specs.Stimuli.{knows_stimulus};
 ghost use Rattle.osjobs.specs.Jobs.{is_plain};
 ghost use Rattle.osstate.specs.Does.{Adds, Does, Effects, HasRoom, item_entries, item_marks, service_entries, service_marks};
-ghost use Rattle.osstate.specs.Sound.{is_first_gate, is_posted, is_sender_known};
+ghost use Rattle.osstate.specs.Sound.{is_first_gate, is_grant_known, is_posted, is_sender_known};
 ghost use Rattle.osact.specs.Terms.{MayBegin, MayPost, MayServe};
 ghost use Rattle.osact.specs.Acts.{does, look, prints};
 ghost use Rattle.oscall.specs.Border.{is_served};
 ghost use Rattle.oskernel.specs.Admission.{admits};
 ghost use Rattle.oskernel.specs.Bounded.{step_entries};
-ghost use Rattle.oskernel.specs.Step.{calls_shutdown_hook, closes, effect, ends_core, gate_mark, goes_on, receives, stimulates};
-ghost use Rattle.oskernel.specs.Taking.{TakesItem, is_acting, is_answered, is_filling, is_going_on, is_known, is_request, is_second_gate};
+ghost use Rattle.oskernel.specs.Step.{calls_shutdown_hook, closes, effect, ends_core, gate_mark, goes_on, receives, service_awaiting, stimulates, success_value};
+ghost use Rattle.oskernel.specs.Taking.{TakesItem, is_acting, is_filling, is_for_core, is_going_on, is_known, is_request, is_second_gate};
 
 use crate::interrupts::raise;
 use crate::starting::start;
 use crate::ticks::tick;
 use osact::{Answer, Step};
 use osbase::{
-    Agreement, Awaited, CoreId, Item, Mark, Message, RemoteCall, Runner, Status, Stimulus,
+    Agreement, Awaited, CoreId, Item, Mark, Message, RemoteCall, Runner, ServiceId, Status,
+    Stimulus,
 };
 use oscript::Action;
 use osstate::CoreState;
@@ -56,6 +57,7 @@ fn show_admitted<const P: usize, const J: usize, const OUT: usize>(
     requires admitted { IsTrue (admits OUT state.now item.now) }
     requires outbox { 1 ≤ OUT }
     ensures sender { IsTrue (is_sender_known item.now) }
+    ensures lock { IsTrue (is_grant_known item.now) }
     ensures forward { IsTrue (is_before_live (phase_after (Took item.now) state.now.progress.phase)) → IsTrue (is_before_live state.now.progress.phase) }
     ensures onward { IsTrue (is_past_first_gate (phase_after (Took item.now) state.now.progress.phase)) → IsTrue (is_first_gate item.now || is_past_first_gate state.now.progress.phase) }
     ensures live { IsTrue (is_acting item.now) → is_before_live (phase_after (Took item.now) state.now.progress.phase) ≡ false }
@@ -65,7 +67,9 @@ fn show_admitted<const P: usize, const J: usize, const OUT: usize>(
     ensures filling { IsTrue (is_filling item.now) → length (outbox_after (Took item.now) state.now.border.outbox) < OUT }
     ensures empty { IsTrue (is_going_on item.now) → outbox_after (Took item.now) state.now.border.outbox ≡ [] }
     ensures known { IsTrue (is_known state.now item.now) }
-{}
+{
+    let _call = state.awaited_call();
+}
 
 // What follows from an item that was taken.
 #[inline(always)]
@@ -103,15 +107,21 @@ fn follow<const P: usize, const J: usize, const OUT: usize>(
         } => receive(state, *from, message, marks),
         Item::On | Item::Entered | Item::Readied => {}
         Item::Posted(_) | Item::Drained | Item::PassEnd => {}
+        Item::Granted(_) => close(state, Status::EOk, None, marks),
+        Item::Tried { spinlock: _, taken } => {
+            close(state, Status::EOk, Some(success_value(*taken)), marks)
+        }
+        Item::Freed(_) => close(state, Status::EOk, None, marks),
         Item::Halt { core, status } => print_halt(state, *core, *status, marks),
         Item::Last(shutdown) => end(state, *shutdown, marks),
-        // These cannot be taken yet.
-        Item::Granted(_) | Item::Freed(_) => {}
-        Item::Tried {
-            spinlock: _,
-            taken: _,
-        } => {}
     }
+}
+
+// What TryToGetSpinlock answers: whether it took the spinlock (AUTOSAR SWS OS 4.x, TryToGetSpinlockType).
+fn success_value(taken: bool) -> i64
+    ensures { result ≡ success_value taken }
+{
+    if taken { 1 } else { 0 }
 }
 
 // The core is halted, as this core asked first with this status.
@@ -218,7 +228,7 @@ fn receive<const P: usize, const J: usize, const OUT: usize>(
     message: &Message,
     marks: &mut Vec<Mark>,
 )
-    requires answered { IsTrue (is_answered state.old message.now) }
+    requires known { IsTrue (is_for_core state.old message.now) }
     requires sender { from.number < CORES }
     requires outbox { IsTrue (is_request message.now) → length state.old.border.outbox < OUT }
     requires begins { MayBegin service_entries service_marks state.old marks.old }
@@ -267,21 +277,33 @@ fn serve_action<const P: usize, const J: usize, const OUT: usize>(
     }
 }
 
-// The job whose call is open goes on with the reply.
+// The service whose call awaits this. ShutdownAllCores does not return.
+fn service_awaiting(awaits: Awaited) -> Option<ServiceId>
+    ensures { result ≡ service_awaiting awaits }
+{
+    match awaits {
+        Awaited::Reply { service, core: _ } => Some(service),
+        Awaited::Get(_) => Some(ServiceId::GetSpinlock),
+        Awaited::Try(_) => Some(ServiceId::TryToGetSpinlock),
+        Awaited::Release(_) => Some(ServiceId::ReleaseSpinlock),
+        Awaited::Halt(_) => None,
+    }
+}
+
+// The job whose call is open goes on with its answer; where none is, as when an owed spinlock is freed, nothing happens.
 fn close<const P: usize, const J: usize, const OUT: usize>(
     state: &mut CoreState<'_, P, J, OUT>,
     status: Status,
     value: Option<i64>,
     marks: &mut Vec<Mark>,
 )
-    requires awaited { IsSome state.old.border.open_call }
-    requires room { HasRoom service_entries service_marks state.old marks.old }
+    requires { HasRoom service_entries service_marks state.old marks.old }
     ensures { Effects service_entries service_marks (does (look (λ s. closes s.awaits status value))) state.old state.new marks.old marks.new }
 {
     let Some(call) = state.awaited_call() else {
-        unreachable!()
+        return;
     };
-    if let Awaited::Reply { service, core: _ } = call.awaits {
+    if let Some(service) = service_awaiting(call.awaits) {
         let answer = Answer { status, value };
         oscall::resume(state, call.runner, service, answer, marks);
     }

@@ -6,16 +6,16 @@ ghost use Rattle.oskernel.specs.Free.{is_active, is_free, is_get, is_settled, ma
 use osbase::Awaited;
 use osstate::CoreState;
 
-/// No call is open.
+/// No call is open, and the release of no spinlock is owed.
 pub(crate) fn is_free<const P: usize, const J: usize, const OUT: usize>(
     state: &CoreState<'_, P, J, OUT>,
 ) -> bool
     ensures { result ≡ is_free state.now }
 {
-    state.awaited_call().is_none()
+    state.awaited_call().is_none() & !state.is_owing()
 }
 
-/// No call is open, and nothing waits in the outbox: so a core drains.
+/// No call is open, nothing is owed, and nothing waits in the outbox: so a core drains.
 pub(crate) fn is_settled<const P: usize, const J: usize, const OUT: usize>(
     state: &CoreState<'_, P, J, OUT>,
 ) -> bool
@@ -24,7 +24,7 @@ pub(crate) fn is_settled<const P: usize, const J: usize, const OUT: usize>(
     is_free(state) & state.is_outbox_empty()
 }
 
-/// The core is active: it is neither down nor halted, and no call is open.
+/// The core is active: it is neither down nor halted, no call is open, and nothing is owed.
 pub(crate) fn is_active<const P: usize, const J: usize, const OUT: usize>(
     state: &CoreState<'_, P, J, OUT>,
 ) -> bool
@@ -58,13 +58,14 @@ fn is_get(awaits: Awaited) -> bool
     matches!(awaits, Awaited::Get(_))
 }
 
-/// A core that goes on may look for a shutdown of all cores, unless a call is open that does not wait for a spinlock.
+/// A core that goes on may look for a shutdown of all cores, once nothing is owed, and unless a call is open that does not wait for a
+/// spinlock.
 pub(crate) fn may_look_halt<const P: usize, const J: usize, const OUT: usize>(
     state: &CoreState<'_, P, J, OUT>,
 ) -> bool
     ensures { result ≡ may_look_halt state.now }
 {
-    if !state.course().is_going() {
+    if !state.course().is_going() | state.is_owing() {
         return false;
     }
     match state.awaited_call() {

@@ -12,12 +12,12 @@ ghost use Rattle.osstate.specs.Does.{Adds, Does, Reads};
 ghost use Rattle.oskernel.specs.declared.kernel.TheConstants.{STEP_MARKS};
 ghost use Rattle.osplan.specs.Objects.{outbox_needed};
 ghost use Rattle.oskernel.specs.Step.{after, serves, takes};
-ghost use Rattle.oskernel.specs.Wants.{front_of, go_on_by as go_on_want, post_or as front_or, want_call as call_or_want, want_in, want_of, watch_halt, watch_in, watch_of};
+ghost use Rattle.oskernel.specs.Wants.{front_of, go_on_by as go_on_want, post_or as front_or, is_want_known, want_call as call_or_want, want_in, want_of, want_owed as owed_or_want, watch_halt, watch_in, watch_of};
 ghost use Rattle.oskernel.specs.Admission.{serves_in, takes_in};
 
 use crate::admission::is_admitted;
 use crate::free::may_look_halt;
-use crate::wants::{Want, Watch, go_on_by, start_or_enter, want_call};
+use crate::wants::{Want, Watch, go_on_by, start_or_enter, want_call, want_owed};
 use crate::{dispatching, effects};
 use osbase::{CoreId, Envelope, Item, Mark, Phase};
 use osplan::Config;
@@ -76,6 +76,7 @@ impl<'a, const P: usize, const J: usize, const OUT: usize> Kernel<'a, P, J, OUT>
     pub fn want(&self) -> Want
         ensures state { result ≡ want_in self.now }
         ensures reads { Reads (λ v h. want_of v h) self.now result }
+        ensures lock { IsTrue (is_want_known result) }
     {
         match self.state.phase() {
             Phase::Boot => start_or_enter(self.state.next_start()),
@@ -90,16 +91,20 @@ impl<'a, const P: usize, const J: usize, const OUT: usize> Kernel<'a, P, J, OUT>
         }
     }
 
-    // An open call goes before what the core would do without it.
+    // An open call goes before what is owed, and this before what the core would do by itself.
     fn live_want(&self) -> Want
-        ensures { result ≡ call_or_want self.now.border.open_call (go_on_want self.now.progress.course) }
+        ensures value { result ≡ call_or_want self.now.border.open_call (owed_or_want self.now.border.spins (go_on_want self.now.progress.course)) }
+        ensures lock { IsTrue (is_want_known result) }
     {
-        want_call(self.state.awaited_call(), go_on_by(self.state.course()))
+        let owed = want_owed(self.state.owed_spinlock(), go_on_by(self.state.course()));
+        want_call(self.state.awaited_call(), owed)
     }
 
     // The front of the outbox goes before anything else.
     fn post_or(&self, want: Want) -> Want
-        ensures { result ≡ front_or want self.now.border.outbox }
+        requires lock { IsTrue (is_want_known want) }
+        ensures value { result ≡ front_or want self.now.border.outbox }
+        ensures lock { IsTrue (is_want_known result) }
     {
         match self.state.front() {
             Some(sent) => Want::Post(sent.to),

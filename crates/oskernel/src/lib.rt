@@ -14,4 +14,4 @@ mod ticks;
 pub mod wants;
 
 pub use kernel::{Kernel, STEP_MARKS};
-pub use wants::{Want, Watch};
+pub use wants::{SpinWish, Want, Watch};

@@ -3,11 +3,11 @@
 ghost use Rattle.std.specs.Prelude.{◌≡◌, ◌+◌};
 ghost use Rattle.osstate.specs.Does.{Effects, Reads, service_entries, service_marks};
 ghost use Rattle.osplan.specs.Objects.{posted_at_once};
-ghost use Rattle.osact.specs.Terms.{MayOperate};
+ghost use Rattle.osact.specs.Terms.{MayAct, MayOperate};
 ghost use Rattle.oscript.specs.Calls.{call_of_op};
 ghost use Rattle.osact.specs.Acts.{does};
 ghost use Rattle.osact.specs.Seen.{seen_of};
-ghost use Rattle.oskernel.specs.Operations.{acts_alone, acts_suspended, is_ignored_now, operates, operates_by, refused_now, refused_of};
+ghost use Rattle.oskernel.specs.Operations.{acts_alone, acts_on_shared, acts_suspended, is_ignored_now, operates, operates_by, refused_now, refused_of};
 
 use osact::{Step, refuse};
 use osbase::{Mark, ServiceId, Status};
@@ -118,6 +118,21 @@ fn act_alone<const P: usize, const J: usize, const OUT: usize>(
         return;
     }
     if ostablecall::operate(state, step, marks) {
+        return;
+    }
+    act_on_shared(state, step, marks);
+}
+
+// An operation on what all cores share, the spinlocks, or on the cores themselves.
+fn act_on_shared<const P: usize, const J: usize, const OUT: usize>(
+    state: &mut CoreState<'_, P, J, OUT>,
+    step: Step,
+    marks: &mut Vec<Mark>,
+)
+    requires { MayAct service_entries service_marks state.old step.runner marks.old }
+    ensures { Effects service_entries service_marks (does (acts_on_shared step.runner step.op)) state.old state.new marks.old marks.new }
+{
+    if osspincall::operate(state, step, marks) {
         return;
     }
     shutdown::operate(state, step, marks);

@@ -1,9 +1,23 @@
 //! What a core's own turn would do, and what its look at the board waits for.
 
 ghost use Rattle.std.specs.Prelude.{◌≡◌};
+ghost use Rattle.std.specs.Option.{option_map_or};
+ghost use Rattle.oskernel.specs.declared.wants.SpinWish.TheVariants as Wish;
+ghost use Rattle.oskernel.specs.declared.wants.Want.TheVariants.{Spin};
 ghost use Rattle.oskernel.specs.Wants.{go_on_by, start_or_enter as next_or_enter, want_call, want_for};
 
-use osbase::{Awaited, CoreId, Course, OpenCall, Status};
+use osbase::{Awaited, CoreId, Course, OpenCall, SpinlockId, Status};
+
+/// What a core wants of a spinlock.
+#[derive(Clone, Copy, Debug, PartialEq, Eq)]
+pub enum SpinWish {
+    /// GetSpinlock tries to take it, once more: it goes on once it took the spinlock.
+    Get(SpinlockId),
+    /// TryToGetSpinlock tries to take it: it goes on by either answer.
+    Try(SpinlockId),
+    /// The spinlock is given back.
+    Free(SpinlockId),
+}
 
 /// What `Own` would do with a core.
 #[derive(Clone, Copy, Debug, PartialEq, Eq)]
@@ -16,6 +30,8 @@ pub enum Want {
     Ready,
     /// Sends the front of its outbox to this core.
     Post(CoreId),
+    /// Asks this of a spinlock (AUTOSAR SWS OS 4.x, GetSpinlock, TryToGetSpinlock and ReleaseSpinlock).
+    Spin(SpinWish),
     /// Asks, with this status, for the shutdown of all cores (AUTOSAR SWS OS 4.x, ShutdownAllCores).
     AskHalt(Status),
     /// Takes its next stimulus, or drains if there is none.
@@ -64,13 +80,29 @@ pub(crate) fn want_call(open_call: Option<OpenCall>, want: Want) -> Want
     }
 }
 
-// ShutdownAllCores asks for the shutdown of all cores, and what waits for a reply only waits.
+// Spinlocks are asked for and given back, ShutdownAllCores asks for the shutdown of all cores, and what waits for a reply only waits.
 fn want_for(awaits: Awaited) -> Want
     ensures { result ≡ want_for awaits }
 {
     match awaits {
+        Awaited::Reply {
+            service: _,
+            core: _,
+        } => Want::Nothing,
+        Awaited::Get(lock) => Want::Spin(SpinWish::Get(lock)),
+        Awaited::Try(lock) => Want::Spin(SpinWish::Try(lock)),
+        Awaited::Release(lock) => Want::Spin(SpinWish::Free(lock)),
         Awaited::Halt(status) => Want::AskHalt(status),
-        _ => Want::Nothing,
+    }
+}
+
+/// What is owed is freed before what the core would do without it.
+pub(crate) fn want_owed(owed: Option<SpinlockId>, want: Want) -> Want
+    ensures { result ≡ option_map_or (λ l. Spin (Wish.Free l)) owed want }
+{
+    match owed {
+        Some(lock) => Want::Spin(SpinWish::Free(lock)),
+        None => want,
     }
 }
 

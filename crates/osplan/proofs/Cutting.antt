@@ -1,13 +1,15 @@
 -- The configuration of a separate core alone is within the limits, and a text can say it.
-use Rattle.std.proofs.Common.{◌≡◌, ℕ, Bool, true, false, not, ◌&&◌, nat_eq, nat_lt, List, [], ◌∷◌, ◌++◌, length, Option, Some, IsTrue, refl, sym, ap, subst, ◌∙◌, arith}
+use Rattle.std.proofs.Common.{◌≡◌, ℕ, Bool, true, false, not, ◌&&◌, nat_eq, nat_le, nat_lt, List, [], ◌∷◌, ◌++◌, length, Option, Some, IsTrue, refl, sym, ap, subst, ◌∙◌, arith}
 use Rattle.std.specs.List.{list_all, list_any, flat_map}
 use Rattle.std.specs.Option.{option_map_or}
-use Rattle.std.proofs.lemmas.List.{append-nil}
+use Rattle.std.proofs.lemmas.List.{append_assoc, append-nil}
 use Rattle.std.proofs.lemmas.List.Folds.{list_any-append}
 use Rattle.std.proofs.lemmas.Bool.{and_parts, and_from, or_from, or_parts, or_left, or_right, not-true, not-false, not_from_false, eq-eqb}
+use Rattle.osbase.specs.declared.limits.TheConstants.{MAILBOX}
 use Rattle.osbase.specs.declared.references.CoreId.{CoreId}
 use Rattle.osbase.specs.declared.references.CounterRef.{CounterRef}
 use Rattle.osbase.specs.declared.objects.Object.{Object}
+use Rattle.osbase.specs.declared.objects.ObjectKind.{ObjectKind}
 use Rattle.osbase.specs.Objects.{counter_object, object_of_call}
 use Rattle.osbase.specs.History.{same_core}
 use Rattle.osbase.proofs.Same.{same_core-true, same_core-refl}
@@ -22,8 +24,8 @@ use Rattle.osplan.specs.declared.plans.Alarm.{Alarm}
 use Rattle.osplan.specs.declared.plans.Table.{Table}
 use Rattle.osbase.specs.declared.messages.RemoteCall.{RemoteCall}
 use Rattle.osplan.specs.View.{core_of}
-use Rattle.osplan.specs.Objects.{alarm_modes, core_scripts, is_common, object_count, table_actions, table_modes}
-use Rattle.osplan.specs.Limits.{CoreSizes, StartSizes, TableSizes, core_sizes, sizes_of, is_action_known, is_alarm_known, is_alarm_near, is_core_timed, is_core_within, is_table_known, is_table_near, is_within, is_object, is_op_known, is_mode, is_core_mode, is_script_known, is_core_known, is_core_near, is_within_limits}
+use Rattle.osplan.specs.Objects.{alarm_modes, common_names, core_scripts, is_common, object_count, table_actions, table_modes}
+use Rattle.osplan.specs.Limits.{CoreSizes, StartSizes, TableSizes, core_sizes, sizes_of, is_action_known, is_alarm_known, is_alarm_near, is_core_timed, is_core_within, is_table_known, is_table_near, is_within, is_between, most_cores, most_of, is_object, is_op_known, is_mode, is_core_mode, is_script_known, is_core_known, is_core_near, is_within_limits}
 use Rattle.osplan.specs.Expressible.{all_common_names, is_core_expressible, is_expressible, are_distinct, object_names}
 use Rattle.osplan.specs.Separate.{agree, alone_of, halts_somewhere, has_operation, is_agreed_mode, is_named_elsewhere, is_off, is_on, is_separate, is_separate_core, is_started, names_other}
 use Rattle.osplan.proofs.Distinct.{distinct-kept, distinct-front, distinct-back}
@@ -157,22 +159,31 @@ module _ (plan : Plan) (id : CoreId) (core : Core) (found : core_of plan id ≡ 
   timed-alone : NearParts core → is_core_timed plan core ≡ true → is_core_timed (alone_of plan id core) core ≡ true
   timed-alone near timed = own-timed (alone_of plan id core) core by-itself near.tables ∙ sym (own-timed plan core (ap (core_of plan) same ∙ found) near.tables) ∙ timed
 
-  -- the modes and the mailboxes stay
+  -- the modes and the mailboxes stay, and there is no spinlock
   sizes-alone : is_within (sizes_of plan) ≡ true → is_core_within (core_sizes (alone_of plan id core) core) ≡ true → is_within (sizes_of (alone_of plan id core)) ≡ true
-  sizes-alone whole mine = and_from _ _ (and_from _ _ (and_parts _ _ (and_parts _ _ whole).0).0 refl) (and_from _ _ mine refl)
+  sizes-alone whole one =
+      let few = and_parts _ (is_between 1 most_cores (Some (length (sizes_of plan).cores))) (and_parts _ (list_all is_core_within (sizes_of plan).cores) whole).0 in
+      let cap = and_parts _ (is_between 1 MAILBOX (Some plan.cap)) few.0 in
+      let modes = and_parts (is_between 1 (most_of ObjectKind.Mode) (Some (length plan.modes))) (nat_le (length plan.spinlocks) (most_of ObjectKind.Spinlock)) cap.0 in
+      and_from _ _ (and_from _ _ (and_from _ _ (and_from _ _ modes.0 refl) cap.1) refl) (and_from _ _ one refl)
 
   plan-alone : LimitParts plan → is_core_within (core_sizes plan core) ≡ true → is_core_known plan core ≡ true → is_core_near core ≡ true → is_core_timed plan core ≡ true → SeparateParts plan core → is_within_limits (alone_of plan id core) ≡ true
   plan-alone limits within known near timed separate =
       let parts = near-parts core near in
       let sizes = sizes-alone limits.sizes (subst (λ (s : CoreSizes). is_core_within s ≡ true) (same-sizes parts) within) in
-      and_from _ _ (and_from _ _ (and_from _ _ (and_from _ _ (and_from _ _ sizes refl) (rw mine refl)) (and_from _ _ (core-alone known parts separate) refl)) (and_from _ _ near refl)) (and_from _ _ (timed-alone parts timed) refl)
+      and_from _ _ (and_from _ _ (and_from _ _ (and_from _ _ (and_from _ _ (and_from _ _ (and_from _ _ sizes refl) (rw mine refl)) (and_from _ _ (core-alone known parts separate) refl)) (and_from _ _ near refl)) (and_from _ _ (timed-alone parts timed) refl)) refl) refl
 
   -- ---- what a text can say
   expressible-alone : TextParts plan → is_core_expressible core ≡ true → are_distinct (object_names core) ≡ true → is_expressible (alone_of plan id core) ≡ true
-  expressible-alone said mine distinct =
-      let none : (p : List ℕ → Bool) → list_any p (flat_map object_names plan.cores) ≡ false → list_any p (object_names core ++ []) ≡ false =
-      λ p h. ap (list_any p) (append-nil (object_names core)) ∙ not-true _ (find-passes (λ (c : Core). same_core c.id id) (λ (c : Core). not (list_any p (object_names c))) plan.cores core (none-in-each p plan.cores h) found) in
-      and_from _ _ (and_from _ _ said.modes (and_from _ _ mine refl)) (distinct-kept (all_common_names plan) _ _ none (ap are_distinct (append-nil (object_names core)) ∙ distinct) said.names)
+  expressible-alone said one distinct =
+      let spinlocks : List (List ℕ) = common_names ObjectKind.Spinlock plan ++ [] in
+      let rest : List (List ℕ) = flat_map object_names plan.cores in
+      let none : (p : List ℕ → Bool) → list_any p (spinlocks ++ rest) ≡ false → list_any p (object_names core ++ []) ≡ false =
+      λ p h. ap (list_any p) (append-nil (object_names core)) ∙ not-true _ (find-passes (λ (c : Core). same_core c.id id) (λ (c : Core). not (list_any p (object_names c))) plan.cores core
+      (none-in-each p plan.cores (or_parts _ _ (sym (list_any-append p spinlocks rest) ∙ h)).1) found) in
+      let names = distinct-kept plan.modes (spinlocks ++ rest) (object_names core ++ []) none (ap are_distinct (append-nil (object_names core)) ∙ distinct) (ap are_distinct (sym (append_assoc plan.modes spinlocks rest)) ∙ said.names) in
+      and_from _ _ (and_from _ _ (and_from _ _ said.modes refl) (and_from _ _ one refl))
+      (ap (λ (modes : List (List ℕ)). are_distinct (modes ++ (object_names core ++ []))) (append-nil plan.modes) ∙ names)
 
   -- ---- the core alone is separate again
   self : same_core core.id core.id ≡ true

@@ -13,3 +13,6 @@ pub mod EveryKind
 pub mod Least
 pub mod Counters
 pub mod ModeObjects
+pub mod SpinlockObjects
+pub mod Linked
+pub mod Found

@@ -17,7 +17,7 @@ use Rattle.osplan.specs.Separate.{acts_on, halts_somewhere, has_operation, is_ag
 use Rattle.osplan.proofs.Tests.{any-by, any-flat, any-mapped, none-from}
 
 -- The core names a mode, which no started core contradicts; it starts no core; its scripts, its alarms and its tables name no
--- other core's objects, and no other core names its own; its scripts ask for nothing that all cores share, and none takes all down.
+-- other core's objects, and no other core names its own; its scripts ask for nothing that all cores share, and none shuts all down.
 pub record SeparateParts (plan : Plan) (core : Core) : Type 0 where
   pub names : names_mode core.mode ≡ true
   pub agreed : is_agreed_mode plan core.mode ≡ true

@@ -17,9 +17,10 @@ use Rattle.osplan.specs.declared.plans.Resource.{Resource}
 use Rattle.osplan.specs.declared.plans.Table.{Table}
 use Rattle.osplan.specs.declared.plans.Task.{Task}
 use Rattle.osplan.specs.Objects.{core_scripts, names_in, object_count, posted_at_once, table_actions}
+use Rattle.osplan.specs.Spinlocks.{are_links_ordered, links_of}
 use Rattle.osplan.specs.View.{core_of, counter_in}
-use Rattle.osplan.specs.Limits.{CoreSizes, Sizes, TaskSizes, count_in, most_of, is_between, is_budget, is_core_numbered, is_isr_within, are_isrs_within, isr_sizes, jobs_of, task_sizes, counter_sizes, core_sizes, sizes_of, is_task_within, is_counter_within, are_counters_within, are_alarms_within, alarm_sizes, is_alarm_within, are_tables_within, is_table_within, table_sizes, is_alarm_near, is_core_timed, is_table_near, stays_on, is_core_within, is_within, is_ceiling, ceiling_of, is_core_known, is_core_near, numbers_of, are_numbers_distinct, is_within_limits}
-use Rattle.osplan.specs.Expressible.{is_free_of_resources, is_isr_expressible, is_mode_expressible, is_script_expressible, is_action_expressible, are_distinct, declared_names, is_task_expressible, is_resource_expressible, is_counter_expressible, is_alarm_expressible, is_table_expressible, is_core_expressible, is_expressible}
+use Rattle.osplan.specs.Limits.{CoreSizes, Sizes, TaskSizes, count_in, most_of, is_between, is_budget, is_core_numbered, is_isr_within, are_isrs_within, isr_sizes, jobs_of, task_sizes, counter_sizes, core_sizes, sizes_of, is_task_within, is_counter_within, are_counters_within, are_alarms_within, alarm_sizes, is_alarm_within, are_tables_within, is_table_within, table_sizes, is_alarm_near, is_core_timed, is_table_near, stays_on, is_core_within, is_within, is_ceiling, ceiling_of, is_core_known, is_core_near, is_spinlock_known, numbers_of, are_numbers_distinct, is_within_limits}
+use Rattle.osplan.specs.Expressible.{is_free_of_resources, is_isr_expressible, is_mode_expressible, is_spinlock_expressible, is_script_expressible, is_action_expressible, are_distinct, declared_names, is_task_expressible, is_resource_expressible, is_counter_expressible, is_alarm_expressible, is_table_expressible, is_core_expressible, is_expressible}
 use Rattle.osplan.proofs.Tests.{all-weaker, find-passes}
 
 -- ---- the parts of both tests
@@ -32,10 +33,14 @@ pub record LimitParts (plan : Plan) : Type 0 where
   pub known : list_all (is_core_known plan) plan.cores ≡ true
   pub near : list_all is_core_near plan.cores ≡ true
   pub timed : list_all (is_core_timed plan) plan.cores ≡ true
+  pub linked : list_all (is_spinlock_known plan) plan.spinlocks ≡ true
+  pub ordered : are_links_ordered (links_of plan.spinlocks) ≡ true
 
 pub limit-parts : (plan : Plan) → IsTrue (is_within_limits plan) → LimitParts plan
 limit-parts plan h =
-    let timed = and_parts _ (list_all (is_core_timed plan) plan.cores) h in
+    let ordered = and_parts _ (are_links_ordered (links_of plan.spinlocks)) h in
+    let linked = and_parts _ (list_all (is_spinlock_known plan) plan.spinlocks) ordered.0 in
+    let timed = and_parts _ (list_all (is_core_timed plan) plan.cores) linked.0 in
     let near = and_parts _ (list_all is_core_near plan.cores) timed.0 in
     let known = and_parts _ (list_all (is_core_known plan) plan.cores) near.0 in
     let master = and_parts _ (is_some (core_of plan plan.master)) known.0 in
@@ -49,18 +54,22 @@ limit-parts plan h =
       known = known.1;
       near = near.1;
       timed = timed.1;
+      linked = linked.1;
+      ordered = ordered.1;
     }
 
 pub record TextParts (plan : Plan) : Type 0 where
   pub modes : list_all is_mode_expressible plan.modes ≡ true
+  pub spinlocks : list_all is_spinlock_expressible plan.spinlocks ≡ true
   pub cores : list_all is_core_expressible plan.cores ≡ true
   pub names : are_distinct (declared_names plan) ≡ true
 
 pub text-parts : (plan : Plan) → IsTrue (is_expressible plan) → TextParts plan
 text-parts plan h =
     let names = and_parts _ (are_distinct (declared_names plan)) h in
-    let cores = and_parts (list_all is_mode_expressible plan.modes) (list_all is_core_expressible plan.cores) names.0 in
-    record { modes = cores.0; cores = cores.1; names = names.1 }
+    let cores = and_parts _ (list_all is_core_expressible plan.cores) names.0 in
+    let common = and_parts (list_all is_mode_expressible plan.modes) (list_all is_spinlock_expressible plan.spinlocks) cores.0 in
+    record { modes = common.0; spinlocks = common.1; cores = cores.1; names = names.1 }
 
 -- Of a core that a text can say.
 pub record CoreTextParts (core : Core) : Type 0 where
@@ -94,6 +103,7 @@ formed name p each xs all = list_all-map is_name name xs ∙ all-weaker p (λ x.
 -- of whichever kind it is.
 pub names-formed : (core : Core) → CoreTextParts core → (kind : ObjectKind) → list_all is_name (names_in kind core) ≡ true
 names-formed core said ObjectKind.Mode = refl
+names-formed core said ObjectKind.Spinlock = refl
 names-formed core said ObjectKind.Task = formed (λ (task : Task). task.name) is_task_expressible (λ task h. (and_parts (is_name task.name) (is_script_expressible task.script) h).0) core.tasks said.tasks
 names-formed core said ObjectKind.Isr = formed (λ (isr : Isr). isr.name) is_isr_expressible (λ isr h. (and_parts (is_name isr.name) _ (and_parts _ (is_free_of_resources isr.script) h).0).0) core.isrs said.isrs
 names-formed core said ObjectKind.Resource = formed (λ (resource : Resource). resource.name) is_resource_expressible (λ resource h. h) core.resources said.resources
@@ -135,6 +145,9 @@ between low high n h = let parts = and_parts (nat_le low n) (nat_le n high) h in
 
 pub few-modes : (s : Sizes) → is_within s ≡ true → s.modes ≤ 8
 few-modes s h = (between 1 8 s.modes (grind arith)).1
+
+pub few-spinlocks : (s : Sizes) → is_within s ≡ true → s.spinlocks ≤ 16
+few-spinlocks s h = leb-true s.spinlocks 16 (grind arith)
 
 task-fits : (task : Task) → is_task_within (task_sizes task) ≡ true → (nat_lt task.priority 32 ≡ true) × (nat_le 1 task.activations ≡ true)
 task-fits task h =

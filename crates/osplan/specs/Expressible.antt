@@ -19,6 +19,7 @@ use Rattle.osplan.specs.declared.plans.Core.{Core}
 use Rattle.osplan.specs.declared.plans.Counter.{Counter}
 use Rattle.osplan.specs.declared.plans.Isr.{Isr}
 use Rattle.osplan.specs.declared.plans.Resource.{Resource}
+use Rattle.osplan.specs.declared.plans.Spinlock.{Spinlock}
 use Rattle.osplan.specs.declared.plans.Table.{Table}
 use Rattle.osplan.specs.declared.plans.Task.{Task}
 use Rattle.osplan.specs.declared.plans.TheConstants.{COMMON, KINDS}
@@ -35,6 +36,10 @@ is_reserved name = bytes_eq name dont_care || bytes_eq name (codes "conflict") |
 -- A mode has a name in form that is not reserved.
 abbrev pub is_mode_expressible : List ℕ → Bool
 is_mode_expressible name = is_name name && not (is_reserved name)
+
+-- A spinlock has a name in form.
+abbrev pub is_spinlock_expressible : Spinlock → Bool
+is_spinlock_expressible spinlock = is_name spinlock.name
 
 -- No name of the list is one of those after it.
 abbrev pub are_distinct : List (List ℕ) → Bool
@@ -105,4 +110,6 @@ is_core_expressible core =
 
 -- The whole configuration can be said by a text; the names that it declares are different.
 abbrev pub is_expressible : Plan → Bool
-is_expressible plan = list_all is_mode_expressible plan.modes && list_all is_core_expressible plan.cores && are_distinct (declared_names plan)
+is_expressible plan =
+    list_all is_mode_expressible plan.modes && list_all is_spinlock_expressible plan.spinlocks && list_all is_core_expressible plan.cores
+    && are_distinct (declared_names plan)

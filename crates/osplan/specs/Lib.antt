@@ -1,5 +1,6 @@
 pub mod Protection
 pub mod Objects
+pub mod Spinlocks
 pub mod View
 pub mod Stimuli
 pub mod Clocked

@@ -4,10 +4,11 @@
 use Rattle.std.specs.Prelude.{ℕ, ◌-◌, ◌==◌, ◌&&◌, ◌||◌, nat_le, nat_lt, Bool, true, false, not, Option, Some, None, is_some, option_map, unwrap_or, List, [], ◌∷◌, length, map, sum_by}
 use Rattle.std.specs.List.{list_all, list_any}
 use Rattle.std.specs.Option.{option_map_or}
-use Rattle.osbase.specs.declared.limits.TheConstants.{ACTIONS, ALARMS, CONFIGURED_CORES, COUNTERS, GREATEST_BUDGET, GREATEST_DURATION, GREATEST_VALUE, ISRS, JOBS, LEVELS, MAILBOX, MODES, OPERATIONS, POINTS, POSTED, RESOURCES, TABLES, TASKS}
+use Rattle.osbase.specs.declared.limits.TheConstants.{ACTIONS, ALARMS, CONFIGURED_CORES, COUNTERS, GREATEST_BUDGET, GREATEST_DURATION, GREATEST_VALUE, ISRS, JOBS, LEVELS, MAILBOX, MODES, OPERATIONS, POINTS, POSTED, RESOURCES, SPINLOCKS, TABLES, TASKS}
 use Rattle.osbase.specs.declared.references.CoreId.{CoreId}
 use Rattle.osbase.specs.declared.references.CounterRef.{CounterRef}
 use Rattle.osbase.specs.declared.references.ModeId.{ModeId}
+use Rattle.osbase.specs.declared.references.SpinlockId.{SpinlockId}
 use Rattle.osbase.specs.declared.messages.RemoteCall.{RemoteCall}
 use Rattle.osbase.specs.declared.objects.Object.{Object}
 use Rattle.osbase.specs.declared.objects.ObjectKind.{ObjectKind}
@@ -23,6 +24,7 @@ use Rattle.osplan.specs.declared.plans.Core.{Core}
 use Rattle.osplan.specs.declared.plans.Counter.{Counter}
 use Rattle.osplan.specs.declared.plans.Isr.{Isr}
 use Rattle.osplan.specs.declared.plans.Resource.{Resource}
+use Rattle.osplan.specs.declared.plans.Spinlock.{Spinlock}
 use Rattle.osplan.specs.declared.plans.Table.{Table}
 use Rattle.osplan.specs.declared.plans.TableStart.{TableStart}
 use Rattle.osplan.specs.declared.plans.Task.{Task}
@@ -30,6 +32,7 @@ use Rattle.osbase.specs.declared.items.CoreMode.{CoreMode}
 use Rattle.osbase.specs.declared.items.CoreMode.TheVariants.{Named, DontCare}
 use Rattle.osplan.specs.Objects.{alarm_modes, core_scripts, has_index, is_common, posted_at_once, table_actions, table_modes}
 use Rattle.osplan.specs.Separate.{is_on, names_other}
+use Rattle.osplan.specs.Spinlocks.{are_links_ordered, links_of}
 use Rattle.osplan.specs.View.{core_of, counter_in}
 
 -- ---- the numbers that have limits. A number that a text has below 0 is none.
@@ -82,12 +85,14 @@ pub record CoreSizes : Type 0 where
 
 pub record Sizes : Type 0 where
   pub modes : ℕ
+  pub spinlocks : ℕ
   pub cap : Option ℕ
   pub cores : List CoreSizes
 
 -- How many objects of a kind the sizes of a core are of.
 abbrev pub count_in : ObjectKind → CoreSizes → ℕ
 count_in ObjectKind.Mode s = 0
+count_in ObjectKind.Spinlock s = 0
 count_in ObjectKind.Task s = length s.tasks
 count_in ObjectKind.Isr s = length s.isrs
 count_in ObjectKind.Resource s = length s.resources
@@ -102,6 +107,7 @@ most_cores = CONFIGURED_CORES
 
 abbrev pub most_of : ObjectKind → ℕ
 most_of ObjectKind.Mode = MODES
+most_of ObjectKind.Spinlock = SPINLOCKS
 most_of ObjectKind.Task = TASKS
 most_of ObjectKind.Isr = ISRS
 most_of ObjectKind.Resource = RESOURCES
@@ -226,10 +232,11 @@ is_core_numbered s =
 abbrev pub is_core_within : CoreSizes → Bool
 is_core_within s = is_core_numbered s && list_all is_short s.scripts
 
--- The whole: 1 to 8 application modes, mailboxes of 1 to 16 envelopes, 1 to 8 cores, each of which passes the test. [own]
+-- The whole: 1 to 8 application modes, at most 16 spinlocks, mailboxes of 1 to 16 envelopes, 1 to 8 cores, each of which passes the test. [own]
 abbrev pub is_by : (CoreSizes → Bool) → Sizes → Bool
 is_by test s =
-    is_between 1 (most_of ObjectKind.Mode) (Some s.modes) && is_between 1 MAILBOX s.cap && is_between 1 most_cores (Some (length s.cores)) && list_all test s.cores
+    is_between 1 (most_of ObjectKind.Mode) (Some s.modes) && nat_le s.spinlocks (most_of ObjectKind.Spinlock) && is_between 1 MAILBOX s.cap
+    && is_between 1 most_cores (Some (length s.cores)) && list_all test s.cores
 
 abbrev pub is_within : Sizes → Bool
 is_within s = is_by is_core_within s
@@ -355,7 +362,7 @@ core_sizes plan core = record {
 }
 
 abbrev pub sizes_of : Plan → Sizes
-sizes_of plan = record { modes = length plan.modes; cap = Some plan.cap; cores = map (core_sizes plan) plan.cores }
+sizes_of plan = record { modes = length plan.modes; spinlocks = length plan.spinlocks; cap = Some plan.cap; cores = map (core_sizes plan) plan.cores }
 
 -- ---- its references
 
@@ -373,6 +380,13 @@ is_mode plan m = nat_lt m.index (length plan.modes)
 abbrev pub is_core_mode : Plan → CoreMode → Bool
 is_core_mode plan (Named m) = is_mode plan m
 is_core_mode plan DontCare = true
+
+abbrev pub is_spinlock : Plan → SpinlockId → Bool
+is_spinlock plan l = nat_lt l.index (length plan.spinlocks)
+
+-- The successor of a spinlock is there, if it has one.
+abbrev pub is_spinlock_known : Plan → Spinlock → Bool
+is_spinlock_known plan spinlock = option_map_or (is_spinlock plan) spinlock.next true
 
 -- What a script names is there.
 abbrev pub is_script_known : Plan → List Op → Bool
@@ -426,8 +440,9 @@ abbrev pub is_core_timed : Plan → Core → Bool
 is_core_timed plan core = list_all (λ (table : Table). is_table_timed (table_sizes (counter_in plan) table)) core.tables
 
 -- The whole configuration is within the limits, with different cores, a configured master, no reference to what is not there, none
--- to another core's objects where only a core's own may be named, and tables whose points come in order.
+-- to another core's objects where only a core's own may be named, tables whose points come in order, and no spinlock after itself.
 abbrev pub is_within_limits : Plan → Bool
 is_within_limits plan =
     is_within (sizes_of plan) && are_numbers_distinct (numbers_of plan.cores) && is_some (core_of plan plan.master)
     && list_all (is_core_known plan) plan.cores && list_all is_core_near plan.cores && list_all (is_core_timed plan) plan.cores
+    && list_all (is_spinlock_known plan) plan.spinlocks && are_links_ordered (links_of plan.spinlocks)

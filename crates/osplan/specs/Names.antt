@@ -9,10 +9,11 @@ use Rattle.osbase.specs.declared.references.IsrRef.{IsrRef}
 use Rattle.osbase.specs.declared.references.ModeId.{ModeId}
 use Rattle.osbase.specs.declared.references.ResourceRef.{ResourceRef}
 use Rattle.osbase.specs.declared.references.Runner.{Runner}
+use Rattle.osbase.specs.declared.references.SpinlockId.{SpinlockId}
 use Rattle.osbase.specs.declared.references.TableRef.{TableRef}
 use Rattle.osbase.specs.declared.references.TaskRef.{TaskRef}
 use Rattle.osbase.specs.History.{same_core}
-use Rattle.osbase.specs.Objects.{alarm_place, isr_place, resource_place, table_place, task_place}
+use Rattle.osbase.specs.Objects.{alarm_place, isr_place, resource_place, spinlock_place, table_place, task_place}
 use Rattle.osplan.specs.declared.plans.Core.{Core}
 use Rattle.osplan.specs.declared.plans.Plan.{Plan}
 use Rattle.osplan.specs.Objects.{common_names, names_in}
@@ -33,6 +34,9 @@ common_name plan kind place = if same_core place.core NOBODY then unwrap_or (sli
 
 abbrev pub name_of : Plan → ObjectKind → Place → List ℕ
 name_of plan kind place = option_map_or (λ (core : Core). name_in kind core place.index) (core_of plan place.core) (common_name plan kind place)
+
+abbrev pub spinlock_name : Plan → SpinlockId → List ℕ
+spinlock_name plan lock = name_of plan ObjectKind.Spinlock (spinlock_place lock)
 
 abbrev pub task_name : Plan → TaskRef → List ℕ
 task_name plan task = name_of plan ObjectKind.Task (task_place task)

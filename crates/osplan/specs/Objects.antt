@@ -2,7 +2,7 @@
 use Rattle.std.specs.Prelude.{ℕ, ◌+◌, ◌&&◌, ◌||◌, nat_lt, Bool, not, List, [], ◌∷◌, ◌++◌, count_by, flat_map, length, map, sum_by}
 use Rattle.std.specs.Option.{option_map_or}
 use Rattle.osbase.specs.declared.objects.ObjectKind.{ObjectKind}
-use Rattle.osbase.specs.declared.objects.ObjectKind.TheVariants.{Mode, Task, Isr, Resource, Counter, Alarm, Table}
+use Rattle.osbase.specs.declared.objects.ObjectKind.TheVariants.{Mode, Spinlock, Task, Isr, Resource, Counter, Alarm, Table}
 use Rattle.osbase.specs.declared.objects.Object.{Object}
 use Rattle.osbase.specs.declared.objects.TheConstants.{NOBODY}
 use Rattle.osbase.specs.declared.messages.RemoteCall.{RemoteCall}
@@ -19,15 +19,17 @@ use Rattle.osplan.specs.declared.plans.ExpiryPoint.{ExpiryPoint}
 use Rattle.osplan.specs.declared.plans.Isr.{Isr as IsrValue}
 use Rattle.osplan.specs.declared.plans.Plan.{Plan}
 use Rattle.osplan.specs.declared.plans.Resource.{Resource as ResourceValue}
+use Rattle.osplan.specs.declared.plans.Spinlock.{Spinlock as SpinlockValue}
 use Rattle.osplan.specs.declared.plans.Table.{Table as TableValue}
 use Rattle.osplan.specs.declared.plans.TableStart.{TableStart}
 use Rattle.osplan.specs.declared.plans.Task.{Task as TaskValue}
 
 -- ---- the objects that all cores have in common
 
--- The names of those of a kind, in their order: of the application modes. What is said of them goes over these. [own]
+-- The names of those of a kind, in their order: of the application modes, and of the spinlocks. What is said of them goes over these. [own]
 abbrev pub common_names : ObjectKind → Plan → List (List ℕ)
 common_names Mode plan = plan.modes
+common_names Spinlock plan = map (λ (spinlock : SpinlockValue). spinlock.name) plan.spinlocks
 common_names kind plan = []
 
 -- The object is one of them.
@@ -39,6 +41,7 @@ is_common plan object = same_core object.place.core NOBODY && nat_lt object.plac
 -- How many objects of a kind a core has.
 abbrev pub object_count : ObjectKind → Core → ℕ
 object_count Mode core = 0
+object_count Spinlock core = 0
 object_count Task core = length core.tasks
 object_count Isr core = length core.isrs
 object_count Resource core = length core.resources
@@ -49,6 +52,7 @@ object_count Table core = length core.tables
 -- The names of a core's objects of a kind, in their order. What is said of the objects of every kind goes over these. [own]
 abbrev pub names_in : ObjectKind → Core → List (List ℕ)
 names_in Mode core = []
+names_in Spinlock core = []
 names_in Task core = map (λ (task : TaskValue). task.name) core.tasks
 names_in Isr core = map (λ (isr : IsrValue). isr.name) core.isrs
 names_in Resource core = map (λ (resource : ResourceValue). resource.name) core.resources

@@ -93,7 +93,7 @@ names_own id op = op_names (is_on id) op
 abbrev pub names_other : CoreId → Op → Bool
 names_other id op = op_names (is_off id) op
 
--- The operation names an object on this side, asks for what all cores share, or takes all cores down.
+-- The operation names an object on this side, asks for what all cores share, or shuts all cores down.
 abbrev pub passes_test : OpTest → Op → Bool
 passes_test (Names side) = op_names (is_at side)
 passes_test AsksShared = asks_shared
@@ -115,7 +115,7 @@ names_object test core = has_operation (op_names test) core || acts_on test core
 abbrev pub is_named_elsewhere : Plan → CoreId → Bool
 is_named_elsewhere plan id = list_any (λ (other : Core). not (same_core other.id id) && names_object (is_on id) other) plan.cores
 
--- A script of some core, started or not, takes all cores down.
+-- A script of some core, started or not, shuts all cores down.
 abbrev pub halts_somewhere : Plan → Bool
 halts_somewhere plan = list_any (has_operation halts_all) plan.cores
 
@@ -123,7 +123,8 @@ halts_somewhere plan = list_any (has_operation halts_all) plan.cores
 
 -- The core is started; it names a mode; no started core names another mode; it starts no core; no script,
 -- alarm or table of it names an object of another core; none of another core, also of one that is never started,
--- names an object of it; no script of it asks for what all cores share; and no script of any core takes all cores down. [own]
+-- names an object of it; no script of it asks for what all cores share; and no script of any core shuts all cores down. A spinlock stands on no
+-- core, so that no such core names one. [own]
 abbrev pub is_separate_core : Plan → Core → Bool
 is_separate_core plan core =
     is_started plan core.id
@@ -143,10 +144,10 @@ is_separate plan id = option_map_or (is_separate_core plan) (core_of plan id) fa
 abbrev pub standing_of : Plan → CoreId → Standing
 standing_of plan id = if is_separate plan id then Standing.Separate else (if is_started plan id then Standing.Bound else Standing.Off)
 
--- The core alone, under this number, as the master; the modes and the mailboxes' size stay. [own]
+-- The core alone, under this number, as the master, without spinlocks; the modes and the mailboxes' size stay. [own]
 abbrev pub alone_of : Plan → CoreId → Core → Plan
-alone_of plan id core = record plan { master = id; cores = core ∷ [] }
+alone_of plan id core = record plan { master = id; spinlocks = []; cores = core ∷ [] }
 
 -- The configuration of the core of this number alone; of one that is not configured, without any core. [own]
 abbrev pub cut_of : Plan → CoreId → Plan
-cut_of plan id = option_map_or (alone_of plan id) (core_of plan id) (record plan { master = id; cores = [] })
+cut_of plan id = option_map_or (alone_of plan id) (core_of plan id) (record plan { master = id; spinlocks = []; cores = [] })

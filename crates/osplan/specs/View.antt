@@ -5,9 +5,11 @@ use Rattle.osbase.specs.declared.references.CoreId.{CoreId}
 use Rattle.osbase.specs.declared.references.CounterRef.{CounterRef}
 use Rattle.osbase.specs.declared.references.IsrRef.{IsrRef}
 use Rattle.osbase.specs.declared.references.ResourceRef.{ResourceRef}
+use Rattle.osbase.specs.declared.references.SpinlockId.{SpinlockId}
 use Rattle.osbase.specs.declared.references.TableRef.{TableRef}
 use Rattle.osbase.specs.declared.references.TaskRef.{TaskRef}
 use Rattle.osbase.specs.History.{same_core}
+use Rattle.osplan.specs.Spinlocks.{links_of}
 use Rattle.osplan.specs.declared.plans.Plan.{Plan}
 use Rattle.osplan.specs.declared.plans.Alarm.{Alarm}
 use Rattle.osplan.specs.declared.plans.Core.{Core}
@@ -31,10 +33,12 @@ counter_in plan c = option_and_then (λ (core : Core). slice_get core.counters c
 abbrev pub no_core : CoreId → Core
 no_core id = record { id = id; mode = DontCare; start = []; protection = Shutdown; tasks = []; isrs = []; resources = []; counters = []; alarms = []; tables = [] }
 
--- What a core sees of the others: whether it is the master, and the numbers of the configured cores.
+-- What a core sees of the others and shares with them: whether it is the master, the numbers of the configured cores, and the successor
+-- of each spinlock.
 pub record Around : Type 0 where
   pub is_master : Bool
   pub cores : List CoreId
+  pub links : List (Option SpinlockId)
 
 -- What a core is started with: its number, and its own part of the configuration, which has its mode, its start list and
 -- its objects; the configuration's modes, and what it sees of the other cores. An object of another core is known by its
@@ -52,7 +56,7 @@ view_from plan id own = record {
   core = id;
   own = own;
   modes = plan.modes;
-  around = record { is_master = same_core id plan.master; cores = map (λ (c : Core). c.id) plan.cores };
+  around = record { is_master = same_core id plan.master; cores = map (λ (c : Core). c.id) plan.cores; links = links_of plan.spinlocks };
 }
 
 -- What the core of this number sees.

@@ -31,12 +31,13 @@ fn alone(alloc: Global, plan: &Plan, id: CoreId, core: &Core) -> Result<Plan, Al
         cap: plan.cap,
         master: id,
         modes: copied_modes(plan)?,
+        spinlocks: List::new(alloc),
         cores,
     })
 }
 
 /// The configuration of a separate core alone: the core under its number, as the master, with the modes
-/// and the mailboxes' size of the whole. `NotSeparate` exactly where the core is not separate
+/// and the mailboxes' size of the whole, and without the spinlocks. `NotSeparate` exactly where the core is not separate
 /// (`is_separate`), and `NoMemory` where memory runs out; the configuration stays as it is. The core is
 /// separate in what it is cut to, so a cut can be cut again.
 pub fn cut(alloc: Global, config: &Config, core: CoreId) -> Result<Config, ConfFault>

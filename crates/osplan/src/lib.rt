@@ -14,14 +14,16 @@ pub mod plans;
 mod protection;
 pub mod separate;
 mod sides;
+pub mod spinlocks;
 
 pub use cuts::cut;
 pub use faults::ConfFault;
 pub use modes::{DONT_CARE, is_reserved};
 pub use plans::{
     Alarm, AlarmStart, COMMON, Config, Core, Counter, ExpiryPoint, Isr, KINDS, Plan, Resource,
-    Table, TableStart, Task,
+    Spinlock, Table, TableStart, Task,
 };
 pub use protection::Protection;
 pub use separate::{Standing, is_separate, standing_of};
 pub use sides::stays_on;
+pub use spinlocks::order_ok;

@@ -1,12 +1,12 @@
 //! The names of modes and objects, by their places.
 
 ghost use Rattle.std.specs.Prelude.{◌≡◌};
-ghost use Rattle.osplan.specs.Names.{alarm_name, common_name, isr_name, name_of_mode, name_in, name_of, resource_name, runner_name, table_name, task_name};
+ghost use Rattle.osplan.specs.Names.{alarm_name, common_name, isr_name, name_of_mode, name_in, name_of, resource_name, runner_name, spinlock_name, table_name, task_name};
 
 use crate::plans::{Core, Plan};
 use osbase::{
-    AlarmRef, IsrRef, ModeId, NOBODY, ObjectKind, Place, Reference, ResourceRef, Runner, TableRef,
-    TaskRef,
+    AlarmRef, IsrRef, ModeId, NOBODY, ObjectKind, Place, Reference, ResourceRef, Runner,
+    SpinlockId, TableRef, TaskRef,
 };
 
 impl Core {
@@ -39,6 +39,7 @@ impl Plan {
         }
     }
 
+    #[tactic(auto, using(crate::proofs::Tests::get_mapped))]
     fn common_name(&self, kind: ObjectKind, place: Place) -> &str
         ensures { result.now ≡ common_name self.now kind place }
     {
@@ -47,8 +48,18 @@ impl Plan {
         }
         match kind {
             ObjectKind::Mode => self.name_of_mode(ModeId::at(place)),
+            ObjectKind::Spinlock => match self.spinlocks.as_slice().get(usize::from(place.index)) {
+                Some(spinlock) => spinlock.name.as_str(),
+                None => "",
+            },
             _ => "",
         }
+    }
+
+    pub fn spinlock_name(&self, lock: SpinlockId) -> &str
+        ensures { result.now ≡ spinlock_name self.now lock }
+    {
+        self.name_of(ObjectKind::Spinlock, lock.place())
     }
 
     pub fn task_name(&self, task: TaskRef) -> &str

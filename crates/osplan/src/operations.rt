@@ -15,9 +15,9 @@ use oscript::Op;
 pub enum OpTest {
     /// It names an object on this side.
     Names(Side),
-    /// Its effect hangs on what all cores share.
+    /// Its effect depends on what all cores share.
     AsksShared,
-    /// It takes all cores down.
+    /// It shuts all cores down.
     HaltsAll,
 }
 

@@ -15,7 +15,7 @@ use crate::protection::Protection;
 use crate::sides::{is_on, stays_on};
 use osbase::{
     CoreId, CoreMode, CounterRef, List, ModeId, Name, Object, ObjectKind, Reference, RemoteCall,
-    Stimulus,
+    SpinlockId, Stimulus,
 };
 use oscript::Script;
 use std::marker::Model;
@@ -143,6 +143,15 @@ pub struct Core {
     pub tables: List<Table>,
 }
 
+/// A spinlock, which all cores have in common (AUTOSAR SWS OS 4.x, OsSpinlock).
+#[derive(Debug, Drop)]
+pub struct Spinlock {
+    pub name: Name,
+    /// The spinlock that comes next after this one: a job that holds this one may ask for that, and for those after it
+    /// (OsSpinlockSuccessor).
+    pub next: Option<SpinlockId>,
+}
+
 /// A configuration as data, within the limits or not.
 #[derive(Debug, Drop)]
 pub struct Plan {
@@ -152,6 +161,7 @@ pub struct Plan {
     pub master: CoreId,
     /// The application modes by name.
     pub modes: List<Name>,
+    pub spinlocks: List<Spinlock>,
     pub cores: List<Core>,
 }
 
@@ -206,7 +216,7 @@ pub const KINDS: [ObjectKind; 6] = [
 ];
 
 /// The kinds of the objects that all cores have in common.
-pub const COMMON: [ObjectKind; 1] = [ObjectKind::Mode];
+pub const COMMON: [ObjectKind; 2] = [ObjectKind::Mode, ObjectKind::Spinlock];
 
 fn is_script_near(id: CoreId, script: &Script) -> bool
     ensures { result ≡ list_all (stays_on id) script.now }
@@ -290,7 +300,7 @@ impl Core {
         ensures { result ≡ object_count kind self.now }
     {
         match kind {
-            ObjectKind::Mode => 0,
+            ObjectKind::Mode | ObjectKind::Spinlock => 0,
             ObjectKind::Task => self.tasks.len(),
             ObjectKind::Isr => self.isrs.len(),
             ObjectKind::Resource => self.resources.len(),
@@ -306,7 +316,7 @@ impl Core {
         ensures { option_copied result ≡ slice_get (names_in kind self.now) index }
     {
         match kind {
-            ObjectKind::Mode => None,
+            ObjectKind::Mode | ObjectKind::Spinlock => None,
             ObjectKind::Task => match self.tasks.as_slice().get(index) {
                 Some(task) => Some(task.name.as_str()),
                 None => None,
@@ -352,6 +362,7 @@ impl Plan {
     {
         match kind {
             ObjectKind::Mode => self.modes.len(),
+            ObjectKind::Spinlock => self.spinlocks.len(),
             _ => 0,
         }
     }

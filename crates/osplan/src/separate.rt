@@ -132,8 +132,8 @@ pub(crate) fn is_separate_core(plan: &Plan, core: &Core) -> bool
 
 /// Whether the core of this number is separate: it is started, by start lists that lead to it from the
 /// master; it names a mode other than DONOTCARE, and no started core names another; it starts no core, also by no
-/// script, and counts none; no script, alarm or table of it names an object of another core, nor any of another core,
-/// started or not, an object of it; and no script of any core, started or not, holds ShutdownAllCores. A core that is
+/// script, and counts none; no script, alarm or table of it names an object of another core or a spinlock, nor any of another
+/// core, started or not, an object of it; and no script of any core, started or not, holds ShutdownAllCores. A core that is
 /// not configured is not separate. Takes no memory.
 pub fn is_separate(config: &Config, core: CoreId) -> bool
     ensures { result ≡ is_separate config.now core }

@@ -1,10 +1,11 @@
 -- How often resources are held, and what their flags say.
-use Rattle.std.proofs.Common.{◌≡◌, ◌||◌, ℕ, zero, suc, ◌+◌, ◌≤◌, ◌<◌, nat_eq, nat_lt, Bool, true, false, cond, Option, Some, None, List, [], ◌∷◌, length, drop, refl, ap, sym, subst, ◌∙◌, arith, get_or-set_same, get_or-set_other}
+use Rattle.std.proofs.Common.{◌≡◌, ◌||◌, ℕ, zero, suc, ◌+◌, ◌≤◌, ◌<◌, nat_eq, nat_lt, Bool, true, false, cond, Option, Some, None, List, [], ◌∷◌, length, map, drop, refl, ap, sym, subst, ◌∙◌, arith, get_or-set_same, get_or-set_other}
 use Rattle.std.specs.List.{slice_get, slice_index_or, slice_set}
 use Rattle.std.proofs.lemmas.Bool.{false≢true, true≢false, eqb-true, eq-eqb}
-use Rattle.std.proofs.lemmas.List.{length-set}
+use Rattle.std.proofs.lemmas.List.{length-map, length-set}
 use Rattle.osbase.specs.declared.histories.HeldResource.{HeldResource}
 use Rattle.osbase.specs.History.{is_held}
+use Rattle.osbase.proofs.Few.{few, number_count}
 use Rattle.osbase.specs.declared.limits.TheConstants.{RESOURCES}
 use Rattle.osbase.specs.declared.limits.TheConstants.{RUNNERS}
 use Rattle.oscript.specs.Runners.{Row}
@@ -74,46 +75,19 @@ kept all occupied t new is same = record {
 not-past : (i k : ℕ) → (k ≤ i → ⊥) → i < k
 not-past i k out = omega (arith, out)
 
-abbrev counts_below : ℕ → List HeldResource → ℕ
-counts_below zero held = 0
-counts_below (suc k) held = held_count k held + counts_below k held
-
-rest-counts : (n : ℕ) (x : HeldResource) (held : List HeldResource) → held_count n held ≤ held_count n (x ∷ held)
-rest-counts n x held = by (nat_eq x.index n)
-  where
-    by : (b : Bool) → held_count n held ≤ cond b (suc (held_count n held)) (held_count n held)
-    by true = omega arith
-    by false = omega arith
-
 first-counts : (x : HeldResource) (held : List HeldResource) → held_count x.index (x ∷ held) ≡ suc (held_count x.index held)
 first-counts x held = rw (same-itself x.index) refl
 
-rest-below : (k : ℕ) (x : HeldResource) (held : List HeldResource) → counts_below k held ≤ counts_below k (x ∷ held)
-rest-below zero x held = omega arith
-rest-below (suc k) x held = omega (arith, rest-counts k x held, rest-below k x held)
+abbrev numbers : List HeldResource → List ℕ
+numbers held = map (λ (x : HeldResource). x.index) held
 
-more-below : (k : ℕ) (x : HeldResource) (held : List HeldResource) → x.index < k → suc (counts_below k held) ≤ counts_below k (x ∷ held)
-more-below zero x held h = absurd (omega (arith, h))
-more-below (suc k) x held h = by (nat_eq x.index k) refl (more-below k x held)
-  where
-    by : (b : Bool) → nat_eq x.index k ≡ b → (x.index < k → suc (counts_below k held) ≤ counts_below k (x ∷ held)) → suc (counts_below (suc k) held) ≤ counts_below (suc k) (x ∷ held)
-    by true e rest = let here : held_count k (x ∷ held) ≡ suc (held_count k held) = rw e refl in omega (arith, here, rest-below k x held)
-    by false e rest =
-        let apart : x.index ≡ k → ⊥ = (λ same. false≢true (sym e ∙ ap (nat_eq x.index) (sym same) ∙ same-itself x.index)) in
-        omega (arith, rest-counts k x held, rest (omega (arith, h, apart)))
+as-often : (n : ℕ) (held : List HeldResource) → number_count n (numbers held) ≡ held_count n held
+as-often n [] = refl
+as-often n (x ∷ held) = ap (λ (k : ℕ). cond (nat_eq x.index n) (suc k) k) (as-often n held)
 
-counted-below : (k : ℕ) (held : List HeldResource) → ((n : ℕ) → k ≤ n → held_count n held ≡ 0) → length held ≤ counts_below k held
-counted-below k [] none = omega arith
-counted-below k (x ∷ held) none =
-    let rest : (n : ℕ) → k ≤ n → held_count n held ≡ 0 = (λ n h. omega (arith, none n h, rest-counts n x held)) in
-    omega (arith, counted-below k held rest, more-below k x held inside)
-  where
-    inside : x.index < k
-    inside = not-past x.index k (λ (h : k ≤ x.index). omega (arith, none x.index h, first-counts x held))
-
-few-below : (k : ℕ) (held : List HeldResource) → ((n : ℕ) → held_count n held ≤ 1) → counts_below k held ≤ k
-few-below zero held once = omega arith
-few-below (suc k) held once = omega (arith, once k, few-below k held once)
+few-held : (held : List HeldResource) → ((n : ℕ) → RESOURCES ≤ n → held_count n held ≡ 0) → ((n : ℕ) → held_count n held ≤ 1) → length held ≤ RESOURCES
+few-held held none once =
+    omega (arith, length-map held (λ (x : HeldResource). x.index), few RESOURCES (numbers held) (λ n past. as-often n held ∙ none n past) (λ n. omega (arith, as-often n held, once n)))
 
 flag-few : (b : Bool) → flag_count b ≤ 1
 flag-few true = omega arith
@@ -133,7 +107,7 @@ lowered row = record row { held = drop 1 row.held }
 
 -- A free resource has its place.
 pub room : (all : List Row) (occupied : List Bool) (t : ℕ) (x : HeldResource) → IsFlagged all occupied → length occupied ≡ RESOURCES → x.index < RESOURCES → is_occupied x.index all ≡ false → length (row_at t all).held < RESOURCES
-room all occupied t x is flags known free = omega (arith, counted-below RESOURCES (x ∷ (row_at t all).held) none, few-below RESOURCES (x ∷ (row_at t all).held) once)
+room all occupied t x is flags known free = omega (arith, few-held (x ∷ (row_at t all).held) none once)
   where
     count : (b : Bool) (n : ℕ) → nat_eq x.index n ≡ b → held_count n (x ∷ (row_at t all).held) ≤ flag_count (slice_index_or (slice_set occupied x.index true) n false)
     count true n e =

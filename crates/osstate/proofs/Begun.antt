@@ -5,6 +5,7 @@ use Rattle.std.specs.Option.{option_map_or}
 use Rattle.std.proofs.lemmas.Bool.{false≢true, and_parts}
 use Rattle.osbase.specs.declared.references.CoreId.{CoreId}
 use Rattle.osbase.specs.declared.references.Runner.{Runner}
+use Rattle.osbase.specs.declared.histories.GotSpinlock.{GotSpinlock}
 use Rattle.osbase.specs.declared.histories.Sent.{Sent}
 use Rattle.osbase.specs.declared.limits.TheConstants.{CORES, RUNNERS}
 use Rattle.osbase.specs.History.{same_core}
@@ -114,7 +115,7 @@ sound-begun priorities room plan id core master limits text found below ceilings
   };
   jobs = record { within = (λ r. omega arith); stamps = tt; idle = (λ e. refl); interrupts = (λ r. omega arith); entered = (λ i. omega arith); used = unused RUNNERS };
   progress = record { agreed = before_gate master; began = omega arith; items = omega arith };
-  border = record { caller = tt; queued = zeros_low CORES; received = zeros_low CORES };
+  border = record { caller = tt; awaited = tt; queued = zeros_low CORES; received = zeros_low CORES };
   times = record {
     clocks = record { within = clocks_within plan id core limits found; history = []; is = refl };
     tables = record { within = clocks_within plan id core limits found; history = []; is = refl };
@@ -136,14 +137,15 @@ sound-begun priorities room plan id core master limits text found below ceilings
     fits = core-fits plan id core limits found
 
 -- The parts of a state before any item, each with what it is.
-pub parts-begun : (plan : Plan) (core : Core) (b : Bool) (p : Progress) (jobs : JobState) (clocks : ClockState) (tables : TableStates) (outbox : List Sent) → p ≡ first_progress b → jobs ≡ first_jobs → clocks ≡ clocks_of core [] → tables ≡ tables_of core [] → outbox ≡ []
-    → state_from plan core p jobs clocks tables (record first_border { outbox = outbox }) ≡ first_state plan core b
-parts-begun plan core b p jobs clocks tables outbox progress no_jobs no_counts none_started no_outbox =
-    ap (λ (q : Progress). state_from plan core q jobs clocks tables (record first_border { outbox = outbox })) progress
-    ∙ ap (λ (js : JobState). state_from plan core (first_progress b) js clocks tables (record first_border { outbox = outbox })) no_jobs
-    ∙ ap (λ (k : ClockState). state_from plan core (first_progress b) first_jobs k tables (record first_border { outbox = outbox })) no_counts
-    ∙ ap (λ (x : TableStates). state_from plan core (first_progress b) first_jobs (clocks_of core []) x (record first_border { outbox = outbox })) none_started
-    ∙ ap (λ (out : List Sent). state_from plan core (first_progress b) first_jobs (clocks_of core []) (tables_of core []) (record first_border { outbox = out })) no_outbox
+pub parts-begun : (plan : Plan) (core : Core) (b : Bool) (p : Progress) (jobs : JobState) (clocks : ClockState) (tables : TableStates) (outbox : List Sent) (got : List GotSpinlock) → p ≡ first_progress b → jobs ≡ first_jobs → clocks ≡ clocks_of core [] → tables ≡ tables_of core [] → outbox ≡ [] → got ≡ []
+    → state_from plan core p jobs clocks tables (record first_border { outbox = outbox; spins = got }) ≡ first_state plan core b
+parts-begun plan core b p jobs clocks tables outbox got progress no_jobs no_counts none_started no_outbox none_got =
+    ap (λ (q : Progress). state_from plan core q jobs clocks tables (record first_border { outbox = outbox; spins = got })) progress
+    ∙ ap (λ (js : JobState). state_from plan core (first_progress b) js clocks tables (record first_border { outbox = outbox; spins = got })) no_jobs
+    ∙ ap (λ (k : ClockState). state_from plan core (first_progress b) first_jobs k tables (record first_border { outbox = outbox; spins = got })) no_counts
+    ∙ ap (λ (x : TableStates). state_from plan core (first_progress b) first_jobs (clocks_of core []) x (record first_border { outbox = outbox; spins = got })) none_started
+    ∙ ap (λ (out : List Sent). state_from plan core (first_progress b) first_jobs (clocks_of core []) (tables_of core []) (record first_border { outbox = out; spins = got })) no_outbox
+    ∙ ap (λ (xs : List GotSpinlock). state_from plan core (first_progress b) first_jobs (clocks_of core []) (tables_of core []) (record first_border { spins = xs })) none_got
 
 -- A configured core's number is among those that a core sees.
 pub is_some-core_of : (id : CoreId) (cores : List Core) → is_some (find (λ (c : Core). same_core c.id id) cores) ≡ is_some (find (same_core id) (map (λ (c : Core). c.id) cores))

@@ -15,12 +15,14 @@ use Rattle.osbase.specs.declared.marks.Mark.{Mark}
 use Rattle.osbase.specs.declared.references.IsrRef.{IsrRef}
 use Rattle.osbase.specs.Interrupts.{entered_after, isr_count, isr_jobs_after, runner_of_job}
 use Rattle.osbase.specs.Sets.{slot_of}
+use Rattle.osbase.specs.Spins.{spins_after}
 use Rattle.oscript.specs.declared.Op.{Op}
 use Rattle.oscript.specs.Runners.{Row, row_step, runner_of}
 use Rattle.osrunner.specs.Rows.{row_at, rows_by}
 use Rattle.osjobs.specs.Jobs.{Each, IsrState, JobState, is_plain, isrs_by, jobs_by, running_among}
 use Rattle.osjobs.proofs.Stamps.{each-anew, each-less, each-push, each-weaker}
 use Rattle.osbase.specs.declared.histories.Job.{Job}
+use Rattle.osbase.specs.declared.histories.GotSpinlock.{GotSpinlock}
 use Rattle.osbase.specs.declared.histories.OpenCall.{OpenCall}
 use Rattle.osbase.specs.History.{Entry, Printed, Noted, Took, Taken, agreement_after, began_after, closed_by, job_count, jobs_after, open_after, same_core, same_runner, stamped_anew, without_oldest, phase_on}
 use Rattle.osplan.specs.declared.plans.Core.{Core}
@@ -36,7 +38,7 @@ use Rattle.osstate.specs.State.{BorderState, KernelState}
 use Rattle.osstate.specs.Readings.{script_of}
 use Rattle.osstate.specs.Steps.{one_more, progress_after, received_after, runner_by, state_after, tasks_after}
 use Rattle.osbase.specs.Phases.{is_before_live, is_past_first_gate}
-use Rattle.osstate.specs.Sound.{HasBorder, HasClocks, HasJobs, IsSound, IsUnderWay, activation_limit, entered_limit, interrupt_limit, is_agreed, is_first_gate}
+use Rattle.osstate.specs.Sound.{HasBorder, HasClocks, HasJobs, IsSound, IsUnderWay, activation_limit, entered_limit, interrupt_limit, is_agreed, is_awaited_known, is_first_gate}
 use Rattle.osstate.proofs.JobLists.{within_append, job_count-stamped_anew, job_count-without_oldest}
 use Rattle.osstate.proofs.Room.{entered_on, isr_count-without, length_within}
 
@@ -93,8 +95,8 @@ jobs-on {entries = entries} {s = s} script e stamp sound within stamps idle inte
   used = used-by script e (runner_by e s) s.rows entries sound.used;
 }
 
-pub border-later : {core : Core} {entries : ℕ} {border : BorderState} → HasBorder core entries border → HasBorder core (entries + 1) border
-border-later sound = record { caller = sound.caller; queued = (λ k. omega (arith, sound.queued k)); received = (λ k. omega (arith, sound.received k)) }
+pub border-later : {core : Core} {entries : ℕ} {border : BorderState} {got : List GotSpinlock} → HasBorder core entries border → HasBorder core (entries + 1) (record border { spins = got })
+border-later sound = record { caller = sound.caller; awaited = sound.awaited; queued = (λ k. omega (arith, sound.queued k)); received = (λ k. omega (arith, sound.received k)) }
 
 pub goes-on : {priorities room : ℕ} {s : KernelState} (tasks : JobState) (border : BorderState) {clocks : ClockState} {timetables : TableStates} → IsSound priorities room s
     → HasJobs s.view.own s.progress.phase (s.progress.entries + 1) tasks → HasBorder s.view.own (s.progress.entries + 1) border → HasClocks s.view.own clocks timetables
@@ -130,13 +132,14 @@ activated priorities room t s sound below live = goes-on _ _ sound jobs (border-
         sound.jobs.interrupts sound.jobs.entered
 
 -- a call that is open after its own runner's entries were told is the one that was open
-pub still_own : (test : Runner → Bool) (r : Runner) (open_call : Option OpenCall) → IfSome open_call (λ call. IsTrue (test call.runner)) → IfSome (closed_by r open_call) (λ call. IsTrue (test call.runner))
-still_own test r None own = tt
-still_own test r (Some call) own = elim (same_runner call.runner r) as (λ b. IfSome (cond b None (Some call)) (λ call. IsTrue (test call.runner))) [ true ↦ tt | false ↦ own ]
+still-open : (P : OpenCall → Type 0) (r : Runner) (open_call : Option OpenCall) → IfSome open_call P → IfSome (closed_by r open_call) P
+still-open P r None holds = tt
+still-open P r (Some call) holds = elim (same_runner call.runner r) as (λ b. IfSome (cond b None (Some call)) P) [ true ↦ tt | false ↦ holds ]
 
-pub border-closed : {core : Core} {entries : ℕ} {border : BorderState} (r : Runner) → HasBorder core entries border → HasBorder core (entries + 1) (record border { open_call = closed_by r border.open_call })
+pub border-closed : {core : Core} {entries : ℕ} {border : BorderState} {got : List GotSpinlock} (r : Runner) → HasBorder core entries border → HasBorder core (entries + 1) (record border { open_call = closed_by r border.open_call; spins = got })
 border-closed {core = core} {border = border} r sound = record {
-  caller = still_own (is_own_runner core) r border.open_call sound.caller;
+  caller = still-open (λ (call : OpenCall). IsTrue (is_own_runner core call.runner)) r border.open_call sound.caller;
+  awaited = still-open (λ (call : OpenCall). IsTrue (is_awaited_known call.awaits)) r border.open_call sound.awaited;
   queued = (λ k. omega (arith, sound.queued k));
   received = (λ k. omega (arith, sound.received k));
 }
@@ -253,11 +256,11 @@ own-after (Item.Halt core status) open_call P own = tt
 own-after item open_call P own = own
 
 -- an item leads neither back before the second gate nor past the first one but by its own
-pub taken : (priorities room : ℕ) (item : Item) (outbox : List Sent) (s : KernelState) → IsSound priorities room s
+pub taken : (priorities room : ℕ) (item : Item) (outbox : List Sent) (got : List GotSpinlock) (s : KernelState) → IsSound priorities room s
     → (is_before_live (phase_on item s.progress.phase) ≡ true → is_before_live s.progress.phase ≡ true)
     → (is_past_first_gate (phase_on item s.progress.phase) ≡ true → (is_first_gate item || is_past_first_gate s.progress.phase) ≡ true)
-    → IsSound priorities room (record s { progress = progress_after (Took item) s.progress; tasks = record s.tasks { giving_way = None }; border = record s.border { open_call = open_after (Took item) s.border.open_call; outbox = outbox; received = received_after (Took item) s.border.received } })
-taken priorities room item outbox s sound forward onward = record {
+    → IsSound priorities room (record s { progress = progress_after (Took item) s.progress; tasks = record s.tasks { giving_way = None }; border = record s.border { open_call = open_after (Took item) s.border.open_call; outbox = outbox; received = received_after (Took item) s.border.received; spins = got } })
+taken priorities room item outbox got s sound forward onward = record {
   tasks = sound.tasks;
   objects = sound.objects;
   jobs = record {
@@ -275,6 +278,7 @@ taken priorities room item outbox s sound forward onward = record {
   };
   border = record {
     caller = own-after item s.border.open_call (λ (call : OpenCall). IsTrue (is_own_runner s.view.own call.runner)) sound.border.caller;
+    awaited = own-after item s.border.open_call (λ (call : OpenCall). IsTrue (is_awaited_known call.awaits)) sound.border.awaited;
     queued = (λ k. omega (arith, sound.border.queued k));
     received = received-within item s.border.received s.progress.entries sound.border.received;
   };
@@ -282,7 +286,7 @@ taken priorities room item outbox s sound forward onward = record {
 }
 
 -- the core goes down
-pub went-down : {priorities room : ℕ} {s : KernelState} → IsSound priorities room s → IsSound priorities room (record s { progress = record s.progress { course = Course.Down; entries = s.progress.entries + 1 } })
+pub went-down : {priorities room : ℕ} {s : KernelState} {got : List GotSpinlock} → IsSound priorities room s → IsSound priorities room (record s { progress = record s.progress { course = Course.Down; entries = s.progress.entries + 1 }; border = record s.border { spins = got } })
 went-down sound = record {
   tasks = sound.tasks;
   objects = sound.objects;
@@ -326,3 +330,9 @@ plain-runner who m e = refl
 
 pub plain-own : (core : Core) (s : JobState) (m : Mark) → is_plain m ≡ true → option_map_or (is_own_runner core) (runner_by (Printed m) s) true ≡ true
 plain-own core s m e = ap (λ (o : Option Runner). option_map_or (is_own_runner core) o true) (plain-runner (runner_of_job (running_among s)) m e)
+
+-- nor does it change which spinlocks the core has
+pub plain-spins : (m : Mark) (open_call : Option OpenCall) (got : List GotSpinlock) → is_plain m ≡ true → spins_after (Printed m) open_call got ≡ got
+plain-spins (Mark.Terminated t) open_call got e = absurd (false≢true e)
+plain-spins (Mark.IsrLeft i) open_call got e = absurd (false≢true e)
+plain-spins m open_call got e = refl

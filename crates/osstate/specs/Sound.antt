@@ -4,11 +4,13 @@ use Rattle.std.specs.List.{list_all}
 use Rattle.std.specs.Option.{option_map_or}
 use Rattle.osbase.specs.declared.references.IsrRef.{IsrRef}
 use Rattle.osbase.specs.declared.references.Runner.{Runner}
+use Rattle.osbase.specs.declared.references.SpinlockId.{SpinlockId}
+use Rattle.osbase.specs.declared.histories.Awaited.{Awaited}
 use Rattle.osbase.specs.declared.histories.Job.{Job}
 use Rattle.osbase.specs.declared.histories.Phase.{Phase}
 use Rattle.osbase.specs.declared.items.Agreement.{Agreement}
 use Rattle.osbase.specs.declared.items.Item.{Item}
-use Rattle.osbase.specs.declared.limits.TheConstants.{CORES, ISRS, TASKS}
+use Rattle.osbase.specs.declared.limits.TheConstants.{CORES, ISRS, SPINLOCKS, TASKS}
 use Rattle.osbase.specs.History.{job_count}
 use Rattle.osbase.specs.Interrupts.{isr_count}
 use Rattle.osbase.specs.Phases.{is_before_live, is_past_first_gate}
@@ -79,6 +81,21 @@ abbrev pub is_sender_known : Item → Bool
 is_sender_known (Item.Received from number m) = nat_lt from.number CORES
 is_sender_known item = true
 
+-- A spinlock that an item or a call speaks of has a place among those that a core gets.
+abbrev pub is_lock_known : SpinlockId → Bool
+is_lock_known l = nat_lt l.index SPINLOCKS
+
+abbrev pub is_grant_known : Item → Bool
+is_grant_known (Item.Granted l) = is_lock_known l
+is_grant_known (Item.Tried l taken) = is_lock_known l
+is_grant_known item = true
+
+abbrev pub is_awaited_known : Awaited → Bool
+is_awaited_known (Awaited.Get l) = is_lock_known l
+is_awaited_known (Awaited.Try l) = is_lock_known l
+is_awaited_known (Awaited.Release l) = is_lock_known l
+is_awaited_known awaited = true
+
 -- ---- in parts: what the configuration says, which no entry changes, and what the jobs, the progress, the border and the clocks say
 
 -- At most as many tasks and ISRs as there are places for. Each task has a priority below the bound and an activation limit of at least 1;
@@ -115,9 +132,11 @@ pub record IsUnderWay (p : Progress) : Type 0 where
   pub began : p.began ≤ p.entries
   pub items : p.items ≤ p.entries
 
--- A call that awaits its reply is one of an own runner. No more envelopes were queued or received than the history has entries.
+-- The open call is one of an own runner, and a spinlock that it awaits has a place. No more envelopes were queued or received than
+-- the history has entries.
 pub record HasBorder (core : Core) (entries : ℕ) (border : BorderState) : Type 0 where
   pub caller : IfSome border.open_call (λ call. IsTrue (is_own_runner core call.runner))
+  pub awaited : IfSome border.open_call (λ call. IsTrue (is_awaited_known call.awaits))
   pub queued : (k : ℕ) → slice_index border.queued k ≤ entries
   pub received : (k : ℕ) → slice_index border.received k ≤ entries
 

@@ -10,6 +10,7 @@ use Rattle.osbase.specs.declared.limits.TheConstants.{CORES}
 use Rattle.osbase.specs.History.{Entry, Took, Noted, Queued, first_phase, phase_after, began_after, agreement_after, course_after, started_after, items_after, open_after, outbox_after, no_cores, envelope_with}
 use Rattle.osbase.specs.declared.histories.Course.{Course}
 use Rattle.osbase.specs.Interrupts.{runner_of_job}
+use Rattle.osbase.specs.Spins.{spins_after}
 use Rattle.oscript.specs.declared.Op.{Op}
 use Rattle.oscript.specs.Runners.{Row, runner_of}
 use Rattle.osplan.specs.declared.plans.Plan.{Plan}
@@ -82,16 +83,18 @@ abbrev pub received_after : Entry → List ℕ → List ℕ
 received_after (Took (Item.Received from number m)) counts = one_more from counts
 received_after e counts = counts
 
+-- Which spinlocks the core has hangs on the call that was open before the entry.
 abbrev pub border_after : Entry → BorderState → BorderState
 border_after e s = record {
   open_call = open_after e s.open_call;
   outbox = outbox_after e s.outbox;
   queued = queued_after e s.queued;
   received = received_after e s.received;
+  spins = spins_after e s.open_call s.spins;
 }
 
 abbrev pub first_border : BorderState
-first_border = record { open_call = None; outbox = []; queued = replicate CORES 0; received = replicate CORES 0 }
+first_border = record { open_call = None; outbox = []; queued = replicate CORES 0; received = replicate CORES 0; spins = [] }
 
 -- What comes next for this core, with the number that is next on the way there.
 abbrev pub next_envelope : KernelState → CoreId → Message → Envelope

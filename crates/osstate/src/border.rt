@@ -1,14 +1,16 @@
-//! What crosses a core's border: the open call, the outbox, and how many envelopes went each way.
+//! What crosses a core's border: the open call, the outbox, how many envelopes went each way, and the spinlocks that the core got.
 
 ghost use Rattle.std.specs.Prelude.{◌≡◌, ◌<◌, ◌^◌, ℕ, length, slice_index, IsTrue};
 ghost use Rattle.osbase.specs.declared.limits.TheConstants.{CORES};
 ghost use Rattle.osbase.specs.History.{Took, closed_by as call_closed_by, open_after, outbox_after};
-ghost use Rattle.osstate.specs.Sound.{is_posted, is_sender_known};
+ghost use Rattle.osbase.specs.Spins.{spins_after};
+ghost use Rattle.osstate.specs.Sound.{is_grant_known, is_posted, is_sender_known};
 ghost use Rattle.osstate.specs.Steps.{one_more, received_after};
 
 use crate::slots::SentSlot;
 use arrayvec::ArrayVec;
 use osbase::{CORES, CoreId, Item, OpenCall, Runner};
+use osgrant::Grants;
 
 /// What crosses a core's border, with room for `OUT` envelopes.
 #[derive(Drop)]
@@ -19,6 +21,7 @@ pub(crate) struct Border<const OUT: usize> {
     // How many envelopes were queued for each core, and received from it.
     pub(crate) queued: [u64; CORES],
     pub(crate) received: [u64; CORES],
+    pub(crate) spins: Grants,
 }
 
 /// The call that is still open once an operation of this runner is done, or its job has ended.
@@ -37,6 +40,25 @@ pub(crate) fn close_by(open_call: &mut Option<OpenCall>, item: &Item)
 {
     if let Item::Halt { core: _, status: _ } = item {
         *open_call = None;
+    }
+}
+
+/// A spinlock that was taken is got by the job whose call is open; one that was given back is got no longer; once all cores are
+/// halted, the release of each is owed.
+pub(crate) fn grant_by(spins: &mut Grants, open_call: Option<OpenCall>, item: &Item)
+    requires { IsTrue (is_grant_known item.now) }
+    ensures { spins.new ≡ spins_after (Took item.now) open_call spins.old }
+{
+    match item {
+        Item::Granted(lock) => spins.take(*lock, open_call),
+        Item::Tried { spinlock, taken } => {
+            if *taken {
+                spins.take(*spinlock, open_call);
+            }
+        }
+        Item::Freed(lock) => spins.free(*lock),
+        Item::Halt { core: _, status: _ } => spins.owe_all(),
+        _ => {}
     }
 }
 

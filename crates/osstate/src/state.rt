@@ -20,11 +20,12 @@ ghost use Rattle.osstate.specs.Does.{Effects, HasRoom, Notes, Reads, Remarks};
 ghost use Rattle.osstate.specs.Queries.{best_in, is_at_limit_in, is_suspended, is_suspended_in, next_action_in, running_in};
 ghost use Rattle.osstate.specs.Readings.{best_job, budget_of, events_at, frame_at, is_locked, is_own, is_pending, next_start, resource_of, resources_of, rows_of, script_of, used_at};
 ghost use Rattle.oscript.specs.Frames.{action_at};
-ghost use Rattle.osstate.specs.Sound.{activation_limit, interrupt_limit, is_action_known, is_agreed, is_first_gate, is_posted, is_sender_known};
+ghost use Rattle.osstate.specs.Sound.{activation_limit, interrupt_limit, is_action_known, is_agreed, is_awaited_known, is_first_gate, is_grant_known, is_posted, is_sender_known};
 ghost use Rattle.osstate.specs.State.{state_of};
 ghost use Rattle.osstate.specs.Steps.{next_envelope, state_after};
 
 mod alarms;
+mod spins;
 mod tables;
 
 use crate::border::{self, Border};
@@ -39,6 +40,7 @@ use osbase::{
 };
 use osclock::Clocks;
 use oscript::{Action, Frame};
+use osgrant::Grants;
 use osjobs::Jobs;
 use osplan::{Config, Core, Protection, Task, own};
 use ostable::Tables;
@@ -65,9 +67,9 @@ impl<'a, const P: usize, const J: usize, const OUT: usize> Model for CoreState<'
     ghost use Rattle.osstate.specs.Steps.{state_from};
     ghost use Rattle.osstate.specs.Sound.{IsSound};
 
-    ghost view = { λ s. state_from s.config.now s.core.now s.progress s.jobs s.clocks s.tables (record { open_call = s.border.open_call; outbox = s.border.outbox.items; queued = s.border.queued; received = s.border.received }) };
+    ghost view = { λ s. state_from s.config.now s.core.now s.progress s.jobs s.clocks s.tables (record { open_call = s.border.open_call; outbox = s.border.outbox.items; queued = s.border.queued; received = s.border.received; spins = s.border.spins }) };
 
-    ghost invariant = { λ s. IsSound P J (state_from s.config.now s.core.now s.progress s.jobs s.clocks s.tables (record { open_call = s.border.open_call; outbox = s.border.outbox.items; queued = s.border.queued; received = s.border.received })) };
+    ghost invariant = { λ s. IsSound P J (state_from s.config.now s.core.now s.progress s.jobs s.clocks s.tables (record { open_call = s.border.open_call; outbox = s.border.outbox.items; queued = s.border.queued; received = s.border.received; spins = s.border.spins })) };
 }
 
 impl<'a, const P: usize, const J: usize, const OUT: usize> CoreState<'a, P, J, OUT> {
@@ -96,6 +98,7 @@ impl<'a, const P: usize, const J: usize, const OUT: usize> CoreState<'a, P, J, O
                 outbox: ArrayVec::new(),
                 queued: [0; CORES],
                 received: [0; CORES],
+                spins: Grants::new(),
             },
         }
     }
@@ -103,6 +106,7 @@ impl<'a, const P: usize, const J: usize, const OUT: usize> CoreState<'a, P, J, O
     /// The entry of an item that the core takes.
     pub fn take_item(&mut self, item: &Item)
         requires sender { IsTrue (is_sender_known item.now) }
+        requires lock { IsTrue (is_grant_known item.now) }
         requires forward { IsTrue (is_before_live (phase_after (Took item.now) self.old.progress.phase)) → IsTrue (is_before_live self.old.progress.phase) }
         requires onward { IsTrue (is_past_first_gate (phase_after (Took item.now) self.old.progress.phase)) → IsTrue (is_first_gate item.now || is_past_first_gate self.old.progress.phase) }
         requires front { IsTrue (is_posted item.now) → 0 < length self.old.border.outbox }
@@ -113,6 +117,7 @@ impl<'a, const P: usize, const J: usize, const OUT: usize> CoreState<'a, P, J, O
     {
         self.progress.take_item(item);
         self.jobs.take_item(item);
+        border::grant_by(&mut self.border.spins, self.border.open_call, item);
         border::close_by(&mut self.border.open_call, item);
         border::post_by(&mut self.border.outbox, item);
         border::receive_by(&mut self.border.received, item);
@@ -130,8 +135,8 @@ impl<'a, const P: usize, const J: usize, const OUT: usize> CoreState<'a, P, J, O
         self.progress.record(Mark::Activated(task), marks);
     }
 
-    /// The oldest job of one of the core's tasks has ended, if there is one: it gives back all that it holds, resumes
-    /// interrupts, and runs no longer. So the task has fewer jobs than it may have.
+    /// The oldest job of one of the core's tasks has ended, if there is one: it gives its resources back and owes its
+    /// spinlocks, resumes interrupts, and runs no longer. So the task has fewer jobs than it may have.
     pub fn terminate(&mut self, task: TaskRef, marks: &mut Vec<Mark>)
         requires own { IsTrue (is_own_runner self.old.view.own (Runner.Task task)) }
         requires room { HasRoom 1 1 self.old marks.old }
@@ -140,6 +145,7 @@ impl<'a, const P: usize, const J: usize, const OUT: usize> CoreState<'a, P, J, O
         ensures below { job_count (Runner.Task task) self.new.tasks.jobs < activation_limit self.new.view.own (Runner.Task task) }
     {
         self.jobs.end(task);
+        self.border.spins.owe(Runner::Task(task));
         self.border.open_call = border::closed_by(Runner::Task(task), self.border.open_call);
         self.progress.record(Mark::Terminated(task), marks);
     }
@@ -168,8 +174,8 @@ impl<'a, const P: usize, const J: usize, const OUT: usize> CoreState<'a, P, J, O
         self.progress.record(Mark::IsrEntered(isr), marks);
     }
 
-    /// The oldest job of one of the core's ISRs has ended, if there is one: it gives back all that it holds, resumes
-    /// interrupts, and runs no longer (AUTOSAR SWS OS 4.x, SWS_Os_00070).
+    /// The oldest job of one of the core's ISRs has ended, if there is one: it gives its resources back and owes its
+    /// spinlocks, resumes interrupts, and runs no longer (AUTOSAR SWS OS 4.x, SWS_Os_00070).
     pub fn leave_isr(&mut self, isr: IsrRef, marks: &mut Vec<Mark>)
         requires own { IsTrue (is_own_runner self.old.view.own (Runner.Isr isr)) }
         requires room { HasRoom 1 1 self.old marks.old }
@@ -177,6 +183,7 @@ impl<'a, const P: usize, const J: usize, const OUT: usize> CoreState<'a, P, J, O
         ensures effects { Effects 1 1 (λ v h. Printed (Mark.IsrLeft isr) ∷ h) self.old self.new marks.old marks.new }
     {
         self.jobs.end_isr(isr);
+        self.border.spins.owe(Runner::Isr(isr));
         self.border.open_call = border::closed_by(Runner::Isr(isr), self.border.open_call);
         self.progress.record(Mark::IsrLeft(isr), marks);
     }
@@ -214,12 +221,13 @@ impl<'a, const P: usize, const J: usize, const OUT: usize> CoreState<'a, P, J, O
         self.progress.entries += 1;
     }
 
-    /// The core goes down: it schedules and serves no longer (AUTOSAR SWS OS 4.x, ShutdownOS).
+    /// The core goes down: it schedules and serves no longer, and owes its spinlocks (AUTOSAR SWS OS 4.x, ShutdownOS).
     pub fn go_down(&mut self)
         requires count { self.old.progress.entries < 2 ^ 63 }
         ensures state { self.new ≡ state_after (Noted WentDown) self.old }
         ensures remarks { Remarks 1 (λ v h. Noted WentDown ∷ h) self.old self.new }
     {
+        self.border.spins.owe_all();
         self.progress.go_down();
     }
 
@@ -320,9 +328,10 @@ impl<'a, const P: usize, const J: usize, const OUT: usize> CoreState<'a, P, J, O
         self.progress.entries += 1;
     }
 
-    /// A service of a job of one of the core's tasks awaits another core's reply.
+    /// A service of a job of one of the core's tasks or ISRs waits: for another core's reply, for a spinlock's answer, or for a halt.
     pub fn open_call(&mut self, call: OpenCall)
         requires own { IsTrue (is_own_runner self.old.view.own call.runner) }
+        requires lock { IsTrue (is_awaited_known call.awaits) }
         requires count { self.old.progress.entries < 2 ^ 63 }
         ensures state { self.new ≡ state_after (Noted (Opened call)) self.old }
         ensures remarks { Remarks 1 (λ v h. Noted (Opened call) ∷ h) self.old self.new }
@@ -407,9 +416,10 @@ impl<'a, const P: usize, const J: usize, const OUT: usize> CoreState<'a, P, J, O
         self.progress.agreement
     }
 
-    /// The service that awaits another core's reply.
+    /// The call that is open.
     pub fn awaited_call(&self) -> Option<OpenCall>
         ensures value { result ≡ self.now.border.open_call }
+        ensures lock { IfSome result (λ call. IsTrue (is_awaited_known call.awaits)) }
         ensures own { IfSome result (λ call. IsTrue (is_own_runner self.now.view.own call.runner)) }
     {
         self.border.open_call

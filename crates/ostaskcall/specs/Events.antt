@@ -59,7 +59,8 @@ clears_and_returns r mask = both (clears r mask) (returns r ServiceId.ClearEvent
 abbrev pub clears_event : Runner → ℕ → Acts
 clears_event r mask = look (λ s. answers r ServiceId.ClearEvent (clearing_checks s r) (clears_and_returns r mask))
 
--- What WaitEvent checks: that a task calls, that it is extended, and that its job holds no resource.
+-- What WaitEvent checks: that a task calls, that it is extended, and that its job holds no resource and no spinlock.
+-- [OSEK/VDX OS 2.2.3, section 13.5.3.4; AUTOSAR SWS OS 4.x, SWS_Os_00622]
 abbrev pub waiting_checks : Seen → Runner → List Check
 waiting_checks s r = clearing_checks s r ++ holding_checks s r
 
@@ -75,7 +76,7 @@ abbrev pub goes_on_or_waits : Runner → ℕ → Acts
 goes_on_or_waits r mask = look (λ s.
     when (have_common mask (s.row r).events.set) (returns r ServiceId.WaitEvent EOk None) (begins_to_wait r mask))
 
--- WaitEvent: a job of an extended task that holds no resource waits for one of these events. If one is set, it goes on at once.
+-- WaitEvent: a job of an extended task that holds neither waits for one of these events. If one is set, it goes on at once.
 -- [OSEK/VDX OS 2.2.3, section 13.5.3.4]
 abbrev pub waits_event : Runner → ℕ → Acts
 waits_event r mask = look (λ s. answers r ServiceId.WaitEvent (waiting_checks s r) (goes_on_or_waits r mask))

@@ -35,8 +35,8 @@ abbrev pub ends_unasked : Runner → Acts
 ends_unasked (Runner.Task t) = both (prints (Mark.ErrorHook EOsMissingend)) (ends (Runner.Task t))
 ends_unasked (Runner.Isr i) = both (reports_suspended (Runner.Isr i)) (ends (Runner.Isr i))
 
--- What TerminateTask and Schedule check: that a task calls, then that its job holds no resource.
--- [OSEK/VDX OS 2.2.3, section 8.2, 13.2.3.2 and 13.2.3.4]
+-- What TerminateTask and Schedule check: that a task calls, then that its job holds no resource and no spinlock.
+-- [OSEK/VDX OS 2.2.3, section 8.2, 13.2.3.2 and 13.2.3.4; AUTOSAR SWS OS 4.x, SWS_Os_00612 and SWS_Os_00624]
 abbrev pub task_checks : Seen → Runner → List Check
 task_checks s r = by_task r ∷ holding_checks s r
 

@@ -180,7 +180,7 @@ fn clear<const P: usize, const J: usize, const OUT: usize>(
     }
 }
 
-// The same of a job that waits, which may hold no resource either.
+// The same of a job that waits, which may hold no resource and no spinlock either.
 fn status_of_waiting<const P: usize, const J: usize, const OUT: usize>(
     state: &CoreState<'_, P, J, OUT>,
     runner: Runner,
@@ -197,7 +197,7 @@ fn status_of_waiting<const P: usize, const J: usize, const OUT: usize>(
 
 /// A running job of one of the core's tasks waits until one of these events of its own is set (OSEK/VDX OS 2.2.3,
 /// section 13.5.3.4); where one is, it goes on at once. A task that is not extended answers E_OS_ACCESS, a job that
-/// holds a resource E_OS_RESOURCE; both go on.
+/// holds a resource E_OS_RESOURCE, one that holds a spinlock E_OS_SPINLOCK; all of these go on.
 pub fn wait_event<const P: usize, const J: usize, const OUT: usize>(
     state: &mut CoreState<'_, P, J, OUT>,
     runner: Runner,

@@ -99,7 +99,7 @@ pub fn end_unasked<const P: usize, const J: usize, const OUT: usize>(
 }
 
 /// The first check that fails of what a job may not hold that ends itself, waits or gives way: a resource (OSEK/VDX OS
-/// 2.2.3, section 8.2).
+/// 2.2.3, section 8.2), and then a spinlock (AUTOSAR SWS OS 4.x, E_OS_SPINLOCK).
 pub fn status_of_holding<const P: usize, const J: usize, const OUT: usize>(
     state: &CoreState<'_, P, J, OUT>,
     runner: Runner,
@@ -109,6 +109,8 @@ pub fn status_of_holding<const P: usize, const J: usize, const OUT: usize>(
 {
     if state.holds_resource(runner) {
         Status::EOsResource
+    } else if state.newest_spinlock(runner).is_some() {
+        Status::EOsSpinlock
     } else {
         Status::EOk
     }
@@ -129,7 +131,7 @@ fn status_of_task<const P: usize, const J: usize, const OUT: usize>(
 }
 
 // A running job of one of the core's tasks ends itself (OSEK/VDX OS 2.2.3, section 13.2.3.2). One that holds a
-// resource answers E_OS_RESOURCE and goes on.
+// resource answers E_OS_RESOURCE, one that holds a spinlock E_OS_SPINLOCK; both go on.
 fn terminate<const P: usize, const J: usize, const OUT: usize>(
     state: &mut CoreState<'_, P, J, OUT>,
     runner: Runner,
@@ -147,8 +149,8 @@ fn terminate<const P: usize, const J: usize, const OUT: usize>(
 }
 
 // A running job of one of the core's tasks lets a job of greater priority run, also where its task cannot
-// be preempted (OSEK/VDX OS 2.2.3, section 13.2.3.4). One that holds a resource answers E_OS_RESOURCE and does not
-// give way.
+// be preempted (OSEK/VDX OS 2.2.3, section 13.2.3.4). One that holds a resource answers E_OS_RESOURCE, one that holds a
+// spinlock E_OS_SPINLOCK; neither gives way.
 fn schedule<const P: usize, const J: usize, const OUT: usize>(
     state: &mut CoreState<'_, P, J, OUT>,
     runner: Runner,

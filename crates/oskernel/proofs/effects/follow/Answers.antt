@@ -10,6 +10,18 @@ returns-in-Pass2 g c = rw c.in-Pass2.is c.start.ensures
 pub returns-in-Began : goal.returns-in-Began
 returns-in-Began g c = rw c.in-Began.is (as_effect (λ v h stands. refl) (lit≤ tt) (lit≤ tt) c.print.ensures.effects)
 
+pub returns-in-Received : goal.returns-in-Received
+returns-in-Received g c = rw c.in-Received.is (as_effect (λ v h stands. refl) (lit≤ tt) (lit≤ tt) c.receive.ensures)
+
+pub returns-in-Granted : goal.returns-in-Granted
+returns-in-Granted g c = rw c.in-Granted.is (as_effect (λ v h stands. refl) (lit≤ tt) (lit≤ tt) c.close.ensures)
+
+pub returns-in-Tried : goal.returns-in-Tried
+returns-in-Tried g c = rw c.in-Tried.is (as_effect (λ v h stands. search rules) (lit≤ tt) (lit≤ tt) c.close-in-Tried.ensures)
+
+pub returns-in-Freed : goal.returns-in-Freed
+returns-in-Freed g c = rw c.in-Freed.is (as_effect (λ v h stands. refl) (lit≤ tt) (lit≤ tt) c.close-in-Freed.ensures)
+
 pub returns-in-Halt : goal.returns-in-Halt
 returns-in-Halt g c = rw c.in-Halt.is (as_effect (λ v h stands. refl) (lit≤ tt) (lit≤ tt) c.print_halt.ensures)
 

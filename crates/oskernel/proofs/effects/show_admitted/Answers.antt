@@ -1,9 +1,15 @@
+use Rattle.std.proofs.Common.{◌≡◌, true, Option, IfSome, subst}
+use Rattle.osbase.specs.declared.histories.OpenCall.{OpenCall}
+use Rattle.osstate.specs.Sound.{is_awaited_known}
 use Rattle.oskernel.proofs.Phases.{forward, onward}
-use Rattle.oskernel.proofs.Taken.{acting, past, fresh, front, filling, known, sender}
+use Rattle.oskernel.proofs.Taken.{acting, past, fresh, front, filling, known, lock, sender}
 use Rattle.oskernel.proofs.effects.show_admitted.Goals as goal
 
 pub returns-clause-sender : goal.returns-clause-sender
 returns-clause-sender g c = sender g.row.OUT c.args.state.now c.args.item.now c.requires.admitted
+
+pub returns-clause-lock : goal.returns-clause-lock
+returns-clause-lock g c = lock g.row.OUT c.args.state.now c.args.item.now (subst (λ (o : Option OpenCall). IfSome o (λ (call : OpenCall). is_awaited_known call.awaits ≡ true)) c.awaited_call-call.ensures.value c.awaited_call-call.ensures.lock) c.requires.admitted
 
 pub returns-clause-forward : goal.returns-clause-forward
 returns-clause-forward g c = forward g.row.OUT c.args.state.now c.args.item.now c.requires.admitted

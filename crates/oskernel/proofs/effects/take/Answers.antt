@@ -5,21 +5,14 @@ use Rattle.osbase.specs.Phases.{is_before_live, is_past_first_gate}
 use Rattle.osplan.specs.Objects.{outbox_needed}
 use Rattle.osstate.specs.Does.{Tracks, item_entries, item_marks}
 use Rattle.osstate.specs.State.{KernelState}
-use Rattle.osstate.specs.Steps.{state_after}
 use Rattle.oskernel.specs.Taking.{is_acting, is_filling, is_going_on, is_known, is_second_gate}
 use Rattle.oskernel.proofs.effects.take.Goals as goal
-
--- what is known of an item is so once it is taken: the call stays open but for a halt
-known-taken : (item : Item) (s : KernelState) → IsTrue (is_known s item) → IsTrue (is_known (state_after (Took item) s) item)
-known-taken (Item.Stim stimulus) s known = known
-known-taken (Item.Received from number message) s known = known
-known-taken item s known = refl
 
 pub follow-requires : goal.follow-requires
 follow-requires g c =
     let item = c.args.item.now in
     let told = sym c.take_item.ensures.state in
-    let known : IsTrue (is_known c.take_item.new.self item) = subst (λ (s : KernelState). IsTrue (is_known s item)) told (known-taken item c.args.state.now c.show_admitted.ensures.known) in
+    let known : IsTrue (is_known c.take_item.new.self item) = subst (λ (s : KernelState). IsTrue (is_known s item)) told c.show_admitted.ensures.known in
     let live : (IsTrue (is_acting item) → is_before_live c.take_item.new.self.progress.phase ≡ false) = subst (λ (s : KernelState). IsTrue (is_acting item) → is_before_live s.progress.phase ≡ false) told c.show_admitted.ensures.live in
     let past : (IsTrue (is_second_gate item) → IsTrue (is_past_first_gate c.take_item.new.self.progress.phase)) = subst (λ (s : KernelState). IsTrue (is_second_gate item) → IsTrue (is_past_first_gate s.progress.phase)) told c.show_admitted.ensures.past in
     let fresh : (IsTrue (is_second_gate item) → c.take_item.new.self.tasks.jobs ≡ []) = (λ e. subst (λ (s : KernelState). s.tasks.jobs ≡ []) told (c.take_item.ensures.idle (c.show_admitted.ensures.fresh e))) in

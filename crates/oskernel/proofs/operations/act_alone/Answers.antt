@@ -1,45 +1,20 @@
-use Rattle.std.proofs.Common.{◌≡◌, ◌≤◌, ℕ, Bool, true, false, Option, Some, None, is_some, unwrap_or, refl, rules, sym, subst, ◌∙◌, arith, Vec, Global}
-use Rattle.std.proofs.lemmas.Bool.{false≢true}
+use Rattle.std.proofs.Common.{◌≡◌, ◌≤◌, ℕ, rules, sym, subst, arith, Vec, Global}
 use Rattle.osbase.specs.declared.marks.Mark.{Mark}
 use Rattle.osbase.specs.declared.references.Runner.{Runner}
 use Rattle.oscript.specs.declared.Op.{Op}
 use Rattle.osplan.specs.Objects.{posted_at_once}
-use Rattle.osstate.specs.Does.{Effects}
 use Rattle.osstate.specs.State.{KernelState}
-use Rattle.osstate.proofs.Effecting.{as_effect, unprinted}
-use Rattle.osact.specs.Acts.{Acts, does, nothing}
 use Rattle.osact.specs.Terms.{MayOperate}
-use Rattle.osact.proofs.Remarking.{unmoved}
 use Rattle.ostaskcall.specs.Tasks.{task_acts}
 use Rattle.osalarmcall.specs.Counters.{counter_acts}
 use Rattle.ostablecall.specs.Tables.{table_acts}
 use Rattle.oscall.specs.Chaining.{chain_acts}
-use Rattle.oscall.specs.Shutdown.{core_acts}
 use Rattle.oscall.specs.Variables.{script_acts}
 use Rattle.osdue.specs.Incrementing.{increment_acts}
+use Rattle.oskernel.proofs.Families.{next, same-still}
 use Rattle.oskernel.proofs.operations.act_alone.Goals as goal
 
-module _ {n m : ℕ} {s s' : KernelState} {x x' : Vec Mark Global} {known : Bool} (o : Option Acts) (is : known ≡ is_some o) where
-  -- A family that does not know the operation has changed nothing, and the next one is asked.
-  next : (rest : Acts) {t : KernelState} {y : Vec Mark Global} → known ≡ false → (t ≡ s) × (y ≡ x) → Effects n m (does rest) t s' y x' → Effects n m (does (unwrap_or o rest)) s s' x x'
-  next rest {t} {y} absent same e = by o is
-    where
-      by : (p : Option Acts) → known ≡ is_some p → Effects n m (does (unwrap_or p rest)) s s' x x'
-      by None i = subst (λ (q : KernelState). Effects n m (does rest) q s' x x') same.0 (subst (λ (z : Vec Mark Global). Effects n m (does rest) t s' z x') same.1 e)
-      by (Some acts) i = absurd (false≢true (sym absent ∙ i))
-
-  -- The last one knows it, or nothing happens.
-  last : (known ≡ true → Effects n m (does (unwrap_or o nothing)) s s' x x') → (known ≡ false → (s' ≡ s) × (x' ≡ x)) → Effects n m (does (unwrap_or o nothing)) s s' x x'
-  last done others = by o is done
-    where
-      by : (p : Option Acts) → known ≡ is_some p → (known ≡ true → Effects n m (does (unwrap_or p nothing)) s s' x x') → Effects n m (does (unwrap_or p nothing)) s s' x x'
-      by None i e = rw ((others i).0, (others i).1) (as_effect {f = λ v h. h} (λ v h stands. refl) (omega arith) (omega arith) (unprinted unmoved))
-      by (Some acts) i e = e i
-
 -- What the next family asks for stays so where nothing has changed.
-same-still : {s t u : KernelState} {x y z : Vec Mark Global} → (t ≡ s) × (y ≡ x) → (u ≡ t) × (z ≡ y) → (u ≡ s) × (z ≡ x)
-same-still first second = (second.0 ∙ first.0, second.1 ∙ first.1)
-
 may-still : (places : KernelState → ℕ) {most size : ℕ} {s t : KernelState} {r : Runner} {op : Op} {x y : Vec Mark Global} → places s ≤ most → (t ≡ s) × (y ≡ x) → MayOperate most size s r op x → MayOperate (places t) size t r op y
 may-still places {size = size} {s = s} {r = r} {op = op} {y = y} few same may =
     subst (λ (q : KernelState). MayOperate (places q) size q r op y) (sym same.0)
@@ -70,4 +45,4 @@ returns g c =
     (next (counter_acts c.args.step.runner c.args.step.op) c.operate-4.ensures.known _ c.if-operate-4.false (c.operate-4.ensures.others c.if-operate-4.false)
     (next (increment_acts c.args.step.runner c.args.step.op) c.operate-5.ensures.known _ c.if-operate-5.false (c.operate-5.ensures.others c.if-operate-5.false)
     (next (table_acts c.args.step.runner c.args.step.op) c.operate-6.ensures.known _ c.if-operate-6.false (c.operate-6.ensures.others c.if-operate-6.false)
-    (last (core_acts c.args.step.runner c.args.step.op) c.operate-7.ensures.known c.operate-7.ensures.effects c.operate-7.ensures.others))))))
+    c.act_on_shared.ensures)))))

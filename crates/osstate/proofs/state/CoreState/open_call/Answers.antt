@@ -11,6 +11,7 @@ invariant_of-self g c =
     goes-on _ _ c.self.invariant (jobs-later c.self.invariant.jobs)
     (record {
       caller = subst (λ (s : KernelState). is_own_runner s.view.own c.args.call.runner ≡ true) (sym c.self.view_is) c.requires.own;
+      awaited = c.requires.lock;
       queued = (λ k. omega (arith, c.self.invariant.border.queued k));
       received = (λ k. omega (arith, c.self.invariant.border.received k));
     })

@@ -1,0 +1,17 @@
+-- Whose spinlocks those are that a core got, and what holds of all of them.
+use Rattle.std.specs.Prelude.{nat_lt, Bool, true, ◌&&◌, not, List, [], ◌∷◌}
+use Rattle.std.specs.List.{list_any}
+use Rattle.osbase.specs.declared.references.Runner.{Runner}
+use Rattle.osbase.specs.declared.references.SpinlockId.{SpinlockId}
+use Rattle.osbase.specs.declared.histories.GotSpinlock.{GotSpinlock}
+use Rattle.osbase.specs.declared.limits.TheConstants.{SPINLOCKS}
+use Rattle.osbase.specs.Spins.{has_spinlock, is_got_by, same_spinlock}
+
+-- The runner's job has the spinlock. [AUTOSAR SWS OS 4.x, ReleaseSpinlock, E_OS_STATE]
+abbrev pub is_held_by : Runner → SpinlockId → List GotSpinlock → Bool
+is_held_by r l got = list_any (λ (g : GotSpinlock). is_got_by r g && same_spinlock g.lock l) got
+
+-- Each of these spinlocks has a place, and none is among them twice. [own]
+abbrev pub are_apart : List GotSpinlock → Bool
+are_apart [] = true
+are_apart (g ∷ got) = nat_lt g.lock.index SPINLOCKS && (not (has_spinlock g.lock got) && are_apart got)

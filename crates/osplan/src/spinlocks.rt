@@ -1,0 +1,79 @@
+//! The order in which a job may get spinlocks while it holds others.
+
+ghost use Rattle.std.specs.Prelude.{◌≡◌, ℕ, length, true, false};
+ghost use Rattle.std.specs.List.{list_all};
+ghost use Rattle.osplan.specs.declared.plans.Spinlock.{Spinlock as SpinlockValue};
+ghost use Rattle.osplan.specs.Spinlocks.{are_links_ordered, comes_after, is_link_ordered, links_of, next_in};
+
+use crate::plans::{Config, Plan, Spinlock};
+use osbase::SpinlockId;
+
+fn next_of(spinlocks: &[Spinlock], lock: SpinlockId) -> Option<SpinlockId>
+    ensures { result ≡ next_in (links_of spinlocks.now) lock }
+{
+    match spinlocks.get(usize::from(lock.index)) {
+        Some(spinlock) => spinlock.next,
+        None => None,
+    }
+}
+
+fn comes_after(spinlocks: &[Spinlock], from: SpinlockId, to: SpinlockId) -> bool
+    ensures { result ≡ comes_after (links_of spinlocks.now) (length (links_of spinlocks.now)) from to }
+{
+    let mut at = from;
+    for _link in 0..spinlocks.len() {
+        let Some(next) = next_of(spinlocks, at) else {
+            return false;
+        };
+        if next.index == to.index {
+            return true;
+        }
+        at = next;
+    }
+    false
+}
+
+fn is_link_ordered(spinlocks: &[Spinlock], next: Option<SpinlockId>) -> bool
+    ensures { result ≡ is_link_ordered (links_of spinlocks.now) next }
+{
+    match next {
+        Some(next) => !comes_after(spinlocks, next, next),
+        None => true,
+    }
+}
+
+fn is_each_ordered(spinlocks: &[Spinlock]) -> bool
+    ensures { result ≡ list_all (λ (spinlock : SpinlockValue). is_link_ordered (links_of spinlocks.now) spinlock.next) spinlocks.now }
+{
+    spinlocks
+        .iter()
+        .all(|spinlock| is_link_ordered(spinlocks, spinlock.next))
+}
+
+/// Whether no spinlock comes after itself.
+#[tactic(auto, using(crate::proofs::Linked::all_links))]
+pub fn are_links_ordered(spinlocks: &[Spinlock]) -> bool
+    ensures { result ≡ are_links_ordered (links_of spinlocks.now) }
+{
+    is_each_ordered(spinlocks)
+}
+
+impl Plan {
+    /// Whether one spinlock comes after another: it is the successor of that one, or of one that comes after that one
+    /// (AUTOSAR SWS OS 4.x, SWS_Os_00660). What is no spinlock of the plan comes after none, and none after it.
+    pub fn comes_after(&self, from: SpinlockId, to: SpinlockId) -> bool
+        ensures { result ≡ comes_after (links_of self.now.spinlocks) (length (links_of self.now.spinlocks)) from to }
+    {
+        comes_after(self.spinlocks.as_slice(), from, to)
+    }
+}
+
+/// Whether a job whose newest spinlock is `newest` may ask for `new`: this comes after that one, by any number of links. None
+/// comes after itself (AUTOSAR SWS OS 4.x, SWS_Os_00661). Takes no memory.
+pub fn order_ok(config: &Config, newest: SpinlockId, new: SpinlockId) -> bool
+    ensures value { result ≡ comes_after (links_of config.now.spinlocks) (length (links_of config.now.spinlocks)) newest new }
+    ensures reached { (n : ℕ) → comes_after (links_of config.now.spinlocks) n newest new ≡ true → result ≡ true }
+    ensures apart { newest ≡ new → result ≡ false }
+{
+    config.plan().comes_after(newest, new)
+}
