@@ -4,7 +4,7 @@ use Rattle.std.specs.List.{list_all}
 use Rattle.std.proofs.lemmas.List.{length-map}
 use Rattle.std.proofs.lemmas.List.Folds.{list_all-append, list_all-map}
 use Rattle.osplan.specs.Limits.{is_between, are_alarms_within, are_counters_within, are_tables_within, most_cores, most_posted, is_core_numbered, is_core_within, is_short, count_in, most_of}
-use Rattle.oscheck.specs.Words.{ConfigText, CoreText, Declaration, IsrText, ObjectKind, TaskText}
+use Rattle.oscheck.specs.Words.{ConfigText, CoreText, Declaration, IsrText, ObjectKind, SpinlockText, TaskText}
 use Rattle.oscheck.specs.Check.{are_scripts_short, alarm_sizes, bare_sizes, core_scripts, core_sizes, counter_sizes, is_core_short, is_script_short, is_text_numbered, is_text_within, table_sizes, tests_of}
 use Rattle.osshape.specs.Declarations.{declarations}
 use Rattle.osshape.proofs.Lists.{all-split, list_all-every}
@@ -48,16 +48,17 @@ pub within_split : (t : ConfigText) → is_text_within t ≡ (is_text_numbered t
 within_split t = rw (cores-split (declarations t) t.cores) (grind arith)
 
 -- what is left of a text's numbers when those beside its cores have been judged
-pub cores-left : (t : ConfigText) → is_between 1 1 t.version ≡ true → is_between 1 (most_of ObjectKind.Mode) (Some (length t.modes)) ≡ true → is_between 1 16 t.cap ≡ true
+pub cores-left : (t : ConfigText) → is_between 1 1 t.version ≡ true → is_between 1 (most_of ObjectKind.Mode) (Some (length t.modes)) ≡ true → nat_le (length t.spinlocks) (most_of ObjectKind.Spinlock) ≡ true → is_between 1 16 t.cap ≡ true
     → (is_between 1 most_cores (Some (length t.cores)) && list_all (λ (core : CoreText). is_core_numbered (core_sizes (declarations t) core)) t.cores) ≡ is_text_numbered t
-cores-left t version modes cap =
-    rw (version, modes, cap, length-map t.cores (core_sizes (declarations t)), list_all-map is_core_numbered (core_sizes (declarations t)) t.cores) refl
+cores-left t version modes spinlocks cap =
+    rw (version, modes, spinlocks, cap, length-map t.cores (core_sizes (declarations t)), list_all-map is_core_numbered (core_sizes (declarations t)) t.cores) refl
 
 -- ---- a text with more objects than a configuration may have is past its limits
 
 -- a text has sizes of as many objects of a kind as it has objects
 sizes-counted : (objects : List Declaration) (core : CoreText) (kind : ObjectKind) → count_in kind (core_sizes objects core) ≡ length (objects_in kind core)
 sizes-counted objects core ObjectKind.Mode = refl
+sizes-counted objects core ObjectKind.Spinlock = refl
 sizes-counted objects core kind = simp length-map
 
 core-few : (objects : List Declaration) (core : CoreText) → is_core_numbered (core_sizes objects core) ≡ true → is_core_few core ≡ true
@@ -66,8 +67,9 @@ core-few objects core h = list_all-every (λ (kind : ObjectKind). nat_le (length
 numbered-few : (t : ConfigText) → is_text_numbered t ≡ true → are_objects_few t ≡ true
 numbered-few t h =
     let objects = declarations t in
-    let modes = and_from _ true (ap (λ n. nat_le n (most_of ObjectKind.Mode)) (length-map t.modes unnumbered) ∙ grind arith) refl in
-    and_from _ _ (and_from _ _ modes (ap (λ n. nat_le n 8) (sym (length-map t.cores (core_sizes objects))) ∙ grind arith))
+    let modes = ap (λ n. nat_le n (most_of ObjectKind.Mode)) (length-map t.modes unnumbered) ∙ grind arith in
+    let spinlocks = ap (λ n. nat_le n (most_of ObjectKind.Spinlock)) (length-map t.spinlocks (λ (spinlock : SpinlockText). unnumbered spinlock.name)) ∙ grind arith in
+    and_from _ _ (and_from _ _ (and_from _ _ modes (and_from _ true spinlocks refl)) (ap (λ n. nat_le n 8) (sym (length-map t.cores (core_sizes objects))) ∙ grind arith))
     (all-weaker (λ core. is_core_numbered (core_sizes objects core)) is_core_few (core-few objects) t.cores (sym (list_all-map is_core_numbered (core_sizes objects) t.cores) ∙ grind arith))
 
 pub too_many : (t : ConfigText) → are_objects_few t ≡ false → first_fault (failing (tests_of t)) ≡ Some Limit

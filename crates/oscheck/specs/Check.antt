@@ -1,20 +1,21 @@
 -- The tests of a configuration's text, a row for each fault past its shape that a text can have so far. Each is defined apart from
 -- the others, over the text as it stands; `tests_of` says which of them pass over a name that is unknown or stands twice. [own]
-use Rattle.std.specs.Prelude.{ℕ, ◌&&◌, ◌||◌, not, true, Bool, Option, None, is_some, option_map, List, [], ◌∷◌, ◌++◌, length, map}
+use Rattle.std.specs.Prelude.{ℕ, ◌&&◌, ◌||◌, not, true, Bool, Option, None, is_some, option_and_then, option_map, List, [], ◌∷◌, ◌++◌, length, map}
 use Rattle.std.specs.List.{list_all}
 use Rattle.std.specs.Option.{option_map_or}
 use Rattle.std.specs.Str.{bytes_eq}
-use Rattle.oscheck.specs.Words.{AlarmStartText, AlarmText, ConfigText, CoreId, CoreText, CounterText, Declaration, IsrText, PointText, ResourceText, TableStartText, TableText, TaskText}
-use Rattle.osbase.specs.declared.objects.ObjectKind.TheVariants.{Counter, Mode}
+use Rattle.oscheck.specs.Words.{AlarmStartText, AlarmText, ConfigText, CoreId, CoreText, CounterText, Declaration, IsrText, PointText, ResourceText, SpinlockId, SpinlockText, TableStartText, TableText, TaskText}
+use Rattle.osbase.specs.declared.objects.ObjectKind.TheVariants.{Counter, Mode, Spinlock}
 use Rattle.osbase.specs.History.{same_core}
 use Rattle.osforms.specs.Action.{is_action}
 use Rattle.osforms.specs.Operation.{has_masks}
 use Rattle.osplan.specs.Expressible.{are_distinct, dont_care, is_free_of_resources, is_jumping_within, is_reserved}
 use Rattle.osplan.specs.Limits.{TaskSizes, IsrSizes, CounterSizes, StartSizes, PointSizes, TableSizes, CoreSizes, Sizes, is_between, is_by, is_core_numbered, is_short, is_within, is_table_timed, has_number, are_numbers_distinct, stays_on}
-use Rattle.osplan.specs.declared.faults.ConfFault.TheVariants.{Limit, DuplicateName, UnknownName, WrongCore, BadMask, BadTable, BadScript}
+use Rattle.osplan.specs.Spinlocks.{are_links_ordered}
+use Rattle.osplan.specs.declared.faults.ConfFault.TheVariants.{Limit, DuplicateName, UnknownName, WrongCore, SpinOrder, BadMask, BadTable, BadScript}
 use Rattle.osplan.specs.Fault.{Tests}
 use Rattle.oscheck.specs.Action.{is_action_known, is_action_masked}
-use Rattle.osshape.specs.Declarations.{counter_declared, counter_ref, declarations, declared_sizes, id_of, names_of, place_of}
+use Rattle.osshape.specs.Declarations.{counter_declared, counter_ref, declarations, declared_sizes, id_of, names_of, place_of, spinlock_ref}
 use Rattle.oscheck.specs.Posted.{posted_at_once}
 use Rattle.oscheck.specs.Operation.{operations_of, op_of, named_op, is_operation_known, is_operation}
 
@@ -78,7 +79,7 @@ bare_sizes core = record (core_sizes [] core) { counters = []; alarms = []; tabl
 
 -- All numbers of a text that have limits.
 abbrev pub sizes_of : ConfigText → Sizes
-sizes_of t = record { modes = length t.modes; cap = t.cap; cores = map (core_sizes (declarations t)) t.cores }
+sizes_of t = record { modes = length t.modes; spinlocks = length t.spinlocks; cap = t.cap; cores = map (core_sizes (declarations t)) t.cores }
 
 -- The version, which no configuration keeps, is 1, and the numbers are within the limits.
 abbrev pub is_text_within : ConfigText → Bool
@@ -147,9 +148,14 @@ is_core_known objects core =
     && (list_all (is_task_known objects) core.tasks && list_all (λ (isr : IsrText). are_operations_known objects isr.script) core.isrs
     && list_all (is_alarm_known objects) core.alarms && list_all (is_table_known objects) core.tables)
 
--- The master is a configured core, and each name of a core's mode, in an autostart, an operation, an alarm or a table has its object.
+-- A spinlock without a successor names none.
+abbrev pub is_spinlock_known : List Declaration → SpinlockText → Bool
+is_spinlock_known objects spinlock = option_map_or (λ (next : List ℕ). is_some (place_of objects Spinlock next)) spinlock.next true
+
+-- The master is a configured core, and each name of a spinlock's successor, of a core's mode, in an autostart, an operation, an alarm
+-- or a table has its object.
 abbrev pub are_known : ConfigText → Bool
-are_known t = has_number (numbers_of t.cores) t.master && list_all (is_core_known (declarations t)) t.cores
+are_known t = has_number (numbers_of t.cores) t.master && (list_all (is_spinlock_known (declarations t)) t.spinlocks && list_all (is_core_known (declarations t)) t.cores)
 
 -- ---- names of other cores' objects
 
@@ -176,6 +182,19 @@ is_core_near objects core =
 -- So it is with each operation of each core's scripts, and with each alarm and each table.
 abbrev pub are_near : ConfigText → Bool
 are_near t = list_all (is_core_near (declarations t)) t.cores
+
+-- ---- the order of spinlocks
+
+-- The spinlock that comes next to one, if its name is known.
+abbrev pub successor : List Declaration → SpinlockText → Option SpinlockId
+successor objects spinlock = option_and_then (spinlock_ref objects) spinlock.next
+
+abbrev pub links_of : ConfigText → List (Option SpinlockId)
+links_of t = map (successor (declarations t)) t.spinlocks
+
+-- The successors of spinlocks have no cycle. [AUTOSAR SWS OS 4.x, OsSpinlockSuccessor]
+abbrev pub are_ordered : ConfigText → Bool
+are_ordered t = are_links_ordered (links_of t)
 
 -- ---- masks
 
@@ -247,9 +266,10 @@ are_operations t = list_all (is_core_script (declarations t)) t.cores
 
 -- ---- the table, in ascending order of faults
 
--- The tests of a configuration's text. Each holds if the text has not that fault, whatever other faults it has, but for these two
+-- The tests of a configuration's text. Each holds if the text has not that fault, whatever other faults it has, but for these three
 -- exceptions. An operation with an unknown name, which has a smaller fault, passes that of another core's objects and, in an ISR's script,
--- that of resources. A limit or a time by the numbers of a counter, and what an action posts, is judged only if one object alone has
--- the name, which has a fault of its own otherwise. [own]
+-- that of resources. A successor with an unknown name, which has a smaller fault, is none in the order of spinlocks. A limit or a time by
+-- the numbers of a counter, and what an action posts, is judged only if one object alone has the name, which has a fault of its own
+-- otherwise. [own]
 abbrev pub tests_of : ConfigText → Tests
-tests_of t = (Limit, is_text_within t) ∷ (DuplicateName, is_each_once t) ∷ (UnknownName, are_known t) ∷ (WrongCore, are_near t) ∷ (BadMask, are_masks t) ∷ (BadTable, are_timed t) ∷ (BadScript, are_operations t) ∷ []
+tests_of t = (Limit, is_text_within t) ∷ (DuplicateName, is_each_once t) ∷ (UnknownName, are_known t) ∷ (WrongCore, are_near t) ∷ (SpinOrder, are_ordered t) ∷ (BadMask, are_masks t) ∷ (BadTable, are_timed t) ∷ (BadScript, are_operations t) ∷ []

@@ -2,7 +2,7 @@
 use Rattle.std.specs.Prelude.{◌≡◌, ◌⊎◌, ℕ, ◌&&◌, Bool, true, false, is_some, List, Result, Ok, Err}
 use Rattle.std.specs.List.{list_all}
 use Rattle.osbase.specs.declared.objects.ObjectKind.TheVariants.{Counter}
-use Rattle.oscheck.specs.Words.{AlarmText, ConfigText, CoreId, CoreText, Declaration, Op, PointText, TableText, TaskText}
+use Rattle.oscheck.specs.Words.{AlarmText, ConfigText, CoreId, CoreText, Declaration, Op, PointText, SpinlockText, TableText, TaskText}
 use Rattle.osbase.specs.History.{same_core}
 use Rattle.osforms.specs.Action.{is_action}
 use Rattle.osforms.specs.Operation.{has_masks}
@@ -13,7 +13,7 @@ use Rattle.oscheck.specs.declared.verdicts.Judged.{Judged}
 use Rattle.oscheck.specs.declared.verdicts.Verdict.{Verdict}
 use Rattle.oscheck.specs.Action.{is_action_known, is_action_masked}
 use Rattle.oscheck.specs.Operation.{is_operation, is_operation_known, op_of}
-use Rattle.oscheck.specs.Check.{are_operations_known, is_alarm_acting, is_alarm_known, is_alarm_masked, is_alarm_near, is_core_known, is_core_masked, is_core_near, is_core_script, is_isr_script, is_operation_near, is_point_acting, is_point_known, is_point_masked, is_script, is_script_masked, is_script_near, is_table_acting, is_table_known, is_table_masked, is_table_near, is_task_known, is_task_masked, is_task_script}
+use Rattle.oscheck.specs.Check.{are_operations_known, is_alarm_acting, is_alarm_known, is_alarm_masked, is_alarm_near, is_core_known, is_core_masked, is_core_near, is_core_script, is_isr_script, is_operation_near, is_point_acting, is_point_known, is_point_masked, is_script, is_script_masked, is_script_near, is_spinlock_known, is_table_acting, is_table_known, is_table_masked, is_table_near, is_task_known, is_task_masked, is_task_script}
 
 -- Nothing is wrong.
 abbrev pub all_right : Verdict
@@ -74,9 +74,13 @@ table_verdict objects id table = record { known = is_table_known objects table; 
 abbrev pub core_verdict : List Declaration → CoreText → Verdict
 core_verdict objects core = record { known = is_core_known objects core; near = is_core_near objects core; masked = is_core_masked core; formed = is_core_script objects core }
 
--- Of all cores of a text.
+-- Of a spinlock, by the name of its successor.
+abbrev pub spinlock_verdict : List Declaration → SpinlockText → Verdict
+spinlock_verdict objects spinlock = record { known = is_spinlock_known objects spinlock; near = true; masked = true; formed = true }
+
+-- Of all cores of a text, and of its spinlocks.
 abbrev pub text_verdict : ConfigText → Verdict
-text_verdict t = each (core_verdict (declarations t)) t.cores
+text_verdict t = with_names (list_all (is_spinlock_known (declarations t)) t.spinlocks) (each (core_verdict (declarations t)) t.cores)
 
 -- ---- what a reading answers
 

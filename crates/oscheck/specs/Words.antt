@@ -7,6 +7,7 @@ pub use Rattle.osbase.specs.declared.objects.Place.{Place}
 pub use Rattle.osbase.specs.declared.references.CoreId.{CoreId}
 pub use Rattle.osbase.specs.declared.references.CounterRef.{CounterRef}
 pub use Rattle.osbase.specs.declared.references.ModeId.{ModeId}
+pub use Rattle.osbase.specs.declared.references.SpinlockId.{SpinlockId}
 pub use Rattle.oscript.specs.declared.Op.{Op}
 pub use Rattle.osplan.specs.declared.plans.Alarm.{Alarm}
 pub use Rattle.osplan.specs.declared.plans.AlarmStart.{AlarmStart}
@@ -16,6 +17,7 @@ pub use Rattle.osplan.specs.declared.plans.ExpiryPoint.{ExpiryPoint}
 pub use Rattle.osplan.specs.declared.plans.Isr.{Isr}
 pub use Rattle.osplan.specs.declared.plans.Plan.{Plan}
 pub use Rattle.osplan.specs.declared.plans.Resource.{Resource}
+pub use Rattle.osplan.specs.declared.plans.Spinlock.{Spinlock}
 pub use Rattle.osplan.specs.declared.plans.Table.{Table}
 pub use Rattle.osplan.specs.declared.plans.TableStart.{TableStart}
 pub use Rattle.osplan.specs.declared.plans.Task.{Task}
@@ -28,6 +30,7 @@ pub use Rattle.osshape.specs.declared.shapes.CounterText.{CounterText}
 pub use Rattle.osshape.specs.declared.shapes.IsrText.{IsrText}
 pub use Rattle.osshape.specs.declared.shapes.Named.{Named}
 pub use Rattle.osshape.specs.declared.shapes.ResourceText.{ResourceText}
+pub use Rattle.osshape.specs.declared.shapes.SpinlockText.{SpinlockText}
 pub use Rattle.osshape.specs.declared.shapes.TaskText.{TaskText}
 pub use Rattle.osshape.specs.declared.table_shapes.PointText.{PointText}
 pub use Rattle.osshape.specs.declared.table_shapes.TableStartText.{TableStartText}

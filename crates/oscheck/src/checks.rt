@@ -11,23 +11,25 @@ ghost use Rattle.osshape.specs.declared.shapes.TaskText.{TaskText as Task};
 ghost use Rattle.osplan.specs.Limits.{are_alarms_within, are_counters_within, are_isrs_within, are_numbers_distinct, has_number, is_alarm_within, is_between, is_budget, is_ceiling, is_core_numbered, is_counter_within, is_isr_within, is_start, is_start_within, is_task_within, jobs_of, most_activations, most_cores, most_of, same_number};
 ghost use Rattle.osbase.specs.declared.objects.ObjectKind.{ObjectKind};
 ghost use Rattle.osplan.specs.Fault.{failing, first_fault};
+ghost use Rattle.osplan.specs.Spinlocks as plans;
 ghost use Rattle.osshape.specs.Declarations.{declarations};
 ghost use Rattle.oscheck.specs.Few.{are_objects_few, is_core_few};
-ghost use Rattle.oscheck.specs.Check.{is_text_numbered, task_sizes, isr_sizes, counter_sizes, start_sizes, alarm_sizes, bare_sizes, core_sizes, numbers_of, is_text_within, is_unreserved, is_each_once, is_core_mode_known, is_mode_known, alarm_modes, are_timed, tests_of};
+ghost use Rattle.oscheck.specs.Check.{is_text_numbered, task_sizes, isr_sizes, counter_sizes, start_sizes, alarm_sizes, bare_sizes, core_sizes, numbers_of, is_text_within, is_unreserved, is_each_once, is_core_mode_known, is_mode_known, is_spinlock_known, alarm_modes, are_timed, links_of, tests_of};
 ghost use Rattle.oscheck.specs.Verdict.{text_verdict};
 
 use crate::table_checks::{are_posted_few, are_tables_timed, are_tables_within};
 use crate::verdicts::Verdict;
 use osbase::{
     ALARMS, CONFIGURED_CORES, COUNTERS, GREATEST_BUDGET, GREATEST_VALUE, ISRS, JOBS, LEVELS, MODES,
-    ObjectKind, RESOURCES, TABLES, TASKS,
+    ObjectKind, RESOURCES, SPINLOCKS, TABLES, TASKS,
 };
 use osforms::Places;
-use osplan::{ConfFault, DONT_CARE, is_reserved};
+use osplan::spinlocks::are_links_ordered;
+use osplan::{ConfFault, DONT_CARE, Spinlock, is_reserved};
 use osread::{Text, Whole};
 use osshape::{
     AlarmStartText, AlarmText, ConfigText, CoreText, CounterText, IsrText, Objects, ResourceText,
-    TaskText,
+    SpinlockText, TaskText,
 };
 
 pub(crate) fn is_between(low: u64, high: u64, number: Whole) -> bool
@@ -225,6 +227,7 @@ pub fn are_objects_few(text: &ConfigText) -> bool
     ensures { result ≡ are_objects_few text.now }
 {
     text.modes.len() <= MODES
+        && text.spinlocks.len() <= SPINLOCKS
         && text.cores.len() <= CONFIGURED_CORES
         && are_cores_few(text.cores.as_slice())
 }
@@ -243,6 +246,7 @@ pub fn is_numbered(text: &ConfigText, objects: &Objects) -> bool
 {
     is_between(1, 1, text.version)
         && are_modes_within(text)
+        && text.spinlocks.len() <= SPINLOCKS
         && is_between(1, 16, text.cap)
         && are_cores_within(objects, text.cores.as_slice())
 }
@@ -320,6 +324,16 @@ pub fn is_core_mode_known(objects: &Objects, mode: &Option<Text>) -> bool
     }
 }
 
+/// Whether the spinlock that comes next to this one is there, if one is named.
+pub fn is_spinlock_known(objects: &Objects, spinlock: &SpinlockText) -> bool
+    ensures { result ≡ is_spinlock_known objects.now.declared spinlock.now }
+{
+    match &spinlock.next {
+        Some(next) => objects.place(ObjectKind::Spinlock, next.as_str()).is_some(),
+        None => true,
+    }
+}
+
 /// Whether the modes in which the alarm is set by itself are there.
 pub fn are_alarm_modes_known(objects: &Objects, alarm: &AlarmText) -> bool
     ensures { result ≡ list_all (is_mode_known objects.now.declared) (alarm_modes alarm.now) }
@@ -341,11 +355,18 @@ fn are_timed(text: &ConfigText, objects: &Objects) -> bool
         .all(|core| are_tables_timed(objects, core.tables.as_slice()))
 }
 
-/// The fault of smallest number of a text within its limits, of which a reading found so much to be right; None where it has none.
-pub fn fault_of(text: &ConfigText, objects: &Objects, found: Verdict) -> Option<ConfFault>
+/// The fault of smallest number of a text within its limits, of which a reading found so much to be right and made these
+/// spinlocks; None where it has none.
+pub fn fault_of(
+    text: &ConfigText,
+    objects: &Objects,
+    found: Verdict,
+    spinlocks: &[Spinlock],
+) -> Option<ConfFault>
     requires objects { objects.now.declared ≡ declarations text.now }
     requires within { is_text_within text.now ≡ true }
     requires found { found ≡ text_verdict text.now }
+    requires links { plans.links_of spinlocks.now ≡ links_of text.now }
     ensures { result ≡ first_fault (failing (tests_of text.now)) }
 {
     if !is_each_once(text, objects) {
@@ -354,6 +375,8 @@ pub fn fault_of(text: &ConfigText, objects: &Objects, found: Verdict) -> Option<
         Some(ConfFault::UnknownName)
     } else if !found.near {
         Some(ConfFault::WrongCore)
+    } else if !are_links_ordered(spinlocks) {
+        Some(ConfFault::SpinOrder)
     } else if !found.masked {
         Some(ConfFault::BadMask)
     } else if !are_timed(text, objects) {

@@ -12,7 +12,7 @@ mod verdicts;
 
 pub use checks::{
     are_alarm_modes_known, are_modes_known, are_objects_few, fault_of, is_core_mode_known,
-    is_numbered,
+    is_numbered, is_spinlock_known,
 };
 pub use judging::{judge_action, judge_counter, judge_isr_script, judge_script};
 pub use table_checks::are_table_modes_known;

@@ -9,5 +9,5 @@ mod tests;
 pub use osbase::{Schedule, Stimuli};
 pub use osdraft::read_config;
 pub use osgiven::{read_schedule, read_stimuli};
-pub use osplan::{ConfFault, Config, Standing, cut, is_separate, standing_of};
+pub use osplan::{ConfFault, Config, Standing, cut, is_separate, order_ok, standing_of};
 pub use oswrite::config_text;

@@ -12,6 +12,7 @@ mod operations;
 mod parts;
 mod resources;
 mod separate;
+mod spinlocks;
 mod tables;
 mod written;
 
@@ -209,6 +210,20 @@ fn texts_at_limits(rt: HostRuntime) -> Result<(), Fail> {
 fn texts_with_modes(rt: HostRuntime) -> Result<(), Fail> {
     let tables: &[Table] = &[(Reader::Configuration, "@", modes::TEXTS)];
     play_all(&rt, rt.alloc(), tables, 143)
+}
+
+#[test]
+fn texts_with_spinlocks(rt: HostRuntime) -> Result<(), Fail> {
+    let tables: &[Table] = &[
+        (Reader::Configuration, "@", spinlocks::TEXTS),
+        (
+            Reader::Configuration,
+            spinlocks::TWO_CORES,
+            spinlocks::OPERATIONS,
+        ),
+        (Reader::Configuration, "@", spinlocks::ACTIONS),
+    ];
+    play_all(&rt, rt.alloc(), tables, 287)
 }
 
 #[test]

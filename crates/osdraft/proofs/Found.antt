@@ -2,11 +2,11 @@
 use Rattle.std.proofs.Common.{◌≡◌, ℕ, ◌≤◌, ◌<◌, Bool, true, eqb, List, Option, Some, refl, sym, ◌∙◌, arith, suc, ◌+◌, false, cond, [], ◌∷◌, length, map, None, option_and_then, ap, inl, inr, ◌++◌, is_some, option_map, subst}
 use Rattle.std.specs.List.{list_all, enumerate_from, find, flat_map, AllByRecursion, slice_get}
 use Rattle.std.proofs.lemmas.Bool.Decides.{nat_tests}
-use Rattle.std.proofs.lemmas.Bool.{le-leb, lt-ltb, and_parts, and_from, or_parts, cases_Bool, leb-true, true≢false}
+use Rattle.std.proofs.lemmas.Bool.{le-leb, lt-ltb, and_parts, and_from, cases_Bool, leb-true, true≢false}
 use Rattle.std.proofs.lemmas.List.Folds.{list_all-map, list_all-append}
 use Rattle.oscheck.specs.Words.{ConfigText, Core, CoreText, Declaration, Named, Object, ObjectKind, Place, CoreId, CounterRef, CounterText, Plan}
 use Rattle.osplan.specs.Limits as limits
-use Rattle.osplan.specs.Limits.{is_between, is_core_within, is_within, number_of, same_number, has_number, are_numbers_distinct, is_object, CounterSizes, are_counters_within, is_counter_within}
+use Rattle.osplan.specs.Limits.{is_between, is_core_within, is_within, number_of, same_number, are_numbers_distinct, is_object, CounterSizes, are_counters_within, is_counter_within}
 use Rattle.osshape.specs.Declarations.{byte_of, word_of, common_of, declarations, declaration, declared_of, declared_by, has_name, place_in, place_of, id_of, is_alone, counter_ref, counter_declared, declared_sizes, names_of}
 use Rattle.osshape.proofs.Lists.{map-same, list_all-every}
 use Rattle.oscheck.specs.Check.{core_sizes, sizes_of, numbers_of, counter_sizes}
@@ -14,10 +14,10 @@ use Rattle.osdraft.specs.Meaning.{core_plan, plan_of}
 use Rattle.std.proofs.lemmas.List.{length-map}
 use Rattle.osbase.specs.Objects.{object_at, place_on, same_kind}
 use Rattle.osbase.specs.declared.objects.TheConstants.{NOBODY}
-use Rattle.osbase.proofs.Same.{same_kind-true, same_core-comm, same_core-refl}
-use Rattle.osbase.specs.History.{same_core}
+use Rattle.osbase.proofs.Same.{same_kind-true}
 use Rattle.osplan.specs.Objects.{common_names, object_count}
 use Rattle.osplan.specs.declared.plans.TheConstants.{COMMON, KINDS}
+use Rattle.osplan.proofs.Found.{IsFound, each-found}
 use Rattle.osplan.proofs.Tests.{all-flat, find-passes}
 use Rattle.osshape.specs.Shape.{common_in, objects_in, numbered}
 use Rattle.std.proofs.lemmas.Option.{slice_get-map}
@@ -63,19 +63,6 @@ numbers-kept t h = map-same (λ (c : Core). number_of c.id) (core_plan (declarat
 pub bytes-equal : (a b : Option ℕ) → same_number a b ≡ true → eqb (byte_of a) (byte_of b) ≡ true
 bytes-equal a b same = grind (arith, nat_tests)
 
--- ---- each core is found by its number
-
-abbrev pub IsFound : List Core → Core → Type 0
-IsFound cores core = find (λ (c : Core). same_core c.id core.id) cores ≡ Some core
-
-behind : (first : Core) (all cores : List Core) → has_number (limits.numbers_of cores) (number_of first.id) ≡ false → AllByRecursion (IsFound all) cores → AllByRecursion (IsFound (first ∷ all)) cores
-behind first all [] apart found = tt
-behind first all (core ∷ cores) apart found = let other = or_parts (same_core core.id first.id) _ apart in (rw (same_core-comm first.id core.id ∙ other.0) found.0, behind first all cores other.1 found.1)
-
-pub each-found : (cores : List Core) → are_numbers_distinct (limits.numbers_of cores) ≡ true → AllByRecursion (IsFound cores) cores
-each-found [] distinct = tt
-each-found (core ∷ cores) distinct = (rw (same_core-refl core.id) refl, behind core cores cores (grind arith) (each-found cores (grind arith)))
-
 -- ---- each object is there
 
 abbrev object_of : Declaration → Object
@@ -98,6 +85,7 @@ module _ (t : ConfigText) where
   -- of each core,
   as-many : (core : CoreText) (kind : ObjectKind) → length (objects_in kind core) ≡ object_count kind (planned core)
   as-many core ObjectKind.Mode = refl
+  as-many core ObjectKind.Spinlock = refl
   as-many core kind = simp length-map
 
   objects-there : (core : CoreText) → IsFound (plan_of t).cores (planned core) → list_all is_there (declared_by core) ≡ true
@@ -115,6 +103,7 @@ module _ (t : ConfigText) where
   module _ (alone : core_of (plan_of t) NOBODY ≡ None) where
     common-many : (kind : ObjectKind) → length (common_in kind t) ≡ length (common_names kind (plan_of t))
     common-many ObjectKind.Mode = simp length-map
+    common-many ObjectKind.Spinlock = simp length-map
     common-many kind = refl
 
     common-there : list_all is_there (flat_map (common_of t) COMMON) ≡ true
@@ -170,6 +159,10 @@ both-sized : (plan : Plan) (front back : List Declaration) → AreSized plan fro
 both-sized plan [] back f b = b
 both-sized plan (d ∷ front) back f b = (f.0, both-sized plan front back f.1 b)
 
+kinds-sized : (plan : Plan) (objects : ObjectKind → List Declaration) → ((kind : ObjectKind) → AreSized plan (objects kind)) → (kinds : List ObjectKind) → AreSized plan (flat_map objects kinds)
+kinds-sized plan objects sized [] = tt
+kinds-sized plan objects sized (kind ∷ kinds) = both-sized plan (objects kind) (flat_map objects kinds) (sized kind) (kinds-sized plan objects sized kinds)
+
 -- no other object has numbers
 unsized : (plan : Plan) (id : CoreId) (kind : ObjectKind) → ((d : Declaration) → IsSized plan d kind) → (n : ℕ) (objects : List Named) → AreSized plan (map (declaration id kind) (enumerate_from n objects))
 unsized plan id kind each n [] = tt
@@ -200,19 +193,19 @@ module _ (plan : Plan) (text : CoreText) (has : HasCounters plan text) where
       counters-sized 0 text.counters at (omega arith) (and_parts _ (list_all is_counter_within (map counter_sizes text.counters)) has.within).1
   kind-sized kind = unsized plan (id_of text) kind (λ d. tt) 0 (objects_in kind text)
 
-  kinds-sized : (kinds : List ObjectKind) → AreSized plan (flat_map (declared_of text) kinds)
-  kinds-sized [] = tt
-  kinds-sized (kind ∷ kinds) = both-sized plan (declared_of text kind) (flat_map (declared_of text) kinds) (kind-sized kind) (kinds-sized kinds)
-
 cores-sized : (plan : Plan) (cores : List CoreText) → AllByRecursion (HasCounters plan) cores → AreSized plan (flat_map declared_by cores)
 cores-sized plan [] has = tt
-cores-sized plan (core ∷ cores) has = both-sized plan (declared_by core) (flat_map declared_by cores) (kinds-sized plan core has.0 KINDS) (cores-sized plan cores has.1)
+cores-sized plan (core ∷ cores) has = both-sized plan (declared_by core) (flat_map declared_by cores) (kinds-sized plan (declared_of core) (kind-sized plan core has.0) KINDS) (cores-sized plan cores has.1)
 
 -- and no counter is common to all cores
+common-sized : (plan : Plan) (t : ConfigText) (kind : ObjectKind) → AreSized plan (common_of t kind)
+common-sized plan t ObjectKind.Counter = tt
+common-sized plan t kind = unsized plan NOBODY kind (λ d. tt) 0 (common_in kind t)
+
 all-sized : (plan : Plan) (t : ConfigText) → AllByRecursion (HasCounters plan) t.cores → AreSized plan (declarations t)
 all-sized plan t has =
     both-sized plan (flat_map (common_of t) COMMON) (flat_map declared_by t.cores)
-    (both-sized plan (common_of t ObjectKind.Mode) [] (unsized plan NOBODY ObjectKind.Mode (λ d. tt) 0 (common_in ObjectKind.Mode t)) tt) (cores-sized plan t.cores has)
+    (kinds-sized plan (common_of t) (common-sized plan t) COMMON) (cores-sized plan t.cores has)
 
 -- ---- the counter of a name
 

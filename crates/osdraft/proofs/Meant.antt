@@ -1,22 +1,25 @@
 -- What a text without a fault means is a configuration with the text's numbers: it keeps the limits, and a text can say it.
-use Rattle.std.proofs.Common.{◌≡◌, ℕ, ◌&&◌, Bool, true, cond, count_by, sum_by, List, [], ◌∷◌, map, Option, Some, None, is_some, option_map, unwrap_or, refl, sym, ap, ◌∙◌, arith, ◌≤◌, ◌-◌, nat_le, nat_lt, ◌||◌, length, not, false}
+use Rattle.std.proofs.Common.{◌≡◌, ℕ, ◌&&◌, Bool, true, cond, count_by, sum_by, List, [], ◌∷◌, map, Option, Some, None, is_some, option_and_then, option_map, unwrap_or, refl, sym, ap, ◌∙◌, arith, ◌≤◌, ◌-◌, nat_le, nat_lt, ◌||◌, length, not, false}
 use Rattle.std.proofs.lemmas.Bool.Decides.{nat_tests}
 use Rattle.std.specs.List.{find, list_all, sum, AllByRecursion}
 use Rattle.std.proofs.lemmas.Bool.{and_parts, leb-true, and_from, true≢false}
-use Rattle.oscheck.specs.Words.{Alarm, AlarmText, Core, CoreMode, CoreText, Declaration, ObjectKind, Op, Place, PointText, RemoteCall, TableText, AlarmStartText, ConfigText, CoreId, CounterText, Plan, ResourceText, Table, TableStart, TableStartText, TaskText, ModeId, Task, AlarmStart, ExpiryPoint, Isr, IsrText, Named}
+use Rattle.oscheck.specs.Words.{Alarm, AlarmText, Core, CoreMode, CoreText, Declaration, ObjectKind, Op, Place, PointText, RemoteCall, TableText, AlarmStartText, ConfigText, CoreId, CounterText, Plan, ResourceText, Spinlock, SpinlockId, SpinlockText, Table, TableStart, TableStartText, TaskText, ModeId, Task, AlarmStart, ExpiryPoint, Isr, IsrText, Named}
 use Rattle.oscript.specs.Calls.{action_of_op}
 use Rattle.osforms.specs.Action.{is_action, is_action_op}
 use Rattle.osforms.specs.Operation.{op_meant, has_masks}
 use Rattle.osplan.specs.Expressible.{are_distinct, dont_care}
 use Rattle.osplan.specs.Objects.{greatest_of, names_in, table_actions}
+use Rattle.osplan.specs.Spinlocks.{are_links_ordered}
 use Rattle.osplan.proofs.Tests.{all-both, all-flat, any-find, any-mapped}
 use Rattle.osplan.proofs.ModeObjects.{mode-there, nobody}
+use Rattle.osplan.proofs.SpinlockObjects.{spinlock-there, stays}
+use Rattle.osplan.proofs.Found.{IsFound, each-found}
 use Rattle.osbase.specs.declared.objects.TheConstants.{NOBODY}
 use Rattle.std.specs.Str.{bytes_eq}
 use Rattle.oscheck.specs.Action.{action_of, any_action, is_action_known, is_action_masked}
-use Rattle.oscheck.specs.Check.{core_scripts, isr_sizes, is_isr_script, task_sizes, counter_sizes, start_sizes, alarm_sizes, point_sizes, table_sizes, core_sizes, sizes_of, numbers_of, is_core_timed, is_each_once, are_timed, is_core_mode_known, is_core_near, is_core_script, is_mode_known, is_operation_near, is_script_near, is_task_script, is_text_within, is_unreserved, are_known, are_near, are_masks, are_operations, tests_of}
-use Rattle.osshape.specs.Declarations.{has_name, id_of, is_alone, mode_ref, place_alone, place_of, names_of, byte_of, number_id, word_of, declarations, counter_ref}
-use Rattle.osdraft.specs.Meaning.{alarm_plan, core_mode, core_plan, isr_plan, point_plan, table_plan, task_plan, resource_plan, counter_plan, start_plan, table_start_plan, plan_of}
+use Rattle.oscheck.specs.Check.{core_scripts, isr_sizes, is_isr_script, task_sizes, counter_sizes, start_sizes, alarm_sizes, point_sizes, table_sizes, core_sizes, sizes_of, numbers_of, is_core_timed, is_each_once, are_timed, is_core_known, is_core_mode_known, is_core_near, is_core_script, is_mode_known, is_operation_near, is_script_near, is_spinlock_known, is_task_script, is_text_within, is_unreserved, are_known, are_near, are_ordered, are_masks, are_operations, tests_of}
+use Rattle.osshape.specs.Declarations.{has_name, id_of, is_alone, mode_ref, spinlock_ref, place_alone, place_of, names_of, byte_of, number_id, word_of, declarations, counter_ref}
+use Rattle.osdraft.specs.Meaning.{alarm_plan, core_mode, core_plan, isr_plan, point_plan, spinlock_plan, table_plan, task_plan, resource_plan, counter_plan, start_plan, table_start_plan, plan_of}
 use Rattle.oscheck.specs.Posted.{greatest_posted, is_posting, posted_at, posted_at_once}
 use Rattle.osdraft.proofs.Alarms.{acted, action-meant, action-acts, action-passes, action-keeps}
 use Rattle.osshape.proofs.Alone.{alone}
@@ -32,25 +35,25 @@ use Rattle.osplan.specs.Limits.{CounterSizes, IsrSizes, PointSizes, Sizes, Start
 use Rattle.osplan.specs.View.{core_of, counter_in}
 use Rattle.oscheck.specs.Operation.{operations_of, op_of, is_operation}
 use Rattle.oscheck.proofs.Numbers.{most}
-use Rattle.osdraft.proofs.Found.{IsByte, IsWord, is-byte, is-word, is_inside, cores-inside, numbers-kept, bytes-equal, IsFound, each-found, HasCounters, NamedCounter, named-counter, place-known}
+use Rattle.osdraft.proofs.Found.{IsByte, IsWord, is-byte, is-word, is_inside, cores-inside, numbers-kept, bytes-equal, HasCounters, NamedCounter, named-counter, place-known}
 use Rattle.oscheck.proofs.Numbers.{offsets-low}
 use Rattle.osplan.specs.Objects as plans
 use Rattle.osplan.specs.Limits as limits
-use Rattle.oscheck.specs.Verdict.{action_verdict, alarm_verdict, core_verdict, point_verdict, table_verdict, text_verdict, isr_verdict, task_verdict}
+use Rattle.oscheck.specs.Verdict.{action_verdict, alarm_verdict, core_verdict, each as each_verdict, point_verdict, table_verdict, isr_verdict, task_verdict}
 use Rattle.osforms.proofs.Alike.{named-same}
 use Rattle.oscheck.proofs.Operations.{stays-alike}
 use Rattle.osbase.specs.Objects.{counter_object}
 use Rattle.osbase.specs.History.{same_core}
 use Rattle.oscript.specs.declared.Op.TheVariants.{Work}
 use Rattle.osforms.proofs.Operations.{meant-passes, meant-in-form, meant_masks}
-use Rattle.osplan.specs.declared.faults.ConfFault.TheVariants.{Limit, DuplicateName, UnknownName, WrongCore, BadMask, BadTable, BadScript}
+use Rattle.osplan.specs.declared.faults.ConfFault.TheVariants.{Limit, DuplicateName, UnknownName, WrongCore, SpinOrder, BadMask, BadTable, BadScript}
 use Rattle.osplan.specs.Fault.{failing}
 use Rattle.std.proofs.lemmas.Simd.{map-map}
 use Rattle.oscript.specs.Rows.{is_in_form}
 use Rattle.osbase.specs.Names.{is_name}
-use Rattle.osplan.proofs.EveryKind.{every-kind}
-use Rattle.osshape.specs.Shape.{has_named_objects, is_named, numbered, objects_in, unnumbered}
-use Rattle.osshape.proofs.Naming.{names-of-all, names-of-text}
+use Rattle.osplan.proofs.EveryKind.{every-common, every-kind}
+use Rattle.osshape.specs.Shape.{common_in, has_named_common, has_named_objects, is_named, numbered, objects_in, unnumbered}
+use Rattle.osshape.proofs.Naming.{common-named, names-of-all, names-of-text}
 use Rattle.oscript.specs.Rows as rows
 use Rattle.osplan.specs.Expressible as said
 use Rattle.osdraft.proofs.Loops.{always}
@@ -315,7 +318,7 @@ pub record Tested (t : ConfigText) : Type 0 where
   pub within : is_within (sizes_of t) ≡ true
   pub once : is_each_once t ≡ true
   pub timed : are_timed t ≡ true
-  pub right : is_right (text_verdict t) ≡ true
+  pub right : is_right (each_verdict (core_verdict (declarations t)) t.cores) ≡ true
 
 module _ (t : ConfigText) (tested : Tested t) where
   abbrev declared : List Declaration
@@ -339,7 +342,7 @@ module _ (t : ConfigText) (tested : Tested t) where
   pub plan-numbers : limits.sizes_of (plan_of t) ≡ sizes_of t
   plan-numbers =
       let cap : Some (byte_of t.cap) ≡ t.cap = cap-byte (sizes_of t) tested.within in
-      rw (cap, map-same (limits.core_sizes (plan_of t)) (core_plan declared) (core_sizes declared) (is_sound declared) (core-numbers declared (plan_of t) apart named) t.cores sound) refl
+      rw (cap, length-map t.spinlocks (spinlock_plan declared), map-same (limits.core_sizes (plan_of t)) (core_plan declared) (core_sizes declared) (is_sound declared) (core-numbers declared (plan_of t) apart named) t.cores sound) refl
 
   -- none of its cores has nobody's number
   pub by-nobody : core_of (plan_of t) NOBODY ≡ None
@@ -400,7 +403,7 @@ module _ (t : ConfigText) (places : (kind : ObjectKind) (name : List ℕ) (place
       by (Some op) e = some op e
 
   op-known : (text : List ℕ) → limits.is_op_known plan (op_of objects text) ≡ true
-  op-known text = op-passes text (limits.is_op_known plan) refl (meant-passes (place_of objects) (limits.is_object plan) places text)
+  op-known text = op-passes text (limits.is_op_known plan) refl (meant-passes (place_of objects) (limits.is_object plan) (stays plan) places text)
 
   op-formed : (text : List ℕ) → is_in_form (op_of objects text) ≡ true
   op-formed text = op-passes text is_in_form refl (meant-in-form (place_of objects) text)
@@ -420,6 +423,17 @@ module _ (t : ConfigText) (places : (kind : ObjectKind) (name : List ℕ) (place
       → list_all (limits.is_mode plan) (option_map_or modes (option_map made o) []) ≡ true
   modes-kept modes made names are None known = refl
   modes-kept modes made names are (Some x) known = ap (list_all (limits.is_mode plan)) (are x) ∙ list_all-by (is_mode_known objects) (limits.is_mode plan) (mode_ref objects) mode-kept (names x) known
+
+  spinlock-kept : (spinlock : SpinlockText) → is_spinlock_known objects spinlock ≡ true → limits.is_spinlock_known plan (spinlock_plan objects spinlock) ≡ true
+  spinlock-kept spinlock known = of spinlock.next known
+    where
+      by : (name : List ℕ) (o : Option Place) → place_of objects ObjectKind.Spinlock name ≡ o → is_some o ≡ true → option_map_or (limits.is_spinlock plan) (spinlock_ref objects name) true ≡ true
+      by name None found there = absurd (true≢false (sym there))
+      by name (Some place) found there = rw found (spinlock-there plan place (places ObjectKind.Spinlock name place found)).1
+
+      of : (next : Option (List ℕ)) → option_map_or (λ (name : List ℕ). is_some (place_of objects ObjectKind.Spinlock name)) next true ≡ true → option_map_or (limits.is_spinlock plan) (option_and_then (spinlock_ref objects) next) true ≡ true
+      of None known = refl
+      of (Some name) known = by name (place_of objects ObjectKind.Spinlock name) refl known
 
   core-mode-kept : (mode : Option (List ℕ)) → is_core_mode_known objects mode ≡ true → limits.is_core_mode plan (core_mode objects mode) ≡ true
   core-mode-kept None known = some
@@ -512,22 +526,23 @@ master-found objects cores number h =
 
 -- ---- the whole
 
-pub faultless : (t : ConfigText) → failing (tests_of t) ≡ [] → (is_text_within t ≡ true) × (is_each_once t ≡ true) × (are_known t ≡ true) × (are_near t ≡ true) × (are_masks t ≡ true) × (are_timed t ≡ true) × (are_operations t ≡ true)
-faultless t none = all-pass (is_text_within t) (is_each_once t) (are_known t) (are_near t) (are_masks t) (are_timed t) (are_operations t) none
+pub faultless : (t : ConfigText) → failing (tests_of t) ≡ [] → (is_text_within t ≡ true) × (is_each_once t ≡ true) × (are_known t ≡ true) × (are_near t ≡ true) × (are_ordered t ≡ true) × (are_masks t ≡ true) × (are_timed t ≡ true) × (are_operations t ≡ true)
+faultless t none = all-pass (is_text_within t) (is_each_once t) (are_known t) (are_near t) (are_ordered t) (are_masks t) (are_timed t) (are_operations t) none
   where
-    all-pass : (a b c d e f g : Bool) → failing ((Limit, a) ∷ (DuplicateName, b) ∷ (UnknownName, c) ∷ (WrongCore, d) ∷ (BadMask, e) ∷ (BadTable, f) ∷ (BadScript, g) ∷ []) ≡ []
-        → (a ≡ true) × (b ≡ true) × (c ≡ true) × (d ≡ true) × (e ≡ true) × (f ≡ true) × (g ≡ true)
-    all-pass true true true true true true true none = (refl, refl, refl, refl, refl, refl, refl)
-    all-pass a b c d e f g none = cc
+    all-pass : (a b c d e f g h : Bool) → failing ((Limit, a) ∷ (DuplicateName, b) ∷ (UnknownName, c) ∷ (WrongCore, d) ∷ (SpinOrder, e) ∷ (BadMask, f) ∷ (BadTable, g) ∷ (BadScript, h) ∷ []) ≡ []
+        → (a ≡ true) × (b ≡ true) × (c ≡ true) × (d ≡ true) × (e ≡ true) × (f ≡ true) × (g ≡ true) × (h ≡ true)
+    all-pass true true true true true true true true none = (refl, refl, refl, refl, refl, refl, refl, refl)
+    all-pass a b c d e f g h none = cc
 
 -- ---- the names of a text are those of its plan
 
 kind-named : (objects : List Declaration) (core : CoreText) (kind : ObjectKind) → names_in kind (core_plan objects core) ≡ map (λ (named : Named). named.name) (objects_in kind core)
 kind-named objects core ObjectKind.Mode = refl
+kind-named objects core ObjectKind.Spinlock = refl
 kind-named objects core kind = simp map-map
 
 names-kept : (t : ConfigText) → said.declared_names (plan_of t) ≡ names_of (declarations t)
-names-kept t = names-of-text (plan_of t) t refl (flat_map-map said.object_names (core_plan (declarations t)) t.cores ∙ sym (names-of-all (core_plan (declarations t)) (λ core. core) (kind-named (declarations t)) t.cores))
+names-kept t = names-of-text (plan_of t) t (common-named (plan_of t) t refl (map-map (λ (spinlock : Spinlock). spinlock.name) (spinlock_plan (declarations t)) t.spinlocks)) (flat_map-map said.object_names (core_plan (declarations t)) t.cores ∙ sym (names-of-all (core_plan (declarations t)) (λ core. core) (kind-named (declarations t)) t.cores))
 
 -- ---- the plan
 
@@ -537,9 +552,11 @@ plan-kept t named none =
     let passed = faultless t none in
     let objects = declarations t in
     let known = and_parts (has_number (numbers_of t.cores) t.master) _ passed.2 in
-    let tested : Tested t = record { within = (and_parts (is_between 1 1 t.version) (is_within (sizes_of t)) passed.0).1; once = passed.1; timed = passed.5; right = and_from _ _ (and_from _ _ known.1 passed.4) passed.6 } in
+    let names_known = and_parts (list_all (is_spinlock_known objects) t.spinlocks) (list_all (is_core_known objects) t.cores) known.1 in
+    let tested : Tested t = record { within = (and_parts (is_between 1 1 t.version) (is_within (sizes_of t)) passed.0).1; once = passed.1; timed = passed.6; right = and_from _ _ (and_from _ _ names_known.1 passed.5) passed.7 } in
     let places = place-known t (distinct t tested) (by-nobody t tested) in
-    let names = and_parts (list_all is_name t.modes) (list_all has_named_objects t.cores) named in
+    let names = and_parts (has_named_common t) (list_all has_named_objects t.cores) named in
+    let common = every-common (λ (kind : ObjectKind). list_all (λ (named : Named). is_name named.name) (common_in kind t)) names.0 in
     let once = three-parts (are_numbers_distinct (numbers_of t.cores)) (are_distinct (names_of objects)) (list_all is_unreserved t.modes) tested.once in
     let some : nat_lt 0 (length t.modes) ≡ true = some-modes (sizes_of t) tested.within in
     let right = all-both has_named_objects (λ (core : CoreText). is_right (core_verdict objects core)) t.cores names.1 (of-each (core_verdict objects) t.cores tested.right) in
@@ -548,6 +565,11 @@ plan-kept t named none =
     let parts = and_parts (list_all (limits.is_core_known (plan_of t)) (plan_of t).cores) (list_all said.is_core_expressible (plan_of t).cores) cores in
     let sizes = ap is_within (plan-numbers t tested) ∙ tested.within in
     let master = master-found objects t.cores t.master known.0 in
-    let near = near_kept objects t.cores passed.6 ∙ passed.3 in
-    let modes = all-both is_name is_unreserved t.modes names.0 once.2 in
-    (and_from _ _ (and_from _ _ (and_from _ _ (and_from _ _ (and_from _ _ sizes (distinct t tested)) master) parts.0) near) (plan-timed t tested), and_from _ _ (and_from _ _ modes parts.1) (ap are_distinct (names-kept t) ∙ once.1))
+    let near = near_kept objects t.cores passed.7 ∙ passed.3 in
+    let modes = all-both is_name is_unreserved t.modes (sym (list_all-map (λ (named : Named). is_name named.name) unnumbered t.modes) ∙ common ObjectKind.Mode refl) once.2 in
+    let spinlocks = list_all-map said.is_spinlock_expressible (spinlock_plan objects) t.spinlocks ∙ sym (list_all-map (λ (named : Named). is_name named.name) (λ (spinlock : SpinlockText). unnumbered spinlock.name) t.spinlocks) ∙ common ObjectKind.Spinlock refl in
+    let linked = list_all-by (is_spinlock_known objects) (limits.is_spinlock_known (plan_of t)) (spinlock_plan objects) (spinlock-kept t places some) t.spinlocks names_known.0 in
+    let ordered = ap are_links_ordered (map-map (λ (spinlock : Spinlock). spinlock.next) (spinlock_plan objects) t.spinlocks) ∙ passed.4 in (
+      and_from _ _ (and_from _ _ (and_from _ _ (and_from _ _ (and_from _ _ (and_from _ _ (and_from _ _ sizes (distinct t tested)) master) parts.0) near) (plan-timed t tested)) linked) ordered,
+      and_from _ _ (and_from _ _ (and_from _ _ modes spinlocks) parts.1) (ap are_distinct (names-kept t) ∙ once.1),
+    )

@@ -2,7 +2,7 @@
 use Rattle.std.specs.Prelude.{ℕ, if◌then◌else◌, Option, Some, None, option_and_then, option_map, List, [], ◌∷◌, map}
 use Rattle.std.specs.Option.{option_map_or}
 use Rattle.std.specs.Str.{bytes_eq}
-use Rattle.oscheck.specs.Words.{Alarm, AlarmStart, AlarmStartText, AlarmText, ConfigText, Core, CoreId, CoreMode, CoreText, Counter, CounterText, Declaration, ExpiryPoint, Isr, IsrText, Plan, PointText, Resource, ResourceText, Table, TableStart, TableStartText, TableText, Task, TaskText}
+use Rattle.oscheck.specs.Words.{Alarm, AlarmStart, AlarmStartText, AlarmText, ConfigText, Core, CoreId, CoreMode, CoreText, Counter, CounterText, Declaration, ExpiryPoint, Isr, IsrText, Plan, PointText, Resource, ResourceText, Spinlock, SpinlockText, Table, TableStart, TableStartText, TableText, Task, TaskText}
 use Rattle.osbase.specs.declared.items.CoreMode.TheVariants.{DontCare, Named}
 use Rattle.serde_json.specs.Data.{Data}
 use Rattle.serde_json.specs.Read.{read}
@@ -14,12 +14,15 @@ use Rattle.osshape.specs.Shape.{config_shape}
 use Rattle.oscheck.specs.Action.{action_of}
 use Rattle.osshape.specs.Declarations.{byte_of, counter_ref, declarations, mode_ref, number_id, id_of, word_of}
 use Rattle.oscheck.specs.Operation.{operations_of, op_of}
-use Rattle.oscheck.specs.Check.{tests_of}
+use Rattle.oscheck.specs.Check.{successor, tests_of}
 
 -- The mode of a core: the first where it says nothing of it, and none where it goes with any. [AUTOSAR SWS OS 4.x, DONOTCARE; the first is own]
 abbrev pub core_mode : List Declaration → Option (List ℕ) → CoreMode
 core_mode objects None = Named (record { index = 0 })
 core_mode objects (Some name) = if bytes_eq name dont_care then DontCare else Named (mode_ref objects name)
+
+abbrev pub spinlock_plan : List Declaration → SpinlockText → Spinlock
+spinlock_plan objects spinlock = record { name = spinlock.name; next = successor objects spinlock }
 
 abbrev pub task_plan : List Declaration → TaskText → Task
 task_plan objects task = record {
@@ -95,6 +98,7 @@ plan_of t = record {
   cap = byte_of t.cap;
   master = number_id t.master;
   modes = t.modes;
+  spinlocks = map (spinlock_plan (declarations t)) t.spinlocks;
   cores = map (core_plan (declarations t)) t.cores;
 }
 

@@ -53,7 +53,7 @@ fn plan_if_faultless(alloc: Global, text: &ConfigText) -> Result<Plan, ConfFault
         return Err(ConfFault::Limit);
     }
     let Judged { value, verdict } = plan_of(alloc, text, &objects)?;
-    match fault_of(text, &objects, verdict) {
+    match fault_of(text, &objects, verdict, value.spinlocks.as_slice()) {
         Some(fault) => Err(fault),
         None => Ok(value),
     }

@@ -2,21 +2,23 @@
 
 ghost use Rattle.std.specs.Prelude.{◌≡◌, IfOk, map, option_map, true};
 ghost use Rattle.osshape.specs.Declarations.{declarations, mode_ref, number_id};
-ghost use Rattle.oscheck.specs.Check.{are_scripts_short, is_core_short, is_script_short};
-ghost use Rattle.oscheck.specs.Verdict.{Judges, alarm_verdict, all_right, core_verdict, isr_verdict, task_verdict, text_verdict};
-ghost use Rattle.osdraft.specs.Meaning.{core_mode, task_plan, isr_plan, resource_plan, counter_plan, start_plan, alarm_plan, core_plan, plan_of};
+ghost use Rattle.oscheck.specs.Check.{are_scripts_short, is_core_short, is_script_short, successor};
+ghost use Rattle.oscheck.specs.Verdict.{Judges, alarm_verdict, all_right, core_verdict, isr_verdict, spinlock_verdict, task_verdict, text_verdict};
+ghost use Rattle.osdraft.specs.Meaning.{core_mode, spinlock_plan, task_plan, isr_plan, resource_plan, counter_plan, start_plan, alarm_plan, core_plan, plan_of};
 
 use crate::planners::{Planner, plan_each};
-use osbase::{CoreId, CoreMode, List, ModeId, Name};
+use osbase::{CoreId, CoreMode, List, ModeId, Name, SpinlockId};
 use oscheck::{
-    Judged, Verdict, are_alarm_modes_known, are_modes_known, is_core_mode_known, judge_action,
-    judge_counter, judge_isr_script, judge_script,
+    Judged, Verdict, are_alarm_modes_known, are_modes_known, is_core_mode_known, is_spinlock_known,
+    judge_action, judge_counter, judge_isr_script, judge_script,
 };
-use osplan::{Alarm, AlarmStart, ConfFault, Core, Counter, DONT_CARE, Isr, Plan, Resource, Task};
+use osplan::{
+    Alarm, AlarmStart, ConfFault, Core, Counter, DONT_CARE, Isr, Plan, Resource, Spinlock, Task,
+};
 use osread::{Text, Whole};
 use osshape::{
     AlarmStartText, AlarmText, ConfigText, CoreText, CounterText, IsrText, Objects, ResourceText,
-    TaskText, byte_of, number_id, word_of,
+    SpinlockText, TaskText, byte_of, number_id, word_of,
 };
 use std::alloc::{AllocError, Global};
 
@@ -225,10 +227,42 @@ fn ids_of(alloc: Global, numbers: &[Whole]) -> Result<Vec<CoreId>, AllocError>
         .collect(alloc)
 }
 
-// Makes the plans of the cores of a text.
+// The spinlock that comes next to one.
+fn successor(objects: &Objects, spinlock: &SpinlockText) -> Option<SpinlockId>
+    ensures { result ≡ successor objects.now.declared spinlock.now }
+{
+    match &spinlock.next {
+        Some(next) => objects.spinlock(next.as_str()),
+        None => None,
+    }
+}
+
+// Makes the plans of the spinlocks and the cores of a text.
 #[derive(Clone, Copy)]
 struct TextPlanner<'o, 'e> {
     objects: &'o Objects<'e>,
+}
+
+impl<'e> Planner<'e, SpinlockText<'e>, Spinlock> for TextPlanner<'_, 'e> {
+    ghost made = { λ planner. spinlock_plan planner.objects.now.declared };
+
+    ghost right = { λ planner. spinlock_verdict planner.objects.now.declared };
+
+    ghost is_short = { λ _ _. true };
+
+    fn plan(
+        &self,
+        alloc: Global,
+        spinlock: &'e SpinlockText<'e>,
+    ) -> Result<Judged<Spinlock>, ConfFault> {
+        Ok(Judged {
+            value: Spinlock {
+                name: Name::new(alloc, spinlock.name.as_str())?,
+                next: successor(self.objects, spinlock),
+            },
+            verdict: Verdict::all_right().with_names(is_spinlock_known(self.objects, spinlock)),
+        })
+    }
 }
 
 impl<'e> Planner<'e, CoreText<'e>, Core> for TextPlanner<'_, 'e> {
@@ -276,6 +310,7 @@ impl<'e> Planner<'e, CoreText<'e>, Core> for TextPlanner<'_, 'e> {
 
 /// The plan that a text means, if it has no fault, and what is right of its names, masks and operations. `Limit` where a
 /// script has too many operations.
+#[tactic(auto, using(crate::proofs::Loops::always))]
 pub fn plan_of<'e>(
     alloc: Global,
     text: &'e ConfigText<'e>,
@@ -284,14 +319,17 @@ pub fn plan_of<'e>(
     requires objects { objects.now.declared ≡ declarations text.now }
     ensures { Judges result (are_scripts_short text.now) (plan_of text.now) (text_verdict text.now) }
 {
-    let cores = plan_each(alloc, &TextPlanner { objects }, text.cores.as_slice())?;
+    let planner = TextPlanner { objects };
+    let spinlocks = plan_each(alloc, &planner, text.spinlocks.as_slice())?;
+    let cores = plan_each(alloc, &planner, text.cores.as_slice())?;
     Ok(Judged {
         value: Plan {
             cap: byte_of(text.cap),
             master: number_id(text.master),
             modes: names_of(alloc, text.modes.as_slice())?,
+            spinlocks: spinlocks.value,
             cores: cores.value,
         },
-        verdict: cores.verdict,
+        verdict: cores.verdict.with_names(spinlocks.verdict.known),
     })
 }

@@ -23,6 +23,7 @@ use Rattle.oscript.specs.declared.rows.Verb.{Verb}
 use Rattle.oscript.specs.Calls.{named_call, op_of_call}
 use Rattle.oscript.specs.Rows.{are_of, form_of_op, has_event, has_masks, is_in_form, kinds_of, objects_in, objects_of, op_of, word_of}
 use Rattle.oscript.proofs.Acting.{call-back as table-back, call-objects}
+use Rattle.oscript.proofs.Homes.{args-home}
 use Rattle.osforms.specs.Call.{call_words, form_words}
 use Rattle.osforms.specs.Form.{arg_of, arg_text, args_of, form_of_verb, form_of_words, verb_of, words_of}
 use Rattle.osforms.specs.Operation.{named, op_text, resolve_arg, resolve_args, resolved}
@@ -33,6 +34,7 @@ use Rattle.osforms.proofs.KindTexts.{cond-some, either, is_kind, mapped}
 use Rattle.osforms.proofs.Operations.{IsNamed, text-meant, text-none}
 use Rattle.osforms.proofs.RoundTrip.{both, chained}
 use Rattle.osforms.proofs.Rows.{is-row}
+use Rattle.osplan.proofs.SpinlockObjects.{stays}
 use Rattle.osplan.proofs.Tests.{find-holds}
 use Rattle.osplan.specs.Expressible.{is_expressible}
 use Rattle.osplan.specs.Limits.{is_object, is_within_limits}
@@ -203,7 +205,7 @@ module _ (plan : Plan) (limits : IsTrue (is_within_limits plan)) (expressible : 
       let fit : are_of (kinds_of c.0.0) r.0 ≡ true = args-fit (place_named plan) (kinds_of c.0.0) f.0 c.0.1 r.0 f.1 r.1 in
       let back : op ≡ op_of (c.0.0, r.0) = sym m.2 ∙ ap op_of (sym r.2) in
       let verb : (form_of_op op).0 ≡ c.0.0 = ap (λ (o : Op). (form_of_op o).0) back ∙ (is-row c.0.0).3 r.0 in
-      let args : (form_of_op op).1 ≡ r.0 = ap (λ (o : Op). (form_of_op o).1) back ∙ (is-row c.0.0).4 r.0 fit in
+      let args : (form_of_op op).1 ≡ r.0 = ap (λ (o : Op). (form_of_op o).1) back ∙ (is-row c.0.0).4 r.0 fit ∙ args-home (is_object plan) (stays plan) r.0 (args-there c.0.1 r.0 r.1) in
       record {
         words_are =
             ap (λ (v : Verb). form_words (name_of plan) (v, (form_of_op op).1)) verb

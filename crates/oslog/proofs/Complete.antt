@@ -1,9 +1,9 @@
 -- The line of a representable item says the item. It has no line end, and is not empty.
-use Rattle.std.proofs.Common.{◌≡◌, ℕ, ◌<◌, ◌≤◌, ◌^◌, ◌==◌, ◌&&◌, ℤ, true, not, nat_le, Some, None, option_map, List, [], ◌∷◌, length, map, IsTrue, refl, ap, ◌∙◌, ◌⊎◌, inl, inr, arith}
+use Rattle.std.proofs.Common.{◌≡◌, ℕ, ◌<◌, ◌≤◌, ◌^◌, ◌==◌, ◌&&◌, ℤ, true, false, not, nat_le, Some, None, option_map, List, [], ◌∷◌, length, map, IsTrue, refl, ap, ◌∙◌, ◌⊎◌, inl, inr, arith}
 use Rattle.std.specs.Fmt.{decimal, signed_decimal}
 use Rattle.std.specs.List.{join_with_byte, list_all}
 use Rattle.std.proofs.lemmas.List.Folds.{list_all-append}
-use Rattle.std.proofs.lemmas.Bool.{and_from, and_parts, eqb-true, false≢true, leb-true}
+use Rattle.std.proofs.lemmas.Bool.{and_from, and_parts, eqb-true, leb-true}
 use Rattle.osbase.specs.Names.{is_name, is_name_part}
 use Rattle.osbase.specs.Objects.{isr_object, isr_of}
 use Rattle.osbase.specs.Words.{status_name}
@@ -26,7 +26,7 @@ use Rattle.osforms.proofs.RoundTrip.{space-apart}
 use Rattle.osplan.proofs.Tests.{all-append}
 use Rattle.osplan.specs.Expressible.{is_expressible}
 use Rattle.osplan.specs.Limits.{is_within_limits}
-use Rattle.osplan.specs.Names.{isr_name, name_of_mode}
+use Rattle.osplan.specs.Names.{isr_name, name_of_mode, spinlock_name}
 use Rattle.osplan.specs.declared.plans.Plan.{Plan}
 use Rattle.oslog.specs.Forms.{form_of}
 use Rattle.oslog.specs.Items.{first_item, item_as, item_meant, later_words, led, line_of}
@@ -45,7 +45,7 @@ use Rattle.oslog.specs.declared.rows.TheConstants.{LINES}
 use Rattle.oslog.proofs.Calls.{call-read}
 use Rattle.oslog.proofs.Cores.{cores-none, cores-read}
 use Rattle.oslog.proofs.Joining.{end-apart, led-joined}
-use Rattle.oslog.proofs.Named.{mode-found, object-formed, place-found}
+use Rattle.oslog.proofs.Named.{mode-found, object-formed, place-found, spinlock-formed, spinlock-found}
 use Rattle.osplan.proofs.ModeObjects.{mode-said}
 use Rattle.oslog.proofs.Sound.{is_tail_representable}
 use Rattle.oslog.proofs.WordKinds.{is_part_representable}
@@ -102,7 +102,7 @@ module _ (plan : Plan) (limits : IsTrue (is_within_limits plan)) (expressible : 
       let name = isr_name plan q.isr in
       let formed : is_name name ≡ true = object-formed plan limits expressible (isr_object q.isr) representable in
       list_all-append (λ b. not (b == byte)) irq_prefix name ∙ and_from _ _ (prefix-none byte which) (name-none byte apart name formed)
-  part-none byte apart which K.Spinlock q representable = absurd (false≢true representable)
+  part-none byte apart which K.Spinlock q representable = name-none byte apart (spinlock_name plan q.spinlock) (spinlock-formed plan limits expressible q.spinlock representable)
 
   parts-none : (byte : ℕ) → IsApart byte → (byte ≡ 32) ⊎ (byte ≡ 10) → (ks : List Kind) (q : Parts) → list_all (is_part_representable plan q) ks ≡ true → list_all (has_none byte) (map (word_text plan q) ks) ≡ true
   parts-none byte apart which [] q representable = refl
@@ -120,7 +120,7 @@ module _ (plan : Plan) (limits : IsTrue (is_within_limits plan)) (expressible : 
   item-parts (Item.Stim Stimulus.Op) representable = (refl, refl)
   item-parts (Item.Received from number (Message.Request call)) representable = (grind arith, grind arith)
   item-parts (Item.Received from number message) representable = (grind arith, grind arith)
-  item-parts (Item.Tried spinlock true) representable = absurd (false≢true representable)
+  item-parts (Item.Tried spinlock true) representable = (grind arith, refl)
   item-parts (Item.Last None) representable = (refl, refl)
   item-parts item representable = (grind arith, grind arith)
 
@@ -169,9 +169,10 @@ module _ (plan : Plan) (limits : IsTrue (is_within_limits plan)) (expressible : 
       by (Message.Action call) representable core count = rw (core, count, (call-read plan limits expressible call representable).read) refl
       by (Message.Reply status) representable core count = rw (core, count, status-read status) refl
       by (Message.Value status value) representable core count = rw (core, count, status-read status, int-read value representable) refl
-  words-read (Item.Granted spinlock) representable = absurd (false≢true representable)
-  words-read (Item.Tried spinlock taken) representable = absurd (false≢true representable)
-  words-read (Item.Freed spinlock) representable = absurd (false≢true representable)
+  words-read (Item.Granted spinlock) representable = rw (spinlock-found plan limits expressible spinlock representable) refl
+  words-read (Item.Tried spinlock true) representable = rw (spinlock-found plan limits expressible spinlock representable) refl
+  words-read (Item.Tried spinlock false) representable = rw (spinlock-found plan limits expressible spinlock representable) refl
+  words-read (Item.Freed spinlock) representable = rw (spinlock-found plan limits expressible spinlock representable) refl
   words-read (Item.Halt core status) representable = rw (core-read core representable, status-read status) refl
   words-read Item.Drained representable = refl
   words-read Item.PassEnd representable = refl

@@ -3,53 +3,40 @@ use Rattle.std.proofs.Common.{◌≡◌, ℕ, zero, suc, ◌+◌, ◌<◌, ◌�
 use Rattle.std.specs.List.{AllByRecursion, find, flat_map, list_all, list_any}
 use Rattle.std.specs.Option.{option_map_or}
 use Rattle.std.specs.Str.{bytes_eq}
-use Rattle.std.proofs.lemmas.Bool.{and_from, and_parts, cases_Bool, lt-ltb, ltb-true, not-true, or_cases, or_left, or_parts, or_right, true≢false}
+use Rattle.std.proofs.lemmas.Bool.{and_from, and_parts, cases_Bool, lt-ltb, ltb-true, not-true, or_cases, or_left, or_right, true≢false}
 use Rattle.std.proofs.lemmas.List.{length-map, map-append}
 use Rattle.std.proofs.lemmas.List.Folds.{list_all-map}
 use Rattle.std.proofs.lemmas.Option.{slice_get-get_or}
 use Rattle.std.proofs.lemmas.Simd.{map-map}
 use Rattle.std.proofs.lemmas.Slice.Eq.{bytes_eq-Decides}
 use Rattle.osbase.proofs.Places.{passes-at}
-use Rattle.osbase.proofs.Same.{same_core-comm, same_core-refl, same_core-true, same_kind-self, same_kind-true}
+use Rattle.osbase.proofs.Same.{same_core-true, same_kind-self, same_kind-true}
 use Rattle.osbase.specs.History.{same_core}
 use Rattle.osbase.specs.Names.{is_name}
-use Rattle.osbase.specs.Objects.{mode_object, mode_of, place_on, same_kind}
+use Rattle.osbase.specs.Objects.{mode_object, mode_of, place_on, same_kind, spinlock_object, spinlock_of}
 use Rattle.osbase.specs.declared.objects.TheConstants.{NOBODY}
 use Rattle.osbase.specs.Sets.{numbers_from}
 use Rattle.osbase.specs.declared.objects.Object.{Object}
 use Rattle.osbase.specs.declared.objects.ObjectKind.{ObjectKind}
 use Rattle.osbase.specs.declared.references.CoreId.{CoreId}
 use Rattle.osbase.specs.declared.references.ModeId.{ModeId}
+use Rattle.osbase.specs.declared.references.SpinlockId.{SpinlockId}
 use Rattle.osforms.proofs.RoundTrip.{chained}
+use Rattle.osplan.proofs.Found.{IsFound, each-found}
 use Rattle.osplan.proofs.ModeObjects.{mode-named, nobody, there-mode}
+use Rattle.osplan.proofs.SpinlockObjects.{there-spinlock}
 use Rattle.osplan.proofs.Tests.{all-append, all-flat, all-weaker, any-mapped, find-holds, find-passes}
-use Rattle.osplan.proofs.Within.{core-text-parts, few-modes, few-objects, fits, limit-parts, names-formed, text-parts}
+use Rattle.osplan.proofs.Within.{core-text-parts, few-modes, few-objects, few-spinlocks, fits, limit-parts, names-formed, text-parts}
 use Rattle.osplan.specs.Expressible.{all_common_names, are_distinct, declared_names, is_core_expressible, is_expressible, is_mode_expressible, object_names}
-use Rattle.osplan.specs.Limits.{are_numbers_distinct, core_sizes, has_number, is_core_within, is_mode, is_object, is_within_limits, number_of, numbers_of, sizes_of}
-use Rattle.osplan.specs.Names.{common_name, name_in, name_of, name_of_mode}
+use Rattle.osplan.specs.Limits.{core_sizes, is_core_within, is_mode, is_object, is_spinlock, is_within_limits, sizes_of}
+use Rattle.osplan.specs.Names.{common_name, name_in, name_of, name_of_mode, spinlock_name}
 use Rattle.osplan.specs.Objects.{common_names, is_common, names_in, object_count}
 use Rattle.osplan.specs.View.{core_of}
 use Rattle.osplan.specs.declared.plans.Core.{Core}
 use Rattle.osplan.specs.declared.plans.Plan.{Plan}
+use Rattle.osplan.specs.declared.plans.Spinlock.{Spinlock}
 use Rattle.osplan.specs.declared.plans.TheConstants.{COMMON, KINDS}
-use Rattle.oslog.specs.Naming.{HasFew, HasFewCommon, all_named, common_in, if_object, mode_named, name_of_object, named_by, named_in, object_under, objects_in, objects_under, place_named}
-
--- ---- each core is found by its number
-
-abbrev pub IsFound : List Core → Core → Type 0
-IsFound cores core = find (λ (c : Core). same_core c.id core.id) cores ≡ Some core
-
-behind : (first : Core) (all cores : List Core) → has_number (numbers_of cores) (number_of first.id) ≡ false → AllByRecursion (IsFound all) cores → AllByRecursion (IsFound (first ∷ all)) cores
-behind first all [] apart found = tt
-behind first all (core ∷ cores) apart found =
-    let other = or_parts (same_core core.id first.id) _ apart in
-    (rw (same_core-comm first.id core.id ∙ other.0) found.0, behind first all cores other.1 found.1)
-
-each-found : (cores : List Core) → are_numbers_distinct (numbers_of cores) ≡ true → AllByRecursion (IsFound cores) cores
-each-found [] distinct = tt
-each-found (core ∷ cores) distinct =
-    let apart = and_parts (not (has_number (numbers_of cores) (number_of core.id))) _ distinct in
-    (rw (same_core-refl core.id) refl, behind core cores cores (not-true _ apart.0) (each-found cores apart.1))
+use Rattle.oslog.specs.Naming.{HasFew, HasFewCommon, all_named, common_in, if_object, mode_named, name_of_object, named_by, named_in, object_under, objects_in, objects_under, place_named, spinlock_named}
 
 -- ---- lists by their places
 
@@ -136,6 +123,7 @@ stands-core (c ∷ cores) id core n found among = by (same_core c.id id) found (
 -- as many names as objects
 as-many : (core : Core) (kind : ObjectKind) → length (names_in kind core) ≡ object_count kind core
 as-many core ObjectKind.Mode = refl
+as-many core ObjectKind.Spinlock = refl
 as-many core kind = simp length-map
 
 module _ (plan : Plan) where
@@ -191,6 +179,10 @@ few plan limits i core within is =
 
 pub few-common : (plan : Plan) → IsTrue (is_within_limits plan) → HasFewCommon plan
 few-common plan limits ObjectKind.Mode = let few = few-modes (sizes_of plan) (limit-parts plan limits).sizes in omega (arith, few)
+few-common plan limits ObjectKind.Spinlock =
+    let few = few-spinlocks (sizes_of plan) (limit-parts plan limits).sizes in
+    let many = length-map plan.spinlocks (λ (spinlock : Spinlock). spinlock.name) in
+    omega (arith, few, many)
 few-common plan limits kind = omega arith
 
 -- ---- all that has a name
@@ -215,6 +207,7 @@ module _ (plan : Plan) (limits : IsTrue (is_within_limits plan)) (said : IsTrue 
     where
       common : (kind : ObjectKind) → list_all is_name (common_names kind plan) ≡ true
       common ObjectKind.Mode = all-weaker is_mode_expressible is_name (λ name h. (and_parts (is_name name) _ h).0) plan.modes (text-parts plan said).modes
+      common ObjectKind.Spinlock = list_all-map is_name (λ (spinlock : Spinlock). spinlock.name) plan.spinlocks ∙ (text-parts plan said).spinlocks
       common kind = refl
 
       by : (cores : List Core) → list_all is_core_expressible cores ≡ true → list_all (λ (core : Core). list_all is_name (object_names core)) cores ≡ true
@@ -248,11 +241,13 @@ module _ (plan : Plan) (limits : IsTrue (is_within_limits plan)) (said : IsTrue 
   -- an object of a core, which is of a kind that cores have,
   core-stands : (core : Core) (kind : ObjectKind) (i : ℕ) → i < object_count kind core → Stands (named_in core) (object_under core.id kind i)
   core-stands core ObjectKind.Mode i lt = absurd (omega (arith, lt))
+  core-stands core ObjectKind.Spinlock i lt = absurd (omega (arith, lt))
   core-stands core kind i lt = stands-kind (objects_in core) KINDS kind _ refl (stands-under core.id kind (object_count kind core) i lt)
 
   -- and one that all have in common.
   common-stands : (kind : ObjectKind) (i : ℕ) → i < length (common_names kind plan) → Stands (flat_map (common_in plan) COMMON) (object_under NOBODY kind i)
   common-stands ObjectKind.Mode i lt = stands-kind (common_in plan) COMMON ObjectKind.Mode _ refl (stands-under NOBODY ObjectKind.Mode (length plan.modes) i lt)
+  common-stands ObjectKind.Spinlock i lt = stands-kind (common_in plan) COMMON ObjectKind.Spinlock _ refl (stands-under NOBODY ObjectKind.Spinlock (length (common_names ObjectKind.Spinlock plan)) i lt)
   common-stands kind i lt = absurd (omega (arith, lt))
 
   object-stands : (object : Object) → is_object plan object ≡ true → Stands (all_named plan) object
@@ -281,6 +276,12 @@ module _ (plan : Plan) (limits : IsTrue (is_within_limits plan)) (said : IsTrue 
       let c = chained (if_object object.kind) (named_by plan name) object.place (place-found object is) in
       named-formed name c.0 c.1
 
-  -- So it is with a mode.
+  -- So it is with a spinlock, and with a mode.
+  pub spinlock-found : (spinlock : SpinlockId) → is_spinlock plan spinlock ≡ true → spinlock_named plan (spinlock_name plan spinlock) ≡ Some spinlock
+  spinlock-found spinlock is = ap (option_map spinlock_of) (place-found (spinlock_object spinlock) (there-spinlock plan alone spinlock is))
+
+  pub spinlock-formed : (spinlock : SpinlockId) → is_spinlock plan spinlock ≡ true → is_name (spinlock_name plan spinlock) ≡ true
+  spinlock-formed spinlock is = object-formed (spinlock_object spinlock) (there-spinlock plan alone spinlock is)
+
   pub mode-found : (mode : ModeId) → is_mode plan mode ≡ true → mode_named plan (name_of_mode plan mode) ≡ Some mode
   mode-found mode is = ap (mode_named plan) (sym (mode-named plan alone mode)) ∙ ap (option_map mode_of) (place-found (mode_object mode) (there-mode plan alone mode is))

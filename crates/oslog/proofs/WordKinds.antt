@@ -7,7 +7,7 @@ use Rattle.std.proofs.lemmas.Bool.{and_parts, eqb-true, le-leb}
 use Rattle.std.proofs.lemmas.Fmt.{decimal-digits_value}
 use Rattle.std.proofs.lemmas.Slice.Eq.{bytes_eq-Decides}
 use Rattle.osbase.proofs.Same.{same_kind-true}
-use Rattle.osbase.specs.Objects.{isr_object, isr_of, mode_of, mode_place, place_on}
+use Rattle.osbase.specs.Objects.{isr_object, isr_of, mode_of, mode_place, place_on, spinlock_of, spinlock_place}
 use Rattle.osbase.specs.declared.objects.Object.{Object}
 use Rattle.osbase.specs.Words.{status_name}
 use Rattle.osbase.specs.declared.objects.ObjectKind.{ObjectKind}
@@ -15,6 +15,7 @@ use Rattle.osbase.specs.declared.objects.Place.{Place}
 use Rattle.osbase.specs.declared.references.CoreId.{CoreId}
 use Rattle.osbase.specs.declared.references.IsrRef.{IsrRef}
 use Rattle.osbase.specs.declared.references.ModeId.{ModeId}
+use Rattle.osbase.specs.declared.references.SpinlockId.{SpinlockId}
 use Rattle.osbase.specs.declared.statuses.Status.{Status}
 use Rattle.oscript.specs.Rows.{is_int}
 use Rattle.osforms.specs.Word.{bounded, int_of, is_decimal, is_unpadded, number_in}
@@ -23,14 +24,15 @@ use Rattle.osforms.proofs.Numerals.{decimal-digits, decimal-some, own}
 use Rattle.osforms.proofs.RoundTrip.{chained}
 use Rattle.osplan.proofs.Tests.{find-holds}
 use Rattle.osplan.specs.Expressible.{is_expressible}
-use Rattle.osplan.specs.Limits.{is_mode, is_object, is_within_limits}
-use Rattle.osplan.specs.Names.{isr_name, name_of, name_of_mode}
+use Rattle.osplan.specs.Limits.{is_mode, is_object, is_spinlock, is_within_limits}
+use Rattle.osplan.specs.Names.{isr_name, name_of, name_of_mode, spinlock_name}
 use Rattle.osplan.specs.declared.plans.Plan.{Plan}
-use Rattle.oslog.specs.Naming.{all_named, if_object, isr_named, mode_named, name_of_object, named_by, place_named}
+use Rattle.oslog.specs.Naming.{all_named, if_object, isr_named, mode_named, name_of_object, named_by, place_named, spinlock_named}
 use Rattle.oslog.specs.Rows.{keyword_text}
 use Rattle.oslog.specs.Words.{behind, core_of, irq_of, irq_prefix, status_of, with_word, word_text}
 use Rattle.oslog.specs.declared.forms.Parts.{Parts}
 use Rattle.osplan.proofs.ModeObjects.{mode-named, mode-there, nobody}
+use Rattle.osplan.proofs.SpinlockObjects.{spinlock-there}
 use Rattle.osplan.proofs.Within.{limit-parts}
 use Rattle.oslog.specs.declared.rows.Kind.{Kind}
 use Rattle.oslog.specs.declared.rows.Kind.TheVariants as K
@@ -126,7 +128,7 @@ is_part_representable plan q K.Status = true
 is_part_representable plan q K.Value = is_int q.value
 is_part_representable plan q K.Mode = is_mode plan q.mode
 is_part_representable plan q K.Irq = is_object plan (isr_object q.isr)
-is_part_representable plan q K.Spinlock = false
+is_part_representable plan q K.Spinlock = is_spinlock plan q.spinlock
 
 -- Its text, and whether it is representable.
 abbrev pub part_view : Plan → Parts → Kind → List ℕ × Bool
@@ -150,6 +152,13 @@ module _ (plan : Plan) (limits : IsTrue (is_within_limits plan)) (expressible : 
         sym (mode-named plan (nobody plan (limit-parts plan limits).cores) m) ∙ ap (name_of plan ObjectKind.Mode) stands ∙ place-spells ObjectKind.Mode w p.0 p.1,
         ap (is_mode plan) (sym p.2) ∙ there.1,
       )
+
+  spinlock-back : (w : List ℕ) (l : SpinlockId) → spinlock_named plan w ≡ Some l → (spinlock_name plan l ≡ w) × (is_spinlock plan l ≡ true)
+  spinlock-back w l e =
+      let p = mapped spinlock_of (place_named plan ObjectKind.Spinlock w) l e in
+      let there = spinlock-there plan p.0 (place-there ObjectKind.Spinlock w p.0 p.1) in
+      let stands : spinlock_place l ≡ p.0 = ap spinlock_place (sym p.2) ∙ ap (λ (id : CoreId). place_on id p.0.index) (sym there.0) in
+      (ap (name_of plan ObjectKind.Spinlock) stands ∙ place-spells ObjectKind.Spinlock w p.0 p.1, ap (is_spinlock plan) (sym p.2) ∙ there.1)
 
   irq-back : (w : List ℕ) (i : IsrRef) → irq_of plan w ≡ Some i → (irq_prefix ++ isr_name plan i ≡ w) × (is_object plan (isr_object i) ≡ true)
   irq-back w i e =
@@ -183,7 +192,10 @@ module _ (plan : Plan) (limits : IsTrue (is_within_limits plan)) (expressible : 
       let m = mapped (λ isr. record p { isr = isr }) (irq_of plan w) q e in
       let back = irq-back w m.0 m.1 in
       ap (λ (r : Parts). part_view plan r K.Irq) (sym m.2) ∙ pair (irq_prefix ++ isr_name plan m.0) w (is_object plan (isr_object m.0)) back.0 back.1
-  word-back K.Spinlock w p q e = cc
+  word-back K.Spinlock w p q e =
+      let m = mapped (λ spinlock. record p { spinlock = spinlock }) (spinlock_named plan w) q e in
+      let back = spinlock-back w m.0 m.1 in
+      ap (λ (r : Parts). part_view plan r K.Spinlock) (sym m.2) ∙ pair (spinlock_name plan m.0) w (is_spinlock plan m.0) back.0 back.1
 
 -- ---- a word of one kind leaves those of the others
 
@@ -194,6 +206,7 @@ apart K.Status K.Status = false
 apart K.Value K.Value = false
 apart K.Mode K.Mode = false
 apart K.Irq K.Irq = false
+apart K.Spinlock K.Spinlock = false
 apart k other = true
 
 module _ (plan : Plan) (p : Parts) where
@@ -221,6 +234,10 @@ module _ (plan : Plan) (p : Parts) where
   isr-stays K.Irq away isr = cc
   isr-stays other away isr = refl
 
+  spinlock-stays : (other : Kind) → apart K.Spinlock other ≡ true → (spinlock : SpinlockId) → part_view plan (record p { spinlock = spinlock }) other ≡ part_view plan p other
+  spinlock-stays K.Spinlock away spinlock = cc
+  spinlock-stays other away spinlock = refl
+
   pub word-stays : (k other : Kind) (w : List ℕ) (q : Parts) → apart k other ≡ true → with_word plan k w p ≡ Some q → part_view plan q other ≡ part_view plan p other
   word-stays (K.Keyword word) other w q away e = let c = cond-some (bytes_eq w (keyword_text word)) (Some p) q e in let same : p ≡ q = cc in ap (λ (r : Parts). part_view plan r other) (sym same)
   word-stays K.Core other w q away e = let m = mapped (λ core. record p { core = core }) (core_of w) q e in ap (λ (r : Parts). part_view plan r other) (sym m.2) ∙ core-stays other away m.0
@@ -229,4 +246,6 @@ module _ (plan : Plan) (p : Parts) where
   word-stays K.Value other w q away e = let m = mapped (λ z. record p { value = z }) (int_of w) q e in ap (λ (r : Parts). part_view plan r other) (sym m.2) ∙ value-stays other away m.0
   word-stays K.Mode other w q away e = let m = mapped (λ mode. record p { mode = mode }) (mode_named plan w) q e in ap (λ (r : Parts). part_view plan r other) (sym m.2) ∙ mode-stays other away m.0
   word-stays K.Irq other w q away e = let m = mapped (λ isr. record p { isr = isr }) (irq_of plan w) q e in ap (λ (r : Parts). part_view plan r other) (sym m.2) ∙ isr-stays other away m.0
-  word-stays K.Spinlock other w q away e = cc
+  word-stays K.Spinlock other w q away e =
+      let m = mapped (λ spinlock. record p { spinlock = spinlock }) (spinlock_named plan w) q e in
+      ap (λ (r : Parts). part_view plan r other) (sym m.2) ∙ spinlock-stays other away m.0

@@ -1,5 +1,5 @@
 -- The log of items, and the items of a log. [own]
-use Rattle.std.specs.Prelude.{◌≡◌, ◌⊎◌, ℕ, ◌==◌, ◌&&◌, ◌++◌, nat_le, if◌then◌else◌, Bool, true, false, Option, Some, List, [], ◌∷◌, codes, length}
+use Rattle.std.specs.Prelude.{◌≡◌, ◌⊎◌, ℕ, ◌==◌, ◌&&◌, ◌++◌, nat_le, if◌then◌else◌, Bool, true, Option, Some, List, [], ◌∷◌, codes, length}
 use Rattle.std.specs.List.{flat_map, list_all}
 use Rattle.osbase.specs.Objects.{isr_object, object_of_call}
 use Rattle.osbase.specs.declared.items.Agreement.{Agreement}
@@ -11,7 +11,7 @@ use Rattle.osbase.specs.declared.messages.RemoteCall.{RemoteCall}
 use Rattle.osbase.specs.declared.references.CoreId.{CoreId}
 use Rattle.oscript.specs.Calls.{op_of_call}
 use Rattle.oscript.specs.Rows.{has_masks, is_in_form, is_int}
-use Rattle.osplan.specs.Limits.{is_mode, is_object}
+use Rattle.osplan.specs.Limits.{is_mode, is_object, is_spinlock}
 use Rattle.osplan.specs.declared.plans.Plan.{Plan}
 use Rattle.osread.specs.Reading.{each, parts_of}
 use Rattle.oslog.specs.Items.{item_meant, line_of}
@@ -24,7 +24,7 @@ line_end = codes "\n"
 abbrev pub log_text : Plan → List Item → List ℕ
 log_text plan items = flat_map (λ item. line_of plan item ++ line_end) items
 
--- ---- which items are representable: those whose numbers have the sizes of their types, and that refer to modes and objects
+-- ---- which items are representable: those whose numbers have the sizes of their types, and that refer to modes, spinlocks and objects
 -- of the configuration
 
 abbrev pub is_core_number : CoreId → Bool
@@ -39,7 +39,6 @@ is_message_representable plan (Message.Action call) = is_call_representable plan
 is_message_representable plan (Message.Reply status) = true
 is_message_representable plan (Message.Value status value) = is_int value
 
--- No spinlock can be configured yet.
 abbrev pub is_representable : Plan → Item → Bool
 is_representable plan (Item.Began core status) = is_core_number core
 is_representable plan (Item.Pass1 (Agreement.Mode mode)) = is_mode plan mode
@@ -47,9 +46,9 @@ is_representable plan (Item.Pass2 cores) = length cores.members == CORES
 is_representable plan (Item.Stim (Stimulus.Irq isr)) = is_object plan (isr_object isr)
 is_representable plan (Item.Posted core) = is_core_number core
 is_representable plan (Item.Received from number message) = is_core_number from && nat_le number 18446744073709551615 && is_message_representable plan message
-is_representable plan (Item.Granted spinlock) = false
-is_representable plan (Item.Tried spinlock taken) = false
-is_representable plan (Item.Freed spinlock) = false
+is_representable plan (Item.Granted spinlock) = is_spinlock plan spinlock
+is_representable plan (Item.Tried spinlock taken) = is_spinlock plan spinlock
+is_representable plan (Item.Freed spinlock) = is_spinlock plan spinlock
 is_representable plan (Item.Halt core status) = is_core_number core
 is_representable plan (Item.Last (Some p)) = is_core_number p.0
 is_representable plan item = true

@@ -1,10 +1,10 @@
--- What the names of a configuration stand for: its application modes and its objects. All of them differ. [own]
+-- What the names of a configuration stand for: its application modes, its spinlocks and its objects. All of them differ. [own]
 use Rattle.std.specs.Prelude.{◌≡◌, ℕ, ◌≤◌, ◌++◌, Option, Some, None, option_and_then, option_map, if◌then◌else◌, List, map, find, length}
 use Rattle.std.specs.Borrow.{Bor}
 use Rattle.std.specs.HashMap.{HashMap, get_by}
 use Rattle.std.specs.List.{flat_map}
 use Rattle.std.specs.Str.{bytes_eq}
-use Rattle.osbase.specs.Objects.{isr_of, mode_of, object_at, place_on, same_kind}
+use Rattle.osbase.specs.Objects.{isr_of, mode_of, object_at, place_on, same_kind, spinlock_of}
 use Rattle.osbase.specs.declared.objects.Object.{Object}
 use Rattle.osbase.specs.declared.objects.TheConstants.{NOBODY}
 use Rattle.osbase.specs.declared.references.CoreId.{CoreId}
@@ -13,6 +13,7 @@ use Rattle.osbase.specs.declared.objects.ObjectKind.{ObjectKind}
 use Rattle.osbase.specs.declared.objects.Place.{Place}
 use Rattle.osbase.specs.declared.references.IsrRef.{IsrRef}
 use Rattle.osbase.specs.declared.references.ModeId.{ModeId}
+use Rattle.osbase.specs.declared.references.SpinlockId.{SpinlockId}
 use Rattle.osplan.specs.Names.{name_of}
 use Rattle.osplan.specs.Objects.{common_names, object_count}
 use Rattle.osplan.specs.declared.plans.Core.{Core}
@@ -69,6 +70,10 @@ place_named plan kind name = option_and_then (if_object kind) (named_by plan nam
 -- The mode of a name.
 abbrev pub mode_named : Plan → List ℕ → Option ModeId
 mode_named plan name = option_map mode_of (place_named plan ObjectKind.Mode name)
+
+-- The spinlock of a name.
+abbrev pub spinlock_named : Plan → List ℕ → Option SpinlockId
+spinlock_named plan name = option_map spinlock_of (place_named plan ObjectKind.Spinlock name)
 
 -- The ISR of a name, on whichever core.
 abbrev pub isr_named : Plan → List ℕ → Option IsrRef

@@ -17,10 +17,10 @@ use Rattle.osforms.specs.Call.{call_words}
 use Rattle.osforms.specs.Form.{form_of_words}
 use Rattle.osforms.specs.Operation.{resolved}
 use Rattle.osforms.specs.Word.{int_of, number_in}
-use Rattle.osplan.specs.Names.{isr_name, name_of, name_of_mode}
+use Rattle.osplan.specs.Names.{isr_name, name_of, name_of_mode, spinlock_name}
 use Rattle.osplan.specs.declared.plans.Plan.{Plan}
 use Rattle.oscript.specs.Rows as rows
-use Rattle.oslog.specs.Naming.{isr_named, mode_named, place_named}
+use Rattle.oslog.specs.Naming.{isr_named, mode_named, place_named, spinlock_named}
 use Rattle.oslog.specs.Rows.{keyword_text}
 use Rattle.oslog.specs.declared.forms.Parts.{Parts}
 use Rattle.oslog.specs.declared.rows.Kind.{Kind}
@@ -34,7 +34,7 @@ use Rattle.oslog.specs.declared.words.TheConstants.{STATUSES}
 abbrev pub irq_prefix : List ℕ
 irq_prefix = codes "irq="
 
--- A word of this kind. No spinlock has a name yet.
+-- A word of this kind.
 abbrev pub word_text : Plan → Parts → Kind → List ℕ
 word_text plan parts (K.Keyword word) = keyword_text word
 word_text plan parts K.Core = decimal parts.core.number
@@ -43,7 +43,7 @@ word_text plan parts K.Status = status_name parts.status
 word_text plan parts K.Value = signed_decimal parts.value
 word_text plan parts K.Mode = name_of_mode plan parts.mode
 word_text plan parts K.Irq = irq_prefix ++ isr_name plan parts.isr
-word_text plan parts K.Spinlock = []
+word_text plan parts K.Spinlock = spinlock_name plan parts.spinlock
 
 -- The numbers of a set's cores, ascending.
 abbrev pub core_words : CoreSet → List (List ℕ)
@@ -81,7 +81,7 @@ with_word plan K.Status word parts = option_map (λ status. record parts { statu
 with_word plan K.Value word parts = option_map (λ z. record parts { value = z }) (int_of word)
 with_word plan K.Mode word parts = option_map (λ mode. record parts { mode = mode }) (mode_named plan word)
 with_word plan K.Irq word parts = option_map (λ isr. record parts { isr = isr }) (irq_of plan word)
-with_word plan K.Spinlock word parts = None
+with_word plan K.Spinlock word parts = option_map (λ spinlock. record parts { spinlock = spinlock }) (spinlock_named plan word)
 
 -- The words of a row in turn, and what follows them.
 abbrev pub read_words : Plan → List Kind → List (List ℕ) → Parts → Option (Parts × List (List ℕ))

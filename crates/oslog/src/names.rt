@@ -3,11 +3,13 @@
 ghost use Rattle.std.specs.Prelude.{◌≡◌, ◌≤◌, ◌++◌, IfOk, IsTrue, OnOk};
 ghost use Rattle.osplan.specs.Expressible.{is_expressible};
 ghost use Rattle.osplan.specs.Limits.{is_within_limits};
-ghost use Rattle.oslog.specs.Naming.{HasFew, HasFewCommon, Indexes, all_named, common_in, isr_named, mode_named, name_of_object, named_in, object_under, objects_under};
+ghost use Rattle.oslog.specs.Naming.{HasFew, HasFewCommon, Indexes, all_named, common_in, isr_named, mode_named, name_of_object, named_in, object_under, objects_under, spinlock_named};
 ghost use Rattle.osplan.specs.declared.plans.TheConstants.{COMMON};
 ghost use Rattle.std.specs.List.{flat_map};
 
-use osbase::{CoreId, IsrRef, List, ModeId, NOBODY, Object, ObjectKind, Place, Reference};
+use osbase::{
+    CoreId, IsrRef, List, ModeId, NOBODY, Object, ObjectKind, Place, Reference, SpinlockId,
+};
 use osforms::{Names, Places};
 use osplan::{COMMON, Config, Core, KINDS, Plan};
 use std::alloc::{AllocError, Global};
@@ -139,6 +141,16 @@ impl<'p> NameIndex<'p> {
     {
         match self.place(ObjectKind::Mode, name) {
             Some(place) => Some(ModeId::at(place)),
+            None => None,
+        }
+    }
+
+    /// The spinlock of this name.
+    pub fn spinlock(&self, name: &str) -> Option<SpinlockId>
+        ensures { result ≡ spinlock_named self.now.config.now name.now }
+    {
+        match self.place(ObjectKind::Spinlock, name) {
+            Some(place) => Some(SpinlockId::at(place)),
             None => None,
         }
     }

@@ -59,8 +59,10 @@ fn with_word(names: &NameIndex, kind: Kind, word: &str, parts: Parts) -> Option<
             isr: irq_of(names, word)?,
             ..parts
         }),
-        // No spinlock can be configured yet.
-        Kind::Spinlock => None,
+        Kind::Spinlock => Some(Parts {
+            spinlock: names.spinlock(word)?,
+            ..parts
+        }),
     }
 }
 

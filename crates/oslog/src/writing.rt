@@ -34,8 +34,7 @@ fn push_word(text: &mut String, plan: &Plan, kind: Kind, parts: &Parts) -> Resul
             text.push_str("irq=")?;
             text.push_str(plan.isr_name(parts.isr))
         }
-        // No spinlock can be configured yet.
-        Kind::Spinlock => Ok(()),
+        Kind::Spinlock => text.push_str(plan.spinlock_name(parts.spinlock)),
     }
 }
 

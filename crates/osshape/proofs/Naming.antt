@@ -4,7 +4,7 @@ use Rattle.std.specs.List.{list_all, enumerate_from, find, flat_map}
 use Rattle.std.specs.Option.{IfSome}
 use Rattle.std.proofs.lemmas.Bool.{and_from, and_parts}
 use Rattle.std.proofs.lemmas.List.{map-append, map-id}
-use Rattle.std.proofs.lemmas.List.Folds.{list_all-append, list_all-map}
+use Rattle.std.proofs.lemmas.List.Folds.{list_all-append}
 use Rattle.std.proofs.lemmas.Simd.{map-map}
 use Rattle.std.proofs.lemmas.Slice.Eq.{bytes_eq-Decides}
 use Rattle.osbase.specs.declared.objects.ObjectKind.{ObjectKind}
@@ -14,6 +14,7 @@ use Rattle.osbase.specs.declared.references.CoreId.{CoreId}
 use Rattle.osbase.specs.Names.{is_name}
 use Rattle.osplan.specs.declared.plans.Core.{Core}
 use Rattle.osplan.specs.declared.plans.Plan.{Plan}
+use Rattle.osplan.specs.declared.plans.Spinlock.{Spinlock}
 use Rattle.osplan.specs.declared.plans.TheConstants.{COMMON, KINDS}
 use Rattle.osplan.specs.Expressible.{declared_names, object_names}
 use Rattle.osplan.specs.Objects.{common_names, names_in}
@@ -21,8 +22,9 @@ use Rattle.osplan.proofs.Tests.{all-flat, all-weaker, find-holds, find-passes}
 use Rattle.osshape.specs.declared.shapes.ConfigText.{ConfigText}
 use Rattle.osshape.specs.declared.shapes.CoreText.{CoreText}
 use Rattle.osshape.specs.declared.shapes.Named.{Named}
+use Rattle.osshape.specs.declared.shapes.SpinlockText.{SpinlockText}
 use Rattle.osshape.specs.declared.declarations.Declaration.{Declaration}
-use Rattle.osshape.specs.Shape.{common_in, has_named_objects, is_named, objects_in, unnumbered}
+use Rattle.osshape.specs.Shape.{common_in, has_named_common, has_named_objects, is_named, objects_in, unnumbered}
 use Rattle.osshape.specs.Declarations.{common_of, declaration, declarations, declared_as, declared_by, has_name, id_of, names_of}
 
 -- Objects of one kind,
@@ -45,9 +47,9 @@ cores-named (core ∷ cores) named =
 -- and all of them.
 pub declared-named : (t : ConfigText) → is_named t ≡ true → list_all (λ (d : Declaration). is_name d.name) (declarations t) ≡ true
 declared-named t named =
-    let parts = and_parts (list_all is_name t.modes) (list_all has_named_objects t.cores) named in
+    let parts = and_parts (has_named_common t) (list_all has_named_objects t.cores) named in
     list_all-append (λ (d : Declaration). is_name d.name) (flat_map (common_of t) COMMON) (flat_map declared_by t.cores)
-    ∙ and_from _ _ (kinds-named NOBODY (λ kind. common_in kind t) COMMON (and_from _ true (list_all-map (λ (named : Named). is_name named.name) unnumbered t.modes ∙ parts.0) refl)) (cores-named t.cores parts.1)
+    ∙ and_from _ _ (kinds-named NOBODY (λ kind. common_in kind t) COMMON parts.0) (cores-named t.cores parts.1)
 
 -- ---- the names of what a text declares are those of its objects
 
@@ -72,15 +74,17 @@ names-of-all plan core same (x ∷ xs) =
     map-append (λ (d : Declaration). d.name) (declared_by (core x)) (flat_map (λ y. declared_by (core y)) xs)
     ∙ rw (names-of-kinds (id_of (core x)) (λ kind. names_in kind (plan x)) (λ kind. objects_in kind (core x)) (same x) KINDS, names-of-all plan core same xs) refl
 
--- Those that all cores have in common are the configuration's with the text's modes,
-pub common-named : (plan : Plan) (t : ConfigText) → plan.modes ≡ t.modes → (kind : ObjectKind) → common_names kind plan ≡ map (λ (named : Named). named.name) (common_in kind t)
-common-named plan t modes ObjectKind.Mode = modes ∙ sym (map-map (λ (named : Named). named.name) unnumbered t.modes ∙ map-id t.modes)
-common-named plan t modes kind = refl
+-- Those that all cores have in common are the configuration's with the text's modes and the names of its spinlocks,
+pub common-named : (plan : Plan) (t : ConfigText) → plan.modes ≡ t.modes → map (λ (spinlock : Spinlock). spinlock.name) plan.spinlocks ≡ map (λ (spinlock : SpinlockText). spinlock.name) t.spinlocks → (kind : ObjectKind)
+    → common_names kind plan ≡ map (λ (named : Named). named.name) (common_in kind t)
+common-named plan t modes spinlocks ObjectKind.Mode = modes ∙ sym (map-map (λ (named : Named). named.name) unnumbered t.modes ∙ map-id t.modes)
+common-named plan t modes spinlocks ObjectKind.Spinlock = spinlocks ∙ sym (map-map (λ (named : Named). named.name) (λ (spinlock : SpinlockText). unnumbered spinlock.name) t.spinlocks)
+common-named plan t modes spinlocks kind = refl
 
 -- and all of them those of the configuration that also has the names of its cores.
-pub names-of-text : (plan : Plan) (t : ConfigText) → plan.modes ≡ t.modes → flat_map object_names plan.cores ≡ map (λ (d : Declaration). d.name) (flat_map declared_by t.cores) → declared_names plan ≡ names_of (declarations t)
-names-of-text plan t modes cores =
-    ap (λ (front : List (List ℕ)). front ++ flat_map object_names plan.cores) (sym (names-of-kinds NOBODY (λ kind. common_names kind plan) (λ kind. common_in kind t) (common-named plan t modes) COMMON))
+pub names-of-text : (plan : Plan) (t : ConfigText) → ((kind : ObjectKind) → common_names kind plan ≡ map (λ (named : Named). named.name) (common_in kind t)) → flat_map object_names plan.cores ≡ map (λ (d : Declaration). d.name) (flat_map declared_by t.cores) → declared_names plan ≡ names_of (declarations t)
+names-of-text plan t common cores =
+    ap (λ (front : List (List ℕ)). front ++ flat_map object_names plan.cores) (sym (names-of-kinds NOBODY (λ kind. common_names kind plan) (λ kind. common_in kind t) common COMMON))
     ∙ ap (λ (back : List (List ℕ)). map (λ (d : Declaration). d.name) (flat_map (common_of t) COMMON) ++ back) cores ∙ sym (map-append (λ (d : Declaration). d.name) (flat_map (common_of t) COMMON) (flat_map declared_by t.cores))
 
 pub if-named : (objects : List Declaration) (name : List ℕ) (d : Declaration) (found : Option Place) → list_all (λ (d : Declaration). is_name d.name) objects ≡ true → find (has_name name) objects ≡ Some d → IfSome found (λ place. is_name name ≡ true)

@@ -2,14 +2,15 @@
 use Rattle.std.specs.Prelude.{ℕ, ◌==◌, ◌++◌, nat_le, Bool, Option, Some, None, option_and_then, option_map, unwrap_or, if◌then◌else◌, List, map, find, count_by}
 use Rattle.std.specs.List.{enumerate_from, flat_map}
 use Rattle.std.specs.Str.{bytes_eq}
-use Rattle.osbase.specs.Objects.{counter_of, mode_of, same_kind}
+use Rattle.osbase.specs.Objects.{counter_of, mode_of, same_kind, spinlock_of}
 use Rattle.osbase.specs.declared.references.CoreId.{CoreId}
 use Rattle.osbase.specs.declared.references.CounterRef.{CounterRef}
 use Rattle.osbase.specs.declared.objects.ObjectKind.{ObjectKind}
-use Rattle.osbase.specs.declared.objects.ObjectKind.TheVariants.{Counter, Mode}
+use Rattle.osbase.specs.declared.objects.ObjectKind.TheVariants.{Counter, Mode, Spinlock}
 use Rattle.osbase.specs.declared.objects.Place.{Place}
 use Rattle.osbase.specs.declared.objects.TheConstants.{NOBODY}
 use Rattle.osbase.specs.declared.references.ModeId.{ModeId}
+use Rattle.osbase.specs.declared.references.SpinlockId.{SpinlockId}
 use Rattle.osplan.specs.declared.plans.TheConstants.{COMMON, KINDS}
 use Rattle.osplan.specs.Limits.{CounterSizes}
 use Rattle.osshape.specs.declared.shapes.ConfigText.{ConfigText}
@@ -76,11 +77,15 @@ place_in kind declaration = if same_kind declaration.kind kind then Some (record
 abbrev pub place_of : List Declaration → ObjectKind → List ℕ → Option Place
 place_of objects kind name = option_and_then (place_in kind) (find (has_name name) objects)
 
--- ---- modes and counters by their names
+-- ---- modes, spinlocks and counters by their names
 
 -- The mode of a name; where there is none, the first.
 abbrev pub mode_ref : List Declaration → List ℕ → ModeId
 mode_ref objects name = unwrap_or (option_map mode_of (place_of objects Mode name)) (record { index = 0 })
+
+-- The spinlock of a name, if there is one.
+abbrev pub spinlock_ref : List Declaration → List ℕ → Option SpinlockId
+spinlock_ref objects name = option_map spinlock_of (place_of objects Spinlock name)
 
 -- The counter of a name; where there is none, the first that the core of this number might have.
 abbrev pub counter_ref : List Declaration → CoreId → List ℕ → CounterRef

@@ -4,7 +4,7 @@ use Rattle.std.specs.List.{list_all}
 use Rattle.osbase.specs.declared.objects.ObjectKind.{ObjectKind}
 use Rattle.osbase.specs.Names.{is_name}
 use Rattle.osplan.specs.Protection.{protection_named}
-use Rattle.osplan.specs.declared.plans.TheConstants.{KINDS}
+use Rattle.osplan.specs.declared.plans.TheConstants.{COMMON, KINDS}
 use Rattle.osplan.specs.declared.protection.Protection.{Protection}
 use Rattle.serde_json.specs.Data.{Data}
 use Rattle.serde_json.specs.Find.{as_bool, as_str}
@@ -16,6 +16,7 @@ use Rattle.osshape.specs.declared.shapes.CounterText.{CounterText}
 use Rattle.osshape.specs.declared.shapes.IsrText.{IsrText}
 use Rattle.osshape.specs.declared.shapes.Named.{Named}
 use Rattle.osshape.specs.declared.shapes.ResourceText.{ResourceText}
+use Rattle.osshape.specs.declared.shapes.SpinlockText.{SpinlockText}
 use Rattle.osshape.specs.declared.shapes.TaskText.{TaskText}
 use Rattle.osshape.specs.declared.table_shapes.PointText.{PointText}
 use Rattle.osshape.specs.declared.table_shapes.TableStartText.{TableStartText}
@@ -114,6 +115,14 @@ table_shape d = do
   auto ← member_or (or_null table_start_shape) None (codes "auto") d
   Some (record { name = name; counter = counter; duration = duration; points = points; repeating = repeating; auto = auto })
 
+-- A spinlock: its name, and that of its successor, or null, by default, where it has none.
+unfoldable pub spinlock_shape : Data → Option SpinlockText
+spinlock_shape d = do
+  _ ← only_members (codes "name" ∷ codes "next" ∷ []) d
+  name ← member_of name_of (codes "name") d
+  next ← member_or (or_null name_of) None (codes "next") d
+  Some (record { name = name; next = next })
+
 -- How a core answers a time fault: one of the words for it.
 abbrev pub protection_of : Data → Option Protection
 protection_of d = option_and_then protection_named (as_str d)
@@ -140,16 +149,17 @@ core_shape d = do
   Some (record { id = id; mode = mode; start = start; protection = protection; tasks = tasks; isrs = isrs; resources = resources; counters = counters; alarms = alarms; tables = tables })
 
 -- A configuration: its version, 1 by default; the size of a mailbox, 16 by default; the master core, 0 by default; its application
--- modes, one by default; its cores.
+-- modes, one by default; its spinlocks, none by default; its cores.
 unfoldable pub config_shape : Data → Option ConfigText
 config_shape d = do
-  _ ← only_members (codes "version" ∷ codes "cap" ∷ codes "master" ∷ codes "modes" ∷ codes "cores" ∷ []) d
+  _ ← only_members (codes "version" ∷ codes "cap" ∷ codes "master" ∷ codes "modes" ∷ codes "spinlocks" ∷ codes "cores" ∷ []) d
   version ← member_or whole_of (Some 1) (codes "version") d
   cap ← member_or whole_of (Some 16) (codes "cap") d
   master ← member_or whole_of (Some 0) (codes "master") d
   modes ← member_or (each_of name_of) (codes "M" ∷ []) (codes "modes") d
+  spinlocks ← member_or (each_of spinlock_shape) [] (codes "spinlocks") d
   cores ← member_of (each_of core_shape) (codes "cores") d
-  Some (record { version = version; cap = cap; master = master; modes = modes; cores = cores })
+  Some (record { version = version; cap = cap; master = master; modes = modes; spinlocks = spinlocks; cores = cores })
 
 -- ---- the objects of a text
 
@@ -163,6 +173,7 @@ numbered counter = record { name = counter.name; max = counter.max; min = counte
 -- What a core's text has of each object of a kind, in their order. What is said of the objects of every kind goes over these.
 abbrev pub objects_in : ObjectKind → CoreText → List Named
 objects_in ObjectKind.Mode core = []
+objects_in ObjectKind.Spinlock core = []
 objects_in ObjectKind.Task core = map (λ (task : TaskText). unnumbered task.name) core.tasks
 objects_in ObjectKind.Isr core = map (λ (isr : IsrText). unnumbered isr.name) core.isrs
 objects_in ObjectKind.Resource core = map (λ (resource : ResourceText). unnumbered resource.name) core.resources
@@ -173,12 +184,17 @@ objects_in ObjectKind.Table core = map (λ (table : TableText). unnumbered table
 -- And what it has of each object of a kind that all cores have in common.
 abbrev pub common_in : ObjectKind → ConfigText → List Named
 common_in ObjectKind.Mode t = map unnumbered t.modes
+common_in ObjectKind.Spinlock t = map (λ (spinlock : SpinlockText). unnumbered spinlock.name) t.spinlocks
 common_in kind t = []
 
 -- Each object of the core has a name in form, as in every shape.
 abbrev pub has_named_objects : CoreText → Bool
 has_named_objects core = list_all (λ (kind : ObjectKind). list_all (λ (named : Named). is_name named.name) (objects_in kind core)) KINDS
 
+-- And each object that all cores have in common.
+abbrev pub has_named_common : ConfigText → Bool
+has_named_common t = list_all (λ (kind : ObjectKind). list_all (λ (named : Named). is_name named.name) (common_in kind t)) COMMON
+
 -- And each object of the text.
 abbrev pub is_named : ConfigText → Bool
-is_named t = list_all is_name t.modes && list_all has_named_objects t.cores
+is_named t = has_named_common t && list_all has_named_objects t.cores

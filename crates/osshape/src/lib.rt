@@ -14,6 +14,6 @@ pub use declarations::{Declaration, byte_of, number_id, word_of};
 pub use places::Objects;
 pub use shapes::{
     AlarmStartText, AlarmText, ConfigReader, ConfigText, CoreText, CounterText, IsrText,
-    ResourceText, TaskText,
+    ResourceText, SpinlockText, TaskText,
 };
 pub use table_shapes::{PointText, TableStartText, TableText};

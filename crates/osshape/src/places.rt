@@ -6,12 +6,12 @@ ghost use Rattle.osbase.specs.Names.{is_name};
 ghost use Rattle.osplan.specs.Expressible.{are_distinct};
 ghost use Rattle.osshape.specs.declared.declarations.Declaration.{Declaration as Declared};
 ghost use Rattle.osshape.specs.Shape.{is_named};
-ghost use Rattle.osshape.specs.Declarations.{counter_declared, declarations, has_name, is_alone, mode_ref, place_alone, place_in, names_of};
+ghost use Rattle.osshape.specs.Declarations.{counter_declared, declarations, has_name, is_alone, mode_ref, place_alone, place_in, names_of, spinlock_ref};
 ghost use Rattle.osshape.specs.Index.{Indexes};
 
 use crate::declarations::{Declaration, byte_of, declarations_of};
 use crate::shapes::ConfigText;
-use osbase::{List, ModeId, ObjectKind, Place, Reference};
+use osbase::{List, ModeId, ObjectKind, Place, Reference, SpinlockId};
 use osforms::Places;
 use std::alloc::{AllocError, Global};
 use std::collections::HashMap;
@@ -86,6 +86,16 @@ impl<'t> Objects<'t> {
         match self.place(ObjectKind::Mode, name) {
             Some(place) => ModeId::at(place),
             None => ModeId { index: 0 },
+        }
+    }
+
+    /// The spinlock of this name, if there is one.
+    pub fn spinlock(&self, name: &str) -> Option<SpinlockId>
+        ensures { result ≡ spinlock_ref self.now.declared name.now }
+    {
+        match self.place(ObjectKind::Spinlock, name) {
+            Some(place) => Some(SpinlockId::at(place)),
+            None => None,
         }
     }
 

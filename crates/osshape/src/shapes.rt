@@ -7,7 +7,7 @@ ghost use Rattle.osbase.specs.Names.{is_name};
 ghost use Rattle.osread.specs.Json.{each_of, member_or};
 ghost use Rattle.osread.specs.Reading.{Gives};
 ghost use Rattle.serde_json.specs.View.{view};
-ghost use Rattle.osshape.specs.Shape.{task_shape, isr_shape, resource_shape, counter_shape, alarm_start_shape, alarm_shape, common_in, core_shape, config_shape, has_named_objects, is_named, mode_shape, numbered, objects_in, protection_of, unnumbered};
+ghost use Rattle.osshape.specs.Shape.{task_shape, isr_shape, resource_shape, counter_shape, alarm_start_shape, alarm_shape, common_in, core_shape, config_shape, has_named_objects, is_named, mode_shape, numbered, objects_in, protection_of, spinlock_shape, unnumbered};
 ghost use Rattle.osshape.specs.declared.shapes.Named.{Named as NamedValue};
 
 use crate::table_shapes::{TableReader, TableText};
@@ -91,6 +91,14 @@ pub struct CoreText<'v> {
     pub tables: List<TableText<'v>>,
 }
 
+/// A spinlock as a text has it.
+#[derive(Debug, Drop)]
+pub struct SpinlockText<'v> {
+    pub name: Text<'v>,
+    /// The name of its successor in the order in which spinlocks may be got, if it has one.
+    pub next: Option<Text<'v>>,
+}
+
 /// What a text has of an object of any kind: its name, and of a counter the greatest value and the least cycle.
 #[derive(Debug, Drop)]
 pub struct Named<'v> {
@@ -124,6 +132,14 @@ impl<'v> Declared<'v> for Text<'v> {
 
     fn named(&self) -> Named<'v> {
         unnumbered(self)
+    }
+}
+
+impl<'v> Declared<'v> for SpinlockText<'v> {
+    ghost named = { λ spinlock. unnumbered spinlock.name };
+
+    fn named(&self) -> Named<'v> {
+        unnumbered(&self.name)
     }
 }
 
@@ -202,7 +218,7 @@ impl<'v> CoreText<'v> {
         ensures { IfOk result (λ objects. objects ≡ objects_in kind self.now) }
     {
         match kind {
-            ObjectKind::Mode => Ok(List::new(alloc)),
+            ObjectKind::Mode | ObjectKind::Spinlock => Ok(List::new(alloc)),
             ObjectKind::Task => each_named(alloc, &self.tasks),
             ObjectKind::Isr => each_named(alloc, &self.isrs),
             ObjectKind::Resource => each_named(alloc, &self.resources),
@@ -220,6 +236,7 @@ pub struct ConfigText<'v> {
     pub cap: Whole,
     pub master: Whole,
     pub modes: List<Text<'v>>,
+    pub spinlocks: List<SpinlockText<'v>>,
     pub cores: List<CoreText<'v>>,
 }
 
@@ -234,6 +251,7 @@ impl<'v> ConfigText<'v> {
     {
         match kind {
             ObjectKind::Mode => each_named(alloc, &self.modes),
+            ObjectKind::Spinlock => each_named(alloc, &self.spinlocks),
             _ => Ok(List::new(alloc)),
         }
     }
@@ -399,6 +417,25 @@ impl<'v> JsonReader<'v, AlarmText<'v>> for AlarmReader {
     }
 }
 
+// Reads a spinlock.
+#[derive(Clone, Copy, Debug)]
+struct SpinlockReader;
+
+impl<'v> JsonReader<'v, SpinlockText<'v>> for SpinlockReader {
+    ghost shape = { λ _ d. spinlock_shape d };
+
+    ghost passes = { λ _ spinlock. is_name spinlock.name };
+
+    #[tactic(auto, unfolding(crate::specs::Shape::spinlock_shape))]
+    fn read(&self, alloc: Global, value: &'v Value) -> Result<SpinlockText<'v>, Refusal> {
+        only_members(value, &["name", "next"])?;
+        Ok(SpinlockText {
+            name: at(alloc, value, "name", &NameReader)?,
+            next: at_or(alloc, value, "next", &OrNull { of: NameReader }, None)?,
+        })
+    }
+}
+
 // Reads how a core answers a time fault.
 #[derive(Clone, Copy, Debug)]
 struct ProtectionReader;
@@ -493,15 +530,19 @@ impl<'v> JsonReader<'v, ConfigText<'v>> for ConfigReader {
 
     ghost passes = { λ _ config. is_named config };
 
-    #[tactic(auto, unfolding(crate::specs::Shape::config_shape))]
+    #[tactic(auto, unfolding(crate::specs::Shape::config_shape), using(crate::proofs::Lists::mapped))]
     fn read(&self, alloc: Global, value: &'v Value) -> Result<ConfigText<'v>, Refusal> {
-        only_members(value, &["version", "cap", "master", "modes", "cores"])?;
+        only_members(
+            value,
+            &["version", "cap", "master", "modes", "spinlocks", "cores"],
+        )?;
         let names = ListOf { of: NameReader };
         Ok(ConfigText {
             version: at_or(alloc, value, "version", &WholeReader, Some(1))?,
             cap: at_or(alloc, value, "cap", &WholeReader, Some(16))?,
             master: at_or(alloc, value, "master", &WholeReader, Some(0))?,
             modes: at_or(alloc, value, "modes", &names, default_modes(alloc)?)?,
+            spinlocks: list_at(alloc, value, "spinlocks", SpinlockReader)?,
             cores: at(alloc, value, "cores", &ListOf { of: CoreReader })?,
         })
     }

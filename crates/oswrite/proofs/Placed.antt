@@ -6,7 +6,7 @@ use Rattle.std.proofs.lemmas.Bool.{and_parts, not-true, or_cases, or_left, or_ri
 use Rattle.std.proofs.lemmas.List.{length-map}
 use Rattle.std.proofs.lemmas.Simd.{map-map}
 use Rattle.std.proofs.lemmas.Slice.Eq.{bytes_eq-Decides}
-use Rattle.oscheck.specs.Words.{Core, CoreId, Declaration, Named, ObjectKind, Place, Plan, Object}
+use Rattle.oscheck.specs.Words.{Core, CoreId, Declaration, Named, ObjectKind, Place, Plan, Object, Spinlock, SpinlockText}
 use Rattle.osbase.specs.History.{same_core}
 use Rattle.osbase.specs.Objects.{place_on, same_kind}
 use Rattle.osbase.specs.declared.objects.TheConstants.{NOBODY}
@@ -19,7 +19,7 @@ use Rattle.osshape.specs.Declarations.{common_of, id_of, declaration, declaratio
 use Rattle.osshape.specs.Shape.{common_in, objects_in}
 use Rattle.osshape.proofs.Naming.{common-named, names-of-all, names-of-text}
 use Rattle.osdraft.proofs.Found.{byte-small}
-use Rattle.oswrite.proofs.Said.{config_said, core_said}
+use Rattle.oswrite.proofs.Said.{config_said, core_said, spinlock_said}
 use Rattle.std.specs.Option.{option_map_or}
 use Rattle.std.proofs.lemmas.List.Folds.{flat_map-map, list_all-map}
 use Rattle.std.proofs.lemmas.Option.{slice_get-map}
@@ -27,7 +27,7 @@ use Rattle.osbase.specs.Names.{is_name}
 use Rattle.osplan.specs.View.{core_of}
 use Rattle.osplan.specs.Limits.{is_object, is_within_limits, sizes_of}
 use Rattle.osbase.proofs.Places.{passes-at}
-use Rattle.osplan.proofs.Within.{core-fits, core-text-parts, few-modes, few-objects, limit-parts, names-formed, text-parts}
+use Rattle.osplan.proofs.Within.{core-fits, core-text-parts, few-modes, few-objects, few-spinlocks, limit-parts, names-formed, text-parts}
 use Rattle.osplan.specs.Names.{common_name, name_in, name_of}
 
 -- ---- where no name stands twice, each object is found by its name
@@ -100,19 +100,25 @@ module _ (plan : Plan) where
 
   pub kind-named : (core : Core) (kind : ObjectKind) → names_in kind core ≡ map (λ (named : Named). named.name) (objects_in kind (core_said plan core))
   kind-named core ObjectKind.Mode = refl
+  kind-named core ObjectKind.Spinlock = refl
   kind-named core kind = simp map-map
 
+  pub common-said : (kind : ObjectKind) → common_names kind plan ≡ map (λ (named : Named). named.name) (common_in kind (config_said plan))
+  common-said = common-named plan (config_said plan) refl (sym (map-map (λ (spinlock : SpinlockText). spinlock.name) (spinlock_said plan) plan.spinlocks))
+
   pub names-said : declared_names plan ≡ names_of (declarations (config_said plan))
-  names-said = names-of-text plan (config_said plan) refl (sym (ap names_of (flat_map-map declared_by (core_said plan) plan.cores) ∙ names-of-all (λ core. core) (core_said plan) kind-named plan.cores))
+  names-said = names-of-text plan (config_said plan) common-said (sym (ap names_of (flat_map-map declared_by (core_said plan) plan.cores) ∙ names-of-all (λ core. core) (core_said plan) kind-named plan.cores))
 
   -- ---- the objects of a core
 
   pub as-many : (core : Core) (kind : ObjectKind) → length (objects_in kind (core_said plan core)) ≡ object_count kind core
   as-many core ObjectKind.Mode = refl
+  as-many core ObjectKind.Spinlock = refl
   as-many core kind = simp length-map
 
   object-stands : (core : Core) (kind : ObjectKind) (i : ℕ) (object : Named) → slice_get (objects_in kind (core_said plan core)) i ≡ Some object → Stands (declared_by (core_said plan core)) (declaration (id_of (core_said plan core)) kind (i, object))
   object-stands core ObjectKind.Mode i object is = cc
+  object-stands core ObjectKind.Spinlock i object is = cc
   object-stands core kind i object is =
       let text = core_said plan core in
       stands-among (declared_of text) KINDS kind _ refl (stands-as (id_of text) kind (objects_in kind text) i object is)
@@ -131,8 +137,12 @@ module _ (plan : Plan) where
 
   -- ---- and those that all cores have in common
 
+  stands-common : (kind : ObjectKind) (i : ℕ) (object : Named) → list_any (λ (k : ObjectKind). same_kind k kind) COMMON ≡ true → slice_get (common_in kind (config_said plan)) i ≡ Some object → Stands (flat_map (common_of (config_said plan)) COMMON) (declaration NOBODY kind (i, object))
+  stands-common kind i object common is = stands-among (common_of (config_said plan)) COMMON kind _ common (stands-as NOBODY kind (common_in kind (config_said plan)) i object is)
+
   common-stands : (kind : ObjectKind) (i : ℕ) (object : Named) → slice_get (common_in kind (config_said plan)) i ≡ Some object → Stands (flat_map (common_of (config_said plan)) COMMON) (declaration NOBODY kind (i, object))
-  common-stands ObjectKind.Mode i object is = stands-among (common_of (config_said plan)) COMMON ObjectKind.Mode _ refl (stands-as NOBODY ObjectKind.Mode (common_in ObjectKind.Mode (config_said plan)) i object is)
+  common-stands ObjectKind.Mode i object is = stands-common ObjectKind.Mode i object refl is
+  common-stands ObjectKind.Spinlock i object is = stands-common ObjectKind.Spinlock i object refl is
   common-stands kind i object is = cc
 
 -- ---- what the place of an object finds
@@ -167,10 +177,12 @@ module _ (plan : Plan) (inside : IsTrue (is_within_limits plan)) (sayable : IsTr
 
   common-formed : (kind : ObjectKind) → list_all is_name (common_names kind plan) ≡ true
   common-formed ObjectKind.Mode = all-weaker is_mode_expressible is_name (λ name h. (and_parts (is_name name) _ h).0) plan.modes (text-parts plan sayable).modes
+  common-formed ObjectKind.Spinlock = list_all-map is_name (λ (spinlock : Spinlock). spinlock.name) plan.spinlocks ∙ (text-parts plan sayable).spinlocks
   common-formed kind = refl
 
   common-few : (kind : ObjectKind) → length (common_names kind plan) ≤ 255
   common-few ObjectKind.Mode = let few = few-modes (sizes_of plan) (limit-parts plan inside).sizes in omega (arith, few)
+  common-few ObjectKind.Spinlock = let few = few-spinlocks (sizes_of plan) (limit-parts plan inside).sizes in omega (arith, few, length-map plan.spinlocks (λ (spinlock : Spinlock). spinlock.name))
   common-few kind = omega arith
 
   found-if : (object : Object) (o : Option Core) → core_of plan object.place.core ≡ o → option_map_or (λ (c : Core). nat_lt object.place.index (object_count object.kind c)) o (is_common plan object) ≡ true → (name : List ℕ) × Found plan object name
@@ -182,7 +194,7 @@ module _ (plan : Plan) (inside : IsTrue (is_within_limits plan)) (sayable : IsTr
       let stands : object.place.core ≡ NOBODY = same_core-true object.place.core NOBODY parts.0 in
       let within = ltb-true index (length (common_names kind plan)) parts.1 in
       let few = common-few kind in
-      let here = here-by object.place (common_names kind plan) (common_in kind t) (common-named plan t refl kind) (common-formed kind) index within in
+      let here = here-by object.place (common_names kind plan) (common_in kind t) (common-said plan kind) (common-formed kind) index within in
       let among = stands-front (flat_map (common_of t) COMMON) (flat_map declared_by t.cores) _ (common-stands plan kind index here.0 here.1) in (
         here.0.name,
         record {

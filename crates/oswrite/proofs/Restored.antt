@@ -6,20 +6,21 @@ use Rattle.std.proofs.lemmas.Bool.{and_parts, and_from, or_right}
 use Rattle.std.specs.Str.{bytes_eq}
 use Rattle.serde_json.specs.Data.{Data, string}
 use Rattle.serde_json.specs.View.{items_of}
-use Rattle.osbase.specs.Objects.{counter_object, counter_place, mode_object, mode_place, object_of_call}
+use Rattle.osbase.specs.Objects.{counter_object, counter_place, mode_object, mode_place, object_of_call, spinlock_object, spinlock_of, spinlock_place}
 use Rattle.osbase.specs.declared.objects.TheConstants.{NOBODY}
-use Rattle.oscheck.specs.Words.{Alarm, AlarmStart, Core, Counter, CounterRef, ExpiryPoint, Isr, IsrText, ModeId, Plan, RemoteCall, Resource, Table, TableStart, Task, CoreId, CoreMode, Declaration, Object, ObjectKind, Op, AlarmStartText, ResourceText, TableStartText, TableText}
+use Rattle.oscheck.specs.Words.{Alarm, AlarmStart, Core, Counter, CounterRef, ExpiryPoint, Isr, IsrText, ModeId, Plan, RemoteCall, Resource, Table, TableStart, Task, CoreId, CoreMode, Declaration, Object, ObjectKind, Op, AlarmStartText, ResourceText, Spinlock, SpinlockId, SpinlockText, TableStartText, TableText}
 use Rattle.osbase.specs.Names.{is_name}
 use Rattle.osplan.specs.Limits as limits
 use Rattle.osplan.specs.Limits.{number_of, CoreSizes, CounterSizes, PointSizes, TableSizes, are_counters_within, is_alarm_within, is_between, is_start, is_table_start_within, is_table_timed, is_table_within, is_task_within, is_isr_within, is_core_within, same_number, has_number, are_numbers_distinct}
-use Rattle.osplan.specs.Expressible.{dont_care, is_mode_expressible, is_task_expressible, is_isr_expressible, is_resource_expressible, is_counter_expressible, is_action_expressible, is_alarm_expressible, is_table_expressible, is_core_expressible, is_expressible}
+use Rattle.osplan.specs.Expressible.{dont_care, is_mode_expressible, is_task_expressible, is_isr_expressible, is_resource_expressible, is_counter_expressible, is_action_expressible, is_alarm_expressible, is_spinlock_expressible, is_table_expressible, is_core_expressible, is_expressible}
 use Rattle.osread.specs.Reading.{each}
 use Rattle.osread.specs.Json.{elements, whole_of, name_of as read_name, or_null}
 use Rattle.serde_json.specs.Find.{as_str}
-use Rattle.osshape.specs.Shape.{mode_shape, task_shape, isr_shape, resource_shape, counter_shape, alarm_start_shape, alarm_shape, point_shape, table_start_shape, table_shape, core_shape, config_shape}
-use Rattle.osplan.specs.Names.{name_of_mode, name_of}
+use Rattle.osshape.specs.Shape.{mode_shape, task_shape, isr_shape, resource_shape, counter_shape, alarm_start_shape, alarm_shape, point_shape, spinlock_shape, table_start_shape, table_shape, core_shape, config_shape}
+use Rattle.osplan.specs.Names.{name_of_mode, name_of, spinlock_name}
 use Rattle.osplan.specs.Objects.{alarm_modes, table_actions, table_modes, posted_at_once}
 use Rattle.osplan.specs.Objects as plans
+use Rattle.osplan.specs.Spinlocks.{are_links_ordered}
 use Rattle.osplan.specs.Protection.{protection_named, protection_word}
 use Rattle.osplan.specs.declared.protection.Protection.{Protection}
 use Rattle.osplan.proofs.Scripts.{all_scripts}
@@ -27,10 +28,10 @@ use Rattle.osplan.proofs.Tests.{all-both, all-weaker, each-flat, any-find, any-m
 use Rattle.osplan.proofs.Within.{limit-parts, text-parts, core-text-parts, TextParts, LimitParts}
 use Rattle.osdraft.proofs.Loops.{always}
 use Rattle.osdraft.proofs.Right.{three-parts, acting-right, each-right, is_right}
-use Rattle.oswrite.specs.Writing.{core_mode_word, name_data, id_data, mode_data, task_data, isr_data, resource_data, counter_data, start_data, or_null_data, alarm_data, action_data, point_data, table_start_data, table_data, core_data, config_data, op_text, script_text}
+use Rattle.oswrite.specs.Writing.{core_mode_word, name_data, id_data, mode_data, task_data, isr_data, resource_data, counter_data, start_data, or_null_data, alarm_data, action_data, point_data, spinlock_data, spinlock_name_data, table_start_data, table_data, core_data, config_data, op_text, script_text}
 use Rattle.osread.proofs.Contents.{elements-items_of}
 use Rattle.oswrite.proofs.Placed.{found, names-said, placed}
-use Rattle.oswrite.proofs.Said.{task_said, isr_said, resource_said, counter_said, start_said, counter_name, action_said, alarm_said, point_said, table_start_said, table_said, core_said, config_said}
+use Rattle.oswrite.proofs.Said.{task_said, isr_said, resource_said, counter_said, start_said, counter_name, action_said, alarm_said, point_said, spinlock_said, table_start_said, table_said, core_said, config_said}
 use Rattle.std.proofs.lemmas.List.Folds.{list_all-map}
 use Rattle.std.proofs.lemmas.Simd.{map-map}
 use Rattle.osbase.specs.History.{same_core}
@@ -45,21 +46,23 @@ use Rattle.osbase.specs.declared.items.CoreMode.TheVariants.{Named, DontCare}
 use Rattle.osplan.specs.View.{core_of, counter_in}
 use Rattle.osplan.specs.Expressible as said
 use Rattle.osplan.proofs.ModeObjects.{mode-named, mode-said, nobody, there-mode}
+use Rattle.osplan.proofs.SpinlockObjects.{there-spinlock}
+use Rattle.osplan.proofs.Found.{IsFound, each-found}
 use Rattle.osplan.proofs.Starting.{master-low}
 use Rattle.oscheck.specs.Action.{action_of, any_action}
-use Rattle.oscheck.specs.Check.{core_scripts, counter_sizes, isr_sizes, task_sizes, start_sizes, alarm_sizes, point_sizes, table_sizes, core_sizes, sizes_of, numbers_of, is_text_within, is_unreserved, is_each_once, is_core_mode_known, is_mode_known, are_known, are_near, is_core_timed, are_timed, are_masks, are_operations, tests_of}
-use Rattle.osshape.specs.Declarations.{counter_ref, mode_ref, number_id, declarations, place_of, names_of, counter_declared, declared_sizes, id_of}
+use Rattle.oscheck.specs.Check.{core_scripts, counter_sizes, isr_sizes, task_sizes, start_sizes, alarm_sizes, point_sizes, table_sizes, core_sizes, sizes_of, numbers_of, is_text_within, is_unreserved, is_each_once, is_core_mode_known, is_mode_known, is_spinlock_known, are_known, are_near, are_ordered, links_of, successor, is_core_timed, are_timed, are_masks, are_operations, tests_of}
+use Rattle.osshape.specs.Declarations.{counter_ref, mode_ref, number_id, declarations, place_of, names_of, counter_declared, declared_sizes, id_of, spinlock_ref}
 use Rattle.oscheck.specs.Operation.{is_operation, is_operation_known, operations_of, op_of}
-use Rattle.osdraft.specs.Meaning.{core_mode, task_plan, isr_plan, resource_plan, counter_plan, start_plan, alarm_plan, point_plan, table_start_plan, table_plan, core_plan, plan_of, config_of, config_of_shape}
+use Rattle.osdraft.specs.Meaning.{core_mode, task_plan, isr_plan, resource_plan, counter_plan, start_plan, alarm_plan, point_plan, spinlock_plan, table_start_plan, table_plan, core_plan, plan_of, config_of, config_of_shape}
 use Rattle.osshape.proofs.Lists.{map-back, list_all-by, map-same}
-use Rattle.osdraft.proofs.Found.{IsByte, byte-small, is-byte, is-word, HasCounters, NamedCounter, named-counter, IsFound, each-found}
+use Rattle.osdraft.proofs.Found.{IsByte, byte-small, is-byte, is-word, HasCounters, NamedCounter, named-counter}
 use Rattle.oswrite.proofs.Joining.{parts-pieces}
 use Rattle.std.proofs.lemmas.List.{length-map, map-append, map-id}
 use Rattle.osforms.proofs.ActionTexts.{meant_action}
 use Rattle.serde_json.specs.Read.{read}
 use Rattle.osplan.specs.Fault.{if_faultless, failing}
 use Rattle.oscheck.specs.declared.verdicts.Verdict.{Verdict}
-use Rattle.oscheck.specs.Verdict.{action_verdict, alarm_verdict, both, core_verdict, each as each_verdict, isr_verdict, op_verdict, point_verdict, table_verdict, task_verdict, text_verdict, with_names}
+use Rattle.oscheck.specs.Verdict.{action_verdict, alarm_verdict, both, core_verdict, each as each_verdict, isr_verdict, op_verdict, point_verdict, table_verdict, task_verdict, with_names}
 use Rattle.osdraft.proofs.Meant.{near_kept, TableLimits, table-limits, cap-byte, counter-words, isr-bytes, posted-same, start-words, table-start-word, task-bytes}
 use Rattle.osforms.specs.Action.{is_action as is_action_text}
 
@@ -322,6 +325,17 @@ module _ (plan : Plan) (inside : IsTrue (limits.is_within_limits plan)) (sayable
         auto-shape (λ (auto : TableStart). auto.modes) table_start_shape (table_start_data plan) (table_start_said plan) (λ auto e. rw (table-start-shape auto e) refl) table.auto known.2,
       ) refl
 
+  -- of a spinlock, with the name of its successor, which is one of the configuration
+  next-shape : (next : Option SpinlockId) → option_map_or (limits.is_spinlock plan) next true ≡ true → or_null read_name (or_null_data (spinlock_name_data plan) next) ≡ Some (option_map (spinlock_name plan) next)
+  next-shape None h = refl
+  next-shape (Some spinlock) h = rw (object-named (spinlock_object spinlock) (there-spinlock plan none spinlock h)).in_form refl
+
+  spinlock-shape : (spinlock : Spinlock) → (is_spinlock_expressible spinlock && limits.is_spinlock_known plan spinlock) ≡ true → spinlock_shape (spinlock_data plan spinlock) ≡ Some (spinlock_said plan spinlock)
+  unfolding spinlock_shape
+  spinlock-shape spinlock h =
+      let both = and_parts (is_name spinlock.name) (limits.is_spinlock_known plan spinlock) h in
+      rw (both.0, next-shape spinlock.next both.1) refl
+
   core-shape : (core : Core) → (is_core_expressible core && limits.is_core_known plan core) ≡ true → core_shape (core_data plan core) ≡ Some (core_said plan core)
   unfolding core_shape
   core-shape core h =
@@ -346,7 +360,8 @@ module _ (plan : Plan) (inside : IsTrue (limits.is_within_limits plan)) (sayable
   config-shape =
       let cores = all-both is_core_expressible (limits.is_core_known plan) plan.cores parts.cores bounds.known in
       let modes = each-items read_name name_data (λ name. name) is_mode_expressible (λ name h. rw (and_parts (is_name name) _ h).0 refl) plan.modes parts.modes ∙ ap Some (map-id plan.modes) in
-      rw (modes, each-items core_shape (core_data plan) (core_said plan) (λ (core : Core). is_core_expressible core && limits.is_core_known plan core) core-shape plan.cores cores) refl
+      let spinlocks = all-both is_spinlock_expressible (limits.is_spinlock_known plan) plan.spinlocks parts.spinlocks bounds.linked in
+      rw (modes, each-items spinlock_shape (spinlock_data plan) (spinlock_said plan) (λ (spinlock : Spinlock). is_spinlock_expressible spinlock && limits.is_spinlock_known plan spinlock) spinlock-shape plan.spinlocks spinlocks, each-items core_shape (core_data plan) (core_said plan) (λ (core : Core). is_core_expressible core && limits.is_core_known plan core) core-shape plan.cores cores) refl
 
   -- ---- reading back
 
@@ -486,12 +501,28 @@ module _ (plan : Plan) (inside : IsTrue (limits.is_within_limits plan)) (sayable
         map-back (table_plan objects core.id) (table_said plan) (is_kept_table plan) (table-back core.id) core.tables kept.tables,
       ) refl
 
+  -- The name of a spinlock's successor stands for it.
+  spinlock-placed : (spinlock : SpinlockId) → limits.is_spinlock plan spinlock ≡ true → place_of objects ObjectKind.Spinlock (spinlock_name plan spinlock) ≡ Some (spinlock_place spinlock)
+  spinlock-placed spinlock h = (object-named (spinlock_object spinlock) (there-spinlock plan none spinlock h)).found
+
+  next-back : (next : Option SpinlockId) → option_map_or (limits.is_spinlock plan) next true ≡ true → option_and_then (spinlock_ref objects) (option_map (spinlock_name plan) next) ≡ next
+  next-back None h = refl
+  next-back (Some spinlock) h = rw (spinlock-placed spinlock h) refl
+
+  next-known : (next : Option SpinlockId) → option_map_or (limits.is_spinlock plan) next true ≡ true → option_map_or (λ (name : List ℕ). is_some (place_of objects ObjectKind.Spinlock name)) (option_map (spinlock_name plan) next) true ≡ true
+  next-known None h = refl
+  next-known (Some spinlock) h = rw (spinlock-placed spinlock h) refl
+
+  spinlock-back : (spinlock : Spinlock) → limits.is_spinlock_known plan spinlock ≡ true → spinlock_plan objects (spinlock_said plan spinlock) ≡ spinlock
+  spinlock-back spinlock h = rw (next-back spinlock.next h) refl
+
   plan-back : plan_of (config_said plan) ≡ plan
   plan-back =
       let master : plan.master.number < 16 = master-low plan inside in
       rw (
         inside-some (cap-byte (limits.sizes_of plan) bounds.sizes),
         id-back plan.master (ap Some (byte-small plan.master.number (omega arith))),
+        map-back (spinlock_plan objects) (spinlock_said plan) (limits.is_spinlock_known plan) spinlock-back plan.spinlocks bounds.linked,
         map-back (core_plan objects) (core_said plan) (is_kept_core plan) core-back plan.cores cores,
       ) refl
 
@@ -574,14 +605,24 @@ module _ (plan : Plan) (inside : IsTrue (limits.is_within_limits plan)) (sayable
       (right-of-each (is_kept_alarm plan) (alarm_said plan) (alarm_verdict objects id) (alarm-right id) core.alarms kept.alarms)
       (right-of-each (is_kept_table plan) (table_said plan) (table_verdict objects id) (table-right id) core.tables kept.tables)
 
-  right : is_right (text_verdict (config_said plan)) ≡ true
+  right : is_right (each_verdict (core_verdict objects) (map (core_said plan) plan.cores)) ≡ true
   right = right-of-each (is_kept_core plan) (core_said plan) (core_verdict objects) core-right plan.cores cores
 
   master : has_number (numbers_of (config_said plan).cores) (number_of plan.master) ≡ true
   master = ap (λ numbers. has_number numbers (number_of plan.master)) (numbers-kept plan.cores) ∙ any-mapped (λ id. same_number id (number_of plan.master)) (λ (c : Core). number_of c.id) plan.cores ∙ (any-find (λ (c : Core). same_core c.id plan.master) plan.cores ∙ bounds.master)
 
   all : (are_known (config_said plan) ≡ true) × (are_masks (config_said plan) ≡ true) × (are_operations (config_said plan) ≡ true)
-  all = let verdict = text_verdict (config_said plan) in let parts = three-parts verdict.known verdict.masked verdict.formed right in (and_from _ _ master parts.0, parts.1, parts.2)
+  all =
+      let verdict = each_verdict (core_verdict objects) (map (core_said plan) plan.cores) in
+      let parts = three-parts verdict.known verdict.masked verdict.formed right in
+      let spinlocks = list_all-by (limits.is_spinlock_known plan) (is_spinlock_known objects) (spinlock_said plan) (λ spinlock e. next-known spinlock.next e) plan.spinlocks bounds.linked in
+      (and_from _ _ master (and_from _ _ spinlocks parts.0), parts.1, parts.2)
+
+  -- ---- the order of spinlocks
+
+  ordered : are_ordered (config_said plan) ≡ true
+  ordered =
+      ap are_links_ordered (map-same (successor objects) (spinlock_said plan) (λ (spinlock : Spinlock). spinlock.next) (limits.is_spinlock_known plan) (λ spinlock e. next-back spinlock.next e) plan.spinlocks bounds.linked) ∙ bounds.ordered
 
   -- ---- scripts that stay on their cores: what the text means is the configuration
 
@@ -642,7 +683,8 @@ module _ (plan : Plan) (inside : IsTrue (limits.is_within_limits plan)) (sayable
       ) refl
 
   plan-numbers : sizes_of (config_said plan) ≡ limits.sizes_of plan
-  plan-numbers = rw (map-same (core_sizes objects) (core_said plan) (limits.core_sizes plan) (is_kept_core plan) core-numbers plan.cores cores) refl
+  plan-numbers =
+      rw (length-map plan.spinlocks (spinlock_said plan), map-same (core_sizes objects) (core_said plan) (limits.core_sizes plan) (is_kept_core plan) core-numbers plan.cores cores) refl
 
   within : is_text_within (config_said plan) ≡ true
   within = and_from _ _ refl (ap limits.is_within plan-numbers ∙ bounds.sizes)
@@ -657,7 +699,7 @@ module _ (plan : Plan) (inside : IsTrue (limits.is_within_limits plan)) (sayable
   timed = list_all-by (is_kept_core plan) (is_core_timed objects) (core_said plan) core-timed plan.cores cores
 
   faultless : failing (tests_of (config_said plan)) ≡ []
-  faultless = rw (within, once, all.0, near, all.1, timed, all.2) refl
+  faultless = rw (within, once, all.0, near, ordered, all.1, timed, all.2) refl
 
 -- so it means the configuration
 pub config-back : (plan : Plan) (text : List ℕ) → IsTrue (limits.is_within_limits plan) → IsTrue (said.is_expressible plan) → read text ≡ Some (config_data plan) → config_of text ≡ Some plan

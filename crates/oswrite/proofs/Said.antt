@@ -1,10 +1,10 @@
 -- What the text of a configuration says.
 use Rattle.std.proofs.Common.{ℕ, List, map, Some, option_map}
 use Rattle.osbase.specs.Objects.{counter_place}
-use Rattle.oscheck.specs.Words.{Alarm, AlarmStart, AlarmStartText, AlarmText, ConfigText, Core, CoreText, Counter, CounterRef, CounterText, ExpiryPoint, Isr, IsrText, ObjectKind, Plan, PointText, RemoteCall, Resource, ResourceText, Table, TableStart, TableStartText, TableText, Task, TaskText}
+use Rattle.oscheck.specs.Words.{Alarm, AlarmStart, AlarmStartText, AlarmText, ConfigText, Core, CoreText, Counter, CounterRef, CounterText, ExpiryPoint, Isr, IsrText, ObjectKind, Plan, PointText, RemoteCall, Resource, ResourceText, Spinlock, SpinlockText, Table, TableStart, TableStartText, TableText, Task, TaskText}
 use Rattle.oscript.specs.Calls.{op_of_call}
 use Rattle.osplan.specs.Limits.{ceiling_of, number_of}
-use Rattle.osplan.specs.Names.{name_of, name_of_mode}
+use Rattle.osplan.specs.Names.{name_of, name_of_mode, spinlock_name}
 use Rattle.oswrite.specs.Writing.{core_mode_word, op_text, script_text}
 
 abbrev pub task_said : Plan → Task → TaskText
@@ -61,5 +61,8 @@ core_said plan core = record {
   tables = map (table_said plan) core.tables;
 }
 
+abbrev pub spinlock_said : Plan → Spinlock → SpinlockText
+spinlock_said plan spinlock = record { name = spinlock.name; next = option_map (spinlock_name plan) spinlock.next }
+
 abbrev pub config_said : Plan → ConfigText
-config_said plan = record { version = Some 1; cap = Some plan.cap; master = number_of plan.master; modes = plan.modes; cores = map (core_said plan) plan.cores }
+config_said plan = record { version = Some 1; cap = Some plan.cap; master = number_of plan.master; modes = plan.modes; spinlocks = map (spinlock_said plan) plan.spinlocks; cores = map (core_said plan) plan.cores }

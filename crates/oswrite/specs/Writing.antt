@@ -5,12 +5,12 @@ use Rattle.serde_json.specs.Data.{unsigned, Data, null, boolean, number, string,
 use Rattle.serde_json.specs.View.{items_of}
 use Rattle.serde_json.specs.Written.{compact_text}
 use Rattle.osbase.specs.Objects.{counter_place}
-use Rattle.oscheck.specs.Words.{Alarm, AlarmStart, Core, CoreId, CoreMode, Counter, ExpiryPoint, Isr, ModeId, ObjectKind, Op, Plan, RemoteCall, Resource, Table, TableStart, Task}
+use Rattle.oscheck.specs.Words.{Alarm, AlarmStart, Core, CoreId, CoreMode, Counter, ExpiryPoint, Isr, ModeId, ObjectKind, Op, Plan, RemoteCall, Resource, Spinlock, SpinlockId, Table, TableStart, Task}
 use Rattle.osforms.specs.Operation as forms
 use Rattle.oscript.specs.Calls.{op_of_call}
 use Rattle.osbase.specs.declared.items.CoreMode.TheVariants.{DontCare, Named}
 use Rattle.osplan.specs.Expressible.{dont_care}
-use Rattle.osplan.specs.Names.{name_of_mode, name_of}
+use Rattle.osplan.specs.Names.{name_of_mode, name_of, spinlock_name}
 use Rattle.osplan.specs.Protection.{protection_word}
 
 -- ---- scripts
@@ -140,15 +140,25 @@ core_data plan core = object
     (member (codes "tables") (list_data (table_data plan) core.tables)
     (member (codes "tasks") (list_data (task_data plan) core.tasks) no_members))))))))))
 
+abbrev pub spinlock_name_data : Plan → SpinlockId → Data
+spinlock_name_data plan spinlock = string (spinlock_name plan spinlock)
+
+-- A spinlock: its name and that of its successor, null where it has none.
+abbrev pub spinlock_data : Plan → Spinlock → Data
+spinlock_data plan spinlock = object
+    (member (codes "name") (string spinlock.name)
+    (member (codes "next") (or_null_data (spinlock_name_data plan) spinlock.next) no_members))
+
 -- A configuration, with every member of its text, in ascending order of names: the size of a mailbox, its cores, the master core, its
--- application modes and the version, 1. [own]
+-- application modes, its spinlocks and the version, 1. [own]
 abbrev pub config_data : Plan → Data
 config_data plan = object
     (member (codes "cap") (whole_data plan.cap)
     (member (codes "cores") (list_data (core_data plan) plan.cores)
     (member (codes "master") (id_data plan.master)
     (member (codes "modes") (list_data name_data plan.modes)
-    (member (codes "version") (whole_data 1) no_members)))))
+    (member (codes "spinlocks") (list_data (spinlock_data plan) plan.spinlocks)
+    (member (codes "version") (whole_data 1) no_members))))))
 
 -- Its text: compact JSON. [own]
 abbrev pub config_text : Plan → List ℕ

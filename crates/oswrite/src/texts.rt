@@ -4,14 +4,16 @@ ghost use Rattle.std.specs.Prelude.{◌≡◌, IfErr, IfOk, Some, string_bytes};
 ghost use Rattle.serde_json.specs.Data.{Data};
 ghost use Rattle.serde_json.specs.View.{view};
 ghost use Rattle.osdraft.specs.Meaning.{config_of};
-ghost use Rattle.oswrite.specs.Writing.{core_mode_word, name_data, script_text, id_data, mode_data, list_data, start_data, or_null_data, alarm_data, action_data, point_data, table_start_data, table_data, counter_data, resource_data, isr_data, task_data, core_data, config_data, config_text};
+ghost use Rattle.oswrite.specs.Writing.{core_mode_word, name_data, script_text, id_data, mode_data, list_data, start_data, or_null_data, alarm_data, action_data, point_data, table_start_data, table_data, counter_data, resource_data, spinlock_data, spinlock_name_data, isr_data, task_data, core_data, config_data, config_text};
 
-use osbase::{CoreId, CoreMode, ModeId, Name, ObjectKind, Place, Reference, RemoteCall};
+use osbase::{
+    CoreId, CoreMode, ModeId, Name, ObjectKind, Place, Reference, RemoteCall, SpinlockId,
+};
 use oscript::{Op, op_of_call};
 use osforms::{Names, op_text};
 use osplan::{
     Alarm, AlarmStart, ConfFault, Config, Core, Counter, DONT_CARE, ExpiryPoint, Isr, Plan,
-    Resource, Table, TableStart, Task,
+    Resource, Spinlock, Table, TableStart, Task,
 };
 use serde_json::{Value, json};
 use std::alloc::{AllocError, Global};
@@ -277,17 +279,39 @@ impl Writer<Core> for PlanWriter<'_> {
     }
 }
 
+impl Writer<SpinlockId> for PlanWriter<'_> {
+    ghost written = { λ writer. spinlock_name_data writer.plan.now };
+
+    fn value(&self, alloc: Global, spinlock: &SpinlockId) -> Result<Value, AllocError> {
+        Ok(Value::String(String::from_str(alloc, self.plan.spinlock_name(*spinlock))?))
+    }
+}
+
+impl Writer<Spinlock> for PlanWriter<'_> {
+    ghost written = { λ writer. spinlock_data writer.plan.now };
+
+    fn value(&self, alloc: Global, spinlock: &Spinlock) -> Result<Value, AllocError> {
+        let next = or_null_value(alloc, self, &spinlock.next)?;
+        json!(in alloc; {
+            "name": spinlock.name.as_str(),
+            "next": next
+        })
+    }
+}
+
 fn plan_value(alloc: Global, plan: &Plan) -> Result<Value, AllocError>
     ensures { IfOk result (λ value. view value ≡ config_data plan.now) }
 {
     let writer = PlanWriter { plan };
     let cores = list_value(alloc, &writer, plan.cores.as_slice())?;
     let modes = list_value(alloc, &writer, plan.modes.as_slice())?;
+    let spinlocks = list_value(alloc, &writer, plan.spinlocks.as_slice())?;
     json!(in alloc; {
         "cap": u64::from(plan.cap),
         "cores": cores,
         "master": u64::from(plan.master.number),
         "modes": modes,
+        "spinlocks": spinlocks,
         "version": 1u64
     })
 }

@@ -71,7 +71,7 @@ Limit 64
 // Each fault of a configuration.
 text @
 NotJson {"cores":[
-Shape []|{}|{"cores":[{"id":0}],"x":1}|{"cores":[{"id":0.5}]}|{"cores":[{"id":0}],"spinlocks":[]}
+Shape []|{}|{"cores":[{"id":0}],"x":1}|{"cores":[{"id":0.5}]}|{"cores":[{"id":0}],"spinlock":[]}
 Shape {"cores":[{"id":0,"tasks":[{"name":"9","prio":1,"script":""}]}]}
 Limit {"cores":[]}|{"cores":[{"id":8}]}|{"cores":[{"id":-1}]}|{"version":2,"cores":[{"id":0}]}
 DuplicateName {"cores":[{"id":0},{"id":0}]}|{"cores":[{"id":0,"tasks":[{"name":"M","prio":1,"script":""}]}]}

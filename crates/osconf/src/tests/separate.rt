@@ -1,6 +1,6 @@
 //! Which cores are separate, and so may be cut.
 
-use super::{alarms, configured, counters, events, isrs, tables};
+use super::{alarms, configured, counters, events, isrs, spinlocks, tables};
 use crate::{ConfFault, cut, is_separate};
 use osbase::CoreId;
 use std::test::Fail;
@@ -170,6 +170,17 @@ const STANDINGS: &[Standing] = &[
         core: 0,
         separate: &["StartCore 0;StartCore ?;GetNumberOfActivatedCores v0;ShutdownOS 0"],
         bound: &["work;ShutdownAllCores 0"],
+    },
+    // A script that names a spinlock binds its own core.
+    Standing {
+        text: spinlocks::TWO_TASKS,
+        core: 0,
+        separate: &["GetSpinlock ?;TryToGetSpinlock ? v0;ReleaseSpinlock ?"],
+        bound: &[
+            "GetSpinlock S",
+            "TryToGetSpinlock S v0",
+            "ReleaseSpinlock ?;ReleaseSpinlock S",
+        ],
     },
     // A table that acts on another core's task binds both cores.
     Standing {

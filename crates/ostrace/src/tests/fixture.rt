@@ -37,6 +37,7 @@ pub fn plan_with(alloc: Global, name: &str) -> Result<Plan, AllocError> {
         cap: 16,
         master: ZERO,
         modes,
+        spinlocks: List::new(alloc),
         cores,
     })
 }
@@ -155,6 +156,7 @@ pub fn bare_config(alloc: Global) -> Result<Config, AllocError> {
         cap: 16,
         master: ZERO,
         modes,
+        spinlocks: List::new(alloc),
         cores,
     }))
 }

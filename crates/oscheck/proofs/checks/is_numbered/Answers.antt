@@ -1,4 +1,4 @@
-use Rattle.std.proofs.Common.{◌≡◌, true, rules, length, Some, ◌∙◌}
+use Rattle.std.proofs.Common.{◌≡◌, nat_le, true, rules, length, Some, ◌∙◌}
 use Rattle.osbase.specs.declared.objects.ObjectKind.{ObjectKind}
 use Rattle.osplan.specs.Limits.{is_between, most_of}
 use Rattle.oscheck.proofs.Counting.{cores-left}
@@ -8,5 +8,6 @@ pub returns-then-is_between-2 : goal.returns-then-is_between-2
 returns-then-is_between-2 c =
     let version : is_between 1 1 c.args.text.now.version ≡ true = search rules in
     let modes : is_between 1 (most_of ObjectKind.Mode) (Some (length c.args.text.now.modes)) ≡ true = search rules in
+    let spinlocks : nat_le (length c.args.text.now.spinlocks) (most_of ObjectKind.Spinlock) ≡ true = search rules in
     let cap : is_between 1 16 c.args.text.now.cap ≡ true = search rules in
-    c.are_cores_within.ensures ∙ rw (c.as_slice.ensures, c.requires.objects) (cores-left c.args.text.now version modes cap)
+    c.are_cores_within.ensures ∙ rw (c.as_slice.ensures, c.requires.objects) (cores-left c.args.text.now version modes spinlocks cap)
