@@ -9,6 +9,8 @@ mod limits;
 mod logs;
 mod program;
 mod shutdown;
+mod spinlock_logs;
+mod spinlocks;
 mod starts;
 mod tables;
 mod threads;
@@ -46,7 +48,7 @@ const BESIDE: &str =
     r#"{"cores":[{"id":0,"start":[1,2],"tasks":[{"name":"A","prio":1,"auto":["M"],"script":"ActivateTask B;TerminateTask"}]},{"id":1,"tasks":[{"name":"B","prio":1,"script":"TerminateTask"}]},{"id":2,"tasks":[{"name":"V","prio":1,"auto":["M"],"script":"TerminateTask"}]}]}"#;
 
 const ALONE: &str =
-    "{\"cap\":16,\"cores\":[{\"alarms\":[],\"counters\":[],\"id\":2,\"isrs\":[],\"mode\":\"M\",\"protection\":\"PRO_SHUTDOWN\",\"resources\":[],\"start\":[],\"tables\":[],\"tasks\":[{\"activations\":1,\"auto\":[\"M\"],\"budget\":0,\"extended\":false,\"name\":\"V\",\"preemptable\":true,\"prio\":1,\"script\":\"TerminateTask\"}]}],\"master\":2,\"modes\":[\"M\"],\"version\":1}\n";
+    "{\"cap\":16,\"cores\":[{\"alarms\":[],\"counters\":[],\"id\":2,\"isrs\":[],\"mode\":\"M\",\"protection\":\"PRO_SHUTDOWN\",\"resources\":[],\"start\":[],\"tables\":[],\"tasks\":[{\"activations\":1,\"auto\":[\"M\"],\"budget\":0,\"extended\":false,\"name\":\"V\",\"preemptable\":true,\"prio\":1,\"script\":\"TerminateTask\"}]}],\"master\":2,\"modes\":[\"M\"],\"spinlocks\":[],\"version\":1}\n";
 
 const ALONE_TRACE: &str = "core 2\nhook Startup\nact V\npre V\npost V\nend V\nended\n";
 
@@ -75,6 +77,9 @@ const FULL_SCHEDULE: &str =
 
 /// A configuration, stimuli, and what their run prints.
 type Run = (&'static str, &'static str, &'static str);
+
+/// A run of a schedule, that, and its status.
+type Listed = (Run, &'static str, u8);
 
 // Runs of the default schedule, to their end.
 const RUNS: &[Run] = &[
@@ -147,8 +152,7 @@ const RUNS: &[Run] = &[
     ),
 ];
 
-// Runs of a schedule, and their statuses.
-const SCHEDULED: &[(Run, &str, u8)] = &[
+const SCHEDULED: &[Listed] = &[
     (
         (BORDER, r#"{"0":"op op","1":"op op"}"#, BORDER_TRACE),
         BORDER_SCHEDULE,
@@ -198,6 +202,12 @@ const FAULTS: &[(&str, &str, Option<&str>, &str)] = &[
         "x",
         None,
         "fault 6 WrongCore\n",
+    ),
+    (
+        r#"{"spinlocks":[{"name":"S1","next":"S1"}],"cores":[{"id":0}]}"#,
+        "x",
+        None,
+        "fault 7 SpinOrder\n",
     ),
     (
         r#"{"cores":[{"id":0,"tasks":[{"name":"A","prio":1,"script":"ClearEvent 4294967296"}]}]}"#,
@@ -302,20 +312,25 @@ fn play(
     Ok(())
 }
 
+// Plays runs of a schedule.
+fn play_listed(
+    rt: &(impl Abort + Threads + Wait + Sync),
+    alloc: Global,
+    runs: &[Listed],
+) -> Result<(), Fail> {
+    let job = run_of(Some("turns.json"));
+    for ((config, stimuli, out), turns, status) in runs {
+        let texts = [Some(*config), Some(*stimuli), Some(*turns)];
+        compare(rt, alloc, &job, &texts, (out, "", *status))?;
+    }
+    Ok(())
+}
+
 #[test]
 fn examples_come_to_their_texts_and_statuses(rt: HostRuntime) -> Result<(), Fail> {
     let alloc = rt.alloc();
     play(&rt, alloc, RUNS)?;
-    for ((config, stimuli, out), turns, status) in SCHEDULED {
-        let texts = [Some(*config), Some(*stimuli), Some(*turns)];
-        compare(
-            &rt,
-            alloc,
-            &run_of(Some(*turns)),
-            &texts,
-            (out, "", *status),
-        )?;
-    }
+    play_listed(&rt, alloc, SCHEDULED)?;
     for (config, stimuli, turns, err) in FAULTS {
         let texts = [Some(*config), Some(*stimuli), *turns];
         compare(&rt, alloc, &run_of(*turns), &texts, ("", err, 1))?;

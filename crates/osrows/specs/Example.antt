@@ -1,5 +1,5 @@
 -- What a worked example is, and what is proved of each.
-use Rattle.std.specs.Prelude.{◌≡◌, ℕ, suc, IsTrue, Option, Some, None, option_map, List, [], ◌∷◌, slice_get}
+use Rattle.std.specs.Prelude.{◌≡◌, ℕ, suc, not, IsTrue, Option, Some, None, option_map, List, [], ◌∷◌, slice_get}
 use Rattle.osbase.specs.declared.references.CoreId.{CoreId}
 use Rattle.osbase.specs.declared.items.Item.{Item}
 use Rattle.osbase.specs.declared.marks.Mark.{Mark}
@@ -8,7 +8,7 @@ use Rattle.osbase.specs.History.{marks_of}
 use Rattle.osplan.specs.declared.plans.Plan.{Plan}
 use Rattle.osplan.specs.View.{view_of}
 use Rattle.oskernel.specs.Step.{solo}
-use Rattle.osworld.specs.Runs.{default_turns, is_default}
+use Rattle.osworld.specs.Runs.{default_turns, is_default, is_over}
 use Rattle.osworld.specs.World.{world}
 
 -- What is said of one core: the items that it takes, and the marks that it prints.
@@ -48,3 +48,7 @@ items_from n (b ∷ bs) = (core n, b.items) ∷ items_from (suc n) bs
 -- In so many rounds each core takes the items of its block.
 abbrev pub TakesItems : Example → ℕ → Type 0
 TakesItems e rounds = (world e.plan e.stimuli (default_turns e.plan rounds)).items ≡ items_from 0 e.blocks
+
+-- After so many rounds a started core has not ended.
+abbrev pub Stalls : Example → ℕ → Type 0
+Stalls e rounds = IsTrue (not (is_over e.plan (world e.plan e.stimuli (default_turns e.plan rounds))))

@@ -6,5 +6,6 @@ pub mod Interrupts
 pub mod Laws
 pub mod Resources
 pub mod Shutdowns
+pub mod Spinlocks
 pub mod Tasks
 pub mod Logs

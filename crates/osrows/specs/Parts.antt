@@ -1,5 +1,5 @@
 -- What the worked examples are made of.
-use Rattle.std.specs.Prelude.{ℕ, pos, true, false, Some, None, List, [], ◌∷◌, ◌++◌, codes, map, replicate}
+use Rattle.std.specs.Prelude.{ℕ, pos, true, false, None, List, [], ◌∷◌, ◌++◌, codes, map, replicate}
 use Rattle.osbase.specs.declared.references.AlarmRef.{AlarmRef}
 use Rattle.osbase.specs.declared.references.CoreId.{CoreId}
 use Rattle.osbase.specs.declared.references.CounterRef.{CounterRef}
@@ -97,7 +97,7 @@ with_tables tables c = record c { tables = tables }
 
 -- a configuration with the defaults
 abbrev pub plan_of : List Core → Plan
-plan_of cores = record { cap = 16; master = core 0; modes = codes "M" ∷ []; cores = cores }
+plan_of cores = record { cap = 16; master = core 0; modes = codes "M" ∷ []; spinlocks = []; cores = cores }
 
 -- ---- the stimuli and the items
 

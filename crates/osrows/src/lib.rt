@@ -8,4 +8,5 @@ pub mod laws;
 pub mod logs;
 pub mod resources;
 pub mod shutdowns;
+pub mod spinlocks;
 pub mod tasks;

@@ -1,2 +1,2 @@
 mod Each
-mod Locks
+pub mod Locks

@@ -17,7 +17,7 @@ use Rattle.osspin.specs.declared.calls.SpinAction.TheVariants.{Take, Free, Look}
 use Rattle.osspin.specs.declared.calls.SpinCall.{SpinCall}
 use Rattle.osspin.specs.declared.calls.SpinReply.{SpinReply}
 use Rattle.osspin.specs.declared.calls.SpinReply.TheVariants.{Answered, Seen}
-use Rattle.osspin.specs.Spins.{IsRefusedTry, free_call, holder_of, holders_after, is_free, is_held_by, lock_after, lock_reply, look_call, spin_call, spin_reply, spinlocks, try_take_call}
+use Rattle.osspin.specs.Spins.{IsRefusedCall, free_call, holder_of, holders_after, is_free, is_held_by, lock_after, lock_reply, look_call, spin_call, spin_reply, spinlocks, try_take_call}
 use Rattle.osspin.specs.Words.{FitsByte, Stands, answer, answer_to, word_of}
 
 if_fits : (b : Bool) (x y : Option CoreId) → FitsByte x → FitsByte y → FitsByte (if b then x else y)
@@ -115,14 +115,13 @@ abbrev granted : SpinReply → Bool
 granted (Answered b) = b
 granted (Seen h) = true
 
-refused_lock : (core : CoreId) (h : Option CoreId) → Answered false ≡ lock_reply core Take h → lock_after core Take h ≡ h
-refused_lock core None e = absurd (both_ways false refl (ap granted e))
-refused_lock core (Some d) e = refl
+refused : (core : CoreId) (h : Option CoreId) (action : SpinAction) → Answered false ≡ lock_reply core action h → lock_after core action h ≡ h
+refused core None Take e = absurd (both_ways false refl (ap granted e))
+refused core (Some d) Take e = refl
+refused core h Free e = cond-false _ _ _ (sym (ap granted e))
+refused core h Look e = refl
 
-refused : (core : CoreId) (h : Option CoreId) (action : SpinAction) → action ≡ Take → Answered false ≡ lock_reply core action h → lock_after core action h ≡ h
-refused core h action is = subst (λ (a : SpinAction). Answered false ≡ lock_reply core a h → lock_after core a h ≡ h) (sym is) (refused_lock core h)
-
--- a refused try leaves the holders
-pub refused_idle : AreIdle spinlocks IsRefusedTry
+-- a refused call leaves the holders
+pub refused_idle : AreIdle spinlocks IsRefusedCall
 refused_idle holders e is reply = let lock = e.call.lock in
-    ap (slice_set holders lock.index) (refused e.core (holder_of holders lock) e.call.action is.0 (sym is.1 ∙ reply)) ∙ set-get_or holders lock.index None
+    ap (slice_set holders lock.index) (refused e.core (holder_of holders lock) e.call.action (sym is ∙ reply)) ∙ set-get_or holders lock.index None

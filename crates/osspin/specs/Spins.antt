@@ -80,6 +80,6 @@ free_call core lock freed = entry core (spin_call lock Free) (Answered freed)
 abbrev pub look_call : CoreId → SpinlockId → Option CoreId → SpinEntry
 look_call core lock holder = entry core (spin_call lock Look) (Seen holder)
 
--- A try that was refused. It changes nothing.
-abbrev pub IsRefusedTry : SpinEntry → Type 0
-IsRefusedTry e = (e.call.action ≡ Take) × (e.reply ≡ Answered false)
+-- A call that was refused: a try for a spinlock that is taken, or a release of one that the core does not hold. It changes nothing.
+abbrev pub IsRefusedCall : SpinEntry → Type 0
+IsRefusedCall e = e.reply ≡ Answered false

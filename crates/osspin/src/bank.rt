@@ -1,10 +1,11 @@
 //! Spinlock words, shared by the threads of the cores.
 
 ghost use Rattle.std.specs.Prelude.{◌≡◌, ◌<◌, map, IfOk};
+ghost use Rattle.osseat.specs.Histories.{entry};
 ghost use Rattle.osseat.specs.Seats.{AllApart, AllAt, Extends, IsOneHistory, cores_of, fresh};
 ghost use Rattle.osspin.specs.Spins.{free_call, look_call, spinlocks, try_take_call};
 
-use crate::calls::{SpinAction, SpinCall, Spinlocks, holder_in, word_of};
+use crate::calls::{SpinAction, SpinCall, SpinReply, Spinlocks, holder_in, word_of};
 use osbase::{CoreId, List, SPINLOCKS, SpinlockId};
 use osseat::{CoreSeat, Plan, SharedWords};
 use std::alloc::{AllocError, Global};
@@ -97,6 +98,19 @@ impl SpinBank {
         };
         let index = usize::from(lock.index);
         holder_in(self.words.load::<Brand>(seat, index, call))
+    }
+
+    /// Any of the three calls, of any spinlock, with its reply.
+    pub fn call(&self, seat: &mut SpinSeat, call: SpinCall) -> SpinReply
+        requires place { seat.old.place ≡ self.now }
+        requires lock { call.lock.index < SPINLOCKS }
+        ensures { Extends spinlocks seat.old (entry seat.old.core call result) seat.new }
+    {
+        match call.action {
+            SpinAction::Take => SpinReply::Answered(self.try_take(seat, call.lock)),
+            SpinAction::Free => SpinReply::Answered(self.free(seat, call.lock)),
+            SpinAction::Look => SpinReply::Seen(self.look(seat, call.lock)),
+        }
     }
 
     /// All seats together show one history, which is legal and has their calls and no others.

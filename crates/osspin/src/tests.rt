@@ -3,7 +3,7 @@ ghost use Rattle.osseat.specs.Histories.{Thinned};
 ghost use Rattle.osseat.specs.Runs.{IsOneRun, IsRunOf};
 ghost use Rattle.osseat.specs.Seats.{AllApart};
 ghost use Rattle.osbase.specs.declared.limits.TheConstants.{SPINLOCKS};
-ghost use Rattle.osspin.specs.Spins.{IsRefusedTry, spinlocks};
+ghost use Rattle.osspin.specs.Spins.{IsRefusedCall, spinlocks};
 
 use crate::{SpinAction, SpinBank, SpinCall, SpinList, SpinReply, SpinSeat};
 use osbase::{CoreId, List, SPINLOCKS, SpinlockId};
@@ -62,10 +62,10 @@ struct Run {
 fn visit(bank: &SpinBank, run: &mut Run, lock: SpinlockId) -> bool
     requires place { run.old.seat.place ≡ bank.now }
     requires lock { lock.index < SPINLOCKS }
-    requires log { Thinned IsRefusedTry run.old.seat.mine run.old.log.items }
+    requires log { Thinned IsRefusedCall run.old.seat.mine run.old.log.items }
     ensures place { run.new.seat.place ≡ run.old.seat.place }
     ensures core { run.new.seat.core ≡ run.old.seat.core }
-    ensures log { Thinned IsRefusedTry run.new.seat.mine run.new.log.items }
+    ensures log { Thinned IsRefusedCall run.new.seat.mine run.new.log.items }
 {
     let core = run.seat.core();
     if run.log.reserve(3).is_err() {
@@ -100,7 +100,7 @@ fn work<W: Wish + Drop>(bank: &SpinBank, alloc: Global, seat: SpinSeat, mut wish
     requires fresh { seat.mine ≡ [] }
     ensures place { result.seat.place ≡ bank.now }
     ensures core { result.seat.core ≡ seat.core }
-    ensures log { Thinned IsRefusedTry result.seat.mine result.log.items }
+    ensures log { Thinned IsRefusedCall result.seat.mine result.log.items }
 {
     let mut run = Run {
         seat,
@@ -128,7 +128,7 @@ fn share<R: Threads + Sync>(
 ) -> Result<Vec<Run>, AllocError>
     requires { All (λ s. (s.place ≡ bank.now) × (s.mine ≡ [])) seats.items }
     ensures len { IfOk result (λ runs. vec_len runs ≡ vec_len seats) }
-    ensures each { IfOk result (λ runs. (i : ℕ) (d e : _) → i < vec_len seats → IsRunOf IsRefusedTry bank.now (slice_index_or seats.items i e) (slice_index_or runs.items i d).seat (slice_index_or runs.items i d).log.items) }
+    ensures each { IfOk result (λ runs. (i : ℕ) (d e : _) → i < vec_len seats → IsRunOf IsRefusedCall bank.now (slice_index_or seats.items i e) (slice_index_or runs.items i d).seat (slice_index_or runs.items i d).log.items) }
 {
     let rounds = Rounds { lock: 0, left: 100 };
     thread::map_vec(rt, seats, &|seat| work(bank, alloc, seat, rounds))
@@ -219,6 +219,15 @@ fn one_core_holds_a_spinlock(rt: HostRuntime) -> Result<(), Fail> {
     assert!(rt;
         bank.try_take(&mut b, lock) && bank.look(&mut a, lock) == Some(CoreId { number: 5 })
     );
+    let (take, free) = (
+        call_of(lock, SpinAction::Take),
+        call_of(lock, SpinAction::Free),
+    );
+    let look = call_of(lock, SpinAction::Look);
+    assert!(rt; bank.call(&mut a, take) == SpinReply::Answered(false));
+    assert!(rt; bank.call(&mut a, look) == SpinReply::Seen(Some(CoreId { number: 5 })));
+    assert!(rt; bank.call(&mut b, free) == SpinReply::Answered(true));
+    assert!(rt; bank.call(&mut a, take) == SpinReply::Answered(true));
     Ok(())
 }
 
@@ -246,6 +255,8 @@ fn the_listed_spinlocks_answer_alike(rt: HostRuntime) -> Result<(), Fail> {
     Ok(())
 }
 
-fn call_of(lock: SpinlockId, action: SpinAction) -> SpinCall {
+fn call_of(lock: SpinlockId, action: SpinAction) -> SpinCall
+    ensures { result ≡ record { lock = lock; action = action } }
+{
     SpinCall { lock, action }
 }

@@ -14,10 +14,10 @@ use Rattle.osbase.specs.History.{same_core}
 use Rattle.osbase.specs.Sets.{has_core}
 use Rattle.osplan.specs.declared.plans.Plan.{Plan}
 use Rattle.osplan.specs.declared.plans.Core.{Core}
-use Rattle.osplan.specs.Limits.{core_sizes, is_between, is_core_known, is_core_mode, is_core_within, is_within_limits}
+use Rattle.osplan.specs.Limits.{core_sizes, is_between, is_core_known, is_core_mode, is_core_within, is_within_limits, sizes_of}
 use Rattle.osplan.specs.View.{View, core_of, is_configured, no_core, view_of}
 use Rattle.osplan.proofs.Tests.{find-holds, find-passes}
-use Rattle.osplan.proofs.Within.{between, limit-parts}
+use Rattle.osplan.proofs.Within.{between, few-modes, limit-parts}
 use Rattle.osstate.proofs.Begun.{is_some-core_of}
 use Rattle.osstate.specs.State.{KernelState}
 use Rattle.oskernel.specs.Admission.{takes_in}
@@ -26,36 +26,43 @@ use Rattle.oskernel.specs.declared.wants.Watch.{Watch}
 use Rattle.oskernel.specs.Step.{outbox_size}
 use Rattle.oskernel.specs.Wants.{want_in, watch_in}
 use Rattle.oskernel.proofs.Stages.{is_mail}
-use Rattle.osseat.specs.Histories.{IsLegal, IsLegalFrom, entry}
+use Rattle.osseat.specs.declared.histories.Entry.{Entry}
+use Rattle.osseat.specs.Histories.{IsLegal, IsLegalFrom, Object, entry}
 use Rattle.osseat.specs.Seats.{Extends, Held}
 use Rattle.osboard.specs.declared.calls.BoardState.{BoardState}
 use Rattle.osboard.specs.declared.calls.BoardCall.{BoardCall}
 use Rattle.osboard.specs.declared.calls.BoardCall.TheVariants.{Start, Enter, MakeReady, Drain, Look, AskHalt, LookHalt}
 use Rattle.osboard.specs.declared.calls.BoardReply.{BoardReply}
 use Rattle.osboard.specs.declared.calls.BoardReply.TheVariants.{Started, Acknowledged, Shown, Decided, Halting}
-use Rattle.osboard.specs.Boards.{BoardEntry, HasPlace, IsMode, board_after, board_reply, first_asked, first_board, one_board, start_answer}
+use Rattle.osboard.specs.Boards.{HasPlace, IsMode, board_reply, first_asked, start_answer}
+use Rattle.osspin.specs.declared.calls.SpinReply.{SpinReply}
+use Rattle.osspin.specs.declared.calls.SpinReply.TheVariants.{Answered}
+use Rattle.osspin.specs.Spins.{holder_of, is_free, is_held_by, spin_reply}
 use Rattle.osturn.specs.declared.asks.Ask.{Ask}
 use Rattle.osturn.specs.declared.asks.Ask.TheVariants.{OfBoard, OfSpins, Oldest, StartUnknown, TakeStimulus}
 use Rattle.osturn.specs.declared.asks.Answer.{Answer}
-use Rattle.osturn.specs.declared.asks.Answer.TheVariants.{Replied, Unasked}
-use Rattle.osturn.specs.Asking.{asked_by, look_asked, named_by, no_calls, own_asked, starting, told_by}
-use Rattle.osturn.proofs.Leading.{halted-item, is-item, passing-item}
-use Rattle.osthreads.specs.Calling.{ChangesBoard, LoadsBoard, item_of_call}
+use Rattle.osturn.specs.declared.asks.Answer.TheVariants.{Replied, Spun, Unasked}
+use Rattle.oskernel.specs.declared.wants.SpinWish.{SpinWish}
+use Rattle.oskernel.specs.declared.wants.SpinWish.TheVariants as Wish
+use Rattle.osturn.specs.Asking.{asked_by, look_asked, named_by, no_calls, own_asked, spin_call_of, spun, starting, told_by}
+use Rattle.osturn.proofs.Leading.{halted-item, is-item, passing-item, spun-item}
+use Rattle.osthreads.specs.Calling.{ChangesBoard, LoadsBoard, item_of_call, item_of_wish}
 use Rattle.osthreads.specs.declared.turns.Turned.{Turned}
 use Rattle.osthreads.specs.declared.turns.Turned.TheVariants.{Took, Nothing, Refused}
-use Rattle.osthreads.specs.Working.{IsFruitless, IsStuck, MayAnswer, UnlessTook, WaitsForRoom}
+use Rattle.osthreads.specs.Working.{IsFruitless, IsStuck, MayAnswer, UnlessTook, MayWait}
 
 -- ---- replies
 
--- The last call of a legal history was answered what the board answers.
-legal-last : (s : BoardState) (xs : List BoardEntry) (e : BoardEntry) → IsLegalFrom one_board s (xs ++ e ∷ []) → (t : BoardState) × (e.reply ≡ board_reply e.core e.call t)
-legal-last s [] e legal = (s, legal.0)
-legal-last s (x ∷ xs) e legal = legal-last (board_after x.core x.call s) xs e legal.1
+-- The last call of a legal history was answered what the object answers.
+module _ {A S C R : Type 0} (o : Object A S C R) where
+  legal-last : (s : S) (xs : List (Entry C R)) (e : Entry C R) → IsLegalFrom o s (xs ++ e ∷ []) → (t : S) × (e.reply ≡ o.reply e.core e.call t)
+  legal-last s [] e legal = (s, legal.0)
+  legal-last s (x ∷ xs) e legal = legal-last (o.after x.core x.call s) xs e legal.1
 
-pub replied-by : (old new : Held CoreId BoardCall BoardReply) (call : BoardCall) (reply : BoardReply) → Extends one_board old (entry old.core call reply) new → (t : BoardState) × (reply ≡ board_reply old.core call t)
-replied-by old new call reply made =
-    legal-last (first_board old.place.plan.about) (old.seen ++ made.between) (entry old.core call reply)
-    (subst (λ (es : List BoardEntry). IsLegal one_board old.place.plan.about es) made.seen made.legal)
+  pub replied-by : (old new : Held A C R) (call : C) (reply : R) → Extends o old (entry old.core call reply) new → (t : S) × (reply ≡ o.reply old.core call t)
+  replied-by old new call reply made =
+      legal-last (o.first old.place.plan.about) (old.seen ++ made.between) (entry old.core call reply)
+      (subst (λ (es : List (Entry C R)). IsLegal o old.place.plan.about es) made.seen made.legal)
 
 -- A call that changes the board results in an item that the core takes exactly if it takes the one that was expected.
 pub record ResultsIn (id : CoreId) (watch : Watch) (call : BoardCall) (t : BoardState) : Type 0 where
@@ -97,6 +104,37 @@ call-fruitless id k call changes not_this answer may =
     subst (IsFruitless id k (OfBoard call)) (sym may.1)
     (refused-item id k (OfBoard call) (Replied (board_reply id call may.0)) results.item results.names (results.same k ∙ not_this))
 
+-- The item of a spinlock's answer is one that the core takes exactly if it takes the one that was expected.
+pub spun-same : (s : KernelState) (wish : SpinWish) (reply : SpinReply) (i : Item) → spun wish reply ≡ Some i → takes_in 64 s i ≡ takes_in 64 s (item_of_wish wish)
+spun-same s (Wish.Get l) (Answered true) i e = is-item (λ (j : Item). takes_in 64 s j ≡ takes_in 64 s (Item.Granted l)) (Item.Granted l) i refl e
+spun-same s (Wish.Try l) (Answered taken) i e = is-item (λ (j : Item). takes_in 64 s j ≡ takes_in 64 s (Item.Tried l true)) (Item.Tried l taken) i refl e
+spun-same s (Wish.Free l) (Answered true) i e = is-item (λ (j : Item). takes_in 64 s j ≡ takes_in 64 s (Item.Freed l)) (Item.Freed l) i refl e
+spun-same s wish reply i e = cc
+
+-- Whatever the spinlock answers, the core takes no item then, if it does not take the one that was expected.
+pub wish-fruitless : (id : CoreId) (k : KernelState) (wish : SpinWish) → takes_in outbox_size k (item_of_wish wish) ≡ false → (answer : Answer) → MayAnswer id (OfSpins wish) answer → IsFruitless id k (OfSpins wish) answer
+wish-fruitless id k wish not_this answer may =
+    subst (IsFruitless id k (OfSpins wish)) (sym may.1)
+    (λ item names. spun-same k wish (spin_reply id (spin_call_of wish) may.0) item names ∙ not_this)
+
+-- A call of a spinlock that results in no item was refused, and it is no try.
+pub record IsUnspun (wish : SpinWish) (reply : SpinReply) : Type 0 where
+  pub refused : reply ≡ Answered false
+  pub waits : MayWait (OfSpins wish)
+
+pub unspun : (id : CoreId) (wish : SpinWish) (holders : List (Option CoreId)) → ((i : Item) → spun wish (spin_reply id (spin_call_of wish) holders) ≡ Some i → ⊥) → IsUnspun wish (spin_reply id (spin_call_of wish) holders)
+unspun id (Wish.Get l) holders none = by (is_free (holder_of holders l)) none
+  where
+    by : (b : Bool) → ((i : Item) → spun (Wish.Get l) (Answered b) ≡ Some i → ⊥) → IsUnspun (Wish.Get l) (Answered b)
+    by true none = absurd (none (Item.Granted l) refl)
+    by false none = record { refused = refl; waits = tt }
+unspun id (Wish.Try l) holders none = absurd (none (Item.Tried l (is_free (holder_of holders l))) refl)
+unspun id (Wish.Free l) holders none = by (is_held_by id (holder_of holders l)) none
+  where
+    by : (b : Bool) → ((i : Item) → spun (Wish.Free l) (Answered b) ≡ Some i → ⊥) → IsUnspun (Wish.Free l) (Answered b)
+    by true none = absurd (none (Item.Freed l) refl)
+    by false none = record { refused = refl; waits = tt }
+
 -- ---- turns that changed nothing
 
 pub unless-weaker : {P Q : Type 0} (turned : Turned) → (P → Q) → UnlessTook turned P → UnlessTook turned Q
@@ -105,8 +143,8 @@ unless-weaker Nothing so was = so was
 unless-weaker (Refused from e) so was = so was
 
 -- The core's own turn asks this alone.
-pub stuck-by : (v : View) (k : KernelState) (next : Option Stimulus) (ask : Ask) → asked_by v (want_in k) (watch_in k) next Choice.Own ≡ Some ask → WaitsForRoom ask ⊎ ((answer : Answer) → MayAnswer v.core ask answer → IsFruitless v.core k ask answer) → IsStuck v k next
-stuck-by v k next ask asks none other e = subst (λ (a : Ask). WaitsForRoom a ⊎ ((answer : Answer) → MayAnswer v.core a answer → IsFruitless v.core k a answer)) (same_Some ask other (sym asks ∙ e)) none
+pub stuck-by : (v : View) (k : KernelState) (next : Option Stimulus) (ask : Ask) → asked_by v (want_in k) (watch_in k) next Choice.Own ≡ Some ask → MayWait ask ⊎ ((answer : Answer) → MayAnswer v.core ask answer → IsFruitless v.core k ask answer) → IsStuck v k next
+stuck-by v k next ask asks none other e = subst (λ (a : Ask). MayWait a ⊎ ((answer : Answer) → MayAnswer v.core a answer → IsFruitless v.core k a answer)) (same_Some ask other (sym asks ∙ e)) none
 
 module _ (asked_plan plan : Plan) (id : CoreId) (k : KernelState) (next : Option Stimulus) (asks : Option Ask) where
   -- it asks nothing
@@ -115,7 +153,7 @@ module _ (asked_plan plan : Plan) (id : CoreId) (k : KernelState) (next : Option
 
   -- or this, which results in nothing
   pub one-asked : (ask : Ask) (turned : Turned) → asked_plan ≡ plan → asks ≡ asked_by (view_of asked_plan id) (want_in k) (watch_in k) next Choice.Own → asks ≡ Some ask
-      → UnlessTook turned (WaitsForRoom ask ⊎ ((answer : Answer) → MayAnswer id ask answer → IsFruitless id k ask answer)) → UnlessTook turned (IsStuck (view_of plan id) k next)
+      → UnlessTook turned (MayWait ask ⊎ ((answer : Answer) → MayAnswer id ask answer → IsFruitless id k ask answer)) → UnlessTook turned (IsStuck (view_of plan id) k next)
   one-asked ask turned same is this =
       unless-weaker turned (stuck-by (view_of plan id) k next ask (sym (is ∙ ap (λ (p : Plan). asked_by (view_of p id) (want_in k) (watch_in k) next Choice.Own) same) ∙ this))
 
@@ -143,6 +181,10 @@ board-no-mail id watch Look (Shown view) i e = passing-item NoMail refl (λ agre
 board-no-mail id watch (AskHalt status) (Decided asked) i e = is-item NoMail (Item.Halt asked.0 asked.1) i refl e
 board-no-mail id watch LookHalt (Halting halt) i e = halted-item NoMail (λ asked. refl) (λ core status. refl) watch halt i e
 board-no-mail id watch call reply i e = cc
+
+-- Nor does one of a spinlock.
+pub spins-no-mail : (id : CoreId) (watch : Watch) (wish : SpinWish) (reply : SpinReply) (i : Item) → named_by id watch (OfSpins wish) (Spun reply) ≡ Some i → is_mail i ≡ false
+spins-no-mail id watch wish reply i e = spun-item NoMail (λ l. refl) (λ l taken. refl) (λ l. refl) wish reply i e
 
 -- Without a call there is none, and no mail either.
 pub unasked-silent : (id : CoreId) (ask : Ask) → told_by id ask Unasked ≡ no_calls
@@ -182,13 +224,11 @@ module _ (plan : Plan) (limits : IsTrue (is_within_limits plan)) where
       is-there None some = cc
       is-there (Some core) some = refl
 
-  few-modes : length plan.modes < 9
-  few-modes =
-      let modes = between 1 8 (length plan.modes) (and_parts _ _ (and_parts _ _ (and_parts _ _ (limit-parts plan limits).sizes).0).0).0 in
-      omega arith
+  modes-few : length plan.modes < 9
+  modes-few = let few = few-modes (sizes_of plan) (limit-parts plan limits).sizes in omega (arith, few)
 
   mode-low : (mode : CoreMode) → is_core_mode plan mode ≡ true → IsMode mode
-  mode-low (Named m) known = let low = ltb-true m.index (length plan.modes) known in let few = few-modes in omega arith
+  mode-low (Named m) known = let low = ltb-true m.index (length plan.modes) known in let few = modes-few in omega arith
   mode-low DontCare known = tt
 
   mode-of : (id : CoreId) (o : Option Core) → core_of plan id ≡ o → IsMode (unwrap_or o (no_core id)).mode
@@ -197,11 +237,9 @@ module _ (plan : Plan) (limits : IsTrue (is_within_limits plan)) where
       let known = find-passes (λ (c : Core). same_core c.id id) (is_core_known plan) plan.cores core (limit-parts plan limits).known found in
       mode-low core.mode (grind arith)
 
-  -- What a core's own turn asks: of the board a call that changes it and has a place there, of the spinlocks nothing yet, and
-  -- nothing that serves another core.
+  -- What a core's own turn asks: of the board a call that changes it and has a place there, and nothing that serves another core.
   abbrev IsOwn : Option Ask → Type 0
   IsOwn (Some (OfBoard call)) = ChangesBoard call × HasPlace call
-  IsOwn (Some (OfSpins wish)) = ⊥
   IsOwn (Some (Oldest from)) = ⊥
   IsOwn o = Unit {0}
 
@@ -214,6 +252,7 @@ module _ (plan : Plan) (limits : IsTrue (is_within_limits plan)) where
   own-asks id next Want.Enter = (tt, mode-of id (core_of plan id) refl)
   own-asks id next Want.Ready = (tt, tt)
   own-asks id next (Want.Post to) = tt
+  own-asks id next (Want.Spin wish) = tt
   own-asks id next (Want.AskHalt status) = (tt, tt)
   own-asks id (Some s) Want.GoOn = tt
   own-asks id None Want.GoOn = (tt, tt)

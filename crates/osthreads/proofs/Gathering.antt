@@ -1,6 +1,6 @@
 -- What the workers of all cores gave back, gathered: their reports are sound.
 use Rattle.std.proofs.lemmas.List.{take_more}
-use Rattle.std.proofs.Common.{⊎_elim, ◌≡◌, ◌<◌, ◌+◌, ℕ, take, filter, cond, Bool, true, false, Option, None, is_some, IsSome, IsTrue, List, [], ◌∷◌, ◌++◌, map, length, get_or, refl, sym, ap, subst, ◌∙◌, append-nil}
+use Rattle.std.proofs.Common.{⊎_elim, ◌≡◌, ◌<◌, ◌+◌, ℕ, take, filter, cond, Bool, true, false, Option, None, is_some, IsSome, IsTrue, List, [], ◌∷◌, ◌++◌, map, length, get_or, refl, sym, ap, subst, ◌∙◌, append_assoc, append-nil, arith}
 use Rattle.std.specs.List.{AllByRecursion, list_all, list_any}
 use Rattle.std.proofs.lemmas.Bool.{and_parts, false≢true, or_parts}
 use Rattle.osbase.specs.declared.references.CoreId.{CoreId}
@@ -15,23 +15,30 @@ use Rattle.osplan.specs.View.{core_of}
 use Rattle.osseat.specs.declared.histories.Plan.{Plan as SeatPlan}
 use Rattle.osseat.specs.Runs.{AreIdle, AreLogged, IsOneRun}
 use Rattle.osseat.specs.Histories.{IsLegal, calls_by}
-use Rattle.osseat.specs.Seats.{AllApart, AllAt, AllStand, Held, IsOneHistory, Place, cores_of, fresh}
+use Rattle.osseat.specs.Seats.{AllApart, AllAt, AllStand, Held, IsOneHistory, cores_of, fresh}
 use Rattle.osseat.proofs.Runs.{one_run}
 use Rattle.osboard.specs.declared.calls.BoardCall.{BoardCall}
 use Rattle.osboard.specs.declared.calls.BoardReply.{BoardReply}
-use Rattle.osboard.specs.Boards.{BoardEntry, IsLook, board_after, one_board}
+use Rattle.osboard.specs.Boards.{IsLook, board_after, one_board}
+use Rattle.osspin.specs.declared.calls.SpinCall.{SpinCall}
+use Rattle.osspin.specs.declared.calls.SpinReply.{SpinReply}
+use Rattle.osspin.specs.Spins.{IsRefusedCall, spinlocks}
+use Rattle.osspin.proofs.Locks.{refused_idle}
+use Rattle.osturn.specs.Asking.{Calls, calls_of}
 use Rattle.osmail.specs.Ends.{sent_to, taken_from}
 use Rattle.osturn.specs.Fits.{history_by, ids_of}
 use Rattle.osturn.specs.Sound.{AreSound}
 use Rattle.osthreads.specs.declared.ending.Ending.{Ending}
 use Rattle.osplan.specs.declared.plans.Plan.{Plan}
 use Rattle.osbase.specs.declared.turns.CoreStimuli.{CoreStimuli}
-use Rattle.osthreads.specs.Runs.{AreFinished, AreRuns, IsDelivered, new_board}
+use Rattle.osthreads.specs.declared.seats.Seats.{Seats}
+use Rattle.osthreads.specs.Runs.{AreFinished, AreOneSpins, AreRuns, IsDelivered, IsOneBoard, new_board, new_spins}
+use Rattle.osthreads.specs.Seats.{Shared, first_seats, made_from, paired, seats_cores}
 use Rattle.osthreads.specs.Threads.{AreAllFinished, AreEnded, AreReady, AreSettled, IsEnded, IsSettled}
 use Rattle.osthreads.specs.declared.turns.Stop.{Stop}
 use Rattle.osthreads.specs.Working.{IsFinished, Refusal, is_finished_by, is_kept_by, is_short_of_memory, refusal_at, refused_from}
 use Rattle.osthreads.proofs.Senders.{ids-apart}
-use Rattle.osthreads.proofs.Threaded.{runs-sound}
+use Rattle.osthreads.proofs.Threaded.{both, runs-sound}
 
 -- ---- lists
 
@@ -51,18 +58,24 @@ pub all-map : {X Y : Type 0} (P : Y → Type 0) (f : X → Y) (xs : List X) → 
 all-map P f [] all = tt
 all-map P f (x ∷ xs) all = (all.0, all-map P f xs all.1)
 
-abbrev Seat : Type 0
-Seat = Held CoreId BoardCall BoardReply
+abbrev BoardSeat : Type 0
+BoardSeat = Held CoreId BoardCall BoardReply
+
+abbrev SpinSeat : Type 0
+SpinSeat = Held Unit SpinCall SpinReply
 
 abbrev reports_of : List Ending → List Report
 reports_of es = map (λ (e : Ending). e.report) es
 
-abbrev seats_of : List Ending → List Seat
-seats_of es = map (λ (e : Ending). e.seat) es
+abbrev boards_of : List Ending → List BoardSeat
+boards_of es = map (λ (e : Ending). e.seats.board) es
 
-pub cores_of-push : (ss : List Seat) (s : Seat) → cores_of (ss ++ s ∷ []) ≡ cores_of ss ++ s.core ∷ []
-cores_of-push [] s = refl
-cores_of-push (t ∷ ss) s = ap (λ (cs : List CoreId). t.core ∷ cs) (cores_of-push ss s)
+abbrev spins_of : List Ending → List SpinSeat
+spins_of es = map (λ (e : Ending). e.seats.spins) es
+
+pub seats_cores-push : (ss : List Seats) (s : Seats) → seats_cores (ss ++ s ∷ []) ≡ seats_cores ss ++ s.board.core ∷ []
+seats_cores-push [] s = refl
+seats_cores-push (t ∷ ss) s = ap (λ (cs : List CoreId). t.board.core ∷ cs) (seats_cores-push ss s)
 
 -- A look leaves the board as it is.
 looks-idle : AreIdle one_board IsLook
@@ -88,50 +101,69 @@ all_finished (e ∷ es) none kept =
     by Stop.NoMemory none kept = absurd (false≢true (sym none))
     by (Stop.Refused from e) none kept = absurd (false≢true kept)
 
-module _ (plan : Plan) (stimuli : List CoreStimuli) (turns : ℕ) (board : Place CoreId) where
+module _ (plan : Plan) (stimuli : List CoreStimuli) (turns : ℕ) (shared : Shared) where
   -- one core more, and its ending
-  pub ended-push : (ids : List CoreId) (es : List Ending) (id : CoreId) (e : Ending) → AreEnded plan stimuli turns board ids es → IsEnded plan stimuli turns board id e → AreEnded plan stimuli turns board (ids ++ id ∷ []) (es ++ e ∷ [])
+  pub ended-push : (ids : List CoreId) (es : List Ending) (id : CoreId) (e : Ending) → AreEnded plan stimuli turns shared ids es → IsEnded plan stimuli turns shared id e → AreEnded plan stimuli turns shared (ids ++ id ∷ []) (es ++ e ∷ [])
   ended-push [] [] id e ended one = (one, tt)
   ended-push [] (x ∷ es) id e ended one = absurd ended
   ended-push (i ∷ is) [] id e ended one = absurd ended
   ended-push (i ∷ is) (x ∷ es) id e ended one = (ended.0, ended-push is es id e ended.1 one)
 
-  reports-cores : (ids : List CoreId) (es : List Ending) → AreEnded plan stimuli turns board ids es → map (λ (r : Report). r.core) (reports_of es) ≡ ids
+  reports-cores : (ids : List CoreId) (es : List Ending) → AreEnded plan stimuli turns shared ids es → map (λ (r : Report). r.core) (reports_of es) ≡ ids
   reports-cores [] [] ended = refl
   reports-cores [] (e ∷ es) ended = absurd ended
   reports-cores (i ∷ is) [] ended = absurd ended
   reports-cores (i ∷ is) (e ∷ es) ended =
       ap (λ (c : CoreId). c ∷ map (λ (r : Report). r.core) (reports_of es)) ended.0.core ∙ ap (λ (cs : List CoreId). i ∷ cs) (reports-cores is es ended.1)
 
-  pub seats-cores : (ids : List CoreId) (es : List Ending) → AreEnded plan stimuli turns board ids es → cores_of (seats_of es) ≡ ids
-  seats-cores [] [] ended = refl
-  seats-cores [] (e ∷ es) ended = absurd ended
-  seats-cores (i ∷ is) [] ended = absurd ended
-  seats-cores (i ∷ is) (e ∷ es) ended = ap (λ (c : CoreId). c ∷ cores_of (seats_of es)) ended.0.seat ∙ ap (λ (cs : List CoreId). i ∷ cs) (seats-cores is es ended.1)
+  -- The seats of the cores' workers, at the board and at the spinlocks.
+  pub boards-cores : (ids : List CoreId) (es : List Ending) → AreEnded plan stimuli turns shared ids es → cores_of (boards_of es) ≡ ids
+  boards-cores [] [] ended = refl
+  boards-cores [] (e ∷ es) ended = absurd ended
+  boards-cores (i ∷ is) [] ended = absurd ended
+  boards-cores (i ∷ is) (e ∷ es) ended = ap (λ (c : CoreId). c ∷ cores_of (boards_of es)) ended.0.placed.board_core ∙ ap (λ (cs : List CoreId). i ∷ cs) (boards-cores is es ended.1)
 
-  pub seats-placed : (ids : List CoreId) (es : List Ending) → AreEnded plan stimuli turns board ids es → AllAt board (seats_of es)
-  seats-placed [] [] ended = tt
-  seats-placed [] (e ∷ es) ended = absurd ended
-  seats-placed (i ∷ is) [] ended = absurd ended
-  seats-placed (i ∷ is) (e ∷ es) ended = (ended.0.placed, seats-placed is es ended.1)
+  pub spins-cores : (ids : List CoreId) (es : List Ending) → AreEnded plan stimuli turns shared ids es → cores_of (spins_of es) ≡ ids
+  spins-cores [] [] ended = refl
+  spins-cores [] (e ∷ es) ended = absurd ended
+  spins-cores (i ∷ is) [] ended = absurd ended
+  spins-cores (i ∷ is) (e ∷ es) ended = ap (λ (c : CoreId). c ∷ cores_of (spins_of es)) ended.0.placed.spins_core ∙ ap (λ (cs : List CoreId). i ∷ cs) (spins-cores is es ended.1)
 
-  abbrev logs_of : (ids : List CoreId) (es : List Ending) → AreEnded plan stimuli turns board ids es → List (List BoardEntry)
+  pub boards-placed : (ids : List CoreId) (es : List Ending) → AreEnded plan stimuli turns shared ids es → AllAt shared.board (boards_of es)
+  boards-placed [] [] ended = tt
+  boards-placed [] (e ∷ es) ended = absurd ended
+  boards-placed (i ∷ is) [] ended = absurd ended
+  boards-placed (i ∷ is) (e ∷ es) ended = (ended.0.placed.board, boards-placed is es ended.1)
+
+  pub spins-placed : (ids : List CoreId) (es : List Ending) → AreEnded plan stimuli turns shared ids es → AllAt shared.spins (spins_of es)
+  spins-placed [] [] ended = tt
+  spins-placed [] (e ∷ es) ended = absurd ended
+  spins-placed (i ∷ is) [] ended = absurd ended
+  spins-placed (i ∷ is) (e ∷ es) ended = (ended.0.placed.spins, spins-placed is es ended.1)
+
+  abbrev logs_of : (ids : List CoreId) (es : List Ending) → AreEnded plan stimuli turns shared ids es → List Calls
   logs_of [] [] ended = []
   logs_of [] (e ∷ es) ended = absurd ended
   logs_of (i ∷ is) [] ended = absurd ended
   logs_of (i ∷ is) (e ∷ es) ended = ended.0.log ∷ logs_of is es ended.1
 
-  are-runs : (ids : List CoreId) (es : List Ending) (ended : AreEnded plan stimuli turns board ids es) → AreRuns plan stimuli (reports_of es) (logs_of ids es ended)
+  are-runs : (ids : List CoreId) (es : List Ending) (ended : AreEnded plan stimuli turns shared ids es) → AreRuns plan stimuli (reports_of es) (logs_of ids es ended)
   are-runs [] [] ended = tt
   are-runs [] (e ∷ es) ended = absurd ended
   are-runs (i ∷ is) [] ended = absurd ended
   are-runs (i ∷ is) (e ∷ es) ended = (ended.0.is_run, are-runs is es ended.1)
 
-  are-logged : (ids : List CoreId) (es : List Ending) (ended : AreEnded plan stimuli turns board ids es) → AreLogged IsLook (seats_of es) (logs_of ids es ended)
-  are-logged [] [] ended = tt
-  are-logged [] (e ∷ es) ended = absurd ended
-  are-logged (i ∷ is) [] ended = absurd ended
-  are-logged (i ∷ is) (e ∷ es) ended = (ended.0.logged, are-logged is es ended.1)
+  boards-logged : (ids : List CoreId) (es : List Ending) (ended : AreEnded plan stimuli turns shared ids es) → AreLogged IsLook (boards_of es) (map (λ (log : Calls). log.board) (logs_of ids es ended))
+  boards-logged [] [] ended = tt
+  boards-logged [] (e ∷ es) ended = absurd ended
+  boards-logged (i ∷ is) [] ended = absurd ended
+  boards-logged (i ∷ is) (e ∷ es) ended = (ended.0.board, boards-logged is es ended.1)
+
+  spins-logged : (ids : List CoreId) (es : List Ending) (ended : AreEnded plan stimuli turns shared ids es) → AreLogged IsRefusedCall (spins_of es) (map (λ (log : Calls). log.spins) (logs_of ids es ended))
+  spins-logged [] [] ended = tt
+  spins-logged [] (e ∷ es) ended = absurd ended
+  spins-logged (i ∷ is) [] ended = absurd ended
+  spins-logged (i ∷ is) (e ∷ es) ended = (ended.0.spins, spins-logged is es ended.1)
 
   -- what a worker sent and took is what its report's items posted and received
   abbrev past : Ending → History
@@ -141,7 +173,7 @@ module _ (plan : Plan) (stimuli : List CoreStimuli) (turns : ℕ) (board : Place
     sent : (to : CoreId) → sent_to e.steps.items to ≡ posted to (past e)
     taken : (from : CoreId) → taken_from e.steps.items from ≡ received from (past e)
 
-  each-flows : (ids : List CoreId) (es : List Ending) → AreEnded plan stimuli turns board ids es → AreAllFinished es → AllByRecursion Flows es
+  each-flows : (ids : List CoreId) (es : List Ending) → AreEnded plan stimuli turns shared ids es → AreAllFinished es → AllByRecursion Flows es
   each-flows [] [] ended finished = tt
   each-flows [] (e ∷ es) ended finished = absurd ended
   each-flows (i ∷ is) [] ended finished = absurd ended
@@ -164,53 +196,96 @@ module _ (plan : Plan) (stimuli : List CoreStimuli) (turns : ℕ) (board : Place
   delivered-all es flow [] from settled = tt
   delivered-all es flow (a ∷ rs) from settled = (delivered-each a from.0 es flow settled.0, delivered-all es flow rs from.1 settled.1)
 
-  -- Where all seats show one history, what was taken is what was sent but for what is left, and each envelope became an item, the
-  -- reports are sound.
-  pub all-sound : IsTrue (is_within_limits plan) → AreKnown plan stimuli → (es : List Ending) → (board.plan ≡ new_board plan) → AreEnded plan stimuli turns board (ids_of plan) es → AreAllFinished es → AreSettled es → IsOneHistory one_board board.plan (seats_of es) → AreSound plan stimuli (reports_of es)
-  all-sound limits known es same ended finished settled one =
-      let ids = ids_of plan in
-      let flow = each-flows ids es ended finished in
-      runs-sound plan stimuli limits known (reports_of es) (logs_of ids es ended) (reports-cores ids es ended) (are-runs ids es ended)
-      (delivered-all es flow es flow settled)
-      (subst (λ (p : SeatPlan CoreId). IsOneRun one_board p (logs_of ids es ended)) same
-      (one_run IsLook one_board board.plan (seats_of es) (logs_of ids es ended)
-      (subst (λ (p : SeatPlan CoreId). AllApart p.cores) (sym same) (ids-apart plan))
-      (seats-cores ids es ended ∙ ap (λ (p : SeatPlan CoreId). p.cores) (sym same))
-      looks-idle (are-logged ids es ended) one))
+  -- The board and the spinlocks are those of the configuration, and all seats show one history of each.
+  pub record AreOneEach (es : List Ending) : Type 0 where
+    pub new_board : shared.board.plan ≡ new_board plan
+    pub new_spins : shared.spins.plan ≡ new_spins plan
+    pub board : IsOneHistory one_board shared.board.plan (boards_of es)
+    pub spins : IsOneHistory spinlocks shared.spins.plan (spins_of es)
 
-  -- So they are where the cores are those of the board's seats.
-  pub seats-sound : IsTrue (is_within_limits plan) → AreKnown plan stimuli → (ss : List Seat) (es : List Ending) → cores_of ss ≡ ids_of plan → (board.plan ≡ new_board plan) → AreEnded plan stimuli turns board (cores_of ss) es → AreAllFinished es → AreSettled es → IsOneHistory one_board board.plan (seats_of es) → AreSound plan stimuli (reports_of es)
-  seats-sound limits known ss es cores same ended finished settled one =
-      all-sound limits known es same (subst (λ (ids : List CoreId). AreEnded plan stimuli turns board ids es) cores ended) finished settled one
+  module _ (ids : List CoreId) (es : List Ending) (cores : ids ≡ ids_of plan) (ended : AreEnded plan stimuli turns shared ids es) (one : AreOneEach es) where
+    one-board : IsOneBoard plan (logs_of ids es ended)
+    one-board =
+        subst (λ (p : SeatPlan CoreId). IsOneRun one_board p (map (λ (log : Calls). log.board) (logs_of ids es ended))) one.new_board
+        (one_run IsLook one_board shared.board.plan (boards_of es) (map (λ (log : Calls). log.board) (logs_of ids es ended))
+        (subst (λ (p : SeatPlan CoreId). AllApart p.cores) (sym one.new_board) (ids-apart plan))
+        (boards-cores ids es ended ∙ cores ∙ ap (λ (p : SeatPlan CoreId). p.cores) (sym one.new_board))
+        looks-idle (boards-logged ids es ended) one.board)
 
-  -- Each worker's calls are those of its core in the one history.
-  each-finished : (history : List BoardEntry) (ids : List CoreId) (es : List Ending) → AreEnded plan stimuli turns board ids es → AreAllFinished es → AllStand history (seats_of es) → AllByRecursion (λ (r : Report). IsFinished plan stimuli turns r (calls_by r.core history)) (reports_of es)
-  each-finished history [] [] ended finished stand = tt
-  each-finished history [] (e ∷ es) ended finished stand = absurd ended
-  each-finished history (i ∷ is) [] ended finished stand = absurd ended
-  each-finished history (i ∷ is) (e ∷ es) ended finished stand = (
+    one-spins : AreOneSpins plan (logs_of ids es ended)
+    one-spins =
+        subst (λ (p : SeatPlan Unit). IsOneRun spinlocks p (map (λ (log : Calls). log.spins) (logs_of ids es ended))) one.new_spins
+        (one_run IsRefusedCall spinlocks shared.spins.plan (spins_of es) (map (λ (log : Calls). log.spins) (logs_of ids es ended))
+        (subst (λ (p : SeatPlan Unit). AllApart p.cores) (sym one.new_spins) (ids-apart plan))
+        (spins-cores ids es ended ∙ cores ∙ ap (λ (p : SeatPlan Unit). p.cores) (sym one.new_spins))
+        refused_idle (spins-logged ids es ended) one.spins)
+
+    -- Where what was taken is what was sent but for what is left, and each envelope became an item, the reports are sound.
+    pub seats-sound : IsTrue (is_within_limits plan) → AreKnown plan stimuli → AreAllFinished es → AreSettled es → AreSound plan stimuli (reports_of es)
+    seats-sound limits known finished settled =
+        let flow = each-flows ids es ended finished in
+        runs-sound plan stimuli limits known (reports_of es) (logs_of ids es ended) (reports-cores ids es ended ∙ cores) (are-runs ids es ended)
+        (delivered-all es flow es flow settled) one-board one-spins
+
+  -- Each worker's calls are those of its core in the one history of each.
+  each-finished : (history : Calls) (ids : List CoreId) (es : List Ending) → AreEnded plan stimuli turns shared ids es → AreAllFinished es → AllStand history.board (boards_of es) → AllStand history.spins (spins_of es) → AllByRecursion (λ (r : Report). IsFinished plan stimuli turns r (calls_of r.core history)) (reports_of es)
+  each-finished history [] [] ended finished board spins = tt
+  each-finished history [] (e ∷ es) ended finished board spins = absurd ended
+  each-finished history (i ∷ is) [] ended finished board spins = absurd ended
+  each-finished history (i ∷ is) (e ∷ es) ended finished board spins = (
     subst (IsFinished plan stimuli turns e.report)
-        (sym (ap (λ (c : CoreId). calls_by c history) (ended.0.core ∙ sym ended.0.seat) ∙ stand.0.1))
+        (sym (both (calls_of e.report.core history) (made_from e.seats)
+        (ap (λ (c : CoreId). calls_by c history.board) (ended.0.core ∙ sym ended.0.placed.board_core) ∙ board.0.1)
+        (ap (λ (c : CoreId). calls_by c history.spins) (ended.0.core ∙ sym ended.0.placed.spins_core) ∙ spins.0.1)))
         (ended.0.finished finished.0),
-    each-finished history is es ended.1 finished.1 stand.1,
+    each-finished history is es ended.1 finished.1 board.1 spins.1,
   )
 
   -- So their cores have ended, or they stalled.
-  pub seats-finished : (ids : List CoreId) (es : List Ending) → (board.plan ≡ new_board plan) → AreEnded plan stimuli turns board ids es → AreAllFinished es → IsOneHistory one_board board.plan (seats_of es) → AreFinished plan stimuli turns (reports_of es)
-  seats-finished ids es same ended finished one = record {
-    history = one.log;
-    legal = subst (λ (p : SeatPlan CoreId). IsLegal one_board p.about one.log) same one.legal;
-    finished = each-finished one.log ids es ended finished one.stand;
+  pub seats-finished : (ids : List CoreId) (es : List Ending) → AreEnded plan stimuli turns shared ids es → AreOneEach es → AreAllFinished es → AreFinished plan stimuli turns (reports_of es)
+  seats-finished ids es ended one finished = record {
+    history = record { board = one.board.log; spins = one.spins.log };
+    board = subst (λ (p : SeatPlan CoreId). IsLegal one_board p.about one.board.log) one.new_board one.board.legal;
+    spins = subst (λ (p : SeatPlan Unit). IsLegal spinlocks p.about one.spins.log) one.new_spins one.spins.legal;
+    finished = each-finished (record { board = one.board.log; spins = one.spins.log }) ids es ended finished one.board.stand one.spins.stand;
   }
 
 -- ---- seats
 
--- The seats of a new board.
-pub new-cores : (p : Place CoreId) (cs : List CoreId) → cores_of (map (λ c. fresh {C = BoardCall} {R = BoardReply} p c) cs) ≡ cs
-new-cores p [] = refl
-new-cores p (c ∷ cs) = ap (λ (ds : List CoreId). c ∷ ds) (new-cores p cs)
+-- One seat of each more, which are paired; and none where no other is left.
+pub paired-more : (done : List BoardSeat) (b : BoardSeat) (s : SpinSeat) (spins left rest : List SpinSeat) (seats : List Seats) → left ≡ s ∷ rest → ((more : List BoardSeat) → paired (done ++ more) spins ≡ seats ++ paired more left) → (more : List BoardSeat) → paired ((done ++ b ∷ []) ++ more) spins ≡ (seats ++ record { board = b; spins = s } ∷ []) ++ paired more rest
+paired-more done b s spins left rest seats is so more =
+    ap (λ (bs : List BoardSeat). paired bs spins) (append_assoc done (b ∷ []) more) ∙ so (b ∷ more)
+    ∙ ap (λ (ss : List SpinSeat). seats ++ paired (b ∷ more) ss) is
+    ∙ sym (append_assoc seats (record { board = b; spins = s } ∷ []) (paired more rest))
 
--- each configured core's seat at it is ready
+pub paired-none : (done : List BoardSeat) (b : BoardSeat) (spins left : List SpinSeat) (seats : List Seats) → left ≡ [] → ((more : List BoardSeat) → paired (done ++ more) spins ≡ seats ++ paired more left) → (more : List BoardSeat) → paired ((done ++ b ∷ []) ++ more) spins ≡ seats ++ paired more left
+paired-none done b spins left seats is so more =
+    ap (λ (bs : List BoardSeat). paired bs spins) (append_assoc done (b ∷ []) more) ∙ so (b ∷ more)
+    ∙ ap (λ (ss : List SpinSeat). seats ++ paired (b ∷ more) ss) is ∙ ap (λ (ss : List Seats). seats ++ ss) (sym (none more)) ∙ ap (λ (ss : List SpinSeat). seats ++ paired more ss) (sym is)
+  where
+    none : (bs : List BoardSeat) → paired bs [] ≡ []
+    none [] = refl
+    none (b ∷ bs) = refl
+
+pub no-seats : (ss : List SpinSeat) → length ss ≡ 0 → ss ≡ []
+no-seats [] none = refl
+no-seats (s ∷ ss) none = absurd (omega (arith, none))
+
+pub paired_whole : (done board : List BoardSeat) (spins left : List SpinSeat) (seats : List Seats) → done ≡ board → ((more : List BoardSeat) → paired (done ++ more) spins ≡ seats ++ paired more left) → seats ≡ paired board spins
+paired_whole done board spins left seats all so =
+    sym (append-nil seats) ∙ sym (so []) ∙ ap (λ (bs : List BoardSeat). paired bs spins) (append-nil done ∙ all)
+
+-- The seats of a new board and of new spinlocks, one of each for each core.
+pub new-paired : (shared : Shared) (cs : List CoreId) → paired (map (λ c. fresh shared.board c) cs) (map (λ c. fresh shared.spins c) cs) ≡ map (first_seats shared) cs
+new-paired shared [] = refl
+new-paired shared (c ∷ cs) = ap (λ (ss : List Seats). first_seats shared c ∷ ss) (new-paired shared cs)
+
+pub first-cores : (shared : Shared) (cs : List CoreId) → seats_cores (map (first_seats shared) cs) ≡ cs
+first-cores shared [] = refl
+first-cores shared (c ∷ cs) = ap (λ (ds : List CoreId). c ∷ ds) (first-cores shared cs)
+
+-- each configured core's seats are ready
 filter-passes : (p : CoreId → Bool) (cs : List CoreId) → AllByRecursion (λ c. p c ≡ true) (filter p cs)
 filter-passes p [] = tt
 filter-passes p (c ∷ cs) = by (p c) refl (filter-passes p cs)
@@ -222,13 +297,13 @@ filter-passes p (c ∷ cs) = by (p c) refl (filter-passes p cs)
 ready-there : (o : Option Core) → is_some o ≡ true → IsSome o
 ready-there o e = e
 
-module _ (plan : Plan) (cores : List CoreId) (board : Place CoreId) (listed : cores ≡ ids_of plan) where
-  ready-each : (cs : List CoreId) → AllByRecursion (λ c. is_some (core_of plan c) ≡ true) cs → AreReady plan cores board (map (λ c. fresh {C = BoardCall} {R = BoardReply} board c) cs)
+module _ (plan : Plan) (cores : List CoreId) (shared : Shared) (listed : cores ≡ ids_of plan) where
+  ready-each : (cs : List CoreId) → AllByRecursion (λ c. is_some (core_of plan c) ≡ true) cs → AreReady plan cores shared (map (first_seats shared) cs)
   ready-each [] all = tt
   ready-each (c ∷ cs) all = (
-    record { listed = listed; configured = ready-there (core_of plan c) all.0; placed = refl; fresh = refl },
+    record { listed = listed; configured = ready-there (core_of plan c) all.0; placed = record { board = refl; spins = refl; board_core = refl; spins_core = refl }; fresh = refl },
     ready-each cs all.1,
   )
 
-  pub all-ready : (ss : List Seat) → ss ≡ map (λ c. fresh {C = BoardCall} {R = BoardReply} board c) (ids_of plan) → AreReady plan cores board ss
-  all-ready ss are = subst (AreReady plan cores board) (sym are) (ready-each (ids_of plan) (filter-passes (λ c. is_some (core_of plan c)) core_ids))
+  pub all-ready : (ss : List Seats) → ss ≡ map (first_seats shared) (ids_of plan) → AreReady plan cores shared ss
+  all-ready ss are = subst (AreReady plan cores shared) (sym are) (ready-each (ids_of plan) (filter-passes (λ c. is_some (core_of plan c)) core_ids))

@@ -12,7 +12,7 @@ use Rattle.osbase.specs.Runs.{stimuli_of}
 use Rattle.osplan.specs.declared.plans.Plan.{Plan}
 use Rattle.osplan.specs.View.{View, view_of}
 use Rattle.osstate.specs.State.{KernelState, state_of}
-use Rattle.osboard.specs.Boards.{BoardEntry}
+use Rattle.osturn.specs.Asking.{Calls, no_calls}
 use Rattle.osmail.specs.Ends.{Streams}
 use Rattle.osturn.specs.declared.seats.Seat.{Seat}
 use Rattle.osturn.specs.Fits.{history_by, ids_of, stimuli_in}
@@ -24,6 +24,7 @@ use Rattle.osthreads.specs.declared.turns.Stop.{Stop}
 use Rattle.osthreads.specs.declared.worker.Shift.{Shift}
 use Rattle.osthreads.specs.declared.worker.Worked.{Worked}
 use Rattle.osthreads.specs.declared.worker.Worker.{Worker}
+use Rattle.osthreads.specs.Seats.{made_from}
 use Rattle.osthreads.specs.Working.{HasDone, HasNoWork, HasWorked, IsFinished, IsGoing, IsStopped, IsStuck, IsWorked, core_count, is_ended_by, is_finished_by, loads_at, next_at, refusal_at, since_own, turns_of}
 use Rattle.osthreads.proofs.Working.{next-left}
 
@@ -33,14 +34,14 @@ first-running true = refl
 first-running false = refl
 
 -- A worker that has done nothing.
-pub begun : (plan : Plan) (stimuli : List CoreStimuli) (core : Seat) (id : CoreId) (mine : List BoardEntry) (sent taken : Streams) → core.id ≡ id → core.kernel ≡ state_of (view_of plan id) [] → core.stimuli.now ≡ stimuli_of stimuli id → core.items.items ≡ [] → core.marks.items ≡ []
-    → mine ≡ [] → ((c : CoreId) → (sent c ≡ []) × (taken c ≡ [])) → HasDone plan stimuli core mine sent taken None 0
-begun plan stimuli core id mine sent taken is_id is_kernel is_left no_items no_marks no_calls no_mail = record {
+pub begun : (plan : Plan) (stimuli : List CoreStimuli) (core : Seat) (id : CoreId) (made : Calls) (sent taken : Streams) → core.id ≡ id → core.kernel ≡ state_of (view_of plan id) [] → core.stimuli.now ≡ stimuli_of stimuli id → core.items.items ≡ [] → core.marks.items ≡ []
+    → made ≡ no_calls → ((c : CoreId) → (sent c ≡ []) × (taken c ≡ [])) → HasDone plan stimuli core made sent taken None 0
+begun plan stimuli core id made sent taken is_id is_kernel is_left no_items no_marks none_made no_mail = record {
   work = record {
     seated = seated-first plan stimuli core id is_id is_kernel is_left no_items no_marks;
     fits = rw (no_items) (record { alone = refl; begins = (stimuli_of stimuli core.id, refl); drains = λ drained. absurd (false≢true drained) });
   };
-  calls = rw (no_items, no_calls) (record { log = []; answers = refl; before = []; idle = []; calls = refl; logged = refl; looks = tt; enough = omega arith });
+  calls = rw (no_items, none_made) (record { log = no_calls; answers = refl; before = []; idle = []; calls = refl; logged = refl; looks = tt; enough = omega arith; spins = refl });
   mail = record {
     sent_is = λ to. (no_mail to).0 ∙ rw (no_items) refl;
     taken_is = λ from. (no_mail from).1 ∙ rw (no_items) refl;
@@ -187,7 +188,7 @@ module _ {M : Type 0} (sent taken : M → Streams) (stimuli : List CoreStimuli) 
     }
 
 -- A worker that stopped since its core had ended, or that stalled.
-pub worked-finished : {M : Type 0} (sent taken : M → Streams) (run : Run) (worked : Worked M) → IsWorked sent taken run worked → is_finished_by worked.stop ≡ true → IsFinished run.config.now run.stimuli.now run.turns worked.report worked.seat.mine
+pub worked-finished : {M : Type 0} (sent taken : M → Streams) (run : Run) (worked : Worked M) → IsWorked sent taken run worked → is_finished_by worked.stop ≡ true → IsFinished run.config.now run.stimuli.now run.turns worked.report (made_from worked.seats)
 worked-finished sent taken run worked is finished = record {
   loads = is.loads;
   calls = is.calls;
@@ -202,12 +203,12 @@ worked-finished sent taken run worked is finished = record {
 
 -- What a worker that stopped hands back.
 pub handed-back : {M : Type 0} (sent taken : M → Streams) (run : Run) (stop : Stop) (shift : Shift M) (worked : Worked M) → shift.worker.run.now ≡ run → run.cores.now ≡ ids_of run.config.now → IsStopped sent taken run.stimuli.now stop shift
-    → 0 < length (ids_of run.config.now) → worked.report ≡ report_of shift.worker.core → worked.seat ≡ shift.worker.seat → worked.mail ≡ shift.worker.mail → worked.stop ≡ stop → IsWorked sent taken run worked
-handed-back {M} sent taken run stop shift worked same cores stopped some report_is seat_is mail_is stop_is = record {
+    → 0 < length (ids_of run.config.now) → worked.report ≡ report_of shift.worker.core → worked.seats ≡ shift.worker.seats → worked.mail ≡ shift.worker.mail → worked.stop ≡ stop → IsWorked sent taken run worked
+handed-back {M} sent taken run stop shift worked same cores stopped some report_is seats_is mail_is stop_is = record {
   own = subst (IsOwn run.config.now) (sym report_is) (seated-own run.config.now run.stimuli.now core done.work.seated);
   fits = rw report_is done.work.fits;
   loads = stopped.loads;
-  calls = rw (report_is, seat_is) done.calls;
+  calls = rw (report_is, seats_is) done.calls;
   mail = rw (report_is, mail_is, stop_is) done.mail;
   ended = ap (λ (r : Report). r.ended) report_is ∙ stopped.ended ∙ ap is_ended_by (sym stop_is);
   stalled = λ e. rw report_is (record {
@@ -219,8 +220,8 @@ handed-back {M} sent taken run stop shift worked same cores stopped some report_
     core : Seat
     core = shift.worker.core
 
-    done : HasDone run.config.now run.stimuli.now core shift.worker.seat.mine (sent shift.worker.mail) (taken shift.worker.mail) (refusal_at stop) stopped.loads
-    done = subst (λ (r : Run). HasDone r.config.now run.stimuli.now core shift.worker.seat.mine (sent shift.worker.mail) (taken shift.worker.mail) (refusal_at stop) stopped.loads) same stopped.worked
+    done : HasDone run.config.now run.stimuli.now core (made_from shift.worker.seats) (sent shift.worker.mail) (taken shift.worker.mail) (refusal_at stop) stopped.loads
+    done = subst (λ (r : Run). HasDone r.config.now run.stimuli.now core (made_from shift.worker.seats) (sent shift.worker.mail) (taken shift.worker.mail) (refusal_at stop) stopped.loads) same stopped.worked
 
     ids : core_count shift ≡ length (ids_of run.config.now)
     ids = ap (λ (r : Run). length r.cores.now) same ∙ ap length cores

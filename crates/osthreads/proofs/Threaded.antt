@@ -15,15 +15,15 @@ use Rattle.osplan.specs.declared.plans.Plan.{Plan}
 use Rattle.osplan.specs.Limits.{is_within_limits}
 use Rattle.osplan.specs.Stimuli.{AreKnown}
 use Rattle.osplan.specs.View.{view_of}
-use Rattle.osseat.specs.Histories.{calls_by}
 use Rattle.osseat.specs.Runs.{HasLogs}
 use Rattle.osseat.specs.Seats.{has}
 use Rattle.osboard.specs.Boards.{BoardEntry}
+use Rattle.osspin.specs.Spins.{SpinEntry}
+use Rattle.osturn.specs.Asking.{Calls, calls_of, no_calls}
 use Rattle.osturn.specs.Fits.{AreAnswered, Fits, FitsCore, IsBeginning, history_by, ids_of, items_of}
 use Rattle.osturn.specs.Sound.{AreSound, IsOwn, lists_in}
 use Rattle.osturn.proofs.Alone.{fits-alone}
-use Rattle.osthreads.specs.Runs.{AreDelivered, AreRuns, IsDelivered, IsOneBoard}
-use Rattle.osthreads.specs.Working.{of_board}
+use Rattle.osthreads.specs.Runs.{AreDelivered, AreOneSpins, AreRuns, IsDelivered, IsOneBoard}
 use Rattle.osthreads.proofs.Senders.{none-received, unlisted-unseen}
 
 abbrev cores_in : List Report → List CoreId
@@ -40,29 +40,38 @@ items-have P (r ∷ rs) id each none = by (same_core r.core id) refl (items-have
         let other : (id.number == r.core.number) ≡ false = ne_eqb id.number r.core.number (λ q. false≢true (sym e ∙ eq-eqb r.core.number id.number (sym q))) in
         later (λ out. none (subst (λ (b : Bool). (b || has (cores_in rs) id) ≡ false) (sym other) out))
 
+abbrev boards_in : List Calls → List (List BoardEntry)
+boards_in logs = map (λ (log : Calls). log.board) logs
+
+abbrev spins_in : List Calls → List (List SpinEntry)
+spins_in logs = map (λ (log : Calls). log.spins) logs
+
+pub both : (a b : Calls) → a.board ≡ b.board → a.spins ≡ b.spins → a ≡ b
+both a b board spins = (λ i. record { board = board i; spins = spins i })
+
 module _ (plan : Plan) (stimuli : List CoreStimuli) where
-  each-own : (reports : List Report) (logs : List (List BoardEntry)) → AreRuns plan stimuli reports logs → AllByRecursion (IsOwn plan) reports
+  each-own : (reports : List Report) (logs : List Calls) → AreRuns plan stimuli reports logs → AllByRecursion (IsOwn plan) reports
   each-own [] [] runs = tt
   each-own [] (l ∷ ls) runs = absurd runs
   each-own (r ∷ rs) [] runs = absurd runs
   each-own (r ∷ rs) (l ∷ ls) runs = (runs.0.alone.own, each-own rs ls runs.1)
 
-  each-fits : (reports : List Report) (logs : List (List BoardEntry)) → AreRuns plan stimuli reports logs → AllByRecursion (λ (r : Report). FitsCore plan stimuli r.core r.items) reports
+  each-fits : (reports : List Report) (logs : List Calls) → AreRuns plan stimuli reports logs → AllByRecursion (λ (r : Report). FitsCore plan stimuli r.core r.items) reports
   each-fits [] [] runs = tt
   each-fits [] (l ∷ ls) runs = absurd runs
   each-fits (r ∷ rs) [] runs = absurd runs
   each-fits (r ∷ rs) (l ∷ ls) runs = (runs.0.alone.fits, each-fits rs ls runs.1)
 
-  each-answered : (history : List BoardEntry) (reports : List Report) (logs : List (List BoardEntry)) → AreRuns plan stimuli reports logs → HasLogs history (cores_in reports) logs → AllByRecursion (λ (r : Report). AreAnswered (view_of plan r.core) [] r.items (of_board (calls_by r.core history))) reports
-  each-answered history [] [] runs logs = tt
-  each-answered history [] (l ∷ ls) runs logs = absurd runs
-  each-answered history (r ∷ rs) [] runs logs = absurd runs
-  each-answered history (r ∷ rs) (l ∷ ls) runs logs = (
-    subst (λ (es : List BoardEntry). AreAnswered (view_of plan r.core) [] r.items (of_board es)) (sym logs.0) runs.0.answers,
-    each-answered history rs ls runs.1 logs.1,
+  each-answered : (history : Calls) (reports : List Report) (logs : List Calls) → AreRuns plan stimuli reports logs → HasLogs history.board (cores_in reports) (boards_in logs) → HasLogs history.spins (cores_in reports) (spins_in logs) → AllByRecursion (λ (r : Report). AreAnswered (view_of plan r.core) [] r.items (calls_of r.core history)) reports
+  each-answered history [] [] runs board spins = tt
+  each-answered history [] (l ∷ ls) runs board spins = absurd runs
+  each-answered history (r ∷ rs) [] runs board spins = absurd runs
+  each-answered history (r ∷ rs) (l ∷ ls) runs board spins = (
+    subst (AreAnswered (view_of plan r.core) [] r.items) (sym (both (calls_of r.core history) l board.0 spins.0)) runs.0.answers,
+    each-answered history rs ls runs.1 board.1 spins.1,
   )
 
-  module _ (limits : IsTrue (is_within_limits plan)) (known : AreKnown plan stimuli) (reports : List Report) (logs : List (List BoardEntry)) (cores : cores_in reports ≡ ids_of plan) (runs : AreRuns plan stimuli reports logs) where
+  module _ (limits : IsTrue (is_within_limits plan)) (known : AreKnown plan stimuli) (reports : List Report) (logs : List Calls) (cores : cores_in reports ≡ ids_of plan) (runs : AreRuns plan stimuli reports logs) where
     cores-fit : (id : CoreId) → FitsCore plan stimuli id (items_of (lists_in reports) id)
     cores-fit id =
         items-have (FitsCore plan stimuli) reports id (each-fits reports logs runs)
@@ -91,24 +100,26 @@ module _ (plan : Plan) (stimuli : List CoreStimuli) where
         items-have (λ (id : CoreId) (items : List Item). Flows id items to (items_of (lists_in reports) to)) reports from
         (from-each to reports delivered) (λ out. from-nobody from to out)
 
-    fit : AreDelivered plan reports → IsOneBoard plan logs → Fits plan stimuli (lists_in reports)
-    fit delivered board = (
-      of_board board.history,
-      record {
-        cores = cores-fit;
-        streams = streams-fit delivered;
-        board = board.legal;
-        spins = tt;
-        answers = λ id.
-            items-have (λ (c : CoreId) (items : List Item). AreAnswered (view_of plan c) [] items (of_board (calls_by c board.history))) reports id
-            (each-answered board.history reports logs runs (subst (λ (cs : List CoreId). HasLogs board.history cs logs) (sym cores) board.logs_are))
-            (λ out. ap of_board (board.others id (unlisted id out)));
-      },
-    )
+    fit : AreDelivered plan reports → IsOneBoard plan logs → AreOneSpins plan logs → Fits plan stimuli (lists_in reports)
+    fit delivered board spins =
+        let history : Calls = record { board = board.history; spins = spins.history } in (
+          history,
+          record {
+            cores = cores-fit;
+            streams = streams-fit delivered;
+            board = board.legal;
+            spins = spins.legal;
+            answers = λ id.
+                items-have (λ (c : CoreId) (items : List Item). AreAnswered (view_of plan c) [] items (calls_of c history)) reports id
+                (each-answered history reports logs runs (subst (λ (cs : List CoreId). HasLogs board.history cs (boards_in logs)) (sym cores) board.logs_are) (subst (λ (cs : List CoreId). HasLogs spins.history cs (spins_in logs)) (sym cores) spins.logs_are))
+                (λ out. both (calls_of id history) no_calls (board.others id (unlisted id out)) (spins.others id (unlisted id out)));
+          },
+        )
 
-    -- The reports of the configured cores' runs, with one history of the board and what was received from each, are sound.
-    pub runs-sound : AreDelivered plan reports → IsOneBoard plan logs → AreSound plan stimuli reports
-    runs-sound delivered board = let fits = fit delivered board in record {
+    -- The reports of the configured cores' runs, with one history of the board, one of the spinlocks and what was received from each, are
+    -- sound.
+    pub runs-sound : AreDelivered plan reports → IsOneBoard plan logs → AreOneSpins plan logs → AreSound plan stimuli reports
+    runs-sound delivered board spins = let fits = fit delivered board spins in record {
       cores = cores;
       own = each-own reports logs runs;
       fit = fits;

@@ -1,4 +1,4 @@
--- What an item adds to what a worker has done: to its core, to its calls of the board and to its end of the mail.
+-- What an item adds to what a worker has done: to its core, to its calls of the board and the spinlocks, and to its end of the mail.
 use Rattle.std.proofs.Common.{◌≡◌, ℕ, zero, suc, ◌+◌, ◌≤◌, Bool, true, false, cond, Option, Some, None, List, [], ◌∷◌, ◌++◌, length, drop, inl, inr, ⊎_elim, refl, sym, ap, subst, ◌∙◌, arith, append_assoc, append-nil, length-append}
 use Rattle.std.specs.List.{AllByRecursion, slice_get}
 use Rattle.std.proofs.lemmas.Option.{same_Some}
@@ -20,29 +20,33 @@ use Rattle.oskernel.specs.Admission.{serves_in, takes_in}
 use Rattle.oskernel.specs.Step.{after, history_from, outbox_size, serves, takes}
 use Rattle.oskernel.specs.Wants.{front_of, want_in, want_of, watch_in, watch_of}
 use Rattle.oskernel.proofs.Stages.{is_mail}
+use Rattle.osseat.specs.declared.histories.Entry.{Entry}
 use Rattle.osseat.specs.Histories.{Thinned, entry}
-use Rattle.osseat.proofs.Thins.{logged}
+use Rattle.osseat.proofs.Thins.{logged, unlogged}
 use Rattle.osboard.specs.declared.calls.BoardCall.{BoardCall}
 use Rattle.osboard.specs.declared.calls.BoardCall.TheVariants.{Start, Enter, MakeReady, Drain, Look, AskHalt, LookHalt}
 use Rattle.osboard.specs.declared.calls.BoardReply.{BoardReply}
 use Rattle.osboard.specs.declared.calls.BoardReply.TheVariants.{Started, Acknowledged, Shown, Decided, Halting}
 use Rattle.osboard.specs.Boards.{BoardEntry, IsLook}
+use Rattle.osspin.specs.declared.calls.SpinReply.{SpinReply}
+use Rattle.osspin.specs.Spins.{IsRefusedCall, SpinEntry}
 use Rattle.osmail.specs.Ends.{AreUnchanged, HasOneMore, Streams}
 use Rattle.osturn.specs.declared.asks.Ask.{Ask}
 use Rattle.osturn.specs.declared.asks.Ask.TheVariants.{OfBoard, OfSpins, Room, Oldest, StartUnknown, TakeStimulus}
 use Rattle.osturn.specs.declared.asks.Answer.{Answer}
 use Rattle.osturn.specs.declared.asks.Answer.TheVariants.{Replied, Spun, HasRoom, Found, Unasked}
 use Rattle.osturn.specs.declared.seats.Seat.{Seat}
-use Rattle.osturn.specs.Asking.{asked_by, joined, named_by, no_calls, told_by}
+use Rattle.oskernel.specs.declared.wants.SpinWish.{SpinWish}
+use Rattle.osturn.specs.Asking.{Calls, asked_by, joined, named_by, no_calls, spin_call_of, told_by}
 use Rattle.osturn.specs.Fits.{AreAnswered, FitsCore, Leads, history_by, stimuli_in}
 use Rattle.osturn.specs.Seats.{stimulus_count}
-use Rattle.osturn.proofs.Answered.{answered-push, joined-none}
+use Rattle.osturn.proofs.Answered.{answered-push}
 use Rattle.osturn.proofs.Asked.{IsOwnAsk, asks-own}
 use Rattle.osturn.proofs.Leading.{halted-item, is-item, passing-item, spun-item}
 use Rattle.osturn.proofs.Longer.{IsInTurn, core-on, history_from-push, length-stimuli_in}
 use Rattle.osturn.proofs.Seated.{Keeps, Took, seated-kept, seated-on}
 use Rattle.osturn.proofs.Streams.{envelope_in, is_from, is_post_to, posted-after, received-is}
-use Rattle.osthreads.specs.Working.{AreCalls, HasDone, IsAsked, IsAtWork, IsFruitless, IsIdleLook, IsMailed, of_board}
+use Rattle.osthreads.specs.Working.{AreCalls, HasDone, IsAsked, IsAtWork, IsFruitless, IsIdleLook, IsMailed}
 
 -- ---- stimuli
 
@@ -133,26 +137,31 @@ looks-more : (v : View) (items : List Item) (xs : List BoardEntry) (e : BoardEnt
 looks-more v items [] e all look = (look, tt)
 looks-more v items (x ∷ xs) e all look = (all.0, looks-more v items xs e all.1 look)
 
-module _ (v : View) (items : List Item) (mine : List BoardEntry) (loads : ℕ) (calls : AreCalls v items mine loads) where
-  -- all of them, less looks
-  pub thin : Thinned IsLook mine calls.log
-  thin = subst (λ (es : List BoardEntry). Thinned IsLook es calls.log) (sym calls.calls) (thin-more calls.before calls.idle calls.log calls.logged (only-looks v items calls.idle calls.looks))
+-- no call more
+none-more : {C R : Type 0} (idle : Entry C R → Type 0) (xs ys more : List (Entry C R)) → more ≡ xs → Thinned idle xs ys → Thinned idle more (ys ++ [])
+none-more {C} {R} idle xs ys more same t = subst (λ (es : List (Entry C R)). Thinned idle es (ys ++ [])) (sym same) (subst (Thinned idle xs) (sym (append-nil ys)) t)
+
+module _ (v : View) (items : List Item) (made : Calls) (loads : ℕ) (calls : AreCalls v items made loads) where
+  -- all of the board's, less looks
+  pub thin : Thinned IsLook made.board calls.log.board
+  thin = subst (λ (es : List BoardEntry). Thinned IsLook es calls.log.board) (sym calls.calls) (thin-more calls.before calls.idle calls.log.board calls.logged (only-looks v items calls.idle calls.looks))
 
   -- a look more, which resulted in no item
-  pub looked-on : (e : BoardEntry) (mine' : List BoardEntry) → IsIdleLook v items e → mine' ≡ mine ++ e ∷ [] → AreCalls v items mine' (loads + 1)
-  looked-on e mine' look is = record {
+  pub looked-on : (e : BoardEntry) (made' : Calls) → IsIdleLook v items e → made'.board ≡ made.board ++ e ∷ [] → made'.spins ≡ made.spins → AreCalls v items made' (loads + 1)
+  looked-on e made' look more same = record {
     log = calls.log;
     answers = calls.answers;
     before = calls.before;
     idle = calls.idle ++ e ∷ [];
-    calls = is ∙ ap (λ (es : List BoardEntry). es ++ e ∷ []) calls.calls ∙ append_assoc calls.before calls.idle (e ∷ []);
+    calls = more ∙ ap (λ (es : List BoardEntry). es ++ e ∷ []) calls.calls ∙ append_assoc calls.before calls.idle (e ∷ []);
     logged = calls.logged;
     looks = looks-more v items calls.idle e calls.looks look;
     enough = let longer = length-append calls.idle (e ∷ []) in let some = calls.enough in omega arith;
+    spins = subst (λ (es : List SpinEntry). Thinned IsRefusedCall es calls.log.spins) (sym same) calls.spins;
   }
 
-  -- fewer looks are at the end, too
-  pub fewer : (less : ℕ) → less ≤ loads → AreCalls v items mine less
+  -- fewer looks are at the end, too, and a call of a spinlock more was refused
+  pub fewer : (less : ℕ) → less ≤ loads → AreCalls v items made less
   fewer less le = record {
     log = calls.log;
     answers = calls.answers;
@@ -162,37 +171,55 @@ module _ (v : View) (items : List Item) (mine : List BoardEntry) (loads : ℕ) (
     logged = calls.logged;
     looks = calls.looks;
     enough = let some = calls.enough in omega arith;
+    spins = calls.spins;
   }
 
-  -- an item more, which no call resulted in
+  pub refused-on : (e : SpinEntry) (made' : Calls) → IsRefusedCall e → made'.board ≡ made.board → made'.spins ≡ made.spins ++ e ∷ [] → AreCalls v items made' loads
+  refused-on e made' was same more = record {
+    log = calls.log;
+    answers = calls.answers;
+    before = calls.before;
+    idle = calls.idle;
+    calls = same ∙ calls.calls;
+    logged = calls.logged;
+    looks = calls.looks;
+    enough = calls.enough;
+    spins = unlogged IsRefusedCall made.spins calls.log.spins made'.spins calls.log.spins e calls.spins was more refl;
+  }
+
+  -- an item more, to which these calls led
   module _ (ask : Ask) (answer : Answer) (i : Item) (leads : Leads v (history_from v [] items) ask answer i) where
-    answers-on : AreAnswered v [] (items ++ i ∷ []) (joined (of_board calls.log) (told_by v.core ask answer))
-    answers-on = answered-push v [] items (of_board calls.log) ask answer i calls.answers leads
-
-    pub uncalled-on : told_by v.core ask answer ≡ no_calls → AreCalls v (items ++ i ∷ []) mine 0
-    uncalled-on none = record {
-      log = calls.log;
-      answers = subst (AreAnswered v [] (items ++ i ∷ [])) (ap (joined (of_board calls.log)) none ∙ joined-none (of_board calls.log)) answers-on;
-      before = mine;
+    led-on : (told made' : Calls) → told_by v.core ask answer ≡ told → Thinned IsLook made'.board (calls.log.board ++ told.board) → Thinned IsRefusedCall made'.spins (calls.log.spins ++ told.spins) → AreCalls v (items ++ i ∷ []) made' 0
+    led-on told made' is board spins = record {
+      log = joined calls.log told;
+      answers = subst (AreAnswered v [] (items ++ i ∷ [])) (ap (joined calls.log) is) (answered-push v [] items calls.log ask answer i calls.answers leads);
+      before = made'.board;
       idle = [];
-      calls = sym (append-nil mine);
-      logged = thin;
+      calls = sym (append-nil made'.board);
+      logged = board;
       looks = tt;
       enough = omega arith;
+      spins = spins;
     }
 
-    -- or one did
-    pub called-on : (e : BoardEntry) (mine' : List BoardEntry) → told_by v.core ask answer ≡ of_board (e ∷ []) → mine' ≡ mine ++ e ∷ [] → AreCalls v (items ++ i ∷ []) mine' 0
-    called-on e mine' one is = record {
-      log = calls.log ++ e ∷ [];
-      answers = subst (AreAnswered v [] (items ++ i ∷ [])) (ap (joined (of_board calls.log)) one) answers-on;
-      before = mine';
-      idle = [];
-      calls = sym (append-nil mine');
-      logged = logged IsLook mine calls.log mine' (calls.log ++ e ∷ []) e e thin is refl refl;
-      looks = tt;
-      enough = omega arith;
-    }
+    -- none, one of the board, or one of a spinlock
+    pub uncalled-on : (made' : Calls) → told_by v.core ask answer ≡ no_calls → made' ≡ made → AreCalls v (items ++ i ∷ []) made' 0
+    uncalled-on made' none same =
+        led-on no_calls made' none
+        (none-more IsLook made.board calls.log.board made'.board (ap (λ (c : Calls). c.board) same) thin)
+        (none-more IsRefusedCall made.spins calls.log.spins made'.spins (ap (λ (c : Calls). c.spins) same) calls.spins)
+
+    pub board-on : (e : BoardEntry) (made' : Calls) → told_by v.core ask answer ≡ record { board = e ∷ []; spins = [] } → made'.board ≡ made.board ++ e ∷ [] → made'.spins ≡ made.spins → AreCalls v (items ++ i ∷ []) made' 0
+    board-on e made' one more same =
+        led-on (record { board = e ∷ []; spins = [] }) made' one
+        (logged IsLook made.board calls.log.board made'.board (calls.log.board ++ e ∷ []) e e thin more refl refl)
+        (none-more IsRefusedCall made.spins calls.log.spins made'.spins same calls.spins)
+
+    pub spins-on : (e : SpinEntry) (made' : Calls) → told_by v.core ask answer ≡ record { board = []; spins = e ∷ [] } → made'.board ≡ made.board → made'.spins ≡ made.spins ++ e ∷ [] → AreCalls v (items ++ i ∷ []) made' 0
+    spins-on e made' one same more =
+        led-on (record { board = []; spins = e ∷ [] }) made' one
+        (none-more IsLook made.board calls.log.board made'.board same thin)
+        (logged IsRefusedCall made.spins calls.log.spins made'.spins (calls.log.spins ++ e ∷ []) e e calls.spins more refl refl)
 
 -- ---- its mail
 
@@ -259,8 +286,8 @@ module _ (v : View) (h : History) (sent taken sent' taken' : Streams) (mail : Is
 
 -- ---- a turn that took an item
 
-module _ (plan : Plan) (stimuli : List CoreStimuli) (loads : ℕ) (old new : Seat) (mine mine' : List BoardEntry) (sent taken sent' taken' : Streams)
-    (done : HasDone plan stimuli old mine sent taken None loads) (ask : Ask) (answer : Answer) (item : Item)
+module _ (plan : Plan) (stimuli : List CoreStimuli) (loads : ℕ) (old new : Seat) (made made' : Calls) (sent taken sent' taken' : Streams)
+    (done : HasDone plan stimuli old made sent taken None loads) (ask : Ask) (answer : Answer) (item : Item)
     (asked : IsAsked plan old ask) (names : named_by old.id (watch_in old.kernel) ask answer ≡ Some item) (may : takes_in 64 old.kernel item ≡ true) (took : Took old new item) where
   abbrev view : View
   view = view_of plan old.id
@@ -285,30 +312,35 @@ module _ (plan : Plan) (stimuli : List CoreStimuli) (loads : ℕ) (old new : Sea
       (subst (λ (next : Option Stimulus). IsOwnAsk view (state_of view past) next (Some ask)) (next-left plan stimuli old done.work)
       (subst (IsOwnAsk view (state_of view past) (slice_get old.stimuli.now 0)) asks-it (asks-own view (state_of view past) (slice_get old.stimuli.now 0) asked.0))) leads.names
 
-  done-on : AreCalls view (old.items.items ++ item ∷ []) mine' 0 → IsMailed view (after view past item) sent' taken' None → HasDone plan stimuli new mine' sent' taken' None 0
+  done-on : AreCalls view (old.items.items ++ item ∷ []) made' 0 → IsMailed view (after view past item) sent' taken' None → HasDone plan stimuli new made' sent' taken' None 0
   done-on calls mail = record {
     work = work-on plan stimuli old done.work new item took (takes-it plan stimuli old done.work item true may) in-turn;
-    calls = subst (λ (i : CoreId). AreCalls (view_of plan i) new.items.items mine' 0) (sym took.id)
-        (subst (λ (items : List Item). AreCalls view items mine' 0) (sym took.items) calls);
+    calls = subst (λ (i : CoreId). AreCalls (view_of plan i) new.items.items made' 0) (sym took.id)
+        (subst (λ (items : List Item). AreCalls view items made' 0) (sym took.items) calls);
     mail = subst (λ (i : CoreId). IsMailed (view_of plan i) (history_by plan new.id new.items.items) sent' taken' None) (sym took.id)
         (subst (λ (k : History). IsMailed view k sent' taken' None) (sym (history-on plan stimuli old done.work new item took)) mail);
   }
 
-  -- The item came of a call of the board; of no call; of an envelope that was sent; of one that was taken.
-  pub board-took : (call : BoardCall) (reply : BoardReply) → ask ≡ OfBoard call → answer ≡ Replied reply → is_mail item ≡ false → mine' ≡ mine ++ entry old.id call reply ∷ [] → AreUnchanged sent sent' → AreUnchanged taken taken' → HasDone plan stimuli new mine' sent' taken' None 0
-  board-took call reply is_ask is_answer none more same_sent same_taken =
+  -- The item came of a call of the board; of one of a spinlock; of no call; of an envelope that was sent; of one that was taken.
+  pub board-took : (call : BoardCall) (reply : BoardReply) → ask ≡ OfBoard call → answer ≡ Replied reply → is_mail item ≡ false → made'.board ≡ made.board ++ entry old.id call reply ∷ [] → made'.spins ≡ made.spins → AreUnchanged sent sent' → AreUnchanged taken taken' → HasDone plan stimuli new made' sent' taken' None 0
+  board-took call reply is_ask is_answer none more same same_sent same_taken =
       done-on
-      (called-on view old.items.items mine loads done.calls ask answer item leads (entry old.id call reply) mine' (ap (λ (a : Ask). told_by old.id a answer) is_ask ∙ ap (told_by old.id (OfBoard call)) is_answer) more)
+      (board-on view old.items.items made loads done.calls ask answer item leads (entry old.id call reply) made' (ap (λ (a : Ask). told_by old.id a answer) is_ask ∙ ap (told_by old.id (OfBoard call)) is_answer) more same)
       (mail-same view past sent taken sent' taken' done.mail item none same_sent same_taken)
 
-  uncalled : told_by old.id ask answer ≡ no_calls → mine' ≡ mine → AreCalls view (old.items.items ++ item ∷ []) mine' 0
-  uncalled silent same =
-      subst (λ (es : List BoardEntry). AreCalls view (old.items.items ++ item ∷ []) es 0) (sym same) (uncalled-on view old.items.items mine loads done.calls ask answer item leads silent)
+  pub spins-took : (wish : SpinWish) (reply : SpinReply) → ask ≡ OfSpins wish → answer ≡ Spun reply → is_mail item ≡ false → made'.board ≡ made.board → made'.spins ≡ made.spins ++ entry old.id (spin_call_of wish) reply ∷ [] → AreUnchanged sent sent' → AreUnchanged taken taken' → HasDone plan stimuli new made' sent' taken' None 0
+  spins-took wish reply is_ask is_answer none same more same_sent same_taken =
+      done-on
+      (spins-on view old.items.items made loads done.calls ask answer item leads (entry old.id (spin_call_of wish) reply) made' (ap (λ (a : Ask). told_by old.id a answer) is_ask ∙ ap (told_by old.id (OfSpins wish)) is_answer) same more)
+      (mail-same view past sent taken sent' taken' done.mail item none same_sent same_taken)
 
-  pub alone-took : told_by old.id ask answer ≡ no_calls → is_mail item ≡ false → mine' ≡ mine → AreUnchanged sent sent' → AreUnchanged taken taken' → HasDone plan stimuli new mine' sent' taken' None 0
+  uncalled : told_by old.id ask answer ≡ no_calls → made' ≡ made → AreCalls view (old.items.items ++ item ∷ []) made' 0
+  uncalled silent same = uncalled-on view old.items.items made loads done.calls ask answer item leads made' silent same
+
+  pub alone-took : told_by old.id ask answer ≡ no_calls → is_mail item ≡ false → made' ≡ made → AreUnchanged sent sent' → AreUnchanged taken taken' → HasDone plan stimuli new made' sent' taken' None 0
   alone-took silent none same same_sent same_taken = done-on (uncalled silent same) (mail-same view past sent taken sent' taken' done.mail item none same_sent same_taken)
 
-  pub post-took : (to first : CoreId) (e : Envelope) → told_by old.id ask answer ≡ no_calls → item ≡ Item.Posted to → front_of old.kernel.border.outbox ≡ Some (first, e) → mine' ≡ mine → HasOneMore to e sent sent' → AreUnchanged taken taken' → HasDone plan stimuli new mine' sent' taken' None 0
+  pub post-took : (to first : CoreId) (e : Envelope) → told_by old.id ask answer ≡ no_calls → item ≡ Item.Posted to → front_of old.kernel.border.outbox ≡ Some (first, e) → made' ≡ made → HasOneMore to e sent sent' → AreUnchanged taken taken' → HasDone plan stimuli new made' sent' taken' None 0
   post-took to first e silent is_item front same grown same_taken =
       done-on (uncalled silent same)
       (subst (λ (i : Item). IsMailed view (after view past i) sent' taken' None) (sym is_item)
@@ -318,7 +350,7 @@ module _ (plan : Plan) (stimuli : List CoreStimuli) (loads : ℕ) (old new : Sea
       ahead [] is = cc
       ahead (s ∷ ss) is = ap (λ (x : CoreId × Envelope). x.1 ∷ []) (same_Some _ _ is)
 
-  pub receipt-took : (from : CoreId) (e : Envelope) → told_by old.id ask answer ≡ no_calls → item ≡ Item.Received from e.number e.message → mine' ≡ mine → AreUnchanged sent sent' → HasOneMore from e taken taken' → HasDone plan stimuli new mine' sent' taken' None 0
+  pub receipt-took : (from : CoreId) (e : Envelope) → told_by old.id ask answer ≡ no_calls → item ≡ Item.Received from e.number e.message → made' ≡ made → AreUnchanged sent sent' → HasOneMore from e taken taken' → HasDone plan stimuli new made' sent' taken' None 0
   receipt-took from e silent is_item same same_sent grown =
       done-on (uncalled silent same)
       (subst (λ (i : Item). IsMailed view (after view past i) sent' taken' None) (sym is_item)
@@ -326,31 +358,39 @@ module _ (plan : Plan) (stimuli : List CoreStimuli) (loads : ℕ) (old new : Sea
 
 -- ---- a turn that took none
 
-module _ (plan : Plan) (stimuli : List CoreStimuli) (loads : ℕ) (core : Seat) (mine : List BoardEntry) (sent taken : Streams) (done : HasDone plan stimuli core mine sent taken None loads) where
+module _ (plan : Plan) (stimuli : List CoreStimuli) (loads : ℕ) (core : Seat) (made : Calls) (sent taken : Streams) (done : HasDone plan stimuli core made sent taken None loads) where
   -- a look that resulted in no item
-  pub look-idle : (e : BoardEntry) (mine' : List BoardEntry) → IsLook e → IsFruitless core.id core.kernel (OfBoard e.call) (Replied e.reply) → mine' ≡ mine ++ e ∷ [] → HasDone plan stimuli core mine' sent taken None (loads + 1)
-  look-idle e mine' look none more = record {
+  pub look-idle : (e : BoardEntry) (made' : Calls) → IsLook e → IsFruitless core.id core.kernel (OfBoard e.call) (Replied e.reply) → made'.board ≡ made.board ++ e ∷ [] → made'.spins ≡ made.spins → HasDone plan stimuli core made' sent taken None (loads + 1)
+  look-idle e made' look none more same = record {
     work = done.work;
-    calls = looked-on (view_of plan core.id) core.items.items mine loads done.calls e mine'
-        (look, subst (λ (k : KernelState). IsFruitless core.id k (OfBoard e.call) (Replied e.reply)) done.work.seated.tracks.stands.is none) more;
+    calls = looked-on (view_of plan core.id) core.items.items made loads done.calls e made'
+        (look, subst (λ (k : KernelState). IsFruitless core.id k (OfBoard e.call) (Replied e.reply)) done.work.seated.tracks.stands.is none) more same;
+    mail = done.mail;
+  }
+
+  -- a call of a spinlock that was refused
+  pub spin-idle : (e : SpinEntry) (made' : Calls) → IsRefusedCall e → made'.board ≡ made.board → made'.spins ≡ made.spins ++ e ∷ [] → HasDone plan stimuli core made' sent taken None (loads + 0)
+  spin-idle e made' was same more = record {
+    work = done.work;
+    calls = fewer (view_of plan core.id) core.items.items made' loads (refused-on (view_of plan core.id) core.items.items made loads done.calls e made' was same more) (loads + 0) (omega arith);
     mail = done.mail;
   }
 
   -- nothing was called, sent or taken, and there may be more room
-  pub still : (new : Seat) (sent' taken' : Streams) → Keeps core new → AreUnchanged sent sent' → AreUnchanged taken taken' → HasDone plan stimuli new mine sent' taken' None (loads + 0)
+  pub still : (new : Seat) (sent' taken' : Streams) → Keeps core new → AreUnchanged sent sent' → AreUnchanged taken taken' → HasDone plan stimuli new made sent' taken' None (loads + 0)
   still new sent' taken' keeps same_sent same_taken = record {
     work = record {
       seated = seated-kept plan stimuli core new keeps done.work.seated;
       fits = rw (keeps.id, keeps.items) done.work.fits;
     };
-    calls = rw (keeps.id, keeps.items) (fewer (view_of plan core.id) core.items.items mine loads done.calls (loads + 0) (omega arith));
+    calls = rw (keeps.id, keeps.items) (fewer (view_of plan core.id) core.items.items made loads done.calls (loads + 0) (omega arith));
     mail = mail-still (view_of plan core.id) (history_by plan core.id core.items.items) sent taken sent' taken' done.mail (view_of plan new.id) (history_by plan new.id new.items.items) (rw (keeps.id, keeps.items) refl) same_sent same_taken;
   }
 
   -- an envelope was taken that the core could not take, though it may serve
-  pub refused : (from : CoreId) (e : Envelope) (sent' taken' : Streams) → serves_in 64 core.kernel ≡ true → takes_in 64 core.kernel (Item.Received from e.number e.message) ≡ false → AreUnchanged sent sent' → HasOneMore from e taken taken' → HasDone plan stimuli core mine sent' taken' (Some (from, e)) 0
+  pub refused : (from : CoreId) (e : Envelope) (sent' taken' : Streams) → serves_in 64 core.kernel ≡ true → takes_in 64 core.kernel (Item.Received from e.number e.message) ≡ false → AreUnchanged sent sent' → HasOneMore from e taken taken' → HasDone plan stimuli core made sent' taken' (Some (from, e)) 0
   refused from e sent' taken' may not_this same grown = record {
     work = done.work;
-    calls = fewer (view_of plan core.id) core.items.items mine loads done.calls 0 (omega arith);
+    calls = fewer (view_of plan core.id) core.items.items made loads done.calls 0 (omega arith);
     mail = mail-refused (view_of plan core.id) (history_by plan core.id core.items.items) sent taken sent' taken' done.mail from e same grown (serves-it plan stimuli core done.work may) (takes-it plan stimuli core done.work (Item.Received from e.number e.message) false not_this);
   }

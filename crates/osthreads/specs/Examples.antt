@@ -39,6 +39,7 @@ four_cores = record {
   cap = 16;
   master = nth_core 0;
   modes = codes "M" ∷ [];
+  spinlocks = [];
   cores =
       core_by (nth_core 0) (nth_core 1 ∷ nth_core 2 ∷ []) (callers_by (codes "A") (nth_task 1 1) (codes "C"))
       ∷ core_by (nth_core 1) [] (callers_by (codes "B") (nth_task 0 1) (codes "D"))

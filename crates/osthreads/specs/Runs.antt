@@ -1,6 +1,6 @@
--- What the run of one core results in, and what the runs of all cores result in together. It is said of reports, of the board's calls
--- and of the envelopes, and of no turns and no threads. [own]
-use Rattle.std.specs.Prelude.{ℕ, List, [], ◌∷◌}
+-- What the run of one core results in, and what the runs of all cores result in together. It is said of reports, of the calls of the
+-- board and the spinlocks, and of the envelopes, and of no turns and no threads. [own]
+use Rattle.std.specs.Prelude.{ℕ, List, [], ◌∷◌, map}
 use Rattle.std.specs.List.{AllByRecursion}
 use Rattle.osbase.specs.declared.references.CoreId.{CoreId}
 use Rattle.osbase.specs.declared.turns.CoreStimuli.{CoreStimuli}
@@ -9,25 +9,27 @@ use Rattle.osbase.specs.History.{posted, received}
 use Rattle.osplan.specs.declared.plans.Plan.{Plan}
 use Rattle.osplan.specs.View.{view_of}
 use Rattle.osseat.specs.declared.histories.Plan.{Plan as SeatPlan}
-use Rattle.osseat.specs.Histories.{IsLegal, calls_by}
+use Rattle.osseat.specs.Histories.{IsLegal}
 use Rattle.osseat.specs.Runs.{IsOneRun}
-use Rattle.osboard.specs.Boards.{BoardEntry, one_board}
+use Rattle.osboard.specs.Boards.{one_board}
+use Rattle.osspin.specs.Spins.{spinlocks}
+use Rattle.osturn.specs.Asking.{Calls, calls_of}
 use Rattle.osturn.specs.Fits.{AreAnswered, FitsCore, IsBeginning, history_by, ids_of}
 use Rattle.osturn.specs.Sound.{IsOwn}
-use Rattle.osthreads.specs.Working.{IsFinished, of_board}
+use Rattle.osthreads.specs.Working.{IsFinished}
 
 -- The report says what its own items say, and they fit what was listed for its core.
 pub record IsOneCore (plan : Plan) (stimuli : List CoreStimuli) (report : Report) : Type 0 where
   pub own : IsOwn plan report
   pub fits : FitsCore plan stimuli report.core report.items
 
--- So it is, and to each of its items in turn an answer led; those of the board are these calls, in order.
-pub record IsRun (plan : Plan) (stimuli : List CoreStimuli) (report : Report) (calls : List BoardEntry) : Type 0 where
+-- So it is, and to each of its items in turn an answer led; those of the board and the spinlocks are these calls, in order.
+pub record IsRun (plan : Plan) (stimuli : List CoreStimuli) (report : Report) (calls : Calls) : Type 0 where
   pub alone : IsOneCore plan stimuli report
-  pub answers : AreAnswered (view_of plan report.core) [] report.items (of_board calls)
+  pub answers : AreAnswered (view_of plan report.core) [] report.items calls
 
 -- Each report has a log of such calls.
-abbrev pub AreRuns : Plan → List CoreStimuli → List Report → List (List BoardEntry) → Type 0
+abbrev pub AreRuns : Plan → List CoreStimuli → List Report → List Calls → Type 0
 AreRuns plan stimuli [] [] = Unit {0}
 AreRuns plan stimuli [] (l ∷ ls) = ⊥
 AreRuns plan stimuli (r ∷ rs) [] = ⊥
@@ -44,13 +46,21 @@ AreDelivered plan reports = AllByRecursion (λ a. AllByRecursion (IsDelivered pl
 abbrev pub new_board : Plan → SeatPlan CoreId
 new_board plan = record { cores = ids_of plan; about = plan.master }
 
--- One history of the board has the calls of all logs, a log for each configured core, and no others.
-abbrev pub IsOneBoard : Plan → List (List BoardEntry) → Type 0
-IsOneBoard plan logs = IsOneRun one_board (new_board plan) logs
+-- What the spinlocks of a configuration are made with: the configured cores.
+abbrev pub new_spins : Plan → SeatPlan Unit
+new_spins plan = record { cores = ids_of plan; about = tt }
 
--- Each core has ended, or its worker stalled. One history of the board says so: it has all calls of the cores, also the looks that
--- resulted in no item.
+-- One history of the board has its calls of all logs, a log for each configured core, and no others; so has one of the spinlocks.
+abbrev pub IsOneBoard : Plan → List Calls → Type 0
+IsOneBoard plan logs = IsOneRun one_board (new_board plan) (map (λ (log : Calls). log.board) logs)
+
+abbrev pub AreOneSpins : Plan → List Calls → Type 0
+AreOneSpins plan logs = IsOneRun spinlocks (new_spins plan) (map (λ (log : Calls). log.spins) logs)
+
+-- Each core has ended, or its worker stalled. One history of the board and one of the spinlocks say so: they have all calls of the
+-- cores, also those that resulted in no item.
 pub record AreFinished (plan : Plan) (stimuli : List CoreStimuli) (turns : ℕ) (reports : List Report) : Type 0 where
-  pub history : List BoardEntry
-  pub legal : IsLegal one_board plan.master history
-  pub finished : AllByRecursion (λ (r : Report). IsFinished plan stimuli turns r (calls_by r.core history)) reports
+  pub history : Calls
+  pub board : IsLegal one_board plan.master history.board
+  pub spins : IsLegal spinlocks tt history.spins
+  pub finished : AllByRecursion (λ (r : Report). IsFinished plan stimuli turns r (calls_of r.core history)) reports

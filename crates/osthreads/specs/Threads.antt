@@ -6,44 +6,45 @@ use Rattle.osbase.specs.declared.turns.CoreStimuli.{CoreStimuli}
 use Rattle.osplan.specs.declared.plans.Plan.{Plan}
 use Rattle.osplan.specs.View.{core_of, view_of}
 use Rattle.osseat.specs.Histories.{Thinned}
-use Rattle.osseat.specs.Seats.{Held, Place}
 use Rattle.osmail.specs.Ends.{sent_to, taken_from}
-use Rattle.osboard.specs.declared.calls.BoardCall.{BoardCall}
-use Rattle.osboard.specs.declared.calls.BoardReply.{BoardReply}
-use Rattle.osboard.specs.Boards.{BoardEntry, IsLook}
+use Rattle.osboard.specs.Boards.{IsLook}
+use Rattle.osspin.specs.Spins.{IsRefusedCall}
+use Rattle.osturn.specs.Asking.{Calls, no_calls}
 use Rattle.osturn.specs.Fits.{IsBeginning, history_by, ids_of}
 use Rattle.osthreads.specs.declared.ending.Ending.{Ending}
+use Rattle.osthreads.specs.declared.seats.Seats.{Seats}
 use Rattle.osthreads.specs.Runs.{IsOneCore, IsRun}
+use Rattle.osthreads.specs.Seats.{AreAt, Shared, made_from}
 use Rattle.osthreads.specs.Working.{IsFinished, IsMailed, is_finished_by, refusal_at}
 
--- A configured core's seat at this board, from which nothing was called yet; and these are the configured cores.
-pub record IsReady (plan : Plan) (cores : List CoreId) (board : Place CoreId) (seat : Held CoreId BoardCall BoardReply) : Type 0 where
+-- A configured core's seats there, from which nothing was called yet; and these are the configured cores.
+pub record IsReady (plan : Plan) (cores : List CoreId) (shared : Shared) (seats : Seats) : Type 0 where
   pub listed : cores ≡ ids_of plan
-  pub configured : IsSome (core_of plan seat.core)
-  pub placed : seat.place ≡ board
-  pub fresh : seat.mine ≡ []
+  pub configured : IsSome (core_of plan seats.board.core)
+  pub placed : AreAt shared seats.board.core seats
+  pub fresh : made_from seats ≡ no_calls
 
-abbrev pub AreReady : Plan → List CoreId → Place CoreId → List (Held CoreId BoardCall BoardReply) → Type 0
-AreReady plan cores board seats = AllByRecursion (IsReady plan cores board) seats
+abbrev pub AreReady : Plan → List CoreId → Shared → List Seats → Type 0
+AreReady plan cores shared seats = AllByRecursion (IsReady plan cores shared) seats
 
--- What the worker of this core gave back: its report is a run of its own, by calls that were made from its seat at this board, and its
--- end of the mail sent and took what its items say. If no allocation failed and no envelope was refused, its core has ended, or it stalled.
-pub record IsEnded (plan : Plan) (stimuli : List CoreStimuli) (turns : ℕ) (board : Place CoreId) (id : CoreId) (e : Ending) : Type 0 where
+-- What the worker of this core gave back: its report is a run of its own, by calls that were made from its seats there, and its end of
+-- the mail sent and took what its items say. If no allocation failed and no envelope was refused, its core has ended, or it stalled.
+pub record IsEnded (plan : Plan) (stimuli : List CoreStimuli) (turns : ℕ) (shared : Shared) (id : CoreId) (e : Ending) : Type 0 where
   pub core : e.report.core ≡ id
-  pub placed : e.seat.place ≡ board
-  pub seat : e.seat.core ≡ id
-  pub log : List BoardEntry
+  pub placed : AreAt shared id e.seats
+  pub log : Calls
   pub is_run : IsRun plan stimuli e.report log
-  pub logged : Thinned IsLook e.seat.mine log
+  pub board : Thinned IsLook e.seats.board.mine log.board
+  pub spins : Thinned IsRefusedCall e.seats.spins.mine log.spins
   pub mail : IsMailed (view_of plan e.report.core) (history_by plan e.report.core e.report.items) (sent_to e.steps.items) (taken_from e.steps.items) (refusal_at e.stop)
-  pub finished : is_finished_by e.stop ≡ true → IsFinished plan stimuli turns e.report e.seat.mine
+  pub finished : is_finished_by e.stop ≡ true → IsFinished plan stimuli turns e.report (made_from e.seats)
 
 -- Each core of the list has one.
-abbrev pub AreEnded : Plan → List CoreStimuli → ℕ → Place CoreId → List CoreId → List Ending → Type 0
-AreEnded plan stimuli turns board [] [] = Unit {0}
-AreEnded plan stimuli turns board [] (e ∷ es) = ⊥
-AreEnded plan stimuli turns board (i ∷ is) [] = ⊥
-AreEnded plan stimuli turns board (i ∷ is) (e ∷ es) = IsEnded plan stimuli turns board i e × AreEnded plan stimuli turns board is es
+abbrev pub AreEnded : Plan → List CoreStimuli → ℕ → Shared → List CoreId → List Ending → Type 0
+AreEnded plan stimuli turns shared [] [] = Unit {0}
+AreEnded plan stimuli turns shared [] (e ∷ es) = ⊥
+AreEnded plan stimuli turns shared (i ∷ is) [] = ⊥
+AreEnded plan stimuli turns shared (i ∷ is) (e ∷ es) = IsEnded plan stimuli turns shared i e × AreEnded plan stimuli turns shared is es
 
 -- The report of each says what its own items say.
 abbrev pub AreAlone : Plan → List CoreStimuli → List Ending → Type 0

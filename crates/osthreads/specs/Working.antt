@@ -1,4 +1,4 @@
--- What a worker of one core has done, said of its core, of its calls of the board and of its end of the mail. [own]
+-- What a worker of one core has done, said of its core, of its calls of the board and the spinlocks, and of its end of the mail. [own]
 use Rattle.std.specs.Prelude.{◌≡◌, ◌⊎◌, ◌+◌, ◌/◌, ◌<◌, ◌≤◌, nat_lt, ℕ, zero, suc, Bool, true, false, Option, Some, None, if◌then◌else◌, List, [], ◌∷◌, ◌++◌, length, slice_get}
 use Rattle.std.specs.List.{AllByRecursion}
 use Rattle.osbase.specs.declared.references.CoreId.{CoreId}
@@ -19,17 +19,20 @@ use Rattle.oskernel.specs.Wants.{want_in, watch_in}
 use Rattle.osseat.specs.Histories.{Thinned}
 use Rattle.osboard.specs.declared.calls.BoardState.{BoardState}
 use Rattle.osboard.specs.Boards.{BoardEntry, IsLook, board_reply}
+use Rattle.osspin.specs.Spins.{IsRefusedCall, spin_reply}
 use Rattle.osmail.specs.Ends.{Streams}
 use Rattle.osturn.specs.declared.asks.Answer.{Answer}
-use Rattle.osturn.specs.declared.asks.Answer.TheVariants.{Replied}
+use Rattle.osturn.specs.declared.asks.Answer.TheVariants.{Replied, Spun}
 use Rattle.osturn.specs.declared.asks.Ask.{Ask}
-use Rattle.osturn.specs.declared.asks.Ask.TheVariants.{OfBoard, Room}
+use Rattle.osturn.specs.declared.asks.Ask.TheVariants.{OfBoard, OfSpins, Room}
 use Rattle.osturn.specs.declared.seats.Seat.{Seat}
-use Rattle.osturn.specs.Asking.{Calls, asked_by, named_by}
+use Rattle.oskernel.specs.declared.wants.SpinWish.TheVariants as Wish
+use Rattle.osturn.specs.Asking.{Calls, asked_by, named_by, spin_call_of}
 use Rattle.osturn.specs.Fits.{AreAnswered, FitsCore, history_by, ids_of, stimuli_in}
 use Rattle.osturn.specs.Seats.{IsSeated, is_ended_phase}
 use Rattle.osturn.specs.Sound.{IsOwn}
 use Rattle.osthreads.specs.declared.run.Run.{Run}
+use Rattle.osthreads.specs.Seats.{made_from}
 use Rattle.osthreads.specs.declared.turns.Stop.{Stop}
 use Rattle.osthreads.specs.declared.turns.Turned.{Turned}
 use Rattle.osthreads.specs.declared.turns.Turned.TheVariants.{Took, Nothing, Refused}
@@ -47,24 +50,23 @@ IsAsked plan core ask = (choice : Choice) × (asked_by (view_of plan core.id) (w
 abbrev pub IsFruitless : CoreId → KernelState → Ask → Answer → Type 0
 IsFruitless id k ask answer = (item : Item) → named_by id (watch_in k) ask answer ≡ Some item → takes_in outbox_size k item ≡ false
 
--- The answer to what a core's turn asked may be this: of the board, what a board answers.
+-- The answer to what a core's turn asked may be this: of the board, what a board answers, and of the spinlocks, what they answer.
 abbrev pub MayAnswer : CoreId → Ask → Answer → Type 0
 MayAnswer id (OfBoard call) answer = (board : BoardState) × (answer ≡ Replied (board_reply id call board))
+MayAnswer id (OfSpins wish) answer = (holders : List (Option CoreId)) × (answer ≡ Spun (spin_reply id (spin_call_of wish) holders))
 MayAnswer id ask answer = Unit {0}
 
--- What a core's turn asks is room in a mailbox.
-abbrev pub WaitsForRoom : Ask → Type 0
-WaitsForRoom (Room to) = Unit {0}
-WaitsForRoom ask = ⊥
+-- What a core's turn asks may have to wait: for room in a mailbox, GetSpinlock for its spinlock, and a release until it is done.
+abbrev pub MayWait : Ask → Type 0
+MayWait (Room to) = Unit {0}
+MayWait (OfSpins (Wish.Get l)) = Unit {0}
+MayWait (OfSpins (Wish.Free l)) = Unit {0}
+MayWait ask = ⊥
 
--- The core can do nothing by itself: what its own turn asks is room in a mailbox, or results in no item whatever the answer. This is its
--- next stimulus, if one is left.
+-- The core can do nothing by itself: what its own turn asks may have to wait for other cores, or results in no item whatever the answer.
+-- This is its next stimulus, if one is left.
 abbrev pub IsStuck : View → KernelState → Option Stimulus → Type 0
-IsStuck v k next = (ask : Ask) → asked_by v (want_in k) (watch_in k) next Choice.Own ≡ Some ask → WaitsForRoom ask ⊎ ((answer : Answer) → MayAnswer v.core ask answer → IsFruitless v.core k ask answer)
-
--- Calls of the board alone. No service calls a spinlock yet.
-abbrev pub of_board : List BoardEntry → Calls
-of_board log = record { board = log; spins = [] }
+IsStuck v k next = (ask : Ask) → asked_by v (want_in k) (watch_in k) next Choice.Own ≡ Some ask → MayWait ask ⊎ ((answer : Answer) → MayAnswer v.core ask answer → IsFruitless v.core k ask answer)
 
 -- ---- what a worker has done
 
@@ -77,17 +79,18 @@ pub record IsAtWork (plan : Plan) (stimuli : List CoreStimuli) (core : Seat) : T
 abbrev pub IsIdleLook : View → List Item → BoardEntry → Type 0
 IsIdleLook v items e = IsLook e × IsFruitless v.core (state_of v (history_from v [] items)) (OfBoard e.call) (Replied e.reply)
 
--- The calls are those that resulted in the core's items, in order, and looks that resulted in none; and they end with at least so
--- many looks after the last item.
-pub record AreCalls (v : View) (items : List Item) (mine : List BoardEntry) (loads : ℕ) : Type 0 where
-  pub log : List BoardEntry
-  pub answers : AreAnswered v [] items (of_board log)
+-- The calls are those that resulted in the core's items, in order, and calls that resulted in none: looks at the board, and calls of
+-- spinlocks that were refused. Those of the board end with at least so many looks after the last item.
+pub record AreCalls (v : View) (items : List Item) (made : Calls) (loads : ℕ) : Type 0 where
+  pub log : Calls
+  pub answers : AreAnswered v [] items log
   pub before : List BoardEntry
   pub idle : List BoardEntry
-  pub calls : mine ≡ before ++ idle
-  pub logged : Thinned IsLook before log
+  pub calls : made.board ≡ before ++ idle
+  pub logged : Thinned IsLook before log.board
   pub looks : AllByRecursion (IsIdleLook v items) idle
   pub enough : loads ≤ length idle
+  pub spins : Thinned IsRefusedCall made.spins log.spins
 
 -- An envelope that was taken and became no item, with its sender.
 abbrev pub Refusal : Type 0
@@ -109,14 +112,14 @@ pub record IsMailed (v : View) (h : History) (sent taken : Streams) (refusal : R
   pub refused : IsRefused v h refusal
 
 -- All of it.
-pub record HasDone (plan : Plan) (stimuli : List CoreStimuli) (core : Seat) (mine : List BoardEntry) (sent taken : Streams) (refusal : Refusal) (loads : ℕ) : Type 0 where
+pub record HasDone (plan : Plan) (stimuli : List CoreStimuli) (core : Seat) (made : Calls) (sent taken : Streams) (refusal : Refusal) (loads : ℕ) : Type 0 where
   pub work : IsAtWork plan stimuli core
-  pub calls : AreCalls (view_of plan core.id) core.items.items mine loads
+  pub calls : AreCalls (view_of plan core.id) core.items.items made loads
   pub mail : IsMailed (view_of plan core.id) (history_by plan core.id core.items.items) sent taken refusal
 
 -- So it is of a worker whose mail end sent and took these.
 abbrev pub HasWorked : {M : Type 0} → (M → Streams) → (M → Streams) → List CoreStimuli → Refusal → ℕ → Worker M → Type 0
-HasWorked sent taken stimuli refusal loads w = HasDone w.run.now.config.now stimuli w.core w.seat.mine (sent w.mail) (taken w.mail) refusal loads
+HasWorked sent taken stimuli refusal loads w = HasDone w.run.now.config.now stimuli w.core (made_from w.seats) (sent w.mail) (taken w.mail) refusal loads
 
 -- ---- a turn
 
@@ -213,26 +216,28 @@ pub record IsStopped {M : Type 0} (sent taken : M → Streams) (stimuli : List C
   pub stuck : stop ≡ Stop.Stalled → 0 < core_count shift → core_count shift < shift.worker.run.now.turns → HasNoWork shift.worker
 
 -- So many turns in a row changed nothing. A round has a turn for each configured core, its own for the core itself, and a look. So the
--- core's calls end with a look for each whole round, and if there was one, the core can do nothing by itself.
+-- core's calls of the board end with a look for each whole round, and if there was one, the core can do nothing by itself, but for an
+-- envelope that may wait for room in a mailbox, GetSpinlock that may wait for its spinlock, and a release, of which it is not said here
+-- that none is refused.
 pub record HasStalled (plan : Plan) (stimuli : List CoreStimuli) (turns : ℕ) (report : Report) (loads : ℕ) : Type 0 where
   pub rounds : turns / (length (ids_of plan) + 1) ≤ loads
   pub stuck : length (ids_of plan) < turns
       → IsStuck (view_of plan report.core) (state_of (view_of plan report.core) (history_by plan report.core report.items)) (slice_get (stimuli_of stimuli report.core) (length (stimuli_in report.items)))
 
 -- A worker made these calls. Its core has ended, or it stalled.
-pub record IsFinished (plan : Plan) (stimuli : List CoreStimuli) (turns : ℕ) (report : Report) (mine : List BoardEntry) : Type 0 where
+pub record IsFinished (plan : Plan) (stimuli : List CoreStimuli) (turns : ℕ) (report : Report) (made : Calls) : Type 0 where
   pub loads : ℕ
-  pub calls : AreCalls (view_of plan report.core) report.items mine loads
+  pub calls : AreCalls (view_of plan report.core) report.items made loads
   pub stalled : report.ended ≡ false → HasStalled plan stimuli turns report loads
 
--- What a worker hands back. Its report says what its items say, and they fit what was listed. Its calls of the board are those that
--- resulted in items, and looks. Its end of the mail sent what was posted and took what was received, but for an envelope that the core
+-- What a worker hands back. Its report says what its items say, and they fit what was listed. Its calls are those that resulted in
+-- items, looks at the board, and calls of spinlocks that were refused. Its end of the mail sent what was posted and took what was received, but for an envelope that the core
 -- could not take. Its core has ended exactly if it stopped for that; if it stopped since its turns changed nothing, it has stalled.
 pub record IsWorked {M : Type 0} (sent taken : M → Streams) (run : Run) (worked : Worked M) : Type 0 where
   pub own : IsOwn run.config.now worked.report
   pub fits : FitsCore run.config.now run.stimuli.now worked.report.core worked.report.items
   pub loads : ℕ
-  pub calls : AreCalls (view_of run.config.now worked.report.core) worked.report.items worked.seat.mine loads
+  pub calls : AreCalls (view_of run.config.now worked.report.core) worked.report.items (made_from worked.seats) loads
   pub mail : IsMailed (view_of run.config.now worked.report.core) (history_by run.config.now worked.report.core worked.report.items) (sent worked.mail) (taken worked.mail) (refusal_at worked.stop)
   pub ended : worked.report.ended ≡ is_ended_by worked.stop
   pub stalled : worked.stop ≡ Stop.Stalled → HasStalled run.config.now run.stimuli.now run.turns worked.report loads

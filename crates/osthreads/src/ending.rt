@@ -1,18 +1,18 @@
 //! What a worker's thread gives back.
 
 use crate::run::Run;
+use crate::seats::Seats;
 use crate::turns::Stop;
 use osbase::{CoreId, Report};
-use osboard::BoardSeat;
 use osmail::MailStep;
 use std::thread::Promise;
 
-/// What a worker's thread gives back: its core's report and seat, what its end of the mail sent and took, and why it
+/// What a worker's thread gives back: its core's report and seats, what its end of the mail sent and took, and why it
 /// stopped.
 #[derive(Drop)]
 pub struct Ending {
     pub report: Report,
-    pub seat: BoardSeat,
+    pub seats: Seats,
     pub steps: Vec<MailStep>,
     pub stop: Stop,
 }
@@ -25,7 +25,8 @@ pub struct EndOf<'a> {
 }
 
 impl<'a> Promise<Ending> for EndOf<'a> {
+    ghost use Rattle.osthreads.specs.Seats.{shared};
     ghost use Rattle.osthreads.specs.Threads.{IsEnded};
 
-    ghost kept_by = { λ p e. IsEnded p.run.config.now p.run.stimuli.now p.run.turns p.run.board.now p.id e };
+    ghost kept_by = { λ p e. IsEnded p.run.config.now p.run.stimuli.now p.run.turns (shared p.run.board.now p.run.bank.now) p.id e };
 }

@@ -1,13 +1,14 @@
 //! The cores of a configuration, each on a thread of its own.
 //!
 //! A worker runs one core: it serves the other cores, does its core's own work and looks at the board, turn by turn.
-//! Two workers share the board's words and a mailbox for each direction, and nothing else.
+//! Two workers share the words of the board and of the spinlocks, and a mailbox for each direction, and nothing else.
 #![tactic(auto)]
 
 pub mod ending;
 pub mod gates;
 pub mod run;
 pub mod runs;
+pub mod seats;
 pub mod shifts;
 pub mod threads;
 pub mod turns;
@@ -18,6 +19,7 @@ pub use ending::Ending;
 pub use gates::Gate;
 pub use run::Run;
 pub use runs::{MailKind, ThreadFault, ThreadReason, run_threads};
+pub use seats::Seats;
 pub use shifts::core_worker;
 pub use turns::{Stop, Turned};
 pub use worker::{Worked, Worker};

@@ -3,14 +3,16 @@
 use osbase::{CoreId, CoreStimuli};
 use osboard::Board;
 use osplan::Config;
+use osspin::SpinBank;
 
 /// What the workers of a run share: the configuration, the listed stimuli, the configured cores, ascending, the board,
-/// and how many turns in a row may change nothing.
+/// the spinlocks, and how many turns in a row may change nothing.
 #[derive(Clone, Copy)]
 pub struct Run<'a> {
     pub config: &'a Config,
     pub stimuli: &'a [CoreStimuli],
     pub cores: &'a [CoreId],
     pub board: &'a Board,
+    pub bank: &'a SpinBank,
     pub turns: u64,
 }

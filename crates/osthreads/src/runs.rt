@@ -5,23 +5,26 @@ ghost use Rattle.std.specs.List.{AllByRecursion, list_all, list_any};
 ghost use Rattle.osplan.specs.Stimuli.{AreKnown};
 ghost use Rattle.osturn.specs.Fits.{ids_of};
 ghost use Rattle.osturn.specs.Sound.{AreSound};
-ghost use Rattle.osseat.specs.Seats.{fresh};
 ghost use Rattle.osthreads.specs.declared.ending.Ending.{Ending as EndingValue};
-ghost use Rattle.osthreads.specs.Runs.{AreFinished, IsOneCore, new_board};
+ghost use Rattle.osthreads.specs.Runs.{AreFinished, IsOneCore, new_board, new_spins};
+ghost use Rattle.osthreads.specs.Seats.{first_seats, paired, shared};
 ghost use Rattle.osthreads.specs.Threads.{AreAllFinished, AreSettled, IsSettled};
 ghost use Rattle.osthreads.specs.Working.{is_kept_by, is_short_of_memory};
 
 use crate::ending::Ending;
 use crate::gates::Gate;
 use crate::run::Run;
+use crate::seats::Seats;
 use crate::threads::{Joined, run_all};
 use crate::turns::Stop;
 use osbase::{CoreId, List, MAILBOX, Report, Stimuli};
 use osboard::{Board, BoardSeat};
 use osmail::LockedMail;
 use osplan::Config;
+use osspin::{SpinBank, SpinSeat};
 use osturn::ids_of;
 use std::alloc::{AllocError, Global};
+use std::collections::VecDeque;
 use std::sync::Wait;
 use std::thread::Threads;
 use thiserror::Error;
@@ -62,36 +65,80 @@ pub struct ThreadFault {
 struct Prepared {
     cores: Vec<CoreId>,
     board: Board,
-    seats: Vec<BoardSeat>,
+    bank: SpinBank,
+    seats: Vec<Seats>,
     mail: LockedMail<MAILBOX>,
     endings: Vec<Ending>,
-    returned: Vec<BoardSeat>,
+    returned: Returned,
+}
+
+// What the threads' endings are parted into: the seats at the board, those at the spinlocks, and the reports.
+#[derive(Drop)]
+struct Returned {
+    board: Vec<BoardSeat>,
+    spins: Vec<SpinSeat>,
     reports: Vec<Report>,
+}
+
+impl Returned {
+    // Room for so many of each.
+    fn new(alloc: Global, count: usize) -> Result<Self, AllocError>
+        ensures board { IfOk result (λ r. (r.board.items ≡ []) × (count ≤ vec_capacity r.board)) }
+        ensures spins { IfOk result (λ r. (r.spins.items ≡ []) × (count ≤ vec_capacity r.spins)) }
+        ensures reports { IfOk result (λ r. (r.reports.items ≡ []) × (count ≤ vec_capacity r.reports)) }
+    {
+        Ok(Returned {
+            board: Vec::with_capacity(alloc, count)?,
+            spins: Vec::with_capacity(alloc, count)?,
+            reports: Vec::with_capacity(alloc, count)?,
+        })
+    }
+}
+
+// The seats of each core.
+fn pair(
+    alloc: Global,
+    board: Vec<BoardSeat>,
+    spins: Vec<SpinSeat>,
+) -> Result<Vec<Seats>, AllocError>
+    ensures { IfOk result (λ seats. seats.items ≡ paired board.items spins.items) }
+{
+    let mut seats = Vec::with_capacity(alloc, board.len())?;
+    let mut left = VecDeque::from(spins);
+    for board in board {
+        if let Some(spins) = left.pop_front() {
+            seats.push(Seats { board, spins })?;
+        }
+    }
+    Ok(seats)
 }
 
 fn prepare(alloc: Global, config: &Config) -> Result<Prepared, AllocError>
     ensures cores { IfOk result (λ p. p.cores.items ≡ ids_of config.now) }
     ensures board { IfOk result (λ p. p.board.plan ≡ new_board config.now) }
-    ensures seats { IfOk result (λ p. p.seats.items ≡ map (λ c. fresh p.board c) (ids_of config.now)) }
+    ensures bank { IfOk result (λ p. p.bank.plan ≡ new_spins config.now) }
+    ensures seats { IfOk result (λ p. p.seats.items ≡ map (first_seats (shared p.board p.bank)) (ids_of config.now)) }
     ensures endings { IfOk result (λ p. (p.endings.items ≡ []) × (vec_len p.seats ≤ vec_capacity p.endings)) }
-    ensures returned { IfOk result (λ p. (p.returned.items ≡ []) × (vec_len p.seats ≤ vec_capacity p.returned)) }
-    ensures reports { IfOk result (λ p. (p.reports.items ≡ []) × (vec_len p.seats ≤ vec_capacity p.reports)) }
+    ensures returned_board { IfOk result (λ p. (p.returned.board.items ≡ []) × (vec_len p.seats ≤ vec_capacity p.returned.board)) }
+    ensures returned_spins { IfOk result (λ p. (p.returned.spins.items ≡ []) × (vec_len p.seats ≤ vec_capacity p.returned.spins)) }
+    ensures returned_reports { IfOk result (λ p. (p.returned.reports.items ≡ []) × (vec_len p.seats ≤ vec_capacity p.returned.reports)) }
 {
     let plan = config.plan();
     let cores = ids_of(alloc, plan)?;
-    let (board, seats) = Board::new(alloc, List::from_vec(ids_of(alloc, plan)?), plan.master)?;
+    let (board, at_board) = Board::new(alloc, List::from_vec(ids_of(alloc, plan)?), plan.master)?;
+    let (bank, at_spins) = SpinBank::new(alloc, List::from_vec(ids_of(alloc, plan)?))?;
+    let seats = pair(alloc, at_board, at_spins)?;
     let mail = LockedMail::new(alloc, usize::from(plan.cap))?;
     let endings = Vec::with_capacity(alloc, seats.len())?;
-    let returned = Vec::with_capacity(alloc, seats.len())?;
-    let reports = Vec::with_capacity(alloc, seats.len())?;
+    let returned = Returned::new(alloc, seats.len())?;
     Ok(Prepared {
         cores,
         board,
+        bank,
         seats,
         mail,
         endings,
         returned,
-        reports,
     })
 }
 
@@ -125,25 +172,31 @@ pub fn run_threads<R: Threads + Wait + Sync, G: Gate + Sync>(
     let Prepared {
         cores,
         board,
+        bank,
         seats,
         mut mail,
         endings,
         returned,
-        reports,
     } = prepared;
     let run = Run {
         config,
         stimuli: stimuli.as_slice(),
         cores: cores.as_slice(),
         board: &board,
+        bank: &bank,
         turns,
     };
     let joined = run_all(rt, alloc, &run, seats, &mail, gate, endings);
     let judged = judge(alloc, &mut mail, &joined);
-    let (seats, reports) = part(joined.endings, returned, reports);
+    let Returned {
+        board: at_board,
+        spins: at_spins,
+        reports,
+    } = part(joined.endings, returned);
     match judged {
         Ok(()) => {
-            board.gather(seats);
+            board.gather(at_board);
+            bank.gather(at_spins);
             Ok(reports)
         }
         Err(reason) => Err(ThreadFault { reason, reports }),
@@ -233,25 +286,33 @@ fn settles_with(
 }
 
 // The seats and the reports, in vectors that have room for them.
-fn part(
-    endings: Vec<Ending>,
-    mut seats: Vec<BoardSeat>,
-    mut reports: Vec<Report>,
-) -> (Vec<BoardSeat>, Vec<Report>)
-    requires seats { (seats.items ≡ []) × (vec_len endings ≤ vec_capacity seats) }
-    requires reports { (reports.items ≡ []) × (vec_len endings ≤ vec_capacity reports) }
-    ensures seats { result.0.items ≡ map (λ (e : EndingValue). e.seat) endings.items }
-    ensures reports { result.1.items ≡ map (λ (e : EndingValue). e.report) endings.items }
+fn part(endings: Vec<Ending>, returned: Returned) -> Returned
+    requires board { (returned.board.items ≡ []) × (vec_len endings ≤ vec_capacity returned.board) }
+    requires spins { (returned.spins.items ≡ []) × (vec_len endings ≤ vec_capacity returned.spins) }
+    requires reports { (returned.reports.items ≡ []) × (vec_len endings ≤ vec_capacity returned.reports) }
+    ensures board { result.board.items ≡ map (λ (e : EndingValue). e.seats.board) endings.items }
+    ensures spins { result.spins.items ≡ map (λ (e : EndingValue). e.seats.spins) endings.items }
+    ensures reports { result.reports.items ≡ map (λ (e : EndingValue). e.report) endings.items }
 {
+    let Returned {
+        mut board,
+        mut spins,
+        mut reports,
+    } = returned;
     for ending in endings {
         let Ending {
             report,
-            seat,
+            seats,
             steps: _,
             stop: _,
         } = ending;
-        seats.push_reserved(seat);
+        board.push_reserved(seats.board);
+        spins.push_reserved(seats.spins);
         reports.push_reserved(report);
     }
-    (seats, reports)
+    Returned {
+        board,
+        spins,
+        reports,
+    }
 }

@@ -7,14 +7,16 @@ ghost use Rattle.osplan.specs.View.{core_of};
 ghost use Rattle.oskernel.specs.declared.kernel.TheConstants.{STEP_MARKS};
 ghost use Rattle.osturn.specs.Fits.{ids_of};
 ghost use Rattle.osturn.specs.Seats.{report_of};
+ghost use Rattle.osturn.specs.Asking.{no_calls};
+ghost use Rattle.osthreads.specs.Seats.{AreAt, made_from, shared};
 ghost use Rattle.osthreads.specs.Working.{HasNoWork, IsGoing, IsStopped, IsWorked, Turns, UnlessTook, loads_at, next_at};
 
 use crate::gates::Gate;
 use crate::run::Run;
+use crate::seats::Seats;
 use crate::turns::{Stop, Turned};
 use crate::worker::{Shift, Worked, Worker};
 use osbase::CoreId;
-use osboard::BoardSeat;
 use oskernel::STEP_MARKS;
 use osmail::Mail;
 use osturn::Seat;
@@ -107,7 +109,7 @@ impl<'a, M: Mail> Shift<'a, M> {
     // What is handed back.
     fn hand_back(self, stop: Stop) -> Worked<M>
         ensures report { result.report ≡ report_of self.entry.worker.core }
-        ensures seat { result.seat ≡ self.entry.worker.seat }
+        ensures seats { result.seats ≡ self.entry.worker.seats }
         ensures mail { result.mail ≡ self.entry.worker.mail }
         ensures stop { result.stop ≡ stop }
     {
@@ -115,12 +117,12 @@ impl<'a, M: Mail> Shift<'a, M> {
         let Worker {
             run: _,
             core,
-            seat,
+            seats,
             mail,
         } = worker;
         Worked {
             report: core.report(),
-            seat,
+            seats,
             mail,
             stop,
         }
@@ -134,27 +136,26 @@ pub fn core_worker<'a, R: Wait, M: Mail, G: Gate>(
     rt: &R,
     alloc: Global,
     run: &'a Run<'a>,
-    seat: BoardSeat,
+    seats: Seats,
     mail: M,
     gate: &G,
 ) -> Worked<M>
     requires cores { run.now.cores.now ≡ ids_of run.now.config.now }
-    requires configured { IsSome (core_of run.now.config.now seat.core) }
-    requires placed { seat.place ≡ run.now.board.now }
-    requires fresh { seat.mine ≡ [] }
+    requires configured { IsSome (core_of run.now.config.now seats.board.core) }
+    requires placed { AreAt (shared run.now.board.now run.now.bank.now) seats.board.core seats }
+    requires fresh { made_from seats ≡ no_calls }
     requires unused { (core : CoreIdValue) → (M.sent mail core ≡ []) × (M.taken mail core ≡ []) }
     ensures worked { IsWorked M.sent M.taken run.now result }
-    ensures core { result.report.core ≡ seat.core }
-    ensures place { result.seat.place ≡ run.now.board.now }
-    ensures seat { result.seat.core ≡ seat.core }
+    ensures core { result.report.core ≡ seats.board.core }
+    ensures seats { AreAt (shared run.now.board.now run.now.bank.now) seats.board.core result.seats }
 {
     let _plan = run.config.plan();
-    let core = Seat::new(alloc, run.config, seat.core(), run.stimuli);
+    let core = Seat::new(alloc, run.config, seats.board.core(), run.stimuli);
     let mut shift = Shift {
         worker: Worker {
             run,
             core,
-            seat,
+            seats,
             mail,
         },
         at: 0,

@@ -140,6 +140,7 @@ fn four_cores(alloc: Global) -> Result<Plan, AllocError>
         cap: 16,
         master: CORE_0,
         modes,
+        spinlocks: List::new(alloc),
         cores,
     })
 }

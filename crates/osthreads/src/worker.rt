@@ -4,21 +4,23 @@ ghost use Rattle.std.specs.Prelude.{◌≡◌, ◌<◌, ◌≤◌, length};
 ghost use Rattle.osboard.specs.declared.calls.TheConstants.{BOARD_CORES};
 
 use crate::run::Run;
+use crate::seats::Seats;
 use crate::turns::Stop;
 use osbase::Report;
-use osboard::BoardSeat;
 use osturn::Seat;
 
-/// A core at work: what it took and printed, its seat at the board, and its end of the mail.
+/// A core at work: what it took and printed, its seats at what the cores share, and its end of the mail.
 #[derive(Drop)]
 pub struct Worker<'a, M> {
     pub run: &'a Run<'a>,
     pub core: Seat<'a>,
-    pub seat: BoardSeat,
+    pub seats: Seats,
     pub mail: M,
-    ghost same: { seat.core ≡ core.id },
-    ghost placed: { seat.place ≡ run.now.board.now },
-    ghost low: { seat.core.number < BOARD_CORES },
+    ghost same: { seats.board.core ≡ core.id },
+    ghost placed: { seats.board.place ≡ run.now.board.now },
+    ghost low: { seats.board.core.number < BOARD_CORES },
+    ghost same_spins: { seats.spins.core ≡ core.id },
+    ghost placed_spins: { seats.spins.place ≡ run.now.bank.now },
 }
 
 /// A worker in its rounds, at a place of the round, after so many turns in a row that changed nothing.
@@ -30,11 +32,11 @@ pub struct Shift<'a, M> {
     ghost place: { at ≤ length worker.run.now.cores.now },
 }
 
-/// What a worker hands back: its core's report, its seat and its end of the mail, and why it stopped.
+/// What a worker hands back: its core's report, its seats and its end of the mail, and why it stopped.
 #[derive(Drop)]
 pub struct Worked<M> {
     pub report: Report,
-    pub seat: BoardSeat,
+    pub seats: Seats,
     pub mail: M,
     pub stop: Stop,
 }

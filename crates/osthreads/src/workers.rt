@@ -1,13 +1,21 @@
-//! A worker's turns. Each makes at most one call of the board or of one mailbox, and none allocates.
+//! A worker's turns. Each makes at most one call of the board, of one spinlock or of one mailbox, and none allocates.
 
-ghost use Rattle.std.specs.Prelude.{◌≡◌, ◌+◌, ◌<◌, ◌≤◌, vec_len, vec_capacity, OnOk};
+ghost use Rattle.std.specs.Prelude.{false, ◌≡◌, ◌+◌, ◌<◌, ◌≤◌, ◌⊎◌, vec_len, vec_capacity, OnOk};
 ghost use Rattle.oskernel.specs.declared.kernel.TheConstants.{STEP_MARKS};
+ghost use Rattle.oskernel.specs.Admission.{takes_in};
+ghost use Rattle.oskernel.specs.Step.{outbox_size};
+ghost use Rattle.osseat.specs.Histories.{entry};
+ghost use Rattle.osseat.specs.Seats.{Extends};
+ghost use Rattle.osspin.specs.declared.calls.SpinReply.TheVariants.{Answered};
+ghost use Rattle.osspin.specs.Spins.{spinlocks};
 ghost use Rattle.osturn.specs.declared.asks.Answer.{Answer as AnswerValue};
 ghost use Rattle.osturn.specs.declared.asks.Answer.TheVariants.{Unasked};
-ghost use Rattle.osturn.specs.declared.asks.Ask.TheVariants.{OfBoard, Room};
+ghost use Rattle.osturn.specs.declared.asks.Ask.TheVariants.{OfBoard, OfSpins, Room};
+ghost use Rattle.osturn.specs.Asking.{spin_call_of};
 ghost use Rattle.osboard.specs.Boards.{HasPlace};
-ghost use Rattle.osthreads.specs.Calling.{ChangesBoard, LoadsBoard, item_of_call};
-ghost use Rattle.osthreads.specs.Working.{HasNoWork, IsAsked, IsFruitless, MayAnswer, Turns, UnlessTook};
+ghost use Rattle.osbase.specs.declared.limits.TheConstants.{SPINLOCKS};
+ghost use Rattle.osthreads.specs.Calling.{ChangesBoard, LoadsBoard, item_of_call, item_of_wish};
+ghost use Rattle.osthreads.specs.Working.{HasNoWork, IsAsked, IsFruitless, MayAnswer, MayWait, Turns, UnlessTook};
 
 use crate::turns::Turned;
 use crate::worker::Worker;
@@ -15,7 +23,7 @@ use osbase::{Choice, CoreId, Item, Status};
 use osboard::BoardCall;
 use oskernel::STEP_MARKS;
 use osmail::Mail;
-use osturn::{Answer, Ask, look_asked};
+use osturn::{Answer, Ask, SpinWish, look_asked, spin_call_of};
 use std::alloc::AllocError;
 
 impl<'a, M: Mail> Worker<'a, M> {
@@ -81,9 +89,8 @@ impl<'a, M: Mail> Worker<'a, M> {
             Ask::Room(to) => self.post(to),
             Ask::StartUnknown(_) => self.go_on(ask),
             Ask::TakeStimulus(_) => self.go_on(ask),
+            Ask::OfSpins(wish) => self.call_spinlock(wish),
             Ask::Oldest(_) => unreachable!(),
-            // No service calls a spinlock yet.
-            Ask::OfSpins(_) => unreachable!(),
         }
     }
 
@@ -114,7 +121,7 @@ impl<'a, M: Mail> Worker<'a, M> {
         ensures run { self.new.run ≡ self.old.run }
         ensures id { self.new.core.id ≡ self.old.core.id }
     {
-        let answer = Answer::Replied(self.run.board.call(&mut self.seat, call));
+        let answer = Answer::Replied(self.run.board.call(&mut self.seats.board, call));
         let Some(item) = self.core.named(Ask::OfBoard(call), &answer) else {
             return Turned::Nothing;
         };
@@ -141,9 +148,38 @@ impl<'a, M: Mail> Worker<'a, M> {
         if !self.core.kernel.may_take(&item_of_call(self.core.id, call)) {
             return Turned::Nothing;
         }
-        let answer = Answer::Replied(self.run.board.call(&mut self.seat, call));
+        let answer = Answer::Replied(self.run.board.call(&mut self.seats.board, call));
         let Some(item) = self.core.named(Ask::OfBoard(call), &answer) else {
             unreachable!()
+        };
+        self.core.take(item);
+        Turned::Took
+    }
+
+    // Makes a call of a spinlock, where the core may take the item that it results in. GetSpinlock of one that is taken results in none.
+    fn call_spinlock(&mut self, wish: SpinWish) -> Turned
+        requires items { vec_len self.old.core.items < vec_capacity self.old.core.items }
+        requires marks { vec_len self.old.core.marks + STEP_MARKS ≤ vec_capacity self.old.core.marks }
+        requires lock { (spin_call_of wish).lock.index < SPINLOCKS }
+        requires asked { IsAsked self.old.run.now.config.now self.old.core (OfSpins wish) }
+        ensures turns { Turns M.sent M.taken 0 result self.old self.new }
+        ensures core { UnlessTook result (self.new.core ≡ self.old.core) }
+        ensures stuck { UnlessTook result (MayWait (OfSpins wish) ⊎ ((answer : AnswerValue) → MayAnswer self.old.core.id (OfSpins wish) answer → IsFruitless self.old.core.id self.old.core.kernel (OfSpins wish) answer)) }
+        // A turn that took nothing made the call, and was refused.
+        ensures called { UnlessTook result ((takes_in outbox_size self.old.core.kernel (item_of_wish wish) ≡ false) ⊎ Extends spinlocks self.old.seats.spins (entry self.old.core.id (spin_call_of wish) (Answered false)) self.new.seats.spins) }
+        ensures run { self.new.run ≡ self.old.run }
+        ensures id { self.new.core.id ≡ self.old.core.id }
+    {
+        if !self.core.kernel.may_take(&item_of_wish(wish)) {
+            return Turned::Nothing;
+        }
+        let answer = Answer::Spun(
+            self.run
+                .bank
+                .call(&mut self.seats.spins, spin_call_of(wish)),
+        );
+        let Some(item) = self.core.named(Ask::OfSpins(wish), &answer) else {
+            return Turned::Nothing;
         };
         self.core.take(item);
         Turned::Took
@@ -212,5 +248,20 @@ fn item_of_call(core: CoreId, call: BoardCall) -> Item
         BoardCall::Enter(_) => Item::Entered,
         BoardCall::MakeReady => Item::Readied,
         _ => Item::Drained,
+    }
+}
+
+// The item that a call of a spinlock results in, where the spinlock was free or is given back. A try may also be answered no; a core
+// takes that where it takes this.
+fn item_of_wish(wish: SpinWish) -> Item
+    ensures { result ≡ item_of_wish wish }
+{
+    match wish {
+        SpinWish::Get(lock) => Item::Granted(lock),
+        SpinWish::Try(spinlock) => Item::Tried {
+            spinlock,
+            taken: true,
+        },
+        SpinWish::Free(lock) => Item::Freed(lock),
     }
 }

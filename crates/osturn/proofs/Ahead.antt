@@ -1,6 +1,7 @@
 -- What a separate core prints by what it took, its configuration alone prints by what it takes by itself.
-use Rattle.std.proofs.Common.{◌≡◌, ◌^◌, ◌+◌, ◌<◌, ◌≤◌, ◌||◌, ℕ, suc, Bool, true, false, not, cond, Some, None, is_none, List, [], ◌∷◌, ◌++◌, length, map, refl, sym, ap, subst, ◌∙◌, arith, append-nil, add-one}
+use Rattle.std.proofs.Common.{◌≡◌, ◌^◌, ◌+◌, ◌<◌, ◌≤◌, ◌||◌, ℕ, suc, Bool, true, false, not, cond, Option, Some, None, is_none, List, [], ◌∷◌, ◌++◌, length, map, refl, sym, ap, subst, ◌∙◌, arith, append-nil, add-one}
 use Rattle.std.specs.List.{list_all, slice_get}
+use Rattle.std.specs.Option.{option_map_or}
 use Rattle.std.proofs.lemmas.Bool.{and_parts, and_from, false≢true, true≢false, eqb-true, eq-eqb, lt-ltb, not-true}
 use Rattle.osbase.specs.declared.references.CoreId.{CoreId}
 use Rattle.osbase.specs.declared.references.ModeId.{ModeId}
@@ -9,9 +10,12 @@ use Rattle.osbase.specs.declared.items.CoreSet.{CoreSet}
 use Rattle.osbase.specs.declared.items.Item.{Item}
 use Rattle.osbase.specs.declared.items.Stimulus.{Stimulus}
 use Rattle.osbase.specs.declared.marks.Mark.{Mark}
+use Rattle.osbase.specs.declared.histories.GotSpinlock.{GotSpinlock}
+use Rattle.osbase.specs.declared.histories.OpenCall.{OpenCall}
 use Rattle.osbase.specs.declared.histories.Phase.{Phase}
-use Rattle.osbase.specs.History.{History, Took, Printed, began_count, course_of, item_count, marks_of, phase_of}
+use Rattle.osbase.specs.History.{History, Took, Printed, began_count, course_of, item_count, marks_of, open_call, phase_of}
 use Rattle.osbase.specs.Sets.{core_ids, has_core}
+use Rattle.osbase.specs.Spins.{got_spinlocks, is_owing, newest_owed, same_spinlock}
 use Rattle.osbase.specs.declared.items.CoreMode.{CoreMode}
 use Rattle.osbase.specs.declared.items.CoreMode.TheVariants.{Named}
 use Rattle.osplan.specs.Stimuli.{knows_stimulus}
@@ -20,9 +24,9 @@ use Rattle.osstate.specs.Readings.{knows_started, next_start, phase_at}
 use Rattle.osact.proofs.Kept.{nobody}
 use Rattle.osbase.specs.Phases.{is_going, stands_in}
 use Rattle.osstate.specs.State.{state_of}
-use Rattle.oskernel.specs.Admission.{admits, are_started_cores, is_agreement, is_for, is_start_answer}
+use Rattle.oskernel.specs.Admission.{admits, are_started_cores, awaits_get, awaits_try, is_agreement, is_for, is_get_of, is_next_release, is_release_of, is_start_answer, is_try_of}
 use Rattle.oskernel.specs.Step.{after, history_from, outbox_size, solo, solo_from, takes}
-use Rattle.oskernel.proofs.Among.{among, base_of, course-same, marks-same, open-same, phase-same}
+use Rattle.oskernel.proofs.Among.{among, base_of, course-same, got-same, marks-same, open-same, phase-same}
 use Rattle.oskernel.proofs.Calm.{Calm, calm-after, settled}
 use Rattle.oskernel.proofs.Carried.{NamesAllow}
 use Rattle.oskernel.proofs.Holding.{kept_after, quiet_after}
@@ -35,6 +39,13 @@ use Rattle.osturn.proofs.Beginnings.{begins-itself, begins-longer, begins-throug
 use Rattle.osturn.proofs.Ending.{phase-after}
 use Rattle.osturn.proofs.Going.{calm-goes, drained-course, stimulus-going}
 use Rattle.osturn.proofs.Sane.{AreAgreed, AreQuiet, is_conflict, is_halting}
+
+-- An item of a spinlock.
+abbrev is_spun : Item → Bool
+is_spun (Item.Granted l) = true
+is_spun (Item.Tried l taken) = true
+is_spun (Item.Freed l) = true
+is_spun i = false
 
 -- ---- items in order
 
@@ -174,6 +185,24 @@ module _ (v : View) (ids : List CoreId) (allowed : NamesAllow v nobody) where
     none-ahead k [] down = refl
     none-ahead k (x ∷ xs) down = ap (λ (b : Bool). cond b (x ∷ until_down self (after self k (Item.Stim x)) xs) []) down
 
+    -- It takes no item of a spinlock: it waits for none, and has none.
+    closed : (k : History) → Steady k → open_call (here k) ≡ None
+    closed k steady = open-same s v.around.is_master k ∙ steady.calm.closed
+
+    unowed : (k : History) → Steady k → got_spinlocks (here k) ≡ []
+    unowed k steady = got-same s v.around.is_master k ∙ steady.calm.none_got
+
+    no-spins : (k : History) → Steady k → (i : Item) → is_spun i ≡ true → admits outbox_size (state_of v (here k)) i ≡ true → ⊥
+    no-spins k steady (Item.Granted l) is may =
+        true≢false (sym (and_parts (stands_in Phase.Live (phase_at v (here k))) (awaits_get (state_of v (here k)) l) may).1 ∙ ap (λ (o : Option OpenCall). option_map_or (λ (call : OpenCall). is_get_of l call.awaits) o false) (closed k steady))
+    no-spins k steady (Item.Tried l taken) is may =
+        true≢false (sym (and_parts (stands_in Phase.Live (phase_at v (here k))) (awaits_try (state_of v (here k)) l) may).1 ∙ ap (λ (o : Option OpenCall). option_map_or (λ (call : OpenCall). is_try_of l call.awaits) o false) (closed k steady))
+    no-spins k steady (Item.Freed l) is may =
+        true≢false (sym (and_parts (stands_in Phase.Live (phase_at v (here k))) (is_next_release (state_of v (here k)) l) may).1
+        ∙ ap (λ (o : Option OpenCall). option_map_or (λ (call : OpenCall). is_release_of l call.awaits) o (option_map_or (same_spinlock l) (newest_owed (got_spinlocks (here k))) false)) (closed k steady)
+        ∙ ap (λ (got : List GotSpinlock). option_map_or (same_spinlock l) (newest_owed got) false) (unowed k steady))
+    no-spins k steady i is may = absurd (false≢true is)
+
     -- From live on: each stimulus is the same, and the end.
     live : (items : List Item) (k : History) (st : List Stimulus) → Steady k → Taken v (here k) items → FitsIn (here k) items st → Goes v self (here k) k items (live_items (until_down self k st))
     live [] k st steady taken fits = stops v self (here k) k (live_items (until_down self k st)) (marks-same s v.around.is_master k)
@@ -193,7 +222,7 @@ module _ (v : View) (ids : List CoreId) (allowed : NamesAllow v nobody) where
       where
         ends : Ends v (after v (here k) Item.Drained) is
         ends = drained v (after v (here k) Item.Drained)
-            (drained-idle v (here k) (open-same s v.around.is_master k ∙ steady.calm.closed))
+            (drained-idle v (here k) (closed k steady) (ap is_owing (unowed k steady)))
             (phase-after v (here k) Item.Drained)
             is (first v (here k) Item.Drained is taken).rest
 
@@ -207,6 +236,9 @@ module _ (v : View) (ids : List CoreId) (allowed : NamesAllow v nobody) where
         marks : marks_of (history_from v (after v (here k) Item.Drained) is) ≡ marks_of (after self k Item.Drained)
         marks = ends.0 ∙ ap marks_of (same-drained v ids s allowed k steady.there steady.alone) ∙ marks-same s v.around.is_master (after self k Item.Drained)
     live (Item.Halt core status ∷ is) k st steady taken fits = absurd (true≢false (first v (here k) (Item.Halt core status) is taken).quiet)
+    live (Item.Granted l ∷ is) k st steady taken fits = absurd (no-spins k steady (Item.Granted l) refl (first v (here k) (Item.Granted l) is taken).may)
+    live (Item.Tried l b ∷ is) k st steady taken fits = absurd (no-spins k steady (Item.Tried l b) refl (first v (here k) (Item.Tried l b) is taken).may)
+    live (Item.Freed l ∷ is) k st steady taken fits = absurd (no-spins k steady (Item.Freed l) refl (first v (here k) (Item.Freed l) is taken).may)
     live (i ∷ is) k st steady taken fits = let e : Some Phase.Live ≡ stage_of i = ap Some (sym (phase-here k ∙ steady.live)) ∙ (first v (here k) i is taken).at in cc
 
   -- ---- the gates
@@ -223,7 +255,7 @@ module _ (v : View) (ids : List CoreId) (allowed : NamesAllow v nobody) where
     readied = Took Item.Readied ∷ passed_first m
 
     gate-calm : Calm (after self readied (Item.Pass2 own))
-    gate-calm = calm-after self (allow-alone v ids allowed) readied (Item.Pass2 own) refl (record { closed = refl; empty = refl })
+    gate-calm = calm-after self (allow-alone v ids allowed) readied (Item.Pass2 own) refl (record { closed = refl; empty = refl; none_got = refl })
 
     steady-first : (s : CoreSet) → has_core s v.core ≡ true → Steady s (after self readied (Item.Pass2 own))
     steady-first s s_in = record {

@@ -94,8 +94,8 @@ module _ (plan : Plan) (stimuli : List CoreStimuli) (lists : List (CoreId × Lis
 
   view_alone : view_of (cut_of plan id) id ≡ alone_view v (id ∷ [])
   view_alone =
-      ap (λ (o : Option Core). view_of (option_map_or (alone_of plan id) o (record plan { master = id; cores = [] })) id) found
-      ∙ ap (λ (master : Bool). seen (cond (same_core core.id id) (Some core) None) (record { is_master = master; cores = core.id ∷ [] })) (same_core-refl id)
+      ap (λ (o : Option Core). view_of (option_map_or (alone_of plan id) o (record plan { master = id; spinlocks = []; cores = [] })) id) found
+      ∙ ap (λ (master : Bool). seen (cond (same_core core.id id) (Some core) None) (record { is_master = master; cores = core.id ∷ []; links = [] })) (same_core-refl id)
       ∙ ap (λ (b : Bool). seen (cond b (Some core) None) (around_master (core.id ∷ []))) own_id
       ∙ ap (λ (k : CoreId). seen (Some core) (around_master (k ∷ []))) same
       ∙ ap (λ (o : Option Core). seen o (around_master (id ∷ []))) (sym found)
@@ -125,7 +125,7 @@ module _ (plan : Plan) (stimuli : List CoreStimuli) (lists : List (CoreId × Lis
       here : core_of plan id ≡ core_of (cut_of plan id) id
       here =
           found ∙ sym (ap (λ (b : Bool). cond b (Some core) None) own_id)
-          ∙ sym (ap (λ (o : Option Core). core_of (option_map_or (alone_of plan id) o (record plan { master = id; cores = [] })) id) found)
+          ∙ sym (ap (λ (o : Option Core). core_of (option_map_or (alone_of plan id) o (record plan { master = id; spinlocks = []; cores = [] })) id) found)
 
   unnamed : is_named_elsewhere plan id ≡ false
   unnamed = subst (λ (k : CoreId). is_named_elsewhere plan k ≡ false) same parts.unnamed
@@ -155,7 +155,7 @@ module _ (plan : Plan) (stimuli : List CoreStimuli) (lists : List (CoreId × Lis
         (posts-replies id (view_of plan from) (other-allow plan id from unnamed parts.unhalted other) (items_of lists from) [] (fits.cores from).alone refl refl)
 
     no_mail : list_all (λ (i : Item). not (is_mail i)) (items_of lists id) ≡ true
-    no_mail = takes-no-mail v allowed (items_of lists id) [] (fits.cores id).alone (record { closed = refl; empty = refl }) replies
+    no_mail = takes-no-mail v allowed (items_of lists id) [] (fits.cores id).alone (record { closed = refl; empty = refl; none_got = refl }) replies
 
     no_conflict : AreAgreed (items_of lists id) × AreQuiet (items_of lists id)
     no_conflict = never-conflict plan m agreed parts.unhalted configured calls fits.board (items_of lists) (λ d. (fits.cores d).alone) fits.answers id
@@ -188,7 +188,7 @@ module _ (plan : Plan) (stimuli : List CoreStimuli) (lists : List (CoreId × Lis
     lines_alone : lines_of plan marks ≡ lines_of (cut_of plan id) marks
     lines_alone =
         lines-same plan (cut_of plan id) (is_own v) core_alone marks
-        (inward-items v allowed own_self (items_of lists id) [] (fits.cores id).alone no_mail (record { own = refl; calm = record { closed = refl; empty = refl } })).own
+        (inward-items v allowed own_self (items_of lists id) [] (fits.cores id).alone no_mail (record { own = refl; calm = record { closed = refl; empty = refl; none_got = refl } })).own
 
     begins_alone : IsBeginning marks (alone_report plan stimuli id).marks
     begins_alone = subst (λ (view : View). IsBeginning marks (Trace view (alone_items plan stimuli id))) (sym view_alone)

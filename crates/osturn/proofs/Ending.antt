@@ -38,11 +38,13 @@ module _ (v : View) (h : History) where
   end-on (Item.Stim s) t = ap is_ended_phase (same_Some _ _ (stage v h (Item.Stim s) refl t))
   end-on (Item.Posted to) t = going _ (mail-schedules v h (Item.Posted to) refl t)
   end-on (Item.Received from number message) t = going _ (mail-schedules v h (Item.Received from number message) refl t)
+  end-on (Item.Granted l) t = ap is_ended_phase (same_Some _ _ (stage v h (Item.Granted l) refl t))
+  end-on (Item.Tried l taken) t = ap is_ended_phase (same_Some _ _ (stage v h (Item.Tried l taken) refl t))
+  end-on (Item.Freed l) t = ap is_ended_phase (same_Some _ _ (stage v h (Item.Freed l) refl t))
   end-on (Item.Halt core status) t = ap is_ended_phase (same_Some _ _ (stage v h (Item.Halt core status) refl t))
   end-on Item.Drained t = refl
   end-on Item.PassEnd t = refl
   end-on (Item.Last shutdown) t = refl
-  end-on i t = absurd (false≢true t)
 
 end-later : (v : View) (h : History) (i : Item) (is : List Item) → solo_from v h (i ∷ is) ≡ Some (history_from v h (i ∷ is)) → is_ended_phase (phase_at v (history_from v h (i ∷ is))) ≡ end_by (i ∷ is)
 end-later v h i [] each = ap is_ended_phase (phase-after v h i) ∙ end-on v h i (solo-parts v h i [] each).0

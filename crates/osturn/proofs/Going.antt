@@ -5,6 +5,7 @@ use Rattle.std.proofs.lemmas.Bool.{and_parts, false≢true}
 use Rattle.osbase.specs.declared.references.CoreId.{CoreId}
 use Rattle.osbase.specs.declared.references.TaskRef.{TaskRef}
 use Rattle.osbase.specs.declared.references.Runner.{Runner}
+use Rattle.osbase.specs.declared.references.SpinlockId.{SpinlockId}
 use Rattle.osbase.specs.declared.items.Item.{Item}
 use Rattle.osbase.specs.declared.items.Stimulus.{Stimulus}
 use Rattle.osbase.specs.declared.histories.Awaited.{Awaited}
@@ -15,15 +16,17 @@ use Rattle.osbase.specs.declared.histories.Phase.{Phase}
 use Rattle.osbase.specs.declared.histories.Sent.{Sent}
 use Rattle.osbase.specs.History.{History, Note, Noted, Took, WentDown, course_of, current_task, same_job}
 use Rattle.osbase.specs.Phases.{halted_from, is_going, stands_in}
+use Rattle.osbase.specs.Spins.{newest_owed}
 use Rattle.osplan.specs.Stimuli.{knows_stimulus}
 use Rattle.osplan.specs.View.{View}
 use Rattle.osstate.specs.Readings.{best_job, next_start, phase_at, running}
 use Rattle.osstate.specs.State.{KernelState, state_of}
+use Rattle.oskernel.specs.declared.wants.SpinWish.TheVariants as Wish
 use Rattle.oskernel.specs.declared.wants.Want.{Want}
 use Rattle.oskernel.specs.Admission.{admits, asks_halt, has_asked_halt}
 use Rattle.oskernel.specs.Free.{is_free, may_dispatch, may_go_on}
 use Rattle.oskernel.specs.Step.{after, dispatches, enters, goes_to, leaves, outbox_size}
-use Rattle.oskernel.specs.Wants.{go_on_by, post_or, start_or_enter, want_call, want_for, want_from, want_in}
+use Rattle.oskernel.specs.Wants.{go_on_by, post_or, start_or_enter, want_call, want_for, want_from, want_in, want_owed}
 use Rattle.oskernel.proofs.Calm.{Calm}
 use Rattle.oskernel.proofs.Holding.{kept_after}
 
@@ -52,7 +55,7 @@ stimulus-going v h s may =
     (and_parts (is_free (state_of v h)) (is_going (course_of h)) active.0).1
 
 pub calm-goes : (v : View) (h : History) → Calm h → is_going (course_of h) ≡ true → may_go_on (state_of v h) ≡ true
-calm-goes v h calm going = rw (calm.closed, calm.empty, going) refl
+calm-goes v h calm going = rw (calm.closed, calm.empty, calm.none_got, going) refl
 
 -- Dispatch takes no core down.
 dispatch-course : (v : View) (h : History) → course_of (dispatches v h) ≡ course_of h
@@ -107,13 +110,17 @@ wants-own s = by s.progress.phase
     awaits (Awaited.Halt status) e = e
     awaits a e = tt
 
-    calls : (o : Option OpenCall) → s.border.open_call ≡ o → WantsOwn s (want_call o (go_on_by s.progress.course))
-    calls None e = goes s.progress.course refl
+    owes : (o : Option SpinlockId) → WantsOwn s (option_map_or (λ l. Want.Spin (Wish.Free l)) o (go_on_by s.progress.course))
+    owes None = goes s.progress.course refl
+    owes (Some l) = tt
+
+    calls : (o : Option OpenCall) → s.border.open_call ≡ o → WantsOwn s (want_call o (want_owed s.border.spins (go_on_by s.progress.course)))
+    calls None e = owes (newest_owed s.border.spins)
     calls (Some call) e = awaits call.awaits (ap (λ (o : Option OpenCall). option_map_or (λ (c : OpenCall). asks_halt c.awaits) o false) e)
 
     by : (p : Phase) → WantsOwn s (want_from p s)
     by Phase.Boot = starts (next_start s.view s.progress.began)
-    by Phase.Live = posts (want_call s.border.open_call (go_on_by s.progress.course)) (calls s.border.open_call refl) s.border.outbox
+    by Phase.Live = posts (want_call s.border.open_call (want_owed s.border.spins (go_on_by s.progress.course))) (calls s.border.open_call refl) s.border.outbox
     by Phase.Drained = posts Want.Nothing tt s.border.outbox
     by Phase.Closing = posts Want.Nothing tt s.border.outbox
     by p = tt

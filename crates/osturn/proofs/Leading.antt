@@ -13,8 +13,8 @@ use Rattle.osspin.specs.declared.calls.SpinReply.{SpinReply}
 use Rattle.osspin.specs.declared.calls.SpinReply.TheVariants.{Answered}
 use Rattle.osboard.specs.declared.calls.BoardView.{BoardView}
 use Rattle.osboard.specs.Boards.{agreement_in, have_all}
-use Rattle.osturn.specs.declared.asks.SpinWish.{SpinWish}
-use Rattle.osturn.specs.declared.asks.SpinWish.TheVariants as Wish
+use Rattle.oskernel.specs.declared.wants.SpinWish.{SpinWish}
+use Rattle.oskernel.specs.declared.wants.SpinWish.TheVariants as Wish
 use Rattle.osturn.specs.Asking.{halted, passing, spun}
 
 -- An open gate leads to one item.

@@ -15,3 +15,4 @@ pub mod Sane
 pub mod Mailed
 pub mod Ahead
 pub mod Alone
+mod Known

@@ -1,11 +1,12 @@
 -- What a turn of a core asks of what it shares with the others, and the item to which the answer leads: one table for
 -- the turns of a listed run, for how the items of all cores fit, and for whoever runs a core. [own]
-use Rattle.std.specs.Prelude.{if◌then◌else◌, Bool, true, Option, Some, None, option_map, List, [], ◌∷◌, ◌++◌}
+use Rattle.std.specs.Prelude.{nat_lt, if◌then◌else◌, Bool, true, Option, Some, None, option_map, List, [], ◌∷◌, ◌++◌}
 use Rattle.osbase.specs.declared.statuses.Status.{Status}
 use Rattle.osbase.specs.declared.statuses.Status.TheVariants.{EOsId}
 use Rattle.osbase.specs.declared.references.CoreId.{CoreId}
 use Rattle.osbase.specs.declared.items.Item.{Item}
 use Rattle.osbase.specs.declared.items.Stimulus.{Stimulus}
+use Rattle.osbase.specs.declared.limits.TheConstants.{SPINLOCKS}
 use Rattle.osbase.specs.declared.turns.Choice.{Choice}
 use Rattle.osbase.specs.History.{History}
 use Rattle.osbase.specs.Sets.{has_core}
@@ -22,6 +23,8 @@ use Rattle.osboard.specs.declared.calls.BoardReply.{BoardReply}
 use Rattle.osboard.specs.declared.calls.BoardReply.TheVariants.{Started, Acknowledged, Shown, Decided, Halting}
 use Rattle.osboard.specs.declared.calls.BoardView.{BoardView}
 use Rattle.osboard.specs.Boards.{BoardEntry, agreement_in, have_all}
+use Rattle.oskernel.specs.declared.wants.SpinWish.{SpinWish}
+use Rattle.oskernel.specs.declared.wants.SpinWish.TheVariants as Wish
 use Rattle.oskernel.specs.declared.wants.Want.{Want}
 use Rattle.oskernel.specs.declared.wants.Watch.{Watch}
 use Rattle.oskernel.specs.Wants.{want_of, watch_of}
@@ -29,8 +32,6 @@ use Rattle.osturn.specs.declared.asks.Ask.{Ask}
 use Rattle.osturn.specs.declared.asks.Ask.TheVariants.{OfBoard, OfSpins, Room, Oldest, StartUnknown, TakeStimulus}
 use Rattle.osturn.specs.declared.asks.Answer.{Answer}
 use Rattle.osturn.specs.declared.asks.Answer.TheVariants.{Replied, Spun, HasRoom, Found, Unasked}
-use Rattle.osturn.specs.declared.asks.SpinWish.{SpinWish}
-use Rattle.osturn.specs.declared.asks.SpinWish.TheVariants as Wish
 
 -- StartCore of a core that is not configured is answered without the board. [AUTOSAR SWS OS 4.x, StartCore: E_OS_ID]
 abbrev pub starting : CoreId → Bool → Ask
@@ -46,6 +47,7 @@ own_asked v next (Want.Start k) = Some (starting k (is_configured v k))
 own_asked v next Want.Enter = Some (OfBoard (Enter v.own.mode))
 own_asked v next Want.Ready = Some (OfBoard MakeReady)
 own_asked v next (Want.Post to) = Some (Room to)
+own_asked v next (Want.Spin wish) = Some (OfSpins wish)
 own_asked v next (Want.AskHalt status) = Some (OfBoard (AskHalt status))
 own_asked v next Want.GoOn = Some (going_on next)
 own_asked v next Want.Drain = Some (OfBoard Drain)
@@ -99,6 +101,11 @@ abbrev pub spin_call_of : SpinWish → SpinCall
 spin_call_of (Wish.Get l) = spin_call l Take
 spin_call_of (Wish.Try l) = spin_call l Take
 spin_call_of (Wish.Free l) = spin_call l Free
+
+-- Where a call of the spinlocks is asked, there may be such a spinlock.
+abbrev pub is_ask_known : Ask → Bool
+is_ask_known (OfSpins wish) = nat_lt (spin_call_of wish).lock.index SPINLOCKS
+is_ask_known ask = true
 
 -- GetSpinlock goes on once it took the spinlock, TryToGetSpinlock by either answer.
 abbrev pub spun : SpinWish → SpinReply → Option Item

@@ -101,8 +101,9 @@ abbrev pub lists_in : List Report → List (CoreId × List Item)
 lists_in reports = map (λ (r : Report). (r.core, r.items)) reports
 
 -- The promise. The reports are those of the configured cores, ascending, one each; each says what its own items say; the
--- items fit one another, the listed stimuli and what the cores share; and each separate core prints what its configuration
--- alone prints. [own]
+-- items fit one another, the listed stimuli and what the cores share: stimuli, mailboxes, the spinlocks and the shared board
+-- each have one order that all cores' items agree with; and each separate core, one that names no other core's object and no
+-- spinlock and that no other core names, prints what its configuration alone prints. [own]
 pub record AreSound (plan : Plan) (stimuli : List CoreStimuli) (reports : List Report) : Type 0 where
   pub cores : map (λ (r : Report). r.core) reports ≡ ids_of plan
   pub own : AllByRecursion (IsOwn plan) reports

@@ -5,38 +5,26 @@ ghost use Rattle.osbase.specs.declared.references.CoreId.{CoreId as CoreIdValue}
 ghost use Rattle.osplan.specs.View.{is_configured, view_of};
 ghost use Rattle.osturn.specs.Asking.{going_on, halted, look_asked, named_by, own_asked, passing, replied, spin_call_of, spun, starting};
 
-use osbase::{CoreId, CoreMode, Envelope, Item, SpinlockId, Status, Stimulus};
+use osbase::{CoreId, CoreMode, Envelope, Item, Status, Stimulus};
 use osboard::{BoardCall, BoardReply, BoardView};
-use oskernel::{Want, Watch};
+use oskernel::{SpinWish, Want, Watch};
 use osplan::Plan;
 use osspin::{SpinAction, SpinCall, SpinReply};
 
-/// What a core asks of a spinlock.
-#[derive(Clone, Copy)]
-pub enum SpinWish {
-    /// GetSpinlock, tried once more: it goes on once it took the spinlock.
-    Get(SpinlockId),
-    /// TryToGetSpinlock: it goes on by either answer.
-    Try(SpinlockId),
-    /// The spinlock is given back.
-    Free(SpinlockId),
-}
-
-impl SpinWish {
-    /// The call of the spinlocks that it is.
-    pub fn call(self) -> SpinCall
-        ensures { result ≡ spin_call_of self }
-    {
-        match self {
-            SpinWish::Get(lock) | SpinWish::Try(lock) => SpinCall {
-                lock,
-                action: SpinAction::Take,
-            },
-            SpinWish::Free(lock) => SpinCall {
-                lock,
-                action: SpinAction::Free,
-            },
-        }
+/// The call of the spinlocks that a wish is: two are tries to take it (AUTOSAR SWS OS 4.x, GetSpinlock,
+/// TryToGetSpinlock and ReleaseSpinlock).
+pub fn spin_call_of(wish: SpinWish) -> SpinCall
+    ensures { result ≡ spin_call_of wish }
+{
+    match wish {
+        SpinWish::Get(lock) | SpinWish::Try(lock) => SpinCall {
+            lock,
+            action: SpinAction::Take,
+        },
+        SpinWish::Free(lock) => SpinCall {
+            lock,
+            action: SpinAction::Free,
+        },
     }
 }
 
@@ -81,6 +69,7 @@ pub fn own_asked(plan: &Plan, id: CoreId, want: Want, next: Option<Stimulus>) ->
         Want::Enter => Some(Ask::OfBoard(BoardCall::Enter(mode_of(plan, id)))),
         Want::Ready => Some(Ask::OfBoard(BoardCall::MakeReady)),
         Want::Post(to) => Some(Ask::Room(to)),
+        Want::Spin(wish) => Some(Ask::OfSpins(wish)),
         Want::AskHalt(status) => Some(Ask::OfBoard(BoardCall::AskHalt(status))),
         Want::GoOn => Some(going_on(next)),
         Want::Drain => Some(Ask::OfBoard(BoardCall::Drain)),

@@ -6,7 +6,8 @@ pub mod cores;
 pub mod ends;
 pub mod seats;
 
-pub use asks::{Answer, Ask, SpinWish, look_asked, named, own_asked};
+pub use asks::{Answer, Ask, look_asked, named, own_asked, spin_call_of};
 pub use cores::ids_of;
 pub use ends::have_all_ended;
+pub use oskernel::SpinWish;
 pub use seats::{CoreKernel, Seat};

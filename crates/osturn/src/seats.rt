@@ -1,6 +1,6 @@
 //! One core of a run.
 
-ghost use Rattle.std.specs.Prelude.{◌++◌, ◌∷◌, [], IsTrue, IsSome, ◌≡◌, ◌+◌, ◌<◌, ◌≤◌, OnOk, slice_get, vec_len, vec_capacity};
+ghost use Rattle.std.specs.Prelude.{◌++◌, ◌∷◌, [], IfSome, IsTrue, IsSome, ◌≡◌, ◌+◌, ◌<◌, ◌≤◌, OnOk, slice_get, vec_len, vec_capacity};
 ghost use Rattle.osbase.specs.declared.limits.TheConstants.{CORES};
 ghost use Rattle.osplan.specs.View.{core_of, view_of};
 ghost use Rattle.osplan.specs.Limits.{is_within_limits};
@@ -10,7 +10,7 @@ ghost use Rattle.oskernel.specs.Admission.{takes_in};
 ghost use Rattle.oskernel.specs.Step.{after};
 ghost use Rattle.osbase.specs.Runs.{stimuli_of};
 ghost use Rattle.oskernel.specs.Wants.{want_in, watch_in};
-ghost use Rattle.osturn.specs.Asking.{asked_by, named_by};
+ghost use Rattle.osturn.specs.Asking.{asked_by, is_ask_known, named_by};
 ghost use Rattle.oskernel.specs.declared.kernel.TheConstants.{STEP_MARKS};
 
 use crate::asks::{Answer, Ask, look_asked, named, own_asked};
@@ -66,7 +66,8 @@ impl<'a> Seat<'a> {
     /// What a turn asks. What the core wants is asked of the kernel for its own turn alone.
     #[inline(always)]
     pub fn asked(&self, plan: &Plan, choice: Choice) -> Option<Ask>
-        ensures { result ≡ asked_by (view_of plan.now self.now.id) (want_in self.now.kernel) (watch_in self.now.kernel) (slice_get self.now.stimuli.now 0) choice }
+        ensures value { result ≡ asked_by (view_of plan.now self.now.id) (want_in self.now.kernel) (watch_in self.now.kernel) (slice_get self.now.stimuli.now 0) choice }
+        ensures lock { IfSome result (λ ask. IsTrue (is_ask_known ask)) }
     {
         match choice {
             Choice::Own => {

@@ -15,7 +15,7 @@ use oskernel::Watch;
 use osmail::ListMail;
 use osplan::Plan;
 use osspin::SpinList;
-use osturn::{Answer, Ask, Seat};
+use osturn::{Answer, Ask, Seat, spin_call_of};
 use std::alloc::{AllocError, Global};
 
 /// The mailboxes of a listed run.
@@ -66,7 +66,7 @@ impl Between {
     {
         match ask {
             Ask::OfBoard(call) => Some(Answer::Replied(self.board.reply(id, call))),
-            Ask::OfSpins(wish) => Some(Answer::Spun(self.spins.reply(id, wish.call()))),
+            Ask::OfSpins(wish) => Some(Answer::Spun(self.spins.reply(id, spin_call_of(wish)))),
             Ask::Room(to) => Some(Answer::HasRoom(has_room(&self.mail, id, to))),
             Ask::Oldest(from) => {
                 let envelope = oldest(&self.mail, id, from)?;
@@ -121,7 +121,7 @@ impl Between {
                 let _ = self.board.call(core, call);
             }
             Ask::OfSpins(wish) => {
-                let _ = self.spins.call(core, wish.call());
+                let _ = self.spins.call(core, spin_call_of(wish));
             }
             _ => {}
         }

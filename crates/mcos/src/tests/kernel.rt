@@ -96,6 +96,7 @@ fn two_cores(alloc: Global) -> Result<Plan, AllocError>
         cap: 16,
         master: CORE_0,
         modes,
+        spinlocks: List::new(alloc),
         cores,
     })
 }

@@ -30,21 +30,80 @@ const ALARMED: &str =
 const ALARMED_LOG: &str =
     "began 1 E_OK\nentered\npass1 M\nreadied\npass2 0 1\nstim op\npost 1\nin 1 0 rep E_OK\nstim op\npost 1\nin 1 1 rep E_OK 2\nstim op\ndrained\nin 1 2 act SetEvent T 5\npassend\nlast\n";
 
-fn items_of(number: u8) -> Job<'static> {
+fn items_of(schedule: Option<&'static str>, number: u8) -> Job<'static> {
     Job::Run {
         config: "config.json",
         stimuli: "stim.json",
-        schedule: None,
+        schedule,
         items: Some(CoreId { number }),
     }
 }
 
-pub fn replay_of(number: u8) -> Job<'static> {
+pub(super) fn replay_of(number: u8) -> Job<'static> {
     Job::Replay {
         config: "config.json",
         core: CoreId { number },
         log: "log.txt",
     }
+}
+
+/// A configuration, its stimuli, its schedule if it has one, a core, its log, and the block of that.
+pub(super) type Logged = (
+    &'static str,
+    &'static str,
+    Option<&'static str>,
+    u8,
+    &'static str,
+    &'static str,
+);
+
+// Runs print these logs, with this status, and each log replays to its block.
+pub(super) fn replay_logs(
+    rt: &(impl Abort + Threads + Wait + Sync),
+    alloc: Global,
+    logs: &[Logged],
+    status: u8,
+) -> Result<(), Fail> {
+    for (config, stimuli, schedule, core, log, block) in logs {
+        let run = [Some(*config), Some(*stimuli), *schedule];
+        let job = items_of(*schedule, *core);
+        compare(rt, alloc, &job, &run, (log, "", status))?;
+        let replay = [Some(*config), Some(*log)];
+        compare(rt, alloc, &replay_of(*core), &replay, (block, "", 0))?;
+    }
+    Ok(())
+}
+
+/// A configuration, a core, the first lines of its log and further ones, what it prints, and the number of the item that it
+/// refuses; if that is 0, it takes all.
+pub(super) type Replayed = (
+    &'static str,
+    u8,
+    &'static str,
+    &'static str,
+    &'static str,
+    u32,
+);
+
+// Replays logs, each up to its end or to the item that is refused.
+pub(super) fn replay_up_to(
+    rt: &(impl Abort + Threads + Wait + Sync),
+    alloc: Global,
+    logs: &[Replayed],
+) -> Result<(), Fail> {
+    for (config, core, first, lines, block, refused) in logs {
+        let log = format!(in alloc; "{first}{lines}")?;
+        let fault = format!(in alloc; "fault 15 ItemRefused {refused}\n")?;
+        let (err, status) = if *refused == 0 {
+            ("", 0)
+        } else {
+            (fault.as_str(), 1)
+        };
+        let texts = [Some(*config), Some(log.as_str())];
+        let came = (*block, err, status);
+        compare(rt, alloc, &replay_of(*core), &texts, came)?;
+    }
+    Ok(())
 }
 
 // What core 0 of the first example prints by this log.
@@ -62,30 +121,33 @@ fn replays(
 fn a_log_is_printed_and_replays_to_its_block(rt: HostRuntime) -> Result<(), Fail> {
     let alloc = rt.alloc();
     let examples = [
-        (BORDER, 0, STIMULI, LOG, BLOCK),
+        (BORDER, STIMULI, None, 0, LOG, BLOCK),
         (
             BORDER,
-            1,
             STIMULI,
+            None,
+            1,
             SERVING,
             "core 1\nhook Startup\nact B\nin 0 ActivateTask B E_OK\npre B\npost B\nend B\n",
         ),
         (
             BESIDE,
-            2,
             r#"{"2":"op"}"#,
+            None,
+            2,
             "on\nentered\npass1 M\nreadied\npass2 0 1 2\nstim op\ndrained\npassend\nlast\n",
             "core 2\nhook Startup\nact V\npre V\npost V\nend V\n",
         ),
-        (r#"{"cores":[{"id":0},{"id":5}]}"#, 5, "{}", "", "core 5\n"),
+        (
+            r#"{"cores":[{"id":0},{"id":5}]}"#,
+            "{}",
+            None,
+            5,
+            "",
+            "core 5\n",
+        ),
     ];
-    for (config, core, stimuli, log, block) in examples.as_slice() {
-        let run = [Some(*config), Some(*stimuli), None];
-        compare(&rt, alloc, &items_of(*core), &run, (log, "", 0))?;
-        let replay = [Some(*config), Some(*log)];
-        compare(&rt, alloc, &replay_of(*core), &replay, (block, "", 0))?;
-    }
-    Ok(())
+    replay_logs(&rt, alloc, examples.as_slice(), 0)
 }
 
 #[test]
@@ -98,12 +160,7 @@ fn replies_with_values_and_actions_have_their_lines(rt: HostRuntime) -> Result<(
             r#""0o 1l 1o 0o 0l 1l 0o 1o 0l 1l 0o 0o 1s0 1o 0s1 0o 0o 1s0 1o 0s1 0o 0o 1o 1o 1o 0s1 1o 0l 1l 0l 1l""#,
         ),
     ];
-    let job = Job::Run {
-        config: "config.json",
-        stimuli: "stim.json",
-        schedule: Some("turns.json"),
-        items: Some(CoreId { number: 0 }),
-    };
+    let job = items_of(Some("turns.json"), 0);
     compare(&rt, alloc, &job, &run, (ALARMED_LOG, "", 0))?;
     let replayed = print(
         &rt,
@@ -237,10 +294,11 @@ fn a_line_of_no_item_is_a_bad_log(rt: HostRuntime) -> Result<(), Fail> {
 fn a_core_that_is_not_configured_has_no_log(rt: HostRuntime) -> Result<(), Fail> {
     let alloc = rt.alloc();
     let unknown = ("", "fault 5 UnknownName\n", 1);
-    compare(&rt, alloc, &items_of(3), &[Some(BORDER), None], unknown)?;
-    compare(&rt, alloc, &replay_of(3), &[Some(BORDER), None], unknown)?;
+    let texts = [Some(BORDER), None];
+    compare(&rt, alloc, &items_of(None, 3), &texts, unknown)?;
+    compare(&rt, alloc, &replay_of(3), &texts, unknown)?;
     let bad = ("", "fault 1 NotJson\n", 1);
     compare(&rt, alloc, &replay_of(3), &[Some("x"), None], bad)?;
     let unreadable = ("", "fault 21 Unreadable\n", 1);
-    compare(&rt, alloc, &replay_of(0), &[Some(BORDER), None], unreadable)
+    compare(&rt, alloc, &replay_of(0), &texts, unreadable)
 }

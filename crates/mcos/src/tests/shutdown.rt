@@ -1,16 +1,10 @@
 //! Runs that are shut down: one core, or all of them.
 
-use super::logs::replay_of;
+use super::logs::{Logged, Replayed, replay_logs, replay_up_to};
 use super::starts::{CONFLICT, NO_MODE, TAKES_MODE};
-use super::{Run, check_of, compare, cut_of, play, print, run_of};
-use osbase::CoreId;
-use oscommand::Job;
-use std::alloc::Global;
-use std::process::Abort;
+use super::{Listed, Run, check_of, compare, cut_of, play, play_listed, print, run_of};
 use std::str;
-use std::sync::Wait;
 use std::test::Fail;
-use std::thread::Threads;
 
 /// Core 0 shuts all cores down while core 1 runs.
 pub(super) const ALL_DOWN: &str =
@@ -122,8 +116,7 @@ const RUNS: &[Run] = &[
     (SEPARATE, SEPARATE_STIMULI, SEPARATE_TRACE),
 ];
 
-// Runs of a schedule, and their statuses.
-const SCHEDULED: &[(Run, &str, u8)] = &[
+const SCHEDULED: &[Listed] = &[
     // Core 1 has asked itself: its look does not halt it, its own turn does, and brings what core 0 asked for.
     (
         (
@@ -171,12 +164,7 @@ const SCHEDULED: &[(Run, &str, u8)] = &[
 fn shutdowns_come_to_their_texts_and_statuses(rt: HostRuntime) -> Result<(), Fail> {
     let alloc = rt.alloc();
     play(&rt, alloc, RUNS)?;
-    for ((config, stimuli, out), turns, status) in SCHEDULED {
-        let texts = [Some(*config), Some(*stimuli), Some(*turns)];
-        let job = run_of(Some("turns.json"));
-        compare(&rt, alloc, &job, &texts, (out, "", *status))?;
-    }
-    Ok(())
+    play_listed(&rt, alloc, SCHEDULED)
 }
 
 #[test]
@@ -206,25 +194,6 @@ fn a_separate_core_that_is_shut_down_prints_its_block_alone(rt: HostRuntime) -> 
     }
     Ok(())
 }
-
-fn items_of(schedule: Option<&'static str>, number: u8) -> Job<'static> {
-    Job::Run {
-        config: "config.json",
-        stimuli: "stim.json",
-        schedule,
-        items: Some(CoreId { number }),
-    }
-}
-
-/// A configuration, its stimuli, its schedule if it has one, a core, its log, and the block of that.
-type Logged = (
-    &'static str,
-    &'static str,
-    Option<&'static str>,
-    u8,
-    &'static str,
-    &'static str,
-);
 
 const LOGS: &[Logged] = &[
     (
@@ -304,32 +273,13 @@ const LOGS: &[Logged] = &[
 
 #[test]
 fn logs_of_modes_and_shutdowns_replay_to_their_blocks(rt: HostRuntime) -> Result<(), Fail> {
-    let alloc = rt.alloc();
-    for (config, stimuli, schedule, core, log, block) in LOGS {
-        let run = [Some(*config), Some(*stimuli), *schedule];
-        let job = items_of(*schedule, *core);
-        compare(&rt, alloc, &job, &run, (log, "", 0))?;
-        let replay = [Some(*config), Some(*log)];
-        compare(&rt, alloc, &replay_of(*core), &replay, (block, "", 0))?;
-    }
-    Ok(())
+    replay_logs(&rt, rt.alloc(), LOGS, 0)
 }
 
 /// The first items of core 0 and of core 1, up to the second barrier.
 const FIRST: &str = "began 1 E_OK\nentered\npass1 M\nreadied\npass2 0 1\n";
 
 const SECOND: &str = "on\nentered\npass1 M\nreadied\npass2 0 1\n";
-
-/// A configuration, a core, the first lines of its log and further ones, what it prints, and the number of the item that it
-/// refuses; if that is 0, it takes all.
-type Replayed = (
-    &'static str,
-    u8,
-    &'static str,
-    &'static str,
-    &'static str,
-    u32,
-);
 
 const REPLAYS: &[Replayed] = &[
     // Who asked, and for what, is as the log says. A core may end with or without a shutdown of all.
@@ -520,18 +470,5 @@ const REPLAYS: &[Replayed] = &[
 
 #[test]
 fn a_core_takes_a_halt_and_a_mode_where_it_may(rt: HostRuntime) -> Result<(), Fail> {
-    let alloc = rt.alloc();
-    for (config, core, first, lines, block, refused) in REPLAYS {
-        let log = format!(in alloc; "{first}{lines}")?;
-        let fault = format!(in alloc; "fault 15 ItemRefused {refused}\n")?;
-        let (err, status) = if *refused == 0 {
-            ("", 0)
-        } else {
-            (fault.as_str(), 1)
-        };
-        let texts = [Some(*config), Some(log.as_str())];
-        let came = (*block, err, status);
-        compare(&rt, alloc, &replay_of(*core), &texts, came)?;
-    }
-    Ok(())
+    replay_up_to(&rt, rt.alloc(), REPLAYS)
 }

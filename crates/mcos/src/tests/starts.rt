@@ -200,15 +200,16 @@ const AROUND: &[(&str, &str)] = &[
     ),
 ];
 
-// Checks configurations with each of these scripts.
-fn check_all(
+// Checks configurations with each of these scripts in each of these surroundings.
+pub(super) fn check_all(
     rt: &(impl Abort + Threads + Wait + Sync),
     alloc: Global,
+    around: &[(&str, &str)],
     scripts: &[&str],
     came: (&str, &str, u8),
 ) -> Result<(), Fail> {
     for script in scripts {
-        for (before, after) in AROUND {
+        for (before, after) in around {
             let config = format!(in alloc; "{before}{script}{after}")?;
             compare(rt, alloc, &check_of(), &[Some(config.as_str())], came)?;
         }
@@ -220,7 +221,7 @@ fn check_all(
 fn scripts_start_count_and_shut_down_in_their_forms(rt: HostRuntime) -> Result<(), Fail> {
     let alloc = rt.alloc();
     let accepted = ("ok\ncore 0 bound\ncore 1 off\n", "", 0);
-    check_all(&rt, alloc, SCRIPTS, accepted)?;
+    check_all(&rt, alloc, AROUND, SCRIPTS, accepted)?;
     let refused = ("", "fault 10 BadScript\n", 1);
-    check_all(&rt, alloc, BAD_SCRIPTS, refused)
+    check_all(&rt, alloc, AROUND, BAD_SCRIPTS, refused)
 }

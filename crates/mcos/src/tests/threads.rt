@@ -5,6 +5,10 @@ use super::shutdown::{
     ALL_DOWN, ALL_DOWN_STIMULI, ALL_DOWN_TRACE, ASKERS, ASKERS_STIMULI, DRAINED_TRACE, FIRST_ASKED,
     SECOND_ASKED,
 };
+use super::spinlocks::{
+    OWED, OWED_STIMULI, OWED_TRACE, POLLING, POLLING_STIMULI, REFUSED, REFUSED_STIMULI, SHARED,
+    SHARED_STIMULI, SHARED_TRACE,
+};
 use super::{Printed, compare, print};
 use crate::threads::Yielding;
 use osbase::{CoreId, Report};
@@ -22,6 +26,9 @@ use std::{slice, str};
 
 /// More turns than any core of the runs below may find nothing to do in.
 const MANY: u64 = 1_000_000_000;
+
+/// Some turns, for a run that does not end.
+const FEW: u64 = 1_000;
 
 /// Two cores, each of whose first task activates the other's second one, and a separate core.
 pub(super) const BOUND_AND_SEPARATE: &str =
@@ -100,11 +107,15 @@ fn replays(
 fn each_log_of_a_run_by_threads_replays_to_its_block(rt: HostRuntime) -> Result<(), Fail> {
     let alloc = rt.alloc();
     let examples = [
-        (BOUND_AND_SEPARATE, STIMULI, 3),
-        (ALL_DOWN, ALL_DOWN_STIMULI, 2),
-        (ASKERS, ASKERS_STIMULI, 2),
+        (BOUND_AND_SEPARATE, STIMULI, 3, MANY),
+        (ALL_DOWN, ALL_DOWN_STIMULI, 2, MANY),
+        (ASKERS, ASKERS_STIMULI, 2, MANY),
+        (OWED, OWED_STIMULI, 2, MANY),
+        (POLLING, POLLING_STIMULI, 2, MANY),
+        (SHARED, SHARED_STIMULI, 3, MANY),
+        (REFUSED, REFUSED_STIMULI, 2, FEW),
     ];
-    for (text, stimuli, cores) in examples.as_slice() {
+    for (text, stimuli, cores, turns) in examples.as_slice() {
         let config = read_config(alloc, text)?;
         let stimuli = read_stimuli(alloc, &config, stimuli)?;
         let run = run_threads(
@@ -114,7 +125,7 @@ fn each_log_of_a_run_by_threads_replays_to_its_block(rt: HostRuntime) -> Result<
             &stimuli,
             MailKind::Locked,
             &Yielding::new(),
-            MANY,
+            *turns,
         );
         let reports = run.ok().ok_or("reports")?;
         assert_eq!(rt; reports.len(), *cores);
@@ -146,6 +157,30 @@ fn all_cores_see_who_asked_first_for_their_shutdown(rt: HostRuntime) -> Result<(
     // The second core may have drained before it sees the halt.
     let all = [Some(ALL_DOWN), Some(ALL_DOWN_STIMULI)];
     prints_either(&rt, alloc, &all, (ALL_DOWN_TRACE, DRAINED_TRACE))
+}
+
+#[test]
+fn cores_that_share_a_spinlock_end(rt: HostRuntime) -> Result<(), Fail> {
+    let examples = [
+        (OWED, OWED_STIMULI, OWED_TRACE),
+        (SHARED, SHARED_STIMULI, SHARED_TRACE),
+    ];
+    for (config, stimuli, out) in examples.as_slice() {
+        let texts = [Some(*config), Some(*stimuli)];
+        let job = threads_of(MANY, None);
+        compare(&rt, rt.alloc(), &job, &texts, (out, "", 0))?;
+    }
+    Ok(())
+}
+
+#[test]
+fn a_core_that_waits_for_a_spinlock_gives_up_whoever_took_it(rt: HostRuntime) -> Result<(), Fail> {
+    let texts = [Some(REFUSED), Some(REFUSED_STIMULI)];
+    let run = print(&rt, rt.alloc(), &threads_of(FEW, None), &texts)?;
+    assert_eq!(rt; run.status, 3);
+    assert!(rt; run.err.is_empty());
+    assert!(rt; run.out.as_slice().ends_with(b"stalled\n"));
+    Ok(())
 }
 
 // Turns, a core's stimuli, and what is printed.

@@ -2,7 +2,7 @@ use Rattle.std.proofs.Common.{◌≡◌, List, map, sym, ap, subst, ◌∙◌, a
 use Rattle.osseat.specs.Seats.{AllApart, AllAt, Held, cores_of, fresh}
 use Rattle.osseat.specs.Runs.{AreLogged, IsOneRun}
 use Rattle.osseat.proofs.Runs.{all_logged, all_new, kept, one_run}
-use Rattle.osspin.specs.Spins.{IsRefusedTry, spinlocks}
+use Rattle.osspin.specs.Spins.{IsRefusedCall, spinlocks}
 use Rattle.osspin.proofs.Locks.{refused_idle}
 use Rattle.osspin.proofs.tests.run_all.Goals as goal
 
@@ -34,10 +34,10 @@ returns g c =
     let cores : cores_of parted.seats.items ≡ c.args.cores = ap cores_of parted.ensures.seats
     ∙ (kept (λ run. run.seat) c.in_ok-bank.bank c.args.cores seats.items runs.items c.in_ok-bank.ensures.seats (sym runs.ok.0 ∙ (c.in_ok-runs.ensures.len ∙ seats.ok.0))
     (λ i d e lt. let h = c.in_ok-runs.ensures.each i d e (omega (arith, seats.ok.0)) in (h.place, h.core))).1 in
-    let each = all_logged IsRefusedTry (λ run. run.seat) (λ run. run.log) (λ log. log.items) runs.items
+    let each = all_logged IsRefusedCall (λ run. run.seat) (λ run. run.log) (λ log. log.items) runs.items
     (λ i d lt. (c.in_ok-runs.ensures.each i d (fresh c.in_ok-bank.bank d.seat.core) (omega (arith, seats.ok.0, runs.ok.0, c.in_ok-runs.ensures.len))).logged) in
-    let logged : AreLogged IsRefusedTry parted.seats.items (map (λ log. log.items) parted.logs.items) =
-    subst (λ (l : List (Held _ _ _)). AreLogged IsRefusedTry l (map (λ log. log.items) parted.logs.items)) (sym parted.ensures.seats)
-    (subst (λ l. AreLogged IsRefusedTry (map (λ run. run.seat) runs.items) (map (λ log. log.items) l)) (sym parted.ensures.logs) each) in
+    let logged : AreLogged IsRefusedCall parted.seats.items (map (λ log. log.items) parted.logs.items) =
+    subst (λ (l : List (Held _ _ _)). AreLogged IsRefusedCall l (map (λ log. log.items) parted.logs.items)) (sym parted.ensures.seats)
+    (subst (λ l. AreLogged IsRefusedCall (map (λ run. run.seat) runs.items) (map (λ log. log.items) l)) (sym parted.ensures.logs) each) in
     subst (λ cs. IsOneRun spinlocks (record { cores = cs; about = tt }) (map (λ log. log.items) parted.logs.items)) c.in_ok-bank.ensures.cores
-    (one_run IsRefusedTry spinlocks _ parted.seats.items _ (subst AllApart (sym c.in_ok-bank.ensures.cores) c.requires) (cores ∙ sym c.in_ok-bank.ensures.cores) refused_idle logged c.gather.ensures)
+    (one_run IsRefusedCall spinlocks _ parted.seats.items _ (subst AllApart (sym c.in_ok-bank.ensures.cores) c.requires) (cores ∙ sym c.in_ok-bank.ensures.cores) refused_idle logged c.gather.ensures)

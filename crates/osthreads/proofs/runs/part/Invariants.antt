@@ -4,5 +4,5 @@ use Rattle.osthreads.proofs.runs.part.Given as goal
 
 abbrev pub invariant-loop-ending : goal.invariant-loop-ending
 invariant-loop-ending l =
-    (l.seats.items ≡ map (λ (e : Ending). e.seat) l.yielded) × (l.reports.items ≡ map (λ (e : Ending). e.report) l.yielded)
-    × (vec_len l.fn.endings ≤ vec_capacity l.seats) × (vec_len l.fn.endings ≤ vec_capacity l.reports)
+    (l.board.items ≡ map (λ (e : Ending). e.seats.board) l.yielded) × (l.spins.items ≡ map (λ (e : Ending). e.seats.spins) l.yielded) × (l.reports.items ≡ map (λ (e : Ending). e.report) l.yielded)
+    × (vec_len l.fn.endings ≤ vec_capacity l.board) × (vec_len l.fn.endings ≤ vec_capacity l.spins) × (vec_len l.fn.endings ≤ vec_capacity l.reports)

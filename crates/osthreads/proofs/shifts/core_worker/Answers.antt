@@ -2,6 +2,7 @@ use Rattle.std.proofs.Common.{Bor, length, refl, ap, sym, ◌∙◌, arith}
 use Rattle.osthreads.specs.declared.run.Run.{Run}
 use Rattle.osstate.specs.State.{KernelState}
 use Rattle.osturn.specs.Seats.{is_ended_phase}
+use Rattle.osthreads.specs.Seats.{made_from}
 use Rattle.osthreads.proofs.Asking.{known-low}
 use Rattle.osthreads.proofs.Senders.{someone}
 use Rattle.osthreads.proofs.Shifting.{begun, first-running, handed-back, own-before}
@@ -9,15 +10,17 @@ use Rattle.osthreads.proofs.shifts.core_worker.Goals as goal
 
 pub new-core-requires-clause-number : goal.new-core-requires-clause-number
 new-core-requires-clause-number g c =
-    let low = known-low c.args.run.now.config.now c.plan-plan.ensures.limits c.args.seat.core c.requires.configured in
+    let low = known-low c.args.run.now.config.now c.plan-plan.ensures.limits c.args.seats.board.core c.requires.configured in
     let is = ap (λ (k : _). k.number) c.core.ensures in
     omega (arith, low, is)
 
 pub invariant_of-shift : goal.invariant_of-shift
 invariant_of-shift g c = record {
   same = sym (c.new-core.ensures.core ∙ c.core.ensures);
-  placed = c.requires.placed;
-  low = known-low c.args.run.now.config.now c.plan-plan.ensures.limits c.args.seat.core c.requires.configured;
+  placed = c.requires.placed.board;
+  low = known-low c.args.run.now.config.now c.plan-plan.ensures.limits c.args.seats.board.core c.requires.configured;
+  same_spins = c.requires.placed.spins_core ∙ sym (c.new-core.ensures.core ∙ c.core.ensures);
+  placed_spins = c.requires.placed.spins;
 }
 
 pub loop-init : goal.loop-init
@@ -26,7 +29,7 @@ loop-init g c = (
   c.new-core.ensures.core ∙ c.core.ensures,
   record {
     loads = 0;
-    worked = begun c.args.run.now.config.now c.args.run.now.stimuli.now c.new-core.result c.core.result c.args.seat.mine (g.M.Mail.sent c.args.mail) (g.M.Mail.taken c.args.mail)
+    worked = begun c.args.run.now.config.now c.args.run.now.stimuli.now c.new-core.result c.core.result (made_from c.args.seats) (g.M.Mail.sent c.args.mail) (g.M.Mail.taken c.args.mail)
         c.new-core.ensures.core c.new-core.ensures.kernel c.new-core.ensures.stimuli c.new-core.ensures.items c.new-core.ensures.marks c.requires.fresh c.requires.unused;
     count = omega arith;
     place = omega arith;
@@ -40,5 +43,5 @@ returns-in-Some-go_on-clause-worked g c =
     handed-back (g.M.Mail.sent) (g.M.Mail.taken) c.args.run.now c.in-Some-go_on.stop c.go_on.new.self c.hand_back.result
     (ap (λ (r : Bor Run). r.now) c.go_on.ensures.run ∙ c.loop.invariant.0) c.requires.cores
     (c.in-Some-go_on.ensures.some c.args.run.now.stimuli.now c.loop.invariant.2)
-    (someone c.args.run.now.config.now c.plan-plan.ensures.limits c.args.seat.core c.requires.configured)
-    c.hand_back.ensures.report c.hand_back.ensures.seat c.hand_back.ensures.mail c.hand_back.ensures.stop
+    (someone c.args.run.now.config.now c.plan-plan.ensures.limits c.args.seats.board.core c.requires.configured)
+    c.hand_back.ensures.report c.hand_back.ensures.seats c.hand_back.ensures.mail c.hand_back.ensures.stop

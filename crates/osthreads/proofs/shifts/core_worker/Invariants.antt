@@ -4,5 +4,5 @@ use Rattle.osthreads.proofs.shifts.core_worker.Given as goal
 
 abbrev pub invariant-loop : goal.invariant-loop
 invariant-loop g l =
-    (l.shift.worker.run.now ≡ l.run) × (l.shift.worker.core.id ≡ l.fn.seat.core)
+    (l.shift.worker.run.now ≡ l.run) × (l.shift.worker.core.id ≡ l.fn.seats.board.core)
     × IsGoing (g.M.Mail.sent) (g.M.Mail.taken) l.run.stimuli.now l.shift

@@ -6,14 +6,14 @@ pub returns : goal.returns
 returns g c =
     let w = c.core_worker-report.ensures in record {
       core = w.core;
-      placed = w.place;
-      seat = w.seat;
+      placed = w.seats;
       log = w.worked.calls.log;
       is_run = record {
         alone = record { own = w.worked.own; fits = w.worked.fits };
         answers = w.worked.calls.answers;
       };
-      logged = thin _ _ _ _ w.worked.calls;
+      board = thin _ _ _ _ w.worked.calls;
+      spins = w.worked.calls.spins;
       mail = rw (c.into_steps.ensures) w.worked.mail;
       finished = worked-finished _ _ _ _ w.worked;
     }

@@ -2,6 +2,7 @@ use Rattle.std.proofs.Common.{refl, sym, ◌∙◌}
 use Rattle.oskernel.specs.Wants.{watch_in}
 use Rattle.osturn.specs.declared.asks.Answer.TheVariants.{Unasked}
 use Rattle.osthreads.proofs.Asking.{refused-item, unasked-no-mail, unasked-silent}
+use Rattle.osthreads.specs.Seats.{made_from}
 use Rattle.osthreads.proofs.Working.{alone-took}
 use Rattle.osthreads.proofs.worker.Worker.go_on.Goals as goal
 
@@ -9,7 +10,7 @@ pub returns-clause-turns : goal.returns-clause-turns
 returns-clause-turns g c stimuli loads done =
     let old = c.args.self.now in
     let names = sym c.named.ensures ∙ c.in-Some.is in
-    alone-took old.run.now.config.now stimuli loads old.core c.take.new.self old.seat.mine _ _ _ _ _ done c.args.ask Unasked c.in-Some.item
+    alone-took old.run.now.config.now stimuli loads old.core c.take.new.self (made_from old.seats) _ _ _ _ _ done c.args.ask Unasked c.in-Some.item
     c.requires.asked names (sym c.may_take.ensures.state ∙ c.if-not-may_take.false)
     (record { id = c.take.ensures.id; left = c.take.ensures.stimuli; items = c.take.ensures.taken; does = c.take.ensures.does })
     (unasked-silent old.core.id c.args.ask) (unasked-no-mail old.core.id (watch_in old.core.kernel) c.args.ask c.in-Some.item names) refl (λ d. refl) (λ d. refl)
