@@ -24,7 +24,9 @@ TABLE = ["cores", 0, "tables", 0]
 
 def whole():
     """Two cores, with an object of each kind on either."""
-    return {"version": 1, "cap": 16, "master": 0, "cores": [core(0, "A", [1]), core(1, "B", [])]}
+    spinlocks = [{"name": "K", "next": "L"}, {"name": "L", "next": None}]
+    cores = [core(0, "A", [1]), core(1, "B", [])]
+    return {"version": 1, "cap": 16, "master": 0, "modes": ["M"], "spinlocks": spinlocks, "cores": cores}
 
 
 def core(number, letter, start):
@@ -38,6 +40,7 @@ def core(number, letter, start):
             {"name": task, "prio": 1, "auto": ["M"], "activations": 1, "script": "work;TerminateTask"},
             {"name": events, "prio": 2, "extended": True, "script": "WaitEvent 1;ClearEvent 1;jump 0"},
         ],
+        "isrs": [{"name": "I" + letter, "level": 1, "script": "work"}],
         "resources": [{"name": resource, "ceiling": 2}],
         "counters": [{"name": counter, "max": 9, "min": 2, "software": False}],
         "alarms": [{"name": alarm, "counter": counter, "action": "ActivateTask " + task, "auto": auto}],
@@ -293,12 +296,22 @@ NAMES = ("M", "m", "", "1", "a b", "T\u00e4", "_a", "a_", "TA", "TB", "RB", "x" 
 
 
 def names():
-    """Names of objects, of the master and of modes."""
+    """Names of objects, of the master, of modes and of spinlocks."""
     kinds = ("tasks", "resources", "counters", "alarms", "tables")
     for kind in kinds:
         for name in NAMES:
             yield "%s named %r" % (kind, name), changed((["cores", 1, kind, 0, "name"], name))
         yield "no name in %s" % kind, data({"cores": [{"id": 0, kind: [{}]}]})
+    for path in (["spinlocks", 0, "name"], ["spinlocks", 1, "name"], ["spinlocks", 1, "next"]):
+        for name in NAMES + ("K", "L"):
+            yield "%r is %r" % (path, name), changed((path, name))
+    for count in (15, 16, 17):
+        for last in (None, "S0", "S1", "S7", "Zz"):
+            links = [{"name": "S%d" % at, "next": "S%d" % (at + 1)} for at in range(count - 1)]
+            links.append({"name": "S%d" % (count - 1), "next": last})
+            yield "%d spinlocks, after the last %r" % (count, last), changed((["spinlocks"], links))
+    for spinlocks in ([], None, {}, [[]], [{}], [{"next": "L"}], [{"name": "K"}] * 2, [{"name": "K", "x": 1}]):
+        yield "spinlocks %r" % (spinlocks,), changed((["spinlocks"], spinlocks))
     for first in (0, 1, 2, -1, 8):
         for second in (0, 1, -1, 8):
             for master in (0, 1, 2, -1, 8, 255):

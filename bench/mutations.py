@@ -12,10 +12,12 @@ import random
 from library.formats import (
     ACTION_OPERATIONS,
     CONFIGURATION,
+    FIRST_MODE,
     MODE,
     NAMED_LISTS,
     OBJECTS,
     OPERATIONS,
+    SPINLOCK,
     Action,
     CounterName,
     Flag,
@@ -25,6 +27,7 @@ from library.formats import (
     Number,
     ObjectOf,
     Script,
+    SpinlockName,
     words_of,
 )
 
@@ -36,7 +39,8 @@ WORDS = (
 )  # fmt: skip
 SIGNED_ENDS = ("9223372036854775807", "9223372036854775808", "-9223372036854775808", "-9223372036854775809")
 CHARACTERS = ' ;?0v1_aM~"\\{}[],:\n\t\u00e9\U0001f600'
-MEMBERS = ("name", "prio", "priority", "auto", "min", "max", "software", "points", "offset", "master", "cap", "start")
+MEMBERS = ("name", "prio", "priority", "auto", "min", "max", "software", "points", "offset", "master", "cap", "start", "next")
+NAMED = tuple(NAMED_LISTS.values()) + (SPINLOCK.name,)
 
 
 def objects_in(value, kind=CONFIGURATION):
@@ -76,7 +80,7 @@ class Mutator:
 
     def names(self, kind=None):
         """The names of the objects of a kind, or of all kinds."""
-        kinds = [kind] if kind else list(NAMED_LISTS.values())
+        kinds = [kind] if kind else NAMED
         found = [value.get("name") for each, value in objects_in(self.config) if each.name in kinds]
         return [name for name in found if isinstance(name, str)]
 
@@ -101,9 +105,13 @@ class Mutator:
         value[member.name] = self.chance.choice(near + [other, other - 1, other + 1])
 
     def change_name(self):
-        _, value, member = self.site(NewName, CounterName)
-        kind = "counter" if isinstance(member.value, CounterName) else None
+        _, value, member = self.site(NewName, CounterName, SpinlockName)
+        kind = {CounterName: "counter", SpinlockName: SPINLOCK.name}.get(type(member.value))
         value[member.name] = self.name(kind)
+
+    def change_link(self):
+        _, value, member = self.site(SpinlockName)
+        value[member.name] = self.chance.choice((None, self.name(SPINLOCK.name), self.name(SPINLOCK.name)))
 
     def change_flag(self):
         _, value, member = self.site(Flag)
@@ -118,7 +126,7 @@ class Mutator:
         """A word for an argument, mostly in form."""
         if self.chance.random() < 0.15:
             return self.chance.choice(WORDS)
-        if kind in NAMED_LISTS.values():
+        if kind in NAMED:
             return self.name(kind)
         if kind == "variable":
             return "v%d" % self.chance.randrange(8)
@@ -193,6 +201,7 @@ class Mutator:
         if optional and self.chance.random() < 0.7:
             member = self.chance.choice(optional)
             default = list(member.default) if isinstance(member.default, tuple) else member.default
+            default = self.name() if default is FIRST_MODE else default
             if member.name in value:
                 del value[member.name]
             else:
@@ -277,6 +286,7 @@ class Mutator:
             self.change_list: 8,
             self.change_flag: 3,
             self.change_modes: 4,
+            self.change_link: 4,
             self.change_character: 6,
             self.change_members: 6,
             self.change_type: 3,

@@ -7,19 +7,23 @@ from typing import Dict, Iterable, Iterator, List, NamedTuple, Tuple
 from library import model
 from library.columns import columns
 from library.findings import listed
-from library.formats import HALTS_ALL
-from library.model import Actor, Binding, Model, Reference
+from library.formats import GETS_SPINLOCK, HALTS_ALL
+from library.model import Actor, Binding, Model, Reference, Sharing
 
 # How a reference crosses.
 REQUEST = "request"
 ACTION = "action"
 HALT = "halt"  # of an operation that shuts all cores down
+SPINLOCK = "spinlock"  # of an operation that gets one which another core gets too
 NOTHING = "nothing"
 
 
 @dataclass(frozen=True)
 class Crossing:
-    """What a task, an ISR, an alarm or a table does with an object of another core; it may do so in several places."""
+    """What a task, an ISR, an alarm or a table does with an object of another core, or with what that one shares.
+
+    It may do so in several places.
+    """
 
     source: int
     target: int
@@ -46,6 +50,8 @@ class Crossing:
             return "request; core %d waits for the reply" % self.source
         if self.way == HALT:
             return "halt; unless core %d has drained or is down" % self.target
+        if self.way == SPINLOCK:
+            return "spinlock; core %d waits for it, or finds it taken" % self.target
         return "action; no reply" if self.way == ACTION else self.why
 
 
@@ -90,6 +96,14 @@ def _all_ways(whole: Model) -> Iterator[Tuple[int, int, Actor, str, Tuple[str, s
     for binding in whole.halting:
         for other in sorted(whole.started - {binding.core}):
             yield binding.core, other, binding.actor, binding.text, _halt_way(whole, binding)
+    for getting in _getting(whole):
+        for other in sorted({each.core for each in _getting(whole) if each.name == getting.name} - {getting.core}):
+            yield getting.core, other, getting.actor, getting.text, (SPINLOCK, "")
+
+
+def _getting(whole: Model) -> List[Sharing]:
+    """The operations of started cores that get a spinlock."""
+    return [each for each in whole.sharing if each.service in GETS_SPINLOCK and each.core in whole.started]
 
 
 def _halt_way(whole: Model, binding: Binding) -> Tuple[str, str]:
@@ -136,12 +150,25 @@ def reasons(whole: Model, core: int) -> List[str]:
         if objects:
             state = "" if other in whole.started else ", which is off,"
             found.append("core %d%s refers to it: %s" % (other, state, objects))
-    return found + _binding_reasons(whole, core)
+    return found + _spinlock_reasons(whole, core) + _binding_reasons(whole, core)
 
 
 def _listed_cores(cores: List[int]) -> str:
     """Cores by their numbers."""
     return "core%s %s" % ("s" if len(cores) > 1 else "", listed(str(core) for core in cores))
+
+
+def _spinlock_reasons(whole: Model, core: int) -> List[str]:
+    """The spinlocks to which a core refers, with the other cores that do."""
+    cores: Dict[str, Dict[int, None]] = {}
+    for each in whole.sharing:
+        cores.setdefault(each.name, {})[each.core] = None
+    found = []
+    for name in dict.fromkeys(each.name for each in whole.sharing if each.core == core):
+        others = [other for other in cores[name] if other != core]
+        who = _listed_cores(others) if others else "no other core"
+        found.append("it refers to the spinlock %s, as %s %s" % (name, who, "do" if len(others) > 1 else "does"))
+    return found
 
 
 def _binding_reasons(whole: Model, core: int) -> List[str]:
@@ -172,7 +199,7 @@ def _objects(references: Iterable[Reference]) -> str:
 class Step(NamedTuple):
     """Why a change of one core can change what another one does.
 
-    It serves what crosses, waits for the reply, or is halted.
+    It serves what crosses, waits for the reply, is halted, or shares a spinlock.
     """
 
     source: int
@@ -182,8 +209,8 @@ class Step(NamedTuple):
     @property
     def text(self) -> str:
         """The reason."""
-        if self.crossing.way == HALT:
-            verb = "is halted by"
+        if self.crossing.way in (HALT, SPINLOCK):
+            verb = "is halted by" if self.crossing.way == HALT else "shares the spinlock of"
         else:
             verb = "serves" if self.crossing.target == self.target else "waits for the reply to"
         return "%s %s (%s)" % (verb, self.crossing.text, self.crossing.who)
@@ -301,6 +328,7 @@ _EDGE_STYLES = {
     REQUEST: "dir=both, arrowtail=odot",
     ACTION: "style=solid",
     HALT: "style=bold",
+    SPINLOCK: "style=bold, arrowhead=box",
     NOTHING: "style=dotted, color=gray50",
 }
 

@@ -73,8 +73,8 @@ def _states(jobs: Jobs, threads: Dict[str, Tuple[int, int]]) -> Iterable[Event]:
     for task, holds in held_by_task(jobs).items():
         core, _ = threads[task]
         for number, hold in enumerate(holds):
-            # Asynchronous, since a resource is held over several states of its job.
-            both = {"name": hold.resource, "cat": "held", "id": "%s %d" % (task, number), "pid": core, "tid": ENVELOPES}
+            # Asynchronous, since a resource or a spinlock is held over several states of its job.
+            both = {"name": hold.name, "cat": "held", "id": "%s %d" % (task, number), "pid": core, "tid": ENVELOPES}
             yield {"ph": "b", "ts": hold.begin, "args": {"task": task}, **both}
             yield {"ph": "e", "ts": hold.end, **both}
 

@@ -6,7 +6,7 @@ Each object keeps where it stands, so that reports can say it.
 from dataclasses import dataclass, field
 from typing import Any, Dict, List, Optional
 
-from library.formats import CONFIGURATION, FIRST_MODE, NAMED_LISTS, NAMES_NO_MODE, OBJECTS, ListOf, Object
+from library.formats import CONFIGURATION, FIRST_MODE, NAMED_LISTS, NAMES_NO_MODE, OBJECTS, SPINLOCK, ListOf, Object
 from library.places import Json, JsonList, JsonNumber, JsonObject, JsonText
 
 LISTS = {kind: name for name, kind in NAMED_LISTS.items()}
@@ -49,9 +49,9 @@ class Part:
 
 @dataclass(eq=False)
 class Named(Part):
-    """An object with a name, which stands on a core."""
+    """An object with a name, which stands on a core; of a spinlock, which stands on none, that is None."""
 
-    core: "Core"
+    core: Optional["Core"]
 
     @property
     def name(self) -> str:
@@ -87,6 +87,7 @@ class Draft(Part):
     """A configuration."""
 
     cores: List[Core]
+    spinlocks: List[Named]
     by_name: Dict[str, List[Named]]
 
     @property
@@ -111,6 +112,8 @@ class Draft(Part):
 
     def objects(self, kind: str) -> List[Named]:
         """All objects of a kind, of all cores."""
+        if kind == SPINLOCK.name:
+            return self.spinlocks
         return [each for core in self.cores for each in core.named[LISTS[kind]]]
 
     def names(self, kind: str) -> List[str]:
@@ -120,7 +123,7 @@ class Draft(Part):
     def find(self, kind: str, name: str, core: Optional[Core] = None) -> Optional[Named]:
         """An object of a kind and a name; if several have the name, rather one of this core."""
         found = [each for each in self.by_name.get(name, []) if each.kind.name == kind]
-        near = [each for each in found if core is not None and each.core.id == core.id]
+        near = [each for each in found if None not in (core, each.core) and each.core.id == core.id]
         return (near or found or [None])[0]
 
     def find_alone(self, kind: str, name: str) -> Optional[Named]:
@@ -129,6 +132,10 @@ class Draft(Part):
         if name in self.modes or len(named) != 1 or named[0].kind.name != kind:
             return None
         return named[0]
+
+    def links(self) -> Dict[str, str]:
+        """The spinlock that comes after each one, if one does; by their names."""
+        return {each.name: each["next"] for each in self.spinlocks if each["next"] is not None}
 
     def started(self) -> set:
         """The numbers of the cores to which start lists lead from the master."""
@@ -156,12 +163,13 @@ def plain(value: Json) -> Any:
 
 def draft_of(root: JsonObject) -> Draft:
     """The objects of a configuration whose shape is right."""
-    draft = Draft(CONFIGURATION, root, [], {})
+    draft = Draft(CONFIGURATION, root, [], [], {})
+    draft.spinlocks += [Named(each.kind, each.node, None) for each in draft.parts("spinlocks")]
     for part in draft.parts("cores"):
         core = Core(part.kind, part.node)
         for kind in NAMED_LISTS:
             core.named[kind] = [Named(each.kind, each.node, core) for each in core.parts(kind)]
-            for each in core.named[kind]:
-                draft.by_name.setdefault(each.name, []).append(each)
         draft.cores.append(core)
+    for each in draft.spinlocks + [each for core in draft.cores for kind in NAMED_LISTS for each in core.named[kind]]:
+        draft.by_name.setdefault(each.name, []).append(each)
     return draft

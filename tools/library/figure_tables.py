@@ -26,6 +26,8 @@ def tables(figures: Figures) -> str:
         ("Interruptions", _plain(("core", "who", "by", "times"), figures["interruptions"], 3)),
         ("Budgets", _budgets(figures)),
         ("Resources held: least, mean, greatest", _resources(figures, units)),
+        ("Spinlocks, waited for: least, mean, greatest", _spinlocks(figures, "waited", units)),
+        ("Spinlocks, held: least, mean, greatest", _spinlocks(figures, "held", units)),
         ("Chains: least, mean, greatest", _chains(figures, units)),
         ("Crossings", _plain(("from", "to", "operation", "sent", "served"), figures["crossings"], 3)),
         ("Mailboxes", _plain(("from", "to", "envelopes", "fullest", "cap"), figures["mailboxes"], 0)),
@@ -100,6 +102,16 @@ def _resources(figures: Figures, units: Tuple[str, ...]) -> List[str]:
         cells = [spread(each["held"][unit]) for unit in units]
         rows.append([str(each["core"]), each["resource"], each["task"], str(each["times"]), *cells])
     return _table(("core", "resource", "task", "times", *units), rows, 3)
+
+
+def _spinlocks(figures: Figures, name: str, units: Tuple[str, ...]) -> List[str]:
+    """The spinlocks, with the tasks and ISRs that got them: how long they waited for them, or held them."""
+    rows = []
+    for each in figures["spinlocks"]:
+        first = each[name][units[0]]
+        cells = [spread(each[name][unit]) for unit in units]
+        rows.append([str(each["core"]), each["spinlock"], each["who"], str(each["times"]), *cells, str(first["open"])])
+    return _table(("core", "spinlock", "who", "times", *units, "open"), rows, 3)
 
 
 def _chains(figures: Figures, units: Tuple[str, ...]) -> List[str]:

@@ -5,7 +5,20 @@ from typing import Any, Callable, Dict, Iterator, List, Optional, Sequence, Tupl
 
 from library.drafts import Core, Named
 from library.items import START, Deed, Item
-from library.jobs import LOST, PROTECTION, SHUTDOWN, TERMINATE, Job, Jobs, Mark, Part, Preemption
+from library.jobs import (
+    LOST,
+    PROTECTION,
+    RESOURCE,
+    SHUTDOWN,
+    SPINLOCK,
+    TERMINATE,
+    Hold,
+    Job,
+    Jobs,
+    Mark,
+    Part,
+    Preemption,
+)
 from library.model import TABLE, model_of
 from library.timeline import mailbox_levels
 
@@ -57,6 +70,7 @@ def figures_of(jobs: Jobs) -> Figures:
     found["preemptions"] = _preemptions(jobs.preemptions, "task")
     found["interruptions"] = _preemptions(jobs.interruptions, "who")
     found["resources"] = _resources(jobs, units_of(found))
+    found["spinlocks"] = _spinlocks(jobs, units_of(found))
     found["chains"] = _chains(jobs, units_of(found))
     found["crossings"] = _crossings(jobs)
     found["mailboxes"] = _mailboxes(jobs)
@@ -262,13 +276,34 @@ def _spans(jobs: Jobs, spans: Sequence[Tuple[Item, Optional[Item]]], units: Sequ
 
 def _resources(jobs: Jobs, units: Sequence[str]) -> List[Figures]:
     """How often each task took each resource, and for how long."""
-    spans: Dict[Tuple[int, str, str], List[Tuple[Item, Optional[Item]]]] = {}
+    names = ("core", "resource", "task", "times", "held")
+    return [dict(zip(names, key + (len(holds), _held(jobs, holds, units)))) for key, holds in _holds(jobs, RESOURCE)]
+
+
+def _spinlocks(jobs: Jobs, units: Sequence[str]) -> List[Figures]:
+    """How often each task and ISR got each spinlock, how long it waited for it, and for how long it had it."""
+    names = ("core", "spinlock", "who", "times", "waited", "held")
+    found = []
+    for key, holds in _holds(jobs, SPINLOCK):
+        waited = _spans(jobs, [(hold.called, hold.taken) for hold in holds], units)
+        got = [hold for hold in holds if hold.taken is not None]
+        found.append(dict(zip(names, key + (len(got), waited, _held(jobs, got, units)))))
+    return found
+
+
+def _holds(jobs: Jobs, kind: str) -> List[Tuple[Tuple[int, str, str], List[Hold]]]:
+    """What was held of a kind, by core, name and holder."""
+    found: Dict[Tuple[int, str, str], List[Hold]] = {}
     for job in jobs.jobs:
         for hold in job.holds:
-            spans.setdefault((job.core, hold.resource, job.name), []).append((hold.taken, hold.given))
-    names = ("core", "resource", "task", "times", "held")
-    keys = sorted(spans, key=lambda key: key[:2])
-    return [dict(zip(names, key + (len(spans[key]), _spans(jobs, spans[key], units)))) for key in keys]
+            if hold.kind == kind:
+                found.setdefault((job.core, hold.name, job.name), []).append(hold)
+    return sorted(found.items(), key=lambda pair: pair[0][:2])
+
+
+def _held(jobs: Jobs, holds: Sequence[Hold], units: Sequence[str]) -> Dict[str, Figures]:
+    """How long something was held, in each unit."""
+    return _spans(jobs, [(hold.taken, hold.given) for hold in holds], units)
 
 
 def times(done: Sequence[int], still: Sequence[int] = ()) -> Figures:

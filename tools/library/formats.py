@@ -180,6 +180,11 @@ class CoreMode:
 
 
 @dataclass(frozen=True)
+class SpinlockName:
+    """The name of a spinlock of the configuration, or null."""
+
+
+@dataclass(frozen=True)
 class OneOf:
     """One of several words."""
 
@@ -216,7 +221,19 @@ class ListOf:
 
 
 Value = Union[
-    Number, Flag, NewName, CounterName, NewModeName, ModeName, CoreMode, OneOf, Script, Action, ObjectOf, ListOf
+    Number,
+    Flag,
+    NewName,
+    CounterName,
+    NewModeName,
+    ModeName,
+    CoreMode,
+    SpinlockName,
+    OneOf,
+    Script,
+    Action,
+    ObjectOf,
+    ListOf,
 ]
 MODES = ListOf(ModeName())
 
@@ -274,9 +291,11 @@ CONFIGURATION = Object(
         Member("cap", Number(1, 16), 16),
         Member("master", Number(0, 7, alone=False), 0),
         Member("modes", ListOf(NewModeName(), 1, 8), (MODE,)),
+        Member("spinlocks", ListOf(ObjectOf("spinlock"), 0, 16), ()),
         Member("cores", ListOf(ObjectOf("core"), 1, 8)),
     ),
 )
+SPINLOCK = Object("spinlock", (Member("name", NewName()), Member("next", SpinlockName(), None)))
 # The operations that an ISR's script has not, and those that answer an ISR E_OS_CALLEVEL.
 NOT_IN_ISRS = ("GetResource", "ReleaseResource")
 FOR_TASKS = ("TerminateTask", "ChainTask", "Schedule", "ClearEvent", "WaitEvent")
@@ -374,7 +393,20 @@ TABLE_AUTO = Object(
 )
 OBJECTS = {
     each.name: each
-    for each in (CONFIGURATION, CORE, TASK, ISR, RESOURCE, COUNTER, ALARM, ALARM_AUTO, TABLE, POINT, TABLE_AUTO)
+    for each in (
+        CONFIGURATION,
+        SPINLOCK,
+        CORE,
+        TASK,
+        ISR,
+        RESOURCE,
+        COUNTER,
+        ALARM,
+        ALARM_AUTO,
+        TABLE,
+        POINT,
+        TABLE_AUTO,
+    )
 }
 # The lists of a core whose objects have names, with what each holds.
 NAMED_LISTS = {
@@ -395,8 +427,8 @@ NAMED_LISTS = {
 class Argument:
     """A word behind the name of an operation.
 
-    `word` is how docs/FORMATS.md writes it. `kind` is one of these: `task`, `resource`, `counter`, `alarm`, `table` (a
-    name, or `?`), `core` (0 to 255, or `?`), `variable`, `mask`, `place` (0 to the number of the script's operations),
+    `word` is how docs/FORMATS.md writes it. `kind` is one of these: `task`, `resource`, `counter`, `alarm`, `table`,
+    `spinlock` (a name, or `?`), `core` (0 to 255, or `?`), `variable`, `mask`, `place` (0 to the number of the script's operations),
     `signed` (a number of 64 bits), `number` (0 to 4294967295), `status` (the number of one). If `own_core`, an object
     of another core is fault 6.
     """
@@ -408,7 +440,7 @@ class Argument:
     @property
     def is_object(self) -> bool:
         """Whether the word is an object's name."""
-        return self.kind in NAMED_LISTS.values()
+        return self.kind in NAMED_LISTS.values() or self.kind == SPINLOCK.name
 
     @property
     def may_be_nobody(self) -> bool:
@@ -419,6 +451,9 @@ class Argument:
 # The operations of the standards without a status. Those that are ignored where interrupts are suspended come last.
 IGNORED_IF_SUSPENDED = ("GetNumberOfActivatedCores", "ShutdownOS", "ShutdownAllCores")
 WITHOUT_STATUS = ("SuspendAllInterrupts", "ResumeAllInterrupts") + IGNORED_IF_SUSPENDED
+# Those that act in full while interrupts are suspended. The first two get a spinlock, and the last one gives it back.
+GETS_SPINLOCK = ("GetSpinlock", "TryToGetSpinlock")
+OF_SPINLOCKS = GETS_SPINLOCK + ("ReleaseSpinlock",)
 # What makes a core bound that has it in a script, and what makes all cores bound.
 ASKS_SHARED = ("StartCore", "GetNumberOfActivatedCores")
 HALTS_ALL = "ShutdownAllCores"
@@ -460,6 +495,7 @@ _MASK = Argument("m", "mask")
 _COUNTS = Argument("n", "number")
 _VALUE = Argument("s", "number")
 _CYCLE = Argument("c", "number")
+_SPINLOCK = Argument("L", "spinlock")
 _CORE = Argument("k", "core")
 _STATUS = Argument("n", "status")
 
@@ -494,6 +530,9 @@ OPERATIONS = {
         Operation("NextScheduleTable", (_OWN_TABLE, _NEXT_TABLE)),
         Operation("StopScheduleTable", (_OWN_TABLE,)),
         Operation("GetScheduleTableStatus", (_OWN_TABLE, _VARIABLE)),
+        Operation("GetSpinlock", (_SPINLOCK,)),
+        Operation("TryToGetSpinlock", (_SPINLOCK, _VARIABLE)),
+        Operation("ReleaseSpinlock", (_SPINLOCK,)),
         Operation("SuspendAllInterrupts"),
         Operation("ResumeAllInterrupts"),
         Operation("StartCore", (_CORE,)),

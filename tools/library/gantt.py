@@ -152,10 +152,10 @@ def _line(kind: str, begin: Tuple[float, float], end: Tuple[float, float]) -> st
 def _legend(x: float) -> Iterable[str]:
     """What the colours mean."""
     y = 18
-    for kind, width in ((RUNNING, 84), (INTERRUPTED, 104), (READY, 72), (WAITING, 84), ("held", 140)):
+    for kind, width in ((RUNNING, 84), (INTERRUPTED, 104), (READY, 72), (WAITING, 84), ("held", 212)):
         height = _HEIGHTS.get(kind, 3)
         yield '<rect class="%s" x="%.1f" y="%.1f" width="22" height="%d"/>' % (kind, x, y - height / 2, height)
-        yield _label("", x + 28, y + 4, "holds a resource" if kind == "held" else kind)
+        yield _label("", x + 28, y + 4, "holds a resource or a spinlock" if kind == "held" else kind)
         x += width
     yield _line("flow", (x, y), (x + 18, y))
     yield _head(x + 22, y, 0)
@@ -218,7 +218,7 @@ def _ticks(timeline: Timeline, layout: Layout) -> Iterable[str]:
 
 
 def _bars(jobs: Jobs, layout: Layout) -> Iterable[str]:
-    """The states of the ISRs and the tasks, and below them the resources that they hold."""
+    """The states of the ISRs and the tasks, and below them the resources and spinlocks that they hold."""
     for name, stretches in stretches_by_name(jobs).items():
         for each in stretches:
             if layout.shows(each.begin, each.end):
@@ -228,7 +228,7 @@ def _bars(jobs: Jobs, layout: Layout) -> Iterable[str]:
     for task, holds in held_by_task(jobs).items():
         for hold in holds:
             if layout.shows(hold.begin, hold.end):
-                title = "%s holds %s, turns %d to %d" % (task, hold.resource, hold.begin, hold.end)
+                title = "%s holds %s, turns %d to %d" % (task, hold.name, hold.begin, hold.end)
                 yield _bar(layout, "held", task, hold.begin, hold.end, 15, 3, title)
 
 

@@ -9,6 +9,7 @@ from library.formats import CONFIGURATION, CORE, NAMED_LISTS, OBJECTS, Object
 # What an object of the tables is called in a report.
 TITLES = {
     "configuration": "a configuration",
+    "spinlock": "a spinlock",
     "core": "a core",
     "task": "a task",
     "ISR": "an ISR",
@@ -44,6 +45,8 @@ _SCHEDULE = _is("preemptable", ": `true` for FULL, `false` for NON")
 _RESOURCES = Hint("it is not written here: each task of the core may take each of its resources")
 _CATEGORY = Hint("it is not written here: each ISR is of category 2")
 _STANDARD = Hint("it is not written here: each resource is STANDARD")
+_LOCK_METHOD = Hint("it is not written here: each spinlock is LOCK_NOTHING")
+_ACCESS = Hint("it is not written here: each core may get each spinlock")
 _ONE_COUNT = Hint("it is not written here: each `tick` is one count")
 _SOFTWARE = _is("software", ": `true`, or `false` for one that each `tick` increments")
 _START_IN_AUTO = Hint("it is `start` here, and stands in the `auto` of the alarm")
@@ -60,6 +63,18 @@ STANDARD_NAMES: Dict[str, Dict[str, Hint]] = {
         "appmodes": _is("modes"),
         "osappmode": _is("modes", ", a list of names"),
         "osappmodes": _is("modes"),
+        "spinlock": _is("spinlocks", ", a list"),
+        "osspinlock": _is("spinlocks", ", a list"),
+    },
+    "spinlock": {
+        "successor": _is("next"),
+        "spinlocksuccessor": _is("next"),
+        "osspinlocksuccessor": _is("next"),
+        "lockmethod": _LOCK_METHOD,
+        "spinlocklockmethod": _LOCK_METHOD,
+        "osspinlocklockmethod": _LOCK_METHOD,
+        "accessingapplication": _ACCESS,
+        "osspinlockaccessingapplication": _ACCESS,
     },
     "task": {
         "priority": _is("prio"),
@@ -169,11 +184,6 @@ STANDARD_NAMES: Dict[str, Dict[str, Hint]] = {
         "osevent": _EVENTS_OF_CORE,
     },
 }
-NOT_YET = {
-    "spinlock": "spinlocks",
-    "spinlocks": "spinlocks",
-    "osspinlock": "spinlocks",
-}
 _NOT_PLANNED = {
     "application": "OS-Applications",
     "applications": "OS-Applications",
@@ -219,8 +229,6 @@ def unknown_member(kind: Object, name: str, present: Set[str]) -> str:
 
 def _not_there(name: str) -> Optional[str]:
     """What a name stands for that mcos does not have."""
-    if _flat(name) in NOT_YET:
-        return "not there yet (%s)" % NOT_YET[_flat(name)]
     if _flat(name) in _NOT_PLANNED:
         return "not planned (%s)" % _NOT_PLANNED[_flat(name)]
     return None

@@ -15,6 +15,7 @@ from library.formats import (
     IGNORED_IF_SUSPENDED,
     INTERRUPT,
     MOST_SUSPENDED,
+    OF_SPINLOCKS,
     OPERATIONS,
     WITHOUT_ERROR_HOOK,
     operations_of,
@@ -41,6 +42,22 @@ class Runner(NamedTuple):
 
     kind: str
     name: str
+
+
+class Call(NamedTuple):
+    """A call of a job that waits: for a reply, or for the answer of a spinlock; the item in which it was made."""
+
+    runner: Runner
+    place: int
+    operation: str
+    item: "Item"
+
+
+class Got(NamedTuple):
+    """A spinlock that the core has, and whose job got it: nobody's, once it is to be given back."""
+
+    lock: str
+    runner: Optional[Runner]
 
 
 @dataclass(frozen=True)
@@ -88,7 +105,8 @@ class Item:
 
     `number` counts the items of the core from 1. `stimulus` and `tick` say how many stimuli and ticks the core has
     taken so far, this one with them. If the item is an `op` of a job, there are whose job it is and the number of the
-    operation. A `halt` for which a job of this core asked is `asked`.
+    operation. A `halt` for which a job of this core asked is `asked`. `waits` is the operation that waits from then on
+    for the answer of a spinlock, and `called` the item in which the one was done that gets its answer now.
     """
 
     core: int
@@ -101,6 +119,8 @@ class Item:
     runner: Optional[Runner] = None
     place: Optional[int] = None
     asked: bool = False
+    waits: Optional[str] = None
+    called: Optional["Item"] = None
     turn: int = 0
     round: Optional[int] = None
 
@@ -148,7 +168,9 @@ class _Layer:
         self.is_down = False
         self.is_halted = False
         self.has_asked = False  # for the shutdown of all cores
-        self.request: Optional[Tuple[Runner, int, str]] = None  # whose reply is awaited
+        self.request: Optional[Call] = None  # whose reply is awaited
+        self.spin: Optional[Call] = None  # which waits for the answer of a spinlock
+        self.got: List[Got] = []
         self.scripts = _scripts(run.draft, core)
         self.actions = _actions(run.draft, core)
         self.autos = [task["auto"] for task in run.draft.core(core).named["tasks"]]
@@ -179,10 +201,14 @@ class _Layer:
         elif words[0] == "pass1":
             self._take("conflict" if words[1] == "conflict" else "hook")
             self.mode = words[1]
+        elif words[0] in ("granted", "tried", "freed"):
+            self._spinlock(words)
         elif words[0] == "halt":
             self.item.asked = self.has_asked
             self._take("halt")
             self.is_halted = True
+            self.spin = None
+            self._owe()
         elif words[0] == "last":
             if len(words) > 1 and not self.is_down:
                 self._take("hook")
@@ -236,10 +262,16 @@ class _Layer:
                 self.task = None
             self.places.pop(words[1], None)
             self.suspended = 0
+            self._owe(Runner(ISR if words[0] == "leave" else TASK, words[1]))
         elif words[0] == "var":
             self.variables[words[1], words[2]] = int(words[3])
         elif words[:2] == ["hook", "Shutdown"]:
             self.is_down = True
+            self._owe()
+
+    def _owe(self, runner: Optional[Runner] = None) -> None:
+        """The spinlocks that a job got are to be given back; without one, all of the core."""
+        self.got = [Got(each.lock, None) if runner in (None, each.runner) else each for each in self.got]
 
     @property
     def runner(self) -> Optional[Runner]:
@@ -270,9 +302,10 @@ class _Layer:
     def _dispatch(self) -> None:
         """Takes the lines of a dispatch, if there is one. A `post` before `end` or `wait` is of the next item.
 
-        While the running job has interrupts suspended, there is none: the lines are of a ResumeAllInterrupts.
+        While the running job has interrupts suspended, there is none: the lines are of a ResumeAllInterrupts. While
+        spinlocks are to be given back, there is none either: the lines are of the last item `freed`.
         """
-        if self.suspended:
+        if self.suspended or any(each.runner is None for each in self.got):
             return
         if self._next() == "post" and self._next(1) == "pre":
             self._take("post")
@@ -375,7 +408,11 @@ class _Layer:
         elif self._next() == "out":
             self._take("out")
             self._did(*runner, place, operation, None, 0)
-            self.request = (runner, place, operation)
+            self.request = Call(runner, place, operation, self.item)
+            return
+        elif operation.split(" ")[0] in OF_SPINLOCKS and not self._is_refused(operation):
+            self.spin = Call(runner, place, operation, self.item)
+            self.item.waits = operation
             return
         first = len(self.item.lines)
         if self._next() == "post":
@@ -384,6 +421,24 @@ class _Layer:
         while self._next() in ("act", "ev", "free", "clr"):
             self._take(self._next())
         self._status(runner, place, operation, first)
+
+    def _is_refused(self, operation: str) -> bool:
+        """Whether the next line says that a call for a spinlock is refused. Its E_OK comes with an item of its own."""
+        words = self._line().split(" ")
+        return words[0] == "stat" and words[2] == operation.split(" ")[0] and words[3] != OK
+
+    def _spinlock(self, words: List[str]) -> None:
+        """Takes the lines of a spinlock's answer, if a call waits for it."""
+        if words[0] == "freed":
+            self.got = [each for each in self.got if each.lock != words[1]]
+        call, self.spin = self.spin, None
+        if call is None:
+            self._dispatch()
+            return
+        if words[0] == "granted" or words[-1] == "1":
+            self.got.append(Got(words[1], call.runner))
+        self.item.called = call.item
+        self._status(call.runner, call.place, call.operation, 0)
 
     def _status(self, runner: Runner, place: int, operation: str, first: int) -> None:
         """Takes the line `stat`, and what follows it."""
@@ -429,7 +484,7 @@ class _Layer:
         """Takes the lines of the reply to the request of the running job."""
         if self.request is None:
             self._misfit("stands where no reply is awaited")
-        runner, place, operation = self.request
+        runner, place, operation, self.item.called = self.request
         if self._next() == "post":
             self._leave(runner, place, operation)
         else:

@@ -13,7 +13,7 @@ from collections import deque
 from dataclasses import dataclass, field
 from typing import Deque, Dict, List, NamedTuple, Optional, Tuple
 
-from library.formats import NO_OBJECT
+from library.formats import GETS_SPINLOCK, NO_OBJECT
 from library.items import CORE, DROPPED, OK, START, Deed, Item
 from library.model import ISR, TASK
 from library.timeline import Timeline
@@ -48,6 +48,9 @@ ERROR = "error"
 PROTECTION = "protection"
 SHUTDOWN = "shutdown"
 LOST = "lost"
+# What a job holds.
+RESOURCE = "resource"
+SPINLOCK = "spinlock"
 
 
 class Change(NamedTuple):
@@ -115,10 +118,15 @@ class Job:
 
 @dataclass(eq=False)
 class Hold:
-    """A resource, from the item in which a job takes it to that in which it gives it back."""
+    """A resource or a spinlock, from the item in which a job takes it to that in which it is given back.
 
-    resource: str
-    taken: Item
+    It asks for a spinlock in an item before, `called`, and may never get it.
+    """
+
+    kind: str
+    name: str
+    called: Item
+    taken: Optional[Item] = None
     given: Optional[Item] = None
 
 
@@ -235,6 +243,8 @@ class _Walk:
         self.numbers: Dict[str, int] = {}
         self.mail: Dict[Tuple[int, int], Deque[Envelope]] = {}
         self.requests: Dict[int, Envelope] = {}  # of each core the one whose reply is awaited
+        self.asked: Dict[int, Hold] = {}  # of each core the spinlock for which a job waits
+        self.spinlocks: Dict[str, Hold] = {}  # those that are taken
 
     def item(self, item: Item) -> None:
         """Follows the lines of one item."""
@@ -247,6 +257,7 @@ class _Walk:
             self._line(item, index, causes)
         for deed, cause in zip(item.deeds, causes):
             self._deed(item, deed, cause)
+        self._spinlock(item)
 
     def _cause(self, item: Item, deed: Deed) -> Optional[Cause]:
         """Who does an operation; of an envelope who sent it."""
@@ -331,12 +342,13 @@ class _Walk:
                 self._change(running[-1], CONTINUE, item)
 
     def _finish(self, item: Item, job: Job, event: str) -> None:
-        """A job ends or waits; one that ends gives back what it holds."""
+        """A job ends or waits; one that ends gives back its resources, and its core later its spinlocks."""
         self._change(job, event, item)
         job.parts[-1].finish = item
         if event == TERMINATE:
             for hold in job.holds:
-                hold.given = hold.given or item
+                if hold.kind == RESOURCE:
+                    hold.given = hold.given or item
 
     def _hook(self, item: Item, index: int, words: List[str]) -> None:
         """A hook is called."""
@@ -366,7 +378,7 @@ class _Walk:
         elif deed.is_refused and not deed.is_reply:
             self._refuse(item, deed, item.core, deed.status, cause)
         elif deed.is_of_job and not deed.is_reply:
-            self._resource(item, deed)
+            self._hold(item, deed)
         if deed.status == OK and not deed.is_reply:
             self._note_event(item, deed, deed.operation, cause)
 
@@ -409,12 +421,28 @@ class _Walk:
             cause.is_last = False
             self.found.loose.append(Loose(cause.way + (name,), status))
 
-    def _resource(self, item: Item, deed: Deed) -> None:
+    def _hold(self, item: Item, deed: Deed) -> None:
         """A job takes a resource, or gives the newest one back."""
         if deed.service == "GetResource":
-            self.live[deed.name][0].holds.append(Hold(deed.operation.split(" ")[1], item))
+            self.live[deed.name][0].holds.append(Hold(RESOURCE, deed.operation.split(" ")[1], item, item))
         elif deed.service == "ReleaseResource":
-            next(hold for hold in reversed(self.live[deed.name][0].holds) if hold.given is None).given = item
+            holds = (hold for hold in reversed(self.live[deed.name][0].holds) if hold.kind == RESOURCE)
+            next(hold for hold in holds if hold.given is None).given = item
+
+    def _spinlock(self, item: Item) -> None:
+        """A job asks for a spinlock, or gets the answer; or a spinlock is given back."""
+        words = item.words
+        if item.waits is not None and item.waits.split(" ")[0] in GETS_SPINLOCK:
+            self.asked[item.core] = Hold(SPINLOCK, item.waits.split(" ")[1], item)
+            if item.waits.startswith("GetSpinlock "):
+                self.live[item.runner.name][0].holds.append(self.asked[item.core])
+        elif words[0] in ("granted", "tried") and words[-1] != "0":
+            hold = self.spinlocks[words[1]] = self.asked[item.core]
+            hold.taken = item
+            if words[0] == "tried":
+                self.live[item.deeds[0].name][0].holds.append(hold)
+        elif words[0] == "freed":
+            self.spinlocks.pop(words[1]).given = item
 
 
 def _at(item: Item, index: int, causes: List[Optional[Cause]]) -> Optional[Cause]:

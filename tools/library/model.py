@@ -64,11 +64,19 @@ class Binding:
 
 
 @dataclass(frozen=True)
+class Sharing(Binding):
+    """An operation that refers to a spinlock, which stands on no core."""
+
+    name: str
+
+
+@dataclass(frozen=True)
 class Model:
     """The cores by ascending number, their start lists, the started ones, and all references in their order.
 
-    Of the operations that bind without an object there are those that ask for what all cores share, and those that shut
-    all cores down. Of each core there is the mode that it names, if it names one.
+    Beside the references to the cores' objects there are those to spinlocks. Of the operations that bind without an
+    object there are those that ask for what all cores share, and those that shut all cores down. Of each core there is
+    the mode that it names, if it names one.
     """
 
     master: int
@@ -76,6 +84,7 @@ class Model:
     starts: Dict[int, Tuple[int, ...]]
     started: FrozenSet[int]
     references: Tuple[Reference, ...]
+    sharing: Tuple[Sharing, ...]
     asking: Tuple[Binding, ...]
     halting: Tuple[Binding, ...]
     modes: Dict[int, Optional[str]]
@@ -98,7 +107,7 @@ class Model:
         if core not in self.started:
             return OFF
         is_joined = any(core in pair for pair in self.between)
-        asks = any(binding.core == core for binding in self.asking)
+        asks = any(binding.core == core for binding in self.sharing + self.asking)
         agrees = self.modes[core] is not None and len(self.named_modes) == 1
         return BOUND if self.starts[core] or is_joined or asks or self.halting or not agrees else SEPARATE
 
@@ -118,22 +127,38 @@ def model_of(draft: Draft) -> Model:
     cores = sorted(draft.cores, key=lambda core: core.id)
     starts = {core.id: tuple(core["start"]) for core in cores}
     references = tuple(reference for core in cores for reference in _references(draft, core))
+    sharing = tuple(each for core in cores for each in _sharing(core))
     bindings = [Binding(core.id, *each) for core in cores for each in _operations(core)]
     asking = tuple(each for each in bindings if each.service in formats.ASKS_SHARED)
     halting = tuple(each for each in bindings if each.service == formats.HALTS_ALL)
     modes = {core.id: draft.mode_of(core) for core in cores}
-    return Model(draft["master"], tuple(starts), starts, frozenset(draft.started()), references, asking, halting, modes)
+    started = frozenset(draft.started())
+    return Model(draft["master"], tuple(starts), starts, started, references, sharing, asking, halting, modes)
 
 
 def _references(draft: Draft, core: Core) -> Iterator[Reference]:
     """The references of a core's scripts, alarms and tables, each in the order of the configuration."""
+    for actor, text, argument, word in _named(core):
+        if argument.kind != formats.SPINLOCK.name:
+            found = draft.find(argument.kind, word)
+            assert found is not None, "an accepted configuration has each object that it names"
+            yield Reference(core.id, actor, text, argument.kind, word, found.core.id)
+
+
+def _sharing(core: Core) -> Iterator[Sharing]:
+    """The operations of a core's scripts that refer to a spinlock."""
+    for actor, text, argument, word in _named(core):
+        if argument.kind == formats.SPINLOCK.name:
+            yield Sharing(core.id, actor, text, word)
+
+
+def _named(core: Core) -> Iterator[Tuple[Actor, str, formats.Argument, str]]:
+    """All names of objects in a core's operations and actions, each with its argument."""
     for actor, text in _operations(core):
         words = text.split(" ")
         for argument, word in zip(formats.OPERATIONS[words[0]].arguments, words[1:]):
             if argument.is_object and word != formats.NO_OBJECT:
-                found = draft.find(argument.kind, word)
-                assert found is not None, "an accepted configuration has each object that it names"
-                yield Reference(core.id, actor, text, argument.kind, word, found.core.id)
+                yield actor, text, argument, word
 
 
 def _operations(core: Core) -> Iterator[Tuple[Actor, str]]:

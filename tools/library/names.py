@@ -1,8 +1,10 @@
-"""Faults 4, 5 and 6 of members: names that stand twice, and names of nothing or of another core's objects."""
+"""Faults 4 to 7 of members: names that stand twice, names of nothing or of another core's objects, orders in circles."""
+
+from typing import Dict, List
 
 from library.drafts import Core, Draft, Named
 from library.findings import Report, did_you_mean, listed
-from library.formats import DUPLICATE_NAME, NAMES_NO_MODE, NO_MODES, UNKNOWN_NAME, WRONG_CORE, is_name
+from library.formats import DUPLICATE_NAME, NAMES_NO_MODE, NO_MODES, SPIN_ORDER, UNKNOWN_NAME, WRONG_CORE, is_name
 from library.places import JsonList, JsonText
 from library.scripts import Judge, unknown_name
 
@@ -13,6 +15,7 @@ def judge_names(report: Report, draft: Draft) -> None:
     _judge_new_modes(report, draft)
     _judge_twice(report, draft)
     _judge_master(report, draft)
+    _judge_links(report, draft)
     for core in draft.cores:
         judge = Judge(report, draft, core)
         if core.spot("mode") is not core.node and core["mode"] != NAMES_NO_MODE:
@@ -52,8 +55,9 @@ def _judge_twice(report: Report, draft: Draft) -> None:
             continue
         first = objects[0]
         for each in objects[1:]:
-            text = "`%s` is already the name of the %s of core %d in line %d"
-            text %= (name, first.kind.name, first.core.id, report.line_of(first.spot("name")))
+            owner = "%s of core %d" % (first.kind.name, first.core.id) if first.core is not None else first.kind.name
+            text = "`%s` is already the name of the %s in line %d"
+            text %= (name, owner, report.line_of(first.spot("name")))
             report.fault(DUPLICATE_NAME, each.spot("name"), text)
 
 
@@ -69,6 +73,36 @@ def _judge_master(report: Report, draft: Draft) -> None:
     if "master" not in draft.node.members:
         text = "`master` is 0 if it is left out: %s" % known
     report.fault(UNKNOWN_NAME, draft.spot("master"), text)
+
+
+def _judge_links(report: Report, draft: Draft) -> None:
+    """Judges which spinlock comes after each one: whether there is one of that name, and that none comes after itself."""
+    links = draft.links()
+    told = set()
+    for spinlock in draft.spinlocks:
+        name = spinlock["next"]
+        if name is not None and draft.find(spinlock.kind.name, name) is None:
+            report.fault(UNKNOWN_NAME, spinlock.spot("next"), unknown_name(draft, spinlock.kind.name, name, "next"))
+        circle = _circle(links, spinlock.name)
+        if circle and not told & set(circle):
+            told |= set(circle)
+            text = "the spinlock `%s` comes after itself: %s"
+            report.fault(SPIN_ORDER, spinlock.spot("next"), text % (spinlock.name, _way(circle)))
+
+
+def _circle(links: Dict[str, str], name: str) -> List[str]:
+    """The spinlocks on the way from one back to itself; none if there is no such way."""
+    way = [name]
+    while links.get(way[-1]) is not None and len(way) <= len(links):
+        way.append(links[way[-1]])
+        if way[-1] == name:
+            return way[:-1]
+    return []
+
+
+def _way(circle: List[str]) -> str:
+    """Which spinlock comes after which, up to the first one again."""
+    return ", then ".join("`%s`" % name for name in circle + circle[:1])
 
 
 def _judge_new_modes(report: Report, draft: Draft) -> None:

@@ -10,6 +10,7 @@ from library.formats import (
     BAD_SCRIPT,
     DUPLICATE_NAME,
     FOR_TASKS,
+    GETS_SPINLOCK,
     IGNORED_IF_SUSPENDED,
     INTERRUPT,
     ISR,
@@ -17,6 +18,7 @@ from library.formats import (
     MOST_SUSPENDED,
     NAMED_LISTS,
     NO_OBJECT,
+    OF_SPINLOCKS,
     UNKNOWN_NAME,
     Fault,
     words_of,
@@ -90,6 +92,7 @@ class _Notes:
             self._refused()
         if not self._has(DUPLICATE_NAME, UNKNOWN_NAME, BAD_MASK, BAD_SCRIPT):
             self._unused()
+            self._unshared()
             self._unset_events()
 
     def _has(self, *faults: Fault) -> bool:
@@ -269,6 +272,18 @@ class _Notes:
                         self.report.note(each.spot("name"), text % each.name)
 
 
+    def _unshared(self) -> None:
+        """Spinlocks that nothing gets, or one core alone."""
+        for spinlock in self.draft.spinlocks:
+            getting = (use for use in self.uses if use.name in GETS_SPINLOCK and use.words[0] == spinlock.name)
+            cores = {use.core.id for use in getting}
+            if not cores:
+                self.report.note(spinlock.spot("name"), "nothing gets the spinlock `%s`: no operation" % spinlock.name)
+            elif len(cores) == 1:
+                text = "only core %d gets the spinlock `%s`, so no other one waits for it"
+                self.report.note(spinlock.spot("name"), text % (*cores, spinlock.name))
+
+
 # What ends the work of a core.
 _SHUTDOWNS = ("ShutdownOS", "ShutdownAllCores")
 # Which operations activate a task, set an alarm, start a table or increment a counter, and the place of its name.
@@ -364,7 +379,7 @@ def _refusal(scripted: Named, step: Step, suspended: Set[int]) -> str:
     if not step.operation.is_service:
         is_ignored = is_suspended and step.operation.name in IGNORED_IF_SUSPENDED
         return "interrupts are suspended here: it is ignored" if is_ignored else ""
-    if is_suspended:
+    if is_suspended and step.operation.name not in OF_SPINLOCKS:
         return "interrupts are suspended here: E_OS_DISABLEDINT"
     if scripted.kind is ISR and step.operation.name in FOR_TASKS:
         return "an ISR may not call it: E_OS_CALLEVEL"

@@ -153,6 +153,8 @@ def _value(value: formats.Value) -> Schema:
         return _reference(value.name)
     if isinstance(value, formats.Script):
         return _reference("isrScript" if value.without else "script")
+    if isinstance(value, formats.SpinlockName):
+        return {"anyOf": [_reference("name"), {"type": "null"}]}
     return _reference(_TEXTS[type(value)])
 
 

@@ -21,6 +21,7 @@ from library.formats import (
     ObjectOf,
     OneOf,
     Script,
+    SpinlockName,
     Value,
     is_decimal,
     is_name,
@@ -29,7 +30,7 @@ from library.hints import TITLES, meant_member, unknown_member
 from library.not_json import shown
 from library.places import Json, JsonList, JsonNumber, JsonObject, JsonText, JsonWord
 
-_NAMES = (NewName, CounterName, NewModeName, ModeName, CoreMode)
+_NAMES = (NewName, CounterName, NewModeName, ModeName, CoreMode, SpinlockName)
 
 
 def judge_shape(report: Report) -> None:
@@ -90,10 +91,10 @@ def _title(node: JsonObject, kind: Object) -> str:
 
 def _judge_value(report: Report, node: Json, value: Value, title: str, kind: Object, has_default: bool = False) -> None:
     """Judges the value of a member, or an element of it."""
+    if _may_be_null(value) and isinstance(node, JsonWord) and node.value is None:
+        return
     if isinstance(value, ObjectOf):
-        is_null = isinstance(node, JsonWord) and node.value is None
-        if not (value.or_null and is_null):
-            _judge_object(report, node, OBJECTS[value.name], value)
+        _judge_object(report, node, OBJECTS[value.name], value)
     elif not _has_type(node, value):
         text = "%s is %s, not %s" % (title, _wanted(value, kind), _found(report, node))
         report.fault(SHAPE, node, text + _remedy(report, node, value, has_default))
@@ -105,6 +106,11 @@ def _judge_value(report: Report, node: Json, value: Value, title: str, kind: Obj
     elif isinstance(value, OneOf) and node.text not in value.words:
         text = "%s is one of %s, not %s" % (title, _words(value), shown(node.text))
         report.fault(SHAPE, node, text + did_you_mean(node.text, value.words))
+
+
+def _may_be_null(value: Value) -> bool:
+    """Whether `null` may stand in place of a value."""
+    return isinstance(value, SpinlockName) or isinstance(value, ObjectOf) and value.or_null
 
 
 def _judge_name(report: Report, node: JsonText) -> None:
@@ -171,6 +177,7 @@ _WANTED = {
     NewModeName: 'the name of a mode, as `"M"`',
     ModeName: 'the name of a mode, as `"M"`',
     CoreMode: 'the name of a mode, or `"DONOTCARE"`',
+    SpinlockName: "the name of a spinlock, or `null`",
     NewName: 'a name, as `"Control"`',
 }
 

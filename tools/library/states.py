@@ -5,7 +5,7 @@ One is in the state of its oldest live job, since jobs of one task or ISR run on
 
 from typing import Dict, List, NamedTuple
 
-from library.jobs import STATES, Job, Jobs
+from library.jobs import SPINLOCK, STATES, Job, Jobs
 from library.timeline import Timeline
 
 
@@ -19,10 +19,10 @@ class Stretch(NamedTuple):
 
 
 class Held(NamedTuple):
-    """A resource that a job holds from a turn to another one."""
+    """A resource or a spinlock that a job holds from a turn to another one."""
 
     job: Job
-    resource: str
+    name: str
     begin: int
     end: int
 
@@ -67,13 +67,17 @@ def _stretches(job: Job, free: int, last: int) -> List[Stretch]:
 
 
 def held_by_task(jobs: Jobs) -> Dict[str, List[Held]]:
-    """The resources that each task's jobs hold."""
+    """The resources and the spinlocks that the jobs of each task and ISR hold.
+
+    A core that was shut down gives no resource back, and its spinlocks in later turns.
+    """
     found: Dict[str, List[Held]] = {}
     last = _last_turns(jobs.timeline)
     for job in jobs.jobs:
-        for hold in job.holds:
-            end = hold.given.turn if hold.given is not None else last[job.core]
-            found.setdefault(job.name, []).append(Held(job, hold.resource, hold.taken.turn, end))
+        for hold in (each for each in job.holds if each.taken is not None):
+            end = end_of(jobs.timeline) if hold.kind == SPINLOCK else last[job.core]
+            end = hold.given.turn if hold.given is not None else end
+            found.setdefault(job.name, []).append(Held(job, hold.name, hold.taken.turn, end))
     return found
 
 

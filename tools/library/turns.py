@@ -18,7 +18,7 @@ OWN = "o"
 LOOK = "l"
 _KINDS = {
     **dict.fromkeys(("in",), SERVE),
-    **dict.fromkeys(("began", "entered", "readied", "stim", "post", "drained"), OWN),
+    **dict.fromkeys(("began", "entered", "readied", "stim", "post", "granted", "tried", "freed", "drained"), OWN),
     **dict.fromkeys(("on", "pass1", "pass2", "halt", "passend", "last"), LOOK),
 }
 # The item of a core that reaches a barrier, by the one that passes it.
@@ -98,7 +98,10 @@ def _in_rounds(run: Run, play: "_Play") -> List[Item]:
 
 
 class _Play:
-    """The cores between two turns: which items are left, what is in the mailboxes, who has reached which barrier."""
+    """The cores between two turns: which items are left, what is in the mailboxes, who has reached which barrier.
+
+    Of each spinlock that is taken there is the core that has it.
+    """
 
     def __init__(self, run: Run):
         self.left = {core: deque(items_of(run, core)) for core in run.cores}
@@ -106,6 +109,7 @@ class _Play:
         self.mail: Dict[tuple, int] = Counter()
         self.started = {run.draft["master"]}
         self.reached: Dict[str, Set[int]] = {word: set() for word in _BARRIERS.values()}
+        self.holders: Dict[str, int] = {}
         self.is_halted = False  # a core has asked for the shutdown of all
 
     def taken(self, turn: Turn) -> Optional[Item]:
@@ -132,6 +136,8 @@ class _Play:
             return turn.core in self.started
         if word == "halt":
             return self.is_halted or turn.kind == OWN
+        if word == "granted":
+            return words[1] not in self.holders
         return word not in _BARRIERS or self.started <= self.reached[_BARRIERS[word]]
 
     def _take(self, core: int, words: List[str]) -> None:
@@ -143,6 +149,10 @@ class _Play:
             self.mail[core, int(words[1])] += 1
         elif word == "began" and words[2] == OK:
             self.started.add(int(words[1]))
+        elif word == "granted" or (word == "tried" and words[2] == "1"):
+            self.holders[words[1]] = core
+        elif word == "freed":
+            del self.holders[words[1]]
         elif word == "halt":
             self.is_halted = True
         elif word in self.reached:

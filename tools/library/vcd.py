@@ -1,4 +1,4 @@
-"""A run as a value change dump (VCD, IEEE 1364): the states of tasks and ISRs, resources, ticks, hooks, mailboxes.
+"""A run as a value change dump (VCD, IEEE 1364): states of tasks and ISRs, resources, ticks, hooks, spinlocks, mailboxes.
 
 A time is the number of a turn. Of several changes in one turn a variable shows the last one.
 """
@@ -105,7 +105,7 @@ def _last_of_each_turn(values: Values) -> List[Tuple[int, int]]:
 def variables_of(jobs: Jobs) -> List[Variable]:
     """All variables, by scopes."""
     timeline = jobs.timeline
-    states, resources = _states(jobs), _resources(jobs)
+    states, held = _states(jobs), _held(jobs)
     found = []
     for core in timeline.run.cores:
         scope = "core_%d" % core
@@ -114,13 +114,14 @@ def variables_of(jobs: Jobs) -> List[Variable]:
         for row in rows_of(timeline):
             if row.core == core:
                 found.append(Variable(scope, row.name, "reg", _CODE_BITS, states.get(row.name, [(0, 0)])))
-        found += [Variable(scope, name, "wire", 1, resources.get(name, [(0, 0)])) for name in _named(timeline, core)]
+        found += [_wire(scope, resource.name, held) for resource in timeline.run.draft.core(core).named["resources"]]
+    found += [_wire("spinlocks", spinlock.name, held) for spinlock in timeline.run.draft.spinlocks]
     return found + _mailboxes(timeline)
 
 
-def _named(timeline: Timeline, core: int) -> List[str]:
-    """The resources of a core."""
-    return [resource.name for resource in timeline.run.draft.core(core).named["resources"]]
+def _wire(scope: str, name: str, held: Dict[str, Values]) -> Variable:
+    """Whether a resource or a spinlock is held."""
+    return Variable(scope, name, "wire", 1, held.get(name, [(0, 0)]))
 
 
 def _states(jobs: Jobs) -> Dict[str, Values]:
@@ -140,12 +141,12 @@ def _in_order(values: Values, end: int) -> Values:
     return [value for value in values if value[0] < end]
 
 
-def _resources(jobs: Jobs) -> Dict[str, Values]:
-    """Which resources are held."""
+def _held(jobs: Jobs) -> Dict[str, Values]:
+    """Which resources and spinlocks are held."""
     found: Dict[str, Values] = {}
     holds = sorted((hold for each in held_by_task(jobs).values() for hold in each), key=lambda hold: hold.begin)
     for hold in holds:
-        found.setdefault(hold.resource, [(0, 0)]).extend([(hold.begin, 1), (hold.end, 0)])
+        found.setdefault(hold.name, [(0, 0)]).extend([(hold.begin, 1), (hold.end, 0)])
     return {name: _in_order(values, end_of(jobs.timeline)) for name, values in found.items()}
 
 

@@ -372,6 +372,21 @@ class Reports(unittest.TestCase):
         self.assertIn("ShutdownAllCores 0  task X2, operation 0  never done; core 2 is off\n", report)
         self.assertIn("  core 1\n    core 0: it is halted by ShutdownAllCores 8 (task X1, operation 1)\n", report)
 
+    def test_a_spinlock(self):
+        scripts = {0: "GetSpinlock L", 1: "work;TryToGetSpinlock L v0", 2: "ReleaseSpinlock L", 3: "GetSpinlock ?;GetSpinlock K"}
+        cores = [core(number, script, start=[1, 2, 4] if number == 0 else []) for number, script in scripts.items()]
+        locks = [{"name": "L"}, {"name": "K"}]
+        whole = model_of(json.dumps({"spinlocks": locks, "cores": cores + [core(4, "GetSpinlock ?")]}))
+        self.assertEqual([whole.standing(number) for number in range(5)], ["bound"] * 3 + ["off", "separate"])
+        self.assertEqual(border.reasons(whole, 1), ["it refers to the spinlock L, as cores 0 and 2 do"])
+        report = border.report(whole)
+        # A core that only gives a spinlock back never has it.
+        get = "GetSpinlock L  task X0, operation 0  spinlock; core 1 waits for it, or finds it taken\n"
+        self.assertIn("  core 0 to core 1\n    " + get, report)
+        self.assertNotIn("core 0 to core 2", report)
+        self.assertIn("    core 0: it shares the spinlock of TryToGetSpinlock L v0 (task X1, operation 1)\n", report)
+        self.assertIn("  core 3: no other core, since it is off\n", report)
+
     def test_quoting(self):
         self.assertEqual(border.quoted(['a "b" \\', "c"]), r'"a \"b\" \\\nc"')
         self.assertEqual(border.quoted(["a", "b"], r"\l"), r'"a\lb\l"')

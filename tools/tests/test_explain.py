@@ -373,13 +373,82 @@ CASES = (
         ),
     ),
     Case(
-        "spinlocks are not there yet",
+        "a spinlock of OIL",
         '{"cores": [',
-        '{"spinlocks": [], "cores": [',
+        '{"spinlock": [], "cores": [',
+        '"spinlock"',
+        (
+            "config.json:1:2: fault 2 Shape: /spinlock: "
+            "a configuration has no member `spinlock`: it is `spinlocks` here, a list",
+        ),
+    ),
+    Case(
+        "spinlocks in a core",
+        '"id": 1,',
+        '"id": 1, "spinlocks": [],',
         '"spinlocks"',
         (
-            "config.json:1:2: fault 2 Shape: /spinlocks: "
-            "a configuration has no member `spinlocks`: not there yet (spinlocks)",
+            "config.json:16:13: fault 2 Shape: /cores/1/spinlocks: "
+            "a core has no member `spinlocks`: it stands beside `cores`",
+        ),
+    ),
+    Case(
+        "a number in place of a spinlock's name",
+        '{"cores": [',
+        '{"spinlocks": [{"name": "L", "next": 1}], "cores": [',
+        "1}],",
+        (
+            "config.json:1:38: fault 2 Shape: /spinlocks/0/next: "
+            "`next` is the name of a spinlock, or `null`, not `1`",
+        ),
+    ),
+    Case(
+        "a spinlock's lock method",
+        '{"cores": [',
+        '{"spinlocks": [{"name": "L", "lockMethod": "LOCK_NOTHING"}], "cores": [',
+        '"lockMethod"',
+        (
+            "config.json:1:30: fault 2 Shape: /spinlocks/0/lockMethod: "
+            "a spinlock has no member `lockMethod`: it is not written here: each spinlock is LOCK_NOTHING",
+        ),
+    ),
+    Case(
+        "a spinlock called as a task",
+        '{"cores": [',
+        '{"spinlocks": [{"name": "T1ms"}], "cores": [',
+        '"T1ms", "prio"',
+        (
+            "config.json:14:15: fault 4 DuplicateName: /cores/0/tasks/0/name: "
+            "`T1ms` is already the name of the spinlock in line 1",
+        ),
+    ),
+    Case(
+        "a mode after a spinlock",
+        '{"cores": [',
+        '{"spinlocks": [{"name": "L", "next": "M"}], "cores": [',
+        '"M"}], "cores"',
+        ("config.json:1:38: fault 5 UnknownName: /spinlocks/0/next: no spinlock is called `M`",),
+    ),
+    Case(
+        "a task in place of a spinlock",
+        "ActivateTask Log",
+        "GetSpinlock Com",
+        "Com;",
+        (
+            "config.json:19:55: fault 5 UnknownName: /cores/1/tasks/0/script: "
+            "operation 2 `GetSpinlock Com`: `Com` is a task, and `GetSpinlock` wants a spinlock",
+        ),
+    ),
+    Case(
+        "a circle of spinlocks",
+        '{"cores": [',
+        '{"spinlocks": [{"name": "K", "next": "L"}, {"name": "L", "next": "K"}], "cores": [',
+        '"L"}, ',
+        (
+            "config.json:1:38: fault 7 SpinOrder: /spinlocks/0/next: "
+            "the spinlock `K` comes after itself: `K`, then `L`, then `K`",
+            "config.json:1:25: note: /spinlocks/0/name: nothing gets the spinlock `K`: no operation",
+            "config.json:1:53: note: /spinlocks/1/name: nothing gets the spinlock `L`: no operation",
         ),
     ),
     Case(

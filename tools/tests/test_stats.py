@@ -281,6 +281,36 @@ class Interrupts(unittest.TestCase):
 
 
 @needs_program
+class Spinlocks(unittest.TestCase):
+    """The runs of examples/spinlocks, counted by hand."""
+
+    def found(self, name, stimuli):
+        paths = (os.path.join(sample_runs.EXAMPLES, "spinlocks", each) for each in (name, stimuli))
+        return figures.figures_of(jobs.jobs_of(sample_runs.timeline_of(runs.Source(PROGRAM, *paths))))
+
+    def test_waited_for_and_held(self):
+        found = self.found("config.json", "stimuli.json")["spinlocks"]
+        keys = [[row[name] for name in ("core", "spinlock", "who", "times")] for row in found]
+        expected = [[0, "Bus", "Main", 1], [0, "Log", "Main", 1], [1, "Log", "Careless", 1], [1, "Log", "Poll", 1]]
+        self.assertEqual(keys, expected)
+        # Main asks for Log in the fifth round before core 1 gives back what Careless had. A try is answered in one.
+        waited = [row["waited"]["rounds"]["sum"] for row in found]
+        self.assertEqual(waited[0::3], [1, 1])
+        self.assertGreater(waited[1], 1)
+        # Careless holds Log from its first `op` to the turn behind its end, in the fifth one.
+        self.assertEqual(found[2]["held"]["stimuli"]["sum"], 4)
+        self.assertEqual([row["held"]["rounds"]["open"] for row in found], [0] * 4)
+
+    def test_a_wait_that_a_halt_drops(self):
+        found = self.found("halt.json", "halt_stimuli.json")
+        send = found["spinlocks"][-1]
+        self.assertEqual((send["who"], send["times"], send["waited"]["rounds"]["open"]), ("Send", 0, 1))
+        held = [row["held"]["rounds"]["open"] for row in found["spinlocks"]]
+        self.assertEqual(held, [0, 0, 0])
+        self.assertRegex(figure_tables.tables(found), r"Spinlocks, waited for[^\n]*\n.*\n.*\n.*\n  1     Bus       Send      0 .* 1\n")
+
+
+@needs_program
 class Commands(unittest.TestCase):
     def run_stats(self, *words):
         """What the script does on examples/engine."""
