@@ -265,14 +265,18 @@ fn a_separate_core_beside_spinlocks_prints_its_block_alone(rt: HostRuntime) -> R
     let alloc = rt.alloc();
     let block = SEPARATE_BLOCK;
     let end = format!(in alloc; "{block}ended\n")?;
-    let run = [Some(SEPARATE), Some(SEPARATE_STIMULI)];
-    let whole = print(&rt, alloc, &run_of(None), &run)?;
+    let whole = print(
+        &rt,
+        alloc,
+        &run_of(None),
+        &[Some(SEPARATE), Some(SEPARATE_STIMULI)],
+    )?;
     assert!(rt; whole.out.as_slice().ends_with(end.as_bytes()));
-    let cut = print(&rt, alloc, &cut_of(2), &run[..1])?;
+    let cut = print(&rt, alloc, &cut_of(2), &[Some(SEPARATE)])?;
     let config = str::from_utf8(cut.out.as_slice()).ok().ok_or("a text")?;
     assert!(rt; config.contains(r#""spinlocks":[]"#));
-    let files = [Some(config), Some(r#"{"2":"op op op"}"#)];
-    compare(&rt, alloc, &run_of(None), &files, (end.as_str(), "", 0))
+    let alone = [Some(config), Some(r#"{"2":"op op op"}"#)];
+    compare(&rt, alloc, &run_of(None), &alone, (end.as_str(), "", 0))
 }
 
 // A configuration, and what `check` prints.
