@@ -138,6 +138,10 @@ impl Grants {
         ensures value { result ≡ newest_owed self.now }
         ensures known { IfSome result (λ lock. lock.index < SPINLOCKS) }
     {
+        // Asked at nearly every turn, mostly where no spinlock was got.
+        if self.got.is_empty() {
+            return None;
+        }
         first_owed(self.got.as_slice())
     }
 

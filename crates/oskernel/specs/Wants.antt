@@ -76,7 +76,7 @@ want_in s = want_from s.progress.phase s
 abbrev pub want_of : View → History → Want
 want_of v h = want_in (state_of v h)
 
--- Of a spinlock that is wanted there is one. [own]
+-- The spinlock that a wish names. [own]
 abbrev pub lock_of : SpinWish → SpinlockId
 lock_of (Wish.Get l) = l
 lock_of (Wish.Try l) = l

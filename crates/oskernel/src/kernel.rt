@@ -73,6 +73,7 @@ impl<'a, const P: usize, const J: usize, const OUT: usize> Kernel<'a, P, J, OUT>
     }
 
     /// What the core's own turn would do.
+    #[inline(always)]
     pub fn want(&self) -> Want
         ensures state { result ≡ want_in self.now }
         ensures reads { Reads (λ v h. want_of v h) self.now result }
@@ -92,6 +93,7 @@ impl<'a, const P: usize, const J: usize, const OUT: usize> Kernel<'a, P, J, OUT>
     }
 
     // An open call goes before what is owed, and this before what the core would do by itself.
+    #[inline(always)]
     fn live_want(&self) -> Want
         ensures value { result ≡ call_or_want self.now.border.open_call (owed_or_want self.now.border.spins (go_on_want self.now.progress.course)) }
         ensures lock { IsTrue (is_want_known result) }
@@ -101,6 +103,7 @@ impl<'a, const P: usize, const J: usize, const OUT: usize> Kernel<'a, P, J, OUT>
     }
 
     // The front of the outbox goes before anything else.
+    #[inline(always)]
     fn post_or(&self, want: Want) -> Want
         requires lock { IsTrue (is_want_known want) }
         ensures value { result ≡ front_or want self.now.border.outbox }

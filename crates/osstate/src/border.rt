@@ -34,30 +34,26 @@ pub(crate) fn closed_by(runner: Runner, open_call: Option<OpenCall>) -> Option<O
     }
 }
 
-/// No call is open once all cores are halted.
-pub(crate) fn close_by(open_call: &mut Option<OpenCall>, item: &Item)
-    ensures { open_call.new ≡ open_after (Took item.now) open_call.old }
-{
-    if let Item::Halt { core: _, status: _ } = item {
-        *open_call = None;
-    }
-}
-
-/// A spinlock that was taken is got by the job whose call is open; one that was given back is got no longer; once all cores are
-/// halted, the release of each is owed.
-pub(crate) fn grant_by(spins: &mut Grants, open_call: Option<OpenCall>, item: &Item)
+/// What an item changes of the spinlocks and of the open call: a spinlock that was taken is got by the job whose call is open; one
+/// that was given back is got no longer; once all cores are halted, the release of each is owed, and no call is open.
+#[inline(always)]
+pub(crate) fn settle_by(spins: &mut Grants, open_call: &mut Option<OpenCall>, item: &Item)
     requires { IsTrue (is_grant_known item.now) }
-    ensures { spins.new ≡ spins_after (Took item.now) open_call spins.old }
+    ensures spins { spins.new ≡ spins_after (Took item.now) open_call.old spins.old }
+    ensures call { open_call.new ≡ open_after (Took item.now) open_call.old }
 {
     match item {
-        Item::Granted(lock) => spins.take(*lock, open_call),
+        Item::Granted(lock) => spins.take(*lock, *open_call),
         Item::Tried { spinlock, taken } => {
             if *taken {
-                spins.take(*spinlock, open_call);
+                spins.take(*spinlock, *open_call);
             }
         }
         Item::Freed(lock) => spins.free(*lock),
-        Item::Halt { core: _, status: _ } => spins.owe_all(),
+        Item::Halt { core: _, status: _ } => {
+            spins.owe_all();
+            *open_call = None;
+        }
         _ => {}
     }
 }

@@ -117,8 +117,7 @@ impl<'a, const P: usize, const J: usize, const OUT: usize> CoreState<'a, P, J, O
     {
         self.progress.take_item(item);
         self.jobs.take_item(item);
-        border::grant_by(&mut self.border.spins, self.border.open_call, item);
-        border::close_by(&mut self.border.open_call, item);
+        border::settle_by(&mut self.border.spins, &mut self.border.open_call, item);
         border::post_by(&mut self.border.outbox, item);
         border::receive_by(&mut self.border.received, item);
     }

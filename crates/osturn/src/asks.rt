@@ -61,6 +61,7 @@ pub enum Answer {
 }
 
 /// What a core's own turn asks, by what it wants and its next stimulus: none where it wants nothing.
+#[inline(always)]
 pub fn own_asked(plan: &Plan, id: CoreId, want: Want, next: Option<Stimulus>) -> Option<Ask>
     ensures { result ≡ own_asked (view_of plan.now id) next want }
 {

@@ -10,13 +10,13 @@ use Rattle.osstate.proofs.state.CoreState.take_item.Goals as goal
 
 pub invariant_of-self : goal.invariant_of-self
 invariant_of-self g c =
-    rw (c.take_item.ensures, c.take_item-2.ensures, c.close_by.ensures, c.receive_by.ensures) (taken g.row.P g.row.J c.args.item.now _ _ _ c.self.invariant
+    rw (c.take_item.ensures, c.take_item-2.ensures, c.settle_by.ensures.call, c.receive_by.ensures) (taken g.row.P g.row.J c.args.item.now _ _ _ c.self.invariant
     (subst (λ (s : KernelState). is_before_live (phase_on c.args.item.now s.progress.phase) ≡ true → is_before_live s.progress.phase ≡ true) (sym c.self.view_is) c.requires.forward)
     (subst (λ (s : KernelState). is_past_first_gate (phase_on c.args.item.now s.progress.phase) ≡ true → (is_first_gate c.args.item.now || is_past_first_gate s.progress.phase) ≡ true) (sym c.self.view_is) c.requires.onward))
 
 pub returns-clause-state : goal.returns-clause-state
 returns-clause-state g c =
-    rw (c.take_item.ensures, c.take_item-2.ensures, c.grant_by.ensures, c.close_by.ensures, c.post_by.ensures, c.receive_by.ensures) (ap (state_after (Took c.args.item.now)) c.self.view_is)
+    rw (c.take_item.ensures, c.take_item-2.ensures, c.settle_by.ensures.spins, c.settle_by.ensures.call, c.post_by.ensures, c.receive_by.ensures) (ap (state_after (Took c.args.item.now)) c.self.view_is)
 
 pub returns-clause-notes : goal.returns-clause-notes
 returns-clause-notes g c = notes (returns-clause-state g c) (own_entry (Took c.args.item.now) (subst (IsSound g.row.P g.row.J) c.self.view_is c.self.invariant) refl c.requires.sender refl)
