@@ -1,4 +1,4 @@
-use Rattle.std.proofs.Common.{◌≡◌, ◌<◌, ◌++◌, ◌∷◌, [], true, false, inl, inr, refl, ap, sym, subst, ◌∙◌}
+use Rattle.std.proofs.Common.{◌≡◌, ◌<◌, ◌++◌, ◌∷◌, [], false, inl, inr, refl, ap, sym, subst, ◌∙◌}
 use Rattle.osbase.specs.declared.limits.TheConstants.{SPINLOCKS}
 use Rattle.osseat.specs.Histories.{entry}
 use Rattle.osseat.specs.Seats.{Extends}
